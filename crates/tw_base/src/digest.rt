@@ -1,0 +1,20 @@
+// Digests.
+
+use std::marker::Model;
+
+/// The digest of a text: 32 bytes, as SHA-256 of FIPS 180-4 gives them. Contracts see it as the
+/// list of its bytes.
+#[derive(Clone, Copy, Default, PartialEq, Eq, Debug, Drop)]
+pub struct Digest(pub [u8; 32]);
+
+impl Model for Digest {
+    ghost use Rattle.std.specs.Prelude.{◌≡◌, ℕ, List, length};
+
+    ghost Value = { List ℕ };
+
+    ghost view = { λ d. d.0 };
+
+    ghost invariant = { λ d. length d.0 ≡ 32 };
+
+    ghost inverse = { λ bytes. record { 0 = bytes } };
+}
