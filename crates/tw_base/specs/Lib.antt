@@ -1,1 +1,5 @@
 pub mod Names
+pub mod Texts
+pub mod Weak
+pub mod Digests
+pub mod Entries

@@ -4,9 +4,18 @@
 mod bytes;
 mod digest;
 mod failure;
+mod hasher;
+mod labels;
 mod name;
+mod thread;
 
 pub use bytes::Bytes;
 pub use digest::Digest;
 pub use failure::{Failed, NoMemory};
+pub use hasher::{Hasher, Sha, Weak};
+pub use labels::{
+    authenticator, datum, empty_tree, event_leaf, event_node, genesis, link_label, no_events,
+    tree_node,
+};
 pub use name::Name;
+pub use thread::{Entry, Key, Place, Thread, compare_keys, entry_key};

@@ -1,7 +1,6 @@
 // Names of services.
 
-ghost use Rattle.std.specs.Prelude.{◌≡◌, ℕ, List, IsTrue, IfSome, IsSome, ◌↔◌};
-ghost use Rattle.tw_base.specs.Names.{is_name_text, name_text, padded_name};
+ghost use Rattle.std.specs.Prelude.{◌≡◌, length};
 
 use std::marker::Model;
 
@@ -23,4 +22,14 @@ impl Model for Name {
     ghost invariant = { λ n. IsName n.bytes };
 
     ghost inverse = { λ bytes. record { bytes = bytes } };
+}
+
+impl Name {
+    /// The 16 bytes of the name, its letters and then zeros.
+    pub fn as_bytes(&self) -> &[u8; 16]
+        ensures value { result.now ≡ self.now }
+        ensures size { length result.now ≡ 16 }
+    {
+        &self.bytes
+    }
 }

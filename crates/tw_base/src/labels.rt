@@ -1,0 +1,155 @@
+// The labels: each is the digest of one text of `specs/Texts.antt`. None of them takes memory.
+
+ghost use Rattle.std.specs.Prelude.{◌≡◌, ℕ, ◌+◌, ◌*◌, ◌≤◌, List, ◌++◌, length};
+ghost use Rattle.arrayvec.specs.ArrayVec.{array_vec_len};
+ghost use Rattle.tw_base.specs.Texts.{authenticator_text, datum_text, empty_tree_text, event_leaf_text, event_node_text, genesis_text, link_text, no_events_text};
+ghost use Rattle.tw_base.specs.Entries.{IsFit, entry_text};
+ghost use Rattle.tw_base.specs.Digests.{AllDigests};
+
+use crate::digest::Digest;
+use crate::hasher::Hasher;
+use crate::name::Name;
+use crate::thread::Entry;
+use arrayvec::ArrayVec;
+
+/// Puts the bytes at the text's end.
+fn put<const N: usize>(text: &mut ArrayVec<u8, N>, bytes: &[u8])
+    requires { array_vec_len text.old + length bytes.now ≤ N }
+    ensures { text.new.items ≡ text.old.items ++ bytes.now }
+{
+    match text.try_extend_from_slice(bytes) {
+        Ok(()) => {}
+        Err(_) => unreachable!(),
+    }
+}
+
+/// Puts a digest at the text's end.
+fn put_digest<const N: usize>(text: &mut ArrayVec<u8, N>, digest: &Digest)
+    requires { array_vec_len text.old + 32 ≤ N }
+    ensures size { length digest.now ≡ 32 }
+    ensures items { text.new.items ≡ text.old.items ++ digest.now }
+    ensures len { array_vec_len text.new ≡ array_vec_len text.old + 32 }
+{
+    put(text, &digest.0);
+}
+
+/// The authenticator of step 0 of the service.
+#[tactic(auto, unfolding(crate::specs::Texts::genesis_text))]
+pub fn genesis<H: Hasher>(name: &Name) -> Digest
+    ensures { result ≡ H.dig (genesis_text name.now) }
+{
+    let mut text: ArrayVec<u8, 17> = ArrayVec::new();
+    text.push(0x10);
+    put(&mut text, name.as_bytes());
+    H::digest(text.as_slice())
+}
+
+/// The label of the link of a step at a level (0 to 39); `below` is the authenticator of the step
+/// that it leads to, `step - 2^level`.
+#[tactic(auto, unfolding(crate::specs::Texts::link_text))]
+pub fn link_label<H: Hasher>(step: u64, level: u8, datum: &Digest, below: &Digest) -> Digest
+    ensures label { result ≡ H.dig (link_text step level datum.now below.now) }
+    ensures datum_size { length datum.now ≡ 32 }
+    ensures below_size { length below.now ≡ 32 }
+{
+    let mut text: ArrayVec<u8, 74> = ArrayVec::new();
+    text.push(0x11);
+    put(&mut text, &step.to_be_bytes());
+    text.push(level);
+    put(&mut text, &datum.0);
+    put(&mut text, &below.0);
+    H::digest(text.as_slice())
+}
+
+/// The datum of a step: over its event root, its archive's label and its count of events.
+#[tactic(auto, unfolding(crate::specs::Texts::datum_text))]
+pub fn datum<H: Hasher>(event_root: &Digest, archive_root: &Digest, count: u32) -> Digest
+    ensures label { result ≡ H.dig (datum_text event_root.now archive_root.now count) }
+    ensures event_root_size { length event_root.now ≡ 32 }
+    ensures archive_root_size { length archive_root.now ≡ 32 }
+{
+    let mut text: ArrayVec<u8, 69> = ArrayVec::new();
+    text.push(0x13);
+    put(&mut text, &event_root.0);
+    put(&mut text, &archive_root.0);
+    put(&mut text, &count.to_be_bytes());
+    H::digest(text.as_slice())
+}
+
+/// The authenticator of a step from 1 on, over the labels of its links from level 0 on, at most 40.
+#[tactic(auto, using(crate::proofs::Joined::more), unfolding(crate::specs::Texts::authenticator_text))]
+pub fn authenticator<H: Hasher>(step: u64, labels: &[Digest]) -> Digest
+    requires { length labels.now ≤ 40 }
+    ensures label { result ≡ H.dig (authenticator_text step labels.now) }
+    ensures sizes { AllDigests labels.now }
+{
+    let mut text: ArrayVec<u8, 1290> = ArrayVec::new();
+    text.push(0x12);
+    put(&mut text, &step.to_be_bytes());
+    text.push(labels.len() as u8);
+    for label in labels {
+        put_digest(&mut text, label);
+    }
+    H::digest(text.as_slice())
+}
+
+/// The label of the empty tree, the archive of a service that has received no thread.
+#[tactic(auto, unfolding(crate::specs::Texts::empty_tree_text))]
+pub fn empty_tree<H: Hasher>() -> Digest
+    ensures { result ≡ H.dig empty_tree_text }
+{
+    H::digest(&[0x14])
+}
+
+/// The label of a tree that isn't empty, over the labels of its sides and the entry at its root.
+#[tactic(auto, unfolding(crate::specs::Texts::tree_node_text))]
+pub fn tree_node<H: Hasher>(left: &Digest, entry: &Entry, right: &Digest) -> Digest
+    ensures label { result ≡ H.dig (entry_text left.now entry.now right.now) }
+    ensures left_size { length left.now ≡ 32 }
+    ensures right_size { length right.now ≡ 32 }
+    ensures fits { IsFit entry.now }
+{
+    let mut text: ArrayVec<u8, 129> = ArrayVec::new();
+    text.push(0x15);
+    put(&mut text, &left.0);
+    put(&mut text, entry.thread.from.as_bytes());
+    put(&mut text, &entry.thread.step.to_be_bytes());
+    put(&mut text, &entry.thread.auth.0);
+    put(&mut text, &entry.archived.to_be_bytes());
+    put(&mut text, &right.0);
+    H::digest(text.as_slice())
+}
+
+/// The label of one event of at most 1,024 bytes: the leaf hash of RFC 6962, section 2.1.
+#[tactic(auto, unfolding(crate::specs::Texts::event_leaf_text))]
+pub fn event_leaf<H: Hasher>(event: &[u8]) -> Digest
+    requires { length event.now ≤ 1024 }
+    ensures { result ≡ H.dig (event_leaf_text event.now) }
+{
+    let mut text: ArrayVec<u8, 1025> = ArrayVec::new();
+    text.push(0);
+    put(&mut text, event);
+    H::digest(text.as_slice())
+}
+
+/// The label of two parts of a list of events: the node hash of RFC 6962, section 2.1.
+#[tactic(auto, unfolding(crate::specs::Texts::event_node_text))]
+pub fn event_node<H: Hasher>(left: &Digest, right: &Digest) -> Digest
+    ensures label { result ≡ H.dig (event_node_text left.now right.now) }
+    ensures left_size { length left.now ≡ 32 }
+    ensures right_size { length right.now ≡ 32 }
+{
+    let mut text: ArrayVec<u8, 65> = ArrayVec::new();
+    text.push(1);
+    put(&mut text, &left.0);
+    put(&mut text, &right.0);
+    H::digest(text.as_slice())
+}
+
+/// The event root of a step with no events: the hash of an empty list of RFC 6962, section 2.1.
+#[tactic(auto, unfolding(crate::specs::Texts::no_events_text))]
+pub fn no_events<H: Hasher>() -> Digest
+    ensures { result ≡ H.dig no_events_text }
+{
+    H::digest(&[])
+}
