@@ -3,3 +3,4 @@ pub mod Texts
 pub mod Weak
 pub mod Digests
 pub mod Entries
+pub mod Clash
