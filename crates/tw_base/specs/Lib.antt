@@ -4,3 +4,12 @@ pub mod Weak
 pub mod Digests
 pub mod Entries
 pub mod Clash
+pub mod Lists
+pub mod EventTree
+pub mod History
+pub mod Tree
+pub mod Sound
+pub mod Levels
+pub mod Auth
+pub mod HistoryTexts
+pub mod Family
