@@ -4,3 +4,5 @@ pub mod Weak
 pub mod Digests
 pub mod Entries
 pub mod Clash
+pub mod EventTree
+pub mod AuditPath
