@@ -2,7 +2,7 @@
 use Rattle.std.proofs.Common.{◌≡◌, ℕ, List, [], ◌∷◌, refl, replicate}
 use Rattle.std.specs.Int.Count.{count_trailing_zeros}
 use Rattle.tw_base.specs.Texts.{genesis_text, datum_text, link_text, authenticator_text, empty_tree_text, tree_node_text, event_leaf_text, event_node_text, no_events_text}
-use Rattle.tw_base.specs.EventTree.{root_to, event_root}
+use Rattle.tw_base.specs.EventTree.{tree_hash, event_root}
 use Rattle.tw_base.specs.History.{History, entry_to}
 use Rattle.tw_base.specs.History.Content.{Events, Received}
 use Rattle.tw_base.specs.Tree.{planted, forest, tree}
@@ -44,23 +44,23 @@ unfolding b auth auths genesis_text
 b-0 = refl
 
 a-1-datum : weak (datum_text_at weak a 1) ≡ short 0x28
-unfolding a tree_label datum_text_at root_to event_root planted forest tree entry_to datum_text empty_tree_text event_leaf_text event_node_text no_events_text
+unfolding a tree_label datum_text_at tree_hash event_root planted forest tree entry_to datum_text empty_tree_text event_leaf_text event_node_text no_events_text
 a-1-datum = refl
 
 a-1 : auth weak a 1 ≡ short 0xbf
-unfolding a auth auths tree_label datum_text_at link_texts root_to event_root planted forest tree entry_to genesis_text datum_text link_text authenticator_text empty_tree_text tree_node_text event_leaf_text event_node_text no_events_text top_level count_trailing_zeros
+unfolding a auth auths tree_label datum_text_at link_texts tree_hash event_root planted forest tree entry_to genesis_text datum_text link_text authenticator_text empty_tree_text tree_node_text event_leaf_text event_node_text no_events_text top_level count_trailing_zeros
 a-1 = refl
 
 a-2-root : event_root weak ((104 ∷ 105 ∷ []) ∷ []) ≡ short 0xd1
-unfolding root_to event_root event_leaf_text
+unfolding tree_hash event_root event_leaf_text
 a-2-root = refl
 
 a-2-datum : weak (datum_text_at weak a 2) ≡ short 0xf9
-unfolding a tree_label datum_text_at root_to event_root planted forest tree entry_to datum_text empty_tree_text event_leaf_text event_node_text no_events_text
+unfolding a tree_label datum_text_at tree_hash event_root planted forest tree entry_to datum_text empty_tree_text event_leaf_text event_node_text no_events_text
 a-2-datum = refl
 
 a-2 : auth weak a 2 ≡ short 0x5f
-unfolding a auth auths tree_label datum_text_at link_texts root_to event_root planted forest tree entry_to genesis_text datum_text link_text authenticator_text empty_tree_text tree_node_text event_leaf_text event_node_text no_events_text top_level count_trailing_zeros
+unfolding a auth auths tree_label datum_text_at link_texts tree_hash event_root planted forest tree entry_to genesis_text datum_text link_text authenticator_text empty_tree_text tree_node_text event_leaf_text event_node_text no_events_text top_level count_trailing_zeros
 a-2 = refl
 
 b-1-tree : tree_label weak (tree b 1) ≡ short 0x5f
@@ -68,9 +68,9 @@ unfolding b tree_label planted forest tree entry_to empty_tree_text tree_node_te
 b-1-tree = refl
 
 b-1-datum : weak (datum_text_at weak b 1) ≡ short 0x72
-unfolding b tree_label datum_text_at root_to event_root planted forest tree entry_to datum_text empty_tree_text tree_node_text event_leaf_text event_node_text no_events_text
+unfolding b tree_label datum_text_at tree_hash event_root planted forest tree entry_to datum_text empty_tree_text tree_node_text event_leaf_text event_node_text no_events_text
 b-1-datum = refl
 
 b-1 : auth weak b 1 ≡ short 0x0a
-unfolding b auth auths tree_label datum_text_at link_texts root_to event_root planted forest tree entry_to genesis_text datum_text link_text authenticator_text empty_tree_text tree_node_text event_leaf_text event_node_text no_events_text top_level count_trailing_zeros
+unfolding b auth auths tree_label datum_text_at link_texts tree_hash event_root planted forest tree entry_to genesis_text datum_text link_text authenticator_text empty_tree_text tree_node_text event_leaf_text event_node_text no_events_text top_level count_trailing_zeros
 b-1 = refl

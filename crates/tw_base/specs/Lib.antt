@@ -6,6 +6,7 @@ pub mod Entries
 pub mod Clash
 pub mod Lists
 pub mod EventTree
+pub mod AuditPath
 pub mod History
 pub mod Tree
 pub mod Sound

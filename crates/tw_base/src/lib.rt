@@ -7,6 +7,7 @@ mod failure;
 mod hasher;
 mod labels;
 mod name;
+mod side;
 mod thread;
 
 pub use bytes::Bytes;
@@ -18,4 +19,5 @@ pub use labels::{
     tree_node,
 };
 pub use name::Name;
+pub use side::Side;
 pub use thread::{Entry, Key, Place, Thread, compare_keys, entry_key};
