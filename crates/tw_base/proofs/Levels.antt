@@ -28,3 +28,5 @@ top_level-below (suc i) q =
           let none : suc i / 2 ^ trailing_zeros w64 (suc i) ≡ 0 = div-eq_of_lt small in
           absurd (omega (arith, bits.1, none)))
     ]
+
+pub ruleset top_levels = (top_level-is, top_level-zero, top_level-below)

@@ -5,7 +5,9 @@ mod bytes;
 mod digest;
 mod failure;
 mod hasher;
+mod label_list;
 mod labels;
+mod link_level;
 mod name;
 mod side;
 mod thread;
@@ -14,10 +16,12 @@ pub use bytes::Bytes;
 pub use digest::Digest;
 pub use failure::{Failed, NoMemory};
 pub use hasher::{Hasher, Sha, Weak};
+pub use label_list::Labels;
 pub use labels::{
     authenticator, datum, empty_tree, event_leaf, event_node, genesis, link_label, no_events,
     tree_node,
 };
+pub use link_level::top_level;
 pub use name::Name;
 pub use side::Side;
 pub use thread::{Entry, Key, Place, Thread, compare_keys, entry_key};
