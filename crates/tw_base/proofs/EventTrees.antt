@@ -1,7 +1,7 @@
 -- The equations of the event tree, without the bound on splits, and what its texts hold.
-use Rattle.std.proofs.Common.{◌≡◌, ℕ, suc, zero, ◌+◌, ◌-◌, ◌*◌, ◌<◌, ◌≤◌, ◌^◌, List, [], ◌∷◌, ◌++◌, length, take, drop, true, false, refl, ap, sym, ◌∙◌, subst, arith, lit<, inl, inr}
-use Rattle.std.specs.Prelude.{nat_le, nat_lt, if◌then◌else◌}
-use Rattle.std.proofs.lemmas.Bool.{cases_lt, le-leb, lt-leb, lt-ltb, le-ltb}
+use Rattle.std.proofs.Common.{◌≡◌, ℕ, suc, zero, ◌+◌, ◌-◌, ◌*◌, ◌<◌, ◌≤◌, ◌^◌, List, [], ◌∷◌, ◌++◌, length, take, drop, refl, ap, sym, ◌∙◌, subst, arith, lit<, inl, inr}
+use Rattle.std.specs.Prelude.{nat_lt, if◌then◌else◌}
+use Rattle.std.proofs.lemmas.Bool.{cases_lt, lt-ltb, le-ltb}
 use Rattle.std.proofs.lemmas.List.{length-take-le, length-drop}
 use Rattle.std.proofs.Math.Nat.{le_trans, one-le-pow, pow-le-pow_right, pow-suc}
 use Rattle.tw_base.specs.Clash.{Among, Within}
@@ -179,6 +179,10 @@ module _ (dig : List ℕ → List ℕ) where
       → audit_path dig events index ≡ path_join events (audit_path dig (left_half events)) (audit_path dig (right_half events)) index
   unfolding audit_path
   path-halved events index h = ap (λ p. p index) (halved (path_within dig) path_join path-few path-more events h)
+
+  pub audit_path-none : (index : ℕ) → audit_path dig [] index ≡ []
+  unfolding audit_path path_within
+  audit_path-none index = refl
 
   pub audit_path-one : (event : List ℕ) (index : ℕ) → audit_path dig (event ∷ []) index ≡ []
   unfolding audit_path path_within

@@ -1,5 +1,5 @@
 -- Two different texts of one list with one digest: what every binding theorem leaves as the only way out.
-use Rattle.std.specs.Prelude.{◌≡◌, ◌≢◌, ℕ, ◌<◌, List, [], ◌∷◌, ◌⊎◌, slice_get, Some}
+use Rattle.std.specs.Prelude.{◌≡◌, ◌≢◌, ℕ, List, [], ◌∷◌, ◌⊎◌}
 
 abbrev pub Among : List ℕ → List (List ℕ) → Type 0
 Among text [] = ⊥
