@@ -3,6 +3,7 @@
 
 mod bytes;
 mod digest;
+mod event_tree;
 mod failure;
 mod hasher;
 mod label_list;
@@ -14,6 +15,7 @@ mod thread;
 
 pub use bytes::Bytes;
 pub use digest::Digest;
+pub use event_tree::{audit_path_laws, event_root_laws};
 pub use failure::{Failed, NoMemory};
 pub use hasher::{Hasher, Sha, Weak};
 pub use label_list::Labels;
