@@ -1,5 +1,5 @@
 -- Digests have 32 bytes.
-use Rattle.std.proofs.Common.{◌≡◌, ℕ, suc, zero, ◌≤◌, List, [], ◌∷◌, length, ap, sym, ◌∙◌}
+use Rattle.std.proofs.Common.{◌≡◌, ℕ, suc, zero, List, [], ◌∷◌, length, ap, ◌∙◌}
 use Rattle.std.specs.Prelude.{map}
 use Rattle.tw_base.specs.Digests.{AllDigests}
 use Rattle.tw_base.specs.History.{History}

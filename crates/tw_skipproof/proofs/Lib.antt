@@ -1,3 +1,4 @@
 pub mod Hops
-pub mod Binding
-pub mod Climbing
+pub mod OpeningBinding
+pub mod PathBinding
+pub mod Greedy
