@@ -10,6 +10,7 @@ mod label_list;
 mod labels;
 mod link_level;
 mod name;
+mod report;
 mod side;
 mod thread;
 
@@ -25,5 +26,6 @@ pub use labels::{
 };
 pub use link_level::top_level;
 pub use name::Name;
+pub use report::{Claim, Reason, Report, Seen};
 pub use side::Side;
 pub use thread::{Entry, Key, Place, Thread, compare_keys, entry_key};
