@@ -3,9 +3,11 @@
 
 mod bytes;
 mod digest;
+mod event_list;
 mod event_tree;
 mod failure;
 mod hasher;
+mod label_list;
 mod labels;
 mod name;
 mod side;
@@ -13,9 +15,11 @@ mod thread;
 
 pub use bytes::Bytes;
 pub use digest::Digest;
+pub use event_list::EventList;
 pub use event_tree::{audit_path_laws, event_root_laws};
 pub use failure::{Failed, NoMemory};
 pub use hasher::{Hasher, Sha, Weak};
+pub use label_list::Labels;
 pub use labels::{
     authenticator, datum, empty_tree, event_leaf, event_node, genesis, link_label, no_events,
     tree_node,
