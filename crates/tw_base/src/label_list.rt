@@ -1,4 +1,4 @@
-// Lists of labels.
+// Lists of digests.
 
 ghost use Rattle.std.specs.Prelude.{◌≡◌, [], ◌∷◌, ◌++◌, length, OnOk, OnErr};
 ghost use Rattle.tw_base.specs.Digests.{AllDigests};
@@ -8,7 +8,8 @@ use crate::failure::NoMemory;
 use std::alloc::Global;
 use std::marker::Model;
 
-/// A list of labels, which contracts see as the list of their bytes.
+/// A list of digests on the heap, such as the labels of a step's links or of an audit path.
+/// Contracts see it as a list of lists of 32 bytes.
 #[derive(Drop, Debug)]
 pub struct Labels {
     items: Vec<Digest>,
@@ -35,21 +36,6 @@ impl Labels {
         }
     }
 
-    /// The vector's labels. Takes no memory.
-    pub fn from_vec(items: Vec<Digest>) -> Self
-        requires { AllDigests items.items }
-        ensures { result ≡ items.items }
-    {
-        Labels { items }
-    }
-
-    /// The labels as a vector. Takes no memory.
-    pub fn into_vec(self) -> Vec<Digest>
-        ensures { result.items ≡ self }
-    {
-        self.items
-    }
-
     /// The labels.
     pub fn as_slice(&self) -> &[Digest]
         ensures value { result.now ≡ self.now }
@@ -65,7 +51,7 @@ impl Labels {
         self.items.len()
     }
 
-    /// Appends a label; after want of memory the list is as before.
+    /// Appends the label; after want of memory the list is as before.
     pub fn push(&mut self, label: Digest) -> Result<(), NoMemory>
         ensures ok { OnOk result (self.new ≡ self.old ++ label ∷ []) }
         ensures err { OnErr result (self.new ≡ self.old) }

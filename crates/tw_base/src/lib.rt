@@ -9,6 +9,7 @@ mod failure;
 mod hasher;
 mod label_list;
 mod labels;
+mod link_level;
 mod name;
 mod side;
 mod thread;
@@ -24,6 +25,7 @@ pub use labels::{
     authenticator, datum, empty_tree, event_leaf, event_node, genesis, link_label, no_events,
     tree_node,
 };
+pub use link_level::top_level;
 pub use name::Name;
 pub use side::Side;
 pub use thread::{Entry, Key, Place, Thread, compare_keys, entry_key};
