@@ -3,6 +3,7 @@
 
 mod bytes;
 mod digest;
+mod event_list;
 mod event_tree;
 mod failure;
 mod hasher;
@@ -16,6 +17,7 @@ mod thread;
 
 pub use bytes::Bytes;
 pub use digest::Digest;
+pub use event_list::EventList;
 pub use event_tree::{audit_path_laws, event_root_laws};
 pub use failure::{Failed, NoMemory};
 pub use hasher::{Hasher, Sha, Weak};
