@@ -3,3 +3,5 @@ pub mod Texts
 pub mod Weak
 pub mod Digests
 pub mod Entries
+pub mod Formats
+pub mod Fields

@@ -11,7 +11,7 @@ mod thread;
 
 pub use bytes::Bytes;
 pub use digest::Digest;
-pub use failure::{Failed, NoMemory};
+pub use failure::{Failed, NoMemory, ReadFault};
 pub use hasher::{Hasher, Sha, Weak};
 pub use labels::{
     authenticator, datum, empty_tree, event_leaf, event_node, genesis, link_label, no_events,
