@@ -1,5 +1,5 @@
 -- The fields of the formats.
-use Rattle.std.specs.Prelude.{ℕ, suc, zero, ◌+◌, ◌-◌, ◌*◌, ◌/◌, ◌%◌, ◌^◌, List, [], ◌∷◌, Bool, false, not, ◌&&◌, ◌||◌, ◌==◌, nat_le, nat_lt, if◌then◌else◌}
+use Rattle.std.specs.Prelude.{ℕ, suc, zero, ◌+◌, ◌-◌, ◌*◌, ◌/◌, ◌%◌, ◌^◌, List, [], ◌∷◌, Bool, true, false, not, ◌&&◌, ◌||◌, ◌==◌, nat_le, nat_lt, if◌then◌else◌}
 use Rattle.std.specs.Int.{bytes_high_first}
 use Rattle.tw_base.specs.Formats.{Format, then_by}
 use Rattle.tw_base.specs.Formats.Format.{Done, Byte}
@@ -47,14 +47,15 @@ unfoldable pub text : List ℕ → Format (List ℕ)
 text [] = Done []
 text (c ∷ cs) = byte_then (λ b. b == c) (λ b. text cs)
 
--- what is left of a name: letters and then zeros; after a zero come zeros alone
-unfoldable pub name_rest : (padding : Bool) (left : ℕ) → Format (List ℕ)
-name_rest padding zero = Done []
-name_rest padding (suc left) = byte_then (λ b. (not padding && is_name_byte b) || b == 0) (λ b. name_rest (b == 0) left)
+-- what is left of a name: letters while they may come, and zeros where they may; after a zero come zeros alone
+unfoldable pub name_part : (letters zeros : Bool) (left : ℕ) → Format (List ℕ)
+name_part letters zeros zero = Done []
+name_part letters zeros (suc left) =
+    byte_then (λ b. (letters && is_name_byte b) || (zeros && b == 0)) (λ b. name_part (not (b == 0)) true left)
 
 -- a name: 1 to 16 bytes of a-z, 0-9 and '-', and then zeros to 16 bytes
 unfoldable pub name : Format (List ℕ)
-name = byte_then is_name_byte (λ b. name_rest false 15)
+name = name_part true false 16
 
 -- ---- lists
 
