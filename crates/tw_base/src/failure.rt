@@ -7,3 +7,13 @@ pub struct Failed;
 /// There was no memory for what the call needed.
 #[derive(Clone, Copy, PartialEq, Eq, Debug, Drop)]
 pub struct NoMemory;
+
+/// Why bytes could not be read.
+#[derive(Clone, Copy, PartialEq, Eq, Debug, Drop)]
+pub enum ReadFault {
+    /// The bytes are no word of the format. The place, counted from 0, is that of the first byte at
+    /// which no word of the format goes on; where the bytes end too early, it is their length.
+    Malformed { place: u64 },
+    /// There was no memory for what the call needed.
+    NoMemory,
+}

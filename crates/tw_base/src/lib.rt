@@ -19,7 +19,7 @@ pub use bytes::Bytes;
 pub use digest::Digest;
 pub use event_list::EventList;
 pub use event_tree::{audit_path_laws, event_root_laws};
-pub use failure::{Failed, NoMemory};
+pub use failure::{Failed, NoMemory, ReadFault};
 pub use hasher::{Hasher, Sha, Weak};
 pub use label_list::Labels;
 pub use labels::{
