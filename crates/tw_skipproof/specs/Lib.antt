@@ -1,2 +1,4 @@
 pub mod Openings
 pub mod Paths
+pub mod Layouts
+pub mod Existence

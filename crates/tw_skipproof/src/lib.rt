@@ -2,11 +2,13 @@
 #![tactic(auto)]
 
 mod climbing;
+mod existence;
 mod hop;
 mod opening;
 mod path;
 
 pub use climbing::climb;
+pub use existence::{EventPart, ExistenceProof, Part};
 pub use hop::next_hop;
 pub use opening::{Opening, check_opening};
 pub use path::{Link, LinkList, Path};
