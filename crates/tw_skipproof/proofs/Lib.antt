@@ -2,3 +2,4 @@ pub mod Hops
 pub mod OpeningBinding
 pub mod PathBinding
 pub mod Greedy
+pub mod LayoutLaws
