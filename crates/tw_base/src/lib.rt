@@ -4,6 +4,7 @@
 mod bytes;
 mod digest;
 mod failure;
+mod fields;
 mod hasher;
 mod labels;
 mod name;
@@ -12,10 +13,11 @@ mod thread;
 pub use bytes::Bytes;
 pub use digest::Digest;
 pub use failure::{Failed, NoMemory, ReadFault};
+pub use fields::{read_digest, read_name, read_number, read_text};
 pub use hasher::{Hasher, Sha, Weak};
 pub use labels::{
     authenticator, datum, empty_tree, event_leaf, event_node, genesis, link_label, no_events,
     tree_node,
 };
-pub use name::Name;
+pub use name::{Name, is_name_byte};
 pub use thread::{Entry, Key, Place, Thread, compare_keys, entry_key};
