@@ -1,15 +1,16 @@
 -- Laws of the fields of bytes, of names and of lists.
-use Rattle.std.proofs.Common.{◌≡◌, ℕ, suc, zero, ◌+◌, ◌-◌, ◌*◌, ◌^◌, ◌<◌, ◌≤◌, List, [], ◌∷◌, ◌++◌, length, get_or, take, drop, Bool, true, false, refl, ap, sym, ◌∙◌, subst, arith, inl, inr, lit<, append_assoc}
-use Rattle.std.specs.Prelude.{if◌then◌else◌, ◌&&◌, ◌||◌, ◌==◌, not, nat_le, nat_lt, Ok, Err, replicate, IsTrue, Result}
+use Rattle.std.proofs.Common.{◌≡◌, ℕ, suc, zero, ◌+◌, ◌-◌, ◌^◌, ◌<◌, ◌≤◌, List, [], ◌∷◌, ◌++◌, length, get_or, take, drop, Bool, true, false, refl, ap, sym, ◌∙◌, subst, arith, inl, inr, append_assoc}
+use Rattle.std.specs.Prelude.{cond, ◌&&◌, ◌||◌, ◌==◌, not, nat_le, nat_lt, Ok, Err, replicate, IsTrue, Result}
 use Rattle.std.specs.List.{list_all, flat_map}
-use Rattle.std.proofs.lemmas.List.{append-nil, drop-drop, get_or-drop, length-drop, length-append, drop_more, drop_all, take_more}
+use Rattle.std.proofs.lemmas.List.{append-nil, take_all, get_or-drop, length-drop, drop_more, drop_all, take_more}
 use Rattle.std.proofs.lemmas.Bool.{and_parts, and_from, or_cases, or_left, or_right, eqb-true, eq-eqb, ne_eqb, lt-ltb, leb-true, le-leb}
+use Rattle.std.proofs.lemmas.List.Sums.{take_while-cons}
 use Rattle.tw_base.specs.Formats.{Format, Reading, GoesOn, Placed, Spells, WrittenAs, front, goes_on, placed, read_at, ◌>>=◌, then_by}
 use Rattle.tw_base.specs.Formats.Reading.{Took, Stopped}
-use Rattle.tw_base.specs.Formats.Format.{Byte, Done}
+use Rattle.tw_base.specs.Formats.Format.{Done}
 use Rattle.tw_base.specs.Fields.{byte_then, bytes, name, name_part, number, number_bytes, repeated, sized_bytes, text}
-use Rattle.tw_base.specs.Names.{IsName, is_name_byte, is_name_text, padded_name}
-use Rattle.tw_base.proofs.FormatLaws.{goes_on-then, front-byte, front-done, front-nil, front-stops, front-then, front-whole, read_at-done, read_at-spells, read_at-then, spells_then, then_spells}
+use Rattle.tw_base.specs.Names.{IsName, is_name_byte, is_name_text, name_text, padded_name}
+use Rattle.tw_base.proofs.FormatLaws.{goes_on-then, front-byte, front-done, front-nil, front-sound, front-stops, front-then, read_at-done, read_at-then, spells_then, then_spells}
 use Rattle.tw_base.proofs.NumberLaws.{goes_on-number, number-written, number_spells}
 
 -- ---- a byte and then more
@@ -83,6 +84,25 @@ module _ (test : ℕ → Bool) (rest : ℕ → Format (List ℕ)) where
   pub byte_then-none : (x : List ℕ) → Spells (byte_then test rest) [] x → ⊥
   unfolding byte_then
   byte_then-none x s = s
+
+-- a reading that has come to the byte at i
+module _ (test : ℕ → Bool) (rest : ℕ → Format (List ℕ)) (r : Reading (List ℕ)) (ws bs : List ℕ) (at i : ℕ) (so_far : r ≡ with_front ws (front (byte_then test rest) (drop i bs) (at + i))) where
+  step-passes : i < length bs → test (get_or bs i 0) ≡ true → r ≡ with_front (ws ++ get_or bs i 0 ∷ []) (front (rest (get_or bs i 0)) (drop (i + 1) bs) (at + (i + 1)))
+  step-passes l passes =
+      so_far ∙ ap (λ cs. with_front ws (front (byte_then test rest) cs (at + i))) (drop_more bs i 0 l)
+      ∙ ap (with_front ws) (front-byte_then test rest (get_or bs i 0) (drop (i + 1) bs) (at + i) passes)
+      ∙ with_front-with_front ws (get_or bs i 0 ∷ []) (front (rest (get_or bs i 0)) (drop (i + 1) bs) (at + i + 1))
+      ∙ ap (λ n. with_front (ws ++ get_or bs i 0 ∷ []) (front (rest (get_or bs i 0)) (drop (i + 1) bs) n)) (let e : at + i + 1 ≡ at + (i + 1) = omega arith in e)
+
+  step-fails : i < length bs → test (get_or bs i 0) ≡ false → r ≡ Stopped (at + i)
+  step-fails l fails =
+      so_far ∙ ap (λ cs. with_front ws (front (byte_then test rest) cs (at + i))) (drop_more bs i 0 l)
+      ∙ ap (with_front ws) (front-byte_stops test rest (get_or bs i 0) (drop (i + 1) bs) (at + i) fails)
+
+  step-short : length bs ≤ i → r ≡ Stopped (at + i)
+  step-short l =
+      so_far ∙ ap (λ cs. with_front ws (front (byte_then test rest) cs (at + i))) (drop_all i bs l)
+      ∙ ap (with_front ws) (front-byte_short test rest (at + i))
 
 -- ---- bytes
 
@@ -175,6 +195,39 @@ text-word (c ∷ cs) (b ∷ bs) x s =
     let parts = byte_then-parts (λ b. b == c) (λ b. text cs) b bs x s in
     ap (λ d. d ∷ bs) (eqb-true b c parts.0) ∙ ap (λ ds. c ∷ ds) (text-word cs bs parts.1 parts.2)
 
+-- the text is read up to its byte i
+abbrev pub TextReadTo : (t bs : List ℕ) (at i : ℕ) → Type 0
+TextReadTo t bs at i = front (text t) bs at ≡ with_front (take i t) (front (text (drop i t)) (drop i bs) (at + i))
+
+pub text-starts : (t bs : List ℕ) (at : ℕ) → TextReadTo t bs at 0
+text-starts t bs at = ap (front (text t) bs) (let e : at ≡ at + 0 = omega arith in e) ∙ with_front-nil (front (text t) bs (at + 0))
+
+-- the text from its byte i on
+text_from : (t bs : List ℕ) (at i : ℕ) → i < length t → TextReadTo t bs at i
+    → front (text t) bs at ≡ with_front (take i t) (front (byte_then (λ b. b == get_or t i 0) (λ b. text (drop (i + 1) t))) (drop i bs) (at + i))
+unfolding text
+text_from t bs at i l so_far = so_far ∙ ap (λ u. with_front (take i t) (front (text u) (drop i bs) (at + i))) (drop_more t i 0 l)
+
+pub text-goes : (t bs : List ℕ) (at i : ℕ) → i < length t → i < length bs → get_or bs i 0 ≡ get_or t i 0 → TextReadTo t bs at i → TextReadTo t bs at (i + 1)
+text-goes t bs at i l within same so_far =
+    step-passes (λ b. b == get_or t i 0) (λ b. text (drop (i + 1) t)) (front (text t) bs at) (take i t) bs at i (text_from t bs at i l so_far) within (eq-eqb (get_or bs i 0) (get_or t i 0) same)
+    ∙ ap (λ b. with_front (take i t ++ b ∷ []) (front (text (drop (i + 1) t)) (drop (i + 1) bs) (at + (i + 1)))) same
+    ∙ ap (λ ws. with_front ws (front (text (drop (i + 1) t)) (drop (i + 1) bs) (at + (i + 1)))) (sym (take_more t i 0 l))
+
+pub text-short : (t bs : List ℕ) (at i : ℕ) → i < length t → length bs ≤ i → TextReadTo t bs at i → front (text t) bs at ≡ Stopped (at + i)
+text-short t bs at i l short so_far = step-short (λ b. b == get_or t i 0) (λ b. text (drop (i + 1) t)) (front (text t) bs at) (take i t) bs at i (text_from t bs at i l so_far) short
+
+pub text-differs : (t bs : List ℕ) (at i : ℕ) → i < length t → i < length bs → (get_or bs i 0 ≡ get_or t i 0 → ⊥) → TextReadTo t bs at i → front (text t) bs at ≡ Stopped (at + i)
+text-differs t bs at i l within other so_far =
+    step-fails (λ b. b == get_or t i 0) (λ b. text (drop (i + 1) t)) (front (text t) bs at) (take i t) bs at i (text_from t bs at i l so_far) within (ne_eqb (get_or bs i 0) (get_or t i 0) other)
+
+pub text-ends : (t bs : List ℕ) (at i : ℕ) → i ≡ length t → TextReadTo t bs at i → front (text t) bs at ≡ Took t (at + length t)
+unfolding text
+text-ends t bs at i l so_far =
+    so_far ∙ ap (λ u. with_front (take i t) (front (text u) (drop i bs) (at + i))) (drop_all i t (omega arith))
+    ∙ ap (with_front (take i t)) (front-done [] (drop i bs) (at + i))
+    ∙ ap (λ ws. Took ws (at + i)) (append-nil (take i t) ∙ take_all i t (omega arith)) ∙ ap (Took t) (let e : at + i ≡ at + length t = omega arith in e)
+
 -- ---- names
 
 -- a letter is no zero
@@ -205,6 +258,39 @@ name_part-written letters zeros (suc left) word x s =
 pub name-written : WrittenAs name (λ w. w)
 unfolding name
 name-written word x s = name_part-written true false 16 word x s
+
+-- the name is read up to its byte i
+abbrev pub NameReadTo : (letters zeros : Bool) (bs : List ℕ) (at i : ℕ) → Type 0
+NameReadTo letters zeros bs at i = front name bs at ≡ with_front (take i bs) (front (name_part letters zeros (16 - i)) (drop i bs) (at + i))
+
+pub name-starts : (bs : List ℕ) (at : ℕ) → NameReadTo true false bs at 0
+unfolding name
+name-starts bs at = ap (front name bs) (let e : at ≡ at + 0 = omega arith in e) ∙ with_front-nil (front name bs (at + 0))
+
+-- the name from its byte i on
+name_from : (letters zeros : Bool) (bs : List ℕ) (at i : ℕ) → i < 16 → NameReadTo letters zeros bs at i
+    → front name bs at ≡ with_front (take i bs) (front (byte_then (λ b. (letters && is_name_byte b) || (zeros && b == 0)) (λ b. name_part (not (b == 0)) true (16 - (i + 1)))) (drop i bs) (at + i))
+unfolding name_part
+name_from letters zeros bs at i l so_far = so_far ∙ ap (λ left. with_front (take i bs) (front (name_part letters zeros left) (drop i bs) (at + i))) (let e : 16 - i ≡ suc (16 - (i + 1)) = omega arith in e)
+
+pub name-goes : (letters zeros : Bool) (bs : List ℕ) (at i : ℕ) → i < 16 → i < length bs → ((letters && is_name_byte (get_or bs i 0)) || (zeros && get_or bs i 0 == 0)) ≡ true
+    → NameReadTo letters zeros bs at i → NameReadTo (not (get_or bs i 0 == 0)) true bs at (i + 1)
+name-goes letters zeros bs at i l within passes so_far =
+    step-passes (λ b. (letters && is_name_byte b) || (zeros && b == 0)) (λ b. name_part (not (b == 0)) true (16 - (i + 1))) (front name bs at) (take i bs) bs at i (name_from letters zeros bs at i l so_far) within passes
+    ∙ ap (λ ws. with_front ws (front (name_part (not (get_or bs i 0 == 0)) true (16 - (i + 1))) (drop (i + 1) bs) (at + (i + 1)))) (sym (take_more bs i 0 within))
+
+pub name-fails : (letters zeros : Bool) (bs : List ℕ) (at i : ℕ) → i < 16 → i < length bs → ((letters && is_name_byte (get_or bs i 0)) || (zeros && get_or bs i 0 == 0)) ≡ false
+    → NameReadTo letters zeros bs at i → front name bs at ≡ Stopped (at + i)
+name-fails letters zeros bs at i l within fails so_far =
+    step-fails (λ b. (letters && is_name_byte b) || (zeros && b == 0)) (λ b. name_part (not (b == 0)) true (16 - (i + 1))) (front name bs at) (take i bs) bs at i (name_from letters zeros bs at i l so_far) within fails
+
+pub name-short : (letters zeros : Bool) (bs : List ℕ) (at i : ℕ) → i < 16 → length bs ≤ i → NameReadTo letters zeros bs at i → front name bs at ≡ Stopped (at + i)
+name-short letters zeros bs at i l short so_far =
+    step-short (λ b. (letters && is_name_byte b) || (zeros && b == 0)) (λ b. name_part (not (b == 0)) true (16 - (i + 1))) (front name bs at) (take i bs) bs at i (name_from letters zeros bs at i l so_far) short
+
+pub name-ends : (letters zeros : Bool) (bs : List ℕ) (at : ℕ) → NameReadTo letters zeros bs at 16 → front name bs at ≡ Took (take 16 bs) (at + 16)
+unfolding name_part
+name-ends letters zeros bs at so_far = so_far ∙ ap (with_front (take 16 bs)) (front-done [] (drop 16 bs) (at + 16)) ∙ ap (λ ws. Took ws (at + 16)) (append-nil (take 16 bs))
 
 -- zeros after the letters
 zeros_spell : (n : ℕ) → Spells (name_part false true n) (replicate n 0) (replicate n 0)
@@ -262,12 +348,12 @@ letters_word (suc left) (b ∷ bs) x s =
             ap (λ cs. b ∷ cs) (rest.3 ∙ ap (λ n. rest.0 ++ replicate n 0) (let r : left - length rest.0 ≡ suc left - suc (length rest.0) = omega arith in r)),
           ))
       | inr is_zero ↦ (
-          [],
-          refl,
-          omega arith,
-          ap (λ c. c ∷ bs) (eqb-true b 0 is_zero) ∙ ap (λ cs. 0 ∷ cs) (zeros_word left bs parts.1 (subst P is_zero parts.2))
-          ∙ ap (λ n. replicate n 0) (let r : suc left ≡ suc left - 0 = omega arith in r),
-        )
+        [],
+        refl,
+        omega arith,
+        ap (λ c. c ∷ bs) (eqb-true b 0 is_zero) ∙ ap (λ cs. 0 ∷ cs) (zeros_word left bs parts.1 (subst P is_zero parts.2))
+            ∙ ap (λ n. replicate n 0) (let r : suc left ≡ suc left - 0 = omega arith in r),
+      )
     ]
 
 -- a name is spelled by its 16 bytes
@@ -302,10 +388,34 @@ name-word (b ∷ bs) x s =
     let text_of : List ℕ = b ∷ rest.0 in (
       text_of,
       and_from (nat_le 1 (length text_of) && nat_le (length text_of) 16) (list_all is_name_byte text_of)
-      (and_from (nat_le 1 (length text_of)) (nat_le (length text_of) 16) (le-leb 1 (length text_of) (omega arith)) (le-leb (length text_of) 16 (omega (arith, rest.2))))
-      (and_from (is_name_byte b) (list_all is_name_byte rest.0) letter rest.1),
+          (and_from (nat_le 1 (length text_of)) (nat_le (length text_of) 16) (le-leb 1 (length text_of) (omega arith)) (le-leb (length text_of) 16 (omega (arith, rest.2))))
+          (and_from (is_name_byte b) (list_all is_name_byte rest.0) letter rest.1),
       ap (λ cs. b ∷ cs) (rest.3 ∙ ap (λ n. rest.0 ++ replicate n 0) (let r : 15 - length rest.0 ≡ 16 - suc (length rest.0) = omega arith in r)),
     )
+
+-- what is read as a name is a name
+pub name-read : (bs x : List ℕ) (at after : ℕ) → front name bs at ≡ Took x after → IsName x
+name-read bs x at after e =
+    let is = front-sound name bs at after x e in
+    subst IsName (name-written is.0 x is.4) (name-word is.0 x is.4)
+
+-- a name's text, without the zeros
+name_text-padded : (t : List ℕ) (k : ℕ) → list_all is_name_byte t ≡ true → name_text (t ++ replicate k 0) ≡ t
+name_text-padded [] zero all = refl
+name_text-padded [] (suc k) all = refl
+name_text-padded (c ∷ cs) k all =
+    let parts = and_parts (is_name_byte c) (list_all is_name_byte cs) all in
+    take_while-cons (λ b. not (b == 0)) c (cs ++ replicate k 0)
+    ∙ ap (λ zero. cond (not zero) (c ∷ name_text (cs ++ replicate k 0)) []) (letter_is_not_zero c parts.0)
+    ∙ ap (λ ds. c ∷ ds) (name_text-padded cs k parts.1)
+
+-- a name's text is a name's text, and padding gives the name back
+pub name_text-is : (bs : List ℕ) → IsName bs → IsTrue (is_name_text (name_text bs)) × (padded_name (name_text bs) ≡ bs)
+name_text-is bs is =
+    let all = and_parts (nat_le 1 (length is.0) && nat_le (length is.0) 16) (list_all is_name_byte is.0) is.1 in
+    let same : name_text bs ≡ is.0 = ap name_text is.2 ∙ name_text-padded is.0 (16 - length is.0) all.1 in
+    let P : List ℕ → Type 0 = λ t. IsTrue (is_name_text t) in
+    (subst P (sym same) is.1, ap padded_name same ∙ sym is.2)
 
 -- ---- lists
 

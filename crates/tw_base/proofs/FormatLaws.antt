@@ -1,10 +1,8 @@
 -- Laws of every format: what reading takes is spelled, what is spelled is read, and a reading that stops tells the place.
-use Rattle.std.proofs.Common.{◌≡◌, ℕ, suc, zero, ◌+◌, ◌-◌, ◌<◌, ◌≤◌, List, [], ◌∷◌, ◌++◌, length, get_or, take, drop, Bool, true, false, refl, ap, sym, ◌∙◌, subst, arith, append_assoc}
+use Rattle.std.proofs.Common.{◌≡◌, ℕ, suc, zero, ◌+◌, ◌-◌, ◌<◌, ◌≤◌, List, [], ◌∷◌, ◌++◌, length, take, drop, Bool, true, false, refl, ap, sym, ◌∙◌, subst, arith}
 use Rattle.std.specs.Prelude.{if◌then◌else◌, Result, Ok, Err}
-use Rattle.std.proofs.lemmas.List.{append-nil, drop-drop, length-drop, take_at, take_all, length-append}
-use Rattle.tw_base.specs.declared.failure.ReadFault.{ReadFault}
-use Rattle.tw_base.specs.declared.failure.ReadFault.TheVariants.{Malformed, NoMemory}
-use Rattle.tw_base.specs.Formats.{WrittenAs, Format, Gives, GivesIfMemory, GivesWithEnd, Placed, ReadsAs, Reading, placed, read_at, ◌>>=◌, GoesOn, IsFront, IsPlace, OneSpelling, Spells, SpellsNothing, front, goes_on, then_by}
+use Rattle.std.proofs.lemmas.List.{append-nil, drop-drop, take_at, take_rest, length-append}
+use Rattle.tw_base.specs.Formats.{WrittenAs, Format, Gives, GivesFront, Placed, Reading, placed, read_at, ◌>>=◌, GoesOn, IsFront, IsPlace, OneSpelling, Spells, SpellsNothing, front, goes_on, then_by}
 use Rattle.tw_base.specs.Formats.Format.{Done, Byte}
 use Rattle.tw_base.specs.Formats.Reading.{Took, Stopped}
 
@@ -290,17 +288,17 @@ module _ {X : Type 0} where
       let end : after ≡ length word = omega (arith, is.3) in
       let front : take after whole ≡ word = ap (λ bs. take after bs) same ∙ take_at word rest after (sym end) in (
         λ y s. (
-          let P : List ℕ → Type 0 = λ w. Spells f w y in
-          let none : rest ≡ [] = no_longer_word f word rest x y is.4 (subst P same s) in
-          absurd (omega (arith, ap length same, ap length none, length-append word rest))),
+            let P : List ℕ → Type 0 = λ w. Spells f w y in
+            let none : rest ≡ [] = no_longer_word f word rest x y is.4 (subst P same s) in
+            absurd (omega (arith, ap length same, ap length none, length-append word rest))),
         record {
           within = omega arith;
           good = (let P : List ℕ → Type 0 = λ w. IsFront f w in
-            let Q : List ℕ → Type 0 = λ w. Spells f w x in
-            subst P (sym front) ([], x, subst Q (sym (append-nil word)) is.4));
+              let Q : List ℕ → Type 0 = λ w. Spells f w x in
+              subst P (sym front) ([], x, subst Q (sym (append-nil word)) is.4));
           longest = λ n m t. (
-            let P : List ℕ → Type 0 = λ w. IsFront f (take n w) in
-            omega (arith, at_its_end f word rest x n is.4 (subst P same t) (omega (arith, ap length same))));
+              let P : List ℕ → Type 0 = λ w. IsFront f (take n w) in
+              omega (arith, at_its_end f word rest x n is.4 (subst P same t) (omega (arith, ap length same))));
         },
       )
 
@@ -308,11 +306,11 @@ module _ {X : Type 0} where
   pub whole-stops : (f : Format X) → GoesOn f → (whole : List ℕ) (place : ℕ) → read_at f whole 0 ≡ Err place → SpellsNothing f whole × IsPlace f whole place
   whole-stops f g whole place e = (
     λ y s. (
-      let read : read_at f whole 0 ≡ Ok (record { value = y; after = length whole }) = read_at-word f whole whole [] 0 y s (sym (append-nil whole)) ∙ ap (λ n. Ok (record { value = y; after = n })) (let r : 0 + length whole ≡ length whole = omega arith in r) in
-      cc),
+        let read : read_at f whole 0 ≡ Ok (record { value = y; after = length whole }) = read_at-word f whole whole [] 0 y s (sym (append-nil whole)) ∙ ap (λ n. Ok (record { value = y; after = n })) (let r : 0 + length whole ≡ length whole = omega arith in r) in
+        cc),
     (let is = read_at-place f g whole 0 place e in
-      let P : ℕ → Type 0 = λ n. IsPlace f whole n in
-      subst P (let r : is.0 ≡ place = omega (arith, is.1) in r) is.2),
+        let P : ℕ → Type 0 = λ n. IsPlace f whole n in
+        subst P (let r : is.0 ≡ place = omega (arith, is.1) in r) is.2),
   )
 
 -- a reader that reads from 0 and then sees whether bytes are left
@@ -340,3 +338,17 @@ module _ {X Y : Type 0} where
       let t = then_spells f next word y s in
       let Q : List ℕ → Type 0 = λ w. P w y in
       subst Q (sym t.3) (h t.0 t.2 t.4 t.1 y t.5)
+
+-- ---- answers of readers
+
+module _ {X Y : Type 0} where
+  pub gives_read : (f : Format X) (view : Y → X) (r : Result Y ℕ) (whole : List ℕ) (at after : ℕ) → GivesFront view r after (front f (drop at whole) at) → Gives view r after (read_at f whole at)
+  unfolding read_at
+  gives_read f view (Ok y) whole at after e = ap placed e
+  gives_read f view (Err p) whole at after e = ap placed e
+
+  -- the same where the code reads the slice from the place on
+  pub gives_rest : (f : Format X) (view : Y → X) (r : Result Y ℕ) (whole : List ℕ) (at after : ℕ) → GivesFront view r after (front f (take (length whole - at) (drop at whole)) at) → Gives view r after (read_at f whole at)
+  gives_rest f view r whole at after g =
+      let P : List ℕ → Type 0 = λ bs. GivesFront view r after (front f bs at) in
+      gives_read f view r whole at after (subst P (take_rest whole at) g)

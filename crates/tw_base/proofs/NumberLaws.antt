@@ -2,7 +2,7 @@
 use Rattle.std.proofs.Common.{◌≡◌, ℕ, suc, zero, ◌+◌, ◌-◌, ◌*◌, ◌/◌, ◌%◌, ◌^◌, ◌<◌, ◌≤◌, List, [], ◌∷◌, ◌++◌, length, get_or, drop, Bool, true, false, refl, ap, sym, ◌∙◌, subst, arith, lit<, inl, inr, ◌⊎◌}
 use Rattle.std.specs.Prelude.{if◌then◌else◌, ◌&&◌, nat_le}
 use Rattle.std.specs.Int.{byte_at, bytes_high_first}
-use Rattle.std.proofs.Math.Nat.{mul-le-mul_right, one-le-pow, le_trans, div-mul-le_self, div-add-mod', mod-lt, mul-add-div_right, mul-add-mod_self_right, mul_assoc, pow-suc, pow-succ', mod-eq_of_lt}
+use Rattle.std.proofs.Math.Nat.{mul-le-mul_right, one-le-pow, le_trans, div-mul-le_self, div-add-mod', mod-lt, mul-add-div_right, mul-add-mod_self_right, mul_assoc, pow-succ', mod-eq_of_lt}
 use Rattle.std.proofs.lemmas.Nat.{le-div, div_below, div-mul-add}
 use Rattle.std.proofs.lemmas.List.{append-nil, drop_all, drop_more}
 use Rattle.std.proofs.lemmas.Bool.{and_parts, leb-true, le-leb, lt-leb, eq-eqb, ne_eqb, cases_eq}
@@ -218,7 +218,7 @@ number_spelled (suc width) least most r fits (b ∷ bs) n s =
       omega (arith, fits_rest.0),
       omega (arith, fits_rest.1),
       (let bytes : bs ≡ number_bytes width split.2 = split.3 ∙ ap (λ rest. split.0 ++ rest) end.0 ∙ append-nil split.0 ∙ inner.2 in
-        ap (λ rest. b ∷ rest) bytes ∙ sym (number_bytes-more width b split.2 (omega arith) (omega (arith, inner.1, after.1))) ∙ ap (number_bytes (suc width)) value),
+          ap (λ rest. b ∷ rest) bytes ∙ sym (number_bytes-more width b split.2 (omega arith) (omega (arith, inner.1, after.1))) ∙ ap (number_bytes (suc width)) value),
     )
   where
     done_spelled : (x : ℕ) (word : List ℕ) (y : ℕ) → Spells (Done x) word y → (word ≡ []) × (x ≡ y)

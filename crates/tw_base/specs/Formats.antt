@@ -102,6 +102,11 @@ module _ {X Y : Type 0} where
   Gives view (Ok y) after reading = reading ≡ Ok (record { value = view y; after = after })
   Gives view (Err place) after reading = reading ≡ Err place
 
+  -- the same of the front of some bytes
+  abbrev pub GivesFront : (Y → X) → Result Y ℕ → (after : ℕ) → Reading X → Type 0
+  GivesFront view (Ok y) after reading = reading ≡ Took (view y) after
+  GivesFront view (Err place) after reading = reading ≡ Stopped place
+
   -- the same of a reader that may want memory
   abbrev pub GivesIfMemory : (Y → X) → Result Y ReadFault → (after : ℕ) → Result (Placed X) ℕ → Type 0
   GivesIfMemory view (Ok y) after reading = reading ≡ Ok (record { value = view y; after = after })
