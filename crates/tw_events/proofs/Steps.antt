@@ -1,0 +1,108 @@
+-- One step of each function, over plain lists.
+use Rattle.std.proofs.Common.{◌≡◌, ℕ, suc, zero, ◌+◌, ◌-◌, ◌<◌, ◌≤◌, List, [], ◌∷◌, ◌++◌, length, get_or, take, drop, reverse, refl, ap, sym, ◌∙◌, append_assoc, add-one, drop-cons, arith}
+use Rattle.std.proofs.lemmas.List.{length-reverse, reverse-append}
+use Rattle.tw_base.specs.declared.side.Side.{Side}
+use Rattle.tw_base.specs.declared.side.Side.TheVariants.{Left, Right}
+use Rattle.tw_base.specs.Texts.{event_leaf_text, event_node_text, no_events_text}
+use Rattle.tw_base.specs.Lists.{Each}
+use Rattle.tw_base.specs.AuditPath.{node_text_beside, path_length, path_sides, root_above}
+use Rattle.tw_base.specs.EventTree.{audit_path, event_root, largest_power_below}
+use Rattle.tw_base.proofs.EventTrees.{audit_path-left, audit_path-one, audit_path-right, event_root-more, event_root-none, event_root-one}
+use Rattle.tw_base.proofs.AuditPaths.{path_length-left, path_length-right, path_sides-left, path_sides-right}
+
+pub Each-take : {X : Type 0} (P : X → Type 0) (n : ℕ) (xs : List X) → Each P xs → Each P (take n xs)
+Each-take P zero xs all = tt
+Each-take P (suc n) [] all = tt
+Each-take P (suc n) (x ∷ xs) all = (all.0, Each-take P n xs all.1)
+
+pub Each-drop : {X : Type 0} (P : X → Type 0) (n : ℕ) (xs : List X) → Each P xs → Each P (drop n xs)
+Each-drop P zero xs all = all
+Each-drop P (suc n) [] all = tt
+Each-drop P (suc n) (x ∷ xs) all = Each-drop P n xs all.1
+
+module _ (dig : List ℕ → List ℕ) where
+  pub root-none : (events : List (List ℕ)) → length events < 1 → event_root dig events ≡ dig no_events_text
+  root-none [] none = event_root-none dig
+  root-none (e ∷ es) none = absurd (omega arith)
+
+  pub root-one : (events : List (List ℕ)) (event : List ℕ) → length events ≡ 1 → event ≡ get_or events 0 event → event_root dig events ≡ dig (event_leaf_text event)
+  root-one [] event one same = absurd (omega arith)
+  root-one (e ∷ []) event one same = event_root-one dig e ∙ ap (λ x. dig (event_leaf_text x)) (sym same)
+  root-one (e ∷ f ∷ es) event one same = absurd (omega arith)
+
+  pub root-halves : (events left right : List (List ℕ)) (half : ℕ) → 1 < length events → half ≡ largest_power_below (length events)
+      → left ≡ take half events → right ≡ drop half events → event_root dig events ≡ dig (event_node_text (event_root dig left) (event_root dig right))
+  root-halves events left right half more h l r =
+      event_root-more dig events more
+      ∙ ap (λ x. dig (event_node_text (event_root dig x) (event_root dig (drop (largest_power_below (length events)) events)))) (ap (λ k. take k events) (sym h) ∙ sym l)
+      ∙ ap (λ x. dig (event_node_text (event_root dig left) (event_root dig x))) (ap (λ k. drop k events) (sym h) ∙ sym r)
+
+  pub path-one : (events : List (List ℕ)) (index : ℕ) → length events ≡ 1 → audit_path dig events index ≡ []
+  path-one [] index one = absurd (omega arith)
+  path-one (e ∷ []) index one = audit_path-one dig e index
+  path-one (e ∷ f ∷ es) index one = absurd (omega arith)
+
+  pub path-left : (events left right : List (List ℕ)) (half index : ℕ) → 1 < length events → half ≡ largest_power_below (length events)
+      → left ≡ take half events → right ≡ drop half events → index < half → audit_path dig events index ≡ audit_path dig left index ++ event_root dig right ∷ []
+  path-left events left right half index more h l r less =
+      audit_path-left dig events index more (omega arith)
+      ∙ ap (λ x. audit_path dig x index ++ event_root dig (drop (largest_power_below (length events)) events) ∷ []) (ap (λ k. take k events) (sym h) ∙ sym l)
+      ∙ ap (λ x. audit_path dig left index ++ event_root dig x ∷ []) (ap (λ k. drop k events) (sym h) ∙ sym r)
+
+  pub path-right : (events left right : List (List ℕ)) (half index : ℕ) → 1 < length events → half ≡ largest_power_below (length events)
+      → left ≡ take half events → right ≡ drop half events → half ≤ index → audit_path dig events index ≡ audit_path dig right (index - half) ++ event_root dig left ∷ []
+  path-right events left right half index more h l r past =
+      audit_path-right dig events index more (omega arith)
+      ∙ ap (λ x. audit_path dig x (index - largest_power_below (length events)) ++ event_root dig (take (largest_power_below (length events)) events) ∷ []) (ap (λ k. drop k events) (sym h) ∙ sym r)
+      ∙ ap (λ x. audit_path dig right (index - largest_power_below (length events)) ++ event_root dig x ∷ []) (ap (λ k. take k events) (sym h) ∙ sym l)
+      ∙ ap (λ k. audit_path dig right (index - k) ++ event_root dig left ∷ []) (sym h)
+
+  -- one label upwards
+  pub root_above-step : (items rest : List Side) (side : Side) (path : List (List ℕ)) (i : ℕ) (label reached : List ℕ)
+      → items ≡ rest ++ side ∷ [] → i < length path → label ≡ get_or path i label
+      → root_above dig (reverse items) (drop i path) reached ≡ root_above dig (reverse rest) (drop (i + 1) path) (dig (node_text_beside side label reached))
+  unfolding root_above
+  root_above-step items rest side path i label reached popped inside same =
+      ap (λ s. root_above dig (reverse s) (drop i path) reached) popped
+      ∙ ap (λ s. root_above dig s (drop i path) reached) (reverse-append rest (side ∷ []))
+      ∙ ap (λ p. root_above dig (side ∷ reverse rest) p reached) (drop-cons path i label inside)
+      ∙ ap (λ l. root_above dig (reverse rest) (drop (suc i) path) (dig (node_text_beside side l reached))) (sym same)
+      ∙ ap (λ n. root_above dig (reverse rest) (drop n path) (dig (node_text_beside side label reached))) (sym (add-one i))
+
+  pub root_above-end : (items : List Side) (path : List (List ℕ)) (reached : List ℕ) → length items ≡ 0 → root_above dig (reverse items) path reached ≡ reached
+  unfolding root_above
+  root_above-end [] path reached none = refl
+  root_above-end (s ∷ items) path reached none = absurd (omega arith)
+
+-- one side further down
+pub room-left : (count index half size : ℕ) → 1 < count → half ≡ largest_power_below count → index < half → size + path_length count index ≤ 10
+    → (size + 1) + path_length half index ≤ 10
+room-left count index half size more h less room =
+    let e = path_length-left count index more (omega arith) in
+    let f : path_length half index ≡ path_length (largest_power_below count) index = ap (λ x. path_length x index) h in
+    omega arith
+
+pub room-right : (count index half size : ℕ) → 1 < count → half ≡ largest_power_below count → half ≤ index → size + path_length count index ≤ 10
+    → (size + 1) + path_length (count - half) (index - half) ≤ 10
+room-right count index half size more h past room =
+    let e = path_length-right count index more (omega arith) in
+    let f : path_length (count - half) (index - half) ≡ path_length (count - largest_power_below count) (index - largest_power_below count) =
+    ap (λ x. path_length (count - x) (index - x)) h in
+    omega arith
+
+pub sides-step : (sides lower pushed : List Side) (side : Side) (items goal : List Side) → sides ≡ lower ++ side ∷ [] → pushed ≡ items ++ side ∷ []
+    → sides ++ reverse items ≡ goal → lower ++ reverse pushed ≡ goal
+sides-step sides lower pushed side items goal s p e =
+    ap (λ x. lower ++ reverse x) p ∙ ap (λ x. lower ++ x) (reverse-append items (side ∷ []))
+    ∙ sym (append_assoc lower (side ∷ []) (reverse items)) ∙ ap (λ x. x ++ reverse items) (sym s) ∙ e
+
+pub sides-left : (count index half : ℕ) → 1 < count → half ≡ largest_power_below count → index < half → path_sides count index ≡ path_sides half index ++ Right ∷ []
+sides-left count index half more h less = path_sides-left count index more (omega arith) ∙ ap (λ x. path_sides x index ++ Right ∷ []) (sym h)
+
+pub sides-right : (count index half : ℕ) → 1 < count → half ≡ largest_power_below count → half ≤ index
+    → path_sides count index ≡ path_sides (count - half) (index - half) ++ Left ∷ []
+sides-right count index half more h past = path_sides-right count index more (omega arith) ∙ ap (λ x. path_sides (count - x) (index - x) ++ Left ∷ []) (sym h)
+
+pub length-reversed : (items : List Side) (count index : ℕ) → reverse items ≡ path_sides count index → length items ≡ path_length count index
+unfolding path_length
+length-reversed items count index e = sym (length-reverse items) ∙ ap length e
