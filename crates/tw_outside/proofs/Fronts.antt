@@ -20,6 +20,6 @@ front_at_limit bytes front limit is full = is ∙ ap (λ k. take k bytes) full
 pub front_at_end : (bytes front : List ℕ) (limit : ℕ) → front ≡ take (length front) bytes → length front ≤ limit
     → (length front < limit → length bytes ≤ length front) → front ≡ take limit bytes
 front_at_end bytes front limit is within none = elim (cases_lt (length front) limit) [
-    | inl below ↦ is ∙ take_all (length front) bytes (none below) ∙ sym (take_all limit bytes (omega (arith, none below)))
-    | inr full ↦ front_at_limit bytes front limit is (omega arith)
-  ]
+  | inl below ↦ is ∙ take_all (length front) bytes (none below) ∙ sym (take_all limit bytes (omega (arith, none below)))
+  | inr full ↦ front_at_limit bytes front limit is (omega arith)
+]

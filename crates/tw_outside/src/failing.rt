@@ -1,6 +1,6 @@
 // The calls of an object in memory that are to fail.
-ghost use Rattle.std.specs.Prelude.{◌≡◌, ◌==◌, ◌-◌, ◌++◌, ◌∷◌, [], List, ℕ, map, OnOk, OnErr};
-ghost use Rattle.std.specs.List.{list_any};
+ghost use Rattle.std.specs.Prelude.{◌≡◌, ◌++◌, ◌∷◌, [], OnOk, OnErr};
+ghost use Rattle.tw_outside.specs.Calls.{fails_next, after_call};
 
 use std::alloc::Global;
 use std::marker::Model;
@@ -41,8 +41,8 @@ impl FailingCalls {
 
     /// Counts a call, and tells whether it is to fail.
     pub fn count_call(&mut self) -> bool
-        ensures fails { result ≡ list_any (λ k. k == 1) self.old }
-        ensures counted { self.new ≡ map (λ k. k - 1) self.old }
+        ensures fails { result ≡ fails_next self.old }
+        ensures counted { self.new ≡ after_call self.old }
     {
         let fails = self.numbers.contains(&1);
         for number in self.numbers.iter_mut() {

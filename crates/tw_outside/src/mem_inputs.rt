@@ -1,6 +1,8 @@
 // Inputs in memory.
-ghost use Rattle.std.specs.Prelude.{◌≡◌, ◌≤◌, ◌++◌, ◌∷◌, [], length, OnOk, OnErr};
+ghost use Rattle.std.specs.Prelude.{◌≡◌, ◌≤◌, ◌++◌, ◌∷◌, [], ◌⊎◌, ◌↔◌, ℕ, List, length, OnOk, OnErr, IfOk, IsErr, IsNone, IsTrue};
 ghost use Rattle.std.specs.FinMap as map_of;
+ghost use Rattle.tw_outside.specs.Calls.{fails_next, after_call};
+ghost use Rattle.tw_outside.specs.Faults.{HasCause};
 ghost use Rattle.tw_outside.specs.Files.{Came};
 
 use crate::failing::FailingCalls;
@@ -100,7 +102,7 @@ fn copy_from(bytes: &[u8], at: u64, into: &mut [u8]) -> usize
 
 impl Inputs for MemInputs {
     ghost use Rattle.std.specs.Prelude.{Some, ⊤};
-    ghost use Rattle.tw_outside.specs.Memory.{files_of, input_faults};
+    ghost use Rattle.tw_outside.specs.Memory.{files_of, failing_reads, input_faults};
 
     ghost told = { λ inputs. Some (files_of inputs) };
 
@@ -108,7 +110,16 @@ impl Inputs for MemInputs {
 
     ghost may_ask = { λ _ _. ⊤ };
 
-    fn read(&mut self, name: &str, at: u64, into: &mut [u8]) -> Result<usize, Failed> {
+    fn read(&mut self, name: &str, at: u64, into: &mut [u8]) -> Result<usize, Failed>
+        // It fails exactly where the call is to fail, or the file isn't there.
+        ensures fails { IsErr result ↔ (IsTrue (fails_next (failing_reads self.old)) ⊎ IsNone (map_of.get (files_of self.old) name.now)) }
+        ensures counted { failing_reads self.new ≡ after_call (failing_reads self.old) }
+        ensures kept { files_of self.new ≡ files_of self.old }
+        ensures faults { OnOk result (input_faults self.new ≡ input_faults self.old) }
+        ensures cause { HasCause (input_faults self.old) (input_faults self.new) result }
+        ensures within { IfOk result (λ n. n ≤ length into.old) }
+        ensures came { IfOk result (λ n. (bytes : List ℕ) → map_of.get (files_of self.old) name.now ≡ Some bytes → Came bytes at into.new n) }
+    {
         let fails = self.failing.count_call();
         match self.find(name) {
             Some(bytes) if !fails => Ok(copy_from(bytes, at, into)),

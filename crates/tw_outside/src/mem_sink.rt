@@ -1,5 +1,7 @@
 // A sink in memory.
-ghost use Rattle.std.specs.Prelude.{◌≡◌, ◌++◌, ◌∷◌, [], OnOk, OnErr};
+ghost use Rattle.std.specs.Prelude.{◌≡◌, ◌++◌, ◌∷◌, [], length, OnOk, OnErr, IfOk, IsErr, IsTrue};
+ghost use Rattle.tw_outside.specs.Calls.{fails_next, after_call};
+ghost use Rattle.tw_outside.specs.Faults.{HasCause};
 
 use crate::failing::FailingCalls;
 use crate::sink::Sink;
@@ -51,13 +53,21 @@ impl MemSink {
 
 impl Sink for MemSink {
     ghost use Rattle.std.specs.Prelude.{Some};
-    ghost use Rattle.tw_outside.specs.Memory.{bytes_taken, sink_faults};
+    ghost use Rattle.tw_outside.specs.Memory.{bytes_taken, failing_writes, sink_faults};
 
     ghost taken = { λ sink. Some (bytes_taken sink) };
 
     ghost faults = { sink_faults };
 
-    fn write(&mut self, piece: &[u8]) -> Result<usize, Failed> {
+    fn write(&mut self, piece: &[u8]) -> Result<usize, Failed>
+        ensures fails { IsTrue (fails_next (failing_writes self.old)) → IsErr result }
+        ensures counted { failing_writes self.new ≡ after_call (failing_writes self.old) }
+        ensures whole { IfOk result (λ n. n ≡ length piece.now) }
+        ensures appends { OnOk result (bytes_taken self.new ≡ bytes_taken self.old ++ piece.now) }
+        ensures unchanged { OnErr result (bytes_taken self.new ≡ bytes_taken self.old) }
+        ensures faults { OnOk result (sink_faults self.new ≡ sink_faults self.old) }
+        ensures cause { HasCause (sink_faults self.old) (sink_faults self.new) result }
+    {
         if self.failing.count_call() || self.taken.extend_from_slice(piece).is_err() {
             self.faults = self.faults.saturating_add(1);
             return Err(Failed);

@@ -36,7 +36,7 @@ pub fn read_piece<I: Inputs>(
 
     ensures there { OnOk result (IsThere (I.told inputs.old) name.now) }
     ensures within { vec_len all.new ≤ limit }
-    ensures piece { vec_len all.new ≤ 4096 * (vec_len all.old / 4096 + 1) }
+    ensures piece { vec_len all.new ≤ PIECE * (vec_len all.old / PIECE + 1) }
     ensures front { IsFront (I.told inputs.old) name.now all.old.items → IsFront (I.told inputs.old) name.now all.new.items }
     ensures more { result ≡ Ok true → (vec_len all.old < vec_len all.new) × (vec_len all.new < limit) }
     ensures end { result ≡ Ok false → IsFront (I.told inputs.old) name.now all.old.items → (bytes : List ℕ) → Tells (I.told inputs.old) name.now bytes → all.new.items ≡ take limit bytes }
