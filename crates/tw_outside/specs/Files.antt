@@ -25,7 +25,7 @@ IsThere told name = IsSome told → IsSome (bytes_of told name)
 -- None come at the end of the file, and only there, unless the piece has no room.
 pub record Came (bytes : List ℕ) (at : ℕ) (piece : List ℕ) (n : ℕ) : Type 0 where
   pub given : take n piece ≡ take n (drop at bytes)
-  pub ends : 0 < length piece → (n ≡ 0) ↔ (length bytes ≤ at)
+  pub ends : 0 < length piece → ((n ≡ 0) ↔ (length bytes ≤ at))
 
 -- These are the first bytes of the named file, where it is told.
 abbrev pub IsFront : Option Files → List ℕ → List ℕ → Type 0

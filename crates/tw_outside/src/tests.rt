@@ -1,5 +1,5 @@
 // The loops over inputs and sinks in memory, which fail in mid-stream, and over ones that give and take little at a time.
-ghost use Rattle.std.specs.Prelude.{Some, ⊤};
+ghost use Rattle.std.specs.Prelude.{Some, None, ⊤};
 ghost use Rattle.tw_outside.specs.Memory.{files_of, input_faults, bytes_taken, sink_faults};
 
 use crate::{Inputs, MemInputs, MemSink, PIECE, ReadFault, Sink, read_all, read_piece, write_all};
@@ -26,6 +26,23 @@ impl Inputs for ShortInputs {
         let came = self.inner.read(name, at, &mut into[..most])?;
         self.given = self.given.saturating_add(came);
         Ok(came)
+    }
+}
+
+/// Inputs that tell nothing, and give zeros without end.
+#[derive(Drop)]
+struct EndlessInputs;
+
+impl Inputs for EndlessInputs {
+    ghost told = { λ _. None };
+
+    ghost faults = { λ _. 0 };
+
+    ghost may_ask = { λ _ _. ⊤ };
+
+    fn read(&mut self, _name: &str, _at: u64, into: &mut [u8]) -> Result<usize, Failed> {
+        into.fill(0);
+        Ok(into.len())
     }
 }
 
@@ -95,6 +112,13 @@ fn reads_each_byte_once_from_inputs_that_give_little(rt: HostRuntime) -> Result<
     let all = read_all(rt.alloc(), &mut inputs, "file", usize::MAX)?;
     assert_eq!(rt; all.as_slice(), file.as_slice());
     assert_eq!(rt; inputs.given, 9_000);
+    Ok(())
+}
+
+#[test]
+fn reads_endless_inputs_to_the_limit(rt: HostRuntime) -> Result<(), Fail> {
+    let all = read_all(rt.alloc(), &mut EndlessInputs, "file", 9_000)?;
+    assert_eq!(rt; all.len(), 9_000);
     Ok(())
 }
 

@@ -16,16 +16,8 @@ returns-then-came-gt0-clause-front g c front bytes told =
 
 pub returns-then-came-gt0-clause-end : goal.returns-then-came-gt0-clause-end
 returns-then-came-gt0-clause-end g c is front bytes told =
-    let fits : c.in-Ok.came ≤ length c.read.new.into = omega (arith, c.in-Ok.ensures.within) in
-    let grown : c.extend_from_slice.new.self.items ≡ c.args.all.now.items ++ take c.in-Ok.came c.read.new.into =
-    grind (arith, common_steps, c.in-Ok-extend_from_slice.ensures.items, take-append-le) in
-    let at : c.len-before.result ≡ length c.args.all.now.items = grind (arith, common_steps, c.len-before.ensures) in
-    let Given : ℕ → Type 0 = λ k. take c.in-Ok.came c.read.new.into ≡ take c.in-Ok.came (drop k bytes) in
-    let more : c.extend_from_slice.new.self.items ≡ take (length c.extend_from_slice.new.self.items) bytes =
-    front_grows bytes c.args.all.now.items c.read.new.into _ c.in-Ok.came (front bytes told) fits
-    (subst Given at (c.in-Ok.ensures.came bytes told).given) grown in
     let full : length c.extend_from_slice.new.self.items ≡ c.args.limit = grind (arith, common_steps) in
-    front_at_limit bytes _ c.args.limit more full
+    front_at_limit bytes _ c.args.limit (returns-then-came-gt0-clause-front g c front bytes told) full
 
 pub returns-else-came-gt0-clause-end : goal.returns-else-came-gt0-clause-end
 returns-else-came-gt0-clause-end g c is front bytes told =
