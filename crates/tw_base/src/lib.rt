@@ -29,8 +29,7 @@ pub use labels::{
     tree_node,
 };
 pub use link_level::top_level;
-pub use name::Name;
+pub use name::{Name, is_name_byte};
 pub use report::{Claim, Reason, Report, Seen};
 pub use side::Side;
-pub use name::{Name, is_name_byte};
 pub use thread::{Entry, Key, Place, Thread, compare_keys, entry_key};
