@@ -3,3 +3,4 @@ pub mod OpeningBinding
 pub mod PathBinding
 pub mod Greedy
 pub mod LayoutLaws
+pub mod ReadingLaws

@@ -2,3 +2,4 @@ pub mod Openings
 pub mod Paths
 pub mod Layouts
 pub mod Existence
+pub mod Reading
