@@ -16,3 +16,4 @@ pub mod HistoryTexts
 pub mod Family
 pub mod Formats
 pub mod Fields
+pub mod Anchors

@@ -1,6 +1,7 @@
 // The words and definitions that every crate of Timeweave shares.
 #![tactic(auto)]
 
+mod anchor;
 mod bytes;
 mod digest;
 mod event_list;
@@ -16,6 +17,7 @@ mod report;
 mod side;
 mod thread;
 
+pub use anchor::find_anchor;
 pub use bytes::Bytes;
 pub use digest::Digest;
 pub use event_list::EventList;
