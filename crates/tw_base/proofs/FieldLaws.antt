@@ -1,14 +1,14 @@
 -- Laws of the fields of bytes, of names and of lists.
-use Rattle.std.proofs.Common.{◌≡◌, ℕ, suc, zero, ◌+◌, ◌-◌, ◌^◌, ◌<◌, ◌≤◌, List, [], ◌∷◌, ◌++◌, length, get_or, take, drop, Bool, true, false, refl, ap, sym, ◌∙◌, subst, arith, inl, inr, append_assoc}
+use Rattle.std.proofs.Common.{◌≡◌, ℕ, suc, zero, ◌+◌, ◌-◌, ◌*◌, ◌^◌, ◌<◌, ◌≤◌, List, [], ◌∷◌, ◌++◌, length, get_or, take, drop, Bool, true, false, refl, ap, sym, ◌∙◌, subst, arith, inl, inr, append_assoc}
 use Rattle.std.specs.Prelude.{cond, ◌&&◌, ◌||◌, ◌==◌, not, nat_le, nat_lt, Ok, Err, replicate, IsTrue, Result}
 use Rattle.std.specs.List.{list_all, flat_map}
 use Rattle.std.proofs.lemmas.List.{append-nil, take_all, get_or-drop, length-drop, drop_more, drop_all, take_more}
-use Rattle.std.proofs.lemmas.Bool.{and_parts, and_from, or_cases, or_left, or_right, eqb-true, eq-eqb, ne_eqb, lt-ltb, leb-true, le-leb}
+use Rattle.std.proofs.lemmas.Bool.{and_parts, and_from, or_cases, or_left, or_right, eqb-true, eq-eqb, ne_eqb, lt-ltb, leb-true, le-leb, cases_lt}
 use Rattle.std.proofs.lemmas.List.Sums.{take_while-cons}
 use Rattle.tw_base.specs.Formats.{Format, Reading, GoesOn, Placed, Spells, WrittenAs, front, goes_on, placed, read_at, ◌>>=◌, then_by}
 use Rattle.tw_base.specs.Formats.Reading.{Took, Stopped}
 use Rattle.tw_base.specs.Formats.Format.{Done}
-use Rattle.tw_base.specs.Fields.{byte_then, bytes, name, name_part, number, number_bytes, repeated, sized_bytes, text}
+use Rattle.tw_base.specs.Fields.{byte_then, bytes, digest, name, name_part, number, number_bytes, repeated, sized_bytes, text}
 use Rattle.tw_base.specs.Names.{IsName, is_name_byte, is_name_text, name_text, padded_name}
 use Rattle.tw_base.proofs.FormatLaws.{goes_on-then, front-byte, front-done, front-nil, front-sound, front-stops, front-then, read_at-done, read_at-then, spells_then, then_spells}
 use Rattle.tw_base.proofs.NumberLaws.{goes_on-number, number-written, number_spells}
@@ -565,3 +565,30 @@ sized_bytes-spells width least most bs fits l h small =
 pub sized_bytes-steps : (width least most : ℕ) (whole : List ℕ) (at : ℕ) → read_at (sized_bytes width least most) whole at ≡ (read_at (number width least most) whole at >>= (λ n. read_at (bytes n.value) whole n.after))
 unfolding sized_bytes
 sized_bytes-steps width least most whole at = read_at-then (number width least most) bytes whole at
+
+-- ---- labels
+
+-- so many digests end the bytes too early
+pub digests-short : (n : ℕ) (whole : List ℕ) (at : ℕ) → ((i : ℕ) → get_or whole i 0 < 256) → at ≤ length whole → length whole < at + 32 * n
+    → read_at (repeated n digest) whole at ≡ Err (length whole)
+digests-short zero whole at small l more = absurd (omega arith)
+digests-short (suc n) whole at small l more =
+    repeated-first n digest whole at ∙ (elim (cases_lt (length whole) (at + 32)) [
+      | inl short ↦ ap (λ r. r >>= (λ x. joined_after (x.value ∷ []) (read_at (repeated n digest) whole x.after))) (bytes-short 32 whole at small l short)
+      | inr enough ↦ ap (λ r. r >>= (λ x. joined_after (x.value ∷ []) (read_at (repeated n digest) whole x.after))) (bytes-read 32 whole (take 32 (drop at whole)) at small enough refl)
+          ∙ ap (joined_after (take 32 (drop at whole) ∷ [])) (digests-short n whole (at + 32) small enough (omega arith))
+    ])
+
+-- no digest yet
+pub digests-start : (whole : List ℕ) (at : ℕ) (labels : List (List ℕ)) → labels ≡ [] → read_at (repeated 0 digest) whole at ≡ Ok (record { value = labels; after = at + 32 * 0 })
+digests-start whole at labels none =
+    repeated-start digest whole at ∙ ap (λ e. Ok (record { value = []; after = e })) (let r : at ≡ at + 32 * 0 = omega arith in r)
+    ∙ ap (λ ls. Ok (record { value = ls; after = at + 32 * 0 })) (sym none)
+
+-- a digest more
+pub digests-push : (n : ℕ) (whole : List ℕ) (at next end : ℕ) (labels : List (List ℕ)) (label : List ℕ) → next ≡ at + 32 * n → end ≡ at + 32 * (n + 1)
+    → read_at (repeated n digest) whole at ≡ Ok (record { value = labels; after = at + 32 * n }) → read_at digest whole next ≡ Ok (record { value = label; after = next + 32 })
+    → read_at (repeated (n + 1) digest) whole at ≡ Ok (record { value = labels ++ label ∷ []; after = end })
+digests-push n whole at next end labels label is ends so_far one =
+    repeated-push n digest whole at next end labels label (so_far ∙ ap (λ e. Ok (record { value = labels; after = e })) (sym is))
+    (one ∙ ap (λ e. Ok (record { value = label; after = e })) (let r : next + 32 ≡ end = omega arith in r))

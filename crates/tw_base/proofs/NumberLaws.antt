@@ -1,10 +1,10 @@
 -- Laws of number fields.
-use Rattle.std.proofs.Common.{◌≡◌, ℕ, suc, zero, ◌+◌, ◌-◌, ◌*◌, ◌/◌, ◌%◌, ◌^◌, ◌<◌, ◌≤◌, List, [], ◌∷◌, ◌++◌, length, get_or, drop, Bool, true, false, refl, ap, sym, ◌∙◌, subst, arith, lit<, inl, inr, ◌⊎◌}
+use Rattle.std.proofs.Common.{◌≡◌, ℕ, suc, zero, ◌+◌, ◌-◌, ◌*◌, ◌/◌, ◌%◌, ◌^◌, ◌<◌, ◌≤◌, List, [], ◌∷◌, ◌++◌, length, get_or, drop, take, Bool, true, false, refl, ap, sym, ◌∙◌, subst, arith, lit<, inl, inr, ◌⊎◌}
 use Rattle.std.specs.Prelude.{if◌then◌else◌, ◌&&◌, nat_le}
-use Rattle.std.specs.Int.{byte_at, bytes_high_first}
+use Rattle.std.specs.Int.{byte_at, bytes_high_first, to_be_bytes, w32, w64}
 use Rattle.std.proofs.Math.Nat.{mul-le-mul_right, one-le-pow, le_trans, div-mul-le_self, div-add-mod', mod-lt, mul-add-div_right, mul-add-mod_self_right, mul_assoc, pow-succ', mod-eq_of_lt}
 use Rattle.std.proofs.lemmas.Nat.{le-div, div_below, div-mul-add}
-use Rattle.std.proofs.lemmas.List.{append-nil, drop_all, drop_more}
+use Rattle.std.proofs.lemmas.List.{append-nil, drop_all, drop_more, take_rest}
 use Rattle.std.proofs.lemmas.Bool.{and_parts, leb-true, le-leb, lt-leb, eq-eqb, ne_eqb, cases_eq}
 use Rattle.tw_base.specs.Formats.{Format, Reading, GoesOn, Spells, WrittenAs, front, goes_on, then_by}
 use Rattle.tw_base.specs.Formats.Reading.{Took, Stopped}
@@ -262,3 +262,23 @@ number_spells (suc width) least most n fits l h =
 -- a number has one spelling
 pub number-written : (width least most : ℕ) → least ≤ most → most < 256 ^ width → WrittenAs (number width least most) (number_bytes width)
 number-written width least most r fits word n s = (number_spelled width least most r fits word n s).2
+
+-- the code takes them from the eight bytes of the number
+last_bytes : (k n v : ℕ) → k ≤ n → drop k (bytes_high_first n v) ≡ bytes_high_first (n - k) v
+last_bytes zero n v l = ap (λ m. bytes_high_first m v) (let r : n ≡ n - 0 = omega arith in r)
+last_bytes (suc k) zero v l = absurd (omega arith)
+last_bytes (suc k) (suc n) v l = last_bytes k n v (omega arith) ∙ ap (λ m. bytes_high_first m v) (let r : n - k ≡ suc n - suc k = omega arith in r)
+
+pub number_bytes-last : (width n : ℕ) → width ≤ 8 → take (8 - (8 - width)) (drop (8 - width) (to_be_bytes w64 n)) ≡ number_bytes width n
+unfolding number_bytes
+number_bytes-last width n l =
+    take_rest (to_be_bytes w64 n) (8 - width) ∙ last_bytes (8 - width) 8 n (omega arith) ∙ ap (λ w. bytes_high_first w n) (let r : 8 - (8 - width) ≡ width = omega arith in r)
+
+-- a number of eight bytes as the hashed texts have it
+pub number_bytes-eight : (n : ℕ) → number_bytes 8 n ≡ to_be_bytes w64 n
+unfolding number_bytes
+number_bytes-eight n = refl
+
+pub number_bytes-four : (n : ℕ) → number_bytes 4 n ≡ to_be_bytes w32 n
+unfolding number_bytes
+number_bytes-four n = refl

@@ -1,5 +1,7 @@
 // Answers without a value.
 
+ghost use Rattle.std.specs.Prelude.{◌≡◌};
+
 /// A device, an input or a sink failed; its count of faults rose in that call.
 #[derive(Clone, Copy, PartialEq, Eq, Debug, Drop)]
 pub struct Failed;
@@ -16,4 +18,24 @@ pub enum ReadFault {
     Malformed { place: u64 },
     /// There was no memory for what the call needed.
     NoMemory,
+}
+
+impl ReadFault {
+    /// The fault of a reader without memory.
+    pub fn malformed(place: u64) -> Self
+        ensures { result ≡ ReadFault.Malformed place }
+    {
+        ReadFault::Malformed { place }
+    }
+}
+
+impl From<NoMemory> for ReadFault {
+    ghost use Rattle.std.specs.Prelude.{◌≡◌};
+    ghost use Rattle.tw_base.specs.declared.failure.ReadFault.TheVariants.{NoMemory as WantedMemory};
+
+    ghost from_gives = { λ _ fault. fault ≡ WantedMemory };
+
+    fn from(_none: NoMemory) -> Self {
+        ReadFault::NoMemory
+    }
 }

@@ -2,13 +2,16 @@
 // stands there, it answers the place of the first byte that cannot stand there, or the length of
 // bytes that end too early. Numbers are big-endian. None of the readers takes memory.
 
-ghost use Rattle.std.specs.Prelude.{◌≡◌, ℕ, ◌+◌, ◌^◌, ◌<◌, ◌≤◌, length, take, drop, ◌&&◌, ◌||◌, ◌==◌, IfOk};
-ghost use Rattle.tw_base.specs.Fields.{digest, high_after, low_after, name, number, text as fixed_text};
-ghost use Rattle.tw_base.specs.Formats.{Gives, GivesFront, front, read_at};
+ghost use Rattle.std.specs.Prelude.{◌≡◌, ℕ, ◌+◌, ◌*◌, ◌^◌, ◌<◌, ◌≤◌, length, take, drop, ◌&&◌, ◌||◌, ◌==◌, IfOk};
+ghost use Rattle.tw_base.specs.Fields.{digest, high_after, low_after, name, number, repeated, text as fixed_text};
+ghost use Rattle.tw_base.specs.Formats.{Gives, GivesFront, GivesIfMemory, front, read_at};
 ghost use Rattle.tw_base.specs.Names.{is_name_byte as is_name_byte_of};
 
 use crate::digest::Digest;
+use crate::failure::ReadFault;
+use crate::label_list::Labels;
 use crate::name::{Name, is_name_byte};
+use std::alloc::Global;
 
 /// The number of `width` bytes (at most 8) at a place, where it is within `least` and `most`; else
 /// the place of the first byte that no number within them has there.
@@ -30,10 +33,10 @@ pub fn read_digest(bytes: &[u8], at: u64) -> Result<Digest, u64>
     ensures read { Gives (λ d. d) result (at + 32) (read_at digest bytes.now at) }
     ensures within { IfOk result (λ _. at + 32 ≤ length bytes.now) }
 {
-    match bytes[at as usize..].first_chunk::<32>() {
-        Some(digest) => Ok(Digest(*digest)),
-        None => Err(bytes.len() as u64),
+    if bytes.len() as u64 - at < 32 {
+        return Err(bytes.len() as u64);
     }
+    Ok(digest_at(bytes, at))
 }
 
 /// The service's name at a place: 1 to 16 bytes of `a-z`, `0-9` and `-`, and then zeros to 16 bytes.
@@ -56,6 +59,36 @@ pub fn read_text(bytes: &[u8], at: u64, text: &[u8]) -> Result<(), u64>
     ensures within { IfOk result (λ _. at + length text.now ≤ length bytes.now) }
 {
     check_text(&bytes[at as usize..], at, text)
+}
+
+/// The digests at a place, so many of them; room for them is taken once, where there are enough
+/// bytes.
+pub fn read_labels(alloc: Global, bytes: &[u8], at: u64, count: u64) -> Result<Labels, ReadFault>
+    requires { at ≤ length bytes.now }
+    ensures read { GivesIfMemory (λ labels. labels) result (at + 32 * count) (read_at (repeated count digest) bytes.now at) }
+    ensures within { IfOk result (λ _. at + 32 * count ≤ length bytes.now) }
+{
+    if (bytes.len() as u64 - at) / 32 < count {
+        return Err(ReadFault::Malformed {
+            place: bytes.len() as u64,
+        });
+    }
+    let mut labels = Labels::with_capacity(alloc, count as usize)?;
+    for i in 0..count {
+        labels.push(digest_at(bytes, at + 32 * i))?;
+    }
+    Ok(labels)
+}
+
+/// The digest at a place that has 32 bytes.
+fn digest_at(bytes: &[u8], at: u64) -> Digest
+    requires { at + 32 ≤ length bytes.now }
+    ensures { Gives (λ d. d) (Ok result) (at + 32) (read_at digest bytes.now at) }
+{
+    match bytes[at as usize..].first_chunk::<32>() {
+        Some(digest) => Digest(*digest),
+        None => unreachable!(),
+    }
 }
 
 /// The power of 256.

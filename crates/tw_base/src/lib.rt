@@ -16,6 +16,7 @@ mod name;
 mod report;
 mod side;
 mod thread;
+mod writers;
 
 pub use anchor::find_anchor;
 pub use bytes::Bytes;
@@ -23,7 +24,7 @@ pub use digest::Digest;
 pub use event_list::EventList;
 pub use event_tree::{audit_path_laws, event_root_laws};
 pub use failure::{Failed, NoMemory, ReadFault};
-pub use fields::{read_digest, read_name, read_number, read_text};
+pub use fields::{read_digest, read_labels, read_name, read_number, read_text};
 pub use hasher::{Hasher, Sha, Weak};
 pub use label_list::Labels;
 pub use labels::{
@@ -35,3 +36,4 @@ pub use name::{Name, is_name_byte};
 pub use report::{Claim, Reason, Report, Seen};
 pub use side::Side;
 pub use thread::{Entry, Key, Place, Thread, compare_keys, entry_key};
+pub use writers::{put_bytes, put_digest, put_name, put_number};

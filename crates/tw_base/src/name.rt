@@ -16,7 +16,6 @@ pub struct Name {
 
 impl Model for Name {
     ghost use Rattle.std.specs.Prelude.{ℕ, List};
-    ghost use Rattle.std.specs.List.{list_all};
     ghost use Rattle.tw_base.specs.Names.{IsName};
 
     ghost Value = { List ℕ };
@@ -64,6 +63,7 @@ impl Name {
     pub fn as_bytes(&self) -> &[u8; 16]
         ensures value { result.now ≡ self.now }
         ensures size { length result.now ≡ 16 }
+        ensures name { IsName self.now }
     {
         &self.bytes
     }
