@@ -11,3 +11,6 @@ pub use check::check_event;
 pub use path::event_path;
 pub use root::event_root;
 pub use sides::path_length;
+
+#[cfg(test)]
+mod tests;
