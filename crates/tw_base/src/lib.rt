@@ -2,6 +2,7 @@
 #![tactic(auto)]
 
 mod anchor;
+mod byte_string;
 mod bytes;
 mod digest;
 mod event_list;
@@ -19,6 +20,7 @@ mod thread;
 mod writers;
 
 pub use anchor::find_anchor;
+pub use byte_string::read_bytes;
 pub use bytes::Bytes;
 pub use digest::Digest;
 pub use event_list::EventList;

@@ -2,13 +2,17 @@
 use Rattle.std.proofs.Common.{◌≡◌, ℕ, suc, zero, ◌-◌, ◌<◌, ◌≤◌, ◌^◌, List, [], ◌∷◌, ◌++◌, refl, ap, sym, ◌∙◌, arith, lit<, append_assoc, inl, inr}
 use Rattle.std.specs.Prelude.{Result, Ok, Err, nat_le, if◌then◌else◌}
 use Rattle.std.proofs.lemmas.Bool.{cases_lt, le-leb, lt-leb}
+use Rattle.std.proofs.lemmas.List.{append-nil}
 use Rattle.std.proofs.Math.Nat.{one-le-pow}
-use Rattle.tw_base.specs.Formats.{Placed, ◌>>=◌, read_at}
+use Rattle.tw_base.specs.declared.failure.ReadFault.{ReadFault}
+use Rattle.tw_base.specs.declared.failure.ReadFault.TheVariants.{Malformed, NoMemory}
+use Rattle.tw_base.specs.Formats.{GivesIfMemory, GivesWithEnd, Placed, ◌>>=◌, read_at}
 use Rattle.tw_base.proofs.FormatLaws.{read_at-then, read_at-done}
 use Rattle.tw_skipproof.specs.declared.opening.Opening.{Opening}
 use Rattle.tw_skipproof.specs.declared.path.Link.{Link}
+use Rattle.tw_skipproof.specs.declared.path.Path.{Path}
 use Rattle.tw_skipproof.specs.Paths.{greedy_steps, hop, hop_level, steps_within}
-use Rattle.tw_skipproof.specs.Layouts.{link_layout, links_layout, opening_from}
+use Rattle.tw_skipproof.specs.Layouts.{link_layout, links_layout, opening_from, path_layout}
 use Rattle.tw_skipproof.specs.Existence.{event_layout, existence_layout}
 use Rattle.tw_skipproof.specs.Reading.{behind, event_at, existence_at, link_at, opening_at}
 
@@ -115,3 +119,30 @@ no_links whole at = read_at-done [] whole at
 -- at the lower step nothing is left
 pub path-ends : (from to : ℕ) (whole : List ℕ) (at : ℕ) → from ≤ to → read_at (links_layout (greedy_steps from to)) whole at ≡ Ok (record { value = []; after = at })
 path-ends from to whole at l = ap (λ steps. read_at (links_layout steps) whole at) (greedy_steps-none from to l) ∙ no_links whole at
+
+-- ---- the loop over the links of a path: what was read so far, and what is left from a step on
+
+abbrev pub ReadSoFar : (from to start : ℕ) (whole : List ℕ) (links : List Link) (step at : ℕ) → Type 0
+ReadSoFar from to start whole links step at =
+    read_at (path_layout from to) whole start ≡ behind links (read_at (links_layout (greedy_steps step to)) whole at)
+
+pub path_further : (from to start step at after next : ℕ) (whole : List ℕ) (links more : List Link) (link : Link) → to < step
+    → ReadSoFar from to start whole links step at → link_at step whole at ≡ Ok (record { value = link; after = after })
+    → next ≡ hop step to → more ≡ links ++ link ∷ [] → ReadSoFar from to start whole more next after
+path_further from to start step at after next whole links more link below so_far is leads pushed =
+    so_far ∙ ap (behind links) (path-next step to whole at after link below is)
+    ∙ behind-behind links (link ∷ []) (read_at (links_layout (greedy_steps (hop step to) to)) whole after)
+    ∙ ap (λ ls. behind ls (read_at (links_layout (greedy_steps (hop step to) to)) whole after)) (sym pushed)
+    ∙ ap (λ s. behind more (read_at (links_layout (greedy_steps s to)) whole after)) (sym leads)
+
+pub path_done : (from to start step at : ℕ) (whole : List ℕ) (links : List Link) → step ≤ to → ReadSoFar from to start whole links step at
+    → read_at (path_layout from to) whole start ≡ Ok (record { value = links; after = at })
+path_done from to start step at whole links none so_far =
+    so_far ∙ ap (behind links) (path-ends step to whole at none) ∙ ap (λ ls. Ok (record { value = ls; after = at })) (append-nil links)
+
+pub path_stopped : (fault : ReadFault) (from to start step at after : ℕ) (whole : List ℕ) (links : List Link) → to < step
+    → ReadSoFar from to start whole links step at → GivesIfMemory {X = Link} {Y = Link} (λ l. l) (Err fault) after (link_at step whole at)
+    → GivesWithEnd {X = List Link} {Y = Path} (λ p. p.links) (Err fault) (read_at (path_layout from to) whole start)
+path_stopped (Malformed place) from to start step at after whole links below so_far is =
+    so_far ∙ ap (behind links) (path-stops step to whole at place below is)
+path_stopped NoMemory from to start step at after whole links below so_far is = tt

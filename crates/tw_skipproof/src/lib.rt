@@ -6,6 +6,7 @@ mod existence;
 mod hop;
 mod opening;
 mod path;
+mod reading;
 
 pub use climbing::climb;
 pub use existence::{EventPart, ExistenceProof, Part};
