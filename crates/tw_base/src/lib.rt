@@ -3,6 +3,7 @@
 
 mod bytes;
 mod digest;
+mod ending;
 mod failure;
 mod fields;
 mod hasher;
@@ -14,6 +15,7 @@ mod writers;
 
 pub use bytes::Bytes;
 pub use digest::Digest;
+pub use ending::{whole, whole_to};
 pub use failure::{Failed, NoMemory, ReadFault};
 pub use fields::{read_digest, read_labels, read_name, read_number, read_text};
 pub use hasher::{Hasher, Sha, Weak};
