@@ -26,4 +26,4 @@ pub use labels::{
 };
 pub use name::{Name, is_name_byte};
 pub use thread::{Entry, Key, Place, Thread, compare_keys, entry_key};
-pub use writers::{put_bytes, put_digest, put_name, put_number};
+pub use writers::{put_bytes, put_digest, put_labels, put_name, put_number};
