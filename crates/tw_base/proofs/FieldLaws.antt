@@ -10,6 +10,8 @@ use Rattle.tw_base.specs.Formats.Reading.{Took, Stopped}
 use Rattle.tw_base.specs.Formats.Format.{Done}
 use Rattle.tw_base.specs.Fields.{byte_then, bytes, digest, name, name_part, number, number_bytes, repeated, sized_bytes, text}
 use Rattle.tw_base.specs.Names.{IsName, is_name_byte, is_name_text, name_text, padded_name}
+use Rattle.tw_base.specs.Texts.{joined}
+use Rattle.tw_base.proofs.Joined.{joined-more}
 use Rattle.tw_base.proofs.FormatLaws.{goes_on-then, front-byte, front-done, front-nil, front-sound, front-stops, front-then, read_at-done, read_at-then, spells_then, then_spells}
 use Rattle.tw_base.proofs.NumberLaws.{goes_on-number, number-written, number_spells}
 
@@ -468,6 +470,24 @@ module _ {X : Type 0} where
       spells_then f (λ y. then_by (repeated n f) (λ ys. Done (y ∷ ys))) one other x (x ∷ xs) s
       (subst P (append-nil other) (spells_then (repeated n f) (λ ys. Done (x ∷ ys)) other [] xs (x ∷ xs) t refl))
 
+  -- a word more behind so many
+  pub repeated-more : (n : ℕ) (f : Format X) (word one : List ℕ) (xs : List X) (x : X) → Spells (repeated n f) word xs → Spells f one x → Spells (repeated (n + 1) f) (word ++ one) (xs ++ x ∷ [])
+  unfolding repeated
+  repeated-more zero f [] one xs x s t =
+      let P : List ℕ → Type 0 = λ w. Spells (repeated 1 f) w (x ∷ []) in
+      let Q : List X → Type 0 = λ ys. Spells (repeated 1 f) one (ys ++ x ∷ []) in
+      subst Q s (subst P (append-nil one) (repeated-cons 0 f one [] x [] t refl))
+  repeated-more zero f (b ∷ bs) one xs x s t = absurd s
+  repeated-more (suc n) f word one xs x s t =
+      let parts = repeated_parts n f word xs s in
+      let rest = repeated-more n f parts.1 one parts.3 x parts.6 t in
+      let both = repeated-cons (n + 1) f parts.0 (parts.1 ++ one) parts.2 (parts.3 ++ x ∷ []) parts.5 rest in
+      let P : List ℕ → Type 0 = λ w. Spells (repeated (suc (n + 1)) f) w (parts.2 ∷ (parts.3 ++ x ∷ [])) in
+      let Q : List X → Type 0 = λ ys. Spells (repeated (suc (n + 1)) f) (word ++ one) (ys ++ x ∷ []) in
+      let R : ℕ → Type 0 = λ m. Spells (repeated m f) (word ++ one) (xs ++ x ∷ []) in
+      subst R (let e : suc (n + 1) ≡ suc n + 1 = omega arith in e)
+      (subst Q parts.7 (subst P (sym (append_assoc parts.0 parts.1 one) ∙ ap (λ w. w ++ one) (sym parts.4)) both))
+
   -- reading so many words, and then so many more
   abbrev joined_after : List X → Result (Placed (List X)) ℕ → Result (Placed (List X)) ℕ
   joined_after xs (Ok more) = Ok (record { value = xs ++ more.value; after = more.after })
@@ -592,3 +612,24 @@ pub digests-push : (n : ℕ) (whole : List ℕ) (at next end : ℕ) (labels : Li
 digests-push n whole at next end labels label is ends so_far one =
     repeated-push n digest whole at next end labels label (so_far ∙ ap (λ e. Ok (record { value = labels; after = e })) (sym is))
     (one ∙ ap (λ e. Ok (record { value = label; after = e })) (let r : next + 32 ≡ end = omega arith in r))
+
+-- the labels written so far are spelled
+abbrev pub LabelsSpelled : List (List ℕ) → ℕ → Type 0
+LabelsSpelled labels i = Spells (repeated i digest) (joined (take i labels)) (take i labels)
+
+pub labels-spelled_none : (labels : List (List ℕ)) → LabelsSpelled labels 0
+labels-spelled_none labels = repeated-nil digest
+
+pub labels-spelled_more : (labels : List (List ℕ)) (i : ℕ) (label : List ℕ) → i < length labels → label ≡ get_or labels i label → LabelsSpelled labels i → Spells digest label label → LabelsSpelled labels (i + 1)
+labels-spelled_more labels i label l is so_far one =
+    let more = repeated-more i digest (joined (take i labels)) label (take i labels) label so_far one in
+    let items : take (i + 1) labels ≡ take i labels ++ label ∷ [] = take_more labels i label l ∙ ap (λ d. take i labels ++ d ∷ []) (sym is) in
+    let word : joined (take (i + 1) labels) ≡ joined (take i labels) ++ label = joined-more labels i label l ∙ ap (λ d. joined (take i labels) ++ d) (sym is) in
+    let P : List ℕ → Type 0 = λ w. Spells (repeated (i + 1) digest) w (take i labels ++ label ∷ []) in
+    let Q : List (List ℕ) → Type 0 = λ ls. Spells (repeated (i + 1) digest) (joined (take (i + 1) labels)) ls in
+    subst Q (sym items) (subst P (sym word) more)
+
+-- the spellings of labels, one after another
+pub flat_map-labels : (labels : List (List ℕ)) → flat_map (λ label. label) labels ≡ joined labels
+flat_map-labels [] = refl
+flat_map-labels (label ∷ labels) = ap (λ w. label ++ w) (flat_map-labels labels)

@@ -1,8 +1,11 @@
 -- Laws of every format: what reading takes is spelled, what is spelled is read, and a reading that stops tells the place.
-use Rattle.std.proofs.Common.{◌≡◌, ℕ, suc, zero, ◌+◌, ◌-◌, ◌<◌, ◌≤◌, List, [], ◌∷◌, ◌++◌, length, take, drop, Bool, true, false, refl, ap, sym, ◌∙◌, subst, arith}
+use Rattle.std.proofs.Common.{◌≡◌, ℕ, suc, zero, ◌+◌, ◌-◌, ◌<◌, ◌≤◌, List, [], ◌∷◌, ◌++◌, length, take, drop, Bool, true, false, refl, ap, sym, ◌∙◌, subst, arith, inl, inr}
 use Rattle.std.specs.Prelude.{if◌then◌else◌, Result, Ok, Err}
 use Rattle.std.proofs.lemmas.List.{append-nil, drop-drop, take_at, take_rest, length-append}
-use Rattle.tw_base.specs.Formats.{WrittenAs, Format, Gives, GivesFront, Placed, Reading, placed, read_at, ◌>>=◌, GoesOn, IsFront, IsPlace, OneSpelling, Spells, SpellsNothing, front, goes_on, then_by}
+use Rattle.std.proofs.lemmas.Bool.{cases_lt}
+use Rattle.tw_base.specs.declared.failure.ReadFault.{ReadFault}
+use Rattle.tw_base.specs.declared.failure.ReadFault.TheVariants.{Malformed, NoMemory}
+use Rattle.tw_base.specs.Formats.{Format, Gives, GivesFront, GivesIfMemory, GivesWithEnd, IsWholeOf, IsWholeTo, Placed, ReadsAs, Reading, placed, read_at, ◌>>=◌, GoesOn, IsFront, IsPlace, OneSpelling, Spells, SpellsNothing, WrittenAs, front, goes_on, then_by}
 use Rattle.tw_base.specs.Formats.Format.{Done, Byte}
 use Rattle.tw_base.specs.Formats.Reading.{Took, Stopped}
 
@@ -313,9 +316,6 @@ module _ {X : Type 0} where
         subst P (let r : is.0 ≡ place = omega (arith, is.1) in r) is.2),
   )
 
--- a reader that reads from 0 and then sees whether bytes are left
-pub ruleset reads_whole = (whole-word, whole-longer, whole-stops)
-
 -- ---- one spelling of a value
 
 module _ {X : Type 0} where
@@ -352,3 +352,29 @@ module _ {X Y : Type 0} where
   gives_rest f view r whole at after g =
       let P : List ℕ → Type 0 = λ bs. GivesFront view r after (front f bs at) in
       gives_read f view r whole at after (subst P (take_rest whole at) g)
+
+  -- ---- a reader of the whole reads the format
+
+  answered : (f : Format X) (view : Y → X) (bytes : List ℕ) (r s : Result Y ReadFault) → r ≡ s → ReadsAs view f bytes s → ReadsAs view f bytes r
+  answered f view bytes r s e is = let P : Result Y ReadFault → Type 0 = λ t. ReadsAs view f bytes t in subst P (sym e) is
+
+  read_whole : (f : Format X) (view : Y → X) (bytes : List ℕ) (after : ℕ) (value : Y) (r : Result Y ReadFault)
+      → (after < length bytes → r ≡ Err (Malformed after)) → (length bytes ≤ after → r ≡ Ok value)
+      → read_at f bytes 0 ≡ Ok (record { value = view value; after = after }) → ReadsAs view f bytes r
+  read_whole f view bytes after value r more ends e = elim (cases_lt after (length bytes)) [
+    | inl l ↦ answered f view bytes r (Err (Malformed after)) (more l) (whole-longer f bytes after (view value) e l)
+    | inr l ↦ answered f view bytes r (Ok value) (ends l) (whole-word f bytes after (view value) e l)
+  ]
+
+  pub reads_whole : (f : Format X) → GoesOn f → (view : Y → X) (bytes : List ℕ) (read : Result (Y × ℕ) ReadFault) (r : Result Y ReadFault)
+      → GivesWithEnd view read (read_at f bytes 0) → IsWholeOf bytes read r → ReadsAs view f bytes r
+  reads_whole f g view bytes (Ok read) r e w = read_whole f view bytes read.1 read.0 r w.0 w.1 e
+  reads_whole f g view bytes (Err (Malformed place)) r e w = answered f view bytes r (Err (Malformed place)) w (whole-stops f g bytes place e)
+  reads_whole f g view bytes (Err NoMemory) r e w = answered f view bytes r (Err NoMemory) w tt
+
+  -- the same where the words end at a known place
+  pub reads_whole_to : (f : Format X) → GoesOn f → (view : Y → X) (bytes : List ℕ) (after : ℕ) (read r : Result Y ReadFault)
+      → GivesIfMemory view read after (read_at f bytes 0) → IsWholeTo bytes after read r → ReadsAs view f bytes r
+  reads_whole_to f g view bytes after (Ok value) r e w = read_whole f view bytes after value r w.0 w.1 e
+  reads_whole_to f g view bytes after (Err (Malformed place)) r e w = answered f view bytes r (Err (Malformed place)) w (whole-stops f g bytes place e)
+  reads_whole_to f g view bytes after (Err NoMemory) r e w = answered f view bytes r (Err NoMemory) w tt

@@ -1,6 +1,6 @@
 -- Formats. A format says, byte by byte, which bytes may come next, and which value the whole stands for. A word of a
 -- format is a list of bytes that it allows from first to last; the word then spells the value.
-use Rattle.std.specs.Prelude.{◌≡◌, ℕ, ◌+◌, ◌-◌, ◌≤◌, List, [], ◌∷◌, ◌++◌, length, take, drop, Result, Ok, Err, Bool, true, if◌then◌else◌}
+use Rattle.std.specs.Prelude.{◌≡◌, ℕ, ◌+◌, ◌-◌, ◌<◌, ◌≤◌, List, [], ◌∷◌, ◌++◌, length, take, drop, Result, Ok, Err, Bool, true, if◌then◌else◌}
 use Rattle.tw_base.specs.declared.failure.ReadFault.{ReadFault}
 use Rattle.tw_base.specs.declared.failure.ReadFault.TheVariants.{Malformed, NoMemory}
 
@@ -125,3 +125,16 @@ module _ {X Y : Type 0} where
   ReadsAs view f bytes (Ok y) = Spells f bytes (view y)
   ReadsAs view f bytes (Err (Malformed place)) = SpellsNothing f bytes × IsPlace f bytes place
   ReadsAs view f bytes (Err NoMemory) = Unit {0}
+
+module _ {Y : Type 0} where
+  -- what a reader read from the front is the answer for the whole bytes, unless bytes follow it
+  abbrev pub IsWholeOf : List ℕ → Result (Y × ℕ) ReadFault → Result Y ReadFault → Type 0
+  IsWholeOf bytes (Ok read) result =
+      (read.1 < length bytes → result ≡ Err (Malformed read.1)) × (length bytes ≤ read.1 → result ≡ Ok read.0)
+  IsWholeOf bytes (Err fault) result = result ≡ Err fault
+
+  -- the same of a reader whose words end at a known place
+  abbrev pub IsWholeTo : List ℕ → (after : ℕ) → Result Y ReadFault → Result Y ReadFault → Type 0
+  IsWholeTo bytes after (Ok value) result =
+      (after < length bytes → result ≡ Err (Malformed after)) × (length bytes ≤ after → result ≡ Ok value)
+  IsWholeTo bytes after (Err fault) result = result ≡ Err fault

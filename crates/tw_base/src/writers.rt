@@ -1,13 +1,15 @@
 // The writers of a file's fields: each appends the bytes that the field's reader reads as the value.
-// Numbers are big-endian. After want of memory nothing was appended.
+// Numbers are big-endian. After want of memory nothing was appended, but by `put_labels`.
 
-ghost use Rattle.std.specs.Prelude.{◌≡◌, ◌^◌, ◌<◌, ◌≤◌, ◌++◌, length, OnOk, OnErr};
-ghost use Rattle.tw_base.specs.Fields.{bytes as any_bytes, digest as digest_format, name as name_format, number_bytes};
+ghost use Rattle.std.specs.Prelude.{◌≡◌, ℕ, ◌^◌, ◌<◌, ◌≤◌, ◌++◌, length, take, OnOk, OnErr};
+ghost use Rattle.tw_base.specs.Fields.{bytes as any_bytes, digest as digest_format, name as name_format, number_bytes, repeated};
 ghost use Rattle.tw_base.specs.Formats.{Spells};
+ghost use Rattle.tw_base.specs.Texts.{joined};
 
 use crate::bytes::Bytes;
 use crate::digest::Digest;
 use crate::failure::NoMemory;
+use crate::label_list::Labels;
 use crate::name::Name;
 
 /// Appends a number that fits `width` bytes (at most 8).
@@ -37,6 +39,19 @@ pub fn put_digest(into: &mut Bytes, digest: &Digest) -> Result<(), NoMemory>
     ensures spelled { Spells digest_format digest.now digest.now }
 {
     put_bytes(into, &digest.0)
+}
+
+/// Appends the 32 bytes of each label. After want of memory some of the labels are appended.
+#[tactic(auto, using(crate::proofs::Joined::more))]
+pub fn put_labels(into: &mut Bytes, labels: &Labels) -> Result<(), NoMemory>
+    ensures ok { OnOk result (into.new ≡ into.old ++ joined labels.now) }
+    ensures err { OnErr result ((n : ℕ) × (into.new ≡ into.old ++ joined (take n labels.now))) }
+    ensures spelled { OnOk result (Spells (repeated (length labels.now) digest_format) (joined labels.now) labels.now) }
+{
+    for label in labels.as_slice() {
+        put_digest(into, label)?;
+    }
+    Ok(())
 }
 
 /// Appends the bytes.
