@@ -1,5 +1,5 @@
 -- Reading field by field is reading the layout.
-use Rattle.std.proofs.Common.{◌≡◌, ℕ, suc, zero, ◌-◌, ◌<◌, ◌≤◌, ◌^◌, List, [], ◌∷◌, ◌++◌, refl, ap, sym, ◌∙◌, arith, lit<, append_assoc, inl, inr}
+use Rattle.std.proofs.Common.{◌≡◌, ℕ, suc, zero, ◌-◌, ◌+◌, ◌*◌, ◌<◌, ◌≤◌, ◌^◌, List, [], ◌∷◌, ◌++◌, refl, ap, sym, ◌∙◌, subst, arith, lit<, append_assoc, inl, inr}
 use Rattle.std.specs.Prelude.{Result, Ok, Err, nat_le, if◌then◌else◌}
 use Rattle.std.proofs.lemmas.Bool.{cases_lt, le-leb, lt-leb}
 use Rattle.std.proofs.lemmas.List.{append-nil}
@@ -8,6 +8,7 @@ use Rattle.tw_base.specs.declared.failure.ReadFault.{ReadFault}
 use Rattle.tw_base.specs.declared.failure.ReadFault.TheVariants.{Malformed, NoMemory}
 use Rattle.tw_base.specs.Formats.{GivesIfMemory, GivesWithEnd, Placed, ◌>>=◌, read_at}
 use Rattle.tw_base.proofs.FormatLaws.{read_at-then, read_at-done}
+use Rattle.tw_base.specs.Levels.{top_level}
 use Rattle.tw_skipproof.specs.declared.opening.Opening.{Opening}
 use Rattle.tw_skipproof.specs.declared.path.Link.{Link}
 use Rattle.tw_skipproof.specs.declared.path.Path.{Path}
@@ -146,3 +147,13 @@ pub path_stopped : (fault : ReadFault) (from to start step at after : ℕ) (whol
 path_stopped (Malformed place) from to start step at after whole links below so_far is =
     so_far ∙ ap (behind links) (path-stops step to whole at place below is)
 path_stopped NoMemory from to start step at after whole links below so_far is = tt
+
+-- ---- readings by fields as readings of layouts
+
+pub opening_given : (least step at after : ℕ) (whole : List ℕ) (r : Result Opening ReadFault) → after ≡ at + 100 + 32 * top_level step
+    → GivesIfMemory {X = Opening} {Y = Opening} (λ o. o) r (at + 100 + 32 * top_level step) (opening_at least step whole at)
+    → GivesIfMemory {X = Opening} {Y = Opening} (λ o. o) r after (read_at (opening_from least step) whole at)
+opening_given least step at after whole r e given =
+    let P : ℕ → Type 0 = λ n. GivesIfMemory {X = Opening} {Y = Opening} (λ o. o) r n (opening_at least step whole at) in
+    let Q : Result (Placed Opening) ℕ → Type 0 = λ reading. GivesIfMemory {X = Opening} {Y = Opening} (λ o. o) r after reading in
+    subst Q (sym (opening_at-is least step whole at)) (subst P (sym e) given)

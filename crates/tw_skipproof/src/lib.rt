@@ -13,3 +13,4 @@ pub use existence::{EventPart, ExistenceProof, Part};
 pub use hop::next_hop;
 pub use opening::{Opening, check_opening};
 pub use path::{Link, LinkList, Path};
+pub use reading::{read_opening, read_path};

@@ -1,7 +1,6 @@
 // Reading openings, paths and existence proofs.
 
-ghost use Rattle.std.specs.Prelude.{◌≡◌, ℕ, ◌+◌, ◌*◌, ◌^◌, ◌<◌, ◌≤◌, length, IfOk, MatchResult, Ok, Err};
-ghost use Rattle.tw_base.specs.declared.failure.ReadFault.TheVariants.{Malformed};
+ghost use Rattle.std.specs.Prelude.{◌≡◌, ℕ, ◌+◌, ◌*◌, ◌^◌, ◌<◌, ◌≤◌, length, IfOk};
 ghost use Rattle.tw_base.specs.Formats.{GivesIfMemory, GivesWithEnd, ReadsAs, read_at};
 ghost use Rattle.tw_base.specs.Levels.{top_level as top_level_of};
 ghost use Rattle.tw_skipproof.specs.declared.path.Path.{Path};
@@ -13,17 +12,7 @@ use crate::hop::{level_of_hop, power};
 use crate::opening::Opening;
 use crate::path::{Link, LinkList, Path};
 use std::alloc::Global;
-use tw_base::{ReadFault, read_digest, read_labels, read_number, top_level};
-
-/// The reading, with its place as the place of malformed bytes.
-pub(crate) fn malformed<T>(reading: Result<T, u64>) -> Result<T, ReadFault>
-    ensures { MatchResult reading (λ v. result ≡ Ok v) (λ place. result ≡ Err (Malformed place)) }
-{
-    match reading {
-        Ok(value) => Ok(value),
-        Err(place) => Err(ReadFault::Malformed { place }),
-    }
-}
+use tw_base::{ReadFault, malformed, read_digest, read_labels, read_number, top_level, whole, whole_to};
 
 /// The opening of the step at a place, with a count of events of at least `least`.
 #[tactic(auto, unfolding(crate::specs::Reading::opening_at))]
@@ -100,4 +89,24 @@ pub(crate) fn path_at(
         step = next_step(step, to);
     }
     Ok((Path { links }, place))
+}
+
+/// The opening of the step (0 to 2^40 - 1) that the bytes spell, from first to last. Malformed
+/// exactly where they spell none, with the place of the first byte at which no opening goes on.
+pub fn read_opening(alloc: Global, bytes: &[u8], step: u64) -> Result<Opening, ReadFault>
+    requires { step < 2 ^ 40 }
+    ensures { ReadsAs (λ o. o) (opening_layout step) bytes.now result }
+{
+    let after = 100 + 32 * top_level(step) as u64;
+    whole_to(bytes, after, opening_at(alloc, bytes, 0, 0, step))
+}
+
+/// The path between two steps (0 to 2^40 - 1) that the bytes spell, from first to last; from a step
+/// to itself or to a later one it has no bytes. Malformed exactly where they spell none, with the
+/// place of the first byte at which no path goes on.
+pub fn read_path(alloc: Global, bytes: &[u8], from: u64, to: u64) -> Result<Path, ReadFault>
+    requires { from < 2 ^ 40 }
+    ensures { ReadsAs (λ (p : Path). p.links) (path_layout from to) bytes.now result }
+{
+    whole(bytes, path_at(alloc, bytes, 0, from, to))
 }
