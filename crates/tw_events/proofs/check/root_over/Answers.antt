@@ -10,7 +10,7 @@ loop-label-preserved g c =
     record {
       left = omega (arith, c.in-Some.ensures.len);
       same = ap (root_above g.H.Hasher.dig (reverse c.pop.new.self.items) (drop (c.loop-label.label-index + 1) c.args.path.now)) c.node_above-above.ensures
-      ∙ sym step ∙ c.loop-label.invariant.same;
+          ∙ sym step ∙ c.loop-label.invariant.same;
     }
 
 pub returns : goal.returns

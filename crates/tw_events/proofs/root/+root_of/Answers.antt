@@ -1,7 +1,6 @@
 use Rattle.std.proofs.Common.{arith, ap, sym, ◌∙◌}
-use Rattle.tw_base.specs.Texts.{event_leaf_text, event_node_text}
-use Rattle.tw_base.specs.EventTree.{event_root}
-use Rattle.tw_events.proofs.Steps.{root-halves, root-none, root-one}
+use Rattle.tw_base.specs.Texts.{event_leaf_text}
+use Rattle.tw_events.proofs.Steps.{root-joined, root-none, root-one}
 use Rattle.tw_events.proofs.root.+root_of.Goals as goal
 
 pub returns-in-empty : goal.returns-in-empty
@@ -14,9 +13,6 @@ returns-in-len1 g t c =
 
 pub returns-in_default : goal.returns-in_default
 returns-in_default g t c =
-    let whole = root-halves g.H.Hasher.dig c.args.events.now c.split_at.result.0.now c.split_at.result.1.now c.left_count.result (omega arith) c.left_count.ensures.value
-    c.split_at.ensures.front c.split_at.ensures.back in
-    c.event_node.ensures.label
-    ∙ ap (λ x. g.H.Hasher.dig (event_node_text x c.root_of-right_root.result)) c.root_of-left_root.ensures
-    ∙ ap (λ x. g.H.Hasher.dig (event_node_text (event_root g.H.Hasher.dig c.split_at.result.0.now) x)) c.root_of-right_root.ensures
-    ∙ sym whole
+    root-joined g.H.Hasher.dig c.args.events.now c.split_at.result.0.now c.split_at.result.1.now c.left_count.result
+    c.root_of-left_root.result c.root_of-right_root.result c.event_node.result (omega arith) c.left_count.ensures.value
+    c.split_at.ensures.front c.split_at.ensures.back c.root_of-left_root.ensures c.root_of-right_root.ensures c.event_node.ensures.label
