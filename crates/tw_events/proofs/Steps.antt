@@ -1,12 +1,13 @@
 -- One step of each function, over plain lists.
-use Rattle.std.proofs.Common.{◌≡◌, ℕ, suc, ◌+◌, ◌-◌, ◌<◌, ◌≤◌, List, [], ◌∷◌, ◌++◌, length, get_or, take, drop, reverse, refl, ap, sym, ◌∙◌, append_assoc, add-one, drop-cons, arith}
-use Rattle.std.proofs.lemmas.List.{length-reverse, reverse-append}
+use Rattle.std.proofs.Common.{◌≡◌, ℕ, suc, ◌+◌, ◌-◌, ◌<◌, ◌≤◌, List, [], ◌∷◌, ◌++◌, length, get_or, take, drop, reverse, ap, sym, ◌∙◌, append_assoc, add-one, drop-cons, arith}
+use Rattle.std.proofs.lemmas.List.{drop_all, length-reverse, reverse-append}
 use Rattle.tw_base.specs.declared.side.Side.{Side}
 use Rattle.tw_base.specs.declared.side.Side.TheVariants.{Left, Right}
 use Rattle.tw_base.specs.Texts.{event_leaf_text, event_node_text, no_events_text}
 use Rattle.tw_base.specs.AuditPath.{node_text_beside, path_length, path_sides, root_above}
 use Rattle.tw_base.specs.EventTree.{audit_path, event_root, largest_power_below}
 use Rattle.tw_base.proofs.EventTrees.{audit_path-left, audit_path-one, audit_path-right, event_root-more, event_root-none, event_root-one}
+use Rattle.tw_events.proofs.Upwards.{root_above-no_label, root_above-none}
 use Rattle.tw_base.proofs.AuditPaths.{path_length-left, path_length-right, path_sides-left, path_sides-right}
 
 module _ (dig : List ℕ → List ℕ) where
@@ -25,6 +26,8 @@ module _ (dig : List ℕ → List ℕ) where
       event_root-more dig events more
       ∙ ap (λ x. dig (event_node_text (event_root dig x) (event_root dig (drop (largest_power_below (length events)) events)))) (ap (λ k. take k events) (sym h) ∙ sym l)
       ∙ ap (λ x. dig (event_node_text (event_root dig left) (event_root dig x))) (ap (λ k. drop k events) (sym h) ∙ sym r)
+
+  pub ruleset few_events = (root-none, root-one)
 
   -- from the roots of the halves
   pub root-joined : (events left right : List (List ℕ)) (half : ℕ) (a b root : List ℕ) → 1 < length events → half ≡ largest_power_below (length events)
@@ -83,10 +86,12 @@ module _ (dig : List ℕ → List ℕ) where
       ∙ ap (λ l. root_above dig (reverse rest) (drop (suc i) path) (dig (node_text_beside side l reached))) (sym same)
       ∙ ap (λ n. root_above dig (reverse rest) (drop n path) (dig (node_text_beside side label reached))) (sym (add-one i))
 
-  pub root_above-end : (items : List Side) (path : List (List ℕ)) (reached : List ℕ) → length items ≡ 0 → root_above dig (reverse items) path reached ≡ reached
-  unfolding root_above
-  root_above-end [] path reached none = refl
-  root_above-end (s ∷ items) path reached none = absurd (omega arith)
+  pub root_above-end : (sides : List Side) (path : List (List ℕ)) (i : ℕ) (reached : List ℕ) → length path ≤ i → root_above dig sides (drop i path) reached ≡ reached
+  root_above-end sides path i reached past = ap (λ p. root_above dig sides p reached) (drop_all i path past) ∙ stops sides
+    where
+      stops : (sides : List Side) → root_above dig sides [] reached ≡ reached
+      stops [] = root_above-none dig [] reached
+      stops (s ∷ sides) = root_above-no_label dig s sides reached
 
 -- one side further down
 pub room-left : (count index half size : ℕ) → 1 < count → half ≡ largest_power_below count → index < half → size + path_length count index ≤ 10

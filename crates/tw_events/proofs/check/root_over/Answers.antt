@@ -14,4 +14,6 @@ loop-label-preserved g c =
     }
 
 pub returns : goal.returns
-returns g c = sym (root_above-end g.H.Hasher.dig c.loop-label.sides.items _ c.loop-label.reached (omega arith)) ∙ c.loop-label.invariant.same
+returns g c =
+    sym (root_above-end g.H.Hasher.dig (reverse c.loop-label.sides.items) c.args.path.now c.loop-label.label-index c.loop-label.reached (omega arith))
+    ∙ c.loop-label.invariant.same

@@ -1,15 +1,6 @@
-use Rattle.std.proofs.Common.{arith, ap, sym, ◌∙◌}
-use Rattle.tw_base.specs.Texts.{event_leaf_text}
-use Rattle.tw_events.proofs.Steps.{root-joined, root-none, root-one}
+use Rattle.std.proofs.Common.{arith}
+use Rattle.tw_events.proofs.Steps.{root-joined}
 use Rattle.tw_events.proofs.root.+root_of.Goals as goal
-
-pub returns-in-empty : goal.returns-in-empty
-returns-in-empty g t c = c.no_events.ensures ∙ sym (root-none g.H.Hasher.dig c.args.events.now (omega arith))
-
-pub returns-in-len1 : goal.returns-in-len1
-returns-in-len1 g t c =
-    let leaf = root-one g.H.Hasher.dig c.args.events.now c.event-item.result (omega arith) c.event-item.is in
-    c.event_leaf.ensures ∙ ap (λ x. g.H.Hasher.dig (event_leaf_text x)) c.as_slice.ensures ∙ sym leaf
 
 pub returns-in_default : goal.returns-in_default
 returns-in_default g t c =
