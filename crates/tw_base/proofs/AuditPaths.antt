@@ -58,11 +58,11 @@ sides-enough count = by_halves P small large count
         let s = largest_power_below-some n more in
         elim (cases_lt index (largest_power_below n)) [
           | inl less ↦ sides-more n a index more ∙ sides_of-left n a index less
-            ∙ ap (λ x. x ++ Right ∷ []) (left a b index (omega arith) (omega arith))
-            ∙ sym (sides-more n b index more ∙ sides_of-left n b index less)
+              ∙ ap (λ x. x ++ Right ∷ []) (left a b index (omega arith) (omega arith))
+              ∙ sym (sides-more n b index more ∙ sides_of-left n b index less)
           | inr past ↦ sides-more n a index more ∙ sides_of-right n a index past
-            ∙ ap (λ x. x ++ Left ∷ []) (right a b (index - largest_power_below n) (omega arith) (omega arith))
-            ∙ sym (sides-more n b index more ∙ sides_of-right n b index past)
+              ∙ ap (λ x. x ++ Left ∷ []) (right a b (index - largest_power_below n) (omega arith) (omega arith))
+              ∙ sym (sides-more n b index more ∙ sides_of-right n b index past)
         ]
 
 pub path_sides-few : (count index : ℕ) → count ≤ 1 → path_sides count index ≡ []
@@ -150,10 +150,10 @@ module _ (dig : List ℕ → List ℕ) where
           let rest : length (right_half events) ≡ n - largest_power_below n = length-right_half events ∙ ap (λ x. x - largest_power_below (length events)) e ∙ ap (λ x. n - x) same in
           elim (cases_lt index (largest_power_below n)) [
             | inl less ↦ ap length (audit_path-left dig events index more' (omega arith)) ∙ one_more _ _
-              ∙ ap suc (left (left_half events) index (length-left_half events more' ∙ same)) ∙ sym (path_length-left n index more less)
+                ∙ ap suc (left (left_half events) index (length-left_half events more' ∙ same)) ∙ sym (path_length-left n index more less)
             | inr past ↦ ap length (audit_path-right dig events index more' (omega arith)) ∙ one_more _ _
-              ∙ ap suc (right (right_half events) (index - largest_power_below (length events)) rest)
-              ∙ ap (λ x. suc (path_length (n - largest_power_below n) (index - x))) same ∙ sym (path_length-right n index more past)
+                ∙ ap suc (right (right_half events) (index - largest_power_below (length events)) rest)
+                ∙ ap (λ x. suc (path_length (n - largest_power_below n) (index - x))) same ∙ sym (path_length-right n index more past)
           ]
 
   pub AllDigests-audit_path : (size : (text : List ℕ) → length (dig text) ≡ 32) (events : List (List ℕ)) (index : ℕ) → AllDigests (audit_path dig events index)
@@ -172,9 +172,9 @@ module _ (dig : List ℕ → List ℕ) where
           let rest : length (right_half events) ≡ n - largest_power_below n = length-right_half events ∙ ap (λ x. x - largest_power_below (length events)) e ∙ ap (λ x. n - x) same in
           elim (cases_lt index (largest_power_below n)) [
             | inl less ↦ subst AllDigests (sym (audit_path-left dig events index more' (omega arith)))
-              (AllDigests-push (audit_path dig (left_half events) index) (event_root dig (right_half events))
-              (left (left_half events) index (length-left_half events more' ∙ same)) (length-event_root dig size (right_half events)))
+                (AllDigests-push (audit_path dig (left_half events) index) (event_root dig (right_half events))
+                (left (left_half events) index (length-left_half events more' ∙ same)) (length-event_root dig size (right_half events)))
             | inr past ↦ subst AllDigests (sym (audit_path-right dig events index more' (omega arith)))
-              (AllDigests-push (audit_path dig (right_half events) (index - largest_power_below (length events))) (event_root dig (left_half events))
-              (right (right_half events) (index - largest_power_below (length events)) rest) (length-event_root dig size (left_half events)))
+                (AllDigests-push (audit_path dig (right_half events) (index - largest_power_below (length events))) (event_root dig (left_half events))
+                (right (right_half events) (index - largest_power_below (length events)) rest) (length-event_root dig size (left_half events)))
           ]

@@ -3,6 +3,8 @@ use Rattle.std.specs.Prelude.{◌≡◌, ℕ, ◌≤◌, List, [], ◌∷◌, �
 use Rattle.std.specs.Str.{bytes_eq}
 use Rattle.tw_base.specs.declared.thread.Thread.{Thread}
 use Rattle.tw_base.specs.declared.thread.Place.{Place}
+use Rattle.tw_base.specs.declared.report.Claim.{Claim}
+use Rattle.tw_base.specs.declared.report.Claim.TheVariants.{Exists}
 use Rattle.tw_base.specs.Lists.{Each}
 use Rattle.tw_base.specs.History.{History, events_at}
 use Rattle.tw_base.specs.Sound.{IsSound}
@@ -27,10 +29,14 @@ HasThread dig family t = (h : History) × HasHistory family t.from h × (t.step 
 abbrev pub HasThreads : (List ℕ → List ℕ) → List History → List Thread → Type 0
 HasThreads dig family threads = Each (HasThread dig family) threads
 
--- the claim of an existence proof: the event stands at this place of the service's history
+-- the event stands at this place of the service's history
 abbrev pub EventStands : List History → Place → (event : List ℕ) → Type 0
 EventStands family place event =
     (h : History) × HasHistory family place.service h × (slice_get (events_at h place.step) place.index ≡ Some event)
+
+-- what a claim says of the family
+abbrev pub Facts : List History → Claim → Type 0
+Facts family (Exists seen) = EventStands family seen.place seen.event
 
 -- the texts of the histories, one after another
 abbrev pub family_texts : (List ℕ → List ℕ) → List History → List (List ℕ)

@@ -14,3 +14,6 @@ pub mod Levels
 pub mod Auth
 pub mod HistoryTexts
 pub mod Family
+pub mod Formats
+pub mod Fields
+pub mod Anchors

@@ -1,5 +1,7 @@
 // Answers without a value.
 
+ghost use Rattle.std.specs.Prelude.{◌≡◌};
+
 /// A device, an input or a sink failed; its count of faults rose in that call.
 #[derive(Clone, Copy, PartialEq, Eq, Debug, Drop)]
 pub struct Failed;
@@ -7,3 +9,33 @@ pub struct Failed;
 /// There was no memory for what the call needed.
 #[derive(Clone, Copy, PartialEq, Eq, Debug, Drop)]
 pub struct NoMemory;
+
+/// Why bytes could not be read.
+#[derive(Clone, Copy, PartialEq, Eq, Debug, Drop)]
+pub enum ReadFault {
+    /// The bytes are no word of the format. The place, counted from 0, is that of the first byte at
+    /// which no word of the format goes on; where the bytes end too early, it is their length.
+    Malformed { place: u64 },
+    /// There was no memory for what the call needed.
+    NoMemory,
+}
+
+impl ReadFault {
+    /// The fault of a reader without memory.
+    pub fn malformed(place: u64) -> Self
+        ensures { result ≡ ReadFault.Malformed place }
+    {
+        ReadFault::Malformed { place }
+    }
+}
+
+impl From<NoMemory> for ReadFault {
+    ghost use Rattle.std.specs.Prelude.{◌≡◌};
+    ghost use Rattle.tw_base.specs.declared.failure.ReadFault.TheVariants.{NoMemory as WantedMemory};
+
+    ghost from_gives = { λ _ fault. fault ≡ WantedMemory };
+
+    fn from(_none: NoMemory) -> Self {
+        ReadFault::NoMemory
+    }
+}

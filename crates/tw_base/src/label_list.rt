@@ -1,6 +1,6 @@
-// Lists of digests.
+// Lists of labels.
 
-ghost use Rattle.std.specs.Prelude.{◌≡◌, [], ◌∷◌, ◌++◌, length, OnOk, OnErr};
+ghost use Rattle.std.specs.Prelude.{◌≡◌, [], ◌∷◌, ◌++◌, length, IfOk, OnOk, OnErr};
 ghost use Rattle.tw_base.specs.Digests.{AllDigests};
 
 use crate::digest::Digest;
@@ -8,8 +8,7 @@ use crate::failure::NoMemory;
 use std::alloc::Global;
 use std::marker::Model;
 
-/// A list of digests on the heap, such as the labels of a step's links or of an audit path.
-/// Contracts see it as a list of lists of 32 bytes.
+/// A list of labels, which are digests, on the heap. Contracts see it as the list of their bytes.
 #[derive(Drop, Debug)]
 pub struct Labels {
     items: Vec<Digest>,
@@ -34,6 +33,32 @@ impl Labels {
         Labels {
             items: Vec::new(alloc),
         }
+    }
+
+    /// No labels, with room for so many.
+    pub fn with_capacity(alloc: Global, capacity: usize) -> Result<Self, NoMemory>
+        ensures { IfOk result (λ labels. labels ≡ []) }
+    {
+        match Vec::with_capacity(alloc, capacity) {
+            Ok(items) => Ok(Labels { items }),
+            Err(_) => Err(NoMemory),
+        }
+    }
+
+    /// The vector's labels. Takes no memory.
+    pub fn from_vec(items: Vec<Digest>) -> Self
+        ensures { result ≡ items.items }
+    {
+        see_sizes(items.as_slice());
+        Labels { items }
+    }
+
+    /// The labels as a vector. Takes no memory.
+    pub fn into_vec(self) -> Vec<Digest>
+        ensures value { result.items ≡ self }
+        ensures sizes { AllDigests self }
+    {
+        self.items
     }
 
     /// The labels.
@@ -61,5 +86,15 @@ impl Labels {
             Ok(()) => Ok(()),
             Err(_) => Err(NoMemory),
         }
+    }
+}
+
+/// Tells a proof that each digest has its 32 bytes.
+#[tactic(auto, using(crate::proofs::Joined::more))]
+fn see_sizes(digests: &[Digest])
+    ensures { AllDigests digests.now }
+{
+    for digest in digests {
+        let _bytes = &digest.0;
     }
 }

@@ -1,24 +1,34 @@
 // The words and definitions that every crate of Timeweave shares.
 #![tactic(auto)]
 
+mod anchor;
+mod byte_string;
 mod bytes;
 mod digest;
 mod event_list;
 mod event_tree;
+mod ending;
 mod failure;
+mod fields;
 mod hasher;
 mod label_list;
 mod labels;
 mod link_level;
 mod name;
+mod report;
 mod side;
 mod thread;
+mod writers;
 
+pub use anchor::find_anchor;
+pub use byte_string::read_bytes;
 pub use bytes::Bytes;
 pub use digest::Digest;
 pub use event_list::EventList;
 pub use event_tree::{audit_path_laws, event_root_laws};
-pub use failure::{Failed, NoMemory};
+pub use ending::{whole, whole_to};
+pub use failure::{Failed, NoMemory, ReadFault};
+pub use fields::{read_digest, read_labels, read_name, read_number, read_text};
 pub use hasher::{Hasher, Sha, Weak};
 pub use label_list::Labels;
 pub use labels::{
@@ -26,6 +36,8 @@ pub use labels::{
     tree_node,
 };
 pub use link_level::top_level;
-pub use name::Name;
+pub use name::{Name, is_name_byte};
+pub use report::{Claim, Reason, Report, Seen};
 pub use side::Side;
 pub use thread::{Entry, Key, Place, Thread, compare_keys, entry_key};
+pub use writers::{put_bytes, put_digest, put_labels, put_name, put_number};

@@ -1,6 +1,6 @@
 // The levels of a step's links.
 
-ghost use Rattle.std.specs.Prelude.{◌≡◌, ◌^◌, ◌<◌};
+ghost use Rattle.std.specs.Prelude.{◌≡◌, ℕ, ◌^◌, ◌%◌, ◌<◌, ◌≤◌};
 ghost use Rattle.tw_base.specs.Levels.{top_level as top_level_of};
 
 /// The greatest level of a step's links: the greatest l such that 2^l divides the step (0 to
@@ -10,6 +10,8 @@ pub fn top_level(step: u64) -> u8
     requires { step < 2 ^ 40 }
     ensures value { result ≡ top_level_of step }
     ensures small { result < 40 }
+    ensures divides { 0 < step → step % 2 ^ result ≡ 0 }
+    ensures greatest { (level : ℕ) → 0 < step → step % 2 ^ level ≡ 0 → level ≤ result }
 {
     if step == 0 {
         return 0;

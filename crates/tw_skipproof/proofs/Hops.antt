@@ -38,13 +38,6 @@ pub AllDigests-join : (xs ys : List (List ℕ)) → AllDigests xs → AllDigests
 AllDigests-join [] ys p q = q
 AllDigests-join (x ∷ xs) ys p q = (p.0, AllDigests-join xs ys p.1 q)
 
--- the labels round one label are digests too
-pub AllDigests-around : (front back all : List (List ℕ)) (label : List ℕ) → all ≡ front ++ back → AllDigests ((front ++ label ∷ []) ++ back) → AllDigests all
-AllDigests-around front back all label e p =
-    let parts = AllDigests-parts (front ++ label ∷ []) back p in
-    let first = AllDigests-parts front (label ∷ []) parts.0 in
-    subst AllDigests (sym e) (AllDigests-join front back first.0 parts.1)
-
 pub ruleset levels = (level-stop, level-down, level-zero)
 
 pub empty_path : (dig : List ℕ → List ℕ) (links : List Link) (upper lower : ℕ) (bottom : List ℕ) → length links ≡ 0 → upper ≤ lower
@@ -72,7 +65,7 @@ pub hop_level-le : (upper lower : ℕ) → hop_level upper lower ≤ top_level u
 unfolding hop_level
 hop_level-le upper lower = level-le (top_level upper) upper lower
 
-level-short : (level upper lower : ℕ) → lower < upper → 2 ^ level_up_to level upper lower ≤ upper - lower
+pub level-short : (level upper lower : ℕ) → lower < upper → 2 ^ level_up_to level upper lower ≤ upper - lower
 unfolding level_up_to
 level-short zero upper lower l = omega arith
 level-short (suc level) upper lower l =
@@ -85,3 +78,7 @@ level-short (suc level) upper lower l =
 pub hop-below : (upper lower : ℕ) → lower < upper → lower ≤ hop upper lower
 unfolding hop_level
 hop-below upper lower l = let short = level-short (top_level upper) upper lower l in omega arith
+
+pub hop_level-short : (upper lower : ℕ) → lower < upper → 2 ^ hop_level upper lower ≤ upper - lower
+unfolding hop_level
+hop_level-short upper lower l = level-short (top_level upper) upper lower l

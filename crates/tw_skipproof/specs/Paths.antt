@@ -27,6 +27,16 @@ hop_level from to = level_up_to (top_level from) from to
 abbrev pub hop : (from to : ℕ) → ℕ
 hop from to = from - 2 ^ hop_level from to
 
+-- the steps that so many links of the greedy path leave
+unfoldable pub steps_within : (links : ℕ) → (from to : ℕ) → List ℕ
+steps_within zero from to = []
+steps_within (suc links) from to = if nat_le from to then [] else from ∷ steps_within links (hop from to) to
+
+-- the steps that the links of the greedy path leave, from the upper step downwards; each link leads a step or more down,
+-- so that there are at most as many links as steps
+unfoldable pub greedy_steps : (from to : ℕ) → List ℕ
+greedy_steps from to = steps_within from from to
+
 -- the links are as many as those of the greedy path, each with the labels of its step's other levels
 abbrev pub HasShape : List Link → (from to : ℕ) → Type 0
 HasShape [] from to = from ≤ to

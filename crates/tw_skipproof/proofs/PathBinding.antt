@@ -1,18 +1,19 @@
 -- From an authenticator down along a path.
 use Rattle.std.proofs.Common.{◌≡◌, ℕ, suc, zero, ◌-◌, ◌<◌, ◌≤◌, ◌^◌, List, [], ◌∷◌, ◌++◌, length, get_or, take, drop, refl, ap, sym, ◌∙◌, subst, lit<, arith, inl, inr}
-use Rattle.std.specs.Prelude.{Option, Some, None, MatchOption, IfSome}
-use Rattle.tw_base.specs.Sound.{IsSound}
+use Rattle.std.specs.Prelude.{Option, Some, None, MatchOption, IfSome, map}
 use Rattle.std.proofs.Math.Nat.{one-le-pow}
-use Rattle.std.proofs.lemmas.List.{get_or_at, length-take-le, length-map, take-append-drop}
-use Rattle.tw_base.specs.declared.digest.Digest.{Digest}
-use Rattle.tw_base.specs.Texts.{link_text}
-use Rattle.tw_base.specs.Digests.{AllDigests, digests}
+use Rattle.std.proofs.lemmas.List.{get_or_at, length-take-le, take-append-drop}
+use Rattle.tw_base.specs.Digests.{AllDigests}
 use Rattle.tw_base.specs.History.{History}
-use Rattle.tw_base.specs.Auth.{auth, auths, auth_text, datum_text_at, history_texts, labels_of, link_texts_at, top_level}
-use Rattle.tw_base.specs.Clash.{Among, OrClash}
-use Rattle.tw_base.proofs.Clashes.{and_then, same_text, Among-left, Among-right, OrClash-wider, Within, both_within}
-use Rattle.tw_base.proofs.Fields.{authenticator-fields, link-fields}
-use Rattle.tw_base.proofs.Auths.{auth-suc, auths-at, has-auth_text, has-link_text, label-at, link_text-at}
+use Rattle.tw_base.specs.Levels.{top_level}
+use Rattle.tw_base.specs.Auth.{auth, auths, auth_text, datum_text_at, link_texts_at}
+use Rattle.tw_base.specs.HistoryTexts.{history_texts}
+use Rattle.tw_base.specs.Sound.{IsSound}
+use Rattle.tw_base.specs.Clash.{Among, OrClash, Within}
+use Rattle.tw_base.proofs.Clashes.{and_then, same_text, Among-left, Among-right, OrClash-wider, both_within}
+use Rattle.tw_base.proofs.TextFields.{authenticator-fields, link-fields}
+use Rattle.tw_base.proofs.Sizes.{AllDigests-map}
+use Rattle.tw_base.proofs.Auths.{auth-suc, auths-at, has-auth_text, has-link_text, label-at, link_texts-has, text_at}
 use Rattle.tw_skipproof.specs.declared.path.Link.{Link}
 use Rattle.tw_skipproof.specs.Paths.{HasLinkSizes, HasShape, climb_auth_text, climb_link_text, climbed, hop, hop_level, path_texts, with_label}
 use Rattle.tw_skipproof.proofs.Hops.{AllDigests-join, AllDigests-parts, hop-below, hop_level-le}
@@ -27,8 +28,8 @@ get_or-with others level label h = get_or_at (take level others) label (drop lev
 
 module _ (dig : List ℕ → List ℕ) (size : (text : List ℕ) → length (dig text) ≡ 32) (h : History) where
   -- the text of the history's link of step k + 1 at this level
-  own_link_text : (k level : ℕ) → List ℕ
-  own_link_text k level = link_text (suc k) level (dig (datum_text_at dig h (suc k))) (get_or (auths dig h k) (suc k - 2 ^ level) [])
+  abbrev own_link_text : (k level : ℕ) → List ℕ
+  own_link_text k level = text_at dig (dig (datum_text_at dig h (suc k))) (auths dig h k) (suc k) level
 
   -- one link: what is below it is the authenticator of the step that it leads to
   one_link : (texts : List (List ℕ)) (k level : ℕ) (link : Link) (below : List ℕ)
@@ -38,7 +39,6 @@ module _ (dig : List ℕ → List ℕ) (size : (text : List ℕ) → length (dig
       → Among (climb_link_text dig link (suc k) level below) texts → Among (climb_auth_text dig link (suc k) level below) texts
       → dig (climb_auth_text dig link (suc k) level below) ≡ auth dig h (suc k)
       → OrClash dig texts (below ≡ auth dig h (suc k - 2 ^ level))
-  unfolding own_link_text
   one_link texts k level link below step datum_size sizes count at within has_link has_auth e =
       and_then dig texts _ _
       (same_text dig texts (auth_text dig h (auths dig h k) (suc k)) (climb_auth_text dig link (suc k) level below)
@@ -46,14 +46,14 @@ module _ (dig : List ℕ → List ℕ) (size : (text : List ℕ) → length (dig
       (λ same_auth.
       let labels = authenticator-fields (suc k) (map dig (link_texts_at dig h (auths dig h k) (suc k)))
       (with_label link.others level (dig (climb_link_text dig link (suc k) level below)))
-      (all_digests _) (AllDigests-with _ level _ sizes (size _)) same_auth in
+      (AllDigests-map dig size _) (AllDigests-with _ level _ sizes (size _)) same_auth in
       let label : dig (own_link_text k level) ≡ dig (climb_link_text dig link (suc k) level below) =
-      sym (label-at dig h _ _ (suc k) level (suc (top_level (suc k))) (omega arith))
+      sym (label-at dig _ _ (suc k) level (suc (top_level (suc k))) (omega arith))
       ∙ ap (λ ls. get_or ls level []) labels
       ∙ get_or-with link.others level _ (omega arith) in
       and_then dig texts _ _
       (same_text dig texts (own_link_text k level) (climb_link_text dig link (suc k) level below)
-      (within _ (has-link_text dig h _ k step (link_text-at dig h _ _ (suc k) level (suc (top_level (suc k))) (omega arith))))
+      (within _ (has-link_text dig h _ k step (link_texts-has dig _ _ (suc k) level (suc (top_level (suc k))) (omega arith))))
       has_link label)
       (λ same_link.
       let fields = link-fields (suc k) level _ _ _ _ (size _ ∙ sym datum_size) same_link in
@@ -72,9 +72,8 @@ module _ (dig : List ℕ → List ℕ) (size : (text : List ℕ) → length (dig
       let texts : List (List ℕ) = history_texts dig h ++ path_texts dig (link ∷ links) (suc k) lower bottom in
       let fits : level ≤ top_level (suc k) = hop_level-le (suc k) lower in
       let next : lower ≤ hop (suc k) lower = hop-below (suc k) lower shape.0 in
-      let counts : length link.others ≡ top_level (suc k) = length-map link.others.items (λ (d : Digest). d.0) ∙ sym link.others.ok.0 ∙ shape.1 in
       and_then dig texts _ _
-      (one_link texts k level link below within sizes.0 sizes.1 counts fits
+      (one_link texts k level link below within sizes.0 sizes.1 shape.1 fits
       (λ text a. Among-left text (history_texts dig h) _ a)
       (Among-right _ (history_texts dig h) _ (Among-right _ (path_texts dig links (hop (suc k) lower) lower bottom) _ (inl refl)))
       (Among-right _ (history_texts dig h) _ (Among-right _ (path_texts dig links (hop (suc k) lower) lower bottom) _ (inr (inl refl))))
@@ -83,7 +82,7 @@ module _ (dig : List ℕ → List ℕ) (size : (text : List ℕ) → length (dig
       (both_within _ _ _ _ (λ text a. a) (λ text a. Among-left text (path_texts dig links (hop (suc k) lower) lower bottom) _ a))
       (climb-binds links (hop (suc k) lower) lower bottom sizes.2 shape.2 next (omega arith) same_below))
 
-pub climb_from : (dig : List ℕ → List ℕ) (size : (text : List ℕ) → length (dig text) ≡ 32) (links : List Link) (upper lower : ℕ) (bottom : List ℕ) (r : Option Digest)
+pub climb_from : (dig : List ℕ → List ℕ) (size : (text : List ℕ) → length (dig text) ≡ 32) (links : List Link) (upper lower : ℕ) (bottom : List ℕ) (r : Option (List ℕ))
     → MatchOption r (HasShape links upper lower → ⊥) (λ d. HasShape links upper lower × (d ≡ climbed dig links upper lower bottom))
     → IfSome r (λ _. HasLinkSizes links)
     → IfSome r (λ d. (h : History) → IsSound h → lower ≤ upper → upper ≤ length h.steps → d ≡ auth dig h upper →

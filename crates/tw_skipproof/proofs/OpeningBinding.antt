@@ -1,18 +1,19 @@
 -- From a step's authenticator to what it was made of.
-use Rattle.std.proofs.Common.{◌≡◌, ℕ, suc, zero, ◌-◌, ◌<◌, ◌≤◌, ◌^◌, List, [], ◌∷◌, ◌++◌, length, get_or, take, drop, true, false, refl, sym, ◌∙◌, lit<, arith, inl, inr}
-use Rattle.std.specs.Prelude.{nat_le, if◌then◌else◌, Option, Some, None, MatchOption, IfSome}
-use Rattle.tw_base.specs.declared.digest.Digest.{Digest}
-use Rattle.tw_base.specs.Texts.{event_node_text, link_text}
-use Rattle.tw_base.specs.Digests.{AllDigests, digests}
-use Rattle.tw_base.specs.History.{History, Step, Tree, step_at, events_of, events_at, tree}
-use Rattle.tw_base.specs.History.Tree.{Empty, Branch}
-use Rattle.tw_base.specs.Events.{event_root, root_to}
-use Rattle.tw_base.specs.Auth.{auth, auths, auth_text, datum_text_at, history_texts, labels_of, link_texts, link_texts_at, tree_label}
+use Rattle.std.proofs.Common.{◌≡◌, ℕ, suc, zero, ◌-◌, ◌<◌, ◌≤◌, ◌^◌, List, [], ◌∷◌, ◌++◌, length, get_or, refl, ap, sym, ◌∙◌, lit<, arith, inl, inr}
+use Rattle.std.specs.Prelude.{Option, Some, None, MatchOption, IfSome, map}
+use Rattle.tw_base.specs.History.{History, Step, step_at, events_of, events_at}
+use Rattle.tw_base.specs.Tree.{tree}
+use Rattle.tw_base.specs.EventTree.{event_root}
+use Rattle.tw_base.specs.Levels.{top_level}
+use Rattle.tw_base.specs.Auth.{auth, auths, auth_text, datum_text_at, link_texts_at, tree_label}
+use Rattle.tw_base.specs.HistoryTexts.{history_texts}
 use Rattle.tw_base.specs.Sound.{IsSound}
 use Rattle.tw_base.specs.Clash.{Among, OrClash}
 use Rattle.tw_base.proofs.Clashes.{and_then, same_text, Among-left, Among-right}
-use Rattle.tw_base.proofs.Fields.{authenticator-fields, link-fields, datum-fields, SameDatum}
-use Rattle.tw_base.proofs.Auths.{auth-suc, auths-at, has-auth_text, has-datum_text, has-link_text}
+use Rattle.tw_base.proofs.TextFields.{authenticator-fields, link-fields, datum-fields, SameDatum}
+use Rattle.tw_base.proofs.EventTrees.{length-event_root}
+use Rattle.tw_base.proofs.Sizes.{AllDigests-map, tree_label-size}
+use Rattle.tw_base.proofs.Auths.{auth-suc, auths-at, has-auth_text, has-datum_text, has-link_text, label-at, link_texts-has, text_at}
 use Rattle.tw_skipproof.specs.declared.opening.Opening.{Opening}
 use Rattle.tw_skipproof.specs.Openings.{Binds, HasSizes, IsOpeningAt, opening_auth, opening_auth_text, opening_datum_text, opening_link_text, opening_texts}
 
@@ -21,25 +22,19 @@ few_events h i sound within = cases (step_at h (suc i)) refl
   where
     cases : (r : Option Step) → step_at h (suc i) ≡ r → length (events_of r) < 2 ^ 32
     cases None e = lit< tt
-    cases (Some s) e = let few = (sound.steps i s e).events in omega arith
+    cases (Some s) e = let few = (sound.steps i s e).event_count in omega arith
 
 module _ (dig : List ℕ → List ℕ) (size : (text : List ℕ) → length (dig text) ≡ 32) where
-  tree_label-size : (t : Tree) → length (tree_label dig t) ≡ 32
-  unfolding tree_label
-  tree_label-size Empty = size _
-  tree_label-size (Branch l e r) = size _
-
-  -- the text of the link to the step before
-  first_text : History → ℕ → List ℕ
-  first_text h i = link_text (suc i) 0 (dig (datum_text_at dig h (suc i))) (get_or (auths dig h i) (suc i - 1) [])
+  -- the text of the link to the step before, at level 0, and its label
+  abbrev first_text : History → ℕ → List ℕ
+  first_text h i = text_at dig (dig (datum_text_at dig h (suc i))) (auths dig h i) (suc i) 0
 
   first_label : (h : History) (i : ℕ) (x : List ℕ) (xs : List (List ℕ)) → map dig (link_texts_at dig h (auths dig h i) (suc i)) ≡ x ∷ xs → dig (first_text h i) ≡ x
-  unfolding link_texts first_text
-  first_label h i x xs e = cc
+  first_label h i x xs e =
+      sym (label-at dig _ _ (suc i) 0 (suc (top_level (suc i))) (omega arith)) ∙ ap (λ ls. get_or ls 0 []) e
 
   first_among : (h : History) (i : ℕ) → Among (first_text h i) (link_texts_at dig h (auths dig h i) (suc i))
-  unfolding link_texts first_text
-  first_among h i = inl refl
+  first_among h i = link_texts-has dig _ _ (suc i) 0 (suc (top_level (suc i))) (omega arith)
 
   before_is : (h : History) (i : ℕ) (b : List ℕ) → get_or (auths dig h i) (suc i - 1) [] ≡ b → auth dig h (suc i - 1) ≡ b
   before_is h i b e = sym (auths-at dig h i (suc i - 1) (omega arith)) ∙ e
@@ -47,12 +42,12 @@ module _ (dig : List ℕ → List ℕ) (size : (text : List ℕ) → length (dig
   same_fields : (h : History) (i : ℕ) (o : Opening) → HasSizes o → length (events_at h (suc i)) < 2 ^ 32 → datum_text_at dig h (suc i) ≡ opening_datum_text dig (suc i) o
       → SameDatum (event_root dig (events_at h (suc i))) (tree_label dig (tree h (suc i))) (length (events_at h (suc i))) o.event_root o.archive_root o.count
   unfolding datum_text_at
-  same_fields h i o sizes few e = datum-fields _ _ _ _ _ _ (event_root-size _ ∙ sym sizes.event_root) (tree_label-size _ ∙ sym sizes.archive_root) few sizes.count e
+  same_fields h i o sizes few e = datum-fields _ _ _ _ _ _ (length-event_root dig size _ ∙ sym sizes.event_root) (tree_label-size dig size _ ∙ sym sizes.archive_root) few sizes.count e
 
   pub opening-binds : (h : History) (i : ℕ) (o : Opening) → HasSizes o → i < length h.steps → length (events_at h (suc i)) < 2 ^ 32
       → opening_auth dig (suc i) o ≡ auth dig h (suc i)
       → OrClash dig (history_texts dig h ++ opening_texts dig (suc i) o) (Binds dig h (suc i) o)
-  unfolding opening_auth opening_texts first_text
+  unfolding opening_auth opening_texts
   opening-binds h i o sizes within few e =
       let texts : List (List ℕ) = history_texts dig h ++ opening_texts dig (suc i) o in
       let labels : List (List ℕ) = map dig (link_texts_at dig h (auths dig h i) (suc i)) in
@@ -63,7 +58,7 @@ module _ (dig : List ℕ → List ℕ) (size : (text : List ℕ) → length (dig
       (sym (auth-suc dig h i) ∙ sym e))
       (λ same_auth.
       let same_labels = authenticator-fields (suc i) labels (dig (opening_link_text dig (suc i) o) ∷ o.others)
-      (all_digests _) (size _, sizes.others) same_auth in
+      (AllDigests-map dig size _) (size _, sizes.others) same_auth in
       let first : dig (first_text h i) ≡ dig (opening_link_text dig (suc i) o) = first_label h i _ _ same_labels in
       and_then dig texts _ _
       (same_text dig texts (first_text h i) (opening_link_text dig (suc i) o)
@@ -93,7 +88,7 @@ module _ (dig : List ℕ → List ℕ) (size : (text : List ℕ) → length (dig
   opening-binds_sound h zero o sizes of sound within e = absurd (omega (arith, of.0))
   opening-binds_sound h (suc i) o sizes of sound within e = opening-binds h i o sizes within (few_events h i sound within) e
 
-  pub binds_from : (step : ℕ) (o : Opening) (r : Option Digest) → MatchOption r (IsOpeningAt step o → ⊥) (λ d. IsOpeningAt step o × (d ≡ opening_auth dig step o))
+  pub binds_from : (step : ℕ) (o : Opening) (r : Option (List ℕ)) → MatchOption r (IsOpeningAt step o → ⊥) (λ d. IsOpeningAt step o × (d ≡ opening_auth dig step o))
       → IfSome r (λ _. HasSizes o)
       → IfSome r (λ d. (h : History) → IsSound h → step ≤ length h.steps → d ≡ auth dig h step →
       OrClash dig (history_texts dig h ++ opening_texts dig step o) (Binds dig h step o))

@@ -1,0 +1,30 @@
+// Readers of whole files.
+
+ghost use Rattle.tw_base.specs.Formats.{IsWholeOf, IsWholeTo};
+
+use crate::failure::ReadFault;
+
+/// The answer for the whole bytes of a reader that read them from the front, and answered the place
+/// after what it read: where bytes follow, they are malformed at that place.
+pub fn whole<T: Drop>(bytes: &[u8], read: Result<(T, u64), ReadFault>) -> Result<T, ReadFault>
+    ensures { IsWholeOf bytes.now read result }
+{
+    match read {
+        Ok((value, after)) => whole_to(bytes, after, Ok(value)),
+        Err(fault) => Err(fault),
+    }
+}
+
+/// The same of a reader whose words end at a known place.
+pub fn whole_to<T: Drop>(
+    bytes: &[u8],
+    after: u64,
+    read: Result<T, ReadFault>,
+) -> Result<T, ReadFault>
+    ensures { IsWholeTo bytes.now after read result }
+{
+    match read {
+        Ok(_) if after < bytes.len() as u64 => Err(ReadFault::malformed(after)),
+        read => read,
+    }
+}

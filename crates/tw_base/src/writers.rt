@@ -1,0 +1,64 @@
+// The writers of a file's fields: each appends the bytes that the field's reader reads as the value.
+// Numbers are big-endian. After want of memory nothing was appended, but by `put_labels`.
+
+ghost use Rattle.std.specs.Prelude.{◌≡◌, ℕ, ◌^◌, ◌<◌, ◌≤◌, ◌++◌, length, take, OnOk, OnErr};
+ghost use Rattle.tw_base.specs.Fields.{bytes as any_bytes, digest as digest_format, name as name_format, number_bytes, repeated};
+ghost use Rattle.tw_base.specs.Formats.{Spells};
+ghost use Rattle.tw_base.specs.Texts.{joined};
+
+use crate::bytes::Bytes;
+use crate::digest::Digest;
+use crate::failure::NoMemory;
+use crate::label_list::Labels;
+use crate::name::Name;
+
+/// Appends a number that fits `width` bytes (at most 8).
+pub fn put_number(into: &mut Bytes, value: u64, width: u8) -> Result<(), NoMemory>
+    requires width { width ≤ 8 }
+    requires fits { value < 256 ^ width }
+    ensures ok { OnOk result (into.new ≡ into.old ++ number_bytes width value) }
+    ensures err { OnErr result (into.new ≡ into.old) }
+{
+    let bytes = value.to_be_bytes();
+    into.extend_from_slice(&bytes[8 - width as usize..])
+}
+
+/// Appends the 16 bytes of a name.
+pub fn put_name(into: &mut Bytes, name: &Name) -> Result<(), NoMemory>
+    ensures ok { OnOk result (into.new ≡ into.old ++ name.now) }
+    ensures err { OnErr result (into.new ≡ into.old) }
+    ensures spelled { Spells name_format name.now name.now }
+{
+    into.extend_from_slice(name.as_bytes())
+}
+
+/// Appends the 32 bytes of a digest.
+pub fn put_digest(into: &mut Bytes, digest: &Digest) -> Result<(), NoMemory>
+    ensures ok { OnOk result (into.new ≡ into.old ++ digest.now) }
+    ensures err { OnErr result (into.new ≡ into.old) }
+    ensures spelled { Spells digest_format digest.now digest.now }
+{
+    put_bytes(into, &digest.0)
+}
+
+/// Appends the 32 bytes of each label. After want of memory some of the labels are appended.
+#[tactic(auto, using(crate::proofs::Joined::more))]
+pub fn put_labels(into: &mut Bytes, labels: &Labels) -> Result<(), NoMemory>
+    ensures ok { OnOk result (into.new ≡ into.old ++ joined labels.now) }
+    ensures err { OnErr result ((n : ℕ) × (into.new ≡ into.old ++ joined (take n labels.now))) }
+    ensures spelled { OnOk result (Spells (repeated (length labels.now) digest_format) (joined labels.now) labels.now) }
+{
+    for label in labels.as_slice() {
+        put_digest(into, label)?;
+    }
+    Ok(())
+}
+
+/// Appends the bytes.
+pub fn put_bytes(into: &mut Bytes, bytes: &[u8]) -> Result<(), NoMemory>
+    ensures ok { OnOk result (into.new ≡ into.old ++ bytes.now) }
+    ensures err { OnErr result (into.new ≡ into.old) }
+    ensures spelled { Spells (any_bytes (length bytes.now)) bytes.now bytes.now }
+{
+    into.extend_from_slice(bytes)
+}

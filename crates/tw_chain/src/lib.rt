@@ -1,0 +1,6 @@
+// Proofs and their verdicts.
+#![tactic(auto)]
+
+mod verdict;
+
+pub use verdict::{Verdict, verify};
