@@ -88,5 +88,5 @@ module _ (dig : List ℕ → List ℕ) where
         inside = inside;
         size = length-audit_path dig events index;
         reaches = ap (λ x. root_above dig (path_sides (length events) index) (audit_path dig events index) (dig (event_leaf_text x)))
-        (sym (get_or_from_slice_get events index event [] there)) ∙ path-leads (length events) events index refl inside;
+            (sym (get_or_from_slice_get events index event [] there)) ∙ path-leads (length events) events index refl inside;
       }

@@ -47,6 +47,10 @@ module _ (dig : List ℕ → List ℕ) where
   unfolding root_above
   root_above-none path reached = refl
 
+  pub root_above-no_label : (side : Side) (sides : List Side) (reached : List ℕ) → root_above dig (side ∷ sides) [] reached ≡ reached
+  unfolding root_above
+  root_above-no_label side sides reached = refl
+
   pub length-root_above : (size : (text : List ℕ) → length (dig text) ≡ 32) (sides : List Side) (path : List (List ℕ)) (reached : List ℕ)
       → length reached ≡ 32 → length (root_above dig sides path reached) ≡ 32
   unfolding root_above

@@ -20,9 +20,9 @@ fn node_above<H: Hasher>(side: Side, label: &Digest, reached: &Digest) -> Digest
     }
 }
 
-/// The root that a leaf's label and the labels of a path lead to.
+/// The root that a leaf's label and the labels of a path lead to, whose sides are popped.
 fn root_over<H: Hasher>(sides: ArrayVec<Side, 10>, path: &[Digest], leaf: Digest) -> Digest
-    requires { length path.now ≡ length sides.items }
+    requires { length path.now ≤ length sides.items }
     ensures { result ≡ root_above H.dig (reverse sides.items) path.now leaf }
 {
     let mut sides = sides;

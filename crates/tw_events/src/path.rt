@@ -35,7 +35,11 @@ fn add_path<H: Hasher>(events: &[Bytes], index: usize, path: &mut Labels) -> Res
 /// The audit path of the event at that index among at most 1,024 events, each of at most 1,024
 /// bytes: RFC 6962, section 2.1.1. Its labels stand from the leaf upwards, and with them the event
 /// checks under the root. Hashes each text at most once.
-pub fn event_path<H: Hasher>(alloc: Global, events: &EventList, index: u32) -> Result<Labels, NoMemory>
+pub fn event_path<H: Hasher>(
+    alloc: Global,
+    events: &EventList,
+    index: u32,
+) -> Result<Labels, NoMemory>
     requires inside { index < length events.now }
     requires few { length events.now ≤ 1024 }
     requires small { Each (λ event. length event ≤ 1024) events.now }

@@ -8,6 +8,7 @@ use crate::halves::left_count;
 use tw_base::{Bytes, Digest, EventList, Hasher, event_leaf, event_node, no_events};
 
 /// The root of the tree over these events, at most ten halvings deep.
+#[tactic(auto, using(crate::proofs::Steps::few_events))]
 pub(crate) fn root_of<H: Hasher>(events: &[Bytes]) -> Digest
     requires few { length events.now ≤ 1024 }
     requires small { Each (λ event. length event ≤ 1024) events.now }

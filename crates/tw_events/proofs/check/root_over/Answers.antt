@@ -10,8 +10,10 @@ loop-label-preserved g c =
     record {
       left = omega (arith, c.in-Some.ensures.len);
       same = ap (root_above g.H.Hasher.dig (reverse c.pop.new.self.items) (drop (c.loop-label.label-index + 1) c.args.path.now)) c.node_above-above.ensures
-      ∙ sym step ∙ c.loop-label.invariant.same;
+          ∙ sym step ∙ c.loop-label.invariant.same;
     }
 
 pub returns : goal.returns
-returns g c = sym (root_above-end g.H.Hasher.dig c.loop-label.sides.items _ c.loop-label.reached (omega arith)) ∙ c.loop-label.invariant.same
+returns g c =
+    sym (root_above-end g.H.Hasher.dig (reverse c.loop-label.sides.items) c.args.path.now c.loop-label.label-index c.loop-label.reached (omega arith))
+    ∙ c.loop-label.invariant.same

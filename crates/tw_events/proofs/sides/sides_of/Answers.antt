@@ -32,9 +32,9 @@ loop-count-preserved-then-index-half c =
       few = omega arith;
       room = omega (arith, room, c.push.ensures.len);
       same = sides-step (path_sides c.loop-count.count c.loop-count.index) (path_sides c.left_count-half.result c.loop-count.index) c.push.new.self.items Right
-      c.loop-count.sides.items (path_sides c.args.count c.args.index)
-      (sides-left c.loop-count.count c.loop-count.index c.left_count-half.result c.loop-count-test.true c.left_count-half.ensures.value c.if-index-half.true)
-      c.push.ensures.items c.loop-count.invariant.same;
+          c.loop-count.sides.items (path_sides c.args.count c.args.index)
+          (sides-left c.loop-count.count c.loop-count.index c.left_count-half.result c.loop-count-test.true c.left_count-half.ensures.value c.if-index-half.true)
+          c.push.ensures.items c.loop-count.invariant.same;
     }
 
 pub push-requires-else-index-half : goal.push-requires-else-index-half
@@ -52,9 +52,9 @@ loop-count-preserved c =
       few = omega arith;
       room = omega (arith, room, c.push-else-index-half.ensures.len);
       same = sides-step (path_sides c.loop-count.count c.loop-count.index) (path_sides _ _) c.push-else-index-half.new.self.items Left
-      c.loop-count.sides.items (path_sides c.args.count c.args.index)
-      (sides-right c.loop-count.count c.loop-count.index c.left_count-half.result c.loop-count-test.true c.left_count-half.ensures.value c.if-index-half.false)
-      c.push-else-index-half.ensures.items c.loop-count.invariant.same;
+          c.loop-count.sides.items (path_sides c.args.count c.args.index)
+          (sides-right c.loop-count.count c.loop-count.index c.left_count-half.result c.loop-count-test.true c.left_count-half.ensures.value c.if-index-half.false)
+          c.push-else-index-half.ensures.items c.loop-count.invariant.same;
     }
 
 pub returns-clause-sides : goal.returns-clause-sides
