@@ -5,9 +5,8 @@ ghost use Rattle.tw_base.specs.AuditPath.{ChecksEvent, audit_texts, node_text_be
 ghost use Rattle.tw_base.specs.Clash.{OrClash};
 ghost use Rattle.tw_base.specs.EventTree.{event_root, event_texts};
 
-use crate::sides::sides_of;
 use arrayvec::ArrayVec;
-use tw_base::{Digest, Hasher, Labels, Side, event_leaf, event_node};
+use tw_base::{Digest, Hasher, Labels, Side, event_leaf, event_node, sides_of};
 
 /// The label of the event node over a label of the path, which stands on that side, and the label
 /// reached so far.

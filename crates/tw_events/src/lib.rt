@@ -2,15 +2,12 @@
 #![tactic(auto)]
 
 mod check;
-mod halves;
 mod path;
 mod root;
-mod sides;
 
 pub use check::check_event;
 pub use path::event_path;
 pub use root::event_root;
-pub use sides::path_length;
 
 #[cfg(test)]
 mod tests;

@@ -5,10 +5,9 @@ ghost use Rattle.tw_base.specs.AuditPath.{ChecksEvent};
 ghost use Rattle.tw_base.specs.EventTree.{audit_path, event_root};
 ghost use Rattle.tw_base.specs.Lists.{Each};
 
-use crate::halves::left_count;
 use crate::root::root_of;
 use std::alloc::Global;
-use tw_base::{Bytes, EventList, Hasher, Labels, NoMemory};
+use tw_base::{Bytes, EventList, Hasher, Labels, NoMemory, left_count};
 
 /// Appends the path of that index among these events, from the leaf upwards.
 fn add_path<H: Hasher>(events: &[Bytes], index: usize, path: &mut Labels) -> Result<(), NoMemory>

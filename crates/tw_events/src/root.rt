@@ -4,8 +4,7 @@ ghost use Rattle.std.specs.Prelude.{◌≡◌, ◌≤◌, length};
 ghost use Rattle.tw_base.specs.EventTree.{event_root as event_root_of};
 ghost use Rattle.tw_base.specs.Lists.{Each};
 
-use crate::halves::left_count;
-use tw_base::{Bytes, Digest, EventList, Hasher, event_leaf, event_node, no_events};
+use tw_base::{Bytes, Digest, EventList, Hasher, event_leaf, event_node, left_count, no_events};
 
 /// The root of the tree over these events, at most ten halvings deep.
 #[tactic(auto, using(crate::proofs::Steps::few_events))]

@@ -6,7 +6,9 @@ ghost use Rattle.tw_base.specs.Lists.{Each};
 use super::*;
 use std::alloc::Global;
 use std::test::Fail;
-use tw_base::{Bytes, Digest, EventList, Hasher, Labels, NoMemory, Sha, event_leaf, event_node};
+use tw_base::{
+    Bytes, Digest, EventList, Hasher, Labels, NoMemory, Sha, event_leaf, event_node, path_length,
+};
 
 /// The root of no events, the SHA-256 of nothing.
 const NO_EVENTS: Digest = Digest([

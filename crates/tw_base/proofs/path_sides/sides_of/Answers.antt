@@ -3,8 +3,8 @@ use Rattle.std.proofs.lemmas.List.{append-nil}
 use Rattle.tw_base.specs.AuditPath.{path_length, path_sides}
 use Rattle.tw_base.specs.declared.side.Side.TheVariants.{Left, Right}
 use Rattle.tw_base.proofs.AuditPaths.{path_length-le, path_sides-few}
-use Rattle.tw_events.proofs.Steps.{length-reversed, room-left, room-right, sides-left, sides-right, sides-step}
-use Rattle.tw_events.proofs.sides.sides_of.Goals as goal
+use Rattle.tw_base.proofs.SideSteps.{length-reversed, room-left, room-right, sides-left, sides-right, sides-step}
+use Rattle.tw_base.proofs.path_sides.sides_of.Goals as goal
 
 pub loop-count-init : goal.loop-count-init
 loop-count-init c =

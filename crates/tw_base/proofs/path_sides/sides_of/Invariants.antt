@@ -1,6 +1,6 @@
 use Rattle.std.proofs.Common.{◌≡◌, ◌+◌, ◌<◌, ◌≤◌, ◌++◌, length, reverse}
 use Rattle.tw_base.specs.AuditPath.{path_length, path_sides}
-use Rattle.tw_events.proofs.sides.sides_of.Given as goal
+use Rattle.tw_base.proofs.path_sides.sides_of.Given as goal
 
 abbrev pub invariant-loop-count : goal.invariant-loop-count
 invariant-loop-count l = record {

@@ -5,12 +5,12 @@ ghost use Rattle.arrayvec.specs.ArrayVec.{array_vec_len};
 ghost use Rattle.tw_base.specs.AuditPath.{path_length as length_of_path, path_sides};
 
 use crate::halves::left_count;
+use crate::side::Side;
 use arrayvec::ArrayVec;
-use tw_base::Side;
 
 /// On which side each label of the path of that index among so many events stands, from the root
 /// downwards, so that the lowest is popped first.
-pub(crate) fn sides_of(count: usize, index: usize) -> ArrayVec<Side, 10>
+pub fn sides_of(count: usize, index: usize) -> ArrayVec<Side, 10>
     requires inside { index < count }
     requires few { count ≤ 1024 }
     ensures sides { reverse result.items ≡ path_sides count index }

@@ -13,7 +13,7 @@ fn power_of_two(exponent: u32) -> usize
 
 /// How many of 2 to 1,024 events are in the left half: the largest power of two smaller than their
 /// number.
-pub(crate) fn left_count(count: usize) -> usize
+pub fn left_count(count: usize) -> usize
     requires more { 1 < count }
     requires few { count ≤ 1024 }
     ensures value { result ≡ largest_power_below count }
