@@ -11,6 +11,8 @@ use Rattle.tw_base.proofs.FormatLaws.{read_at-then, read_at-done}
 use Rattle.tw_base.specs.Levels.{top_level}
 use Rattle.tw_skipproof.specs.declared.opening.Opening.{Opening}
 use Rattle.tw_skipproof.specs.declared.path.Link.{Link}
+use Rattle.tw_skipproof.specs.declared.existence.EventPart.{EventPart}
+use Rattle.tw_skipproof.specs.declared.existence.ExistenceProof.{ExistenceProof}
 use Rattle.tw_skipproof.specs.declared.path.Path.{Path}
 use Rattle.tw_skipproof.specs.Paths.{greedy_steps, hop, hop_level, steps_within}
 use Rattle.tw_skipproof.specs.Layouts.{link_layout, links_layout, opening_from, path_layout}
@@ -157,3 +159,17 @@ opening_given least step at after whole r e given =
     let P : ℕ → Type 0 = λ n. GivesIfMemory {X = Opening} {Y = Opening} (λ o. o) r n (opening_at least step whole at) in
     let Q : Result (Placed Opening) ℕ → Type 0 = λ reading. GivesIfMemory {X = Opening} {Y = Opening} (λ o. o) r after reading in
     subst Q (sym (opening_at-is least step whole at)) (subst P (sym e) given)
+
+pub event_given : (count at : ℕ) (whole : List ℕ) (r : Result (EventPart × ℕ) ReadFault)
+    → GivesWithEnd {X = EventPart} {Y = EventPart} (λ e. e) r (event_at count whole at)
+    → GivesWithEnd {X = EventPart} {Y = EventPart} (λ e. e) r (read_at (event_layout count) whole at)
+event_given count at whole r given =
+    let P : Result (Placed EventPart) ℕ → Type 0 = λ reading. GivesWithEnd {X = EventPart} {Y = EventPart} (λ e. e) r reading in
+    subst P (sym (event_at-is count whole at)) given
+
+pub existence_given : (whole : List ℕ) (r : Result (ExistenceProof × ℕ) ReadFault)
+    → GivesWithEnd {X = ExistenceProof} {Y = ExistenceProof} (λ p. p) r (existence_at whole 0)
+    → GivesWithEnd {X = ExistenceProof} {Y = ExistenceProof} (λ p. p) r (read_at existence_layout whole 0)
+existence_given whole r given =
+    let P : Result (Placed ExistenceProof) ℕ → Type 0 = λ reading. GivesWithEnd {X = ExistenceProof} {Y = ExistenceProof} (λ p. p) r reading in
+    subst P (sym (existence_at-is whole 0)) given

@@ -1,5 +1,5 @@
 -- Proofs that one event exists: their bytes and the texts that checking them hashes.
-use Rattle.std.specs.Prelude.{ℕ, ◌-◌, ◌^◌, List, [], ◌∷◌, ◌++◌}
+use Rattle.std.specs.Prelude.{ℕ, ◌-◌, ◌<◌, ◌≤◌, ◌^◌, List, [], ◌∷◌, length}
 use Rattle.tw_base.specs.Formats.{Format, then_by}
 use Rattle.tw_base.specs.Formats.Format.{Done}
 use Rattle.tw_base.specs.Fields.{bytes, name, number, text}
@@ -40,3 +40,11 @@ existence_layout =
       at = record { service = service; step = step; top = top; path = record { links = links }; opening = opening };
       event = event;
     }))))))))
+
+-- the ranges that the layout gives the numbers and the event
+pub record IsWithinLimits (p : ExistenceProof) : Type 0 where
+  pub step : p.at.step < 2 ^ 40
+  pub top : p.at.top < 2 ^ 40
+  pub count : p.at.opening.count ≤ 1024
+  pub index : p.event.index < p.at.opening.count
+  pub event : length p.event.event ≤ 1024

@@ -3,6 +3,7 @@
 
 mod climbing;
 mod existence;
+mod existence_reading;
 mod hop;
 mod opening;
 mod path;

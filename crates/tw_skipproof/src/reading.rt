@@ -4,7 +4,7 @@ ghost use Rattle.std.specs.Prelude.{◌≡◌, ℕ, ◌+◌, ◌*◌, ◌^◌, �
 ghost use Rattle.tw_base.specs.Formats.{GivesIfMemory, GivesWithEnd, ReadsAs, read_at};
 ghost use Rattle.tw_base.specs.Levels.{top_level as top_level_of};
 ghost use Rattle.tw_skipproof.specs.declared.path.Path.{Path};
-ghost use Rattle.tw_skipproof.specs.Layouts.{links_layout, opening_layout, path_layout};
+ghost use Rattle.tw_skipproof.specs.Layouts.{links_layout, opening_from, opening_layout, path_layout};
 ghost use Rattle.tw_skipproof.specs.Paths.{greedy_steps, hop};
 ghost use Rattle.tw_skipproof.specs.Reading.{behind, link_at as link_at_of, opening_at as opening_at_of};
 
@@ -12,11 +12,13 @@ use crate::hop::{level_of_hop, power};
 use crate::opening::Opening;
 use crate::path::{Link, LinkList, Path};
 use std::alloc::Global;
-use tw_base::{ReadFault, malformed, read_digest, read_labels, read_number, top_level, whole, whole_to};
+use tw_base::{
+    ReadFault, malformed, read_digest, read_labels, read_number, top_level, whole, whole_to,
+};
 
-/// The opening of the step at a place, with a count of events of at least `least`.
+/// The fields of the opening of the step at a place, one after another.
 #[tactic(auto, unfolding(crate::specs::Reading::opening_at))]
-pub(crate) fn opening_at(
+fn opening_fields(
     alloc: Global,
     bytes: &[u8],
     at: u64,
@@ -28,6 +30,7 @@ pub(crate) fn opening_at(
     requires step { step < 2 ^ 40 }
     ensures read { GivesIfMemory (λ o. o) result (at + 100 + 32 * top_level_of step) (opening_at_of least step bytes.now at) }
     ensures within { IfOk result (λ _. at + 100 + 32 * top_level_of step ≤ length bytes.now) }
+    ensures count { IfOk result (λ o. (least ≤ o.count) × (o.count ≤ 1024)) }
 {
     let event_root = malformed(read_digest(bytes, at))?;
     let archive_root = malformed(read_digest(bytes, at + 32))?;
@@ -41,6 +44,24 @@ pub(crate) fn opening_at(
         prev,
         others,
     })
+}
+
+/// The opening of the step at a place, with a count of events of at least `least`.
+pub(crate) fn opening_at(
+    alloc: Global,
+    bytes: &[u8],
+    at: u64,
+    least: u64,
+    step: u64,
+) -> Result<Opening, ReadFault>
+    requires within { at ≤ length bytes.now }
+    requires least { least ≤ 1024 }
+    requires step { step < 2 ^ 40 }
+    ensures read { GivesIfMemory (λ o. o) result (at + 100 + 32 * top_level_of step) (read_at (opening_from least step) bytes.now at) }
+    ensures within { IfOk result (λ _. at + 100 + 32 * top_level_of step ≤ length bytes.now) }
+    ensures count { IfOk result (λ o. (least ≤ o.count) × (o.count ≤ 1024)) }
+{
+    opening_fields(alloc, bytes, at, least, step)
 }
 
 /// The record of the link that leaves the step, at a place.
