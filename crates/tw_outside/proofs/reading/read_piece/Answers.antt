@@ -1,7 +1,7 @@
-use Rattle.std.proofs.Common.{◌∙◌, ◌≡◌, ◌≤◌, ◌<◌, ◌++◌, ℕ, length, take, drop, subst, arith}
+use Rattle.std.proofs.Common.{nat_lt, false, ◌∙◌, ◌≡◌, ◌≤◌, ◌<◌, ◌++◌, ℕ, length, take, drop, subst, arith}
 use Rattle.std.proofs.lemmas.Grind.{common_steps}
 use Rattle.std.proofs.lemmas.List.{take-append-le}
-use Rattle.tw_outside.proofs.Fronts.{front_grows, front_at_end, front_at_limit}
+use Rattle.tw_outside.proofs.Fronts.{front_grows, front_at_end, front_at_limit, full_of_not-less}
 use Rattle.tw_outside.proofs.reading.read_piece.Goals as goal
 
 pub returns-then-came-gt0-clause-front : goal.returns-then-came-gt0-clause-front
@@ -16,7 +16,10 @@ returns-then-came-gt0-clause-front g c front bytes told =
 
 pub returns-then-came-gt0-clause-end : goal.returns-then-came-gt0-clause-end
 returns-then-came-gt0-clause-end g c is front bytes told =
-    let full : length c.extend_from_slice.new.self.items ≡ c.args.limit = grind (arith, common_steps) in
+    let stopped : nat_lt c.len.result c.args.limit ≡ false = cc in
+    let within : c.len.result ≤ c.args.limit = grind (arith, common_steps) in
+    let size : length c.extend_from_slice.new.self.items ≡ c.len.result = grind (arith, common_steps, c.len.ensures) in
+    let full : length c.extend_from_slice.new.self.items ≡ c.args.limit = size ∙ full_of_not-less _ _ within stopped in
     front_at_limit bytes _ c.args.limit (returns-then-came-gt0-clause-front g c front bytes told) full
 
 pub returns-else-came-gt0-clause-end : goal.returns-else-came-gt0-clause-end
