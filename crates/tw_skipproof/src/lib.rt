@@ -11,6 +11,7 @@ mod reading;
 
 pub use climbing::climb;
 pub use existence::{EventPart, ExistenceProof, Part};
+pub use existence_reading::read_existence;
 pub use hop::next_hop;
 pub use opening::{Opening, check_opening};
 pub use path::{Link, LinkList, Path};
