@@ -67,7 +67,10 @@ fn shows_event<H: Hasher>(proof: &ExistenceProof) -> bool
 /// The lowest reason that stands against the proof, or none where it is accepted under the anchors.
 /// Where it is accepted, in every family of sound histories that has the held threads the claim
 /// holds, or two texts clash.
-pub(crate) fn reason_against<H: Hasher>(proof: &ExistenceProof, anchors: &[Thread]) -> Option<Reason>
+pub(crate) fn reason_against<H: Hasher>(
+    proof: &ExistenceProof,
+    anchors: &[Thread],
+) -> Option<Reason>
     requires { IsWithinLimits proof.now }
     ensures answer { MatchOption result (IsAccepted H.dig anchors.now proof.now) (IsLowestAgainst H.dig anchors.now proof.now) }
     ensures binds { IsNone result → (family : List History) → AllSound family → HasThreads H.dig family (held anchors.now proof.now) →

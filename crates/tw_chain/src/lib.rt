@@ -5,4 +5,4 @@ mod existing;
 mod kinds;
 mod verdict;
 
-pub use verdict::Verdict;
+pub use verdict::{Verdict, verify};
