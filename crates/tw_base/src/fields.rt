@@ -214,3 +214,6 @@ fn check_text(rest: &[u8], at: u64, text: &[u8]) -> Result<(), u64>
     }
     Ok(())
 }
+
+#[cfg(test)]
+mod tests;
