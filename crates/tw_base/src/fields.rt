@@ -3,11 +3,10 @@
 // bytes that end too early. Numbers are big-endian. Only those that are given an allocator take memory.
 
 ghost use Rattle.std.specs.Prelude.{◌≡◌, ℕ, ◌+◌, ◌*◌, ◌^◌, ◌<◌, ◌≤◌, length, take, drop, ◌&&◌, ◌||◌, ◌==◌, IfOk};
-ghost use Rattle.tw_base.specs.Fields.{bytes as any_bytes, digest, high_after, low_after, name, number, repeated, text as fixed_text};
+ghost use Rattle.tw_base.specs.Fields.{digest, high_after, low_after, name, number, repeated, text as fixed_text};
 ghost use Rattle.tw_base.specs.Formats.{Gives, GivesFront, GivesIfMemory, front, read_at};
 ghost use Rattle.tw_base.specs.Names.{is_name_byte as is_name_byte_of};
 
-use crate::bytes::Bytes;
 use crate::digest::Digest;
 use crate::failure::ReadFault;
 use crate::label_list::Labels;
@@ -60,31 +59,6 @@ pub fn read_text(bytes: &[u8], at: u64, text: &[u8]) -> Result<(), u64>
     ensures within { IfOk result (λ _. at + length text.now ≤ length bytes.now) }
 {
     check_text(&bytes[at as usize..], at, text)
-}
-
-/// The bytes at a place, so many of them.
-pub fn read_slice(bytes: &[u8], at: u64, count: u64) -> Result<&[u8], u64>
-    requires { at ≤ length bytes.now }
-    ensures read { Gives (λ slice. slice.now) result (at + count) (read_at (any_bytes count) bytes.now at) }
-    ensures within { IfOk result (λ _. at + count ≤ length bytes.now) }
-{
-    if bytes.len() as u64 - at < count {
-        return Err(bytes.len() as u64);
-    }
-    Ok(&bytes[at as usize..(at + count) as usize])
-}
-
-/// The same on the heap.
-pub fn read_bytes(alloc: Global, bytes: &[u8], at: u64, count: u64) -> Result<Bytes, ReadFault>
-    requires { at ≤ length bytes.now }
-    ensures read { GivesIfMemory (λ read. read) result (at + count) (read_at (any_bytes count) bytes.now at) }
-    ensures within { IfOk result (λ _. at + count ≤ length bytes.now) }
-{
-    let slice = read_slice(bytes, at, count).map_err(ReadFault::malformed)?;
-    match Vec::from_slice(alloc, slice) {
-        Ok(items) => Ok(Bytes::from_vec(items)),
-        Err(_) => Err(ReadFault::NoMemory),
-    }
 }
 
 /// The digests at a place, so many of them; room for them is taken once, where there are enough

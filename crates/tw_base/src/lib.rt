@@ -17,9 +17,7 @@ pub use bytes::Bytes;
 pub use digest::Digest;
 pub use ending::{whole, whole_to};
 pub use failure::{Failed, NoMemory, ReadFault};
-pub use fields::{
-    read_bytes, read_digest, read_labels, read_name, read_number, read_slice, read_text,
-};
+pub use fields::{read_digest, read_labels, read_name, read_number, read_text};
 pub use hasher::{Hasher, Sha, Weak};
 pub use label_list::Labels;
 pub use labels::{

@@ -3,9 +3,7 @@
 use crate::digest::Digest;
 use crate::ending::whole_to;
 use crate::failure::ReadFault;
-use crate::fields::{
-    read_bytes, read_digest, read_labels, read_name, read_number, read_slice, read_text,
-};
+use crate::fields::{read_digest, read_labels, read_name, read_number, read_text};
 use crate::name::Name;
 use std::test::Fail;
 
@@ -72,14 +70,6 @@ fn digests_and_texts(rt: HostRuntime) {
     assert_eq!(rt; read_text(b"TWP1", 0, b"TWP1"), Ok(()));
     assert_eq!(rt; read_text(b"TWQ1", 0, b"TWP1"), Err(2));
     assert_eq!(rt; read_text(b"TW", 0, b"TWP1"), Err(2));
-}
-
-#[test]
-fn bytes_within_a_file(rt: HostRuntime) -> Result<(), Fail> {
-    let part = read_bytes(rt.alloc(), b"abcd", 1, 2)?;
-    assert_eq!(rt; part.as_slice(), b"bc".as_slice());
-    assert_eq!(rt; read_slice(b"abcd", 1, 4).err(), Some(4));
-    Ok(())
 }
 
 #[test]
