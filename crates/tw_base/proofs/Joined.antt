@@ -1,5 +1,6 @@
 -- Joined lists of parts.
-use Rattle.std.proofs.Common.{◌≡◌, ℕ, ◌+◌, ◌<◌, List, [], ◌∷◌, ◌++◌, length, get_or, take, ap, sym, ◌∙◌, append_assoc, subst}
+use Rattle.std.proofs.Common.{◌≡◌, ℕ, ◌+◌, ◌<◌, List, [], ◌∷◌, ◌++◌, length, get_or, take, ap, sym, ◌∙◌, append_assoc, subst, Bool, true, false}
+use Rattle.std.specs.Prelude.{if◌then◌else◌}
 use Rattle.std.proofs.lemmas.List.{append-nil, take_more}
 use Rattle.tw_base.specs.Texts.{joined}
 use Rattle.tw_base.specs.Digests.{AllDigests}
@@ -19,3 +20,7 @@ pub AllDigests-more : (ds : List (List ℕ)) (i : ℕ) (d : List ℕ) → i < le
 AllDigests-more ds i d h p n = subst AllDigests (sym (take_more ds i d h)) (AllDigests-push (take i ds) (get_or ds i d) p n)
 
 pub ruleset more = (joined-more, AllDigests-more)
+
+pub AllDigests-pushed : (pushed : Bool) (parts : List (List ℕ)) (part : List ℕ) → AllDigests parts → length part ≡ 32 → AllDigests (if pushed then parts ++ part ∷ [] else parts)
+AllDigests-pushed true parts part p n = AllDigests-push parts part p n
+AllDigests-pushed false parts part p n = p

@@ -3,5 +3,17 @@ pub mod Texts
 pub mod Weak
 pub mod Digests
 pub mod Entries
+pub mod Clash
+pub mod Lists
+pub mod EventTree
+pub mod AuditPath
+pub mod History
+pub mod Tree
+pub mod Sound
+pub mod Levels
+pub mod Auth
+pub mod HistoryTexts
+pub mod Family
 pub mod Formats
 pub mod Fields
+pub mod Anchors

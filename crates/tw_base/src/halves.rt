@@ -1,0 +1,24 @@
+// How a list of events is split.
+
+ghost use Rattle.std.specs.Prelude.{◌≡◌, ◌^◌, ◌<◌, ◌≤◌};
+ghost use Rattle.tw_base.specs.EventTree.{largest_power_below};
+
+/// The power of two of that exponent.
+fn power_of_two(exponent: u32) -> usize
+    requires { exponent < 64 }
+    ensures { result ≡ 2 ^ exponent }
+{
+    1 << exponent
+}
+
+/// How many of 2 to 1,024 events are in the left half: the largest power of two smaller than their
+/// number.
+pub fn left_count(count: usize) -> usize
+    requires more { 1 < count }
+    requires few { count ≤ 1024 }
+    ensures value { result ≡ largest_power_below count }
+    ensures less { result < count }
+    ensures some { 0 < result }
+{
+    power_of_two((count - 1).ilog2())
+}

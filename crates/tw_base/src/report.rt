@@ -1,0 +1,52 @@
+// What a verifier answers: the claim of an accepted proof, or the reason against it.
+
+use crate::bytes::Bytes;
+use crate::name::Name;
+use crate::thread::Place;
+
+/// An event that a proof shows at its place; no event has a time yet.
+#[derive(Drop, Debug)]
+pub struct Seen {
+    pub place: Place,
+    pub event: Bytes,
+    pub time: Option<u64>,
+}
+
+/// What an accepted proof claims.
+#[derive(Drop, Debug)]
+pub enum Claim {
+    /// The event stands at its place in the history of its service.
+    Exists(Seen),
+}
+
+/// What is reported of an accepted proof.
+#[derive(Drop, Debug)]
+pub struct Report {
+    pub claim: Claim,
+}
+
+/// Why a proof isn't accepted. Of several reasons that stand the one with the lowest number is
+/// answered, and of its parts or places the lowest. Part 0 is the head of a proof, or the whole of
+/// a proof without hops.
+#[derive(Clone, Copy, PartialEq, Eq, Debug, Drop)]
+pub enum Reason {
+    /// 1: the bytes are no proof. The place is that of the first byte, counted from 0, at which no
+    /// proof goes on, and the number of bytes where they end too early.
+    Malformed { place: u64 },
+    /// 2: a step above the top that it is proved under.
+    BadOrder,
+    /// 3: no anchor of this service and step is held.
+    NotHeld { service: Name, step: u64 },
+    /// 4: a path doesn't climb from its bottom to its known upper end.
+    BadPath { part: u8 },
+    /// 5: an opening computes another authenticator than the proof holds for it.
+    BadOpening { part: u8 },
+    /// 6: an event doesn't compute the event root of its opening.
+    BadEvent { part: u8 },
+    /// 7: a tree proof doesn't give the answer that is claimed.
+    BadTree { part: u8 },
+    /// 8: so many threads are carried, and none may be.
+    Carried { count: u8 },
+    /// 9: a kind of proof that isn't verified yet.
+    Unbuilt,
+}

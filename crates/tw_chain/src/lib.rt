@@ -1,0 +1,8 @@
+// Proofs and their verdicts.
+#![tactic(auto)]
+
+mod existing;
+mod kinds;
+mod verdict;
+
+pub use verdict::Verdict;

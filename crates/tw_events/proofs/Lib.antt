@@ -1,0 +1,4 @@
+pub mod Steps
+pub mod Upwards
+pub mod Binding
+pub mod Completeness

@@ -1,0 +1,85 @@
+// Checking one event against a root.
+
+ghost use Rattle.std.specs.Prelude.{◌≡◌, ℕ, ◌≤◌, ◌↔◌, List, ◌++◌, length, reverse, IsTrue, Some, slice_get};
+ghost use Rattle.tw_base.specs.AuditPath.{ChecksEvent, audit_texts, node_text_beside, root_above};
+ghost use Rattle.tw_base.specs.Clash.{OrClash};
+ghost use Rattle.tw_base.specs.EventTree.{event_root, event_texts};
+
+use arrayvec::ArrayVec;
+use tw_base::{Digest, Hasher, Labels, Side, event_leaf, event_node, sides_of};
+
+/// The label of the event node over a label of the path, which stands on that side, and the label
+/// reached so far.
+fn node_above<H: Hasher>(side: Side, label: &Digest, reached: &Digest) -> Digest
+    ensures { result ≡ H.dig (node_text_beside side label.now reached.now) }
+{
+    match side {
+        Side::Left => event_node::<H>(label, reached),
+        Side::Right => event_node::<H>(reached, label),
+    }
+}
+
+/// The root that a leaf's label and the labels of a path lead to, whose sides are popped.
+fn root_over<H: Hasher>(sides: ArrayVec<Side, 10>, path: &[Digest], leaf: Digest) -> Digest
+    requires { length path.now ≤ length sides.items }
+    ensures { result ≡ root_above H.dig (reverse sides.items) path.now leaf }
+{
+    let mut sides = sides;
+    let mut reached = leaf;
+    for label in path {
+        let Some(side) = sides.pop() else {
+            unreachable!();
+        };
+        let above = node_above::<H>(side, label, &reached);
+        reached = above;
+    }
+    reached
+}
+
+/// Whether the digests are one.
+fn is_same(a: &Digest, b: &Digest) -> bool
+    ensures { IsTrue result ↔ (a.now ≡ b.now) }
+{
+    *a == *b
+}
+
+/// Whether the path leads from the event to the root.
+fn is_shown<H: Hasher>(root: &Digest, count: u32, index: u32, event: &[u8], path: &[Digest]) -> bool
+    requires few { count ≤ 1024 }
+    requires small { length event.now ≤ 1024 }
+    ensures { IsTrue result ↔ ChecksEvent H.dig root.now count index event.now path.now }
+{
+    if index >= count {
+        return false;
+    }
+    let sides = sides_of(count as usize, index as usize);
+    if path.len() != sides.len() {
+        return false;
+    }
+    let leaf = event_leaf::<H>(event);
+    let reached = root_over::<H>(sides, path, leaf);
+    is_same(&reached, root)
+}
+
+/// Whether the path shows that the event, of at most 1,024 bytes, stands at that index of the
+/// `count` events, at most 1,024, with that root: the index is below the count, and the path has
+/// the length of that count and index and leads from the event's leaf to the root (RFC 6962,
+/// section 2.1.1). Takes no memory.
+///
+/// Where it does, each list of so many events with that root has this event at this index, or two
+/// different texts among those of its tree and those hashed here have one digest.
+pub fn check_event<H: Hasher>(
+    root: &Digest,
+    count: u32,
+    index: u32,
+    event: &[u8],
+    path: &Labels,
+) -> bool
+    requires few { count ≤ 1024 }
+    requires small { length event.now ≤ 1024 }
+    ensures answer { IsTrue result ↔ ChecksEvent H.dig root.now count index event.now path.now }
+    ensures binds { IsTrue result → (events : List (List ℕ)) → length events ≡ count → event_root H.dig events ≡ root.now →
+        OrClash H.dig (event_texts H.dig events ++ audit_texts H.dig count index event.now path.now) (slice_get events index ≡ Some event.now) }
+{
+    is_shown::<H>(root, count, index, event, path.as_slice())
+}

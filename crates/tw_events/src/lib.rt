@@ -1,0 +1,13 @@
+// The Merkle tree of a step's events: roots, audit paths and their checks.
+#![tactic(auto)]
+
+mod check;
+mod path;
+mod root;
+
+pub use check::check_event;
+pub use path::event_path;
+pub use root::event_root;
+
+#[cfg(test)]
+mod tests;

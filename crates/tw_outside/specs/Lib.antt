@@ -1,0 +1,5 @@
+pub mod Faults
+pub mod Files
+pub mod Taken
+pub mod Calls
+pub mod Memory

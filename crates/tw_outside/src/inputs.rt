@@ -1,0 +1,30 @@
+// Inputs that are read by their names.
+ghost use Rattle.std.specs.Prelude.{◌≡◌, ◌≤◌, ◌↔◌, ℕ, List, Option, length, IfOk, OnOk};
+ghost use Rattle.tw_outside.specs.Faults.{HasCause};
+ghost use Rattle.tw_outside.specs.Files.{Files, Tells, IsThere, Came};
+
+use tw_base::Failed;
+
+/// Inputs that are read by their names: files, as a rule.
+pub trait Inputs {
+    /// The bytes of each file by its name, where the inputs tell what they hold.
+    ghost told: { Self → Option Files };
+
+    /// How often a call has failed.
+    ghost faults: { Self → ℕ };
+
+    /// The names that may be asked for.
+    ghost may_ask: { Self → List ℕ → Type 0 };
+
+    /// Reads bytes of the named file, from the place `at` on, into the front of a piece, and answers how many came.
+    /// None come at the end of the file. `Failed` comes where the file isn't there or can't be read.
+    fn read(&mut self, name: &str, at: u64, into: &mut [u8]) -> Result<usize, Failed>
+        requires { may_ask self.old name.now }
+        ensures kept { told self.new ≡ told self.old }
+        ensures same_names { (other : List ℕ) → may_ask self.new other ↔ may_ask self.old other }
+        ensures cause { HasCause (faults self.old) (faults self.new) result }
+
+        ensures there { OnOk result (IsThere (told self.old) name.now) }
+        ensures within { IfOk result (λ n. n ≤ length into.old) }
+        ensures came { IfOk result (λ n. (bytes : List ℕ) → Tells (told self.old) name.now bytes → Came bytes at into.new n) };
+}

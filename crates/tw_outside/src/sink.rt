@@ -1,0 +1,24 @@
+// A sink that takes what is written.
+ghost use Rattle.std.specs.Prelude.{◌≤◌, ◌<◌, ℕ, List, Option, length, take, IfOk, OnErr};
+ghost use Rattle.tw_outside.specs.Faults.{HasCause};
+ghost use Rattle.tw_outside.specs.Taken.{Appends, IsUnchanged};
+
+use tw_base::Failed;
+
+/// A sink that takes what is written, as an output does.
+pub trait Sink {
+    /// The bytes taken so far, where the sink tells them.
+    ghost taken: { Self → Option (List ℕ) };
+
+    /// How often a call has failed.
+    ghost faults: { Self → ℕ };
+
+    /// Takes the first bytes of a piece, and answers how many: at least one, unless the piece is empty.
+    /// A call that fails has taken nothing.
+    fn write(&mut self, piece: &[u8]) -> Result<usize, Failed>
+        ensures within { IfOk result (λ n. n ≤ length piece.now) }
+        ensures some { IfOk result (λ n. 0 < length piece.now → 0 < n) }
+        ensures appends { IfOk result (λ n. Appends (taken self.old) (taken self.new) (take n piece.now)) }
+        ensures unchanged { OnErr result (IsUnchanged (taken self.old) (taken self.new)) }
+        ensures cause { HasCause (faults self.old) (faults self.new) result };
+}

@@ -1,0 +1,6 @@
+pub mod Hops
+pub mod OpeningBinding
+pub mod PathBinding
+pub mod Greedy
+pub mod LayoutLaws
+pub mod ReadingLaws

@@ -1,0 +1,96 @@
+-- From a step's authenticator to what it was made of.
+use Rattle.std.proofs.Common.{◌≡◌, ℕ, suc, zero, ◌-◌, ◌<◌, ◌≤◌, ◌^◌, List, [], ◌∷◌, ◌++◌, length, get_or, refl, ap, sym, ◌∙◌, lit<, arith, inl, inr}
+use Rattle.std.specs.Prelude.{Option, Some, None, MatchOption, IfSome, map}
+use Rattle.tw_base.specs.History.{History, Step, step_at, events_of, events_at}
+use Rattle.tw_base.specs.Tree.{tree}
+use Rattle.tw_base.specs.EventTree.{event_root}
+use Rattle.tw_base.specs.Levels.{top_level}
+use Rattle.tw_base.specs.Auth.{auth, auths, auth_text, datum_text_at, link_texts_at, tree_label}
+use Rattle.tw_base.specs.HistoryTexts.{history_texts}
+use Rattle.tw_base.specs.Sound.{IsSound}
+use Rattle.tw_base.specs.Clash.{Among, OrClash}
+use Rattle.tw_base.proofs.Clashes.{and_then, same_text, Among-left, Among-right}
+use Rattle.tw_base.proofs.TextFields.{authenticator-fields, link-fields, datum-fields, SameDatum}
+use Rattle.tw_base.proofs.EventTrees.{length-event_root}
+use Rattle.tw_base.proofs.Sizes.{AllDigests-map, tree_label-size}
+use Rattle.tw_base.proofs.Auths.{auth-suc, auths-at, has-auth_text, has-datum_text, has-link_text, label-at, link_texts-has, text_at}
+use Rattle.tw_skipproof.specs.declared.opening.Opening.{Opening}
+use Rattle.tw_skipproof.specs.Openings.{Binds, HasSizes, IsOpeningAt, opening_auth, opening_auth_text, opening_datum_text, opening_link_text, opening_texts}
+
+few_events : (h : History) (i : ℕ) → IsSound h → i < length h.steps → length (events_at h (suc i)) < 2 ^ 32
+few_events h i sound within = cases (step_at h (suc i)) refl
+  where
+    cases : (r : Option Step) → step_at h (suc i) ≡ r → length (events_of r) < 2 ^ 32
+    cases None e = lit< tt
+    cases (Some s) e = let few = (sound.steps i s e).event_count in omega arith
+
+module _ (dig : List ℕ → List ℕ) (size : (text : List ℕ) → length (dig text) ≡ 32) where
+  -- the text of the link to the step before, at level 0, and its label
+  abbrev first_text : History → ℕ → List ℕ
+  first_text h i = text_at dig (dig (datum_text_at dig h (suc i))) (auths dig h i) (suc i) 0
+
+  first_label : (h : History) (i : ℕ) (x : List ℕ) (xs : List (List ℕ)) → map dig (link_texts_at dig h (auths dig h i) (suc i)) ≡ x ∷ xs → dig (first_text h i) ≡ x
+  first_label h i x xs e =
+      sym (label-at dig _ _ (suc i) 0 (suc (top_level (suc i))) (omega arith)) ∙ ap (λ ls. get_or ls 0 []) e
+
+  first_among : (h : History) (i : ℕ) → Among (first_text h i) (link_texts_at dig h (auths dig h i) (suc i))
+  first_among h i = link_texts-has dig _ _ (suc i) 0 (suc (top_level (suc i))) (omega arith)
+
+  before_is : (h : History) (i : ℕ) (b : List ℕ) → get_or (auths dig h i) (suc i - 1) [] ≡ b → auth dig h (suc i - 1) ≡ b
+  before_is h i b e = sym (auths-at dig h i (suc i - 1) (omega arith)) ∙ e
+
+  same_fields : (h : History) (i : ℕ) (o : Opening) → HasSizes o → length (events_at h (suc i)) < 2 ^ 32 → datum_text_at dig h (suc i) ≡ opening_datum_text dig (suc i) o
+      → SameDatum (event_root dig (events_at h (suc i))) (tree_label dig (tree h (suc i))) (length (events_at h (suc i))) o.event_root o.archive_root o.count
+  unfolding datum_text_at
+  same_fields h i o sizes few e = datum-fields _ _ _ _ _ _ (length-event_root dig size _ ∙ sym sizes.event_root) (tree_label-size dig size _ ∙ sym sizes.archive_root) few sizes.count e
+
+  pub opening-binds : (h : History) (i : ℕ) (o : Opening) → HasSizes o → i < length h.steps → length (events_at h (suc i)) < 2 ^ 32
+      → opening_auth dig (suc i) o ≡ auth dig h (suc i)
+      → OrClash dig (history_texts dig h ++ opening_texts dig (suc i) o) (Binds dig h (suc i) o)
+  unfolding opening_auth opening_texts
+  opening-binds h i o sizes within few e =
+      let texts : List (List ℕ) = history_texts dig h ++ opening_texts dig (suc i) o in
+      let labels : List (List ℕ) = map dig (link_texts_at dig h (auths dig h i) (suc i)) in
+      and_then dig texts _ _
+      (same_text dig texts (auth_text dig h (auths dig h i) (suc i)) (opening_auth_text dig (suc i) o)
+      (Among-left _ (history_texts dig h) _ (has-auth_text dig h i within))
+      (Among-right _ (history_texts dig h) _ (inr (inr (inl refl))))
+      (sym (auth-suc dig h i) ∙ sym e))
+      (λ same_auth.
+      let same_labels = authenticator-fields (suc i) labels (dig (opening_link_text dig (suc i) o) ∷ o.others)
+      (AllDigests-map dig size _) (size _, sizes.others) same_auth in
+      let first : dig (first_text h i) ≡ dig (opening_link_text dig (suc i) o) = first_label h i _ _ same_labels in
+      and_then dig texts _ _
+      (same_text dig texts (first_text h i) (opening_link_text dig (suc i) o)
+      (Among-left _ (history_texts dig h) _ (has-link_text dig h _ i within (first_among h i)))
+      (Among-right _ (history_texts dig h) _ (inr (inl refl)))
+      first)
+      (λ same_link.
+      let link = link-fields (suc i) 0 _ _ _ _ (size _ ∙ sym (size _)) same_link in
+      and_then dig texts _ _
+      (same_text dig texts (datum_text_at dig h (suc i)) (opening_datum_text dig (suc i) o)
+      (Among-left _ (history_texts dig h) _ (has-datum_text dig h i within))
+      (Among-right _ (history_texts dig h) _ (inl refl))
+      link.0)
+      (λ same_datum.
+      let datum = same_fields h i o sizes few same_datum in
+      inl (record {
+        event_root = datum.event_root;
+        archive_root = datum.archive_root;
+        count = datum.count;
+        prev = before_is h i _ link.1;
+      }))))
+
+  -- the same at a step that has an opening, of a sound history
+  pub opening-binds_sound : (h : History) (step : ℕ) (o : Opening) → HasSizes o → IsOpeningAt step o → IsSound h → step ≤ length h.steps
+      → opening_auth dig step o ≡ auth dig h step
+      → OrClash dig (history_texts dig h ++ opening_texts dig step o) (Binds dig h step o)
+  opening-binds_sound h zero o sizes of sound within e = absurd (omega (arith, of.0))
+  opening-binds_sound h (suc i) o sizes of sound within e = opening-binds h i o sizes within (few_events h i sound within) e
+
+  pub binds_from : (step : ℕ) (o : Opening) (r : Option (List ℕ)) → MatchOption r (IsOpeningAt step o → ⊥) (λ d. IsOpeningAt step o × (d ≡ opening_auth dig step o))
+      → IfSome r (λ _. HasSizes o)
+      → IfSome r (λ d. (h : History) → IsSound h → step ≤ length h.steps → d ≡ auth dig h step →
+      OrClash dig (history_texts dig h ++ opening_texts dig step o) (Binds dig h step o))
+  binds_from step o None answer sizes = tt
+  binds_from step o (Some d) answer sizes = λ h sound within e. opening-binds_sound h step o sizes answer.0 sound within (sym answer.1 ∙ e)

@@ -1,0 +1,22 @@
+use Rattle.std.proofs.Common.{◌<◌, length, arith, sym, ◌∙◌}
+use Rattle.tw_base.specs.Levels.{top_level}
+use Rattle.tw_base.proofs.Levels.{top_level-below}
+use Rattle.tw_skipproof.proofs.Hops.{empty_path, longer_path}
+use Rattle.tw_skipproof.proofs.climbing.+climb_links.Goals as goal
+
+pub link_authenticator-requires-clause-count : goal.link_authenticator-requires-clause-count
+link_authenticator-requires-clause-count g t c =
+    let small : top_level c.args.from < 40 = top_level-below c.args.from c.requires in
+    let count : length c.in-Some.link.now.others < 40 = omega arith in
+    count
+
+pub returns-then-from-to-clause-answer : goal.returns-then-from-to-clause-answer
+returns-then-from-to-clause-answer g t c =
+    empty_path g.H.Hasher.dig c.args.links.now c.args.from c.args.to c.args.bottom.now c.in-None.ensures.cases c.if-from-to.true
+
+pub returns-in-Some-climb_links-clause-answer : goal.returns-in-Some-climb_links-clause-answer
+returns-in-Some-climb_links-clause-answer g t c =
+    longer_path g.H.Hasher.dig c.args.links.now c.in-Some.rest.now c.in-Some.link.now c.args.from c.args.to c.level_of_hop-level.result c.power.result
+    c.args.bottom.now c.in-Some-climb_links.below c.link_authenticator.result
+    c.in-Some.ensures.cases.0 c.if-from-to-2.false (sym c.len.ensures ∙ c.if-len-top_level.false ∙ c.top_level.ensures.value) c.level_of_hop-level.ensures.level c.power.ensures
+    c.in-Some-climb_links.ensures.answer.0 c.in-Some-climb_links.ensures.answer.1 c.link_authenticator.ensures.value

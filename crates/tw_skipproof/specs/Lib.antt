@@ -1,0 +1,5 @@
+pub mod Openings
+pub mod Paths
+pub mod Layouts
+pub mod Existence
+pub mod Reading

@@ -1,0 +1,47 @@
+-- What an opening of a step computes, and what it binds.
+use Rattle.std.specs.Prelude.{◌≡◌, ℕ, ◌-◌, ◌<◌, ◌^◌, List, [], ◌∷◌, length}
+use Rattle.tw_base.specs.Texts.{datum_text, link_text, authenticator_text}
+use Rattle.tw_base.specs.Digests.{AllDigests}
+use Rattle.tw_base.specs.EventTree.{event_root}
+use Rattle.tw_base.specs.History.{History, events_at}
+use Rattle.tw_base.specs.Tree.{tree}
+use Rattle.tw_base.specs.Levels.{top_level}
+use Rattle.tw_base.specs.Auth.{auth, tree_label}
+use Rattle.tw_skipproof.specs.declared.opening.Opening.{Opening}
+
+-- the step has an opening with so many labels: one for each level from 1 on
+abbrev pub IsOpeningAt : ℕ → Opening → Type 0
+IsOpeningAt step o = (0 < step) × (length o.others ≡ top_level step)
+
+-- the texts that the opening stands for, computed upwards
+module _ (dig : List ℕ → List ℕ) (step : ℕ) (o : Opening) where
+  abbrev pub opening_datum_text : List ℕ
+  opening_datum_text = datum_text o.event_root o.archive_root o.count
+
+  abbrev pub opening_link_text : List ℕ
+  opening_link_text = link_text step 0 (dig opening_datum_text) o.prev
+
+  abbrev pub opening_auth_text : List ℕ
+  opening_auth_text = authenticator_text step (dig opening_link_text ∷ o.others)
+
+  -- the authenticator of the step that the opening computes
+  unfoldable pub opening_auth : List ℕ
+  opening_auth = dig opening_auth_text
+
+  unfoldable pub opening_texts : List (List ℕ)
+  opening_texts = opening_datum_text ∷ opening_link_text ∷ opening_auth_text ∷ []
+
+-- the opening's fields are those of the history's step
+pub record Binds (dig : List ℕ → List ℕ) (h : History) (step : ℕ) (o : Opening) : Type 0 where
+  pub event_root : event_root dig (events_at h step) ≡ o.event_root
+  pub archive_root : tree_label dig (tree h step) ≡ o.archive_root
+  pub count : length (events_at h step) ≡ o.count
+  pub prev : auth dig h (step - 1) ≡ o.prev
+
+-- the widths that the fields of an opening have
+pub record HasSizes (o : Opening) : Type 0 where
+  pub event_root : length o.event_root ≡ 32
+  pub archive_root : length o.archive_root ≡ 32
+  pub count : o.count < 2 ^ 32
+  pub prev : length o.prev ≡ 32
+  pub others : AllDigests o.others

@@ -1,0 +1,18 @@
+// Paths down a timeline's skip list, and openings of a step.
+#![tactic(auto)]
+
+mod climbing;
+mod existence;
+mod existence_reading;
+mod hop;
+mod opening;
+mod path;
+mod reading;
+
+pub use climbing::climb;
+pub use existence::{EventPart, ExistenceProof, Part};
+pub use existence_reading::read_existence;
+pub use hop::next_hop;
+pub use opening::{Opening, check_opening};
+pub use path::{Link, LinkList, Path};
+pub use reading::{read_opening, read_path};

@@ -1,0 +1,62 @@
+// Openings: what the authenticator of a step is made of.
+
+ghost use Rattle.std.specs.Prelude.{◌≡◌, ℕ, ◌+◌, ◌^◌, ◌<◌, ◌≤◌, List, ◌++◌, length, MatchOption, IfSome};
+ghost use Rattle.tw_base.specs.Auth.{auth};
+ghost use Rattle.tw_base.specs.Clash.{OrClash};
+ghost use Rattle.tw_base.specs.History.{History};
+ghost use Rattle.tw_base.specs.HistoryTexts.{history_texts};
+ghost use Rattle.tw_base.specs.Sound.{IsSound};
+ghost use Rattle.tw_skipproof.specs.Openings.{Binds, HasSizes, IsOpeningAt, opening_auth, opening_texts};
+
+use arrayvec::ArrayVec;
+use tw_base::{Digest, Hasher, Labels, authenticator, datum, link_label, top_level};
+
+/// The fields behind the authenticator of a step from 1 on: the root of its events, the label of
+/// its archive, its count of events, the authenticator of the step before it, and the labels of
+/// its links at the levels from 1 on.
+#[derive(Drop, Debug)]
+pub struct Opening {
+    pub event_root: Digest,
+    pub archive_root: Digest,
+    pub count: u32,
+    pub prev: Digest,
+    pub others: Labels,
+}
+
+/// The authenticator that the opening computes, and the sizes of what it was computed from.
+#[tactic(auto, unfolding(crate::specs::Openings::opening_auth))]
+fn computed<H: Hasher>(opening: &Opening, step: u64) -> Option<Digest>
+    requires { step < 2 ^ 40 }
+    ensures answer { MatchOption result (IsOpeningAt step opening.now → ⊥)
+        (λ d. IsOpeningAt step opening.now × (d ≡ opening_auth H.dig step opening.now)) }
+    ensures sizes { IfSome result (λ _. HasSizes opening.now) }
+{
+    if step == 0 || opening.others.len() != top_level(step) as usize {
+        return None;
+    }
+    let datum = datum::<H>(&opening.event_root, &opening.archive_root, opening.count);
+    let first = link_label::<H>(step, 0, &datum, &opening.prev);
+    let mut labels: ArrayVec<Digest, 40> = ArrayVec::new();
+    labels.push(first);
+    match labels.try_extend_from_slice(opening.others.as_slice()) {
+        Ok(()) => Some(authenticator::<H>(step, labels.as_slice())),
+        Err(_) => unreachable!(),
+    }
+}
+
+/// The authenticator that the opening computes at the step (at most 2^40 - 1), each text hashed
+/// once and no memory taken. None exactly where the step is 0, or the opening has another number of
+/// labels than the step has levels from 1 on.
+///
+/// Where it is the step's authenticator in a sound history, the opening's fields are the history's,
+/// or two texts that the opening and the history hash clash.
+pub fn check_opening<H: Hasher>(opening: &Opening, step: u64) -> Option<Digest>
+    requires { step < 2 ^ 40 }
+    ensures answer { MatchOption result (IsOpeningAt step opening.now → ⊥)
+        (λ d. IsOpeningAt step opening.now × (d ≡ opening_auth H.dig step opening.now)) }
+    ensures sizes { IfSome result (λ _. HasSizes opening.now) }
+    ensures binds { IfSome result (λ d. (h : History) → IsSound h → step ≤ length h.steps → d ≡ auth H.dig h step →
+        OrClash H.dig (history_texts H.dig h ++ opening_texts H.dig step opening.now) (Binds H.dig h step opening.now)) }
+{
+    computed::<H>(opening, step)
+}
