@@ -1,5 +1,5 @@
 -- What a disk in memory shows.
-use Rattle.std.specs.Prelude.{◌≡◌, ℕ, List}
+use Rattle.std.specs.Prelude.{◌≡◌, ℕ, List, Option, Bool}
 use Rattle.tw_disk.specs.Image.{Image}
 use Rattle.tw_disk.specs.Model.{DeviceCall, Written}
 use Rattle.tw_disk.specs.Kept.{calls_of, written_of}
@@ -41,8 +41,20 @@ failing_reads_of disk = disk.asks.planned.items
 abbrev pub asks_of : MemDisk → ℕ
 asks_of disk = disk.asks.made
 
--- the disk holds and may leave the same
+-- the number of the write or barrier at which it is to stop, if there is one
+abbrev pub stop_of : MemDisk → Option ℕ
+stop_of disk = disk.stop
+
+-- whether it is stopped
+abbrev pub is_stopped : MemDisk → Bool
+is_stopped disk = disk.is_stopped
+
+-- the disk holds and may leave the same, has counted the same, and is stopped or not as before
 pub record IsSameDisk (old new : MemDisk) : Type 0 where
   pub pages : new.pages.items ≡ old.pages.items
   pub calls : new.calls.items ≡ old.calls.items
   pub faults : new.faults ≡ old.faults
+  pub made : new.device.made ≡ old.device.made
+  pub asks : new.asks.made ≡ old.asks.made
+  pub reads : new.reads ≡ old.reads
+  pub stopped : new.is_stopped ≡ old.is_stopped

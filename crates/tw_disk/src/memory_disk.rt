@@ -134,7 +134,7 @@ fn answer(faults: &mut u64, is_to_fail: bool) -> Result<(), Failed>
 }
 
 impl MemDisk {
-    ghost use Rattle.tw_disk.specs.MemDisk.{pages_of, device_calls_of, state_of, faults_of, made_of, reads_of, failing_of, failing_reads_of, asks_of, IsSameDisk};
+    ghost use Rattle.tw_disk.specs.MemDisk.{pages_of, device_calls_of, state_of, faults_of, made_of, reads_of, failing_of, failing_reads_of, asks_of, stop_of, is_stopped, IsSameDisk};
     ghost use Rattle.tw_disk.specs.Model.{outcome};
 
     /// A disk without a page. It takes no memory yet.
@@ -144,7 +144,8 @@ impl MemDisk {
         ensures faults { faults_of result ≡ 0 }
         ensures made { made_of result ≡ 0 }
         ensures reads { reads_of result ≡ 0 }
-        ensures failing { (failing_of result ≡ []) × (failing_reads_of result ≡ []) }
+        ensures failing { (failing_of result ≡ []) × (failing_reads_of result ≡ []) × (asks_of result ≡ 0) }
+        ensures runs { (stop_of result ≡ None) × (is_stopped result ≡ false) }
     {
         MemDisk {
             pages: Vec::new(alloc),
@@ -178,6 +179,7 @@ impl MemDisk {
         requires { 1 ≤ k }
         ensures planned { OnOk result (failing_of self.new ≡ failing_of self.old ++ (min (made_of self.old + k) (2 ^ 64 - 1)) ∷ []) }
         ensures err { OnErr result (failing_of self.new ≡ failing_of self.old) }
+        ensures others { (failing_reads_of self.new ≡ failing_reads_of self.old) × (stop_of self.new ≡ stop_of self.old) }
         ensures same { IsSameDisk self.old self.new }
     {
         self.device.plan(k)
@@ -188,6 +190,7 @@ impl MemDisk {
         requires { 1 ≤ k }
         ensures planned { OnOk result (failing_reads_of self.new ≡ failing_reads_of self.old ++ (min (asks_of self.old + k) (2 ^ 64 - 1)) ∷ []) }
         ensures err { OnErr result (failing_reads_of self.new ≡ failing_reads_of self.old) }
+        ensures others { (failing_of self.new ≡ failing_of self.old) × (stop_of self.new ≡ stop_of self.old) }
         ensures same { IsSameDisk self.old self.new }
     {
         self.asks.plan(k)
@@ -198,7 +201,8 @@ impl MemDisk {
     /// A write at which the disk is stopped counts among the pages written since the last good barrier, with the bytes of that write.
     pub fn stop_at(&mut self, k: u64)
         requires { 1 ≤ k }
-        ensures stop { self.new.stop ≡ Some (min (made_of self.old + k) (2 ^ 64 - 1)) }
+        ensures stop { stop_of self.new ≡ Some (min (made_of self.old + k) (2 ^ 64 - 1)) }
+        ensures others { (failing_of self.new ≡ failing_of self.old) × (failing_reads_of self.new ≡ failing_reads_of self.old) }
         ensures same { IsSameDisk self.old self.new }
     {
         self.stop = Some(self.device.made().saturating_add(k));
@@ -215,8 +219,9 @@ impl MemDisk {
         ensures image { IsImage (state_of self.old) (pages_of self.new) }
         ensures outcome { pages_of self.new ≡ outcome choice (state_of self.old) }
         ensures stable { device_calls_of self.new ≡ [] }
-        ensures runs { (self.new.stop ≡ None) × (self.new.is_stopped ≡ false) }
-        ensures counts { (faults_of self.new ≡ faults_of self.old) × (reads_of self.new ≡ reads_of self.old) × (made_of self.new ≡ made_of self.old) }
+        ensures runs { (stop_of self.new ≡ None) × (is_stopped self.new ≡ false) }
+        ensures failing { (failing_of self.new ≡ failing_of self.old) × (failing_reads_of self.new ≡ failing_reads_of self.old) }
+        ensures counts { (faults_of self.new ≡ faults_of self.old) × (made_of self.new ≡ made_of self.old) × (asks_of self.new ≡ asks_of self.old) × (reads_of self.new ≡ reads_of self.old) }
     {
         leave(&mut self.pages, &mut self.calls, choice);
         self.calls.clear();

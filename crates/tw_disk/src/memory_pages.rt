@@ -24,7 +24,7 @@ impl MemPages {
         ensures pages { IfOk result (λ p. all_pages_of p ≡ replicate 4 (replicate 4096 0)) }
         ensures reads { IfOk result (λ p. reads_of p ≡ 0) }
         ensures faults { IfOk result (λ p. faults_of p ≡ 0) }
-        ensures failing { IfOk result (λ p. failing_of p ≡ []) }
+        ensures failing { IfOk result (λ p. (failing_of p ≡ []) × (asks_of p ≡ 0)) }
     {
         match Vec::from_slice(alloc, &[[0; 4096]; 4]) {
             Ok(pages) => Ok(MemPages {
@@ -49,7 +49,7 @@ impl MemPages {
         requires { 1 ≤ k }
         ensures planned { OnOk result (failing_of self.new ≡ failing_of self.old ++ (min (asks_of self.old + k) (2 ^ 64 - 1)) ∷ []) }
         ensures err { OnErr result (failing_of self.new ≡ failing_of self.old) }
-        ensures same { (all_pages_of self.new ≡ all_pages_of self.old) × (faults_of self.new ≡ faults_of self.old) }
+        ensures same { (all_pages_of self.new ≡ all_pages_of self.old) × (faults_of self.new ≡ faults_of self.old) × (asks_of self.new ≡ asks_of self.old) × (reads_of self.new ≡ reads_of self.old) }
     {
         self.asks.plan(k)
     }

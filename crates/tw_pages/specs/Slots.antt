@@ -1,0 +1,60 @@
+-- What stands in the slots of an image.
+use Rattle.std.specs.Prelude.{◌≡◌, ◌⊎◌, ℕ, ◌+◌, ◌-◌, ◌^◌, ◌<◌, ◌≤◌, List, length, take, drop, slice_index}
+use Rattle.tw_disk.specs.Image.{Image, page_at}
+use Rattle.tw_disk.specs.Disk.{Rose}
+use Rattle.tw_pages.specs.Store.{IsClosed, IsBody, IsAbove, Opening}
+use Rattle.tw_pages.specs.declared.open.Slot.{Slot}
+use Rattle.tw_pages.specs.declared.open.Slot.TheVariants.{Closed, Broken, Holds}
+use Rattle.tw_pages.specs.declared.open.Found.{Found}
+use Rattle.tw_pages.specs.declared.open.StoreFault.{StoreFault}
+use Rattle.tw_pages.specs.declared.open.StoreFault.TheVariants.{Taken, Blank, NotAStore, DiskFault, NoMemory}
+
+abbrev pub IsOpen : ℕ → Image → Type 0
+IsOpen slot image = slice_index (page_at image slot) 0 ≡ 1
+
+-- a slot's gate is closed, or open over no body, or open over this body
+abbrev pub HoldsSlot : ℕ → ℕ → Image → Slot → Type 0
+HoldsSlot count slot image Closed = IsClosed slot image
+HoldsSlot count slot image Broken = IsOpen slot image × ((generation used : ℕ) (root : List ℕ) → IsBody count (page_at image (2 + slot)) generation used root → ⊥)
+HoldsSlot count slot image (Holds b) = IsOpen slot image × IsBody count (page_at image (2 + slot)) b.generation b.used (take b.root_len b.root)
+
+-- a body that was read has pages that the disk has
+abbrev pub HasRoom : ℕ → Slot → Type 0
+HasRoom count Closed = Unit {0}
+HasRoom count Broken = Unit {0}
+HasRoom count (Holds b) = b.used ≤ count
+
+-- what an image opens as by what was found in it
+abbrev pub opening_found : Found → Image → Opening
+opening_found f image = record { root = take f.body.root_len f.body.root; generation = f.body.generation; slot = f.slot; pages = take (f.body.used - 4) (drop 4 image) }
+
+pub record IsFoundIn (image : Image) (f : Found) : Type 0 where
+  pub opens : IsAbove f.is_spare_open (opening_found f image) image
+  pub used_from : 4 ≤ f.body.used
+  pub used_to : f.body.used ≤ length image
+  pub used_fits : f.body.used < 2 ^ 48
+  pub generation_fits : f.body.generation < 2 ^ 48
+
+-- both bodies are of one generation
+pub record HasOneGeneration (image : Image) : Type 0 where
+  pub generation : ℕ
+  pub used_first : ℕ
+  pub root_first : List ℕ
+  pub used_second : ℕ
+  pub root_second : List ℕ
+  pub first : IsBody (length image) (page_at image 2) generation used_first root_first
+  pub second : IsBody (length image) (page_at image 3) generation used_second root_second
+
+-- why an image of at least four pages isn't opened
+abbrev pub IsRefusedFor : Image → StoreFault → Type 0
+IsRefusedFor image Blank = IsClosed 0 image × IsClosed 1 image
+IsRefusedFor image (NotAStore slot) = (slot < 2) × (HoldsSlot (length image) slot image Broken ⊎ ((slot ≡ 1) × IsOpen 0 image × IsOpen 1 image × HasOneGeneration image))
+IsRefusedFor image Taken = ⊥
+IsRefusedFor image DiskFault = ⊥
+IsRefusedFor image NoMemory = ⊥
+
+-- why an image isn't opened: too short, refused, or the disk failed in the call
+abbrev pub WhyNot : {D : Type 0} → (D → ℕ) → D → D → Image → StoreFault → Type 0
+WhyNot faults old new image DiskFault = Rose (faults old) (faults new)
+WhyNot faults old new image Blank = (length image < 4) ⊎ IsRefusedFor image Blank
+WhyNot faults old new image fault = IsRefusedFor image fault
