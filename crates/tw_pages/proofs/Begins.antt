@@ -1,9 +1,9 @@
 -- What the phases that make a store leave.
-use Rattle.std.proofs.Common.{◌≡◌, ◌≢◌, ℕ, ◌+◌, ◌<◌, ◌≤◌, List, [], length, get_or, refl, sym, ◌∙◌, ap, arith, replicate}
+use Rattle.std.proofs.Common.{◌≡◌, ◌≢◌, ℕ, ◌+◌, ◌<◌, ◌≤◌, List, length, get_or, refl, sym, ◌∙◌, ap, arith}
 use Rattle.std.proofs.lemmas.List.{get_or-replicate}
 use Rattle.tw_disk.specs.Image.{Image, put, page_at}
 use Rattle.tw_disk.specs.Put.{length-put, page_at-put_same, page_at-put_other}
-use Rattle.tw_pages.specs.Store.{OpensAboveOlder, IsClosed, IsBody, open_gate_page, closed_gate_page, body_page}
+use Rattle.tw_pages.specs.Store.{OpensAboveOlder, IsBody, open_gate_page, closed_gate_page, body_page}
 use Rattle.tw_pages.specs.Init.{BothClosed, HasBodies, first_opening}
 use Rattle.tw_pages.proofs.Steps.{body_moved}
 

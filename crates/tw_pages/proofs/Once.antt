@@ -1,8 +1,8 @@
 -- An image opens as one store at most.
-use Rattle.std.proofs.Common.{◌≡◌, ◌≢◌, ◌⊎◌, inl, inr, ⊎_elim, ℕ, ◌+◌, ◌-◌, ◌<◌, List, length, take, drop, get_or, sym, ◌∙◌, ap, subst, arith}
+use Rattle.std.proofs.Common.{◌≡◌, inl, inr, ℕ, ◌+◌, ◌<◌, List, length, take, drop, get_or, sym, ◌∙◌, ap, subst, arith}
 use Rattle.std.proofs.lemmas.Bool.{cases_eq}
 use Rattle.tw_disk.specs.Image.{Image, page_at}
-use Rattle.tw_pages.specs.Store.{Opening, Stands, OpensAs, IsOlder, IsClosed, IsBody, used_of, spare_of}
+use Rattle.tw_pages.specs.Store.{Opening, Stands, OpensAs, IsBody, used_of, spare_of}
 use Rattle.tw_pages.proofs.Bodies.{generation_read, used_read, length_read, root_read}
 use Rattle.tw_pages.proofs.Openings.{pages_of}
 

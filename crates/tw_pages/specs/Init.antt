@@ -1,11 +1,8 @@
 -- What an image holds while a store is made.
-use Rattle.std.specs.Prelude.{Bool, true, false, ◌≡◌, ◌⊎◌, ℕ, ◌+◌, ◌<◌, ◌≤◌, List, [], length}
+use Rattle.std.specs.Prelude.{Bool, true, false, ◌⊎◌, ℕ, ◌<◌, ◌≤◌, List, [], length}
 use Rattle.tw_disk.specs.Image.{Image, page_at}
 use Rattle.tw_pages.specs.Store.{Opening, OpensAs, IsClosed, IsBody}
-
--- no store
-abbrev pub IsBlank : Image → Type 0
-IsBlank c = (length c < 4) ⊎ (IsClosed 0 c × IsClosed 1 c)
+use Rattle.tw_pages.specs.Slots.{IsBlank}
 
 -- both gates are closed
 pub record BothClosed (c : Image) : Type 0 where

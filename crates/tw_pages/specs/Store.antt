@@ -1,5 +1,5 @@
 -- What an image of a disk opens as: two slots, each with a gate page and a body page, and then the committed pages.
-use Rattle.std.specs.Prelude.{Bool, true, false, ◌^◌, ◌≡◌, ◌≢◌, ◌⊎◌, ℕ, ◌+◌, ◌-◌, ◌<◌, ◌≤◌, List, [], ◌∷◌, ◌++◌, length, take, drop, replicate, slice_index}
+use Rattle.std.specs.Prelude.{Bool, true, false, ◌^◌, ◌≡◌, ◌≢◌, ◌⊎◌, ℕ, ◌+◌, ◌-◌, ◌<◌, ◌≤◌, List, [], ◌∷◌, ◌++◌, length, replicate, slice_index}
 use Rattle.std.specs.Int.{to_be_bytes, w16, w64}
 use Rattle.tw_disk.specs.Image.{Image, page_at}
 

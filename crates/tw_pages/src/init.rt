@@ -4,14 +4,15 @@ ghost use Rattle.std.specs.Option.{IsSomeAnd};
 ghost use Rattle.tw_disk.specs.Image.{Image};
 ghost use Rattle.tw_disk.specs.Disk.{HasCause, LeavesOnly, IsAtRest, Rose};
 ghost use Rattle.tw_pages.specs.Store.{OpensAboveOlder};
-ghost use Rattle.tw_pages.specs.Init.{IsBlank, BothClosed, HasBodies, IsUnmade, first_opening, IsBlankOrNew};
-ghost use Rattle.tw_pages.specs.Slots.{IsOpen};
+ghost use Rattle.tw_pages.specs.Init.{BothClosed, HasBodies, IsUnmade, first_opening, IsBlankOrNew};
+ghost use Rattle.tw_pages.specs.Slots.{IsBlank, IsOpen, IsTaken};
 
 use crate::durable::write_pair_durably;
 use crate::layout::{body, closed_gate, open_gate};
-use crate::open::StoreFault;
+use crate::open::{StoreFault, settle};
 use tw_disk::{Disk, Failed};
 
+// Writes both gates closed, for good.
 pub fn write_closed_gates<D: Disk>(disk: &mut D) -> Result<(), Failed>
     requires { IsSomeAnd (D.count disk.old) (λ n. 0 ≤ n) }
     ensures closed { OnOk result (IsAtRest D.content D.may_leave disk.old (λ c. length c < 4) → IsAtRest D.content D.may_leave disk.new BothClosed) }
@@ -24,6 +25,7 @@ pub fn write_closed_gates<D: Disk>(disk: &mut D) -> Result<(), Failed>
     Ok(())
 }
 
+// Writes both bodies, for good.
 pub fn write_bodies<D: Disk>(disk: &mut D, root: &[u8]) -> Result<(), Failed>
     requires room { IsSomeAnd (D.count disk.old) (λ n. 2 ≤ n) }
     requires root { length root.now ≤ 512 }
@@ -36,6 +38,7 @@ pub fn write_bodies<D: Disk>(disk: &mut D, root: &[u8]) -> Result<(), Failed>
     Ok(())
 }
 
+// Writes both gates open, for good, which makes the store.
 pub fn write_open_gates<D: Disk>(disk: &mut D) -> Result<(), Failed>
     requires { IsSomeAnd (D.count disk.old) (λ n. 4 ≤ n) }
     ensures grown { OnOk result (IsSomeAnd (D.count disk.new) (λ n. 4 ≤ n)) }
@@ -49,6 +52,7 @@ pub fn write_open_gates<D: Disk>(disk: &mut D) -> Result<(), Failed>
     Ok(())
 }
 
+// Whether the gate of a slot reads open.
 pub fn is_gate_open<D: Disk>(disk: &mut D, slot: u64) -> Result<bool, Failed>
     requires low { slot < 2 }
     requires room { IsSomeAnd (D.count disk.old) (λ n. 4 ≤ n) }
@@ -68,14 +72,14 @@ pub fn is_gate_open<D: Disk>(disk: &mut D, slot: u64) -> Result<bool, Failed>
 pub fn look<D: Disk>(disk: &mut D) -> Result<bool, StoreFault>
     ensures unmade { IfOk result (λ short. (c : Image) → D.content disk.old ≡ Some c → IsAtRest D.content D.may_leave disk.new (λ i. (i ≡ c) × IsUnmade short i)) }
     ensures images { LeavesOnly D.moment D.may_leave D.left_since disk.old disk.new (D.may_leave disk.old) }
-    ensures taken { result ≡ Err StoreFault.Taken → (c : Image) → D.content disk.old ≡ Some c → (4 ≤ length c) × (IsOpen 0 c ⊎ IsOpen 1 c) }
-    ensures others { IfErr result (λ e. (e ≡ StoreFault.Taken) ⊎ (e ≡ StoreFault.DiskFault)) }
+    ensures taken { result ≡ Err StoreFault.Taken → (c : Image) → D.content disk.old ≡ Some c → IsTaken c }
+    ensures answers { IfErr result (λ e. (e ≡ StoreFault.Taken) ⊎ (e ≡ StoreFault.DiskFault)) }
+    ensures content { D.content disk.new ≡ D.content disk.old }
     ensures room { IfOk result (λ short. IsSomeAnd (D.count disk.new) (λ n. (if short then 0 else 2) ≤ n)) }
     ensures fault { result ≡ Err StoreFault.DiskFault → Rose (D.faults disk.old) (D.faults disk.new) }
     ensures later { D.faults disk.old ≤ D.faults disk.new }
 {
-    disk.barrier()?;
-    let count = disk.pages()?;
+    let count = settle(disk)?;
     if count < 4 {
         return Ok(true);
     }

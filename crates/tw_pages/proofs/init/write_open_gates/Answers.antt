@@ -1,6 +1,6 @@
-use Rattle.std.proofs.Common.{List, ℕ, ◌∙◌}
+use Rattle.std.proofs.Common.{◌∙◌}
 use Rattle.std.specs.Option.{option_map}
-use Rattle.tw_disk.specs.Image.{Image, put}
+use Rattle.tw_disk.specs.Image.{put}
 use Rattle.tw_disk.specs.Moments.{pair_rests}
 use Rattle.tw_pages.specs.Store.{open_gate_page, OpensAboveOlder}
 use Rattle.tw_pages.specs.Init.{BothClosed, HasBodies, first_opening}
