@@ -1,0 +1,2 @@
+// How a run ends.
+ghost use Rattle.std.specs.Prelude.{◌≡◌};

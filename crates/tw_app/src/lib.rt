@@ -1,0 +1,9 @@
+// All that the program does, over any inputs and any sink.
+#![tactic(auto)]
+
+mod ending;
+mod outcome;
+mod verifying;
+
+
+pub use outcome::Outcome;
