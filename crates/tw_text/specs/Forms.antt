@@ -1,5 +1,5 @@
 -- Forms of words: what a form is, which words have it, and which are the front of some that do.
-use Rattle.std.specs.Prelude.{◌≡◌, ℕ, ◌+◌, ◌≤◌, List, [], ◌∷◌, ◌++◌, length, take, Option, Some, None, Bool, true, false, ◌&&◌, nat_le, if◌then◌else◌, IsTrue}
+use Rattle.std.specs.Prelude.{◌≡◌, ℕ, ◌+◌, ◌≤◌, List, [], ◌∷◌, ◌++◌, length, take, Option, Some, None, Bool, false, ◌&&◌, nat_le, if◌then◌else◌, IsTrue}
 use Rattle.std.specs.List.{list_all}
 use Rattle.std.specs.Str.{bytes_eq}
 use Rattle.tw_base.specs.Lists.{In}
@@ -9,11 +9,11 @@ use Rattle.tw_text.specs.declared.command.Command.{Command}
 
 -- what a form has at one place
 pub data Part : Type 0 where
-  Fixed : (text : List ℕ) → Part    -- this word and no other
-  Path : Part                       -- a path: any word of at least one byte
-  Service : Part                    -- the name of a service
+  Fixed : (text : List ℕ) → Part  -- this word and no other
+  Path : Part  -- a path: any word of at least one byte
+  Service : Part  -- the name of a service
   Number : (least most : ℕ) → Part  -- a number within a range
-  Hex : Part                        -- a digest in hexadecimal digits of either case
+  Hex : Part  -- a digest in hexadecimal digits of either case
 
 -- what may follow the parts that a form must have
 pub data More : Type 0 where

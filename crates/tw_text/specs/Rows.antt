@@ -1,5 +1,5 @@
 -- The code's table of forms as the definitions see it.
-use Rattle.std.specs.Prelude.{◌≡◌, ℕ, ◌<◌, ◌^◌, List, length, map, IsTrue}
+use Rattle.std.specs.Prelude.{◌≡◌, ℕ, ◌<◌, ◌^◌, List, map, IsTrue}
 use Rattle.tw_base.specs.Names.{is_name_text}
 use Rattle.tw_text.specs.Words.{is_number, number_of, is_digest}
 use Rattle.tw_text.specs.Forms as forms

@@ -9,13 +9,25 @@ use tw_base::{Bytes, Digest, Name};
 #[derive(Drop, Debug)]
 pub enum Command {
     /// `init DIR NAME`: makes the store of a new service.
-    Init { dir: Bytes, name: Name },
+    Init {
+        dir: Bytes,
+        name: Name,
+    },
     /// `append DIR FILE`: one more step, with the events of the file.
-    Append { dir: Bytes, file: Bytes },
+    Append {
+        dir: Bytes,
+        file: Bytes,
+    },
     /// `thread DIR SINCE`: a message with the last step, linked down to an earlier one.
-    Thread { dir: Bytes, since: u64 },
+    Thread {
+        dir: Bytes,
+        since: u64,
+    },
     /// `receive DIR FILE`: archives the thread of a message.
-    Receive { dir: Bytes, file: Bytes },
+    Receive {
+        dir: Bytes,
+        file: Bytes,
+    },
     /// `prove DIR event STEP INDEX [TOP]`: proves that an event stands in a step.
     ProveEvent {
         dir: Bytes,
@@ -60,7 +72,9 @@ pub enum Command {
         top: Option<u64>,
     },
     /// `export DIR`: writes the history.
-    Export { dir: Bytes },
+    Export {
+        dir: Bytes,
+    },
     /// `show HISTORY STEP INDEX`: proves an event from a history.
     Show {
         history: Bytes,
@@ -68,9 +82,14 @@ pub enum Command {
         index: u64,
     },
     /// `join FILE FILE ..`: joins proofs to one.
-    Join { files: BytesList },
+    Join {
+        files: BytesList,
+    },
     /// `verify PROOF ANCHORS`: judges a proof under the anchors of a file.
-    VerifyFile { proof: Bytes, anchors: Bytes },
+    VerifyFile {
+        proof: Bytes,
+        anchors: Bytes,
+    },
     /// `verify PROOF NAME POS HEX`: judges a proof under this one anchor.
     VerifyOne {
         proof: Bytes,
@@ -79,7 +98,10 @@ pub enum Command {
         auth: Digest,
     },
     /// `strict PROOF ANCHORS`: judges a proof, and allows no thread that no anchor binds.
-    Strict { proof: Bytes, anchors: Bytes },
+    Strict {
+        proof: Bytes,
+        anchors: Bytes,
+    },
     /// `checkmap LOW HIGH ANCHORS`: judges two map files.
     CheckMap {
         low: Bytes,
@@ -93,7 +115,12 @@ pub enum Command {
         histories: BytesList,
     },
     /// `replay FILE`: runs a script.
-    Replay { file: Bytes },
+    Replay {
+        file: Bytes,
+    },
     /// `generate NUMBER STEPS`: runs a generated schedule.
-    Generate { number: u64, steps: u64 },
+    Generate {
+        number: u64,
+        steps: u64,
+    },
 }

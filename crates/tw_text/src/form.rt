@@ -74,13 +74,22 @@ pub const FORMS: [FormName; 20] = [
 ];
 
 /// Any number of 64 bits.
-const NUMBER: Part = Number { least: 0, most: u64::MAX };
+const NUMBER: Part = Number {
+    least: 0,
+    most: u64::MAX,
+};
 
 /// The number of a step from 1 on.
-const POS: Part = Number { least: 1, most: 0xff_ffff_ffff };
+const POS: Part = Number {
+    least: 1,
+    most: 0xff_ffff_ffff,
+};
 
 /// How many steps `generate` can make.
-const STEPS: Part = Number { least: 1, most: 10_000 };
+const STEPS: Part = Number {
+    least: 1,
+    most: 10_000,
+};
 
 /// The last step, where it isn't left out.
 const MAYBE_TOP: More = More::UpTo(1, NUMBER);
@@ -96,12 +105,27 @@ pub fn form_named(name: FormName) -> Form
         FormName::Append => (&[Fixed("append"), Path, Path], Nothing),
         FormName::Thread => (&[Fixed("thread"), Path, NUMBER], Nothing),
         FormName::Receive => (&[Fixed("receive"), Path, Path], Nothing),
-        FormName::ProveEvent => (&[Fixed("prove"), Path, Fixed("event"), NUMBER, NUMBER], MAYBE_TOP),
-        FormName::ProveThread => (&[Fixed("prove"), Path, Fixed("thread"), NUMBER, Service, POS], MAYBE_TOP),
-        FormName::ProveAbsent => (&[Fixed("prove"), Path, Fixed("absent"), NUMBER, Service, POS], MAYBE_TOP),
+        FormName::ProveEvent => (
+            &[Fixed("prove"), Path, Fixed("event"), NUMBER, NUMBER],
+            MAYBE_TOP,
+        ),
+        FormName::ProveThread => (
+            &[Fixed("prove"), Path, Fixed("thread"), NUMBER, Service, POS],
+            MAYBE_TOP,
+        ),
+        FormName::ProveAbsent => (
+            &[Fixed("prove"), Path, Fixed("absent"), NUMBER, Service, POS],
+            MAYBE_TOP,
+        ),
         FormName::ProveLink => (&[Fixed("prove"), Path, Fixed("link"), NUMBER], MAYBE_TOP),
-        FormName::MapLow => (&[Fixed("map"), Path, Fixed("low"), NUMBER, Service], MAYBE_TOP),
-        FormName::MapHigh => (&[Fixed("map"), Path, Fixed("high"), POS, Service], MAYBE_TOP),
+        FormName::MapLow => (
+            &[Fixed("map"), Path, Fixed("low"), NUMBER, Service],
+            MAYBE_TOP,
+        ),
+        FormName::MapHigh => (
+            &[Fixed("map"), Path, Fixed("high"), POS, Service],
+            MAYBE_TOP,
+        ),
         FormName::Export => (&[Fixed("export"), Path], Nothing),
         FormName::Show => (&[Fixed("show"), Path, NUMBER, NUMBER], Nothing),
         FormName::Join => (&[Fixed("join"), Path, Path], AnyNumberOf(Path)),

@@ -1,15 +1,15 @@
 // Reading the words of the command line.
 
-ghost use Rattle.std.specs.Prelude.{◌≡◌, ◌<◌, ◌≤◌, ◌+◌, length, map, drop, IsTrue, IfNone, IfOk, IfErr, IfSome, IsErrAnd, OnErr, MatchResult, None, Some};
+ghost use Rattle.std.specs.Prelude.{◌≡◌, ◌<◌, ◌≤◌, ◌+◌, ◌==◌, ◌&&◌, nat_le, length, map, drop, IsTrue, IfNone, IfOk, IfErr, IfSome, IsErrAnd, OnErr, MatchResult, None, Some};
 ghost use Rattle.std.specs.String.{string_bytes};
 ghost use Rattle.tw_text.specs.CommandLine.{IsBadWord, command_of, form_names, form_of, forms, digest_at, name_at, number_at, top_at, word_at};
 ghost use Rattle.tw_text.specs.Forms.{command_by, have_form};
 ghost use Rattle.tw_text.specs.Rows.{HasDigest, HasName, HasNumber};
-ghost use Rattle.tw_text.specs.Taken.{most_taken};
+ghost use Rattle.tw_text.specs.Taken.{most_taken, taken_by};
 
 use crate::bytes_list::BytesList;
 use crate::command::Command;
-use crate::form::{FORMS, FormName, form_named};
+use crate::form::{FORMS, Form, FormName, form_named};
 use crate::number::{read_digest, read_number};
 use crate::taking::count_taken;
 use std::alloc::Global;
@@ -30,7 +30,7 @@ pub fn read_words(alloc: Global, words: &[String]) -> Result<Command, WordFault>
     ensures form { IfSome (command_of (map string_bytes words.now)) (λ command. MatchResult result (λ c. c ≡ command) (λ e. e ≡ WordFault.NoMemory)) }
     ensures no_form { IfNone (command_of (map string_bytes words.now)) (IsErrAnd result (IsBadWord (map string_bytes words.now))) }
 {
-    match find_form(words) {
+    match find_form(&FORMS, words) {
         Ok(name) => match make_command(alloc, name, words) {
             Ok(command) => Ok(command),
             Err(NoMemory) => Err(WordFault::NoMemory),
@@ -41,19 +41,19 @@ pub fn read_words(alloc: Global, words: &[String]) -> Result<Command, WordFault>
     }
 }
 
-/// The first form that the words have; otherwise the most words, from the first on, that go with a
-/// form.
-fn find_form(words: &[String]) -> Result<FormName, usize>
+/// The first of the forms that the words have; otherwise the most words, from the first on, that go
+/// with one of them.
+fn find_form(names: &[FormName], words: &[String]) -> Result<FormName, usize>
     ensures found { IfOk result (λ name. IsTrue (have_form (form_of name) (map string_bytes words.now))) }
-    ensures command { IfOk result (λ name. command_of (map string_bytes words.now) ≡ Some ((form_of name).command (map string_bytes words.now))) }
-    ensures taken { IfErr result (λ taken. (taken ≡ most_taken forms (map string_bytes words.now)) × (taken ≤ length words.now)) }
-    ensures none { OnErr result (command_of (map string_bytes words.now) ≡ None) }
+    ensures command { IfOk result (λ name. command_by (map form_of names.now) (map string_bytes words.now) ≡ Some ((form_of name).command (map string_bytes words.now))) }
+    ensures none { OnErr result (command_by (map form_of names.now) (map string_bytes words.now) ≡ None) }
+    ensures taken { IfErr result (λ taken. taken ≡ most_taken (map form_of names.now) (map string_bytes words.now)) }
+    ensures within { IfErr result (λ taken. taken ≤ length words.now) }
 {
     let mut longest = 0;
-    for name in &FORMS {
-        let form = form_named(*name);
-        let taken = count_taken(form.parts, &form.more, words);
-        if taken == words.len() && form.parts.len() <= words.len() {
+    for name in names {
+        let (has_form, taken) = try_form(*name, words);
+        if has_form {
             return Ok(*name);
         }
         longest = taken.max(longest);
@@ -61,108 +61,127 @@ fn find_form(words: &[String]) -> Result<FormName, usize>
     Err(longest)
 }
 
+/// Whether the words have the form; and how many of them, from the first on, go with it.
+fn try_form(name: FormName, words: &[String]) -> (bool, usize)
+    ensures has_form { result.0 ≡ have_form (form_of name) (map string_bytes words.now) }
+    ensures taken { result.1 ≡ taken_by (form_of name) (map string_bytes words.now) }
+    ensures within { result.1 ≤ length words.now }
+{
+    let form = form_named(name);
+    let taken = count_taken(form.parts, &form.more, words);
+    (is_whole(&form, taken, words.len()), taken)
+}
+
+/// Whether all words go with the form, and all its parts with words.
+fn is_whole(form: &Form, taken: usize, words: usize) -> bool
+    ensures { result ≡ ((taken == words) && nat_le (length form.now.parts.now) words) }
+{
+    taken == words && form.parts.len() <= words
+}
+
 /// The command of words that have this form.
+#[tactic(auto, unfolding(crate::specs::CommandLine::form_of))]
 fn make_command(alloc: Global, form: FormName, words: &[String]) -> Result<Command, NoMemory>
     requires { IsTrue (have_form (form_of form) (map string_bytes words.now)) }
     ensures { IfOk result (λ command. command ≡ (form_of form).command (map string_bytes words.now)) }
 {
-    Ok(match form {
-        FormName::Init => Command::Init {
+    match form {
+        FormName::Init => Ok(Command::Init {
             dir: path(alloc, words, 1)?,
             name: name(words, 2),
-        },
-        FormName::Append => Command::Append {
+        }),
+        FormName::Append => Ok(Command::Append {
             dir: path(alloc, words, 1)?,
             file: path(alloc, words, 2)?,
-        },
-        FormName::Thread => Command::Thread {
+        }),
+        FormName::Thread => Ok(Command::Thread {
             dir: path(alloc, words, 1)?,
             since: number(words, 2),
-        },
-        FormName::Receive => Command::Receive {
+        }),
+        FormName::Receive => Ok(Command::Receive {
             dir: path(alloc, words, 1)?,
             file: path(alloc, words, 2)?,
-        },
-        FormName::ProveEvent => Command::ProveEvent {
+        }),
+        FormName::ProveEvent => Ok(Command::ProveEvent {
             dir: path(alloc, words, 1)?,
             step: number(words, 3),
             index: number(words, 4),
             top: top(words, 5),
-        },
-        FormName::ProveThread => Command::ProveThread {
+        }),
+        FormName::ProveThread => Ok(Command::ProveThread {
             dir: path(alloc, words, 1)?,
             step: number(words, 3),
             peer: name(words, 4),
             k: number(words, 5),
             top: top(words, 6),
-        },
-        FormName::ProveAbsent => Command::ProveAbsent {
+        }),
+        FormName::ProveAbsent => Ok(Command::ProveAbsent {
             dir: path(alloc, words, 1)?,
             step: number(words, 3),
             peer: name(words, 4),
             k: number(words, 5),
             top: top(words, 6),
-        },
-        FormName::ProveLink => Command::ProveLink {
+        }),
+        FormName::ProveLink => Ok(Command::ProveLink {
             dir: path(alloc, words, 1)?,
             step: number(words, 3),
             top: top(words, 4),
-        },
-        FormName::MapLow => Command::MapLow {
+        }),
+        FormName::MapLow => Ok(Command::MapLow {
             dir: path(alloc, words, 1)?,
             step: number(words, 3),
             peer: name(words, 4),
             top: top(words, 5),
-        },
-        FormName::MapHigh => Command::MapHigh {
+        }),
+        FormName::MapHigh => Ok(Command::MapHigh {
             dir: path(alloc, words, 1)?,
             pos: number(words, 3),
             peer: name(words, 4),
             top: top(words, 5),
-        },
-        FormName::Export => Command::Export {
+        }),
+        FormName::Export => Ok(Command::Export {
             dir: path(alloc, words, 1)?,
-        },
-        FormName::Show => Command::Show {
+        }),
+        FormName::Show => Ok(Command::Show {
             history: path(alloc, words, 1)?,
             step: number(words, 2),
             index: number(words, 3),
-        },
-        FormName::Join => Command::Join {
+        }),
+        FormName::Join => Ok(Command::Join {
             files: paths(alloc, words, 1)?,
-        },
-        FormName::VerifyFile => Command::VerifyFile {
+        }),
+        FormName::VerifyFile => Ok(Command::VerifyFile {
             proof: path(alloc, words, 1)?,
             anchors: path(alloc, words, 2)?,
-        },
-        FormName::VerifyOne => Command::VerifyOne {
+        }),
+        FormName::VerifyOne => Ok(Command::VerifyOne {
             proof: path(alloc, words, 1)?,
             name: name(words, 2),
             pos: number(words, 3),
             auth: digest(words, 4),
-        },
-        FormName::Strict => Command::Strict {
+        }),
+        FormName::Strict => Ok(Command::Strict {
             proof: path(alloc, words, 1)?,
             anchors: path(alloc, words, 2)?,
-        },
-        FormName::CheckMap => Command::CheckMap {
+        }),
+        FormName::CheckMap => Ok(Command::CheckMap {
             low: path(alloc, words, 1)?,
             high: path(alloc, words, 2)?,
             anchors: path(alloc, words, 3)?,
-        },
-        FormName::Audit => Command::Audit {
+        }),
+        FormName::Audit => Ok(Command::Audit {
             proof: path(alloc, words, 1)?,
             anchors: path(alloc, words, 2)?,
             histories: paths(alloc, words, 3)?,
-        },
-        FormName::Replay => Command::Replay {
+        }),
+        FormName::Replay => Ok(Command::Replay {
             file: path(alloc, words, 1)?,
-        },
-        FormName::Generate => Command::Generate {
+        }),
+        FormName::Generate => Ok(Command::Generate {
             number: number(words, 1),
             steps: number(words, 2),
-        },
-    })
+        }),
+    }
 }
 
 /// The word at a place, counted from 0; no bytes where there are fewer words.
