@@ -1,5 +1,6 @@
 -- The commands: which files they name, and which of them are built.
-use Rattle.std.specs.Prelude.{ℕ, List, [], ◌∷◌, ◌++◌}
+use Rattle.std.specs.Prelude.{ℕ, List, [], ◌∷◌, Option, Some, None}
+use Rattle.tw_base.specs.declared.thread.Thread.{Thread as Anchor}
 use Rattle.tw_text.specs.declared.command.Command.{Command}
 use Rattle.tw_text.specs.declared.command.Command.TheVariants.{Init, Append, Thread, Receive, ProveEvent, ProveThread, ProveAbsent, ProveLink, MapLow, MapHigh, Export, Show, Join, VerifyFile, VerifyOne, Strict, CheckMap, Audit, Replay, Generate}
 
@@ -30,3 +31,8 @@ files_of (Generate number steps) = []
 abbrev pub IsBuilt : Command → Type 0
 IsBuilt (VerifyOne proof name pos auth) = Unit {0}
 IsBuilt _ = ⊥
+
+-- the one anchor that the command gives
+abbrev pub anchor_given : Command → Option Anchor
+anchor_given (VerifyOne proof name pos auth) = Some (record { from = name; step = pos; auth = auth })
+anchor_given _ = None

@@ -5,5 +5,5 @@ mod ending;
 mod outcome;
 mod verifying;
 
-
+pub use ending::run;
 pub use outcome::Outcome;
