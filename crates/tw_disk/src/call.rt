@@ -17,7 +17,8 @@ impl Call {
 
     // The page that it wrote, if it is a write.
     pub fn page_written(self) -> Option<u64>
-        ensures { MatchOption result (self ≡ Call.Barrier) (λ page. (pages : List ℕ) → loose_of pages (self ∷ []) ≡ page ∷ pages) }
+        ensures { MatchOption result (self ≡ Call.Barrier) (λ page. (pages : List ℕ)
+            → loose_of pages (self ∷ []) ≡ page ∷ pages) }
     {
         match self {
             Call::Overwrite { page, before: _ } => Some(page),

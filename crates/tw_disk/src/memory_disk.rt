@@ -179,7 +179,8 @@ impl MemDisk {
         requires { 1 ≤ k }
         ensures planned { OnOk result (failing_of self.new ≡ failing_of self.old ++ (min (made_of self.old + k) (2 ^ 64 - 1)) ∷ []) }
         ensures err { OnErr result (failing_of self.new ≡ failing_of self.old) }
-        ensures others { (failing_reads_of self.new ≡ failing_reads_of self.old) × (stop_of self.new ≡ stop_of self.old) }
+        ensures others { (failing_reads_of self.new ≡ failing_reads_of self.old)
+            × (stop_of self.new ≡ stop_of self.old) }
         ensures same { IsSameDisk self.old self.new }
     {
         self.device.plan(k)
@@ -202,7 +203,8 @@ impl MemDisk {
     pub fn stop_at(&mut self, k: u64)
         requires { 1 ≤ k }
         ensures stop { stop_of self.new ≡ Some (min (made_of self.old + k) (2 ^ 64 - 1)) }
-        ensures others { (failing_of self.new ≡ failing_of self.old) × (failing_reads_of self.new ≡ failing_reads_of self.old) }
+        ensures others { (failing_of self.new ≡ failing_of self.old)
+            × (failing_reads_of self.new ≡ failing_reads_of self.old) }
         ensures same { IsSameDisk self.old self.new }
     {
         self.stop = Some(self.device.made().saturating_add(k));
@@ -220,8 +222,10 @@ impl MemDisk {
         ensures outcome { pages_of self.new ≡ outcome choice (state_of self.old) }
         ensures stable { device_calls_of self.new ≡ [] }
         ensures runs { (stop_of self.new ≡ None) × (is_stopped self.new ≡ false) }
-        ensures failing { (failing_of self.new ≡ failing_of self.old) × (failing_reads_of self.new ≡ failing_reads_of self.old) }
-        ensures counts { (faults_of self.new ≡ faults_of self.old) × (made_of self.new ≡ made_of self.old) × (asks_of self.new ≡ asks_of self.old) × (reads_of self.new ≡ reads_of self.old) }
+        ensures failing { (failing_of self.new ≡ failing_of self.old)
+            × (failing_reads_of self.new ≡ failing_reads_of self.old) }
+        ensures counts { (faults_of self.new ≡ faults_of self.old) × (made_of self.new ≡ made_of self.old)
+            × (asks_of self.new ≡ asks_of self.old) × (reads_of self.new ≡ reads_of self.old) }
     {
         leave(&mut self.pages, &mut self.calls, choice);
         self.calls.clear();

@@ -49,7 +49,9 @@ impl MemPages {
         requires { 1 ≤ k }
         ensures planned { OnOk result (failing_of self.new ≡ failing_of self.old ++ (min (asks_of self.old + k) (2 ^ 64 - 1)) ∷ []) }
         ensures err { OnErr result (failing_of self.new ≡ failing_of self.old) }
-        ensures same { (all_pages_of self.new ≡ all_pages_of self.old) × (faults_of self.new ≡ faults_of self.old) × (asks_of self.new ≡ asks_of self.old) × (reads_of self.new ≡ reads_of self.old) }
+        ensures same { (all_pages_of self.new ≡ all_pages_of self.old)
+            × (faults_of self.new ≡ faults_of self.old) × (asks_of self.new ≡ asks_of self.old)
+            × (reads_of self.new ≡ reads_of self.old) }
     {
         self.asks.plan(k)
     }

@@ -35,7 +35,8 @@ pub trait Pages {
     fn read(&mut self, page: u64, into: &mut [u8; 4096]) -> Result<(), Failed>
         requires low { 4 ≤ page }
         requires below { page < used_count self.old }
-        ensures page { OnOk result ((pages : Image) → list self.old ≡ Some pages → into.new ≡ page_at pages (page - 4)) }
+        ensures page { OnOk result ((pages : Image) → list self.old ≡ Some pages
+            → into.new ≡ page_at pages (page - 4)) }
         ensures kept { OnlyReads used_count list same unbroken self.old self.new (IsOk result) }
         ensures cause { HasCause (faults self.old) (faults self.new) result };
 

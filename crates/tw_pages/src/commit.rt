@@ -13,9 +13,11 @@ use tw_disk::{Disk, Failed};
 pub fn see_spare_gate_closed<D: Disk>(disk: &mut D, spare: u64, is_open: bool) -> Result<(), Failed>
     requires low { spare < 2 }
     requires room { IsSomeAnd (D.count disk.old) (λ n. 4 ≤ n) }
-    ensures closed { OnOk result ((o : Opening) → spare ≡ spare_of o → IsAtRest D.content D.may_leave disk.old (IsAbove is_open o)
+    ensures closed { OnOk result ((o : Opening) → spare ≡ spare_of o
+        → IsAtRest D.content D.may_leave disk.old (IsAbove is_open o)
         → IsAtRest D.content D.may_leave disk.new (OpensAlone o)) }
-    ensures images { (o : Opening) → spare ≡ spare_of o → IsAtRest D.content D.may_leave disk.old (IsAbove is_open o)
+    ensures images { (o : Opening) → spare ≡ spare_of o
+        → IsAtRest D.content D.may_leave disk.old (IsAbove is_open o)
         → LeavesOnly D.moment D.may_leave D.left_since disk.old disk.new (OpensAs o) }
     ensures room { KeepsRoom (D.count disk.old) (D.count disk.new) }
     ensures cause { HasCause (D.faults disk.old) (D.faults disk.new) result }
@@ -42,10 +44,13 @@ pub fn prepare<D: Disk>(
     requires room { IsSomeAnd (D.count disk.old) (λ n. used ≤ n) }
     requires fits { used + length staged.now < 2 ^ 48 }
     requires next { generation < 2 ^ 48 }
-    ensures ready { OnOk result ((old new : Opening) → IsCommit spare used generation staged.now root.now old new
-        → IsAtRest D.content D.may_leave disk.old (IsAbove is_open old) → IsAtRest D.content D.may_leave disk.new (IsReady old new)) }
+    ensures ready { OnOk result ((old new : Opening)
+        → IsCommit spare used generation staged.now root.now old new
+        → IsAtRest D.content D.may_leave disk.old (IsAbove is_open old)
+        → IsAtRest D.content D.may_leave disk.new (IsReady old new)) }
     ensures images { (old new : Opening) → IsCommit spare used generation staged.now root.now old new
-        → IsAtRest D.content D.may_leave disk.old (IsAbove is_open old) → LeavesOnly D.moment D.may_leave D.left_since disk.old disk.new (OpensAs old) }
+        → IsAtRest D.content D.may_leave disk.old (IsAbove is_open old)
+        → LeavesOnly D.moment D.may_leave D.left_since disk.old disk.new (OpensAs old) }
     ensures grown { OnOk result (IsSomeAnd (D.count disk.new) (λ n. used + length staged.now ≤ n)) }
     ensures room { KeepsRoom (D.count disk.old) (D.count disk.new) }
     ensures cause { HasCause (D.faults disk.old) (D.faults disk.new) result }
@@ -78,10 +83,13 @@ pub fn commit_to<D: Disk>(
     requires room { IsSomeAnd (D.count disk.old) (λ n. used ≤ n) }
     requires fits { used + length staged.now < 2 ^ 48 }
     requires next { generation < 2 ^ 48 }
-    ensures done { OnOk result ((old new : Opening) → IsCommit spare used generation staged.now root.now old new
-        → IsAtRest D.content D.may_leave disk.old (IsAbove is_open old) → IsAtRest D.content D.may_leave disk.new (OpensAboveOlder new)) }
+    ensures done { OnOk result ((old new : Opening)
+        → IsCommit spare used generation staged.now root.now old new
+        → IsAtRest D.content D.may_leave disk.old (IsAbove is_open old)
+        → IsAtRest D.content D.may_leave disk.new (OpensAboveOlder new)) }
     ensures images { (old new : Opening) → IsCommit spare used generation staged.now root.now old new
-        → IsAtRest D.content D.may_leave disk.old (IsAbove is_open old) → LeavesOnly D.moment D.may_leave D.left_since disk.old disk.new (OpensAsEither old new) }
+        → IsAtRest D.content D.may_leave disk.old (IsAbove is_open old)
+        → LeavesOnly D.moment D.may_leave D.left_since disk.old disk.new (OpensAsEither old new) }
     ensures room { KeepsRoom (D.count disk.old) (D.count disk.new) }
     ensures grown { OnOk result (IsSomeAnd (D.count disk.new) (λ n. used + length staged.now ≤ n)) }
     ensures cause { HasCause (D.faults disk.old) (D.faults disk.new) result }

@@ -15,7 +15,8 @@ use tw_disk::{Disk, Failed};
 // Writes both gates closed, for good.
 pub fn write_closed_gates<D: Disk>(disk: &mut D) -> Result<(), Failed>
     requires { IsSomeAnd (D.count disk.old) (λ n. 0 ≤ n) }
-    ensures closed { OnOk result (IsAtRest D.content D.may_leave disk.old (λ c. length c < 4) → IsAtRest D.content D.may_leave disk.new BothClosed) }
+    ensures closed { OnOk result (IsAtRest D.content D.may_leave disk.old (λ c. length c < 4)
+        → IsAtRest D.content D.may_leave disk.new BothClosed) }
     ensures images { IsAtRest D.content D.may_leave disk.old (λ c. length c < 4)
         → LeavesOnly D.moment D.may_leave D.left_since disk.old disk.new (λ c. length c < 4) }
     ensures grown { OnOk result (IsSomeAnd (D.count disk.new) (λ n. 2 ≤ n)) }
@@ -29,8 +30,10 @@ pub fn write_closed_gates<D: Disk>(disk: &mut D) -> Result<(), Failed>
 pub fn write_bodies<D: Disk>(disk: &mut D, root: &[u8]) -> Result<(), Failed>
     requires room { IsSomeAnd (D.count disk.old) (λ n. 2 ≤ n) }
     requires root { length root.now ≤ 512 }
-    ensures ready { OnOk result (IsAtRest D.content D.may_leave disk.old BothClosed → IsAtRest D.content D.may_leave disk.new (λ c. BothClosed c × HasBodies root.now c)) }
-    ensures images { IsAtRest D.content D.may_leave disk.old BothClosed → LeavesOnly D.moment D.may_leave D.left_since disk.old disk.new BothClosed }
+    ensures ready { OnOk result (IsAtRest D.content D.may_leave disk.old BothClosed
+        → IsAtRest D.content D.may_leave disk.new (λ c. BothClosed c × HasBodies root.now c)) }
+    ensures images { IsAtRest D.content D.may_leave disk.old BothClosed
+        → LeavesOnly D.moment D.may_leave D.left_since disk.old disk.new BothClosed }
     ensures grown { OnOk result (IsSomeAnd (D.count disk.new) (λ n. 4 ≤ n)) }
     ensures cause { HasCause (D.faults disk.old) (D.faults disk.new) result }
 {
@@ -42,9 +45,11 @@ pub fn write_bodies<D: Disk>(disk: &mut D, root: &[u8]) -> Result<(), Failed>
 pub fn write_open_gates<D: Disk>(disk: &mut D) -> Result<(), Failed>
     requires { IsSomeAnd (D.count disk.old) (λ n. 4 ≤ n) }
     ensures grown { OnOk result (IsSomeAnd (D.count disk.new) (λ n. 4 ≤ n)) }
-    ensures opened { OnOk result ((root : List ℕ) → IsAtRest D.content D.may_leave disk.old (λ c. BothClosed c × HasBodies root c)
+    ensures opened { OnOk result ((root : List ℕ)
+        → IsAtRest D.content D.may_leave disk.old (λ c. BothClosed c × HasBodies root c)
         → IsAtRest D.content D.may_leave disk.new (OpensAboveOlder (first_opening root))) }
-    ensures images { (root : List ℕ) → IsAtRest D.content D.may_leave disk.old (λ c. BothClosed c × HasBodies root c)
+    ensures images { (root : List ℕ) → IsAtRest D.content D.may_leave disk.old (λ c. BothClosed c
+        × HasBodies root c)
         → LeavesOnly D.moment D.may_leave D.left_since disk.old disk.new (IsBlankOrNew root) }
     ensures cause { HasCause (D.faults disk.old) (D.faults disk.new) result }
 {
@@ -70,7 +75,8 @@ pub fn is_gate_open<D: Disk>(disk: &mut D, slot: u64) -> Result<bool, Failed>
 
 // Makes what was written stable, refuses a store that is there, and tells whether there are too few pages for one.
 pub fn look<D: Disk>(disk: &mut D) -> Result<bool, StoreFault>
-    ensures unmade { IfOk result (λ short. (c : Image) → D.content disk.old ≡ Some c → IsAtRest D.content D.may_leave disk.new (λ i. (i ≡ c) × IsUnmade short i)) }
+    ensures unmade { IfOk result (λ short. (c : Image) → D.content disk.old ≡ Some c
+        → IsAtRest D.content D.may_leave disk.new (λ i. (i ≡ c) × IsUnmade short i)) }
     ensures images { LeavesOnly D.moment D.may_leave D.left_since disk.old disk.new (D.may_leave disk.old) }
     ensures taken { result ≡ Err StoreFault.Taken → (c : Image) → D.content disk.old ≡ Some c → IsTaken c }
     ensures answers { IfErr result (λ e. (e ≡ StoreFault.Taken) ⊎ (e ≡ StoreFault.DiskFault)) }
@@ -95,8 +101,10 @@ pub fn look<D: Disk>(disk: &mut D) -> Result<bool, StoreFault>
 // Sees that both gates are closed.
 pub fn see_gates_closed<D: Disk>(disk: &mut D, short: bool) -> Result<(), Failed>
     requires { IsSomeAnd (D.count disk.old) (λ n. (if short then 0 else 2) ≤ n) }
-    ensures closed { OnOk result (IsAtRest D.content D.may_leave disk.old (IsUnmade short) → IsAtRest D.content D.may_leave disk.new BothClosed) }
-    ensures images { IsAtRest D.content D.may_leave disk.old (IsUnmade short) → LeavesOnly D.moment D.may_leave D.left_since disk.old disk.new IsBlank }
+    ensures closed { OnOk result (IsAtRest D.content D.may_leave disk.old (IsUnmade short)
+        → IsAtRest D.content D.may_leave disk.new BothClosed) }
+    ensures images { IsAtRest D.content D.may_leave disk.old (IsUnmade short)
+        → LeavesOnly D.moment D.may_leave D.left_since disk.old disk.new IsBlank }
     ensures room { OnOk result (IsSomeAnd (D.count disk.new) (λ n. 2 ≤ n)) }
     ensures cause { HasCause (D.faults disk.old) (D.faults disk.new) result }
 {
@@ -110,8 +118,10 @@ pub fn see_gates_closed<D: Disk>(disk: &mut D, short: bool) -> Result<(), Failed
 pub fn make<D: Disk>(disk: &mut D, short: bool, root: &[u8]) -> Result<(), Failed>
     requires room { IsSomeAnd (D.count disk.old) (λ n. (if short then 0 else 2) ≤ n) }
     requires root { length root.now ≤ 512 }
-    ensures made { OnOk result (IsAtRest D.content D.may_leave disk.old (IsUnmade short) → IsAtRest D.content D.may_leave disk.new (OpensAboveOlder (first_opening root.now))) }
-    ensures images { IsAtRest D.content D.may_leave disk.old (IsUnmade short) → LeavesOnly D.moment D.may_leave D.left_since disk.old disk.new (IsBlankOrNew root.now) }
+    ensures made { OnOk result (IsAtRest D.content D.may_leave disk.old (IsUnmade short)
+        → IsAtRest D.content D.may_leave disk.new (OpensAboveOlder (first_opening root.now))) }
+    ensures images { IsAtRest D.content D.may_leave disk.old (IsUnmade short)
+        → LeavesOnly D.moment D.may_leave D.left_since disk.old disk.new (IsBlankOrNew root.now) }
     ensures room { OnOk result (IsSomeAnd (D.count disk.new) (λ n. 4 ≤ n)) }
     ensures cause { HasCause (D.faults disk.old) (D.faults disk.new) result }
 {

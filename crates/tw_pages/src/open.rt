@@ -25,7 +25,8 @@ pub fn read_slot<D: Disk>(disk: &mut D, slot: u64, count: u64) -> Result<Slot, F
     requires low { slot < 2 }
     requires count { D.count disk.old ≡ Some count }
     requires room { 4 ≤ count }
-    ensures slot { IfOk result (λ s. (c : Image) → D.content disk.old ≡ Some c → HoldsSlot (length c) slot c s) }
+    ensures slot { IfOk result (λ s. (c : Image) → D.content disk.old ≡ Some c
+        → HoldsSlot (length c) slot c s) }
     ensures room { IfOk result (HasRoom count) }
     ensures count { D.count disk.new ≡ D.count disk.old }
     ensures content { D.content disk.new ≡ D.content disk.old }
@@ -70,11 +71,15 @@ pub struct Found {
 
 // Chooses the slot that counts: the one with an open gate, or of two the one of the higher generation.
 pub fn choose(first: Slot, second: Slot) -> Result<Found, StoreFault>
-    ensures found { (c : Image) → HoldsSlot (length c) 0 c first → HoldsSlot (length c) 1 c second → IfOk result (IsFoundIn c) }
+    ensures found { (c : Image) → HoldsSlot (length c) 0 c first → HoldsSlot (length c) 1 c second
+        → IfOk result (IsFoundIn c) }
     ensures slot { IfOk result (λ f. f.slot < 2) }
-    ensures room { (count : ℕ) → HasRoom count first → HasRoom count second → IfOk result (λ f. f.body.used ≤ count) }
-    ensures answers { IfErr result (λ e. (e ≢ StoreFault.DiskFault) × (e ≢ StoreFault.Taken) × (e ≢ StoreFault.NoMemory)) }
-    ensures refused { (c : Image) → 4 ≤ length c → HoldsSlot (length c) 0 c first → HoldsSlot (length c) 1 c second → IfErr result (IsRefusedFor c) }
+    ensures room { (count : ℕ) → HasRoom count first → HasRoom count second
+        → IfOk result (λ f. f.body.used ≤ count) }
+    ensures answers { IfErr result (λ e. (e ≢ StoreFault.DiskFault) × (e ≢ StoreFault.Taken)
+        × (e ≢ StoreFault.NoMemory)) }
+    ensures refused { (c : Image) → 4 ≤ length c → HoldsSlot (length c) 0 c first
+        → HoldsSlot (length c) 1 c second → IfErr result (IsRefusedFor c) }
 {
     match (first, second) {
         (Slot::Broken, _) => Err(StoreFault::NotAStore { slot: 0 }),
@@ -96,11 +101,15 @@ pub fn choose(first: Slot, second: Slot) -> Result<Found, StoreFault>
 
 // Chooses of two slots with open gates the one of the higher generation.
 fn choose_newer(first: Body, second: Body) -> Result<Found, StoreFault>
-    ensures found { (c : Image) → HoldsSlot (length c) 0 c (Slot.Holds first) → HoldsSlot (length c) 1 c (Slot.Holds second) → IfOk result (IsFoundIn c) }
+    ensures found { (c : Image) → HoldsSlot (length c) 0 c (Slot.Holds first)
+        → HoldsSlot (length c) 1 c (Slot.Holds second) → IfOk result (IsFoundIn c) }
     ensures slot { IfOk result (λ f. f.slot < 2) }
-    ensures room { (count : ℕ) → first.used ≤ count → second.used ≤ count → IfOk result (λ f. f.body.used ≤ count) }
-    ensures answers { IfErr result (λ e. (e ≢ StoreFault.DiskFault) × (e ≢ StoreFault.Taken) × (e ≢ StoreFault.NoMemory)) }
-    ensures refused { (c : Image) → 4 ≤ length c → HoldsSlot (length c) 0 c (Slot.Holds first) → HoldsSlot (length c) 1 c (Slot.Holds second) → IfErr result (IsRefusedFor c) }
+    ensures room { (count : ℕ) → first.used ≤ count → second.used ≤ count
+        → IfOk result (λ f. f.body.used ≤ count) }
+    ensures answers { IfErr result (λ e. (e ≢ StoreFault.DiskFault) × (e ≢ StoreFault.Taken)
+        × (e ≢ StoreFault.NoMemory)) }
+    ensures refused { (c : Image) → 4 ≤ length c → HoldsSlot (length c) 0 c (Slot.Holds first)
+        → HoldsSlot (length c) 1 c (Slot.Holds second) → IfErr result (IsRefusedFor c) }
 {
     if first.generation == second.generation {
         return Err(StoreFault::NotAStore { slot: 1 });
@@ -143,8 +152,10 @@ pub fn settle<D: Disk>(disk: &mut D) -> Result<u64, Failed>
 
 // Makes what was written stable, and finds the slot that counts.
 pub fn find<D: Disk>(disk: &mut D) -> Result<Found, StoreFault>
-    ensures found { IfOk result (λ f. (c : Image) → D.content disk.old ≡ Some c → IsAtRest D.content D.may_leave disk.new (λ i. (i ≡ c) × IsFoundIn i f)) }
-    ensures refused { IfErr result (λ e. (c : Image) → D.content disk.old ≡ Some c → (e ≡ StoreFault.DiskFault) ⊎ IsRefusedFor c e) }
+    ensures found { IfOk result (λ f. (c : Image) → D.content disk.old ≡ Some c
+        → IsAtRest D.content D.may_leave disk.new (λ i. (i ≡ c) × IsFoundIn i f)) }
+    ensures refused { IfErr result (λ e. (c : Image) → D.content disk.old ≡ Some c
+        → (e ≡ StoreFault.DiskFault) ⊎ IsRefusedFor c e) }
     ensures room { IfOk result (λ f. (f.slot < 2) × IsSomeAnd (D.count disk.new) (λ n. f.body.used ≤ n)) }
     ensures answers { IfErr result (λ e. (e ≢ StoreFault.Taken) × (e ≢ StoreFault.NoMemory)) }
     ensures content { D.content disk.new ≡ D.content disk.old }
