@@ -4,3 +4,4 @@ pub mod PathBinding
 pub mod Greedy
 pub mod LayoutLaws
 pub mod ReadingLaws
+pub mod WritingLaws

@@ -14,7 +14,7 @@ use tw_base::{
 };
 
 /// How an existence proof begins: the four bytes `TWP1` and the kind 1.
-const MAGIC: [u8; 5] = [0x54, 0x57, 0x50, 0x31, 1];
+pub(crate) const MAGIC: [u8; 5] = [0x54, 0x57, 0x50, 0x31, 1];
 
 /// The greatest step.
 const LAST_STEP: u64 = (1 << 40) - 1;
