@@ -5,3 +5,6 @@ pub mod Greedy
 pub mod LayoutLaws
 pub mod ReadingLaws
 pub mod WritingLaws
+pub mod SpellingLaws
+pub mod Making
+pub mod WorkedPaths

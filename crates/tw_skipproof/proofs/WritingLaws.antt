@@ -1,17 +1,15 @@
 -- The bytes that are written spell the value, and are its one spelling.
-use Rattle.std.proofs.Common.{◌≡◌, ℕ, suc, zero, ◌+◌, ◌-◌, ◌*◌, ◌<◌, ◌≤◌, ◌^◌, List, [], ◌∷◌, ◌++◌, length, take, get_or, refl, ap, sym, ◌∙◌, subst, arith, lit<, lit≤, append_assoc, inl, inr}
-use Rattle.std.proofs.lemmas.Bool.{cases_lt}
+use Rattle.std.proofs.Common.{◌≡◌, ℕ, ◌+◌, ◌-◌, ◌<◌, ◌≤◌, ◌^◌, List, [], ◌∷◌, ◌++◌, length, take, get_or, refl, ap, sym, ◌∙◌, subst, arith, lit<, append_assoc}
 use Rattle.std.proofs.lemmas.List.{append-nil, take_more}
-use Rattle.std.specs.List.{flat_map}
-use Rattle.tw_base.specs.Formats.{OneSpelling, Spells, WrittenAs, then_by}
+use Rattle.tw_base.specs.Formats.{Spells}
 use Rattle.tw_base.specs.Fields.{bytes, digest, name, number, number_bytes, repeated, text}
 use Rattle.tw_base.specs.Lists.{Each}
 use Rattle.tw_base.specs.Texts.{joined}
 use Rattle.tw_base.specs.AuditPath.{path_length}
 use Rattle.tw_base.specs.Levels.{top_level}
-use Rattle.tw_base.proofs.FormatLaws.{AllWords, all_words-done, all_words-then, spells_then}
-use Rattle.tw_base.proofs.NumberLaws.{number_spelled, number_spells, number-written}
-use Rattle.tw_base.proofs.FieldLaws.{bytes-written, flat_map-labels, length-bytes, length-repeated, name-written, repeated-written, text-spells, text-word}
+use Rattle.tw_base.proofs.FormatLaws.{spells_then}
+use Rattle.tw_base.proofs.NumberLaws.{number_spells}
+use Rattle.tw_base.proofs.FieldLaws.{text-spells}
 use Rattle.tw_base.proofs.ListLemmas.{Each-append}
 use Rattle.tw_skipproof.specs.declared.opening.Opening.{Opening}
 use Rattle.tw_skipproof.specs.declared.path.Link.{Link}

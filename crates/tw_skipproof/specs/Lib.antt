@@ -4,3 +4,4 @@ pub mod Layouts
 pub mod Existence
 pub mod Reading
 pub mod Writing
+pub mod Making

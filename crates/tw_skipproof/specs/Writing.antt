@@ -1,5 +1,5 @@
 -- The bytes of openings, paths and existence proofs, and which of these values have them as a spelling.
-use Rattle.std.specs.Prelude.{◌≡◌, ℕ, ◌-◌, ◌<◌, ◌≤◌, List, [], ◌∷◌, ◌++◌, length}
+use Rattle.std.specs.Prelude.{◌≡◌, ℕ, ◌<◌, ◌≤◌, List, [], ◌∷◌, ◌++◌, length}
 use Rattle.tw_base.specs.Formats.{Spells}
 use Rattle.tw_base.specs.Fields.{number_bytes}
 use Rattle.tw_base.specs.Texts.{joined}

@@ -1,4 +1,4 @@
-use Rattle.std.proofs.Common.{ap, ◌≡◌, length, subst, List, ℕ}
+use Rattle.std.proofs.Common.{length, subst, List, ℕ}
 use Rattle.tw_base.specs.Fields.{bytes}
 use Rattle.tw_base.specs.Formats.{Spells}
 use Rattle.tw_skipproof.proofs.WritingLaws.{event_spelled}
