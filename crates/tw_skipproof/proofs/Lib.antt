@@ -8,3 +8,4 @@ pub mod WritingLaws
 pub mod SpellingLaws
 pub mod Making
 pub mod WorkedPaths
+pub mod PathSizes

@@ -1,4 +1,5 @@
 use Rattle.std.proofs.Common.{lit≤}
+use Rattle.tw_skipproof.proofs.PathSizes.{path-size}
 use Rattle.tw_skipproof.proofs.SpellingLaws.{existence-limits, existence-one_spelling, existence-shape, existence-written, opening-labels, opening-one_spelling, opening-written, path-one_spelling, path-shape, path-written}
 use Rattle.tw_skipproof.proofs.laws.spelling_laws.Goals as goal
 
@@ -13,6 +14,9 @@ returns-clause-path c = λ from to. (path-written from to, path-one_spelling fro
 
 pub returns-clause-path_shape : goal.returns-clause-path_shape
 returns-clause-path_shape c = path-shape
+
+pub returns-clause-path_size : goal.returns-clause-path_size
+returns-clause-path_size c = path-size
 
 pub returns-clause-existence : goal.returns-clause-existence
 returns-clause-existence c = (existence-written, existence-one_spelling)
