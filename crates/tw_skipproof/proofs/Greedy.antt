@@ -46,10 +46,10 @@ module _ (from to : ℕ) (order : to < from) (small : from < 2 ^ 64) where
     greatest = λ other fine. hop_level-greatest from to other (top_level-greatest from other some small fine.0) fine.1;
   }
 
-  hop-divides : hop from to % 2 ^ hop_level from to ≡ 0
+  pub hop-divides : hop from to % 2 ^ hop_level from to ≡ 0
   hop-divides = divides-minus from (hop_level from to) (let short = hop_level-short from to order in omega arith) hop_level-divides
 
-below_power : (m n a : ℕ) → 2 ^ m ≤ a → a < 2 ^ n → m < n
+pub below_power : (m n a : ℕ) → 2 ^ m ≤ a → a < 2 ^ n → m < n
 below_power m n a l h =
     elim (cases_lt m n) [
       | inl less ↦ less

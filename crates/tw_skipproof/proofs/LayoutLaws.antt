@@ -1,6 +1,6 @@
 -- Each front of an opening, a path or an existence proof that is let through goes on to a whole one.
-use Rattle.std.proofs.Common.{ℕ, ◌-◌, ◌<◌, ◌≤◌, ◌^◌, List, [], ◌∷◌, arith, lit≤}
-use Rattle.tw_base.specs.Formats.{GoesOn, then_by}
+use Rattle.std.proofs.Common.{ℕ, ◌-◌, ◌≤◌, ◌^◌, List, [], ◌∷◌, arith, lit≤}
+use Rattle.tw_base.specs.Formats.{GoesOn}
 use Rattle.tw_base.specs.Fields.{bytes, digest, name, number, text}
 use Rattle.tw_base.specs.AuditPath.{path_length}
 use Rattle.tw_base.specs.Levels.{top_level}

@@ -4,3 +4,8 @@ pub mod PathBinding
 pub mod Greedy
 pub mod LayoutLaws
 pub mod ReadingLaws
+pub mod WritingLaws
+pub mod SpellingLaws
+pub mod Making
+pub mod WorkedPaths
+pub mod PathSizes

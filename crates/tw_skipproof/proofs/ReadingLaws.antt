@@ -1,6 +1,6 @@
 -- Reading field by field is reading the layout.
-use Rattle.std.proofs.Common.{◌≡◌, ℕ, suc, zero, ◌-◌, ◌+◌, ◌*◌, ◌<◌, ◌≤◌, ◌^◌, List, [], ◌∷◌, ◌++◌, refl, ap, sym, ◌∙◌, subst, arith, lit<, append_assoc, inl, inr}
-use Rattle.std.specs.Prelude.{Result, Ok, Err, nat_le, if◌then◌else◌}
+use Rattle.std.proofs.Common.{◌≡◌, ℕ, suc, zero, ◌+◌, ◌*◌, ◌<◌, ◌≤◌, ◌^◌, List, [], ◌∷◌, ◌++◌, refl, ap, sym, ◌∙◌, subst, arith, lit<, append_assoc, inl, inr}
+use Rattle.std.specs.Prelude.{Result, Ok, Err, if◌then◌else◌}
 use Rattle.std.proofs.lemmas.Bool.{cases_lt, le-leb, lt-leb}
 use Rattle.std.proofs.lemmas.List.{append-nil}
 use Rattle.std.proofs.Math.Nat.{one-le-pow}
@@ -37,16 +37,16 @@ existence_at-is whole at = simp (read_at-then, read_at-done)
 
 -- ---- the steps of the greedy path
 
-steps_within-none : (links from to : ℕ) → from ≤ to → steps_within links from to ≡ []
+pub steps_within-none : (links from to : ℕ) → from ≤ to → steps_within links from to ≡ []
 unfolding steps_within
 steps_within-none zero from to l = refl
 steps_within-none (suc links) from to l = ap (λ b. if b then [] else from ∷ steps_within links (hop from to) to) (le-leb from to l)
 
-steps_within-more : (links from to : ℕ) → to < from → steps_within (suc links) from to ≡ from ∷ steps_within links (hop from to) to
+pub steps_within-more : (links from to : ℕ) → to < from → steps_within (suc links) from to ≡ from ∷ steps_within links (hop from to) to
 unfolding steps_within
 steps_within-more links from to l = ap (λ b. if b then [] else from ∷ steps_within links (hop from to) to) (lt-leb from to l)
 
-hop-less : (from to : ℕ) → to < from → hop from to < from
+pub hop-less : (from to : ℕ) → to < from → hop from to < from
 hop-less from to l = let some : 1 ≤ 2 ^ hop_level from to = one-le-pow (hop_level from to) 2 (lit< tt) in omega arith
 
 -- any number of links that is high enough gives the same steps

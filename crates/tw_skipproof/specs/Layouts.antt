@@ -1,5 +1,5 @@
 -- The bytes of openings and paths.
-use Rattle.std.specs.Prelude.{ℕ, suc, zero, ◌∷◌, List, [], nat_le, if◌then◌else◌}
+use Rattle.std.specs.Prelude.{ℕ, ◌∷◌, List, []}
 use Rattle.tw_base.specs.Formats.{Format, then_by}
 use Rattle.tw_base.specs.Formats.Format.{Done}
 use Rattle.tw_base.specs.Fields.{digest, number, repeated}

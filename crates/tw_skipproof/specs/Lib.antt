@@ -3,3 +3,5 @@ pub mod Paths
 pub mod Layouts
 pub mod Existence
 pub mod Reading
+pub mod Writing
+pub mod Making

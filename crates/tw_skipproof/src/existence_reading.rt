@@ -4,6 +4,7 @@ ghost use Rattle.std.specs.Prelude.{◌≡◌, ℕ, ◌+◌, ◌-◌, ◌*◌, �
 ghost use Rattle.tw_base.specs.Formats.{GivesIfMemory, GivesWithEnd, ReadsAs, read_at};
 ghost use Rattle.tw_skipproof.specs.Existence.{IsWithinLimits, event_layout, existence_layout, pos};
 ghost use Rattle.tw_skipproof.specs.Reading.{event_at as event_at_of, existence_at as existence_at_of};
+ghost use Rattle.tw_skipproof.specs.Writing.{IsShaped};
 
 use crate::existence::{EventPart, ExistenceProof, Part};
 use crate::reading::{opening_at, path_at};
@@ -14,7 +15,7 @@ use tw_base::{
 };
 
 /// How an existence proof begins: the four bytes `TWP1` and the kind 1.
-const MAGIC: [u8; 5] = [0x54, 0x57, 0x50, 0x31, 1];
+pub(crate) const MAGIC: [u8; 5] = [0x54, 0x57, 0x50, 0x31, 1];
 
 /// The greatest step.
 const LAST_STEP: u64 = (1 << 40) - 1;
@@ -99,6 +100,7 @@ fn existence_at(alloc: Global, bytes: &[u8]) -> Result<(ExistenceProof, u64), Re
 pub fn read_existence(alloc: Global, bytes: &[u8]) -> Result<ExistenceProof, ReadFault>
     ensures read { ReadsAs (λ p. p) existence_layout bytes.now result }
     ensures limits { IfOk result IsWithinLimits }
+    ensures shape { IfOk result IsShaped }
 {
     whole(bytes, existence_at(alloc, bytes))
 }

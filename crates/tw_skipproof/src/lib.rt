@@ -5,14 +5,18 @@ mod climbing;
 mod existence;
 mod existence_reading;
 mod hop;
+mod laws;
 mod opening;
 mod path;
 mod reading;
+mod writing;
 
 pub use climbing::climb;
 pub use existence::{EventPart, ExistenceProof, Part};
 pub use existence_reading::read_existence;
 pub use hop::next_hop;
+pub use laws::{making_laws, spelling_laws};
 pub use opening::{Opening, check_opening};
 pub use path::{Link, LinkList, Path};
 pub use reading::{read_opening, read_path};
+pub use writing::{write_existence, write_opening, write_path};

@@ -1,0 +1,38 @@
+// The laws of paths, openings and existence proofs, on which the layers above build.
+
+ghost use Rattle.std.specs.Prelude.{◌≡◌, ℕ, ◌^◌, ◌<◌, ◌≤◌, List, length};
+ghost use Rattle.tw_base.specs.Auth.{auth};
+ghost use Rattle.tw_base.specs.Formats.{OneSpelling, Spells, WrittenAs};
+ghost use Rattle.tw_base.specs.History.{History};
+ghost use Rattle.tw_base.specs.Levels.{top_level};
+ghost use Rattle.tw_skipproof.specs.declared.existence.ExistenceProof.{ExistenceProof};
+ghost use Rattle.tw_skipproof.specs.declared.opening.Opening.{Opening};
+ghost use Rattle.tw_skipproof.specs.declared.path.Link.{Link};
+ghost use Rattle.tw_skipproof.specs.Existence.{IsWithinLimits, existence_layout};
+ghost use Rattle.tw_skipproof.specs.Layouts.{opening_layout, path_layout};
+ghost use Rattle.tw_skipproof.specs.Making.{IsOpeningOf, IsPathOf};
+ghost use Rattle.tw_skipproof.specs.Openings.{IsOpeningAt, opening_auth};
+ghost use Rattle.tw_skipproof.specs.Paths.{HasShape, climbed};
+ghost use Rattle.tw_skipproof.specs.Writing.{IsShaped, existence_bytes, opening_bytes, path_bytes};
+
+use tw_base::Hasher;
+
+/// What the layouts spell: a value's one spelling is what the writers write, and it has the links
+/// and numbers of labels that climbing and checking ask for. A path has at most 53,760 bytes.
+pub fn spelling_laws()
+    ensures opening { (step : ℕ) → WrittenAs (opening_layout step) opening_bytes × OneSpelling (opening_layout step) }
+    ensures opening_labels { (step : ℕ) (bytes : List ℕ) (o : Opening) → Spells (opening_layout step) bytes o → length o.others ≡ top_level step }
+    ensures path { (from to : ℕ) → WrittenAs (path_layout from to) path_bytes × OneSpelling (path_layout from to) }
+    ensures path_shape { (from to : ℕ) (bytes : List ℕ) (links : List Link) → Spells (path_layout from to) bytes links → HasShape links from to }
+    ensures path_size { (from to : ℕ) (bytes : List ℕ) (links : List Link) → from < 2 ^ 40 → Spells (path_layout from to) bytes links → length bytes < 53761 }
+    ensures existence { WrittenAs existence_layout existence_bytes × OneSpelling existence_layout }
+    ensures existence_shape { (bytes : List ℕ) (p : ExistenceProof) → Spells existence_layout bytes p → IsShaped p × IsWithinLimits p }
+{}
+
+/// A history's own openings and paths compute its authenticators.
+pub fn making_laws<H: Hasher>()
+    ensures opening { (h : History) (step : ℕ) (o : Opening) → 0 < step → IsOpeningOf H.dig h step o →
+        IsOpeningAt step o × (opening_auth H.dig step o ≡ auth H.dig h step) }
+    ensures path { (h : History) (links : List Link) (from to : ℕ) → to ≤ from → IsPathOf H.dig h links from to →
+        HasShape links from to × (climbed H.dig links from to (auth H.dig h to) ≡ auth H.dig h from) }
+{}
