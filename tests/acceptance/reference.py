@@ -2,9 +2,12 @@
 
 The acceptance cases take their expected bytes, digests and places from here, and never from the program itself.
 
-    python3 tests/acceptance/reference.py     prints the values that the documents quote
+    python3 tests/acceptance/reference.py           prints the values that the documents quote
+    python3 tests/acceptance/reference.py FILE      writes a proof of an event of a service `shop` to the file, and prints
+                                                    the anchor that it is accepted under
 """
 
+import sys
 from hashlib import sha256
 
 LAST_STEP = 2**40 - 1
@@ -307,8 +310,9 @@ def deep_proof(name, step, index, top, events, made_up):
     root = event_root(events)
     prev = stand_in()
     others = [stand_in() for _ in range(top_level(step))]
-    opening = root + EMPTY_TREE + be(count, 4) + prev + b"".join(others)
-    own = datum(root, EMPTY_TREE, count)
+    archive = stand_in()
+    opening = root + archive + be(count, 4) + prev + b"".join(others)
+    own = datum(root, archive, count)
     reached = authenticator(step, [link_label(step, 0, own, prev)] + others)
     records = []
     for start in reversed(greedy_steps(top, step)[:-1]):
@@ -322,7 +326,7 @@ def deep_proof(name, step, index, top, events, made_up):
     return proof, reached
 
 
-def main():
+def print_values():
     least = Timeline("a", [[b""]])
     print("least proof", len(proof_bytes(least, 1, 0, 1)), "bytes, authenticator", least.auths[1].hex())
     sixteen = Timeline("a", [[b""]] * 16)
@@ -331,5 +335,14 @@ def main():
     print("root of no events", event_root([]).hex())
 
 
+def write_proof(file):
+    """Thirteen steps of three events each; the proof is that of the second event of step 5, under step 13."""
+    steps = [[f"order {step}.{k}".encode() for k in range(3)] for step in range(1, 14)]
+    line = Timeline("shop", steps)
+    with open(file, "wb") as out:
+        out.write(proof_bytes(line, 5, 1, 13))
+    print("shop 13", line.auths[13].hex())
+
+
 if __name__ == "__main__":
-    main()
+    write_proof(sys.argv[1]) if len(sys.argv) > 1 else print_values()
