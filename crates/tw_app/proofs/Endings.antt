@@ -19,7 +19,7 @@ use Rattle.tw_chain.specs.declared.verdict.Verdict.TheVariants.{Yes, No}
 use Rattle.tw_chain.specs.Accepting.{Accepts, claim_of, proof_texts, report_of}
 use Rattle.tw_app.specs.declared.outcome.Outcome.{Outcome}
 use Rattle.tw_app.specs.declared.outcome.Outcome.TheVariants.{Judged, BadWords, InputFault, NoMemory}
-use Rattle.tw_app.specs.Running.{Ends, EndsWith, HasOutcome, IsAcceptedRun, IsRejectedRun, IsUsageRun, JudgesFile, proof_limit, status_of, text_of}
+use Rattle.tw_app.specs.Running.{Ends, EndsWith, HasOutcome, IsAcceptedRun, IsRejectedRun, IsUsageRun, JudgesFile, status_of, text_of}
 
 module _ (told : Option Files) (before after : ℕ) (words : List (List ℕ)) (taken taken_after : Option (List ℕ)) (faults faults_after : ℕ) (status : ℕ) where
   abbrev EndsNow : Type 0
@@ -40,13 +40,13 @@ module _ (told : Option Files) (before after : ℕ) (words : List (List ℕ)) (t
         command = file.command;
         accepted = λ bytes tells.
             let is = file.judged.is_verdict bytes tells in (is.0, subst (λ r. Appends taken taken_after (report_text r)) is.1 written);
-        headline = λ bytes tells p spelled family sound has.
+        binds = λ bytes tells p spelled family sound has.
             let is = file.judged.is_verdict bytes tells in
-            let accepts : Accepts sha256 (anchor_of_file ∷ []) (take proof_limit bytes) = is.0 in
-            let same : accepts.0 ≡ p = one_value existence_layout (take proof_limit bytes) accepts.0 p accepts.1 spelled in
+            let accepts : Accepts sha256 (anchor_of_file ∷ []) bytes = is.0 in
+            let same : accepts.0 ≡ p = one_value existence_layout bytes accepts.0 p accepts.1 spelled in
             let claim : report.claim ≡ claim_of p = ap (λ (r : Report). r.claim) is.1 ∙ ap claim_of same in
             let Claims : Claim → Type 0 = λ c. OrClash sha256 (family_texts sha256 family ++ proof_texts sha256 p) (Facts family c) in
-            subst Claims claim (file.judged.headline bytes tells p spelled family sound has);
+            subst Claims claim (file.judged.binds bytes tells p spelled family sound has);
       }
   accepted_by (No reason) file zeroth written = absurd (omega arith)
 

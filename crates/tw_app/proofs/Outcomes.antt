@@ -1,5 +1,5 @@
 -- From what was read and judged to the outcome.
-use Rattle.std.proofs.Common.{◌≡◌, ℕ, List, [], ◌∷◌, take, refl, ap, sym, ◌∙◌, subst}
+use Rattle.std.proofs.Common.{◌≡◌, ℕ, List, [], ◌∷◌, take, refl, ap, sym, ◌∙◌, subst, lit<}
 use Rattle.std.specs.Prelude.{Option, Some, None, IfSome}
 use Rattle.sha2.specs.Sha256.{sha256}
 use Rattle.tw_base.specs.declared.thread.Thread.{Thread}
@@ -9,21 +9,26 @@ use Rattle.tw_text.specs.CommandLine.{command_of, word_at}
 use Rattle.tw_text.specs.declared.command.Command.{Command}
 use Rattle.tw_text.specs.declared.command.Command.TheVariants.{VerifyOne}
 use Rattle.tw_chain.specs.declared.verdict.Verdict.{Verdict}
-use Rattle.tw_chain.specs.Headline.{Headline}
+use Rattle.tw_chain.specs.Binding.{BindsHistories}
 use Rattle.tw_chain.specs.Reasons.{IsVerdict}
+use Rattle.tw_chain.proofs.Fronts.{binds_of_front, verdict_of_front}
 use Rattle.tw_app.specs.declared.outcome.Outcome.{Outcome}
 use Rattle.tw_app.specs.declared.outcome.Outcome.TheVariants.{Judged, BadWords, InputFault, NoMemory}
 use Rattle.tw_app.specs.Commands.{anchor_given, files_of}
-use Rattle.tw_app.specs.Running.{HasFileOutcome, HasOutcome, IsJudged, JudgesFile, proof_limit}
+use Rattle.tw_app.specs.Running.{HasFileOutcome, HasOutcome, IsJudged, JudgesFile}
 use Rattle.tw_app.proofs.CommandWords.{proof_word}
+
+-- of a proof file so many bytes are read
+abbrev pub proof_limit : ℕ
+proof_limit = 5242880
 
 pub judged_by : (told : Option Files) (file : List ℕ) (anchor : Thread) (verdict : Verdict) (all : List ℕ) → IsThere told file
     → ((bytes : List ℕ) → Tells told file bytes → all ≡ take proof_limit bytes)
-    → IsVerdict sha256 (anchor ∷ []) all verdict → Headline sha256 (anchor ∷ []) all verdict → IsJudged told file anchor verdict
-judged_by told file anchor verdict all there read is headline = record {
+    → IsVerdict sha256 (anchor ∷ []) all verdict → BindsHistories sha256 (anchor ∷ []) all verdict → IsJudged told file anchor verdict
+judged_by told file anchor verdict all there read is holds = record {
   there = there;
-  is_verdict = λ bytes tells. subst (λ a. IsVerdict sha256 (anchor ∷ []) a verdict) (read bytes tells) is;
-  headline = λ bytes tells. subst (λ a. Headline sha256 (anchor ∷ []) a verdict) (read bytes tells) headline;
+  is_verdict = λ bytes tells. verdict_of_front proof_limit (lit< tt) bytes sha256 (anchor ∷ []) verdict (subst (λ a. IsVerdict sha256 (anchor ∷ []) a verdict) (read bytes tells) is);
+  binds = λ bytes tells. binds_of_front proof_limit (lit< tt) bytes sha256 (anchor ∷ []) verdict (subst (λ a. BindsHistories sha256 (anchor ∷ []) a verdict) (read bytes tells) holds);
 }
 
 -- the command that gives an anchor is `verify` of one file

@@ -1,5 +1,5 @@
 -- What a run of the program answers, and when.
-use Rattle.std.specs.Prelude.{◌≡◌, ◌⊎◌, ℕ, List, [], ◌∷◌, ◌++◌, Option, Some, take, MatchOption}
+use Rattle.std.specs.Prelude.{◌≡◌, ◌⊎◌, ℕ, List, [], ◌∷◌, ◌++◌, Option, Some, MatchOption}
 use Rattle.sha2.specs.Sha256.{sha256}
 use Rattle.tw_base.specs.declared.thread.Thread.{Thread}
 use Rattle.tw_base.specs.declared.report.Reason.{Reason}
@@ -20,7 +20,7 @@ use Rattle.tw_skipproof.specs.Existence.{existence_layout}
 use Rattle.tw_chain.specs.declared.verdict.Verdict.{Verdict}
 use Rattle.tw_chain.specs.declared.verdict.Verdict.TheVariants.{Yes, No}
 use Rattle.tw_chain.specs.Accepting.{Accepts, claim_of, held, proof_texts, report_of}
-use Rattle.tw_chain.specs.Headline.{Headline}
+use Rattle.tw_chain.specs.Binding.{BindsHistories}
 use Rattle.tw_chain.specs.Reasons.{IsLowest, IsVerdict}
 use Rattle.tw_app.specs.declared.outcome.Outcome.{Outcome}
 use Rattle.tw_app.specs.declared.outcome.Outcome.TheVariants.{Judged, BadWords, InputFault, NoMemory}
@@ -44,15 +44,11 @@ text_of NoMemory = no_memory_text
 
 -- ---- when it comes
 
--- of a proof file so many bytes are read
-abbrev pub proof_limit : ℕ
-proof_limit = 5242880
-
 -- the verdict on what the file holds, under one anchor, with its theorem
 pub record IsJudged (told : Option Files) (file : List ℕ) (anchor : Thread) (verdict : Verdict) : Type 0 where
   pub there : IsThere told file
-  pub is_verdict : (bytes : List ℕ) → Tells told file bytes → IsVerdict sha256 (anchor ∷ []) (take proof_limit bytes) verdict
-  pub headline : (bytes : List ℕ) → Tells told file bytes → Headline sha256 (anchor ∷ []) (take proof_limit bytes) verdict
+  pub is_verdict : (bytes : List ℕ) → Tells told file bytes → IsVerdict sha256 (anchor ∷ []) bytes verdict
+  pub binds : (bytes : List ℕ) → Tells told file bytes → BindsHistories sha256 (anchor ∷ []) bytes verdict
 
 -- the words ask for the verdict on a file under one anchor
 pub record JudgesFile (told : Option Files) (words : List (List ℕ)) (verdict : Verdict) : Type 0 where
@@ -109,8 +105,8 @@ pub record IsAcceptedRun (told : Option Files) (words : List (List ℕ)) (taken_
   pub anchor : Thread
   pub command : command_of words ≡ Some (VerifyOne file anchor.from anchor.step anchor.auth)
   pub accepted : (bytes : List ℕ) → Tells told file bytes →
-      (accepts : Accepts sha256 (anchor ∷ []) (take proof_limit bytes)) × Appends taken_before taken_after (report_text (report_of accepts.0))
-  pub headline : (bytes : List ℕ) → Tells told file bytes → (p : ExistenceProof) → Spells existence_layout (take proof_limit bytes) p
+      (accepts : Accepts sha256 (anchor ∷ []) bytes) × Appends taken_before taken_after (report_text (report_of accepts.0))
+  pub binds : (bytes : List ℕ) → Tells told file bytes → (p : ExistenceProof) → Spells existence_layout bytes p
       → (family : List History) → AllSound family → HasThreads sha256 family (held (anchor ∷ []) p)
       → OrClash sha256 (family_texts sha256 family ++ proof_texts sha256 p) (Facts family (claim_of p))
 
@@ -123,7 +119,7 @@ pub record IsRejectedRun (told : Option Files) (words : List (List ℕ)) (taken_
   pub command : command_of words ≡ Some (VerifyOne file anchor.from anchor.step anchor.auth)
   pub written : Appends taken_before taken_after (rejected_text reason)
   pub refused : (bytes : List ℕ) → Tells told file bytes →
-      (Accepts sha256 (anchor ∷ []) (take proof_limit bytes) → ⊥) × IsLowest sha256 (anchor ∷ []) (take proof_limit bytes) reason
+      (Accepts sha256 (anchor ∷ []) bytes → ⊥) × IsLowest sha256 (anchor ∷ []) bytes reason
 
 -- status 2: the words have no form, or none that is built, and the line with the word's number was written whole
 pub record IsUsageRun (words : List (List ℕ)) (taken_before taken_after : Option (List ℕ)) : Type 0 where

@@ -112,10 +112,10 @@ module _ (dig : List ℕ → List ℕ) where
       in cases (find (clashes dig text) before) refl e
 
   -- the pair of a list clashes
-  pub clash_pair-clashes : (texts : List (List ℕ)) (p : Pair) → clash_pair dig texts ≡ Some p → Clash dig texts
+  pub clash_pair-clashes : (texts : List (List ℕ)) (p : Pair) → clash_pair dig texts ≡ Some p → (c : Clash dig texts) × (c.one ≡ p.one) × (c.other ≡ p.other)
   clash_pair-clashes texts p e =
       let facts = pair_clashes [] texts p e in
-      record { one = p.one; other = p.other; has_one = facts.0; has_other = facts.1; differ = facts.2; one_digest = facts.3 }
+      (record { one = p.one; other = p.other; has_one = facts.0; has_other = facts.1; differ = facts.2; one_digest = facts.3 }, refl, refl)
 
   -- a list without one has no clash
   pub clash_pair-none : (texts : List (List ℕ)) → clash_pair dig texts ≡ None → Clash dig texts → ⊥

@@ -33,8 +33,10 @@ pub fn plus_laws<H: Hasher>()
     ensures received { (h : History) (s : Step) (i : ℕ) → i ≤ length h.steps → received (plus h s) i ≡ received h i }
 {}
 
-/// The ordered pair of a list of texts is there exactly where two texts of the list clash.
+/// The ordered pair of a list of texts is there exactly where two texts of the list clash, and is two
+/// such texts.
 pub fn clash_laws<H: Hasher>()
-    ensures some { (texts : List (List ℕ)) (p : Pair) → clash_pair H.dig texts ≡ Some p → Clash H.dig texts }
+    ensures some { (texts : List (List ℕ)) (p : Pair) → clash_pair H.dig texts ≡ Some p →
+        (c : Clash H.dig texts) × (c.one ≡ p.one) × (c.other ≡ p.other) }
     ensures none { (texts : List (List ℕ)) → clash_pair H.dig texts ≡ None → Clash H.dig texts → ⊥ }
 {}

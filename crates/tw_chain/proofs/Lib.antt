@@ -1,2 +1,3 @@
-pub mod Headline
+pub mod ClaimHolds
 pub mod Verdicts
+pub mod Fronts

@@ -1,11 +1,10 @@
 -- The verdict on bytes, from what was read of them and what stands against it.
-use Rattle.std.proofs.Common.{◌≡◌, ℕ, ◌≤◌, List, [], ◌∷◌, ◌++◌, length, take, refl, sym, ap, ◌∙◌, subst, arith, inl, inr}
-use Rattle.std.proofs.lemmas.List.{take_at}
+use Rattle.std.proofs.Common.{◌≡◌, ℕ, ◌≤◌, List, [], ◌∷◌, ◌++◌, take, refl, sym, ap, ◌∙◌, subst, arith, inl, inr}
 use Rattle.tw_base.specs.declared.thread.Thread.{Thread}
 use Rattle.tw_base.specs.declared.report.Reason.{Reason}
 use Rattle.tw_base.specs.declared.report.Reason.TheVariants.{Malformed, BadOrder, NotHeld, BadPath, BadOpening, BadEvent, BadTree, Carried, Unbuilt}
 use Rattle.tw_base.specs.declared.report.Report.{Report}
-use Rattle.tw_base.specs.Formats.{Spells, SpellsNothing, IsPlace, then_by}
+use Rattle.tw_base.specs.Formats.{Spells, SpellsNothing, IsPlace}
 use Rattle.tw_base.specs.Fields.{text}
 use Rattle.tw_base.specs.Clash.{OrClash}
 use Rattle.tw_base.specs.Family.{AllSound, Facts, HasThreads, family_texts}
@@ -14,10 +13,9 @@ use Rattle.tw_base.proofs.FormatLaws.{one_value, then_spells}
 use Rattle.tw_base.proofs.FieldLaws.{text-word}
 use Rattle.tw_skipproof.specs.declared.existence.ExistenceProof.{ExistenceProof}
 use Rattle.tw_skipproof.specs.Existence.{existence_layout, existence_magic}
-use Rattle.tw_chain.specs.declared.verdict.Verdict.{Verdict}
 use Rattle.tw_chain.specs.declared.verdict.Verdict.TheVariants.{Yes, No}
-use Rattle.tw_chain.specs.Accepting.{Accepts, IsAccepted, claim_of, held, proof_texts, report_of}
-use Rattle.tw_chain.specs.Headline.{Headline}
+use Rattle.tw_chain.specs.Accepting.{IsAccepted, claim_of, held, proof_texts, report_of}
+use Rattle.tw_chain.specs.Binding.{BindsHistories}
 use Rattle.tw_chain.specs.Reasons.{IsLowestAgainst, IsOfLaterKind, IsVerdict, Stands, StandsAgainst, number_of}
 
 -- bytes that spell an existence proof begin with its magic
@@ -86,10 +84,10 @@ module _ (dig : List ℕ → List ℕ) (anchors : List Thread) (bytes : List ℕ
       → IsVerdict dig anchors bytes (Yes report)
   accepted_proof p report spelled accepted is = ((p, spelled, accepted), is)
 
-  pub accepted_headline : (p : ExistenceProof) (report : Report) → Spells existence_layout bytes p → report ≡ report_of p
+  pub accepted_binds : (p : ExistenceProof) (report : Report) → Spells existence_layout bytes p → report ≡ report_of p
       → ((family : List History) → AllSound family → HasThreads dig family (held anchors p) → OrClash dig (family_texts dig family ++ proof_texts dig p) (Facts family (claim_of p)))
-      → Headline dig anchors bytes (Yes report)
-  accepted_headline p report spelled is binds q spelled_q family sound has =
+      → BindsHistories dig anchors bytes (Yes report)
+  accepted_binds p report spelled is binds q spelled_q family sound has =
       let same : p ≡ q = one_value existence_layout bytes p q spelled spelled_q in
       let P : ExistenceProof → Type 0 = λ x. (family : List History) → AllSound family → HasThreads dig family (held anchors x) → OrClash dig (family_texts dig family ++ proof_texts dig x) (Facts family report.claim) in
       let own : P p = λ fam s h. subst (λ r. OrClash dig (family_texts dig fam ++ proof_texts dig p) (Facts fam r.claim)) (sym is) (binds fam s h) in

@@ -1,3 +1,3 @@
 pub mod Accepting
 pub mod Reasons
-pub mod Headline
+pub mod Binding

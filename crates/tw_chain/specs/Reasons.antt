@@ -1,9 +1,8 @@
 -- Which reasons stand against the bytes of a proof, and the lowest of them.
-use Rattle.std.specs.Prelude.{◌≡◌, ◌⊎◌, ℕ, ◌+◌, ◌<◌, ◌≤◌, List, [], ◌∷◌, ◌++◌, Option, Some, None, length, slice_get, take}
+use Rattle.std.specs.Prelude.{◌≡◌, ◌⊎◌, ℕ, ◌<◌, ◌≤◌, List, [], ◌∷◌, Some, None, take}
 use Rattle.tw_base.specs.declared.thread.Thread.{Thread}
 use Rattle.tw_base.specs.declared.report.Reason.{Reason}
 use Rattle.tw_base.specs.declared.report.Reason.TheVariants.{Malformed, BadOrder, NotHeld, BadPath, BadOpening, BadEvent, BadTree, Carried, Unbuilt}
-use Rattle.tw_base.specs.declared.report.Report.{Report}
 use Rattle.tw_base.specs.Formats.{IsPlace, Spells, SpellsNothing}
 use Rattle.tw_skipproof.specs.declared.existence.ExistenceProof.{ExistenceProof}
 use Rattle.tw_skipproof.specs.Existence.{existence_layout}

@@ -3,7 +3,7 @@
 use super::*;
 use std::alloc::Global;
 use std::process::Abort;
-use tw_base::{Claim, Digest, Name, Reason, Sha, Thread, Weak};
+use tw_base::{Claim, Digest, Hasher, Name, Reason, Sha, Thread, Weak};
 
 /// The proof that step 1 of the service `a` has one empty event, under step 1 as its top.
 const LEAST: [u8; 145] = [
@@ -34,14 +34,25 @@ fn first_step(rt: &impl Abort, service: &[u8], auth: [u8; 32]) -> Thread {
     }
 }
 
+/// The reason against the bytes under one anchor.
+fn reason_under<H: Hasher, R: Abort>(
+    rt: &R,
+    alloc: Global,
+    bytes: &[u8],
+    anchor: Thread,
+) -> Option<Reason> {
+    let verdict = verify::<H>(alloc, bytes, &[anchor]);
+    match &verdict {
+        Ok(Verdict::Yes(_)) => None,
+        Ok(Verdict::No(reason)) => Some(*reason),
+        Err(_) => panic!(rt; "no memory"),
+    }
+}
+
 /// The reason against the bytes under the anchor of step 1 of the service `a`.
 fn reason_of<R: Abort>(rt: &R, alloc: Global, bytes: &[u8]) -> Option<Reason> {
     let anchor = first_step(rt, b"a", AUTHENTICATOR);
-    match verify::<Sha>(alloc, bytes, &[anchor]) {
-        Ok(Verdict::Yes(_)) => None,
-        Ok(Verdict::No(reason)) => Some(reason),
-        Err(_) => panic!(rt; "no memory"),
-    }
+    reason_under::<Sha, R>(rt, alloc, bytes, anchor)
 }
 
 /// The reason against the least proof with one byte changed.
@@ -56,9 +67,10 @@ fn reason_with<R: Abort>(rt: &R, alloc: Global, at: usize, byte: u8) -> Option<R
 #[test]
 fn the_least_proof(rt: HostRuntime) {
     let anchor = first_step(&rt, b"a", AUTHENTICATOR);
-    match verify::<Sha>(rt.alloc(), &LEAST, &[anchor]) {
+    let verdict = verify::<Sha>(rt.alloc(), &LEAST, &[anchor]);
+    match &verdict {
         Ok(Verdict::Yes(report)) => {
-            let Claim::Exists(seen) = report.claim;
+            let Claim::Exists(seen) = &report.claim;
             assert_eq!(rt; seen.place.service, anchor.from);
             assert_eq!(rt; seen.place.step, 1);
             assert_eq!(rt; seen.place.index, 0);
@@ -75,15 +87,16 @@ fn other_anchors(rt: HostRuntime) {
         service: Name::read(b"a").expect(&rt, "a name"),
         step: 1,
     };
-    match verify::<Sha>(rt.alloc(), &LEAST, &[other]) {
-        Ok(Verdict::No(reason)) => assert_eq!(rt; reason, not_held),
-        _ => panic!(rt; "it is accepted"),
-    }
+    assert_eq!(rt;
+        reason_under::<Sha, HostRuntime>(&rt, rt.alloc(), &LEAST, other),
+        Some(not_held)
+    );
     let forged = first_step(&rt, b"a", [0; 32]);
-    match verify::<Sha>(rt.alloc(), &LEAST, &[forged]) {
-        Ok(Verdict::No(reason)) => assert_eq!(rt; reason, Reason::BadPath { part: 0 }),
-        _ => panic!(rt; "it is accepted"),
-    }
+    let bad_path = Reason::BadPath { part: 0 };
+    assert_eq!(rt;
+        reason_under::<Sha, HostRuntime>(&rt, rt.alloc(), &LEAST, forged),
+        Some(bad_path)
+    );
 }
 
 #[test]
@@ -150,8 +163,8 @@ fn under_the_weak_digest(rt: HostRuntime) {
     let mut auth = [0; 32];
     auth[0] = 0xbf;
     let anchor = first_step(&rt, b"a", auth);
-    match verify::<Weak>(rt.alloc(), &bytes, &[anchor]) {
-        Ok(Verdict::Yes(_)) => {}
-        _ => panic!(rt; "it is not accepted"),
-    }
+    assert_eq!(rt;
+        reason_under::<Weak, HostRuntime>(&rt, rt.alloc(), &bytes, anchor),
+        None
+    );
 }

@@ -4,7 +4,7 @@ ghost use Rattle.std.specs.Prelude.{◌≡◌, ℕ, List, IfOk};
 ghost use Rattle.tw_base.specs.Formats.{Spells};
 ghost use Rattle.tw_skipproof.specs.Existence.{IsWithinLimits, existence_layout};
 ghost use Rattle.tw_chain.specs.Accepting.{report_of};
-ghost use Rattle.tw_chain.specs.Headline.{Headline};
+ghost use Rattle.tw_chain.specs.Binding.{BindsHistories};
 ghost use Rattle.tw_chain.specs.Reasons.{IsVerdict};
 
 use crate::existing::reason_against;
@@ -45,7 +45,7 @@ fn report(proof: ExistenceProof) -> Report
 fn judged<H: Hasher>(proof: ExistenceProof, anchors: &[Thread]) -> Verdict
     requires { IsWithinLimits proof }
     ensures verdict { (bytes : List ℕ) → Spells existence_layout bytes proof → IsVerdict H.dig anchors.now bytes result }
-    ensures headline { (bytes : List ℕ) → Spells existence_layout bytes proof → Headline H.dig anchors.now bytes result }
+    ensures binds { (bytes : List ℕ) → Spells existence_layout bytes proof → BindsHistories H.dig anchors.now bytes result }
 {
     match reason_against::<H>(&proof, anchors) {
         None => Verdict::Yes(report(proof)),
@@ -65,7 +65,7 @@ pub fn verify<H: Hasher>(
     anchors: &[Thread],
 ) -> Result<Verdict, NoMemory>
     ensures verdict { IfOk result (IsVerdict H.dig anchors.now bytes.now) }
-    ensures headline { IfOk result (Headline H.dig anchors.now bytes.now) }
+    ensures binds { IfOk result (BindsHistories H.dig anchors.now bytes.now) }
 {
     if is_of_later_kind(bytes) {
         return Ok(Verdict::No(Reason::Unbuilt));

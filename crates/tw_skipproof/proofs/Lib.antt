@@ -9,3 +9,4 @@ pub mod SpellingLaws
 pub mod Making
 pub mod WorkedPaths
 pub mod PathSizes
+pub mod ExistenceSizes

@@ -148,7 +148,7 @@ few_digests links from to small shape =
 
 -- ---- their bytes
 
-length-labels : (count : ℕ) → AllWords (labels count) (λ word ls. length word ≡ 32 * count)
+pub length-labels : (count : ℕ) → AllWords (labels count) (λ word ls. length word ≡ 32 * count)
 unfolding repeated
 length-labels zero = all_words-done [] _ refl
 length-labels (suc count) =

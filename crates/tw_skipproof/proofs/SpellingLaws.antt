@@ -27,13 +27,13 @@ labels-written : (count : ℕ) → WrittenAs (labels count) joined
 labels-written count word ls s = repeated-written count digest (λ w. w) (bytes-written 32) word ls s ∙ flat_map-labels ls
 
 -- what a word of the layout is, and what its value keeps
-record OpeningWord (least step : ℕ) (word : List ℕ) (o : Opening) : Type 0 where
+pub record OpeningWord (least step : ℕ) (word : List ℕ) (o : Opening) : Type 0 where
   pub written : word ≡ opening_bytes o
   pub labels : length o.others ≡ top_level step
   pub low : least ≤ o.count
   pub high : o.count ≤ 1024
 
-opening-words : (least step : ℕ) → least ≤ 1024 → AllWords (opening_from least step) (OpeningWord least step)
+pub opening-words : (least step : ℕ) → least ≤ 1024 → AllWords (opening_from least step) (OpeningWord least step)
 unfolding opening_from opening_bytes
 opening-words least step l =
     all_words-then digest _ (OpeningWord least step) (λ root_word event_root root.

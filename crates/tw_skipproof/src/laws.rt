@@ -18,7 +18,8 @@ ghost use Rattle.tw_skipproof.specs.Writing.{IsShaped, existence_bytes, opening_
 use tw_base::Hasher;
 
 /// What the layouts spell: a value's one spelling is what the writers write, and it has the links
-/// and numbers of labels that climbing and checking ask for. A path has at most 53,760 bytes.
+/// and numbers of labels that climbing and checking ask for. A path has at most 53,760 bytes,
+/// and an existence proof at most 56,497.
 pub fn spelling_laws()
     ensures opening { (step : ℕ) → WrittenAs (opening_layout step) opening_bytes × OneSpelling (opening_layout step) }
     ensures opening_labels { (step : ℕ) (bytes : List ℕ) (o : Opening) → Spells (opening_layout step) bytes o → length o.others ≡ top_level step }
@@ -26,6 +27,7 @@ pub fn spelling_laws()
     ensures path_shape { (from to : ℕ) (bytes : List ℕ) (links : List Link) → Spells (path_layout from to) bytes links → HasShape links from to }
     ensures path_size { (from to : ℕ) (bytes : List ℕ) (links : List Link) → from < 2 ^ 40 → Spells (path_layout from to) bytes links → length bytes < 53761 }
     ensures existence { WrittenAs existence_layout existence_bytes × OneSpelling existence_layout }
+    ensures existence_size { (bytes : List ℕ) (p : ExistenceProof) → Spells existence_layout bytes p → length bytes ≤ 56497 }
     ensures existence_shape { (bytes : List ℕ) (p : ExistenceProof) → Spells existence_layout bytes p → IsShaped p × IsWithinLimits p }
 {}
 

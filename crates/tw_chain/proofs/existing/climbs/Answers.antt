@@ -1,4 +1,4 @@
-use Rattle.tw_chain.proofs.Headline.{climbs_bind}
+use Rattle.tw_chain.proofs.ClaimHolds.{climbs_bind}
 use Rattle.tw_chain.proofs.existing.climbs.Goals as goal
 
 pub returns-in-Some-climb-clause-binds : goal.returns-in-Some-climb-clause-binds

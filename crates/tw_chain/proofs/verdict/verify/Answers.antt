@@ -1,4 +1,4 @@
-use Rattle.tw_chain.proofs.Verdicts.{later_kind, malformed_bytes}
+use Rattle.tw_chain.proofs.Verdicts.{later_kind}
 use Rattle.tw_chain.proofs.verdict.verify.Goals as goal
 
 pub returns-then-is_of_later_kind-clause-verdict : goal.returns-then-is_of_later_kind-clause-verdict

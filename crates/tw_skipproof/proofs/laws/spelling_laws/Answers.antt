@@ -1,4 +1,5 @@
 use Rattle.std.proofs.Common.{lit≤}
+use Rattle.tw_skipproof.proofs.ExistenceSizes.{existence-size}
 use Rattle.tw_skipproof.proofs.PathSizes.{path-size}
 use Rattle.tw_skipproof.proofs.SpellingLaws.{existence-limits, existence-one_spelling, existence-shape, existence-written, opening-labels, opening-one_spelling, opening-written, path-one_spelling, path-shape, path-written}
 use Rattle.tw_skipproof.proofs.laws.spelling_laws.Goals as goal
@@ -23,3 +24,6 @@ returns-clause-existence c = (existence-written, existence-one_spelling)
 
 pub returns-clause-existence_shape : goal.returns-clause-existence_shape
 returns-clause-existence_shape c = λ bytes p spelled. (existence-shape bytes p spelled, existence-limits bytes p spelled)
+
+pub returns-clause-existence_size : goal.returns-clause-existence_size
+returns-clause-existence_size c = λ bytes p s. existence-size bytes p s

@@ -1,11 +1,11 @@
 -- From an accepted existence proof to the history: the event stands there, or two texts clash.
-use Rattle.std.proofs.Common.{◌≡◌, ℕ, suc, zero, ◌<◌, ◌≤◌, List, [], ◌∷◌, ◌++◌, length, sym, ap, ◌∙◌, subst, arith, inl, inr}
-use Rattle.std.specs.Prelude.{Option, Some, None, slice_get}
+use Rattle.std.proofs.Common.{◌≡◌, ℕ, suc, zero, ◌<◌, ◌≤◌, List, ◌++◌, length, sym, ap, ◌∙◌, subst, arith, inl}
+use Rattle.std.specs.Prelude.{Some, slice_get}
 use Rattle.std.specs.Option.{option_to_list}
 use Rattle.tw_base.specs.declared.thread.Thread.{Thread}
 use Rattle.tw_base.specs.AuditPath.{audit_texts}
 use Rattle.tw_base.specs.Auth.{auth}
-use Rattle.tw_base.specs.Clash.{Among, OrClash, Within}
+use Rattle.tw_base.specs.Clash.{OrClash, Within}
 use Rattle.tw_base.specs.EventTree.{event_root, event_texts}
 use Rattle.tw_base.specs.Family.{AllSound, Facts, HasHistory, HasThread, HasThreads, family_texts}
 use Rattle.tw_base.specs.History.{History, events_at}
@@ -60,14 +60,14 @@ event_stands dig h p some within binds shows =
     texts_of (suc i) l m = λ t a. has-event_text dig h t i (omega arith) a
 
 -- the claim holds of the family's history of the service
-headline_of : (dig : List ℕ → List ℕ) (family : List History) (p : ExistenceProof) (h : History) → HasHistory family p.at.service h
+claim_holds_of : (dig : List ℕ → List ℕ) (family : List History) (p : ExistenceProof) (h : History) → HasHistory family p.at.service h
     → 0 < p.at.step → p.at.step ≤ length h.steps
     → OrClash dig (history_texts dig h ++ part_texts dig p.at) (Binds dig h p.at.step p.at.opening)
     → ((events : List (List ℕ)) → length events ≡ p.at.opening.count → event_root dig events ≡ p.at.opening.event_root
     → OrClash dig (event_texts dig events ++ audit_texts dig p.at.opening.count p.event.index p.event.event p.event.path) (slice_get events p.event.index ≡ Some p.event.event))
     → OrClash dig (family_texts dig family ++ proof_texts dig p) (Facts family (claim_of p))
 unfolding proof_texts
-headline_of dig family p h has some within binds shows =
+claim_holds_of dig family p h has some within binds shows =
     let texts : List (List ℕ) = family_texts dig family ++ proof_texts dig p in
     let own : Within (history_texts dig h) (family_texts dig family) = texts_within dig family p.at.service h has in
     let audit : List (List ℕ) = audit_texts dig p.at.opening.count p.event.index p.event.event p.event.path in
@@ -91,18 +91,18 @@ anchored : (dig : List ℕ → List ℕ) (family : List History) (anchors : List
 anchored dig family anchors p anchor is has =
     let threads : HasThreads dig family (option_to_list (Some anchor)) = subst (λ o. HasThreads dig family (option_to_list o)) is has in threads.0
 
-pub headline : (dig : List ℕ → List ℕ) (family : List History) (anchors : List Thread) (p : ExistenceProof) (anchor : Thread)
+pub claim_holds : (dig : List ℕ → List ℕ) (family : List History) (anchors : List Thread) (p : ExistenceProof) (anchor : Thread)
     → AllSound family → named_anchor anchors p ≡ Some anchor → HasThreads dig family (held anchors p) → 0 < p.at.step → p.at.step ≤ p.at.top
     → ((h : History) → IsSound h → p.at.step ≤ p.at.top → p.at.top ≤ length h.steps → auth dig h p.at.top ≡ anchor.auth
     → OrClash dig (history_texts dig h ++ part_texts dig p.at) (Binds dig h p.at.step p.at.opening))
     → ((events : List (List ℕ)) → length events ≡ p.at.opening.count → event_root dig events ≡ p.at.opening.event_root
     → OrClash dig (event_texts dig events ++ audit_texts dig p.at.opening.count p.event.index p.event.event p.event.path) (slice_get events p.event.index ≡ Some p.event.event))
     → OrClash dig (family_texts dig family ++ proof_texts dig p) (Facts family (claim_of p))
-headline dig family anchors p anchor sound is has some order climbs shows =
+claim_holds dig family anchors p anchor sound is has some order climbs shows =
     let names = anchor_of-is anchors p.at.service p.at.top anchor is in
     let thread : HasThread dig family anchor = anchored dig family anchors p anchor is has in
     let h : History = thread.0 in
     let own : HasHistory family p.at.service h = subst (λ s. HasHistory family s h) names.0 thread.1 in
     let within : p.at.top ≤ length h.steps = omega (arith, thread.2, names.1) in
     let at_top : auth dig h p.at.top ≡ anchor.auth = ap (auth dig h) (sym names.1) ∙ thread.3 in
-    headline_of dig family p h own some (omega arith) (climbs h (sound_of family p.at.service h sound own) order within at_top) shows
+    claim_holds_of dig family p h own some (omega arith) (climbs h (sound_of family p.at.service h sound own) order within at_top) shows
