@@ -1,5 +1,5 @@
 -- The archive of a sound history has exactly the threads received so far.
-use Rattle.std.proofs.Common.{◌≡◌, ◌≢◌, ℕ, suc, zero, ◌≤◌, List, [], ◌∷◌, length, refl, sym, ◌∙◌, subst, arith, inl, inr}
+use Rattle.std.proofs.Common.{◌≡◌, ◌≢◌, ℕ, suc, zero, ◌≤◌, List, [], ◌∷◌, length, refl, ap, sym, ◌∙◌, subst, arith, inl, inr}
 use Rattle.std.specs.Prelude.{Option, Some, None, slice_get}
 use Rattle.std.specs.Option.{option_to_list}
 use Rattle.std.proofs.lemmas.Bool.{cases_lt}
@@ -12,8 +12,8 @@ use Rattle.tw_base.specs.History.{History, Step, entry_at, received, step_at}
 use Rattle.tw_base.specs.Tree.{entries, forest, tree, IsRising}
 use Rattle.tw_base.specs.Sound.{IsSound}
 use Rattle.tw_base.proofs.Keys.{KeyBelow-irrefl}
-use Rattle.tw_base.proofs.ListLemmas.{Apart, Each-in, Each-map, In-left, In-right, pigeonhole}
-use Rattle.tw_base.proofs.Trees.{tree-archived, tree-rises}
+use Rattle.tw_base.proofs.ListLemmas.{Apart, Each-in, Each-map, In-cases_append, In-left, In-right, pigeonhole}
+use Rattle.tw_base.proofs.Trees.{IsArchived, tree-archived, tree-rises}
 
 rising-apart : (es : List Entry) → IsRising es → Apart es
 rising-apart [] rising = tt
@@ -55,3 +55,27 @@ module _ (h : History) (sound : IsSound h) where
   -- where no entry of the archive has the key, no step so far received a thread of that key
   pub tree-lacks : (i : ℕ) (key : Key) → i ≤ length h.steps → Each (λ f. key_of f ≢ key) (entries (tree h i)) → (k : ℕ) (e : Entry) → k ≤ i → entry_at h k ≡ Some e → key_of e ≢ key
   tree-lacks i key inside absent k e within at = Each-in _ (entries (tree h i)) e absent (tree-has i k e inside within at)
+
+-- what the list has was received at or below step i
+received-archived : (h : History) (i : ℕ) (e : Entry) → In e (received h i) → IsArchived h i e
+unfolding received
+received-archived h zero e has = absurd has
+received-archived h (suc i) e has =
+    elim (In-cases_append e (received h i) (option_to_list (entry_at h (suc i))) has) [
+      | inl old ↦ (let at = received-archived h i e old in (at.0, omega (arith, at.1), at.2))
+      | inr new ↦ (suc i, omega arith, here (entry_at h (suc i)) refl new)
+    ]
+  where
+    here : (o : Option Entry) → entry_at h (suc i) ≡ o → In e (option_to_list o) → entry_at h (suc i) ≡ Some e
+    here None is p = absurd p
+    here (Some f) is (inl q) = is ∙ ap (λ (x : Entry). Some x) (sym q)
+    here (Some f) is (inr q) = absurd q
+
+-- and the archive after step i has what was received so far
+pub tree-has_received : (h : History) → IsSound h → (i : ℕ) → i ≤ length h.steps → (e : Entry) → In e (received h i) → In e (entries (tree h i))
+tree-has_received h sound i inside e has = let at = received-archived h i e has in tree-has h sound i at.0 e inside at.1 at.2
+
+-- and nothing else
+pub tree-only_received : (h : History) (i : ℕ) (e : Entry) → In e (entries (tree h i)) → In e (received h i)
+tree-only_received h i e has =
+    let at = Each-in (IsArchived h i) (entries (tree h i)) e (tree-archived h i) has in received-has h i at.0 e at.1 at.2

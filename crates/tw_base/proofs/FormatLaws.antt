@@ -1,11 +1,11 @@
 -- Laws of every format: what reading takes is spelled, what is spelled is read, and a reading that stops tells the place.
 use Rattle.std.proofs.Common.{◌≡◌, ℕ, suc, zero, ◌+◌, ◌-◌, ◌<◌, ◌≤◌, List, [], ◌∷◌, ◌++◌, length, take, drop, Bool, true, false, refl, ap, sym, ◌∙◌, subst, arith, inl, inr}
 use Rattle.std.specs.Prelude.{if◌then◌else◌, Result, Ok, Err}
-use Rattle.std.proofs.lemmas.List.{append-nil, drop-drop, take_at, take_rest, length-append}
+use Rattle.std.proofs.lemmas.List.{append-nil, drop-drop, take_at, take_rest, take-append-drop, length-append}
 use Rattle.std.proofs.lemmas.Bool.{cases_lt}
 use Rattle.tw_base.specs.declared.failure.ReadFault.{ReadFault}
 use Rattle.tw_base.specs.declared.failure.ReadFault.TheVariants.{Malformed, NoMemory}
-use Rattle.tw_base.specs.Formats.{Format, Gives, GivesFront, GivesIfMemory, GivesWithEnd, IsWholeOf, IsWholeTo, Placed, ReadsAs, Reading, placed, read_at, ◌>>=◌, GoesOn, IsFront, IsPlace, OneSpelling, Spells, SpellsNothing, WrittenAs, front, goes_on, then_by}
+use Rattle.tw_base.specs.Formats.{Format, Gives, GivesFront, GivesIfMemory, GivesWithEnd, IsWholeOf, IsWholeTo, Placed, ReadsAs, ReadsFrontAs, Reading, placed, read_at, ◌>>=◌, GoesOn, IsFront, IsPlace, OneSpelling, Spells, SpellsNothing, WrittenAs, front, goes_on, then_by}
 use Rattle.tw_base.specs.Formats.Format.{Done, Byte}
 use Rattle.tw_base.specs.Formats.Reading.{Took, Stopped}
 
@@ -378,3 +378,20 @@ module _ {X Y : Type 0} where
   reads_whole_to f g view bytes after (Ok value) r e w = read_whole f view bytes after value r w.0 w.1 e
   reads_whole_to f g view bytes after (Err (Malformed place)) r e w = answered f view bytes r (Err (Malformed place)) w (whole-stops f g bytes place e)
   reads_whole_to f g view bytes after (Err NoMemory) r e w = answered f view bytes r (Err NoMemory) w tt
+
+  -- a reader of a front reads it
+  pub reads_front : (f : Format X) → GoesOn f → (view : Y → X) (bytes : List ℕ) (read : Result (Y × ℕ) ReadFault) → GivesWithEnd view read (read_at f bytes 0) → ReadsFrontAs view f bytes read
+  reads_front f g view bytes (Ok read) e =
+      let is = read_at-spells f bytes 0 read.1 (view read.0) e in
+      let same : bytes ≡ is.0 ++ is.1 = is.2 in
+      let end : length is.0 ≡ read.1 = omega (arith, is.3) in
+      let word : is.0 ≡ take read.1 bytes = sym (take_at is.0 is.1 read.1 end) ∙ ap (take read.1) (sym same) in
+      let P : List ℕ → Type 0 = λ w. Spells f w (view read.0) in
+      (omega (arith, ap length same, length-append is.0 is.1), subst P word is.4)
+  reads_front f g view bytes (Err (Malformed place)) e = (
+    λ n y s. (
+        let read : read_at f bytes 0 ≡ Ok (record { value = y; after = 0 + length (take n bytes) }) = read_at-word f bytes (take n bytes) (drop n bytes) 0 y s (sym (take-append-drop n bytes)) in
+        cc),
+    (whole-stops f g bytes place e).1,
+  )
+  reads_front f g view bytes (Err NoMemory) e = tt

@@ -73,3 +73,8 @@ module _ {X : Type 0} where
         | inl same ↦ inl same
         | inr there ↦ inr (pigeonhole xs rest apart.1 (others ys x has.0 xs has.1 apart.0) (let m = length-without ys x has.0 in omega (arith, n, m)) y there)
       ]
+
+pub In-cases_append : {X : Type 0} (x : X) (xs ys : List X) → In x (xs ++ ys) → In x xs ⊎ In x ys
+In-cases_append x [] ys p = inr p
+In-cases_append x (y ∷ xs) ys (inl e) = inl (inl e)
+In-cases_append x (y ∷ xs) ys (inr p) = elim (In-cases_append x xs ys p) [ inl here ↦ inl (inr here) | inr there ↦ inr there ]

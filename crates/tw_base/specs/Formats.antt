@@ -126,6 +126,13 @@ module _ {X Y : Type 0} where
   ReadsAs view f bytes (Err (Malformed place)) = SpellsNothing f bytes × IsPlace f bytes place
   ReadsAs view f bytes (Err NoMemory) = Unit {0}
 
+  -- a reader of a front of the bytes, which answers its length too: Ok exactly where a front of them is a word;
+  -- Malformed exactly where none is, with the place as above. Want of memory is free
+  abbrev pub ReadsFrontAs : (Y → X) → Format X → List ℕ → Result (Y × ℕ) ReadFault → Type 0
+  ReadsFrontAs view f bytes (Ok read) = (read.1 ≤ length bytes) × Spells f (take read.1 bytes) (view read.0)
+  ReadsFrontAs view f bytes (Err (Malformed place)) = ((n : ℕ) → SpellsNothing f (take n bytes)) × IsPlace f bytes place
+  ReadsFrontAs view f bytes (Err NoMemory) = Unit {0}
+
 module _ {Y : Type 0} where
   -- what a reader read from the front is the answer for the whole bytes, unless bytes follow it
   abbrev pub IsWholeOf : List ℕ → Result (Y × ℕ) ReadFault → Result Y ReadFault → Type 0

@@ -24,7 +24,7 @@ pub fn whole_to<T: Drop>(
     ensures { IsWholeTo bytes.now after read result }
 {
     match read {
-        Ok(_) if after < bytes.len() as u64 => Err(ReadFault::malformed(after)),
+        Ok(_) if after < bytes.len() as u64 => Err(ReadFault::Malformed { place: after }),
         read => read,
     }
 }

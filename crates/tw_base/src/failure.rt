@@ -1,7 +1,5 @@
 // Answers without a value.
 
-ghost use Rattle.std.specs.Prelude.{◌≡◌};
-
 /// A device, an input or a sink failed; its count of faults rose in that call.
 #[derive(Clone, Copy, PartialEq, Eq, Debug, Drop)]
 pub struct Failed;
@@ -18,15 +16,6 @@ pub enum ReadFault {
     Malformed { place: u64 },
     /// There was no memory for what the call needed.
     NoMemory,
-}
-
-impl ReadFault {
-    /// The fault of a reader without memory.
-    pub fn malformed(place: u64) -> Self
-        ensures { result ≡ ReadFault.Malformed place }
-    {
-        ReadFault::Malformed { place }
-    }
 }
 
 impl From<NoMemory> for ReadFault {

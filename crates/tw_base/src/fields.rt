@@ -1,6 +1,6 @@
 // The readers of a file's fields. Each reads the field that begins at a place; where no such field
 // stands there, it answers the place of the first byte that cannot stand there, or the length of
-// bytes that end too early. Numbers are big-endian. None of the readers takes memory.
+// bytes that end too early. Numbers are big-endian. Only those that are given an allocator take memory.
 
 ghost use Rattle.std.specs.Prelude.{◌≡◌, ℕ, ◌+◌, ◌*◌, ◌^◌, ◌<◌, ◌≤◌, length, take, drop, ◌&&◌, ◌||◌, ◌==◌, IfOk};
 ghost use Rattle.tw_base.specs.Fields.{digest, high_after, low_after, name, number, repeated, text as fixed_text};
@@ -214,3 +214,6 @@ fn check_text(rest: &[u8], at: u64, text: &[u8]) -> Result<(), u64>
     }
     Ok(())
 }
+
+#[cfg(test)]
+mod tests;

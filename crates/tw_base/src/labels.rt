@@ -153,3 +153,6 @@ pub fn no_events<H: Hasher>() -> Digest
 {
     H::digest(&[])
 }
+
+#[cfg(test)]
+mod tests;

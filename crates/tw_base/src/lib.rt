@@ -12,6 +12,7 @@ mod failure;
 mod fields;
 mod halves;
 mod hasher;
+mod history_laws;
 mod label_list;
 mod labels;
 mod link_level;
@@ -34,6 +35,7 @@ pub use failure::{Failed, NoMemory, ReadFault};
 pub use fields::{read_digest, read_labels, read_name, read_number, read_text};
 pub use halves::left_count;
 pub use hasher::{Hasher, Sha, Weak};
+pub use history_laws::{archive_laws, clash_laws, plus_laws};
 pub use label_list::Labels;
 pub use labels::{
     authenticator, datum, empty_tree, event_leaf, event_node, genesis, link_label, no_events,

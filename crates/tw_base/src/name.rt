@@ -104,3 +104,6 @@ fn first_zero(bytes: &[u8]) -> Option<usize>
 {
     bytes.iter().position(|b| *b == 0)
 }
+
+#[cfg(test)]
+mod tests;

@@ -62,3 +62,6 @@ pub fn put_bytes(into: &mut Bytes, bytes: &[u8]) -> Result<(), NoMemory>
 {
     into.extend_from_slice(bytes)
 }
+
+#[cfg(test)]
+mod tests;

@@ -9,7 +9,7 @@ use Rattle.tw_skipproof.specs.declared.existence.ExistenceProof.{ExistenceProof}
 use Rattle.tw_skipproof.specs.Existence.{existence_layout}
 use Rattle.tw_chain.specs.declared.verdict.Verdict.{Verdict}
 use Rattle.tw_chain.specs.declared.verdict.Verdict.TheVariants.{Yes, No}
-use Rattle.tw_chain.specs.Accepting.{Accepts, Climbs, ShowsEvent, named_anchor, report_of}
+use Rattle.tw_chain.specs.Accepting.{Accepts, Climbs, IsAccepted, ShowsEvent, named_anchor, report_of}
 
 abbrev pub number_of : Reason → ℕ
 number_of (Malformed _) = 1
@@ -39,6 +39,12 @@ module _ (dig : List ℕ → List ℕ) (anchors : List Thread) where
   StandsAgainst p (BadTree part) = ⊥
   StandsAgainst p (Carried count) = ⊥
   StandsAgainst p Unbuilt = ⊥
+
+  -- it stands against the proof, which isn't accepted, and each that stands against it has a number that isn't lower
+  pub record IsLowestAgainst (p : ExistenceProof) (reason : Reason) : Type 0 where
+    pub stands : StandsAgainst p reason
+    pub lowest : (other : Reason) → StandsAgainst p other → number_of reason ≤ number_of other
+    pub refused : IsAccepted dig anchors p → ⊥
 
   -- the reason stands against the bytes: they are of a kind that isn't verified yet, they spell no proof, or they spell
   -- one against which it stands

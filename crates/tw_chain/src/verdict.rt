@@ -1,10 +1,17 @@
 // The verdict on the bytes of a proof.
 
-ghost use Rattle.std.specs.Prelude.{◌≡◌, ℕ, List, ◌++◌, IfOk};
+ghost use Rattle.std.specs.Prelude.{◌≡◌, ℕ, List, IfOk};
+ghost use Rattle.tw_base.specs.Formats.{Spells};
+ghost use Rattle.tw_skipproof.specs.Existence.{IsWithinLimits, existence_layout};
+ghost use Rattle.tw_chain.specs.Accepting.{report_of};
+ghost use Rattle.tw_chain.specs.Headline.{Headline};
 ghost use Rattle.tw_chain.specs.Reasons.{IsVerdict};
 
+use crate::existing::reason_against;
+use crate::kinds::is_of_later_kind;
 use std::alloc::Global;
-use tw_base::{Hasher, NoMemory, Reason, Report, Thread};
+use tw_base::{Claim, Hasher, NoMemory, Place, ReadFault, Reason, Report, Seen, Thread};
+use tw_skipproof::{ExistenceProof, read_existence};
 
 /// What a verifier answers.
 #[derive(Drop, Debug)]
@@ -15,8 +22,57 @@ pub enum Verdict {
     No(Reason),
 }
 
-/// x
-pub fn verify<H: Hasher>(alloc: Global, bytes: &[u8], anchors: &[Thread]) -> Result<Verdict, NoMemory>
+/// The report of an accepted proof.
+fn report(proof: ExistenceProof) -> Report
+    ensures { result ≡ report_of proof }
 {
-    Err(NoMemory)
+    let ExistenceProof { at, event } = proof;
+    let place = Place {
+        service: at.service,
+        step: at.step,
+        index: event.index,
+    };
+    Report {
+        claim: Claim::Exists(Seen {
+            place,
+            event: event.event,
+            time: None,
+        }),
+    }
+}
+
+/// The verdict on a proof that was read.
+fn judged<H: Hasher>(proof: ExistenceProof, anchors: &[Thread]) -> Verdict
+    requires { IsWithinLimits proof }
+    ensures verdict { (bytes : List ℕ) → Spells existence_layout bytes proof → IsVerdict H.dig anchors.now bytes result }
+    ensures headline { (bytes : List ℕ) → Spells existence_layout bytes proof → Headline H.dig anchors.now bytes result }
+{
+    match reason_against::<H>(&proof, anchors) {
+        None => Verdict::Yes(report(proof)),
+        Some(reason) => Verdict::No(reason),
+    }
+}
+
+/// The verdict on the bytes of a proof under the anchors: Yes exactly where the bytes spell a proof
+/// that is accepted, with its report; else No with the lowest reason that stands. Each text is
+/// hashed once, and no more memory is taken than the proof's labels and event need.
+///
+/// Where it is Yes, in every family of sound histories that has the held threads the report's claim
+/// holds, or two different texts of the histories and of the proof have one digest.
+pub fn verify<H: Hasher>(
+    alloc: Global,
+    bytes: &[u8],
+    anchors: &[Thread],
+) -> Result<Verdict, NoMemory>
+    ensures verdict { IfOk result (IsVerdict H.dig anchors.now bytes.now) }
+    ensures headline { IfOk result (Headline H.dig anchors.now bytes.now) }
+{
+    if is_of_later_kind(bytes) {
+        return Ok(Verdict::No(Reason::Unbuilt));
+    }
+    match read_existence(alloc, bytes) {
+        Ok(proof) => Ok(judged::<H>(proof, anchors)),
+        Err(ReadFault::Malformed { place }) => Ok(Verdict::No(Reason::Malformed { place })),
+        Err(ReadFault::NoMemory) => Err(NoMemory),
+    }
 }

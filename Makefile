@@ -1,0 +1,42 @@
+# What is done with Timeweave. It needs the command `rt` of the Rattle kit, Python 3 and make.
+
+PROGRAM = crates/timeweave/out/timeweave
+PREFIX ?= /usr/local
+
+# The least proof, the authenticator that it is accepted under, and another one.
+PROOF = crates/timeweave/data/p
+AUTH = 9f9cc8f6baef592ed6bf90b106ebe7b882f59a1cc9803a6d1eef6974da5f87ed
+OTHER = 0f9cc8f6baef592ed6bf90b106ebe7b882f59a1cc9803a6d1eef6974da5f87ed
+
+.PHONY: build demo test check bench install
+
+# Builds the program, and runs it once. Only a proved program is built: the first build on a machine proves every crate
+# below it first, which takes long; later ones prove what changed.
+build:
+	@echo "building: only a proved program is built, so the first build on a machine takes minutes"
+	cd crates/timeweave && rt run -- verify data/p a 1 $(AUTH)
+
+# Builds the program, and shows a proof accepted and the same proof rejected under another authenticator.
+demo: build
+	@echo; echo '$$ timeweave verify p a 1 $(AUTH)'
+	@$(PROGRAM) verify $(PROOF) a 1 $(AUTH)
+	@echo; echo '$$ timeweave verify p a 1 $(OTHER)'
+	@$(PROGRAM) verify $(PROOF) a 1 $(OTHER); test $$? -eq 1
+
+# The gate: every proof, wrong body, test and program, and then the acceptance run.
+test:
+	.ci/run
+
+# The acceptance run over the built program, which is built where it isn't there; after an edit, `make build` first.
+check: | $(PROGRAM)
+	python3 tests/acceptance/run.py $(PROGRAM)
+
+$(PROGRAM):
+	$(MAKE) build
+
+# Measures the built program, and writes bench/RESULTS.md.
+bench: | $(PROGRAM)
+	python3 bench/measure.py $(PROGRAM)
+
+install: | $(PROGRAM)
+	install -D -m 755 $(PROGRAM) $(DESTDIR)$(PREFIX)/bin/timeweave

@@ -1,0 +1,3 @@
+pub mod CommandWords
+pub mod Outcomes
+pub mod Endings

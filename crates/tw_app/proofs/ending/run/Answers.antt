@@ -1,0 +1,10 @@
+use Rattle.tw_app.proofs.Endings.{accepted, rejected}
+use Rattle.tw_app.proofs.ending.run.Goals as goal
+
+pub returns-clause-accepted : goal.returns-clause-accepted
+returns-clause-accepted g c = λ is.
+    accepted (g.I.Inputs.told c.args.inputs.now) _ _ _ (g.S.Sink.taken c.args.out.now) (g.S.Sink.taken c.run_to_the_end.new.out) _ _ c.run_to_the_end.result c.run_to_the_end.ensures is
+
+pub returns-clause-rejected : goal.returns-clause-rejected
+returns-clause-rejected g c = λ is.
+    rejected (g.I.Inputs.told c.args.inputs.now) _ _ _ (g.S.Sink.taken c.args.out.now) (g.S.Sink.taken c.run_to_the_end.new.out) _ _ c.run_to_the_end.result c.run_to_the_end.ensures is

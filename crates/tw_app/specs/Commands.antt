@@ -1,0 +1,38 @@
+-- The commands: which files they name, and which of them are built.
+use Rattle.std.specs.Prelude.{ℕ, List, [], ◌∷◌, Option, Some, None}
+use Rattle.tw_base.specs.declared.thread.Thread.{Thread as Anchor}
+use Rattle.tw_text.specs.declared.command.Command.{Command}
+use Rattle.tw_text.specs.declared.command.Command.TheVariants.{Init, Append, Thread, Receive, ProveEvent, ProveThread, ProveAbsent, ProveLink, MapLow, MapHigh, Export, Show, Join, VerifyFile, VerifyOne, Strict, CheckMap, Audit, Replay, Generate}
+
+-- the files that a command's words name, in their order; a directory is none
+abbrev pub files_of : Command → List (List ℕ)
+files_of (Init dir name) = []
+files_of (Append dir file) = file ∷ []
+files_of (Thread dir since) = []
+files_of (Receive dir file) = file ∷ []
+files_of (ProveEvent dir step index top) = []
+files_of (ProveThread dir step peer k top) = []
+files_of (ProveAbsent dir step peer k top) = []
+files_of (ProveLink dir step top) = []
+files_of (MapLow dir step peer top) = []
+files_of (MapHigh dir pos peer top) = []
+files_of (Export dir) = []
+files_of (Show history step index) = history ∷ []
+files_of (Join files) = files
+files_of (VerifyFile proof anchors) = proof ∷ anchors ∷ []
+files_of (VerifyOne proof name pos auth) = proof ∷ []
+files_of (Strict proof anchors) = proof ∷ anchors ∷ []
+files_of (CheckMap low high anchors) = low ∷ high ∷ anchors ∷ []
+files_of (Audit proof anchors histories) = proof ∷ anchors ∷ histories
+files_of (Replay file) = file ∷ []
+files_of (Generate number steps) = []
+
+-- the commands whose work is built
+abbrev pub IsBuilt : Command → Type 0
+IsBuilt (VerifyOne proof name pos auth) = Unit {0}
+IsBuilt _ = ⊥
+
+-- the one anchor that the command gives
+abbrev pub anchor_given : Command → Option Anchor
+anchor_given (VerifyOne proof name pos auth) = Some (record { from = name; step = pos; auth = auth })
+anchor_given _ = None

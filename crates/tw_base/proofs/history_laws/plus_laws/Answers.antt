@@ -1,0 +1,11 @@
+use Rattle.tw_base.proofs.Plus.{auth-plus, received-plus, tree-plus}
+use Rattle.tw_base.proofs.history_laws.plus_laws.Goals as goal
+
+pub returns-clause-trees : goal.returns-clause-trees
+returns-clause-trees g c = λ h s i inside. tree-plus h s i inside
+
+pub returns-clause-authenticators : goal.returns-clause-authenticators
+returns-clause-authenticators g c = λ h s i inside. auth-plus h s g.H.Hasher.dig i inside
+
+pub returns-clause-received : goal.returns-clause-received
+returns-clause-received g c = λ h s i inside. received-plus h s i inside

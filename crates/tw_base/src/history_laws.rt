@@ -1,0 +1,40 @@
+// The laws of histories, of their archives and of clashes.
+
+ghost use Rattle.std.specs.Prelude.{◌≡◌, ℕ, ◌≤◌, ◌↔◌, List, [], ◌++◌, length, IsSome, None, Some};
+ghost use Rattle.tw_base.specs.Auth.{auth};
+ghost use Rattle.tw_base.specs.Clash.{Clash, Pair, Within, clash_pair};
+ghost use Rattle.tw_base.specs.Entries.{KeyBelow};
+ghost use Rattle.tw_base.specs.History.{History, Step, plus, received};
+ghost use Rattle.tw_base.specs.HistoryTexts.{history_texts, tree_texts};
+ghost use Rattle.tw_base.specs.Lists.{In};
+ghost use Rattle.tw_base.specs.Sound.{IsSound};
+ghost use Rattle.tw_base.specs.Tree.{IsRisingTree, Tree, entries, tree};
+ghost use Rattle.tw_base.specs.Tree.Tree.{Empty};
+ghost use Rattle.tw_base.specs.declared.thread.Entry.{Entry};
+ghost use Rattle.tw_base.specs.declared.thread.Key.{Key};
+
+use crate::hasher::Hasher;
+
+/// The archive of a sound history after a step is a rising tree of exactly the threads received up
+/// to that step, and its texts are texts of the history; before the first step it is empty.
+pub fn archive_laws<H: Hasher>()
+    ensures rising { (h : History) → IsSound h → (i : ℕ) → IsRisingTree (tree h i) }
+    ensures has { (h : History) → IsSound h → (i : ℕ) → i ≤ length h.steps → (e : Entry) → In e (received h i) → In e (entries (tree h i)) }
+    ensures only { (h : History) (i : ℕ) (e : Entry) → In e (entries (tree h i)) → In e (received h i) }
+    ensures texts { (h : History) (i : ℕ) → i ≤ length h.steps → Within (tree_texts H.dig (tree h i)) (history_texts H.dig h) }
+    ensures first { (h : History) → tree h 0 ≡ Empty }
+{}
+
+/// One more step changes no tree and no authenticator of an earlier step, of any history, sound or
+/// not.
+pub fn plus_laws<H: Hasher>()
+    ensures trees { (h : History) (s : Step) (i : ℕ) → i ≤ length h.steps → tree (plus h s) i ≡ tree h i }
+    ensures authenticators { (h : History) (s : Step) (i : ℕ) → i ≤ length h.steps → auth H.dig (plus h s) i ≡ auth H.dig h i }
+    ensures received { (h : History) (s : Step) (i : ℕ) → i ≤ length h.steps → received (plus h s) i ≡ received h i }
+{}
+
+/// The ordered pair of a list of texts is there exactly where two texts of the list clash.
+pub fn clash_laws<H: Hasher>()
+    ensures some { (texts : List (List ℕ)) (p : Pair) → clash_pair H.dig texts ≡ Some p → Clash H.dig texts }
+    ensures none { (texts : List (List ℕ)) → clash_pair H.dig texts ≡ None → Clash H.dig texts → ⊥ }
+{}

@@ -1,0 +1,25 @@
+use Rattle.std.proofs.Common.{refl}
+use Rattle.tw_disk.specs.Model.{Barrier as BarrierCall}
+use Rattle.tw_disk.specs.Calls.{elapses, gains_call, barrier_durable, barrier_crash}
+use Rattle.tw_disk.specs.declared.call.Call.TheVariants.{Barrier}
+use Rattle.tw_disk.proofs.memory_disk.MemDiskDisk.barrier.Goals as goal
+
+pub invariant_of-self-in-Ok : goal.invariant_of-self-in-Ok
+invariant_of-self-in-Ok c =
+    let pages = c.args.self.now.pages.items in
+    record { calls_fit = (gains_call _ _ Barrier pages pages c.in-Ok.ensures.ok refl tt).fits c.args.self.now.calls_fit }
+
+pub returns-in-Ok-clause-durable : goal.returns-in-Ok-clause-durable
+returns-in-Ok-clause-durable c =
+    let pages = c.args.self.now.pages.items in
+    barrier_durable _ _ _ _ c.args.self.now.calls_fit (gains_call _ _ Barrier pages pages c.in-Ok.ensures.ok refl tt)
+
+pub returns-in-Ok-clause-crash : goal.returns-in-Ok-clause-crash
+returns-in-Ok-clause-crash c =
+    let pages = c.args.self.now.pages.items in
+    barrier_crash _ _ _ _ c.args.self.now.calls_fit (gains_call _ _ Barrier pages pages c.in-Ok.ensures.ok refl tt)
+
+pub returns-in-Ok-clause-time : goal.returns-in-Ok-clause-time
+returns-in-Ok-clause-time c =
+    let pages = c.args.self.now.pages.items in
+    elapses _ _ _ _ BarrierCall (gains_call _ _ Barrier pages pages c.in-Ok.ensures.ok refl tt)

@@ -1,0 +1,13 @@
+pub mod Image
+pub mod Put
+pub mod Disk
+pub mod Moments
+pub mod Model
+pub mod Laws
+pub mod Kept
+pub mod Loose
+pub mod Calls
+pub mod MemDisk
+pub mod Pages
+pub mod MemPages
+pub mod Untold

@@ -1,0 +1,60 @@
+-- What a disk in memory shows.
+use Rattle.std.specs.Prelude.{◌≡◌, ℕ, List, Option, Bool}
+use Rattle.tw_disk.specs.Image.{Image}
+use Rattle.tw_disk.specs.Model.{DeviceCall, Written}
+use Rattle.tw_disk.specs.Kept.{calls_of, written_of}
+use Rattle.tw_disk.specs.declared.memory_disk.MemDisk.{MemDisk}
+
+-- what reads give
+abbrev pub pages_of : MemDisk → Image
+pages_of disk = disk.pages.items
+
+-- all its writes that took effect and its good barriers since it was made or crashed, each with its bytes
+abbrev pub device_calls_of : MemDisk → List DeviceCall
+device_calls_of disk = calls_of disk.calls.items disk.pages.items
+
+-- where it stands after them
+abbrev pub state_of : MemDisk → Written
+state_of disk = written_of disk.calls.items disk.pages.items
+
+-- how often it has failed
+abbrev pub faults_of : MemDisk → ℕ
+faults_of disk = disk.faults
+
+-- how many writes and barriers it was asked for since it was made
+abbrev pub made_of : MemDisk → ℕ
+made_of disk = disk.device.made
+
+-- how many calls of read it has had since it was made
+abbrev pub reads_of : MemDisk → ℕ
+reads_of disk = disk.reads
+
+-- the writes and barriers that are to fail, by their numbers since it was made
+abbrev pub failing_of : MemDisk → List ℕ
+failing_of disk = disk.device.planned.items
+
+-- the calls of pages and read that are to fail, by their numbers since it was made
+abbrev pub failing_reads_of : MemDisk → List ℕ
+failing_reads_of disk = disk.asks.planned.items
+
+-- how many calls of pages and read it has had since it was made
+abbrev pub asks_of : MemDisk → ℕ
+asks_of disk = disk.asks.made
+
+-- the number of the write or barrier at which it is to stop, if there is one
+abbrev pub stop_of : MemDisk → Option ℕ
+stop_of disk = disk.stop
+
+-- whether it is stopped
+abbrev pub is_stopped : MemDisk → Bool
+is_stopped disk = disk.is_stopped
+
+-- the disk holds and may leave the same, has counted the same, and is stopped or not as before
+pub record IsSameDisk (old new : MemDisk) : Type 0 where
+  pub pages : new.pages.items ≡ old.pages.items
+  pub calls : new.calls.items ≡ old.calls.items
+  pub faults : new.faults ≡ old.faults
+  pub made : new.device.made ≡ old.device.made
+  pub asks : new.asks.made ≡ old.asks.made
+  pub reads : new.reads ≡ old.reads
+  pub stopped : new.is_stopped ≡ old.is_stopped

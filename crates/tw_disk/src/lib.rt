@@ -1,0 +1,23 @@
+//! Disks by pages of 4,096 bytes, what a crash may leave of one, and the pages that a store shows to the crates above it.
+//!
+//! [`Disk`] is the device with the disk model: what a write, a barrier and a crash may do. [`Pages`] is a list of pages that only grows.
+//! [`MemDisk`] and [`MemPages`] are both in memory, with calls that fail where a test plans it.
+#![tactic(auto)]
+
+mod call;
+mod crash;
+mod disk;
+mod fail_list;
+mod memory_disk;
+mod memory_pages;
+mod pages;
+#[cfg(test)]
+mod tests;
+#[cfg(test)]
+mod untold;
+
+pub use disk::Disk;
+pub use memory_disk::MemDisk;
+pub use memory_pages::MemPages;
+pub use pages::Pages;
+pub use tw_base::{Failed, NoMemory};

@@ -1,0 +1,300 @@
+// A disk in memory.
+ghost use Rattle.std.specs.Prelude.{◌≡◌, ◌⊎◌, ◌↔◌, ◌<◌, ◌≤◌, ◌+◌, ◌-◌, ◌^◌, ◌++◌, ◌∷◌, [], ℕ, min, length, Some, None, false, vec_len, OnOk, OnErr, IsOk, IsTrue};
+ghost use Rattle.tw_disk.specs.Image.{put, page_at};
+ghost use Rattle.tw_disk.specs.Disk.{HasCause, Rose};
+ghost use Rattle.tw_disk.specs.Model.{Write, Barrier, IsImage, Since};
+ghost use Rattle.tw_disk.specs.Kept.{earlier, calls_of, written_of, AllFit, all_fit-prop, Gains};
+
+use crate::Disk;
+use crate::call::Call;
+use crate::crash::leave;
+use crate::fail_list::FailList;
+use std::alloc::{AllocError, Global};
+use tw_base::{Failed, NoMemory};
+
+/// A disk in memory, which tells its content and keeps all its writes and barriers since it was made or crashed.
+///
+/// Of each write it keeps the bytes that the write replaced, so what every earlier read gave, and what each crash might have left, follows
+/// from what it keeps; each page that was written is held once for what reads give and once for each write that replaced it.
+/// A write or barrier that finds no memory counts a fault and answers `Failed`, and changes nothing.
+#[derive(Drop)]
+pub struct MemDisk {
+    pages: Vec<[u8; 4096]>,
+    calls: Vec<Call>,
+    device: FailList,
+    asks: FailList,
+    reads: u64,
+    stop: Option<u64>,
+    is_stopped: bool,
+    faults: u64,
+    alloc: Global,
+    ghost calls_fit: { AllFit calls.items pages.items } by { all_fit-prop calls.items pages.items },
+}
+
+// Writes over a page that is there, and keeps what it held; or does neither where there is no memory.
+fn overwrite(
+    calls: &mut Vec<Call>,
+    pages: &mut Vec<[u8; 4096]>,
+    alloc: Global,
+    place: usize,
+    from: &[u8; 4096],
+) -> Result<(), AllocError>
+    requires { place < vec_len pages.old }
+    ensures gains { OnOk result (Gains (Write place from.now) calls.old.items pages.old.items calls.new.items pages.new.items) }
+    ensures pages { OnOk result (pages.new.items ≡ put place from.now pages.old.items) }
+    ensures calls_err { OnErr result (calls.new.items ≡ calls.old.items) }
+    ensures pages_err { OnErr result (pages.new.items ≡ pages.old.items) }
+{
+    let before = Box::new(alloc, pages[place])?;
+    calls.push(Call::Overwrite {
+        page: place as u64,
+        before,
+    })?;
+    pages[place] = *from;
+    Ok(())
+}
+
+// Adds a page, or does nothing where there is no memory.
+fn append(
+    calls: &mut Vec<Call>,
+    pages: &mut Vec<[u8; 4096]>,
+    from: &[u8; 4096],
+) -> Result<(), AllocError>
+    ensures gains { OnOk result (Gains (Write (length pages.old.items) from.now) calls.old.items pages.old.items calls.new.items pages.new.items) }
+    ensures pages { OnOk result (pages.new.items ≡ put (length pages.old.items) from.now pages.old.items) }
+    ensures calls_err { OnErr result (calls.new.items ≡ calls.old.items) }
+    ensures pages_err { OnErr result (pages.new.items ≡ pages.old.items) }
+{
+    let page = pages.len() as u64;
+    calls.reserve(1)?;
+    pages.push(*from)?;
+    calls.push_reserved(Call::Append { page });
+    Ok(())
+}
+
+// Makes a write and keeps it, or does neither where there is no memory.
+fn keep_write(
+    calls: &mut Vec<Call>,
+    pages: &mut Vec<[u8; 4096]>,
+    alloc: Global,
+    page: u64,
+    from: &[u8; 4096],
+) -> Result<(), AllocError>
+    requires { page ≤ vec_len pages.old }
+    ensures gains { OnOk result (Gains (Write page from.now) calls.old.items pages.old.items calls.new.items pages.new.items) }
+    ensures pages { OnOk result (pages.new.items ≡ put page from.now pages.old.items) }
+    ensures calls_err { OnErr result (calls.new.items ≡ calls.old.items) }
+    ensures pages_err { OnErr result (pages.new.items ≡ pages.old.items) }
+{
+    let place = page as usize;
+    if place < pages.len() {
+        overwrite(calls, pages, alloc, place, from)
+    } else {
+        append(calls, pages, from)
+    }
+}
+
+// Keeps a good barrier, or nothing where there is no memory.
+fn keep_barrier(calls: &mut Vec<Call>) -> Result<(), AllocError>
+    ensures ok { OnOk result (calls.new.items ≡ calls.old.items ++ Call.Barrier ∷ []) }
+    ensures err { OnErr result (calls.new.items ≡ calls.old.items) }
+{
+    calls.push(Call::Barrier)?;
+    Ok(())
+}
+
+// Counts a device call, and tells whether it is to fail.
+fn is_to_fail(device: &mut FailList, stop: Option<u64>, is_stopped: &mut bool) -> bool
+    ensures stopped { IsTrue is_stopped.new ↔ (stop ≡ Some device.new.made) }
+    ensures fails { IsTrue is_stopped.new → IsTrue result }
+{
+    let is_planned = device.is_next_to_fail();
+    *is_stopped = stop == Some(device.made());
+    is_planned || *is_stopped
+}
+
+// Counts a fault.
+fn count_fault(faults: &mut u64) -> Failed
+    ensures later { faults.old ≤ faults.new }
+    ensures rose { Rose faults.old faults.new }
+{
+    *faults = faults.saturating_add(1);
+    Failed
+}
+
+// The answer of a call that took effect: Failed, counting a fault, where it is to fail.
+fn answer(faults: &mut u64, is_to_fail: bool) -> Result<(), Failed>
+    ensures fails { IsOk result ↔ (is_to_fail ≡ false) }
+    ensures cause { HasCause faults.old faults.new result }
+{
+    if is_to_fail {
+        return Err(count_fault(faults));
+    }
+    Ok(())
+}
+
+impl MemDisk {
+    ghost use Rattle.tw_disk.specs.MemDisk.{pages_of, device_calls_of, state_of, faults_of, made_of, reads_of, failing_of, failing_reads_of, asks_of, stop_of, is_stopped, IsSameDisk};
+    ghost use Rattle.tw_disk.specs.Model.{outcome};
+
+    /// A disk without a page. It takes no memory yet.
+    pub fn new(alloc: Global) -> Self
+        ensures pages { pages_of result ≡ [] }
+        ensures calls { device_calls_of result ≡ [] }
+        ensures faults { faults_of result ≡ 0 }
+        ensures made { made_of result ≡ 0 }
+        ensures reads { reads_of result ≡ 0 }
+        ensures failing { (failing_of result ≡ []) × (failing_reads_of result ≡ []) × (asks_of result ≡ 0) }
+        ensures runs { (stop_of result ≡ None) × (is_stopped result ≡ false) }
+    {
+        MemDisk {
+            pages: Vec::new(alloc),
+            calls: Vec::new(alloc),
+            device: FailList::new(alloc),
+            asks: FailList::new(alloc),
+            reads: 0,
+            stop: None,
+            is_stopped: false,
+            faults: 0,
+            alloc,
+        }
+    }
+
+    /// The number of device calls, which are the writes and barriers, since it was made, failed ones among them.
+    pub fn device_calls(&self) -> u64
+        ensures { result ≡ made_of self.now }
+    {
+        self.device.made()
+    }
+
+    /// The number of calls of `read` since it was made, failed ones among them. It stands still at 2^64 - 1.
+    pub fn reads(&self) -> u64
+        ensures { result ≡ reads_of self.now }
+    {
+        self.reads
+    }
+
+    /// Makes the k-th write or barrier from now on fail; k is at least 1. A write that fails so may be found done all the same.
+    pub fn fail(&mut self, k: u64) -> Result<(), NoMemory>
+        requires { 1 ≤ k }
+        ensures planned { OnOk result (failing_of self.new ≡ failing_of self.old ++ (min (made_of self.old + k) (2 ^ 64 - 1)) ∷ []) }
+        ensures err { OnErr result (failing_of self.new ≡ failing_of self.old) }
+        ensures others { (failing_reads_of self.new ≡ failing_reads_of self.old)
+            × (stop_of self.new ≡ stop_of self.old) }
+        ensures same { IsSameDisk self.old self.new }
+    {
+        self.device.plan(k)
+    }
+
+    /// Makes the k-th call of `pages` and `read`, counted together, from now on fail; k is at least 1.
+    pub fn fail_read(&mut self, k: u64) -> Result<(), NoMemory>
+        requires { 1 ≤ k }
+        ensures planned { OnOk result (failing_reads_of self.new ≡ failing_reads_of self.old ++ (min (asks_of self.old + k) (2 ^ 64 - 1)) ∷ []) }
+        ensures err { OnErr result (failing_reads_of self.new ≡ failing_reads_of self.old) }
+        ensures others { (failing_of self.new ≡ failing_of self.old) × (stop_of self.new ≡ stop_of self.old) }
+        ensures same { IsSameDisk self.old self.new }
+    {
+        self.asks.plan(k)
+    }
+
+    /// Makes the k-th write or barrier from now on fail, and every later call of any kind; k is at least 1.
+    ///
+    /// A write at which the disk is stopped counts among the pages written since the last good barrier, with the bytes of that write.
+    pub fn stop_at(&mut self, k: u64)
+        requires { 1 ≤ k }
+        ensures stop { stop_of self.new ≡ Some (min (made_of self.old + k) (2 ^ 64 - 1)) }
+        ensures others { (failing_of self.new ≡ failing_of self.old)
+            × (failing_reads_of self.new ≡ failing_reads_of self.old) }
+        ensures same { IsSameDisk self.old self.new }
+    {
+        self.stop = Some(self.device.made().saturating_add(k));
+    }
+
+    /// Crashes: ends a stop, and leaves the outcome of this choice, which is at most 3. All of it is stable then.
+    ///
+    /// The pages written since the last good barrier have: 0 their old bytes, and the page count of that barrier holds; 1 their new bytes;
+    /// 2 zeros; 3 bytes of the value 1. With 1 to 3 the last page count holds. It takes no memory.
+    pub fn crash(&mut self, choice: u8)
+        requires { choice ≤ 3 }
+
+        // The disk then reads as one of the images that the model allows.
+        ensures image { IsImage (state_of self.old) (pages_of self.new) }
+        ensures outcome { pages_of self.new ≡ outcome choice (state_of self.old) }
+        ensures stable { device_calls_of self.new ≡ [] }
+        ensures runs { (stop_of self.new ≡ None) × (is_stopped self.new ≡ false) }
+        ensures failing { (failing_of self.new ≡ failing_of self.old)
+            × (failing_reads_of self.new ≡ failing_reads_of self.old) }
+        ensures counts { (faults_of self.new ≡ faults_of self.old) × (made_of self.new ≡ made_of self.old)
+            × (asks_of self.new ≡ asks_of self.old) × (reads_of self.new ≡ reads_of self.old) }
+    {
+        leave(&mut self.pages, &mut self.calls, choice);
+        self.calls.clear();
+        self.stop = None;
+        self.is_stopped = false;
+    }
+}
+
+impl Disk for MemDisk {
+    ghost use Rattle.tw_disk.specs.Calls.{told_count, told_image};
+    ghost use Rattle.tw_disk.specs.Laws.{since_now, only_now};
+
+    ghost content = { λ disk. Some disk.pages.items };
+
+    ghost count = { λ disk. Some (length disk.pages.items) };
+
+    ghost may_leave = { λ disk c. IsImage (written_of disk.calls.items disk.pages.items) c };
+
+    ghost moment = { λ disk. length (calls_of disk.calls.items disk.pages.items) };
+
+    ghost left_since = { λ disk t c. Since (earlier disk.calls.items disk.pages.items) (calls_of disk.calls.items disk.pages.items) t c };
+
+    ghost faults = { λ disk. disk.faults };
+
+    ghost count_is_told = { λ disk c is. told_count disk.pages.items c is };
+
+    ghost as_it_reads = { λ disk c is. told_image disk.calls.items disk.pages.items c disk.calls_fit is };
+
+    ghost counts_now = { λ disk t c le image. since_now (earlier disk.calls.items disk.pages.items) (calls_of disk.calls.items disk.pages.items) t c le image };
+
+    ghost only_now = { λ disk c since. only_now (earlier disk.calls.items disk.pages.items) (calls_of disk.calls.items disk.pages.items) c since };
+
+    fn pages(&mut self) -> Result<u64, Failed> {
+        if self.asks.is_next_to_fail() || self.is_stopped {
+            return Err(count_fault(&mut self.faults));
+        }
+        Ok(self.pages.len() as u64)
+    }
+
+    fn read(&mut self, page: u64, into: &mut [u8; 4096]) -> Result<(), Failed> {
+        self.reads = self.reads.saturating_add(1);
+        if self.asks.is_next_to_fail() || self.is_stopped {
+            return Err(count_fault(&mut self.faults));
+        }
+        *into = self.pages[page as usize];
+        Ok(())
+    }
+
+    fn write(&mut self, page: u64, from: &[u8; 4096]) -> Result<(), Failed> {
+        if self.is_stopped {
+            return Err(count_fault(&mut self.faults));
+        }
+        let fails = is_to_fail(&mut self.device, self.stop, &mut self.is_stopped);
+        match keep_write(&mut self.calls, &mut self.pages, self.alloc, page, from) {
+            Ok(()) => answer(&mut self.faults, fails),
+            Err(_) => Err(count_fault(&mut self.faults)),
+        }
+    }
+
+    fn barrier(&mut self) -> Result<(), Failed> {
+        if self.is_stopped {
+            return Err(count_fault(&mut self.faults));
+        }
+        if is_to_fail(&mut self.device, self.stop, &mut self.is_stopped) {
+            return Err(count_fault(&mut self.faults));
+        }
+        match keep_barrier(&mut self.calls) {
+            Ok(()) => Ok(()),
+            Err(_) => Err(count_fault(&mut self.faults)),
+        }
+    }
+}

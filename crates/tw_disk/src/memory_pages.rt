@@ -1,0 +1,100 @@
+// A list of pages in memory.
+ghost use Rattle.std.specs.Prelude.{◌≡◌, ◌<◌, ◌≤◌, ◌+◌, ◌-◌, ◌^◌, ◌++◌, ◌∷◌, [], ℕ, min, length, drop, replicate, Some, IfOk, OnOk, OnErr};
+
+use crate::Pages;
+use crate::fail_list::FailList;
+use std::alloc::Global;
+use tw_base::{Failed, NoMemory};
+
+/// Pages in memory, which tell their list and count their reads.
+#[derive(Drop)]
+pub struct MemPages {
+    pages: Vec<[u8; 4096]>,
+    asks: FailList,
+    reads: u64,
+    faults: u64,
+    ghost four: { 4 ≤ length pages.items },
+}
+
+impl MemPages {
+    ghost use Rattle.tw_disk.specs.MemPages.{all_pages_of, reads_of, failing_of, asks_of, faults_of};
+
+    /// Four pages of zeros.
+    pub fn new(alloc: Global) -> Result<MemPages, NoMemory>
+        ensures pages { IfOk result (λ p. all_pages_of p ≡ replicate 4 (replicate 4096 0)) }
+        ensures reads { IfOk result (λ p. reads_of p ≡ 0) }
+        ensures faults { IfOk result (λ p. faults_of p ≡ 0) }
+        ensures failing { IfOk result (λ p. (failing_of p ≡ []) × (asks_of p ≡ 0)) }
+    {
+        match Vec::from_slice(alloc, &[[0; 4096]; 4]) {
+            Ok(pages) => Ok(MemPages {
+                pages,
+                asks: FailList::new(alloc),
+                reads: 0,
+                faults: 0,
+            }),
+            Err(_) => Err(NoMemory),
+        }
+    }
+
+    /// The number of calls of `read` since it was made, failed ones among them. It stands still at 2^64 - 1.
+    pub fn reads(&self) -> u64
+        ensures { result ≡ reads_of self.now }
+    {
+        self.reads
+    }
+
+    /// Makes the k-th read from now on fail; k is at least 1.
+    pub fn fail(&mut self, k: u64) -> Result<(), NoMemory>
+        requires { 1 ≤ k }
+        ensures planned { OnOk result (failing_of self.new ≡ failing_of self.old ++ (min (asks_of self.old + k) (2 ^ 64 - 1)) ∷ []) }
+        ensures err { OnErr result (failing_of self.new ≡ failing_of self.old) }
+        ensures same { (all_pages_of self.new ≡ all_pages_of self.old)
+            × (faults_of self.new ≡ faults_of self.old) × (asks_of self.new ≡ asks_of self.old)
+            × (reads_of self.new ≡ reads_of self.old) }
+    {
+        self.asks.plan(k)
+    }
+}
+
+impl Pages for MemPages {
+    ghost use Rattle.tw_disk.specs.MemPages.{told_used};
+
+    ghost list = { λ p. Some (drop 4 p.pages.items) };
+
+    ghost used_count = { λ p. length p.pages.items };
+
+    ghost faults = { λ p. p.faults };
+
+    ghost same = { λ _ _. Unit {0} };
+
+    ghost unbroken = { λ _. Unit {0} };
+
+    ghost told_count = { λ p pages is. told_used p.pages.items pages p.four is };
+
+    ghost same_itself = { λ _. tt };
+
+    ghost same_on = { λ _ _ _ _ _. tt };
+
+    fn used(&self) -> u64 {
+        self.pages.len() as u64
+    }
+
+    fn read(&mut self, page: u64, into: &mut [u8; 4096]) -> Result<(), Failed> {
+        self.reads = self.reads.saturating_add(1);
+        if self.asks.is_next_to_fail() {
+            self.faults = self.faults.saturating_add(1);
+            return Err(Failed);
+        }
+        *into = self.pages[page as usize];
+        Ok(())
+    }
+
+    fn stage(&mut self, page: &[u8; 4096]) -> Result<u64, NoMemory> {
+        let number = self.pages.len() as u64;
+        match self.pages.push(*page) {
+            Ok(()) => Ok(number),
+            Err(_) => Err(NoMemory),
+        }
+    }
+}

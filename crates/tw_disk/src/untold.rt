@@ -1,0 +1,73 @@
+// A disk that tells no content, as one over a real file is.
+ghost use Rattle.std.specs.Prelude.{◌≡◌, ◌-◌, ◌^◌, ℕ, None, Some};
+ghost use Rattle.tw_disk.specs.Untold.{no_content};
+
+use crate::{Disk, Failed};
+
+// One page, which gives what was written last, whatever its number is.
+#[derive(Drop)]
+pub struct UntoldDisk {
+    page: [u8; 4096],
+    count: Option<u64>,
+}
+
+impl UntoldDisk {
+    pub fn new() -> Self {
+        UntoldDisk {
+            page: [0; 4096],
+            count: None,
+        }
+    }
+}
+
+impl Disk for UntoldDisk {
+    ghost content = { λ _. None };
+
+    ghost count = { λ disk. disk.count };
+
+    ghost may_leave = { λ _ _. ⊥ };
+
+    ghost moment = { λ _. 0 };
+
+    ghost left_since = { λ _ _ _. ⊥ };
+
+    ghost faults = { λ _. 2 ^ 64 - 1 };
+
+    ghost count_is_told = { λ disk c is. no_content c _ is };
+
+    ghost as_it_reads = { λ disk c is. no_content c _ is };
+
+    ghost counts_now = { λ disk t c le left. left };
+
+    ghost only_now = { λ disk c left. left };
+
+    fn pages(&mut self) -> Result<u64, Failed> {
+        match self.count {
+            Some(count) => Ok(count),
+            None => {
+                self.count = Some(4);
+                Ok(4)
+            }
+        }
+    }
+
+    fn read(&mut self, _page: u64, into: &mut [u8; 4096]) -> Result<(), Failed> {
+        *into = self.page;
+        Ok(())
+    }
+
+    fn write(&mut self, page: u64, from: &[u8; 4096]) -> Result<(), Failed> {
+        match (self.count, page.checked_add(1)) {
+            (Some(count), Some(next)) => {
+                self.page = *from;
+                self.count = Some(count.max(next));
+                Ok(())
+            }
+            _ => Err(Failed),
+        }
+    }
+
+    fn barrier(&mut self) -> Result<(), Failed> {
+        Ok(())
+    }
+}

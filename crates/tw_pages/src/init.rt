@@ -1,0 +1,132 @@
+// The phases that make a store.
+ghost use Rattle.std.specs.Prelude.{◌≡◌, ◌⊎◌, ◌<◌, ◌≤◌, ◌+◌, ◌^◌, ◌↔◌, ℕ, List, length, Some, Err, OnOk, IfOk, IfErr, IsTrue, if◌then◌else◌};
+ghost use Rattle.std.specs.Option.{IsSomeAnd};
+ghost use Rattle.tw_disk.specs.Image.{Image};
+ghost use Rattle.tw_disk.specs.Disk.{HasCause, LeavesOnly, IsAtRest, Rose};
+ghost use Rattle.tw_pages.specs.Store.{OpensAboveOlder};
+ghost use Rattle.tw_pages.specs.Init.{BothClosed, HasBodies, IsUnmade, first_opening, IsBlankOrNew};
+ghost use Rattle.tw_pages.specs.Slots.{IsBlank, IsOpen, IsTaken};
+
+use crate::durable::write_pair_durably;
+use crate::layout::{body, closed_gate, open_gate};
+use crate::open::{StoreFault, settle};
+use tw_disk::{Disk, Failed};
+
+// Writes both gates closed, for good.
+pub fn write_closed_gates<D: Disk>(disk: &mut D) -> Result<(), Failed>
+    requires { IsSomeAnd (D.count disk.old) (λ n. 0 ≤ n) }
+    ensures closed { OnOk result (IsAtRest D.content D.may_leave disk.old (λ c. length c < 4)
+        → IsAtRest D.content D.may_leave disk.new BothClosed) }
+    ensures images { IsAtRest D.content D.may_leave disk.old (λ c. length c < 4)
+        → LeavesOnly D.moment D.may_leave D.left_since disk.old disk.new (λ c. length c < 4) }
+    ensures grown { OnOk result (IsSomeAnd (D.count disk.new) (λ n. 2 ≤ n)) }
+    ensures cause { HasCause (D.faults disk.old) (D.faults disk.new) result }
+{
+    write_pair_durably(disk, 0, &closed_gate(), 1, &closed_gate())?;
+    Ok(())
+}
+
+// Writes both bodies, for good.
+pub fn write_bodies<D: Disk>(disk: &mut D, root: &[u8]) -> Result<(), Failed>
+    requires room { IsSomeAnd (D.count disk.old) (λ n. 2 ≤ n) }
+    requires root { length root.now ≤ 512 }
+    ensures ready { OnOk result (IsAtRest D.content D.may_leave disk.old BothClosed
+        → IsAtRest D.content D.may_leave disk.new (λ c. BothClosed c × HasBodies root.now c)) }
+    ensures images { IsAtRest D.content D.may_leave disk.old BothClosed
+        → LeavesOnly D.moment D.may_leave D.left_since disk.old disk.new BothClosed }
+    ensures grown { OnOk result (IsSomeAnd (D.count disk.new) (λ n. 4 ≤ n)) }
+    ensures cause { HasCause (D.faults disk.old) (D.faults disk.new) result }
+{
+    write_pair_durably(disk, 2, &body(1, 4, root), 3, &body(0, 4, root))?;
+    Ok(())
+}
+
+// Writes both gates open, for good, which makes the store.
+pub fn write_open_gates<D: Disk>(disk: &mut D) -> Result<(), Failed>
+    requires { IsSomeAnd (D.count disk.old) (λ n. 4 ≤ n) }
+    ensures grown { OnOk result (IsSomeAnd (D.count disk.new) (λ n. 4 ≤ n)) }
+    ensures opened { OnOk result ((root : List ℕ)
+        → IsAtRest D.content D.may_leave disk.old (λ c. BothClosed c × HasBodies root c)
+        → IsAtRest D.content D.may_leave disk.new (OpensAboveOlder (first_opening root))) }
+    ensures images { (root : List ℕ) → IsAtRest D.content D.may_leave disk.old (λ c. BothClosed c
+        × HasBodies root c)
+        → LeavesOnly D.moment D.may_leave D.left_since disk.old disk.new (IsBlankOrNew root) }
+    ensures cause { HasCause (D.faults disk.old) (D.faults disk.new) result }
+{
+    write_pair_durably(disk, 0, &open_gate(), 1, &open_gate())?;
+    Ok(())
+}
+
+// Whether the gate of a slot reads open.
+pub fn is_gate_open<D: Disk>(disk: &mut D, slot: u64) -> Result<bool, Failed>
+    requires low { slot < 2 }
+    requires room { IsSomeAnd (D.count disk.old) (λ n. 4 ≤ n) }
+    ensures gate { IfOk result (λ b. (c : Image) → D.content disk.old ≡ Some c → (IsTrue b ↔ IsOpen slot c)) }
+    ensures count { D.count disk.new ≡ D.count disk.old }
+    ensures content { D.content disk.new ≡ D.content disk.old }
+    ensures images { (c : Image) → D.may_leave disk.new c → D.may_leave disk.old c }
+    ensures time { LeavesOnly D.moment D.may_leave D.left_since disk.old disk.new (D.may_leave disk.old) }
+    ensures cause { HasCause (D.faults disk.old) (D.faults disk.new) result }
+{
+    let mut page = [0; 4096];
+    disk.read(slot, &mut page)?;
+    Ok(page[0] == 1)
+}
+
+// Makes what was written stable, refuses a store that is there, and tells whether there are too few pages for one.
+pub fn look<D: Disk>(disk: &mut D) -> Result<bool, StoreFault>
+    ensures unmade { IfOk result (λ short. (c : Image) → D.content disk.old ≡ Some c
+        → IsAtRest D.content D.may_leave disk.new (λ i. (i ≡ c) × IsUnmade short i)) }
+    ensures images { LeavesOnly D.moment D.may_leave D.left_since disk.old disk.new (D.may_leave disk.old) }
+    ensures taken { result ≡ Err StoreFault.Taken → (c : Image) → D.content disk.old ≡ Some c → IsTaken c }
+    ensures answers { IfErr result (λ e. (e ≡ StoreFault.Taken) ⊎ (e ≡ StoreFault.DiskFault)) }
+    ensures content { D.content disk.new ≡ D.content disk.old }
+    ensures room { IfOk result (λ short. IsSomeAnd (D.count disk.new) (λ n. (if short then 0 else 2) ≤ n)) }
+    ensures fault { result ≡ Err StoreFault.DiskFault → Rose (D.faults disk.old) (D.faults disk.new) }
+    ensures later { D.faults disk.old ≤ D.faults disk.new }
+{
+    let count = settle(disk)?;
+    if count < 4 {
+        return Ok(true);
+    }
+    if is_gate_open(disk, 0)? {
+        return Err(StoreFault::Taken);
+    }
+    if is_gate_open(disk, 1)? {
+        return Err(StoreFault::Taken);
+    }
+    Ok(false)
+}
+
+// Sees that both gates are closed.
+pub fn see_gates_closed<D: Disk>(disk: &mut D, short: bool) -> Result<(), Failed>
+    requires { IsSomeAnd (D.count disk.old) (λ n. (if short then 0 else 2) ≤ n) }
+    ensures closed { OnOk result (IsAtRest D.content D.may_leave disk.old (IsUnmade short)
+        → IsAtRest D.content D.may_leave disk.new BothClosed) }
+    ensures images { IsAtRest D.content D.may_leave disk.old (IsUnmade short)
+        → LeavesOnly D.moment D.may_leave D.left_since disk.old disk.new IsBlank }
+    ensures room { OnOk result (IsSomeAnd (D.count disk.new) (λ n. 2 ≤ n)) }
+    ensures cause { HasCause (D.faults disk.old) (D.faults disk.new) result }
+{
+    if short {
+        write_closed_gates(disk)?;
+    }
+    Ok(())
+}
+
+// Writes a store where there is none.
+pub fn make<D: Disk>(disk: &mut D, short: bool, root: &[u8]) -> Result<(), Failed>
+    requires room { IsSomeAnd (D.count disk.old) (λ n. (if short then 0 else 2) ≤ n) }
+    requires root { length root.now ≤ 512 }
+    ensures made { OnOk result (IsAtRest D.content D.may_leave disk.old (IsUnmade short)
+        → IsAtRest D.content D.may_leave disk.new (OpensAboveOlder (first_opening root.now))) }
+    ensures images { IsAtRest D.content D.may_leave disk.old (IsUnmade short)
+        → LeavesOnly D.moment D.may_leave D.left_since disk.old disk.new (IsBlankOrNew root.now) }
+    ensures room { OnOk result (IsSomeAnd (D.count disk.new) (λ n. 4 ≤ n)) }
+    ensures cause { HasCause (D.faults disk.old) (D.faults disk.new) result }
+{
+    see_gates_closed(disk, short)?;
+    write_bodies(disk, root)?;
+    write_open_gates(disk)?;
+    Ok(())
+}

@@ -1,0 +1,21 @@
+//! A store of pages on a disk, crash safe at every device call.
+//!
+//! Page 0 is gate 0, page 1 gate 1, page 2 body 0 and page 3 body 1; committed pages start at 4. A commit writes the staged pages and the body of
+//! the slot that doesn't count, and then opens its gate; so each image that a crash may leave opens as the store before or after it.
+#![tactic(auto)]
+
+mod body;
+mod commit;
+mod durable;
+mod init;
+mod layout;
+mod open;
+mod paged;
+mod phases;
+mod staged;
+mod store;
+#[cfg(test)]
+mod tests;
+
+pub use open::StoreFault;
+pub use store::{CommitFault, Store};

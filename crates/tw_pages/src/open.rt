@@ -1,0 +1,176 @@
+// What the two slots of a disk hold, and which of them counts.
+ghost use Rattle.std.specs.Prelude.{◌≡◌, ◌≢◌, ◌⊎◌, ◌<◌, ◌≤◌, ◌+◌, ◌-◌, ◌^◌, ℕ, List, length, take, Some, Err, IfOk, IfErr, OnOk, OnErr, IfSome, IsErrAnd, MatchResult};
+ghost use Rattle.std.specs.Option.{IsSomeAnd};
+ghost use Rattle.tw_disk.specs.Image.{Image, page_at};
+ghost use Rattle.tw_disk.specs.Disk.{HasCause, LeavesOnly, IsAtRest, Only, Rose};
+ghost use Rattle.tw_pages.specs.Slots.{HoldsSlot, IsFoundIn, IsRefusedFor, HasRoom};
+ghost use Rattle.tw_pages.specs.declared.open.StoreFault.TheVariants.{DiskFault};
+
+use crate::body::{Body, read_body};
+use tw_disk::{Disk, Failed};
+
+// What was read of a slot.
+#[derive(Drop)]
+pub enum Slot {
+    // The gate reads closed.
+    Closed,
+    // The gate reads open, and the body isn't of its grammar.
+    Broken,
+    // The gate reads open over this body.
+    Holds(Body),
+}
+
+// Reads a slot: its gate, and its body where the gate reads open.
+pub fn read_slot<D: Disk>(disk: &mut D, slot: u64, count: u64) -> Result<Slot, Failed>
+    requires low { slot < 2 }
+    requires count { D.count disk.old ≡ Some count }
+    requires room { 4 ≤ count }
+    ensures slot { IfOk result (λ s. (c : Image) → D.content disk.old ≡ Some c
+        → HoldsSlot (length c) slot c s) }
+    ensures room { IfOk result (HasRoom count) }
+    ensures count { D.count disk.new ≡ D.count disk.old }
+    ensures content { D.content disk.new ≡ D.content disk.old }
+    ensures images { (c : Image) → D.may_leave disk.new c → D.may_leave disk.old c }
+    ensures time { LeavesOnly D.moment D.may_leave D.left_since disk.old disk.new (D.may_leave disk.old) }
+    ensures cause { HasCause (D.faults disk.old) (D.faults disk.new) result }
+{
+    let mut page = [0; 4096];
+    disk.read(slot, &mut page)?;
+    if page[0] != 1 {
+        return Ok(Slot::Closed);
+    }
+    disk.read(2 + slot, &mut page)?;
+    match read_body(&page, count) {
+        Some(body) => Ok(Slot::Holds(body)),
+        None => Ok(Slot::Broken),
+    }
+}
+
+/// Why a store isn't made or opened.
+#[derive(Clone, Copy, Debug, PartialEq, Eq)]
+pub enum StoreFault {
+    /// The disk has at least four pages, and a gate reads open: something is there already.
+    Taken,
+    /// There are fewer than four pages, or both gates read closed: nothing was made yet.
+    Blank,
+    /// A gate reads open, and the body of the lowest such slot that fails isn't of its grammar; or both bodies have one generation (slot 1).
+    NotAStore { slot: u8 },
+    /// A device call failed; the disk's count of faults rose in this call.
+    DiskFault,
+    /// There was no memory. The store itself never answers this: it is for values above it.
+    NoMemory,
+}
+
+// The slot that counts, its body, and whether the other gate reads open.
+#[derive(Drop)]
+pub struct Found {
+    pub slot: u8,
+    pub body: Body,
+    pub is_spare_open: bool,
+}
+
+// Chooses the slot that counts: the one with an open gate, or of two the one of the higher generation.
+pub fn choose(first: Slot, second: Slot) -> Result<Found, StoreFault>
+    ensures found { (c : Image) → HoldsSlot (length c) 0 c first → HoldsSlot (length c) 1 c second
+        → IfOk result (IsFoundIn c) }
+    ensures slot { IfOk result (λ f. f.slot < 2) }
+    ensures room { (count : ℕ) → HasRoom count first → HasRoom count second
+        → IfOk result (λ f. f.body.used ≤ count) }
+    ensures answers { IfErr result (λ e. (e ≢ StoreFault.DiskFault) × (e ≢ StoreFault.Taken)
+        × (e ≢ StoreFault.NoMemory)) }
+    ensures refused { (c : Image) → 4 ≤ length c → HoldsSlot (length c) 0 c first
+        → HoldsSlot (length c) 1 c second → IfErr result (IsRefusedFor c) }
+{
+    match (first, second) {
+        (Slot::Broken, _) => Err(StoreFault::NotAStore { slot: 0 }),
+        (_, Slot::Broken) => Err(StoreFault::NotAStore { slot: 1 }),
+        (Slot::Closed, Slot::Closed) => Err(StoreFault::Blank),
+        (Slot::Holds(body), Slot::Closed) => Ok(Found {
+            slot: 0,
+            body,
+            is_spare_open: false,
+        }),
+        (Slot::Closed, Slot::Holds(body)) => Ok(Found {
+            slot: 1,
+            body,
+            is_spare_open: false,
+        }),
+        (Slot::Holds(body), Slot::Holds(other)) => choose_newer(body, other),
+    }
+}
+
+// Chooses of two slots with open gates the one of the higher generation.
+fn choose_newer(first: Body, second: Body) -> Result<Found, StoreFault>
+    ensures found { (c : Image) → HoldsSlot (length c) 0 c (Slot.Holds first)
+        → HoldsSlot (length c) 1 c (Slot.Holds second) → IfOk result (IsFoundIn c) }
+    ensures slot { IfOk result (λ f. f.slot < 2) }
+    ensures room { (count : ℕ) → first.used ≤ count → second.used ≤ count
+        → IfOk result (λ f. f.body.used ≤ count) }
+    ensures answers { IfErr result (λ e. (e ≢ StoreFault.DiskFault) × (e ≢ StoreFault.Taken)
+        × (e ≢ StoreFault.NoMemory)) }
+    ensures refused { (c : Image) → 4 ≤ length c → HoldsSlot (length c) 0 c (Slot.Holds first)
+        → HoldsSlot (length c) 1 c (Slot.Holds second) → IfErr result (IsRefusedFor c) }
+{
+    if first.generation == second.generation {
+        return Err(StoreFault::NotAStore { slot: 1 });
+    }
+    if first.generation > second.generation {
+        return Ok(Found {
+            slot: 0,
+            body: first,
+            is_spare_open: true,
+        });
+    }
+    Ok(Found {
+        slot: 1,
+        body: second,
+        is_spare_open: true,
+    })
+}
+
+impl From<Failed> for StoreFault {
+    ghost from_gives = { λ _ e. e ≡ DiskFault };
+
+    fn from(_: Failed) -> Self {
+        StoreFault::DiskFault
+    }
+}
+
+// The first barrier of `init` and `open`, which makes what the disk reads stable, and the page count.
+pub fn settle<D: Disk>(disk: &mut D) -> Result<u64, Failed>
+    ensures count { IfOk result (λ n. D.count disk.new ≡ Some n) }
+    ensures durable { OnOk result (IfSome (D.content disk.old) (λ c. Only c (D.may_leave disk.new))) }
+    ensures content { D.content disk.new ≡ D.content disk.old }
+    ensures images { (c : Image) → D.may_leave disk.new c → D.may_leave disk.old c }
+    ensures time { LeavesOnly D.moment D.may_leave D.left_since disk.old disk.new (D.may_leave disk.old) }
+    ensures cause { HasCause (D.faults disk.old) (D.faults disk.new) result }
+{
+    disk.barrier()?;
+    let count = disk.pages()?;
+    Ok(count)
+}
+
+// Makes what was written stable, and finds the slot that counts.
+pub fn find<D: Disk>(disk: &mut D) -> Result<Found, StoreFault>
+    ensures found { IfOk result (λ f. (c : Image) → D.content disk.old ≡ Some c
+        → IsAtRest D.content D.may_leave disk.new (λ i. (i ≡ c) × IsFoundIn i f)) }
+    ensures refused { IfErr result (λ e. (c : Image) → D.content disk.old ≡ Some c
+        → (e ≡ StoreFault.DiskFault) ⊎ IsRefusedFor c e) }
+    ensures room { IfOk result (λ f. (f.slot < 2) × IsSomeAnd (D.count disk.new) (λ n. f.body.used ≤ n)) }
+    ensures answers { IfErr result (λ e. (e ≢ StoreFault.Taken) × (e ≢ StoreFault.NoMemory)) }
+    ensures content { D.content disk.new ≡ D.content disk.old }
+    ensures images { LeavesOnly D.moment D.may_leave D.left_since disk.old disk.new (D.may_leave disk.old) }
+    ensures fault { result ≡ Err StoreFault.DiskFault → Rose (D.faults disk.old) (D.faults disk.new) }
+    ensures later { D.faults disk.old ≤ D.faults disk.new }
+{
+    let count = settle(disk)?;
+    if count < 4 {
+        return Err(StoreFault::Blank);
+    }
+    let first = read_slot(disk, 0, count)?;
+    let second = read_slot(disk, 1, count)?;
+    match choose(first, second) {
+        Ok(found) => Ok(found),
+        Err(fault) => Err(fault),
+    }
+}

@@ -1,0 +1,67 @@
+-- What the program writes of a verdict.
+use Rattle.std.specs.Prelude.{ℕ, List, [], ◌∷◌, ◌++◌, codes}
+use Rattle.tw_base.specs.declared.report.Claim.{Claim}
+use Rattle.tw_base.specs.declared.report.Claim.TheVariants.{Exists}
+use Rattle.tw_base.specs.declared.report.Seen.{Seen}
+use Rattle.tw_base.specs.declared.report.Report.{Report}
+use Rattle.tw_base.specs.declared.report.Reason.{Reason}
+use Rattle.tw_base.specs.declared.report.Reason.TheVariants.{Malformed, BadOrder, NotHeld, BadPath, BadOpening, BadEvent, BadTree, Carried, Unbuilt}
+use Rattle.tw_text.specs.Lines.{line}
+use Rattle.tw_text.specs.declared.field.Field.{Field}
+use Rattle.tw_text.specs.declared.field.Field.TheVariants.{Word, Number, Named, Hex}
+
+-- ---- accepted proofs
+
+-- where an event stands, and its bytes
+abbrev pub event_line : Seen → List ℕ
+event_line seen =
+    line (codes "event") (Named seen.place.service ∷ Number seen.place.step ∷ Number seen.place.index ∷ Hex seen.event ∷ [])
+
+-- the lines of a claim
+abbrev pub claim_text : Claim → List ℕ
+claim_text (Exists seen) = line (codes "accepted exists") [] ++ event_line seen
+
+-- the report of an accepted proof
+abbrev pub report_text : Report → List ℕ
+report_text report = claim_text report.claim
+
+-- ---- proofs that are not accepted
+
+-- the number and the name of a reason
+abbrev pub reason_number : Reason → ℕ
+reason_number (Malformed place) = 1
+reason_number BadOrder = 2
+reason_number (NotHeld service step) = 3
+reason_number (BadPath part) = 4
+reason_number (BadOpening part) = 5
+reason_number (BadEvent part) = 6
+reason_number (BadTree part) = 7
+reason_number (Carried count) = 8
+reason_number Unbuilt = 9
+
+abbrev pub reason_name : Reason → List ℕ
+reason_name (Malformed place) = codes "Malformed"
+reason_name BadOrder = codes "BadOrder"
+reason_name (NotHeld service step) = codes "NotHeld"
+reason_name (BadPath part) = codes "BadPath"
+reason_name (BadOpening part) = codes "BadOpening"
+reason_name (BadEvent part) = codes "BadEvent"
+reason_name (BadTree part) = codes "BadTree"
+reason_name (Carried count) = codes "Carried"
+reason_name Unbuilt = codes "Unbuilt"
+
+-- what the reason tells besides
+abbrev pub reason_fields : Reason → List Field
+reason_fields (Malformed place) = Number place ∷ []
+reason_fields BadOrder = []
+reason_fields (NotHeld service step) = Named service ∷ Number step ∷ []
+reason_fields (BadPath part) = Number part ∷ []
+reason_fields (BadOpening part) = Number part ∷ []
+reason_fields (BadEvent part) = Number part ∷ []
+reason_fields (BadTree part) = Number part ∷ []
+reason_fields (Carried count) = Number count ∷ []
+reason_fields Unbuilt = []
+
+-- why a proof is not accepted
+abbrev pub rejected_text : Reason → List ℕ
+rejected_text reason = line (codes "rejected") (Number (reason_number reason) ∷ Word (reason_name reason) ∷ reason_fields reason)

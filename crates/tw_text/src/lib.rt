@@ -1,0 +1,27 @@
+// The words of the command line, and the lines and reports that the program writes.
+#![tactic(auto)]
+
+mod anchor;
+mod bytes_list;
+mod command;
+mod field;
+mod fixed;
+mod form;
+mod line;
+mod number;
+mod part;
+mod report;
+mod taking;
+#[cfg(test)]
+mod tests;
+mod words;
+
+pub use anchor::{AnchorLine, anchor_line};
+pub use bytes_list::BytesList;
+pub use command::Command;
+pub use field::{Field, FieldList};
+pub use fixed::{fault_disk, fault_input, no_memory};
+pub use line::{print_line, print_usage};
+pub use number::{read_digest, read_number};
+pub use report::{print_rejected, print_report};
+pub use words::{WordFault, read_words};

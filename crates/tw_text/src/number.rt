@@ -1,0 +1,53 @@
+// Numbers and digests as words.
+
+ghost use Rattle.std.specs.Prelude.{◌≡◌, ◌↔◌, ◌<◌, ◌≤◌, ◌^◌, IsTrue, IsSome, IfSome, IsSomeAnd};
+ghost use Rattle.std.specs.Char.{is_ascii_digit};
+ghost use Rattle.std.specs.List.{list_all};
+ghost use Rattle.tw_text.specs.Words.{digest_of, number_of};
+ghost use Rattle.tw_text.specs.Words.{is_digest as is_digest_of, is_number as is_number_of};
+
+use hex::FromHex;
+use tw_base::Digest;
+
+/// Whether the text is a number in decimal digits, with no sign and no leading zero.
+fn is_number(text: &[u8]) -> bool
+    ensures { result ≡ is_number_of text.now }
+{
+    !text.is_empty() && (text.len() == 1 || text[0] != b'0') && all_digits(text)
+}
+
+/// Whether each byte is a decimal digit.
+fn all_digits(text: &[u8]) -> bool
+    ensures { result ≡ list_all is_ascii_digit text.now }
+{
+    text.iter().all(|b| b.is_ascii_digit())
+}
+
+/// The number of 64 bits that the text is, in decimal digits with no sign and no leading zero.
+pub fn read_number(text: &[u8]) -> Option<u64>
+    ensures some { IsSome result ↔ (IsTrue (is_number_of text.now) × (number_of text.now < 2 ^ 64)) }
+    ensures value { IfSome result (λ n. n ≡ number_of text.now) }
+{
+    if !is_number(text) {
+        return None;
+    }
+    std::str::from_utf8(text).ok()?.parse().ok()
+}
+
+/// The digest that the text is, in 64 hexadecimal digits of either case.
+pub fn read_digest(text: &[u8]) -> Option<Digest>
+    ensures some { IsSome result ↔ IsTrue (is_digest_of text.now) }
+    ensures value { IfSome result (λ digest. digest ≡ digest_of text.now) }
+{
+    match <[u8; 32]>::from_hex(text) {
+        Ok(bytes) => Some(Digest(bytes)),
+        Err(_) => None,
+    }
+}
+
+/// Whether there is a number, within the range.
+pub fn is_within(number: Option<u64>, least: u64, most: u64) -> bool
+    ensures { IsTrue result ↔ IsSomeAnd number (λ n. (least ≤ n) × (n ≤ most)) }
+{
+    number.is_some_and(|n| least <= n && n <= most)
+}

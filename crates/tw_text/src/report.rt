@@ -1,0 +1,101 @@
+// Reports of accepted proofs, and the line of one that isn't accepted.
+
+ghost use Rattle.std.specs.Prelude.{◌≡◌, ◌++◌, OnOk, IfOk};
+ghost use Rattle.tw_text.specs.Lines.{fields_text};
+ghost use Rattle.tw_text.specs.Reports.{event_line, reason_fields, report_text, rejected_text};
+ghost use Rattle.tw_text.specs.Reports.{reason_name as reason_name_of, reason_number as reason_number_of};
+
+use crate::line::{put_hex, put_name, put_number, put_word};
+use std::alloc::Global;
+use tw_base::{Bytes, Claim, NoMemory, Reason, Report, Seen};
+
+/// The report of an accepted proof: what it claims, one line each.
+pub fn print_report(alloc: Global, report: &Report) -> Result<Bytes, NoMemory>
+    ensures { IfOk result (λ text. text ≡ report_text report.now) }
+{
+    let mut text = Bytes::new(alloc);
+    match &report.claim {
+        Claim::Exists(seen) => {
+            text.extend_from_slice(b"accepted exists\n")?;
+            put_event(alloc, &mut text, seen)?;
+        }
+    }
+    Ok(text)
+}
+
+/// The line of a proof that isn't accepted: `rejected`, the reason's number and name, and what it
+/// tells besides.
+pub fn print_rejected(alloc: Global, reason: &Reason) -> Result<Bytes, NoMemory>
+    ensures { IfOk result (λ text. text ≡ rejected_text reason.now) }
+{
+    let mut text = Bytes::new(alloc);
+    text.extend_from_slice(b"rejected")?;
+    put_number(&mut text, reason_number(reason))?;
+    put_word(&mut text, reason_name(reason).as_bytes())?;
+    put_reason_fields(&mut text, reason)?;
+    text.extend_from_slice(b"\n")?;
+    Ok(text)
+}
+
+/// Puts the line of an event at the text's end.
+fn put_event(alloc: Global, text: &mut Bytes, seen: &Seen) -> Result<(), NoMemory>
+    ensures { OnOk result (text.new ≡ text.old ++ event_line seen.now) }
+{
+    text.extend_from_slice(b"event")?;
+    put_name(text, &seen.place.service)?;
+    put_number(text, seen.place.step)?;
+    put_number(text, seen.place.index as u64)?;
+    put_hex(alloc, text, seen.event.as_slice())?;
+    text.extend_from_slice(b"\n")
+}
+
+fn reason_number(reason: &Reason) -> u64
+    ensures { result ≡ reason_number_of reason.now }
+{
+    match reason {
+        Reason::Malformed { .. } => 1,
+        Reason::BadOrder => 2,
+        Reason::NotHeld { .. } => 3,
+        Reason::BadPath { .. } => 4,
+        Reason::BadOpening { .. } => 5,
+        Reason::BadEvent { .. } => 6,
+        Reason::BadTree { .. } => 7,
+        Reason::Carried { .. } => 8,
+        Reason::Unbuilt => 9,
+    }
+}
+
+fn reason_name(reason: &Reason) -> &'static str
+    ensures { result.now ≡ reason_name_of reason.now }
+{
+    match reason {
+        Reason::Malformed { .. } => "Malformed",
+        Reason::BadOrder => "BadOrder",
+        Reason::NotHeld { .. } => "NotHeld",
+        Reason::BadPath { .. } => "BadPath",
+        Reason::BadOpening { .. } => "BadOpening",
+        Reason::BadEvent { .. } => "BadEvent",
+        Reason::BadTree { .. } => "BadTree",
+        Reason::Carried { .. } => "Carried",
+        Reason::Unbuilt => "Unbuilt",
+    }
+}
+
+/// Puts what the reason tells besides its number and name at the text's end.
+fn put_reason_fields(text: &mut Bytes, reason: &Reason) -> Result<(), NoMemory>
+    ensures { OnOk result (text.new ≡ text.old ++ fields_text (reason_fields reason.now)) }
+{
+    match reason {
+        Reason::Malformed { place } => put_number(text, *place),
+        Reason::NotHeld { service, step } => {
+            put_name(text, service)?;
+            put_number(text, *step)
+        }
+        Reason::BadPath { part }
+        | Reason::BadOpening { part }
+        | Reason::BadEvent { part }
+        | Reason::BadTree { part } => put_number(text, *part as u64),
+        Reason::Carried { count } => put_number(text, *count as u64),
+        Reason::BadOrder | Reason::Unbuilt => Ok(()),
+    }
+}

@@ -1,0 +1,117 @@
+"""Acceptance cases that are counted off: proofs made by reference.py, and each way to change one of them.
+
+What the program is to say of a changed proof is what reference.verdict says.
+"""
+
+import random
+
+import reference
+from reference import Timeline
+
+
+def event_text(step, index):
+    return f"{step}.{index}".encode()
+
+
+def counted_timeline(name, counts):
+    """Step i has counts[i - 1] events."""
+    return Timeline(name, [[event_text(step, k) for k in range(count)] for step, count in enumerate(counts, 1)])
+
+
+def judged(name, data, service, pos, auth):
+    """The case of these bytes under an anchor, as the reference judges them."""
+    text, status = reference.verdict(data, service, pos, auth)
+    return {
+        "name": name,
+        "files": {"p": data},
+        "words": ["verify", "p", service, str(pos), auth.hex()],
+        "status": status,
+        "stdout": text,
+    }
+
+
+def accepted(name, line, step, index, top):
+    """The case of an honest proof: it has to be accepted."""
+    data = reference.proof_bytes(line, step, index, top)
+    case = judged(name, data, line.name, top, line.auths[top])
+    text = reference.accepted_text(line.name, step, index, line.events(step)[index])
+    assert (case["status"], case["stdout"]) == (0, text)
+    return case
+
+
+def paths():
+    """Each step of a timeline under each later one, and one event of it."""
+    counts = [1 + (step * 5) % 7 for step in range(1, 34)]
+    line = counted_timeline("paths", counts)
+    for top in range(1, 34):
+        for step in range(1, top + 1):
+            yield accepted(f"from {top} to {step}", line, step, top % counts[step - 1], top)
+
+
+def event_trees():
+    """Each event of small steps, and some of large ones."""
+    for count in (*range(1, 18), 64, 1000, 1024):
+        line = counted_timeline("trees", [count])
+        for index in range(count) if count < 18 else (0, 1, count // 2, count - 2, count - 1):
+            yield accepted(f"event {index} of {count}", line, 1, index, 1)
+
+
+def sizes():
+    """Events of the least and the greatest size, and names of the least and the greatest."""
+    for name in ("a", "0", "-", "sixteen-letters0", "zz-top"):
+        line = Timeline(name, [[b""], [b"\x00", bytes(1024), b"\xff" * 1023]])
+        for index in range(3):
+            yield accepted(f"{name}, event {index}", line, 2, index, 2)
+
+
+def deep():
+    """The longest paths: tops and steps of 40 bits."""
+    events = [event_text(1, k) for k in range(1024)]
+    for step, top in ((1, 2**21 - 1), (1, 2**40 - 1), (2**39, 2**40 - 1), (2**39 + 1, 2**40 - 1), (2**39 - 1, 2**39)):
+        data, auth = reference.deep_proof("deep", step, 777, top, events, b"deep")
+        case = judged(f"from {top} to {step}", data, "deep", top, auth)
+        assert case["status"] == 0
+        yield case
+
+
+def changed(data, service, pos, auth, seed):
+    """Each byte changed, in two ways; each cut; and some padding."""
+    rand = random.Random(seed)
+    for place in range(len(data)):
+        for value in {data[place] ^ 1, rand.randrange(256)} - {data[place]}:
+            new = data[:place] + bytes([value]) + data[place + 1 :]
+            yield judged(f"byte {place} is {value}", new, service, pos, auth)
+    for size in range(len(data)):
+        yield judged(f"cut to {size}", data[:size], service, pos, auth)
+    for pad in (b"\x00", b"\xff", data):
+        yield judged(f"{len(pad)} bytes more", data + pad, service, pos, auth)
+
+
+def all_changed():
+    line = counted_timeline("changed", [3] * 13)
+    data = reference.proof_bytes(line, 5, 1, 13)
+    for case in changed(data, "changed", 13, line.auths[13], "13 to 5"):
+        yield {**case, "name": f"13 to 5, {case['name']}"}
+    for index in range(3):
+        other = reference.proof_bytes(line, 5, index, 13)
+        yield judged("another step's authenticator", other, "changed", 13, line.auths[12])
+        yield judged("another step", other, "changed", 12, line.auths[12])
+        yield judged("another service", other, "change", 13, line.auths[13])
+        swapped = data[: -64 - 11] + other[-64 - 11 : -64] + data[-64:]
+        yield judged(f"event {index} with the path of event 1", swapped, "changed", 13, line.auths[13])
+
+
+def above_the_top():
+    """A step above its top: the proof is well-formed, and refused for the order before all else."""
+    line = counted_timeline("order", [2] * 8)
+    for step, top in ((2, 1), (8, 3), (5, 4)):
+        data = reference.proof_bytes(line, step, 1, top)
+        for service, pos in (("order", top), ("other", 1)):
+            yield judged(f"step {step} under {top}, {service}", data, service, pos, line.auths[top])
+
+
+def cases():
+    groups = (paths, event_trees, sizes, deep, all_changed, above_the_top)
+    for group in groups:
+        for case in group():
+            yield {**case, "name": f"{group.__name__}: {case['name']}"}

@@ -1,0 +1,348 @@
+"""Timeweave's hashes and formats once more, in Python over hashlib, from docs/definitions.md and docs/formats.md alone.
+
+The acceptance cases take their expected bytes, digests and places from here, and never from the program itself.
+
+    python3 tests/acceptance/reference.py           prints the values that the documents quote
+    python3 tests/acceptance/reference.py FILE      writes a proof of an event of a service `shop` to the file, and prints
+                                                    the anchor that it is accepted under
+"""
+
+import sys
+from hashlib import sha256
+
+LAST_STEP = 2**40 - 1
+
+
+def dig(text):
+    """SHA-256 of FIPS 180-4."""
+    return sha256(text).digest()
+
+
+def be(number, width):
+    """The number in so many bytes, high byte first."""
+    return number.to_bytes(width, "big")
+
+
+def padded(name):
+    """The 16 bytes of a service's name."""
+    return name.encode().ljust(16, b"\0")
+
+
+# ---- hashed texts
+
+
+def genesis(name):
+    return dig(b"\x10" + padded(name))
+
+
+def link_label(step, level, datum, below):
+    return dig(b"\x11" + be(step, 8) + be(level, 1) + datum + below)
+
+
+def authenticator(step, labels):
+    return dig(b"\x12" + be(step, 8) + be(len(labels), 1) + b"".join(labels))
+
+
+def datum(event_root, archive_root, count):
+    return dig(b"\x13" + event_root + archive_root + be(count, 4))
+
+
+EMPTY_TREE = dig(b"\x14")
+
+
+# ---- event trees (RFC 6962, sections 2.1 and 2.1.1)
+
+
+def split(count):
+    """The largest power of two below the count."""
+    return 1 << ((count - 1).bit_length() - 1)
+
+
+def event_root(events):
+    if not events:
+        return dig(b"")
+    if len(events) == 1:
+        return dig(b"\x00" + events[0])
+    k = split(len(events))
+    return dig(b"\x01" + event_root(events[:k]) + event_root(events[k:]))
+
+
+def event_path(events, index):
+    """The audit path, from the leaf upwards."""
+    if len(events) == 1:
+        return []
+    k = split(len(events))
+    if index < k:
+        return event_path(events[:k], index) + [event_root(events[k:])]
+    return event_path(events[k:], index - k) + [event_root(events[:k])]
+
+
+# ---- timelines
+
+
+def top_level(step):
+    """The greatest l such that 2^l divides the step."""
+    return (step & -step).bit_length() - 1
+
+
+class Timeline:
+    """A service whose steps record events alone, so that its archive stays empty. steps[i - 1] has the events of step i."""
+
+    def __init__(self, name, steps):
+        self.name = name
+        self.steps = steps
+        self.auths = [genesis(name)]
+        for step in range(1, len(steps) + 1):
+            self.auths.append(authenticator(step, self.labels(step)))
+
+    def events(self, step):
+        return self.steps[step - 1]
+
+    def datum(self, step):
+        events = self.events(step)
+        return datum(event_root(events), EMPTY_TREE, len(events))
+
+    def labels(self, step):
+        """The labels of the step's links, from level 0 on; the link at a level leads to step - 2^level."""
+        own = self.datum(step)
+        return [link_label(step, level, own, self.auths[step - 2**level]) for level in range(top_level(step) + 1)]
+
+
+# ---- greedy paths
+
+
+def hop_level(start, end):
+    """The greatest level whose link of the step leads to `end` or to a step above it."""
+    level = top_level(start)
+    while 2**level > start - end:
+        level -= 1
+    return level
+
+
+def greedy_steps(start, end):
+    """The steps of the path, from the upper one to the lower one, both among them."""
+    steps = [start]
+    while steps[-1] > end:
+        steps.append(steps[-1] - 2 ** hop_level(steps[-1], end))
+    return steps
+
+
+# ---- the bytes of a proof of kind 1
+
+
+def path_bytes(timeline, top, step):
+    """One record for each link: the datum of the step that it leaves, and the labels of that step's other links."""
+    parts = []
+    for start in greedy_steps(top, step)[:-1]:
+        labels = timeline.labels(start)
+        del labels[hop_level(start, step)]
+        parts.append(timeline.datum(start) + b"".join(labels))
+    return b"".join(parts)
+
+
+def opening_bytes(timeline, step):
+    events = timeline.events(step)
+    return (
+        event_root(events)
+        + EMPTY_TREE
+        + be(len(events), 4)
+        + timeline.auths[step - 1]
+        + b"".join(timeline.labels(step)[1:])
+    )
+
+
+def event_bytes(events, index):
+    event = events[index]
+    return be(index, 4) + be(len(event), 4) + event + b"".join(event_path(events, index))
+
+
+def head_bytes(name, step, top):
+    return b"TWP1" + b"\x01" + padded(name) + be(step, 8) + be(top, 8)
+
+
+def proof_bytes(timeline, step, index, top):
+    """The proof that the event of that index stands in the step, under the authenticator of the top."""
+    return (
+        head_bytes(timeline.name, step, top)
+        + path_bytes(timeline, top, step)
+        + opening_bytes(timeline, step)
+        + event_bytes(timeline.events(step), index)
+    )
+
+
+# ---- what the program writes
+
+
+def hex_or_dash(data):
+    return data.hex() or "-"
+
+
+def accepted_text(name, step, index, event):
+    return f"accepted exists\nevent {name} {step} {index} {hex_or_dash(event)}\n"
+
+
+# ---- the verdict on a proof under one anchor
+
+
+class Malformed(Exception):
+    """The bytes are no proof: the place of the first byte at which no proof goes on, or their number where they end."""
+
+    def __init__(self, place):
+        super().__init__(place)
+        self.place = place
+
+
+class Reader:
+    """Reads fields from the front of the bytes."""
+
+    def __init__(self, data):
+        self.data = data
+        self.at = 0
+
+    def byte(self, may_stand):
+        if self.at == len(self.data) or not may_stand(self.data[self.at]):
+            raise Malformed(self.at)
+        self.at += 1
+        return self.data[self.at - 1]
+
+    def number(self, width, least, most):
+        """Refused at the first byte at which no number of the range begins so."""
+        value = 0
+        for left in reversed(range(width)):
+            value = value * 256 + self.byte(
+                lambda b: least < (value * 256 + b + 1) << 8 * left and (value * 256 + b) << 8 * left <= most
+            )
+        return value
+
+    def bytes(self, count):
+        return bytes(self.byte(lambda _: True) for _ in range(count))
+
+    def digests(self, count):
+        return [self.bytes(32) for _ in range(count)]
+
+    def text(self, text):
+        for wanted in text:
+            self.byte(lambda b: b == wanted)
+
+    def name(self):
+        letters = b"abcdefghijklmnopqrstuvwxyz0123456789-"
+        text = bytes([self.byte(lambda b: b in letters)])
+        for _ in range(15):
+            text += bytes([self.byte(lambda b: b == 0 or text[-1] != 0 and b in letters)])
+        return text.rstrip(b"\0").decode()
+
+    def end(self):
+        if self.at < len(self.data):
+            raise Malformed(self.at)
+
+
+def path_length(count, index):
+    """How many labels an audit path has."""
+    if count == 1:
+        return 0
+    k = split(count)
+    return 1 + (path_length(k, index) if index < k else path_length(count - k, index - k))
+
+
+def root_from_path(count, index, leaf, path):
+    """The root that a leaf and the labels of its audit path lead to."""
+    if count == 1:
+        return leaf
+    k = split(count)
+    if index < k:
+        return dig(b"\x01" + root_from_path(k, index, leaf, path[:-1]) + path[-1])
+    return dig(b"\x01" + path[-1] + root_from_path(count - k, index - k, leaf, path[:-1]))
+
+
+def climbed(records, start, end, bottom):
+    """The authenticator of the upper step, from that of the lower one."""
+    if start <= end:
+        return bottom
+    (own, others), rest = records[0], records[1:]
+    level = hop_level(start, end)
+    below = climbed(rest, start - 2**level, end, bottom)
+    return authenticator(start, others[:level] + [link_label(start, level, own, below)] + others[level:])
+
+
+def verdict(data, name, pos, auth):
+    """What the program writes of the bytes of a proof under the anchor of this service and step, and its status."""
+    if data[:4] == b"TWP1" and data[4:5] in (b"\x02", b"\x03", b"\x04", b"\x05"):
+        return "rejected 9 Unbuilt\n", 1
+    read = Reader(data)
+    try:
+        read.text(b"TWP1\x01")
+        service = read.name()
+        step = read.number(8, 1, LAST_STEP)
+        top = read.number(8, 1, LAST_STEP)
+        records = [(read.bytes(32), read.digests(top_level(start))) for start in greedy_steps(top, step)[:-1]]
+        root, archive, count, prev = read.bytes(32), read.bytes(32), read.number(4, 1, 1024), read.bytes(32)
+        others = read.digests(top_level(step))
+        index = read.number(4, 0, count - 1)
+        event = read.bytes(read.number(4, 0, 1024))
+        path = read.digests(path_length(count, index))
+        read.end()
+    except Malformed as bad:
+        return f"rejected 1 Malformed {bad.place}\n", 1
+    if step > top:
+        return "rejected 2 BadOrder\n", 1
+    if (service, top) != (name, pos):
+        return f"rejected 3 NotHeld {service} {top}\n", 1
+    bottom = authenticator(step, [link_label(step, 0, datum(root, archive, count), prev)] + others)
+    if climbed(records, top, step, bottom) != auth:
+        return "rejected 4 BadPath 0\n", 1
+    if root_from_path(count, index, dig(b"\x00" + event), path) != root:
+        return "rejected 6 BadEvent 0\n", 1
+    return accepted_text(service, step, index, event), 0
+
+
+# ---- a timeline that nobody has to build: its links lead to digests made up for the purpose
+
+
+def deep_proof(name, step, index, top, events, made_up):
+    """A proof from `top` down to `step` in a history of which nothing but the path's own steps is made: the labels that the
+    path doesn't use are digests of a counter. Answers the proof and the authenticator of the top that it computes."""
+    counter = iter(range(10**9))
+
+    def stand_in():
+        return dig(made_up + be(next(counter), 8))
+
+    count = len(events)
+    root = event_root(events)
+    prev = stand_in()
+    others = [stand_in() for _ in range(top_level(step))]
+    archive = stand_in()
+    opening = root + archive + be(count, 4) + prev + b"".join(others)
+    own = datum(root, archive, count)
+    reached = authenticator(step, [link_label(step, 0, own, prev)] + others)
+    records = []
+    for start in reversed(greedy_steps(top, step)[:-1]):
+        level = hop_level(start, step)
+        start_datum = stand_in()
+        labels = [stand_in() for _ in range(top_level(start))]
+        records.append(start_datum + b"".join(labels))
+        labels.insert(level, link_label(start, level, start_datum, reached))
+        reached = authenticator(start, labels)
+    proof = head_bytes(name, step, top) + b"".join(reversed(records)) + opening + event_bytes(events, index)
+    return proof, reached
+
+
+def print_values():
+    least = Timeline("a", [[b""]])
+    print("least proof", len(proof_bytes(least, 1, 0, 1)), "bytes, authenticator", least.auths[1].hex())
+    sixteen = Timeline("a", [[b""]] * 16)
+    for start, end in ((13, 5), (16, 1), (15, 5)):
+        print(f"path {start} to {end}:", greedy_steps(start, end), len(path_bytes(sixteen, start, end)), "bytes")
+    print("root of no events", event_root([]).hex())
+
+
+def write_proof(file):
+    """Thirteen steps of three events each; the proof is that of the second event of step 5, under step 13."""
+    steps = [[f"order {step}.{k}".encode() for k in range(3)] for step in range(1, 14)]
+    line = Timeline("shop", steps)
+    with open(file, "wb") as out:
+        out.write(proof_bytes(line, 5, 1, 13))
+    print("shop 13", line.auths[13].hex())
+
+
+if __name__ == "__main__":
+    write_proof(sys.argv[1]) if len(sys.argv) > 1 else print_values()

@@ -1,0 +1,141 @@
+"""The acceptance run: each case runs the built program over real files, and compares its status and output.
+
+    python3 tests/acceptance/run.py [PROGRAM]      `make check` calls it so
+
+The cases stand in cases/*.json, those that are counted off in generated.py. A case has
+
+    name       what it shows
+    words      the program's arguments; $AUTH is the authenticator of step 1 of the least proof
+    files      files and folders of the folder that it runs in, by name; for their recipes see `made`
+    status     the exit status
+    stdout     the bytes of standard output, as text; left out where the output goes to no file that can be read
+    to         where standard output goes: "full" (a device that is full), "closed", or a file (the default)
+    memory     at most so many bytes of memory
+
+The last line is `N passed, N failed`; before it each case that failed is told with its command.
+"""
+
+import json
+import os
+import resource
+import shlex
+import subprocess
+import sys
+import tempfile
+from concurrent.futures import ThreadPoolExecutor
+from pathlib import Path
+
+import generated
+import reference
+
+HERE = Path(__file__).resolve().parent
+TOP = HERE.parent.parent
+LEAST = (TOP / "crates/timeweave/data/p").read_bytes()
+AUTH = reference.Timeline("a", [[b""]]).auths[1].hex()
+
+
+def made(recipe):
+    """The bytes of a file, or None for a folder.
+
+    "least"            the least proof
+    "folder"           a folder
+    {"hex": H}         these bytes
+    {"from": RECIPE}   another recipe's bytes; then "edits" [[place, hex], ..] puts bytes over its own, "cut" keeps so
+                       many of the first bytes, and "pad" appends so many zeros
+    {"proof": ..}      a proof of a timeline "name" whose step i has counts[i - 1] events; event k of step i is the text
+                       `i.k`. Its event is that of "step" and "index", its top is "top"
+    """
+    if recipe == "least":
+        return LEAST
+    if recipe == "folder":
+        return None
+    if isinstance(recipe, bytes):
+        return recipe
+    if "hex" in recipe:
+        return bytes.fromhex(recipe["hex"])
+    if "proof" in recipe:
+        wanted = recipe["proof"]
+        line = generated.counted_timeline(wanted["name"], wanted["counts"])
+        return reference.proof_bytes(line, wanted["step"], wanted["index"], wanted["top"])
+    data = bytearray(made(recipe["from"]))
+    for place, text in recipe.get("edits", []):
+        new = bytes.fromhex(text)
+        data[place : place + len(new)] = new
+    return bytes(data[: recipe.get("cut", len(data))]) + bytes(recipe.get("pad", 0))
+
+
+def limits(case):
+    """What the child does before it runs the program."""
+
+    def limit():
+        if "memory" in case:
+            resource.setrlimit(resource.RLIMIT_AS, (case["memory"], case["memory"]))
+        if case.get("to") == "closed":
+            os.close(1)
+
+    return limit if "memory" in case or case.get("to") == "closed" else None
+
+
+def difference(program, case):
+    """Runs the case in a folder of its own; answers what was wrong, or None."""
+    with tempfile.TemporaryDirectory() as room:
+        for name, recipe in case.get("files", {}).items():
+            data = made(recipe)
+            if data is None:
+                (Path(room) / name).mkdir()
+            else:
+                (Path(room) / name).write_bytes(data)
+        words = [word.replace("$AUTH", AUTH) for word in case["words"]]
+        out = open("/dev/full", "wb") if case.get("to") == "full" else subprocess.PIPE
+        try:
+            ran = subprocess.run(
+                [program, *words], cwd=room, stdout=out, stderr=subprocess.PIPE, stdin=subprocess.DEVNULL,
+                preexec_fn=limits(case), timeout=60,
+            )
+        except subprocess.TimeoutExpired:
+            return "it ran for longer than a minute"
+        finally:
+            if out is not subprocess.PIPE:
+                out.close()
+    wanted = case.get("stdout", "").encode()
+    got = ran.stdout or b""
+    if ran.returncode == case["status"] and got == wanted and ran.stderr == b"":
+        return None
+    command = " ".join(shlex.quote(word) for word in ["timeweave", *words])
+    return (
+        f"  {command}\n  wanted {case['status']} {wanted!r}\n  got    {ran.returncode} {got!r}"
+        + (f"\n  stderr {ran.stderr!r}" if ran.stderr else "")
+    )
+
+
+def all_cases():
+    for path in sorted((HERE / "cases").glob("*.json")):
+        for case in json.loads(path.read_text()):
+            yield {**case, "name": f"{path.stem}: {case['name']}"}
+    yield from generated.cases()
+
+
+def main():
+    program = os.path.abspath(sys.argv[1] if len(sys.argv) > 1 else TOP / "crates/timeweave/out/timeweave")
+    if not os.access(program, os.X_OK):
+        print(f"{program} isn't there: `make build` builds it")
+        print("0 passed, 1 failed")
+        return 1
+    if reference.proof_bytes(reference.Timeline("a", [[b""]]), 1, 0, 1) != LEAST:
+        print("crates/timeweave/data/p isn't the least proof of the reference")
+        print("0 passed, 1 failed")
+        return 1
+    cases = list(all_cases())
+    with ThreadPoolExecutor(os.cpu_count()) as pool:
+        found = list(pool.map(lambda case: difference(program, case), cases))
+    failed = 0
+    for case, wrong in zip(cases, found):
+        if wrong:
+            failed += 1
+            print(f"FAILED {case['name']}\n{wrong}")
+    print(f"{len(cases) - failed} passed, {failed} failed")
+    return 1 if failed else 0
+
+
+if __name__ == "__main__":
+    sys.exit(main())
