@@ -13,7 +13,7 @@ use tw_base::{
 };
 
 /// The SHA-256 digest of the authenticators of the steps 0 to 16 of the service `alpha`, each of
-/// which has one event, the byte of its own number. From a program over Python's hashlib.
+/// which has one event, the byte of its own number. From `tools/skip_list_vectors.py`.
 const AUTHENTICATORS: Digest = Digest([
     0x1c, 0xf1, 0xb4, 0x28, 0xed, 0x49, 0xff, 0xcb, 0x19, 0x80, 0x86, 0xc2, 0xcd, 0x60, 0xa7, 0x45,
     0x49, 0x0b, 0xb4, 0x5e, 0x49, 0xd7, 0xb3, 0x16, 0xbf, 0x6e, 0xf9, 0xae, 0xe6, 0x0b, 0xec, 0x8e,
@@ -95,7 +95,7 @@ fn path_over(
     links: &[(u64, u8)],
     to: u64,
 ) -> Result<Path, Fail> {
-    let mut list = LinkList::new(alloc);
+    let mut list = Vec::new(alloc);
     for (step, level) in links {
         assert!(rt; to < *step && *step < 17);
         assert_eq!(rt; next_hop(*step, to), *level);
@@ -104,7 +104,9 @@ fn path_over(
         let datum = datum_at(*step);
         list.push(Link { datum, others })?;
     }
-    Ok(Path { links: list })
+    Ok(Path {
+        links: LinkList::from_vec(list),
+    })
 }
 
 /// The history's opening of a step, whose labels are one for each level.
