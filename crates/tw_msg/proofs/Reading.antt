@@ -1,8 +1,10 @@
 -- An anchors file is read line by line.
-use Rattle.std.proofs.Common.{◌≡◌, ℕ, suc, ◌+◌, ◌<◌, ◌≤◌, List, [], ◌∷◌, ◌++◌, length, take, drop, map, refl, ap, ◌∙◌, sym, subst, arith, Bool, true, false, not, ◌&&◌, leb, leb-true, le-leb, below_more, length-append}
-use Rattle.std.specs.List.{list_any}
+use Rattle.std.proofs.Common.{◌≡◌, ◌≢◌, ℕ, suc, ◌+◌, ◌<◌, ◌≤◌, List, [], ◌∷◌, ◌++◌, length, take, drop, map, get_or, refl, ap, ◌∙◌, sym, subst, arith, Bool, true, false, not, ◌&&◌, leb, leb-true, le-leb, below_more, length-append}
+use Rattle.std.specs.List.{list_any, AllPairs}
 use Rattle.std.proofs.Math.Seq.{drop-cons, take-suc, take-length}
-use Rattle.std.proofs.lemmas.List.{length-drop, length-map, length-take, map-append}
+use Rattle.std.proofs.lemmas.List.{length-drop, length-map, length-take, length-take-le, map-append, get_or-map, get_or-take}
+use Rattle.std.proofs.lemmas.Slice.Eq.{bytes_eq-Decides}
+use Rattle.std.proofs.lemmas.List.Folds.{list_any_at}
 use Rattle.tw_base.specs.declared.thread.Thread.{Thread}
 use Rattle.tw_text.specs.Words.{is_number, number_of, is_number_within, is_digest}
 use Rattle.tw_msg.specs.Anchors.{anchor, may_follow, is_good, line_at, AllGood, IsFirstBadLine, is_anchor, is_of, name_word, step_word, digest_word}
@@ -75,14 +77,48 @@ read_on all remaining line anchors before follows =
       few = omega (arith, count, few-may_follow anchors line follows);
     }
 
-pub all_read : (all : List (List ℕ)) (anchors : List Thread) → IsRead all [] anchors → (anchors ≡ map anchor all) × AllGood all
+-- what is known once all lines are read
+pub record IsRead_through (all : List (List ℕ)) (anchors : List Thread) : Type 0 where
+  pub anchors_are : anchors ≡ map anchor all
+  pub good : AllGood all
+  pub few : length anchors ≤ 64
+
+pub all_read : (all : List (List ℕ)) (anchors : List Thread) → IsRead all [] anchors → IsRead_through all anchors
 all_read all anchors before =
     let n = length anchors in
     let sized : n ≡ length (take n all) = ap length before.so_far ∙ simp length-map in
-    let whole : n ≡ length all = omega (arith, sized, length-take n all, ap length before.rest, length-drop n all) in (
-      before.so_far ∙ ap (λ k. map anchor (take k all)) whole ∙ ap (map anchor) (take-length all),
-      λ i within. before.good i (omega (arith, whole, within)),
-    )
+    let whole : n ≡ length all = omega (arith, sized, length-take n all, ap length before.rest, length-drop n all) in
+    record {
+      anchors_are = before.so_far ∙ ap (λ k. map anchor (take k all)) whole ∙ ap (map anchor) (take-length all);
+      good = λ i within. before.good i (omega (arith, whole, within));
+      few = before.few;
+    }
+
+-- a line that may follow has the service of none of the anchors
+other-may_follow : (anchors : List Thread) (line : List ℕ) (i : ℕ) (d : Thread) → may_follow anchors line ≡ true → i < length anchors →
+    (get_or anchors i d).from ≢ (anchor line).from
+other-may_follow anchors line i d follows within same =
+    let of = is_of (anchor line).from in
+    let none = (both (leb (suc (length anchors)) 64 && is_anchor line) (not (list_any of anchors)) follows).1 in
+    let equal : of (get_or anchors i d) ≡ true = (bytes_eq-Decides (get_or anchors i d).from (anchor line).from).1 same in
+    let any : list_any of anchors ≡ true = list_any_at of anchors i d within equal in
+    let wrong : false ≡ true = sym (ap not any) ∙ none in
+    absurd (cc)
+
+-- good lines are of different services
+pub different-good : (all : List (List ℕ)) → AllGood all → AllPairs (λ a b. a.from ≢ b.from) (map anchor all)
+different-good all good i j d below within same =
+    let last : j < length all = omega (arith, within, length-map all anchor) in
+    let first : i < length all = omega (arith, last, below) in
+    let sized : length (map anchor (take j all)) ≡ j = length-map (take j all) anchor ∙ length-take-le j all (omega (arith, last)) in
+    let inside : i < length (map anchor (take j all)) = omega (arith, sized, below) in
+    let earlier : get_or (map anchor (take j all)) i d ≡ get_or (map anchor all) i d =
+        get_or-map anchor (take j all) i [] d (omega (arith, below, length-take-le j all (omega (arith, last))))
+        ∙ ap anchor (get_or-take j all i [] below)
+        ∙ sym (get_or-map anchor all i [] d first) in
+    let later : get_or (map anchor all) j d ≡ anchor (line_at all j) = get_or-map anchor all j [] d last in
+    other-may_follow (map anchor (take j all)) (line_at all j) i d (good j last) inside
+    (ap (λ t. t.from) earlier ∙ same ∙ ap (λ t. t.from) later)
 
 pub first_bad_line : (all remaining : List (List ℕ)) (line : List ℕ) (anchors : List Thread) → IsRead all (line ∷ remaining) anchors →
     may_follow anchors line ≡ false → IsFirstBadLine all (length anchors + 1)

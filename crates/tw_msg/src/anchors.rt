@@ -1,7 +1,7 @@
 // Reading anchors files.
 
-ghost use Rattle.std.specs.Prelude.{◌≡◌, ◌↔◌, map, IsTrue, IsSome, IfSome, IfOk, IfErr, ℕ};
-ghost use Rattle.std.specs.List.{list_any};
+ghost use Rattle.std.specs.Prelude.{◌≡◌, ◌≢◌, ◌≤◌, ◌↔◌, length, map, IsTrue, IsSome, IfSome, IfOk, IfErr, ℕ};
+ghost use Rattle.std.specs.List.{AllPairs, list_any};
 ghost use Rattle.tw_msg.specs.Anchors.{AllGood, anchor as anchor_of, is_anchor, is_of, lines, may_follow};
 ghost use Rattle.tw_text.specs.Words.{is_number_within, number_of};
 ghost use Rattle.tw_msg.specs.AnchorFaults.{TellsBadLine};
@@ -34,6 +34,8 @@ pub enum AnchorFault {
 pub fn read_anchors(alloc: Global, bytes: &[u8]) -> Result<Threads, AnchorFault>
     ensures anchors { IfOk result (λ anchors. anchors ≡ map anchor_of (lines bytes.now)) }
     ensures good { IfOk result (λ _. AllGood (lines bytes.now)) }
+    ensures few { IfOk result (λ anchors. length anchors ≤ 64) }
+    ensures services { IfOk result (AllPairs (λ a b. a.from ≢ b.from)) }
     ensures bad { IfErr result (TellsBadLine (lines bytes.now)) }
 {
     let mut anchors = Threads::new(alloc);

@@ -1,8 +1,8 @@
-use Rattle.std.proofs.Common.{◌≡◌, ◌+◌, ◌∷◌, [], ◌++◌, length, ◌∙◌, sym, ap, subst, refl, true, false, eqb-true}
-use Rattle.std.specs.List.{after_first}
+use Rattle.std.proofs.Common.{◌≡◌, ◌≢◌, ◌+◌, ◌∷◌, [], ◌++◌, length, ◌∙◌, sym, ap, subst, refl, true, false, eqb-true}
+use Rattle.std.specs.List.{after_first, AllPairs}
 use Rattle.tw_msg.specs.Anchors.{lines, is_line_feed, may_follow, anchor, IsFirstBadLine}
 use Rattle.tw_msg.proofs.LineLaws.{lines-first, lines-empty, length-some}
-use Rattle.tw_msg.proofs.Reading.{IsRead, read_on, all_read, first_bad_line, not_true}
+use Rattle.tw_msg.proofs.Reading.{IsRead, read_on, all_read, different-good, first_bad_line, not_true}
 use Rattle.tw_msg.proofs.anchors.read_anchors.Goals as goal
 
 pub returns-in_default-clause-bad : goal.returns-in_default-clause-bad
@@ -42,12 +42,28 @@ loop-rest-preserved c =
 
 pub returns-clause-anchors : goal.returns-clause-anchors
 returns-clause-anchors c =
+    let all = lines c.args.bytes.now in
     let none = lines-empty c.loop-rest.rest.now (eqb-true (length c.loop-rest.rest.now) 0 (sym c.is_empty.ensures ∙ c.loop-rest-test.false)) in
-    (all_read (lines c.args.bytes.now) c.loop-rest.anchors
-    (subst (λ rest. IsRead (lines c.args.bytes.now) rest c.loop-rest.anchors) none c.loop-rest.invariant)).0
+    let through = all_read all c.loop-rest.anchors (subst (λ rest. IsRead all rest c.loop-rest.anchors) none c.loop-rest.invariant) in
+    through.anchors_are
 
 pub returns-clause-good : goal.returns-clause-good
 returns-clause-good c =
+    let all = lines c.args.bytes.now in
     let none = lines-empty c.loop-rest.rest.now (eqb-true (length c.loop-rest.rest.now) 0 (sym c.is_empty.ensures ∙ c.loop-rest-test.false)) in
-    (all_read (lines c.args.bytes.now) c.loop-rest.anchors
-    (subst (λ rest. IsRead (lines c.args.bytes.now) rest c.loop-rest.anchors) none c.loop-rest.invariant)).1
+    let through = all_read all c.loop-rest.anchors (subst (λ rest. IsRead all rest c.loop-rest.anchors) none c.loop-rest.invariant) in
+    through.good
+
+pub returns-clause-few : goal.returns-clause-few
+returns-clause-few c =
+    let all = lines c.args.bytes.now in
+    let none = lines-empty c.loop-rest.rest.now (eqb-true (length c.loop-rest.rest.now) 0 (sym c.is_empty.ensures ∙ c.loop-rest-test.false)) in
+    let through = all_read all c.loop-rest.anchors (subst (λ rest. IsRead all rest c.loop-rest.anchors) none c.loop-rest.invariant) in
+    through.few
+
+pub returns-clause-services : goal.returns-clause-services
+returns-clause-services c =
+    let all = lines c.args.bytes.now in
+    let none = lines-empty c.loop-rest.rest.now (eqb-true (length c.loop-rest.rest.now) 0 (sym c.is_empty.ensures ∙ c.loop-rest-test.false)) in
+    let through = all_read all c.loop-rest.anchors (subst (λ rest. IsRead all rest c.loop-rest.anchors) none c.loop-rest.invariant) in
+    subst (AllPairs (λ a b. a.from ≢ b.from)) (sym through.anchors_are) (different-good all through.good)
