@@ -113,9 +113,9 @@ different-good all good i j d below within same =
     let sized : length (map anchor (take j all)) ≡ j = length-map (take j all) anchor ∙ length-take-le j all (omega (arith, last)) in
     let inside : i < length (map anchor (take j all)) = omega (arith, sized, below) in
     let earlier : get_or (map anchor (take j all)) i d ≡ get_or (map anchor all) i d =
-        get_or-map anchor (take j all) i [] d (omega (arith, below, length-take-le j all (omega (arith, last))))
-        ∙ ap anchor (get_or-take j all i [] below)
-        ∙ sym (get_or-map anchor all i [] d first) in
+    get_or-map anchor (take j all) i [] d (omega (arith, below, length-take-le j all (omega (arith, last))))
+    ∙ ap anchor (get_or-take j all i [] below)
+    ∙ sym (get_or-map anchor all i [] d first) in
     let later : get_or (map anchor all) j d ≡ anchor (line_at all j) = get_or-map anchor all j [] d last in
     other-may_follow (map anchor (take j all)) (line_at all j) i d (good j last) inside
     (ap (λ t. t.from) earlier ∙ same ∙ ap (λ t. t.from) later)
