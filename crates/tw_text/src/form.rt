@@ -1,4 +1,5 @@
-// The table of forms.
+// The table of forms. A new form has a variant of `Command`, a name here and in `FORMS`, a line of the
+// table and one of `make_command`; and in `specs/CommandLine.antt` a line and its name.
 
 ghost use Rattle.std.specs.Prelude.{◌≡◌};
 ghost use Rattle.tw_text.specs.CommandLine.{form_of, form_names};

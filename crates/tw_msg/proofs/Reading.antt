@@ -1,0 +1,162 @@
+-- An anchors file is read line by line.
+use Rattle.std.proofs.Common.{◌≡◌, ◌≢◌, ℕ, suc, ◌+◌, ◌<◌, ◌≤◌, List, [], ◌∷◌, ◌++◌, length, take, drop, map, get_or, refl, ap, ◌∙◌, sym, subst, arith, Bool, true, false, not, ◌&&◌, leb, leb-true, le-leb, below_more, length-append}
+use Rattle.std.specs.List.{list_any, AllPairs}
+use Rattle.std.proofs.Math.Seq.{drop-cons, take-suc, take-length}
+use Rattle.std.proofs.lemmas.List.{length-drop, length-map, length-take, length-take-le, map-append, get_or-map, get_or-take}
+use Rattle.std.proofs.lemmas.Slice.Eq.{bytes_eq-Decides}
+use Rattle.std.proofs.lemmas.List.Folds.{list_any_at}
+use Rattle.tw_base.specs.declared.thread.Thread.{Thread}
+use Rattle.tw_text.specs.Words.{is_number, number_of, is_number_within, is_digest}
+use Rattle.tw_msg.specs.Anchors.{anchor, may_follow, is_good, line_at, AllGood, IsFirstBadLine, is_anchor, is_of, name_word, step_word, digest_word}
+use Rattle.tw_base.specs.Names.{is_name_text}
+
+-- ---- tests
+
+pub both : (a b : Bool) → (a && b) ≡ true → (a ≡ true) × (b ≡ true)
+both true b holds = (refl, holds)
+both false b holds = absurd (cc)
+
+pub join : (a b : Bool) → a ≡ true → b ≡ true → (a && b) ≡ true
+join true b a-holds b-holds = b-holds
+join false b a-holds b-holds = absurd (cc)
+
+pub not_true : (b : Bool) → (b ≡ true → ⊥) → b ≡ false
+not_true false _ = refl
+not_true true never = absurd (never refl)
+
+-- ---- lines that are read
+
+-- so many lines are read, each of them good, and these remain
+pub record IsRead (all remaining : List (List ℕ)) (anchors : List Thread) : Type 0 where
+  pub so_far : anchors ≡ map anchor (take (length anchors) all)
+  pub rest : remaining ≡ drop (length anchors) all
+  pub good : (i : ℕ) → i < length anchors → is_good all i ≡ true
+  pub few : length anchors ≤ 64
+
+pub none_read : (all : List (List ℕ)) → IsRead all all []
+none_read all = record { so_far = refl; rest = refl; good = λ i h. absurd (omega arith); few = omega arith }
+
+-- the next line
+record IsNext (all : List (List ℕ)) (n : ℕ) (line : List ℕ) (remaining : List (List ℕ)) : Type 0 where
+  within : n < length all
+  here : line_at all n ≡ line
+  rest : remaining ≡ drop (suc n) all
+
+next : (all remaining : List (List ℕ)) (line : List ℕ) (n : ℕ) → line ∷ remaining ≡ drop n all → IsNext all n line remaining
+next all remaining line n e =
+    let within : n < length all = omega (arith, ap length e, length-drop n all) in
+    let both = e ∙ drop-cons all n [] within in
+    record { within = within; here = cc; rest = cc }
+
+good-next : (all remaining : List (List ℕ)) (line : List ℕ) (anchors : List Thread) (answer : Bool) → IsRead all (line ∷ remaining) anchors →
+    may_follow anchors line ≡ answer → is_good all (length anchors) ≡ answer
+good-next all remaining line anchors answer before follows =
+    let here = next all remaining line (length anchors) before.rest in
+    subst (λ found. may_follow found (line_at all (length anchors)) ≡ answer) before.so_far
+    (subst (λ l. may_follow anchors l ≡ answer) (sym here.here) follows)
+
+few-may_follow : (anchors : List Thread) (line : List ℕ) → may_follow anchors line ≡ true → length anchors < 64
+few-may_follow anchors line follows =
+    let anchor_too = both (leb (suc (length anchors)) 64 && is_anchor line) (not (list_any (is_of (anchor line).from) anchors)) follows in
+    leb-true (suc (length anchors)) 64 (both (leb (suc (length anchors)) 64) (is_anchor line) anchor_too.0).0
+
+pub read_on : (all remaining : List (List ℕ)) (line : List ℕ) (anchors : List Thread) → IsRead all (line ∷ remaining) anchors →
+    may_follow anchors line ≡ true → IsRead all remaining (anchors ++ anchor line ∷ [])
+read_on all remaining line anchors before follows =
+    let here = next all remaining line (length anchors) before.rest in
+    let n = length anchors in
+    let count : length (anchors ++ anchor line ∷ []) ≡ suc n = omega (arith, length-append anchors (anchor line ∷ [])) in
+    let taken : take (suc n) all ≡ take n all ++ line ∷ [] = take-suc all n [] here.within ∙ ap (λ l. take n all ++ l ∷ []) here.here in
+    let mapped : map anchor (take (suc n) all) ≡ map anchor (take n all) ++ anchor line ∷ [] =
+    ap (map anchor) taken ∙ map-append anchor (take n all) (line ∷ []) in
+    record {
+      so_far = ap (λ found. found ++ anchor line ∷ []) before.so_far ∙ sym mapped ∙ ap (λ k. map anchor (take k all)) (sym count);
+      rest = here.rest ∙ ap (λ k. drop k all) (sym count);
+      good = λ i within. below_more (λ k. is_good all k ≡ true) n before.good (good-next all remaining line anchors true before follows) i
+          (omega (arith, within, count));
+      few = omega (arith, count, few-may_follow anchors line follows);
+    }
+
+-- what is known once all lines are read
+pub record IsRead_through (all : List (List ℕ)) (anchors : List Thread) : Type 0 where
+  pub anchors_are : anchors ≡ map anchor all
+  pub good : AllGood all
+  pub few : length anchors ≤ 64
+
+pub all_read : (all : List (List ℕ)) (anchors : List Thread) → IsRead all [] anchors → IsRead_through all anchors
+all_read all anchors before =
+    let n = length anchors in
+    let sized : n ≡ length (take n all) = ap length before.so_far ∙ simp length-map in
+    let whole : n ≡ length all = omega (arith, sized, length-take n all, ap length before.rest, length-drop n all) in
+    record {
+      anchors_are = before.so_far ∙ ap (λ k. map anchor (take k all)) whole ∙ ap (map anchor) (take-length all);
+      good = λ i within. before.good i (omega (arith, whole, within));
+      few = before.few;
+    }
+
+-- a line that may follow has the service of none of the anchors
+other-may_follow : (anchors : List Thread) (line : List ℕ) (i : ℕ) (d : Thread) → may_follow anchors line ≡ true → i < length anchors →
+    (get_or anchors i d).from ≢ (anchor line).from
+other-may_follow anchors line i d follows within same =
+    let of = is_of (anchor line).from in
+    let none = (both (leb (suc (length anchors)) 64 && is_anchor line) (not (list_any of anchors)) follows).1 in
+    let equal : of (get_or anchors i d) ≡ true = (bytes_eq-Decides (get_or anchors i d).from (anchor line).from).1 same in
+    let any : list_any of anchors ≡ true = list_any_at of anchors i d within equal in
+    let wrong : false ≡ true = sym (ap not any) ∙ none in
+    absurd (cc)
+
+-- good lines are of different services
+pub different-good : (all : List (List ℕ)) → AllGood all → AllPairs (λ a b. a.from ≢ b.from) (map anchor all)
+different-good all good i j d below within same =
+    let last : j < length all = omega (arith, within, length-map all anchor) in
+    let first : i < length all = omega (arith, last, below) in
+    let sized : length (map anchor (take j all)) ≡ j = length-map (take j all) anchor ∙ length-take-le j all (omega (arith, last)) in
+    let inside : i < length (map anchor (take j all)) = omega (arith, sized, below) in
+    let earlier : get_or (map anchor (take j all)) i d ≡ get_or (map anchor all) i d =
+    get_or-map anchor (take j all) i [] d (omega (arith, below, length-take-le j all (omega (arith, last))))
+    ∙ ap anchor (get_or-take j all i [] below)
+    ∙ sym (get_or-map anchor all i [] d first) in
+    let later : get_or (map anchor all) j d ≡ anchor (line_at all j) = get_or-map anchor all j [] d last in
+    other-may_follow (map anchor (take j all)) (line_at all j) i d (good j last) inside
+    (ap (λ t. t.from) earlier ∙ same ∙ ap (λ t. t.from) later)
+
+pub first_bad_line : (all remaining : List (List ℕ)) (line : List ℕ) (anchors : List Thread) → IsRead all (line ∷ remaining) anchors →
+    may_follow anchors line ≡ false → IsFirstBadLine all (length anchors + 1)
+first_bad_line all remaining line anchors before bad =
+    record {
+      index = length anchors;
+      counted = refl;
+      within = (next all remaining line (length anchors) before.rest).within;
+      bad = good-next all remaining line anchors false before bad;
+      before = before.good;
+    }
+
+-- ---- the number of a step
+
+pub number-pos : (word : List ℕ) → is_number_within 1 0xff_ffff_ffff word ≡ true →
+    (is_number word ≡ true) × (1 ≤ number_of word) × (number_of word ≤ 0xff_ffff_ffff)
+number-pos word within =
+    let outer = both (is_number word && leb 1 (number_of word)) (leb (number_of word) 0xff_ffff_ffff) within in
+    let inner = both (is_number word) (leb 1 (number_of word)) outer.0 in
+    (inner.0, leb-true 1 (number_of word) inner.1, leb-true (number_of word) 0xff_ffff_ffff outer.1)
+
+pub pos-number : (word : List ℕ) → is_number word ≡ true → 1 ≤ number_of word → number_of word ≤ 0xff_ffff_ffff →
+    is_number_within 1 0xff_ffff_ffff word ≡ true
+pos-number word number low high =
+    join (is_number word && leb 1 (number_of word)) (leb (number_of word) 0xff_ffff_ffff)
+    (join (is_number word) (leb 1 (number_of word)) number (le-leb _ _ low)) (le-leb _ _ high)
+
+-- ---- the words of a line
+
+pub anchor-words : (line : List ℕ) → is_anchor line ≡ true →
+    (is_name_text (name_word line) ≡ true) × (is_number_within 1 0xff_ffff_ffff (step_word line) ≡ true) × (is_digest (digest_word line) ≡ true)
+anchor-words line holds =
+    let outer = both (is_name_text (name_word line) && is_number_within 1 0xff_ffff_ffff (step_word line)) (is_digest (digest_word line)) holds in
+    let inner = both (is_name_text (name_word line)) (is_number_within 1 0xff_ffff_ffff (step_word line)) outer.0 in
+    (inner.0, inner.1, outer.1)
+
+pub words-anchor : (line : List ℕ) → is_name_text (name_word line) ≡ true → is_number_within 1 0xff_ffff_ffff (step_word line) ≡ true →
+    is_digest (digest_word line) ≡ true → is_anchor line ≡ true
+words-anchor line name step digest =
+    join (is_name_text (name_word line) && is_number_within 1 0xff_ffff_ffff (step_word line)) (is_digest (digest_word line))
+    (join (is_name_text (name_word line)) (is_number_within 1 0xff_ffff_ffff (step_word line)) name step) digest
