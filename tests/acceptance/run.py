@@ -2,7 +2,7 @@
 
     python3 tests/acceptance/run.py [PROGRAM]      `make check` calls it so
 
-The cases stand in cases/*.json, those that are counted off in generated.py. A case has
+The cases stand in cases/*.json, those that are counted off in generated.py; documents.py checks the documents. A case has
 
     name       what it shows
     words      the program's arguments; $AUTH is the authenticator of step 1 of the least proof
@@ -25,6 +25,7 @@ import tempfile
 from concurrent.futures import ThreadPoolExecutor
 from pathlib import Path
 
+import documents
 import generated
 import reference
 
@@ -78,6 +79,8 @@ def limits(case):
 
 def difference(program, case):
     """Runs the case in a folder of its own; answers what was wrong, or None."""
+    if "check" in case:
+        return case["check"](program)
     with tempfile.TemporaryDirectory() as room:
         for name, recipe in case.get("files", {}).items():
             data = made(recipe)
@@ -113,6 +116,7 @@ def all_cases():
         for case in json.loads(path.read_text()):
             yield {**case, "name": f"{path.stem}: {case['name']}"}
     yield from generated.cases()
+    yield from documents.cases()
 
 
 def main():
