@@ -1,4 +1,5 @@
-"""The documents say what is so: each link leads to a file and a heading, and the README's tutorial gives the output that it shows."""
+"""The documents say what is so: each link leads to a file and a heading, the README's tutorial gives the output that it shows,
+and each clause that the README cites stands in the contract of the function beside it."""
 
 import os
 import re
@@ -54,6 +55,44 @@ def tutorial(program):
     return "\n".join(wrong + [ran.stderr] * bool(ran.stderr)) or None
 
 
+def contracts():
+    """The names of the clauses of each function, by its name; a name that several functions have stands for all of them."""
+    found = {}
+    for source in sorted((TOP / "crates").glob("*/src/**/*.rt")):
+        for match in re.finditer(r"^ *(?:pub )?fn (\w+)(.*?)(?:^ *\{|;$)", source.read_text(), re.M | re.S):
+            found.setdefault(match[1], set()).update(re.findall(r"^ *ensures (\w+) \{", match[2], re.M))
+    return found
+
+
+def cited(text):
+    """The functions of each row of the tables of what is proved, with their clauses: `f`, `g`: `c`, `d`; `h`: `e`."""
+    section = text.split("\n## What is proved\n")[1].split("\n## ")[0]
+    for row in re.findall(r"^\|(.*)\|$", section, re.M):
+        cell = row.split("|")[1]
+        for group in cell.split(";"):
+            names, _, clauses = group.partition(": ")
+            if " as " not in names:
+                yield re.findall(r"`(?:\w+::)?(\w+)`", names), re.findall(r"`(\w+)`", clauses)
+
+
+def claims(program):
+    """The clauses that the README cites and that aren't there."""
+    known = contracts()
+    wrong = []
+    for names, clauses in cited((TOP / "README.md").read_text()):
+        # (the table of `run` names its clauses alone)
+        if not clauses and all(name in known["run"] for name in names):
+            continue
+        wrong += [f"  there is no function {name}" for name in names if name not in known]
+        wrong += [
+            f"  {' and '.join(names)} has no clause {clause}"
+            for clause in clauses
+            if not any(clause in known.get(name, ()) for name in names)
+        ]
+    return "\n".join(wrong) or None
+
+
 def cases():
     yield {"name": "documents: links", "check": links}
     yield {"name": "documents: tutorial", "check": tutorial}
+    yield {"name": "documents: claims", "check": claims}
