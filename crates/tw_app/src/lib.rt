@@ -7,3 +7,6 @@ mod verifying;
 
 pub use ending::run;
 pub use outcome::Outcome;
+
+#[cfg(test)]
+mod tests;

@@ -6,3 +6,6 @@ mod kinds;
 mod verdict;
 
 pub use verdict::{Verdict, verify};
+
+#[cfg(test)]
+mod tests;

@@ -20,3 +20,6 @@ pub use opening::{Opening, check_opening};
 pub use path::{Link, LinkList, Path};
 pub use reading::{read_opening, read_path};
 pub use writing::{write_existence, write_opening, write_path};
+
+#[cfg(test)]
+mod tests;

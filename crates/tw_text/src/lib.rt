@@ -12,6 +12,8 @@ mod number;
 mod part;
 mod report;
 mod taking;
+#[cfg(test)]
+mod tests;
 mod words;
 
 pub use anchor::{AnchorLine, anchor_line};

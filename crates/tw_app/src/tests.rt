@@ -1,0 +1,130 @@
+// Whole runs over inputs and a sink in memory.
+
+use super::*;
+use std::alloc::Global;
+use std::process::Abort;
+use tw_outside::{MemInputs, MemSink};
+
+/// The proof that step 1 of the service `a` has one empty event, under step 1 as its top.
+const LEAST: [u8; 145] = [
+    0x54, 0x57, 0x50, 0x31, 0x01, 0x61, 0x00, 0x00, 0x00, 0x00, 0x00, 0x00, 0x00, 0x00, 0x00, 0x00,
+    0x00, 0x00, 0x00, 0x00, 0x00, 0x00, 0x00, 0x00, 0x00, 0x00, 0x00, 0x00, 0x01, 0x00, 0x00, 0x00,
+    0x00, 0x00, 0x00, 0x00, 0x01, 0x6e, 0x34, 0x0b, 0x9c, 0xff, 0xb3, 0x7a, 0x98, 0x9c, 0xa5, 0x44,
+    0xe6, 0xbb, 0x78, 0x0a, 0x2c, 0x78, 0x90, 0x1d, 0x3f, 0xb3, 0x37, 0x38, 0x76, 0x85, 0x11, 0xa3,
+    0x06, 0x17, 0xaf, 0xa0, 0x1d, 0x83, 0x89, 0x1d, 0x7f, 0xe8, 0x5c, 0x33, 0xe5, 0x2c, 0x8b, 0x4e,
+    0x58, 0x14, 0xc9, 0x2f, 0xb6, 0xa3, 0xb9, 0x46, 0x72, 0x99, 0x20, 0x05, 0x38, 0xa6, 0xba, 0xba,
+    0xa8, 0xb4, 0x52, 0xd8, 0x79, 0x00, 0x00, 0x00, 0x01, 0x71, 0x2a, 0x98, 0x16, 0x5e, 0x96, 0xcb,
+    0x35, 0xd4, 0xff, 0x36, 0x30, 0x78, 0x6a, 0x06, 0x0f, 0x86, 0x70, 0xf7, 0x26, 0xc2, 0x6c, 0xdb,
+    0x94, 0x24, 0x7e, 0xc0, 0xf0, 0x33, 0xa6, 0x32, 0xaf, 0x00, 0x00, 0x00, 0x00, 0x00, 0x00, 0x00,
+    0x00,
+];
+
+/// The authenticator of that step.
+const HEX: &str = "9f9cc8f6baef592ed6bf90b106ebe7b882f59a1cc9803a6d1eef6974da5f87ed";
+
+/// The words of a command line.
+fn words(rt: &impl Abort, alloc: Global, texts: &[&str]) -> Vec<String> {
+    let mut words = Vec::new(alloc);
+    for text in texts {
+        let word = String::from_str(alloc, text).expect(rt, "memory");
+        words.push(word).expect(rt, "memory");
+    }
+    words
+}
+
+/// Inputs with the proof `p` of so many bytes, of which those past the least proof are zero.
+fn inputs(rt: &impl Abort, alloc: Global, size: usize) -> MemInputs {
+    let mut bytes = [0; 200];
+    bytes[..145].copy_from_slice(&LEAST);
+    let mut inputs = MemInputs::new(alloc);
+    let front = bytes.get(..size).expect(rt, "at most 200 bytes");
+    inputs.put("p", front).expect(rt, "memory");
+    inputs
+}
+
+/// Runs the words over the least proof, and sees that this status and this text come.
+fn expect_run<R: Abort>(rt: &R, alloc: Global, texts: &[&str], status: u8, text: &str) {
+    let words = words(rt, alloc, texts);
+    let mut inputs = inputs(rt, alloc, 145);
+    let mut out = MemSink::new(alloc);
+    assert_eq!(rt; run(alloc, words.as_slice(), &mut inputs, &mut out), status);
+    assert_eq!(rt; out.taken(), text.as_bytes());
+}
+
+#[test]
+fn the_least_proof(rt: HostRuntime) {
+    let alloc = rt.alloc();
+    expect_run(
+        &rt,
+        alloc,
+        &["verify", "p", "a", "1", HEX],
+        0,
+        "accepted exists\nevent a 1 0 -\n",
+    );
+    expect_run(
+        &rt,
+        alloc,
+        &["verify", "p", "b", "1", HEX],
+        1,
+        "rejected 3 NotHeld a 1\n",
+    );
+    let forged = "0000000000000000000000000000000000000000000000000000000000000000";
+    expect_run(
+        &rt,
+        alloc,
+        &["verify", "p", "a", "1", forged],
+        1,
+        "rejected 4 BadPath 0\n",
+    );
+}
+
+#[test]
+fn words_without_a_form(rt: HostRuntime) {
+    let alloc = rt.alloc();
+    expect_run(&rt, alloc, &[], 2, "usage 1\n");
+    expect_run(&rt, alloc, &["verify", "p"], 2, "usage 3\n");
+    expect_run(&rt, alloc, &["verify", "p", "a", "1"], 2, "usage 5\n");
+    expect_run(&rt, alloc, &["frob"], 2, "usage 1\n");
+    expect_run(&rt, alloc, &["export", "d"], 2, "usage 0\n");
+}
+
+#[test]
+fn a_file_that_is_missing(rt: HostRuntime) {
+    expect_run(
+        &rt,
+        rt.alloc(),
+        &["verify", "q", "a", "1", HEX],
+        3,
+        "fault input\n",
+    );
+}
+
+/// Runs `verify` over a proof of so many bytes, and sees that this text comes with status 1.
+fn expect_rejected<R: Abort>(rt: &R, alloc: Global, size: usize, text: &str) {
+    let words = words(rt, alloc, &["verify", "p", "a", "1", HEX]);
+    let mut inputs = inputs(rt, alloc, size);
+    let mut out = MemSink::new(alloc);
+    assert_eq!(rt; run(alloc, words.as_slice(), &mut inputs, &mut out), 1);
+    assert_eq!(rt; out.taken(), text.as_bytes());
+}
+
+#[test]
+fn padded_cut_and_empty(rt: HostRuntime) {
+    expect_rejected(&rt, rt.alloc(), 146, "rejected 1 Malformed 145\n");
+    expect_rejected(&rt, rt.alloc(), 144, "rejected 1 Malformed 144\n");
+    expect_rejected(&rt, rt.alloc(), 0, "rejected 1 Malformed 0\n");
+}
+
+#[test]
+fn a_failing_sink_and_a_failing_read(rt: HostRuntime) {
+    let alloc = rt.alloc();
+    let words = words(&rt, alloc, &["verify", "p", "a", "1", HEX]);
+    let mut inputs = inputs(&rt, alloc, 145);
+    let mut out = MemSink::new(alloc);
+    out.fail(1).expect(&rt, "memory");
+    assert_eq!(rt; run(alloc, words.as_slice(), &mut inputs, &mut out), 4);
+    assert_eq!(rt; out.taken().len(), 0);
+    inputs.fail(2).expect(&rt, "memory");
+    assert_eq!(rt; run(alloc, words.as_slice(), &mut inputs, &mut out), 3);
+    assert_eq!(rt; out.taken(), b"fault input\n".as_slice());
+}
