@@ -40,3 +40,4 @@ bench: | $(PROGRAM)
 
 install: | $(PROGRAM)
 	install -D -m 755 $(PROGRAM) $(DESTDIR)$(PREFIX)/bin/timeweave
+	install -D -m 644 docs/timeweave.1 $(DESTDIR)$(PREFIX)/share/man/man1/timeweave.1
