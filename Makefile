@@ -13,7 +13,7 @@ OTHER = 0f9cc8f6baef592ed6bf90b106ebe7b882f59a1cc9803a6d1eef6974da5f87ed
 # Builds the program, and runs it once. Only a proved program is built: the first build on a machine proves every crate
 # below it first, which takes long; later ones prove what changed.
 build:
-	@echo "building: only a proved program is built, so the first build on a machine takes minutes"
+	@echo "building: only a proved program is built; the first build on a machine proves all below it, and takes long"
 	cd crates/timeweave && rt run -- verify data/p a 1 $(AUTH)
 
 # Builds the program, and shows a proof accepted and the same proof rejected under another authenticator.
@@ -40,3 +40,4 @@ bench: | $(PROGRAM)
 
 install: | $(PROGRAM)
 	install -D -m 755 $(PROGRAM) $(DESTDIR)$(PREFIX)/bin/timeweave
+	install -D -m 644 docs/timeweave.1 $(DESTDIR)$(PREFIX)/share/man/man1/timeweave.1

@@ -7,38 +7,17 @@ and hashed; `crates/tw_events/src/tests.rt` holds the digest, and the other valu
     python3 tools/event_tree_vectors.py
 """
 
+import sys
 from hashlib import sha256
+from pathlib import Path
+
+sys.path.insert(0, str(Path(__file__).resolve().parent.parent / "tests/acceptance"))
+
+from reference import event_path, event_root  # noqa: E402
 
 
 def digest(text):
     return sha256(text).digest()
-
-
-def split(n):
-    """The largest power of two smaller than n."""
-    return 1 << ((n - 1).bit_length() - 1)
-
-
-def tree_hash(events):
-    """MTH(D[n]) of section 2.1."""
-    n = len(events)
-    if n == 0:
-        return digest(b"")
-    if n == 1:
-        return digest(b"\x00" + events[0])
-    k = split(n)
-    return digest(b"\x01" + tree_hash(events[:k]) + tree_hash(events[k:]))
-
-
-def path(m, events):
-    """PATH(m, D[n]) of section 2.1.1."""
-    n = len(events)
-    if n == 1:
-        return []
-    k = split(n)
-    if m < k:
-        return path(m, events[:k]) + [tree_hash(events[k:])]
-    return path(m - k, events[k:]) + [tree_hash(events[:k])]
 
 
 def main():
@@ -46,17 +25,17 @@ def main():
     table = b""
     for count in range(65):
         first = events[:count]
-        table += tree_hash(first)
+        table += event_root(first)
         for index in range(count):
-            table += b"".join(path(index, first))
+            table += b"".join(event_path(first, index))
     print("table", digest(table).hex())
     for count in (0, 1, 2, 3, 64):
-        print("root", count, tree_hash(events[:count]).hex())
+        print("root", count, event_root(events[:count]).hex())
     for index in range(3):
-        print("path", index, "of 3", [label.hex() for label in path(index, events[:3])])
+        print("path", index, "of 3", [label.hex() for label in event_path(events[:3], index)])
     many = [bytes([i // 256, i % 256]) for i in range(1024)]
-    print("root of 1,024", tree_hash(many).hex())
-    print("path 777 of 1,024", digest(b"".join(path(777, many))).hex())
+    print("root of 1,024", event_root(many).hex())
+    print("path 777 of 1,024", digest(b"".join(event_path(many, 777))).hex())
 
 
 main()

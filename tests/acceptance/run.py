@@ -2,29 +2,33 @@
 
     python3 tests/acceptance/run.py [PROGRAM]      `make check` calls it so
 
-The cases stand in cases/*.json, those that are counted off in generated.py. A case has
+The cases stand in cases/*.json, those that are counted off in generated.py; documents.py checks the documents. A case has
 
     name       what it shows
     words      the program's arguments; $AUTH is the authenticator of step 1 of the least proof
     files      files and folders of the folder that it runs in, by name; for their recipes see `made`
     status     the exit status
-    stdout     the bytes of standard output, as text; left out where the output goes to no file that can be read
-    to         where standard output goes: "full" (a device that is full), "closed", or a file (the default)
+    stdout     the bytes of standard output, as text; none where the output goes to no file that can be read
+    to         where standard output goes: "full" (a device that is full), "closed", "unread" (a pipe that nobody
+               reads), "short" (a file that takes five bytes), or a pipe (the default)
     memory     at most so many bytes of memory
 
 The last line is `N passed, N failed`; before it each case that failed is told with its command.
 """
 
+import contextlib
 import json
 import os
 import resource
 import shlex
+import signal
 import subprocess
 import sys
 import tempfile
 from concurrent.futures import ThreadPoolExecutor
 from pathlib import Path
 
+import documents
 import generated
 import reference
 
@@ -72,12 +76,35 @@ def limits(case):
             resource.setrlimit(resource.RLIMIT_AS, (case["memory"], case["memory"]))
         if case.get("to") == "closed":
             os.close(1)
+        if case.get("to") == "short":
+            # (without this the system would end the program)
+            signal.signal(signal.SIGXFSZ, signal.SIG_IGN)
+            resource.setrlimit(resource.RLIMIT_FSIZE, (5, 5))
 
-    return limit if "memory" in case or case.get("to") == "closed" else None
+    return limit if "memory" in case or case.get("to") in ("closed", "short") else None
+
+
+def ran(program, words, case, room):
+    """Runs the program; answers its status, and what it wrote to standard output and to standard error."""
+    to = {"full": "/dev/full", "short": f"{room}/standard output"}.get(case.get("to"))
+    if case.get("to") == "unread":
+        reader, to = os.pipe()
+        os.close(reader)
+    with open(to, "wb" if case["to"] == "unread" else "w+b") if to else contextlib.nullcontext(subprocess.PIPE) as out:
+        done = subprocess.run(
+            [program, *words], cwd=room, stdout=out, stderr=subprocess.PIPE, stdin=subprocess.DEVNULL,
+            preexec_fn=limits(case), timeout=60,
+        )
+        if case.get("to") == "short":
+            out.seek(0)
+            return done.returncode, out.read(), done.stderr
+    return done.returncode, done.stdout or b"", done.stderr
 
 
 def difference(program, case):
     """Runs the case in a folder of its own; answers what was wrong, or None."""
+    if "check" in case:
+        return case["check"](program)
     with tempfile.TemporaryDirectory() as room:
         for name, recipe in case.get("files", {}).items():
             data = made(recipe)
@@ -86,26 +113,15 @@ def difference(program, case):
             else:
                 (Path(room) / name).write_bytes(data)
         words = [word.replace("$AUTH", AUTH) for word in case["words"]]
-        out = open("/dev/full", "wb") if case.get("to") == "full" else subprocess.PIPE
         try:
-            ran = subprocess.run(
-                [program, *words], cwd=room, stdout=out, stderr=subprocess.PIPE, stdin=subprocess.DEVNULL,
-                preexec_fn=limits(case), timeout=60,
-            )
+            status, out, err = ran(program, words, case, room)
         except subprocess.TimeoutExpired:
-            return "it ran for longer than a minute"
-        finally:
-            if out is not subprocess.PIPE:
-                out.close()
+            return "  it ran for longer than a minute"
     wanted = case.get("stdout", "").encode()
-    got = ran.stdout or b""
-    if ran.returncode == case["status"] and got == wanted and ran.stderr == b"":
+    if (status, out, err) == (case["status"], wanted, b""):
         return None
     command = " ".join(shlex.quote(word) for word in ["timeweave", *words])
-    return (
-        f"  {command}\n  wanted {case['status']} {wanted!r}\n  got    {ran.returncode} {got!r}"
-        + (f"\n  stderr {ran.stderr!r}" if ran.stderr else "")
-    )
+    return f"  {command}\n  wanted {case['status']} {wanted!r}\n  got    {status} {out!r}" + (f"\n  stderr {err!r}" if err else "")
 
 
 def all_cases():
@@ -113,6 +129,7 @@ def all_cases():
         for case in json.loads(path.read_text()):
             yield {**case, "name": f"{path.stem}: {case['name']}"}
     yield from generated.cases()
+    yield from documents.cases()
 
 
 def main():

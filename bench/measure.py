@@ -1,0 +1,146 @@
+"""Measures the built program, and writes bench/RESULTS.md.
+
+    python3 bench/measure.py [PROGRAM]      `make bench` calls it so
+
+Times are of whole commands, each the best of many runs that take turns with those of /bin/true; only their ratio is worth
+anything on another machine. Instructions are counted by valgrind's callgrind, where it is installed.
+"""
+
+import os
+import platform
+import re
+import shutil
+import subprocess
+import sys
+import tempfile
+import time
+from pathlib import Path
+
+TOP = Path(__file__).resolve().parent.parent
+sys.path.insert(0, str(TOP / "tests/acceptance"))
+
+import reference  # noqa: E402
+
+RUNS = 3000
+COMPRESS = "sha2::block256::compress"
+
+
+def seconds(words, null):
+    """One run of a command, its output thrown away."""
+    begun = time.perf_counter()
+    child = os.posix_spawn(words[0], words, os.environ, file_actions=[(os.POSIX_SPAWN_DUP2, null, 1)])
+    _, status = os.waitpid(child, 0)
+    took = time.perf_counter() - begun
+    if status:
+        sys.exit(f"{' '.join(words)} ended with status {os.waitstatus_to_exitcode(status)}")
+    return took
+
+
+def best_times(*commands):
+    """The best time of each command, of runs that take turns."""
+    null = os.open("/dev/null", os.O_WRONLY)
+    best = [float("inf")] * len(commands)
+    for _ in range(RUNS):
+        for i, words in enumerate(commands):
+            best[i] = min(best[i], seconds(words, null))
+    os.close(null)
+    return best
+
+
+def counted(words, folder):
+    """The instructions of a run: of all, of the program's own code without the loader and the C library, inside the
+    compression function of SHA-256, and how often that was called."""
+    out = f"{folder}/callgrind"
+    subprocess.run(
+        ["valgrind", "--tool=callgrind", "--compress-strings=no", "--compress-pos=no", f"--callgrind-out-file={out}", *words],
+        check=True, capture_output=True,
+    )
+    total = own = inside = calls = 0
+    function = called = object_ = ""
+    is_call_cost = False
+    for line in Path(out).read_text().splitlines():
+        key, _, value = line.partition("=")
+        if key == "fn":
+            function = value
+        elif key == "ob":
+            object_ = value
+        elif key == "cfn":
+            called = value
+        elif key == "calls":
+            calls += int(value.split()[0]) if COMPRESS in called else 0
+            is_call_cost = True
+        elif re.match(r"\+?\d+ \d+$|0x[0-9a-f]+ \d+$", line):
+            cost = int(line.split()[1])
+            # (the line after `calls` is what the called function and all below it cost)
+            if not is_call_cost:
+                total += cost
+                own += cost if object_ == os.path.realpath(words[0]) else 0
+                inside += cost if COMPRESS in function else 0
+            is_call_cost = False
+    return total, own, inside, calls
+
+
+def blocks(sizes):
+    """How many blocks of 64 bytes SHA-256 has for texts of these sizes."""
+    return sum((size + 9 + 63) // 64 for size in sizes)
+
+
+def text_sizes(step, index, top, events):
+    """The sizes of the texts that checking the proof hashes, each once."""
+    levels = [reference.top_level(start) for start in reference.greedy_steps(top, step)[:-1]]
+    links = [size for level in levels for size in (74, 10 + 32 * (level + 1))]
+    opening = [69, 74, 10 + 32 * (reference.top_level(step) + 1)]
+    return opening + links + [1 + len(events[index])] + [65] * reference.path_length(len(events), index)
+
+
+def main():
+    program = os.path.realpath(sys.argv[1] if len(sys.argv) > 1 else TOP / "crates/timeweave/out/timeweave")
+    least = reference.Timeline("a", [[b""]])
+    events = [reference.be(k, 2) for k in range(1024)]
+    step, index, top = 1, 777, 2**21 - 1
+    proof, auth = reference.deep_proof("deep", step, index, top, events, b"bench")
+    with tempfile.TemporaryDirectory() as folder:
+        small, deep = f"{folder}/least", f"{folder}/deep"
+        Path(small).write_bytes(reference.proof_bytes(least, 1, 0, 1))
+        Path(deep).write_bytes(proof)
+        verify_least = [program, "verify", small, "a", "1", least.auths[1].hex()]
+        verify_deep = [program, "verify", deep, "deep", str(top), auth.hex()]
+        nothing, little, much = best_times(["/bin/true"], verify_least, verify_deep)
+        rows = [
+            f"| `/bin/true` | {nothing * 1e6:.0f} | 1.00 |",
+            f"| `verify` of the least proof, {os.path.getsize(small)} bytes | {little * 1e6:.0f} | {little / nothing:.2f} |",
+            f"| `verify` of the deep proof, {os.path.getsize(deep):,} bytes | {much * 1e6:.0f} | {much / nothing:.2f} |",
+        ]
+        text = [
+            "# Measured",
+            "",
+            f"By `make bench`, on {platform.machine()} with {os.cpu_count()} processors, {platform.system()}.",
+            "The deep proof has a path of 40 links, from step 2,097,151 to step 1, and is of one of 1,024 events.",
+            "",
+            f"| command | best of {RUNS:,} runs, in microseconds | ratio |",
+            "|---|---|---|",
+            *rows,
+        ]
+        if shutil.which("valgrind"):
+            total, own, inside, calls = counted(verify_deep, folder)
+            wanted = blocks(text_sizes(step, index, top, events))
+            text += [
+                "",
+                "| `verify` of the deep proof | instructions | ratio to the hashes |",
+                "|---|---|---|",
+                f"| inside the compression function of SHA-256, {calls:,} blocks | {inside:,} | 1.00 |",
+                f"| in the program's own code | {own:,} | {own / inside:.2f} |",
+                f"| in all, with the loader and the C library | {total:,} | {total / inside:.2f} |",
+                "",
+                "The hashes alone are what callgrind counts inside the compression function during that very run; no other program",
+                f"is measured for it. The texts that checking this proof hashes, each once, have {wanted:,} blocks.",
+            ]
+        else:
+            text += ["", "Instructions weren't counted: valgrind isn't installed."]
+    result = "\n".join(text) + "\n"
+    (TOP / "bench/RESULTS.md").write_text(result)
+    print(result, end="")
+
+
+if __name__ == "__main__":
+    main()

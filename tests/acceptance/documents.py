@@ -1,0 +1,98 @@
+"""The documents say what is so: each link leads to a file and a heading, the README's tutorial gives the output that it shows,
+and each clause that the README cites stands in the contract of the function beside it."""
+
+import os
+import re
+import subprocess
+from pathlib import Path
+
+TOP = Path(__file__).resolve().parent.parent.parent
+DOCUMENTS = [TOP / "README.md", *sorted((TOP / "docs").glob("*.md")), *sorted((TOP / "bench").glob("*.md"))]
+
+
+def anchors(document):
+    """The headings of a document, as links name them."""
+    headings = re.findall(r"^#+ (.*)$", document.read_text(), re.M)
+    return {re.sub(r"[^a-z0-9 -]", "", heading.lower()).replace(" ", "-") for heading in headings}
+
+
+def links(program):
+    """The links that lead nowhere."""
+    wrong = []
+    for document in DOCUMENTS:
+        for target in re.findall(r"\]\(([^)]+)\)", document.read_text()):
+            path, _, anchor = target.partition("#")
+            if re.match(r"\w+:", target):
+                continue
+            goal = (document.parent / path).resolve() if path else document
+            if not goal.exists() or (anchor and anchor not in anchors(goal)):
+                wrong.append(f"  {document.relative_to(TOP)}: {target}")
+    return "\n".join(wrong) or None
+
+
+def shown(text):
+    """The commands of the tutorial, each with the output below it."""
+    section = text.split("\n## Tutorial\n")[1].split("\n## ")[0]
+    steps = []
+    for line in section.splitlines():
+        if line.startswith("    $ "):
+            steps.append((line[6:], []))
+        elif line.startswith("    "):
+            steps[-1][1].append(line[4:])
+    return [(command, "".join(line + "\n" for line in output)) for command, output in steps]
+
+
+def tutorial(program):
+    """Runs the README's tutorial, and tells where it gives something else than it shows."""
+    steps = shown((TOP / "README.md").read_text())
+    script = "".join(f"{command}\nlast=$?; echo '=== end of step'; (exit $last)\n" for command, _ in steps)
+    script = script.replace("$PWD/crates/timeweave/out", os.path.dirname(program))
+    ran = subprocess.run(["bash", "-c", script], cwd=TOP, capture_output=True, text=True, timeout=60)
+    found = ran.stdout.split("=== end of step\n")
+    wrong = [
+        f"  $ {command}\n  shown {output!r}\n  got   {got!r}" for (command, output), got in zip(steps, found) if output != got
+    ]
+    return "\n".join(wrong + [ran.stderr] * bool(ran.stderr)) or None
+
+
+def contracts():
+    """The names of the clauses of each function, by its name; a name that several functions have stands for all of them."""
+    found = {}
+    for source in sorted((TOP / "crates").glob("*/src/**/*.rt")):
+        for match in re.finditer(r"^ *(?:pub )?fn (\w+)(.*?)(?:^ *\{|;$)", source.read_text(), re.M | re.S):
+            found.setdefault(match[1], set()).update(re.findall(r"^ *ensures (\w+) \{", match[2], re.M))
+    return found
+
+
+def cited(text):
+    """The functions of each row of the tables of what is proved, with their clauses: `f`, `g`: `c`, `d`; `h`: `e`."""
+    section = text.split("\n## What is proved\n")[1].split("\n## ")[0]
+    for row in re.findall(r"^\|(.*)\|$", section, re.M):
+        cell = row.split("|")[1]
+        for group in cell.split(";"):
+            names, _, clauses = group.partition(": ")
+            if " as " not in names:
+                yield re.findall(r"`(?:\w+::)?(\w+)`", names), re.findall(r"`(\w+)`", clauses)
+
+
+def claims(program):
+    """The clauses that the README cites and that aren't there."""
+    known = contracts()
+    wrong = []
+    for names, clauses in cited((TOP / "README.md").read_text()):
+        # (the table of `run` names its clauses alone)
+        if not clauses and all(name in known["run"] for name in names):
+            continue
+        wrong += [f"  there is no function {name}" for name in names if name not in known]
+        wrong += [
+            f"  {' and '.join(names)} has no clause {clause}"
+            for clause in clauses
+            if not any(clause in known.get(name, ()) for name in names)
+        ]
+    return "\n".join(wrong) or None
+
+
+def cases():
+    yield {"name": "documents: links", "check": links}
+    yield {"name": "documents: tutorial", "check": tutorial}
+    yield {"name": "documents: claims", "check": claims}
