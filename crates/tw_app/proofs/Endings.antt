@@ -38,6 +38,7 @@ module _ (told : Option Files) (before after : ℕ) (words : List (List ℕ)) (t
         file = file.proof;
         anchor = anchor_of_file;
         command = file.command;
+        there = file.judged.there;
         accepted = λ bytes tells.
             let is = file.judged.is_verdict bytes tells in (is.0, subst (λ r. Appends taken taken_after (report_text r)) is.1 written);
         binds = λ bytes tells p spelled family sound has.
@@ -58,6 +59,7 @@ module _ (told : Option Files) (before after : ℕ) (words : List (List ℕ)) (t
     anchor = record { from = file.name; step = file.pos; auth = file.auth };
     reason = reason;
     command = file.command;
+    there = file.judged.there;
     written = written;
     refused = λ bytes tells. file.judged.is_verdict bytes tells;
   }

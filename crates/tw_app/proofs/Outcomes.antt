@@ -1,6 +1,6 @@
 -- From what was read and judged to the outcome.
 use Rattle.std.proofs.Common.{◌≡◌, ℕ, List, [], ◌∷◌, take, refl, ap, sym, ◌∙◌, subst, lit<}
-use Rattle.std.specs.Prelude.{Option, Some, None, IfSome}
+use Rattle.std.specs.Prelude.{Option, Some, None, IfSome, MatchOption}
 use Rattle.sha2.specs.Sha256.{sha256}
 use Rattle.tw_base.specs.declared.thread.Thread.{Thread}
 use Rattle.tw_base.specs.Lists.{Each}
@@ -14,7 +14,7 @@ use Rattle.tw_chain.specs.Reasons.{IsVerdict}
 use Rattle.tw_chain.proofs.Fronts.{binds_of_front, verdict_of_front}
 use Rattle.tw_app.specs.declared.outcome.Outcome.{Outcome}
 use Rattle.tw_app.specs.declared.outcome.Outcome.TheVariants.{Judged, BadWords, InputFault, NoMemory}
-use Rattle.tw_app.specs.Commands.{anchor_given, files_of}
+use Rattle.tw_app.specs.Commands.{IsBuilt, anchor_given, files_of}
 use Rattle.tw_app.specs.Running.{HasFileOutcome, HasOutcome, IsJudged, JudgesFile}
 use Rattle.tw_app.proofs.CommandWords.{proof_word}
 
@@ -69,5 +69,8 @@ file_outcome told before after words file command anchor (Judged verdict) at is 
       judged = subst (λ f. IsJudged told f anchor verdict) (at ∙ sym (proof_word words verify.0 anchor.from anchor.step anchor.auth made)) has;
     }
 file_outcome told before after words file command anchor (BadWords number) at is given has = absurd has
-file_outcome told before after words file command anchor InputFault at is given has = has
+file_outcome told before after words file command anchor InputFault at is given has =
+    let verify = is_verify command anchor given in
+    let made : command_of words ≡ Some (VerifyOne verify.0 anchor.from anchor.step anchor.auth) = is ∙ ap (λ (c : Command). Some c) verify.1 in
+    (subst (λ o. MatchOption o ⊥ IsBuilt) (sym made) tt, has)
 file_outcome told before after words file command anchor NoMemory at is given has = tt

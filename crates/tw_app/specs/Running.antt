@@ -65,6 +65,10 @@ abbrev pub IsUsage : (words : List (List ℕ)) (number : ℕ) → Type 0
 IsUsage words number =
     MatchOption (command_of words) (IsFirstBad forms words number) (λ command. (number ≡ 0) × (IsBuilt command → ⊥))
 
+-- the words have a form that is built
+abbrev pub AreBuilt : (words : List (List ℕ)) → Type 0
+AreBuilt words = MatchOption (command_of words) ⊥ IsBuilt
+
 -- what comes of judging a file
 abbrev pub HasFileOutcome : (told : Option Files) (before after : ℕ) (file : List ℕ) (anchor : Thread) → Outcome → Type 0
 HasFileOutcome told before after file anchor (Judged verdict) = IsJudged told file anchor verdict
@@ -76,7 +80,7 @@ HasFileOutcome told before after file anchor NoMemory = Unit {0}
 abbrev pub HasOutcome : (told : Option Files) (before after : ℕ) (words : List (List ℕ)) → Outcome → Type 0
 HasOutcome told before after words (Judged verdict) = JudgesFile told words verdict
 HasOutcome told before after words (BadWords number) = IsUsage words number
-HasOutcome told before after words InputFault = Rose before after
+HasOutcome told before after words InputFault = AreBuilt words × Rose before after
 HasOutcome told before after words NoMemory = Unit {0}
 
 -- ---- how the run ends
@@ -97,26 +101,28 @@ pub record Ends (told : Option Files) (input_faults_before input_faults_after : 
 
 -- ---- what a run's status says by itself
 
--- status 0: the words ask for the verdict on a file under one anchor. Where the inputs tell its bytes, they spell a proof
+-- status 0: the words ask for the verdict on a file that is there, under one anchor. Where the inputs tell its bytes, they spell a proof
 -- that is accepted, and its report was written whole; and in every family of sound histories that has the held threads
 -- the claim holds, or two different texts of the histories and of the proof have one SHA-256 digest
 pub record IsAcceptedRun (told : Option Files) (words : List (List ℕ)) (taken_before taken_after : Option (List ℕ)) : Type 0 where
   pub file : List ℕ
   pub anchor : Thread
   pub command : command_of words ≡ Some (VerifyOne file anchor.from anchor.step anchor.auth)
+  pub there : IsThere told file
   pub accepted : (bytes : List ℕ) → Tells told file bytes →
       (accepts : Accepts sha256 (anchor ∷ []) bytes) × Appends taken_before taken_after (report_text (report_of accepts.0))
   pub binds : (bytes : List ℕ) → Tells told file bytes → (p : ExistenceProof) → Spells existence_layout bytes p
       → (family : List History) → AllSound family → HasThreads sha256 family (held (anchor ∷ []) p)
       → OrClash sha256 (family_texts sha256 family ++ proof_texts sha256 p) (Facts family (claim_of p))
 
--- status 1: the words ask for that verdict; the bytes told spell no proof that is accepted, and the line of the lowest
+-- status 1: the words ask for that verdict on a file that is there; the bytes told spell no proof that is accepted, and the line of the lowest
 -- reason that stands against them was written whole
 pub record IsRejectedRun (told : Option Files) (words : List (List ℕ)) (taken_before taken_after : Option (List ℕ)) : Type 0 where
   pub file : List ℕ
   pub anchor : Thread
   pub reason : Reason
   pub command : command_of words ≡ Some (VerifyOne file anchor.from anchor.step anchor.auth)
+  pub there : IsThere told file
   pub written : Appends taken_before taken_after (rejected_text reason)
   pub refused : (bytes : List ℕ) → Tells told file bytes →
       (Accepts sha256 (anchor ∷ []) bytes → ⊥) × IsLowest sha256 (anchor ∷ []) bytes reason

@@ -8,7 +8,7 @@ ghost use Rattle.tw_text.specs.CommandLine.{command_of};
 ghost use Rattle.tw_text.specs.Lines.{fault_input_text, no_memory_text};
 ghost use Rattle.tw_app.specs.Commands.{files_of};
 ghost use Rattle.tw_app.specs.declared.outcome.Outcome.TheVariants.{NoMemory as NoMemoryOutcome};
-ghost use Rattle.tw_app.specs.Running.{Ends, EndsWith, IsAcceptedRun, IsRejectedRun, IsUsageRun, status_of as status_of_outcome, text_of};
+ghost use Rattle.tw_app.specs.Running.{AreBuilt, Ends, EndsWith, IsAcceptedRun, IsRejectedRun, IsUsageRun, status_of as status_of_outcome, text_of};
 
 use crate::outcome::Outcome;
 use crate::verifying::outcome_of;
@@ -105,7 +105,8 @@ pub fn run<I: Inputs, S: Sink>(alloc: Global, words: &[String], inputs: &mut I, 
     ensures accepted { result ≡ 0 → IsAcceptedRun (I.told inputs.old) (map string_bytes words.now) (S.taken out.old) (S.taken out.new) }
     ensures rejected { result ≡ 1 → IsRejectedRun (I.told inputs.old) (map string_bytes words.now) (S.taken out.old) (S.taken out.new) }
     ensures usage { result ≡ 2 → IsUsageRun (map string_bytes words.now) (S.taken out.old) (S.taken out.new) }
-    ensures input_fault { result ≡ 3 → Rose (I.faults inputs.old) (I.faults inputs.new) × Appends (S.taken out.old) (S.taken out.new) fault_input_text }
+    ensures input_fault { result ≡ 3 → AreBuilt (map string_bytes words.now) × Rose (I.faults inputs.old) (I.faults inputs.new)
+        × Appends (S.taken out.old) (S.taken out.new) fault_input_text }
     ensures output_fault { result ≡ 4 → Rose (S.faults out.old) (S.faults out.new) }
     ensures no_memory { result ≡ 6 → Appends (S.taken out.old) (S.taken out.new) no_memory_text }
     ensures statuses { (result ≤ 4) ⊎ (result ≡ 6) }
