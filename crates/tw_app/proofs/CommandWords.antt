@@ -1,13 +1,13 @@
 -- What is known of a command that words make.
 use Rattle.std.proofs.Common.{◌≡◌, ℕ, List, [], ◌∷◌, Bool, true, false, refl, subst, sym, ◌∙◌}
-use Rattle.std.specs.Prelude.{Option, Some, None, Result, Ok, Err, map, if◌then◌else◌, IfSome, IfNone, IsErrAnd, MatchResult, MatchOption}
+use Rattle.std.specs.Prelude.{Option, Some, None, Result, Ok, map, if◌then◌else◌, IfSome, IfNone, IsErrAnd, MatchResult}
 use Rattle.tw_base.specs.Lists.{Each}
-use Rattle.tw_text.specs.CommandLine.{IsBadWord, command_of, form_names, form_of, forms, word_at}
-use Rattle.tw_text.specs.Forms.{Form, IsFirstBad, command_by, have_form}
+use Rattle.tw_text.specs.CommandLine.{IsBadWord, command_of, form_names, form_of, word_at}
+use Rattle.tw_text.specs.Forms.{Form, command_by, have_form}
 use Rattle.tw_text.specs.declared.command.Command.{Command}
 use Rattle.tw_text.specs.declared.command.Command.TheVariants.{VerifyOne}
 use Rattle.tw_text.specs.declared.words.WordFault.{WordFault}
-use Rattle.tw_text.specs.declared.words.WordFault.TheVariants.{BadWord, NoMemory}
+use Rattle.tw_text.specs.declared.words.WordFault.TheVariants.{NoMemory}
 use Rattle.tw_text.proofs.TableLaws.{command_by-names}
 
 -- the proof file of the command is the second word

@@ -1,6 +1,6 @@
 -- What a run's status says by itself.
-use Rattle.std.proofs.Common.{◌≡◌, ℕ, ◌≤◌, List, [], ◌∷◌, ◌++◌, take, refl, ap, sym, ◌∙◌, subst, arith, inl, inr, ◌⊎◌}
-use Rattle.std.specs.Prelude.{Option, Some, None}
+use Rattle.std.proofs.Common.{◌≡◌, ℕ, List, [], ◌∷◌, ◌++◌, ap, sym, ◌∙◌, subst, arith, inl, inr, ◌⊎◌}
+use Rattle.std.specs.Prelude.{Option}
 use Rattle.sha2.specs.Sha256.{sha256}
 use Rattle.tw_base.specs.declared.thread.Thread.{Thread}
 use Rattle.tw_base.specs.declared.report.Claim.{Claim}
@@ -9,17 +9,15 @@ use Rattle.tw_base.specs.Clash.{OrClash}
 use Rattle.tw_base.specs.Family.{Facts, family_texts}
 use Rattle.tw_base.proofs.FormatLaws.{one_value}
 use Rattle.tw_skipproof.specs.Existence.{existence_layout}
-use Rattle.tw_outside.specs.Faults.{Rose}
-use Rattle.tw_outside.specs.Files.{Files, Tells}
+use Rattle.tw_outside.specs.Files.{Files}
 use Rattle.tw_outside.specs.Taken.{Appends}
-use Rattle.tw_text.specs.Lines.{fault_input_text, no_memory_text}
 use Rattle.tw_text.specs.Reports.{report_text}
 use Rattle.tw_chain.specs.declared.verdict.Verdict.{Verdict}
 use Rattle.tw_chain.specs.declared.verdict.Verdict.TheVariants.{Yes, No}
-use Rattle.tw_chain.specs.Accepting.{Accepts, claim_of, proof_texts, report_of}
+use Rattle.tw_chain.specs.Accepting.{Accepts, claim_of, proof_texts}
 use Rattle.tw_app.specs.declared.outcome.Outcome.{Outcome}
 use Rattle.tw_app.specs.declared.outcome.Outcome.TheVariants.{Judged, BadWords, InputFault, NoMemory}
-use Rattle.tw_app.specs.Running.{Ends, EndsWith, HasOutcome, IsAcceptedRun, IsRejectedRun, IsUsageRun, JudgesFile, status_of, text_of}
+use Rattle.tw_app.specs.Running.{Ends, EndsWith, HasOutcome, IsAcceptedRun, IsRejectedRun, JudgesFile, status_of, text_of}
 
 module _ (told : Option Files) (before after : ℕ) (words : List (List ℕ)) (taken taken_after : Option (List ℕ)) (faults faults_after : ℕ) (status : ℕ) where
   abbrev EndsNow : Type 0

@@ -1,6 +1,6 @@
 -- From what was read and judged to the outcome.
-use Rattle.std.proofs.Common.{◌≡◌, ℕ, List, [], ◌∷◌, take, refl, ap, sym, ◌∙◌, subst, lit<}
-use Rattle.std.specs.Prelude.{Option, Some, None, IfSome, MatchOption}
+use Rattle.std.proofs.Common.{◌≡◌, ℕ, List, [], ◌∷◌, take, ap, sym, ◌∙◌, subst, lit<}
+use Rattle.std.specs.Prelude.{Option, Some, IfSome, MatchOption}
 use Rattle.sha2.specs.Sha256.{sha256}
 use Rattle.tw_base.specs.declared.thread.Thread.{Thread}
 use Rattle.tw_base.specs.Lists.{Each}
@@ -15,7 +15,7 @@ use Rattle.tw_chain.proofs.Fronts.{binds_of_front, verdict_of_front}
 use Rattle.tw_app.specs.declared.outcome.Outcome.{Outcome}
 use Rattle.tw_app.specs.declared.outcome.Outcome.TheVariants.{Judged, BadWords, InputFault, NoMemory}
 use Rattle.tw_app.specs.Commands.{IsBuilt, anchor_given, files_of}
-use Rattle.tw_app.specs.Running.{HasFileOutcome, HasOutcome, IsJudged, JudgesFile}
+use Rattle.tw_app.specs.Running.{HasFileOutcome, HasOutcome, IsJudged}
 use Rattle.tw_app.proofs.CommandWords.{proof_word}
 
 -- of a proof file so many bytes are read
