@@ -165,6 +165,7 @@ impl MemDisk {
     }
 
     /// The number of device calls, which are the writes and barriers, since it was made, failed ones among them.
+    /// It stands still at 2^64 - 1.
     pub fn device_calls(&self) -> u64
         ensures { result ≡ made_of self.now }
     {
@@ -323,7 +324,7 @@ impl Disk for MemDisk {
         ensures time { Elapses (moment_of self.old) (moment_of self.new) (left_since_of self.old) (left_since_of self.new) (may_leave_of self.new) }
         ensures cause { HasCause (faults_of self.old) (faults_of self.new) result }
 
-        // It fails where it was planned to, where the disk is stopped, and else only where there is no memory.
+        // It fails where it was planned to and where the disk is stopped; else it fails for want of memory.
         ensures fails { (Contains (failing_of self.old) (made_of self.new) ⊎ IsTrue (is_stopped self.new)) → IsErr result }
         ensures stopped { IsTrue (is_stopped self.new) ↔ (IsTrue (is_stopped self.old) ⊎ (stop_of self.old ≡ Some (made_of self.new))) }
         ensures counted { made_of self.new ≡ min (made_of self.old + 1) (2 ^ 64 - 1) }
@@ -350,7 +351,7 @@ impl Disk for MemDisk {
         ensures time { Elapses (moment_of self.old) (moment_of self.new) (left_since_of self.old) (left_since_of self.new) (may_leave_of self.new) }
         ensures cause { HasCause (faults_of self.old) (faults_of self.new) result }
 
-        // It fails where it was planned to, where the disk is stopped, and else only where there is no memory.
+        // It fails where it was planned to and where the disk is stopped; else it fails for want of memory.
         ensures fails { (Contains (failing_of self.old) (made_of self.new) ⊎ IsTrue (is_stopped self.new)) → IsErr result }
         ensures stopped { IsTrue (is_stopped self.new) ↔ (IsTrue (is_stopped self.old) ⊎ (stop_of self.old ≡ Some (made_of self.new))) }
         ensures counted { made_of self.new ≡ min (made_of self.old + 1) (2 ^ 64 - 1) }
