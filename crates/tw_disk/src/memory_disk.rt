@@ -324,7 +324,7 @@ impl Disk for MemDisk {
         ensures time { Elapses (moment_of self.old) (moment_of self.new) (left_since_of self.old) (left_since_of self.new) (may_leave_of self.new) }
         ensures cause { HasCause (faults_of self.old) (faults_of self.new) result }
 
-        // It fails where it was planned to and where the disk is stopped; else it fails for want of memory.
+        // It fails where it was planned to and where the disk is stopped; want of memory makes it fail too.
         ensures fails { (Contains (failing_of self.old) (made_of self.new) ⊎ IsTrue (is_stopped self.new)) → IsErr result }
         ensures stopped { IsTrue (is_stopped self.new) ↔ (IsTrue (is_stopped self.old) ⊎ (stop_of self.old ≡ Some (made_of self.new))) }
         ensures counted { made_of self.new ≡ min (made_of self.old + 1) (2 ^ 64 - 1) }
@@ -351,7 +351,7 @@ impl Disk for MemDisk {
         ensures time { Elapses (moment_of self.old) (moment_of self.new) (left_since_of self.old) (left_since_of self.new) (may_leave_of self.new) }
         ensures cause { HasCause (faults_of self.old) (faults_of self.new) result }
 
-        // It fails where it was planned to and where the disk is stopped; else it fails for want of memory.
+        // It fails where it was planned to and where the disk is stopped; want of memory makes it fail too.
         ensures fails { (Contains (failing_of self.old) (made_of self.new) ⊎ IsTrue (is_stopped self.new)) → IsErr result }
         ensures stopped { IsTrue (is_stopped self.new) ↔ (IsTrue (is_stopped self.old) ⊎ (stop_of self.old ≡ Some (made_of self.new))) }
         ensures counted { made_of self.new ≡ min (made_of self.old + 1) (2 ^ 64 - 1) }
