@@ -1,8 +1,8 @@
 -- What a disk in memory shows.
-use Rattle.std.specs.Prelude.{◌≡◌, ℕ, List, Option, Bool}
+use Rattle.std.specs.Prelude.{◌≡◌, ℕ, List, Option, Some, Bool, length}
 use Rattle.tw_disk.specs.Image.{Image}
-use Rattle.tw_disk.specs.Model.{DeviceCall, Written}
-use Rattle.tw_disk.specs.Kept.{calls_of, written_of}
+use Rattle.tw_disk.specs.Model.{DeviceCall, Written, IsImage, Since}
+use Rattle.tw_disk.specs.Kept.{earlier, calls_of, written_of}
 use Rattle.tw_disk.specs.declared.memory_disk.MemDisk.{MemDisk}
 
 -- what reads give
@@ -16,6 +16,25 @@ device_calls_of disk = calls_of disk.calls.items disk.pages.items
 -- where it stands after them
 abbrev pub state_of : MemDisk → Written
 state_of disk = written_of disk.calls.items disk.pages.items
+
+-- its content and its page count, which it always tells
+abbrev pub content_of : MemDisk → Option Image
+content_of disk = Some disk.pages.items
+
+abbrev pub count_of : MemDisk → Option ℕ
+count_of disk = Some (length disk.pages.items)
+
+-- the images that a crash may leave now
+abbrev pub may_leave_of : MemDisk → Image → Type 0
+may_leave_of disk c = IsImage (written_of disk.calls.items disk.pages.items) c
+
+-- the moment is the number of the writes and barriers that it keeps
+abbrev pub moment_of : MemDisk → ℕ
+moment_of disk = length (calls_of disk.calls.items disk.pages.items)
+
+-- the images that a crash at some moment from that one on may have left
+abbrev pub left_since_of : MemDisk → ℕ → Image → Type 0
+left_since_of disk t c = Since (earlier disk.calls.items disk.pages.items) (calls_of disk.calls.items disk.pages.items) t c
 
 -- how often it has failed
 abbrev pub faults_of : MemDisk → ℕ
@@ -58,3 +77,9 @@ pub record IsSameDisk (old new : MemDisk) : Type 0 where
   pub asks : new.asks.made ≡ old.asks.made
   pub reads : new.reads ≡ old.reads
   pub stopped : new.is_stopped ≡ old.is_stopped
+
+-- the same calls are to fail, and the disk is to stop at the same call or at none, as before
+pub record KeepsPlans (old new : MemDisk) : Type 0 where
+  pub failing : new.device.planned.items ≡ old.device.planned.items
+  pub failing_reads : new.asks.planned.items ≡ old.asks.planned.items
+  pub stop : new.stop ≡ old.stop

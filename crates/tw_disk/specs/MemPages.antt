@@ -1,5 +1,5 @@
 -- What a list of pages in memory shows.
-use Rattle.std.specs.Prelude.{◌≡◌, ◌≤◌, ℕ, List, length, drop, ◌+◌, Some}
+use Rattle.std.specs.Prelude.{◌≡◌, ◌≤◌, ℕ, List, length, drop, ◌+◌, Option, Some}
 use Rattle.std.proofs.Common.{arith, ap, length-drop}
 use Rattle.tw_disk.specs.Image.{Image}
 use Rattle.tw_disk.specs.declared.memory_pages.MemPages.{MemPages}
@@ -7,6 +7,22 @@ use Rattle.tw_disk.specs.declared.memory_pages.MemPages.{MemPages}
 -- all its pages, the first four among them
 abbrev pub all_pages_of : MemPages → Image
 all_pages_of pages = pages.pages.items
+
+-- the pages from number 4 on, which it always tells
+abbrev pub list_of : MemPages → Option Image
+list_of pages = Some (drop 4 pages.pages.items)
+
+-- the number of pages, the first four among them
+abbrev pub count_of : MemPages → ℕ
+count_of pages = length pages.pages.items
+
+-- nothing but the list, which its own clauses tell, has to be the same
+abbrev pub IsSame : MemPages → MemPages → Type 0
+IsSame old new = Unit {0}
+
+-- there is no device whose call might have failed
+abbrev pub IsUnbroken : MemPages → Type 0
+IsUnbroken pages = Unit {0}
 
 -- how many calls of read it has had since it was made
 abbrev pub reads_of : MemPages → ℕ

@@ -1,5 +1,5 @@
 // A disk in memory.
-ghost use Rattle.std.specs.Prelude.{◌≡◌, ◌⊎◌, ◌↔◌, ◌<◌, ◌≤◌, ◌+◌, ◌-◌, ◌^◌, ◌++◌, ◌∷◌, [], ℕ, min, length, Some, None, false, vec_len, OnOk, OnErr, IsOk, IsTrue};
+ghost use Rattle.std.specs.Prelude.{◌≡◌, ◌⊎◌, ◌↔◌, ◌<◌, ◌≤◌, ◌+◌, ◌-◌, ◌^◌, ◌++◌, ◌∷◌, [], ℕ, min, length, Some, None, false, vec_len, OnOk, OnErr, IsOk, IsErr, IsTrue, Contains};
 ghost use Rattle.tw_disk.specs.Image.{put, page_at};
 ghost use Rattle.tw_disk.specs.Disk.{HasCause, Rose};
 ghost use Rattle.tw_disk.specs.Model.{Write, Barrier, IsImage, Since};
@@ -103,13 +103,17 @@ fn keep_barrier(calls: &mut Vec<Call>) -> Result<(), AllocError>
     Ok(())
 }
 
-// Counts a device call, and tells whether it is to fail.
+// Counts a device call, and tells whether it is to fail. A stop that has begun goes on.
 fn is_to_fail(device: &mut FailList, stop: Option<u64>, is_stopped: &mut bool) -> bool
-    ensures stopped { IsTrue is_stopped.new ↔ (stop ≡ Some device.new.made) }
-    ensures fails { IsTrue is_stopped.new → IsTrue result }
+    ensures counted { device.new.made ≡ min (device.old.made + 1) (2 ^ 64 - 1) }
+    ensures kept { device.new.planned.items ≡ device.old.planned.items }
+    ensures stopped { IsTrue is_stopped.new ↔ (IsTrue is_stopped.old ⊎ (stop ≡ Some device.new.made)) }
+    ensures fails { (Contains device.old.planned.items device.new.made ⊎ IsTrue is_stopped.new) → IsTrue result }
 {
     let is_planned = device.is_next_to_fail();
-    *is_stopped = stop == Some(device.made());
+    if stop == Some(device.made()) {
+        *is_stopped = true;
+    }
     is_planned || *is_stopped
 }
 
@@ -161,6 +165,7 @@ impl MemDisk {
     }
 
     /// The number of device calls, which are the writes and barriers, since it was made, failed ones among them.
+    /// It stands still at 2^64 - 1.
     pub fn device_calls(&self) -> u64
         ensures { result ≡ made_of self.now }
     {
@@ -237,18 +242,23 @@ impl MemDisk {
 impl Disk for MemDisk {
     ghost use Rattle.tw_disk.specs.Calls.{told_count, told_image};
     ghost use Rattle.tw_disk.specs.Laws.{since_now, only_now};
+    ghost use Rattle.std.specs.Prelude.{IfOk, IfSome, MatchOption};
+    ghost use Rattle.std.specs.Option.{option_map, IsSomeAnd};
+    ghost use Rattle.tw_disk.specs.Image.{Image, Torn};
+    ghost use Rattle.tw_disk.specs.Disk.{grown, KeepsRoom, Follows, Only, Elapses};
+    ghost use Rattle.tw_disk.specs.MemDisk.{content_of, count_of, may_leave_of, moment_of, left_since_of, faults_of, made_of, reads_of, failing_of, failing_reads_of, asks_of, stop_of, is_stopped, KeepsPlans};
 
-    ghost content = { λ disk. Some disk.pages.items };
+    ghost content = { content_of };
 
-    ghost count = { λ disk. Some (length disk.pages.items) };
+    ghost count = { count_of };
 
-    ghost may_leave = { λ disk c. IsImage (written_of disk.calls.items disk.pages.items) c };
+    ghost may_leave = { may_leave_of };
 
-    ghost moment = { λ disk. length (calls_of disk.calls.items disk.pages.items) };
+    ghost moment = { moment_of };
 
-    ghost left_since = { λ disk t c. Since (earlier disk.calls.items disk.pages.items) (calls_of disk.calls.items disk.pages.items) t c };
+    ghost left_since = { left_since_of };
 
-    ghost faults = { λ disk. disk.faults };
+    ghost faults = { faults_of };
 
     ghost count_is_told = { λ disk c is. told_count disk.pages.items c is };
 
@@ -258,14 +268,43 @@ impl Disk for MemDisk {
 
     ghost only_now = { λ disk c since. only_now (earlier disk.calls.items disk.pages.items) (calls_of disk.calls.items disk.pages.items) c since };
 
-    fn pages(&mut self) -> Result<u64, Failed> {
+    fn pages(&mut self) -> Result<u64, Failed>
+        ensures told { IfOk result (λ n. count_of self.new ≡ Some n) }
+        ensures kept { IfSome (count_of self.old) (λ n. count_of self.new ≡ Some n) }
+        ensures content { content_of self.new ≡ content_of self.old }
+        ensures crash { (c : Image) → may_leave_of self.new c ↔ may_leave_of self.old c }
+        ensures time { Elapses (moment_of self.old) (moment_of self.new) (left_since_of self.old) (left_since_of self.new) (may_leave_of self.new) }
+        ensures cause { HasCause (faults_of self.old) (faults_of self.new) result }
+
+        // It fails exactly where it was planned to, or where the disk is stopped.
+        ensures fails { IsErr result ↔ (Contains (failing_reads_of self.old) (asks_of self.new) ⊎ IsTrue (is_stopped self.old)) }
+        ensures asked { asks_of self.new ≡ min (asks_of self.old + 1) (2 ^ 64 - 1) }
+        ensures reads { reads_of self.new ≡ reads_of self.old }
+        ensures calls { (made_of self.new ≡ made_of self.old) × (is_stopped self.new ≡ is_stopped self.old) }
+        ensures plans { KeepsPlans self.old self.new }
+    {
         if self.asks.is_next_to_fail() || self.is_stopped {
             return Err(count_fault(&mut self.faults));
         }
         Ok(self.pages.len() as u64)
     }
 
-    fn read(&mut self, page: u64, into: &mut [u8; 4096]) -> Result<(), Failed> {
+    fn read(&mut self, page: u64, into: &mut [u8; 4096]) -> Result<(), Failed>
+        requires { IsSomeAnd (count_of self.old) (λ n. page < n) }
+        ensures bytes { OnOk result (IfSome (content_of self.old) (λ c. into.new ≡ page_at c page)) }
+        ensures count { count_of self.new ≡ count_of self.old }
+        ensures content { content_of self.new ≡ content_of self.old }
+        ensures crash { (c : Image) → may_leave_of self.new c ↔ may_leave_of self.old c }
+        ensures time { Elapses (moment_of self.old) (moment_of self.new) (left_since_of self.old) (left_since_of self.new) (may_leave_of self.new) }
+        ensures cause { HasCause (faults_of self.old) (faults_of self.new) result }
+
+        // It fails exactly where it was planned to, or where the disk is stopped.
+        ensures fails { IsErr result ↔ (Contains (failing_reads_of self.old) (asks_of self.new) ⊎ IsTrue (is_stopped self.old)) }
+        ensures asked { asks_of self.new ≡ min (asks_of self.old + 1) (2 ^ 64 - 1) }
+        ensures reads { reads_of self.new ≡ min (reads_of self.old + 1) (2 ^ 64 - 1) }
+        ensures calls { (made_of self.new ≡ made_of self.old) × (is_stopped self.new ≡ is_stopped self.old) }
+        ensures plans { KeepsPlans self.old self.new }
+    {
         self.reads = self.reads.saturating_add(1);
         if self.asks.is_next_to_fail() || self.is_stopped {
             return Err(count_fault(&mut self.faults));
@@ -274,21 +313,51 @@ impl Disk for MemDisk {
         Ok(())
     }
 
-    fn write(&mut self, page: u64, from: &[u8; 4096]) -> Result<(), Failed> {
-        if self.is_stopped {
+    fn write(&mut self, page: u64, from: &[u8; 4096]) -> Result<(), Failed>
+        requires { IsSomeAnd (count_of self.old) (λ n. page ≤ n) }
+        ensures written { OnOk result (content_of self.new ≡ option_map (put page from.now) (content_of self.old)) }
+        ensures torn { MatchOption (content_of self.old) (content_of self.new ≡ None) (λ c. IsSomeAnd (content_of self.new) (Torn page c)) }
+        ensures grown { OnOk result (count_of self.new ≡ grown page (count_of self.old)) }
+        ensures count { (count_of self.new ≡ count_of self.old) ⊎ (count_of self.new ≡ grown page (count_of self.old)) }
+        ensures room { KeepsRoom (count_of self.old) (count_of self.new) }
+        ensures crash { Follows (Torn page) (may_leave_of self.old) (may_leave_of self.new) }
+        ensures time { Elapses (moment_of self.old) (moment_of self.new) (left_since_of self.old) (left_since_of self.new) (may_leave_of self.new) }
+        ensures cause { HasCause (faults_of self.old) (faults_of self.new) result }
+
+        // It fails where it was planned to and where the disk is stopped; want of memory makes it fail too.
+        ensures fails { (Contains (failing_of self.old) (made_of self.new) ⊎ IsTrue (is_stopped self.new)) → IsErr result }
+        ensures stopped { IsTrue (is_stopped self.new) ↔ (IsTrue (is_stopped self.old) ⊎ (stop_of self.old ≡ Some (made_of self.new))) }
+        ensures counted { made_of self.new ≡ min (made_of self.old + 1) (2 ^ 64 - 1) }
+        ensures asked { (asks_of self.new ≡ asks_of self.old) × (reads_of self.new ≡ reads_of self.old) }
+        ensures plans { KeepsPlans self.old self.new }
+    {
+        let was_stopped = self.is_stopped;
+        let fails = is_to_fail(&mut self.device, self.stop, &mut self.is_stopped);
+        if was_stopped {
             return Err(count_fault(&mut self.faults));
         }
-        let fails = is_to_fail(&mut self.device, self.stop, &mut self.is_stopped);
         match keep_write(&mut self.calls, &mut self.pages, self.alloc, page, from) {
             Ok(()) => answer(&mut self.faults, fails),
             Err(_) => Err(count_fault(&mut self.faults)),
         }
     }
 
-    fn barrier(&mut self) -> Result<(), Failed> {
-        if self.is_stopped {
-            return Err(count_fault(&mut self.faults));
-        }
+    fn barrier(&mut self) -> Result<(), Failed>
+        ensures durable { OnOk result (IfSome (content_of self.old) (λ c. Only c (may_leave_of self.new))) }
+        ensures count { count_of self.new ≡ count_of self.old }
+        ensures content { content_of self.new ≡ content_of self.old }
+        ensures crash { (c : Image) → may_leave_of self.new c → may_leave_of self.old c }
+        ensures nothing_stable { OnErr result ((c : Image) → may_leave_of self.old c → may_leave_of self.new c) }
+        ensures time { Elapses (moment_of self.old) (moment_of self.new) (left_since_of self.old) (left_since_of self.new) (may_leave_of self.new) }
+        ensures cause { HasCause (faults_of self.old) (faults_of self.new) result }
+
+        // It fails where it was planned to and where the disk is stopped; want of memory makes it fail too.
+        ensures fails { (Contains (failing_of self.old) (made_of self.new) ⊎ IsTrue (is_stopped self.new)) → IsErr result }
+        ensures stopped { IsTrue (is_stopped self.new) ↔ (IsTrue (is_stopped self.old) ⊎ (stop_of self.old ≡ Some (made_of self.new))) }
+        ensures counted { made_of self.new ≡ min (made_of self.old + 1) (2 ^ 64 - 1) }
+        ensures asked { (asks_of self.new ≡ asks_of self.old) × (reads_of self.new ≡ reads_of self.old) }
+        ensures plans { KeepsPlans self.old self.new }
+    {
         if is_to_fail(&mut self.device, self.stop, &mut self.is_stopped) {
             return Err(count_fault(&mut self.faults));
         }

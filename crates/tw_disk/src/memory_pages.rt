@@ -1,5 +1,5 @@
 // A list of pages in memory.
-ghost use Rattle.std.specs.Prelude.{◌≡◌, ◌<◌, ◌≤◌, ◌+◌, ◌-◌, ◌^◌, ◌++◌, ◌∷◌, [], ℕ, min, length, drop, replicate, Some, IfOk, OnOk, OnErr};
+ghost use Rattle.std.specs.Prelude.{◌≡◌, ◌↔◌, ◌<◌, ◌≤◌, ◌+◌, ◌-◌, ◌^◌, ◌++◌, ◌∷◌, [], ℕ, min, length, drop, replicate, Some, IfOk, OnOk, OnErr, IsOk, IsErr, Contains};
 
 use crate::Pages;
 use crate::fail_list::FailList;
@@ -58,17 +58,21 @@ impl MemPages {
 }
 
 impl Pages for MemPages {
-    ghost use Rattle.tw_disk.specs.MemPages.{told_used};
+    ghost use Rattle.std.specs.Option.{option_map};
+    ghost use Rattle.tw_disk.specs.Image.{Image, page_at};
+    ghost use Rattle.tw_disk.specs.Disk.{HasCause};
+    ghost use Rattle.tw_disk.specs.Pages.{OnlyReads};
+    ghost use Rattle.tw_disk.specs.MemPages.{list_of, count_of, reads_of, failing_of, asks_of, faults_of, IsSame, IsUnbroken, told_used};
 
-    ghost list = { λ p. Some (drop 4 p.pages.items) };
+    ghost list = { list_of };
 
-    ghost used_count = { λ p. length p.pages.items };
+    ghost used_count = { count_of };
 
-    ghost faults = { λ p. p.faults };
+    ghost faults = { faults_of };
 
-    ghost same = { λ _ _. Unit {0} };
+    ghost same = { IsSame };
 
-    ghost unbroken = { λ _. Unit {0} };
+    ghost unbroken = { IsUnbroken };
 
     ghost told_count = { λ p pages is. told_used p.pages.items pages p.four is };
 
@@ -80,7 +84,20 @@ impl Pages for MemPages {
         self.pages.len() as u64
     }
 
-    fn read(&mut self, page: u64, into: &mut [u8; 4096]) -> Result<(), Failed> {
+    fn read(&mut self, page: u64, into: &mut [u8; 4096]) -> Result<(), Failed>
+        requires low { 4 ≤ page }
+        requires below { page < count_of self.old }
+        ensures page { OnOk result ((pages : Image) → list_of self.old ≡ Some pages
+            → into.new ≡ page_at pages (page - 4)) }
+        ensures kept { OnlyReads count_of list_of IsSame IsUnbroken self.old self.new (IsOk result) }
+        ensures cause { HasCause (faults_of self.old) (faults_of self.new) result }
+
+        // It fails exactly where it was planned to.
+        ensures fails { IsErr result ↔ Contains (failing_of self.old) (asks_of self.new) }
+        ensures asked { asks_of self.new ≡ min (asks_of self.old + 1) (2 ^ 64 - 1) }
+        ensures reads { reads_of self.new ≡ min (reads_of self.old + 1) (2 ^ 64 - 1) }
+        ensures plans { failing_of self.new ≡ failing_of self.old }
+    {
         self.reads = self.reads.saturating_add(1);
         if self.asks.is_next_to_fail() {
             self.faults = self.faults.saturating_add(1);
@@ -90,7 +107,19 @@ impl Pages for MemPages {
         Ok(())
     }
 
-    fn stage(&mut self, page: &[u8; 4096]) -> Result<u64, NoMemory> {
+    fn stage(&mut self, page: &[u8; 4096]) -> Result<u64, NoMemory>
+        requires { count_of self.old < 2 ^ 48 - 4 }
+        ensures number { IfOk result (λ n. n ≡ count_of self.old) }
+        ensures list { OnOk result (list_of self.new ≡ option_map (λ pages. pages ++ page.now ∷ []) (list_of self.old)) }
+        ensures used { OnOk result (count_of self.new ≡ count_of self.old + 1) }
+        ensures list_err { OnErr result (list_of self.new ≡ list_of self.old) }
+        ensures used_err { OnErr result (count_of self.new ≡ count_of self.old) }
+        ensures same { IsSame self.old self.new }
+        ensures unbroken { IsUnbroken self.old → IsUnbroken self.new }
+        ensures faults { faults_of self.new ≡ faults_of self.old }
+        ensures asked { (asks_of self.new ≡ asks_of self.old) × (reads_of self.new ≡ reads_of self.old) }
+        ensures plans { failing_of self.new ≡ failing_of self.old }
+    {
         let number = self.pages.len() as u64;
         match self.pages.push(*page) {
             Ok(()) => Ok(number),

@@ -76,6 +76,7 @@ fn a_stopped_disk_fails_until_the_crash(rt: HostRuntime) -> Result<(), Fail> {
     assert!(rt; put(&mut disk, 1, 7).is_err());
     assert!(rt; put(&mut disk, 0, 8).is_err());
     assert!(rt; disk.barrier().is_err());
+    assert_eq!(rt; disk.device_calls(), 5);
     assert!(rt; disk.pages().is_err());
     disk.crash(1);
     assert_eq!(rt; byte_at(&mut disk, 0)?, Some(6));
