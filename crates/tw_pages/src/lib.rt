@@ -8,6 +8,7 @@ mod body;
 mod commit;
 mod durable;
 mod init;
+mod laws;
 mod layout;
 mod open;
 mod paged;
@@ -17,5 +18,6 @@ mod store;
 #[cfg(test)]
 mod tests;
 
+pub use laws::image_laws;
 pub use open::StoreFault;
 pub use store::{CommitFault, Store};
