@@ -1,0 +1,10 @@
+-- What a tree of the code stands for.
+use Rattle.tw_base.specs.Tree.{Tree as TreeOfEntries}
+use Rattle.tw_base.specs.Tree.Tree.{Empty as NoEntry, Branch as RootedAt}
+use Rattle.tw_tree.specs.declared.tree.Tree.{Tree}
+use Rattle.tw_tree.specs.declared.tree.Tree.TheVariants.{Empty, Branch'}
+
+-- the tree as the definitions of archives have it
+abbrev pub tree_of : Tree → TreeOfEntries
+tree_of Empty = NoEntry
+tree_of (Branch' _ left entry _ right) = RootedAt (tree_of left) entry (tree_of right)
