@@ -59,7 +59,7 @@ def contracts():
     """The names of the clauses of each function, by its name; a name that several functions have stands for all of them."""
     found = {}
     for source in sorted((TOP / "crates").glob("*/src/**/*.rt")):
-        for match in re.finditer(r"^ *(?:pub )?fn (\w+)(.*?)(?:^ *\{|;$)", source.read_text(), re.M | re.S):
+        for match in re.finditer(r"^ *(?:pub )?fn (\w+)(.*?)(?:^ *\{|[{;]$)", source.read_text(), re.M | re.S):
             found.setdefault(match[1], set()).update(re.findall(r"^ *ensures (\w+) \{", match[2], re.M))
     return found
 
