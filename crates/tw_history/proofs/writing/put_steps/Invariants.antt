@@ -1,0 +1,11 @@
+use Rattle.std.proofs.Common.{◌≡◌, ◌++◌, drop, length, map, sum_by}
+use Rattle.tw_base.specs.Texts.{joined}
+use Rattle.tw_history.specs.HistoryFile.{step_bytes}
+use Rattle.tw_history.specs.Meaning.{steps_of}
+use Rattle.tw_history.proofs.writing.put_steps.Given as goal
+
+abbrev pub invariant-loop-step : goal.invariant-loop-step
+invariant-loop-step l = record {
+  written : l.into ++ joined (map step_bytes (steps_of (drop l.step-index l.steps) l.rest)) ≡ l.initial.into ++ joined (map step_bytes (steps_of l.steps l.initial.rest));
+  counted : sum_by (λ s. s.fresh) (drop l.step-index l.steps) ≡ length l.rest;
+}

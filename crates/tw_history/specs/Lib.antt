@@ -1,0 +1,4 @@
+pub mod Meaning
+pub mod HistoryOf
+pub mod HistoryFile
+pub mod Refusals

@@ -1,0 +1,43 @@
+// Histories as tables of steps and nodes.
+
+ghost use Rattle.std.specs.Prelude.{◌≡◌};
+ghost use Rattle.tw_history.specs.Meaning.{IsTable, steps_of};
+
+use crate::table::{Nodes, Steps};
+use std::marker::Model;
+use tw_base::Name;
+
+/// A history: a service's name, its steps, and the nodes of its archive's trees, which each step
+/// takes in turn, as many as it counts. The counts add up to the number of nodes, and every field is
+/// in the range that a history file gives it: at most 2^40 - 1 steps, at most 1,024 events a step,
+/// each of at most 1,024 bytes, the step of a thread 1 to 2^40 - 1, that of a node's entry at most
+/// 2^40 - 1. Contracts see it as the history that it stands for.
+#[derive(Drop, Debug)]
+pub struct History {
+    pub(crate) name: Name,
+    pub(crate) steps: Steps,
+    pub(crate) nodes: Nodes,
+}
+
+impl Model for History {
+    ghost use Rattle.tw_base.specs.History.{History as HistoryMeant};
+
+    ghost Value = { HistoryMeant };
+
+    ghost use Rattle.tw_history.specs.Meaning.{IsTable};
+    ghost use Rattle.tw_history.specs.HistoryOf.{history_of};
+
+    ghost view = { history_of };
+
+    ghost invariant = { λ h. IsTable h.steps h.nodes };
+}
+
+impl History {
+    /// The history of these steps and nodes. Takes no memory.
+    pub fn new(name: Name, steps: Steps, nodes: Nodes) -> Self
+        requires { IsTable steps nodes }
+        ensures { result ≡ record { name = name; steps = steps_of steps nodes } }
+    {
+        History { name, steps, nodes }
+    }
+}

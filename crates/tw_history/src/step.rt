@@ -1,0 +1,34 @@
+// The steps of a history and the nodes of its archive, as a history file has them.
+
+use tw_base::{EventList, Thread};
+
+/// What a step records.
+#[derive(Drop, Debug)]
+pub enum Content {
+    /// Events, at most 1,024, each of at most 1,024 bytes.
+    Events(EventList),
+    /// The thread of another service, at a step of 1 to 2^40 - 1.
+    Received(Thread),
+}
+
+/// A step of a history.
+#[derive(Drop, Debug)]
+pub struct Step {
+    pub content: Content,
+    /// How many nodes the step adds to the archive: the next of the history's nodes.
+    pub fresh: u16,
+    /// The number of the archive's root after the step: 0 for the empty tree, else that of a node,
+    /// counted from 1 over the whole history.
+    pub root: u32,
+}
+
+/// A node of the archive's trees.
+#[derive(Clone, Copy, PartialEq, Eq, Drop, Debug)]
+pub struct Node {
+    /// The number of the root of the left side: 0 for the empty tree, else that of a node.
+    pub left: u32,
+    /// The step that received the node's thread, at most 2^40 - 1.
+    pub entry: u64,
+    /// The number of the root of the right side.
+    pub right: u32,
+}
