@@ -79,7 +79,8 @@ fn is_whole(form: &Form, taken: usize, words: usize) -> bool
     taken == words && form.parts.len() <= words
 }
 
-/// The command of words that have this form.
+/// The command of words that have this form. It is a table with one arm for each form, and so longer
+/// than other functions.
 #[tactic(auto, unfolding(crate::specs::CommandLine::form_of))]
 fn make_command(alloc: Global, form: FormName, words: &[String]) -> Result<Command, NoMemory>
     requires { IsTrue (have_form (form_of form) (map string_bytes words.now)) }
