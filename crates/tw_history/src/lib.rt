@@ -1,14 +1,22 @@
 // Histories in memory and their files.
 #![tactic(auto)]
 
+mod authenticators;
+mod fault;
 mod history;
+mod reading;
+mod soundness;
 mod step;
 mod table;
 #[cfg(test)]
 mod tests;
 mod writing;
 
+pub use authenticators::auth_of;
+pub use fault::{HistoryFault, ShowFault};
 pub use history::History;
+pub use reading::read_history;
+pub use soundness::is_sound;
 pub use step::{Content, Node, Step};
 pub use table::{Nodes, Steps};
-pub use writing::{HistoryFault, write_history};
+pub use writing::write_history;

@@ -7,6 +7,7 @@ ghost use Rattle.tw_history.specs.HistoryFile.{content_bytes, event_bytes, histo
 ghost use Rattle.tw_history.specs.Meaning.{IsInRange, content_of, node_of, step_of, steps_of};
 ghost use Rattle.tw_history.specs.Refusals.{TellsLength};
 
+use crate::fault::HistoryFault;
 use crate::history::History;
 use crate::step::{Content, Node, Step};
 use std::alloc::Global;
@@ -17,15 +18,6 @@ const MAGIC: [u8; 4] = *b"TWH1";
 
 /// The most bytes that a history file may have: 64 MiB.
 const MOST_BYTES: usize = 67_108_864;
-
-/// Why a history has no file.
-#[derive(Clone, Copy, PartialEq, Eq, Debug, Drop)]
-pub enum HistoryFault {
-    /// The file would have so many bytes, which are more than 67,108,864.
-    TooLong { bytes: u64 },
-    /// There was no memory for what the call needed.
-    NoMemory,
-}
 
 /// The bytes of the history's file: `TWH1`, the name, the number of steps, and then for each step
 /// its content, its new nodes and its root. The time is linear in their number. TooLong comes
