@@ -1,3 +1,4 @@
 pub mod ClaimHolds
 pub mod Verdicts
 pub mod Fronts
+pub mod Completeness

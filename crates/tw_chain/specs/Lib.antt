@@ -1,3 +1,4 @@
 pub mod Accepting
 pub mod Reasons
 pub mod Binding
+pub mod Making

@@ -3,8 +3,10 @@
 
 mod existing;
 mod kinds;
+mod laws;
 mod verdict;
 
+pub use laws::completeness_laws;
 pub use verdict::{Verdict, verify};
 
 #[cfg(test)]

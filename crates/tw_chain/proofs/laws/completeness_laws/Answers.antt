@@ -1,0 +1,17 @@
+use Rattle.tw_chain.proofs.Completeness.{Accepts-made, IsAccepted-made, claim_of-made, within-made}
+use Rattle.tw_chain.proofs.laws.completeness_laws.Goals as goal
+
+pub returns-clause-accepted : goal.returns-clause-accepted
+returns-clause-accepted g c = λ h step index top p anchors anchor order is held reached.
+    IsAccepted-made g.H.Hasher.dig h step index top p is anchors anchor order held reached
+
+pub returns-clause-accepts : goal.returns-clause-accepts
+returns-clause-accepts g c = Accepts-made g.H.Hasher.dig
+
+pub returns-clause-claim : goal.returns-clause-claim
+returns-clause-claim g c = λ h step index top p event is there.
+    claim_of-made g.H.Hasher.dig h step index top p is event there
+
+pub returns-clause-within : goal.returns-clause-within
+returns-clause-within g c = λ h step index top p sound order has is.
+    within-made g.H.Hasher.dig h step index top p is sound order has

@@ -1,0 +1,34 @@
+// The laws of the existence proofs that a history has.
+
+ghost use Rattle.std.specs.Prelude.{◌≡◌, ℕ, ◌^◌, ◌<◌, ◌≤◌, List, length, Some, slice_get};
+ghost use Rattle.tw_base.specs.declared.thread.Thread.{Thread};
+ghost use Rattle.tw_base.specs.Anchors.{anchor_of};
+ghost use Rattle.tw_base.specs.Auth.{auth};
+ghost use Rattle.tw_base.specs.History.{History, events_at};
+ghost use Rattle.tw_base.specs.Sound.{IsSound};
+ghost use Rattle.tw_skipproof.specs.declared.existence.ExistenceProof.{ExistenceProof};
+ghost use Rattle.tw_skipproof.specs.Existence.{IsWithinLimits};
+ghost use Rattle.tw_skipproof.specs.Writing.{IsShaped};
+ghost use Rattle.tw_chain.specs.Accepting.{Accepts, IsAccepted, claim_of};
+ghost use Rattle.tw_chain.specs.Making.{IsExistenceOf, MakesExistence, claim_at};
+
+use tw_base::Hasher;
+
+/// The proof that a history has of one of its events, under a top that isn't below the event's
+/// step, is accepted wherever the anchor held of that service and top has the history's
+/// authenticator of the top. It claims that this event stands at this index of the step. Where the
+/// history is sound and has the top, the proof is within the limits of its format, so that it has a
+/// spelling.
+pub fn completeness_laws<H: Hasher>()
+    ensures accepted { (h : History) (step index top : ℕ) (p : ExistenceProof) (anchors : List Thread) (anchor : Thread) →
+        step ≤ top → IsExistenceOf H.dig h step index top p → anchor_of anchors h.name top ≡ Some anchor → anchor.auth ≡ auth H.dig h top →
+        IsAccepted H.dig anchors p }
+    ensures accepts { (h : History) (step index top : ℕ) (bytes : List ℕ) (anchors : List Thread) (anchor : Thread) →
+        step ≤ top → MakesExistence H.dig h step index top bytes → anchor_of anchors h.name top ≡ Some anchor → anchor.auth ≡ auth H.dig h top →
+        Accepts H.dig anchors bytes }
+    ensures claim { (h : History) (step index top : ℕ) (p : ExistenceProof) (event : List ℕ) →
+        IsExistenceOf H.dig h step index top p → slice_get (events_at h step) index ≡ Some event → claim_of p ≡ claim_at h step index event }
+    ensures within { (h : History) (step index top : ℕ) (p : ExistenceProof) →
+        IsSound h → step ≤ top → top ≤ length h.steps → IsExistenceOf H.dig h step index top p →
+        IsWithinLimits p × IsShaped p × (length p.event.event < 2 ^ 32) }
+{}
