@@ -1,14 +1,11 @@
 // The program `timeweave`: the top call over real files and standard output.
 #![tactic(auto)]
 
-mod inputs;
-mod output;
 mod words;
 
-use inputs::HostInputs;
-use output::HostSink;
 use std::process::ExitCode;
 use tw_app::run;
+use tw_hostio::{HostInputs, HostSink};
 use words::read_arguments;
 
 /// The status where there is no memory for the words.

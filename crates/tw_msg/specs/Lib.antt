@@ -1,2 +1,4 @@
 pub mod Anchors
 pub mod AnchorFaults
+pub mod EventsFile
+pub mod EventsReading

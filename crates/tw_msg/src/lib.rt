@@ -2,10 +2,12 @@
 #![tactic(auto)]
 
 mod anchors;
+mod events;
 mod split;
 #[cfg(test)]
 mod tests;
 mod thread_list;
 
 pub use anchors::{AnchorFault, read_anchors};
+pub use events::{events_file_laws, read_events};
 pub use thread_list::Threads;

@@ -1,0 +1,106 @@
+use crate::{FileDisk, HostInputs, HostSink};
+use std::fs;
+use std::rt::Files;
+use std::test::Fail;
+use tw_base::Failed;
+use tw_disk::Disk;
+use tw_outside::{Inputs, Sink};
+
+// A folder of the tests' own, made anew.
+const FOLDER: &str = "tw_hostio_test";
+
+// Writes a page full of this byte, and tells whether that went well.
+fn put<D: Disk>(disk: &mut D, page: u64, byte: u8) -> Result<(), Failed> {
+    let count = disk.pages()?;
+    if page > count {
+        return Err(Failed);
+    }
+    disk.write(page, &[byte; 4096])
+}
+
+// The first and the last byte of a page; none where there is no such page.
+fn bytes_at<D: Disk>(disk: &mut D, page: u64) -> Result<Option<(u8, u8)>, Failed> {
+    let count = disk.pages()?;
+    if page >= count {
+        return Ok(None);
+    }
+    let mut into = [0; 4096];
+    disk.read(page, &mut into)?;
+    Ok(Some((into[0], into[4095])))
+}
+
+// How many bytes the file has; none where it isn't there.
+fn size_of<R: Files>(rt: &R, path: &str) -> Option<u64> {
+    match fs::metadata(rt, path) {
+        Ok(metadata) => Some(metadata.len()),
+        Err(_) => None,
+    }
+}
+
+#[test]
+fn a_disk_lies_in_its_file(rt: HostRuntime) -> Result<(), Fail> {
+    let _ = fs::remove_dir_all(&rt, FOLDER);
+    fs::create_dir(&rt, FOLDER)?;
+    let path = "tw_hostio_test/disk";
+
+    // made by the first call, and not before
+    let mut disk = FileDisk::new(&rt, path);
+    assert_eq!(rt; size_of(&rt, path), None);
+    disk.barrier()?;
+    assert_eq!(rt; size_of(&rt, path), Some(0));
+    assert_eq!(rt; disk.pages()?, 0);
+    put(&mut disk, 0, 5)?;
+    put(&mut disk, 1, 6)?;
+    put(&mut disk, 2, 7)?;
+    put(&mut disk, 1, 8)?;
+    disk.barrier()?;
+    assert_eq!(rt; disk.pages()?, 3);
+    assert_eq!(rt; bytes_at(&mut disk, 1)?, Some((8, 8)));
+    assert_eq!(rt; bytes_at(&mut disk, 3)?, None);
+    assert_eq!(rt; size_of(&rt, path), Some(3 * 4096));
+
+    // opened again it is the same; the bytes of half a page at its end are no page, and are written over
+    fs::write(&rt, path, [9; 4096 + 100].as_slice())?;
+    let mut again = FileDisk::new(&rt, path);
+    assert_eq!(rt; again.pages()?, 1);
+    assert_eq!(rt; bytes_at(&mut again, 0)?, Some((9, 9)));
+    put(&mut again, 1, 4)?;
+    assert_eq!(rt; bytes_at(&mut again, 1)?, Some((4, 4)));
+    assert_eq!(rt; size_of(&rt, path), Some(2 * 4096));
+
+    // the first disk's count stands; a read of a page that is gone is a fault
+    assert_eq!(rt; disk.pages()?, 3);
+    assert_eq!(rt; bytes_at(&mut disk, 1)?, Some((4, 4)));
+    assert_eq!(rt; bytes_at(&mut disk, 2), Err(Failed));
+
+    // no folder, no file
+    let mut nowhere = FileDisk::new(&rt, "tw_hostio_test/nowhere/disk");
+    assert_eq!(rt; nowhere.pages(), Err(Failed));
+    assert_eq!(rt; nowhere.barrier(), Err(Failed));
+
+    let mut inputs = HostInputs::new(&rt);
+    let mut into = [0; 100];
+    assert_eq!(rt; inputs.read(path, 2 * 4096 - 10, &mut into)?, 10);
+    assert_eq!(rt; into[9], 4);
+    assert_eq!(rt; inputs.read(path, 2 * 4096, &mut into)?, 0);
+    assert_eq!(rt;
+        inputs.read("tw_hostio_test/other", 0, &mut into),
+        Err(Failed)
+    );
+    assert_eq!(rt; HostSink::new(&rt).write(b"")?, 0);
+    fs::remove_dir_all(&rt, FOLDER)?;
+    Ok(())
+}
+
+#[test]
+fn a_disk_in_the_folder_at_hand(rt: HostRuntime) -> Result<(), Fail> {
+    let path = "tw_hostio_test_disk";
+    let _ = fs::remove_file(&rt, path);
+    let mut disk = FileDisk::new(&rt, path);
+    put(&mut disk, 0, 5)?;
+    disk.barrier()?;
+    let mut again = FileDisk::new(&rt, path);
+    assert_eq!(rt; bytes_at(&mut again, 0)?, Some((5, 5)));
+    fs::remove_file(&rt, path)?;
+    Ok(())
+}
