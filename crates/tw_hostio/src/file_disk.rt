@@ -1,6 +1,6 @@
 // A disk over one file.
 
-ghost use Rattle.std.specs.Prelude.{◌≡◌, ◌<◌, ◌≤◌, ◌+◌, ◌-◌, ◌^◌, ℕ, None, Some, OnOk};
+ghost use Rattle.std.specs.Prelude.{◌≡◌, ◌<◌, ◌≤◌, ◌+◌, ◌-◌, ◌*◌, ◌^◌, ℕ, None, Some, IfOk, OnOk};
 ghost use Rattle.tw_disk.specs.Disk.{Rose};
 ghost use Rattle.tw_disk.specs.Untold.{no_content};
 
@@ -190,7 +190,8 @@ fn write_page<R: Files>(
 
 /// The place in the file at which a page begins.
 fn place_of(page: u64) -> io::Result<u64>
-    ensures { OnOk result (page + 1 < 2 ^ 64) }
+    ensures value { IfOk result (λ place. place ≡ 4096 * page) }
+    ensures fits { OnOk result (page + 1 < 2 ^ 64) }
 {
     match page.checked_mul(PAGE) {
         Some(place) => Ok(place),
