@@ -1,1 +1,4 @@
 pub mod TableLaws
+pub mod ReadingLaws
+pub mod TableReading
+pub mod LayoutLaws

@@ -5,6 +5,8 @@ mod authenticators;
 mod fault;
 mod history;
 mod reading;
+mod reading_content;
+mod reading_steps;
 mod showing;
 mod soundness;
 mod step;

@@ -14,10 +14,10 @@ use std::alloc::Global;
 use tw_base::{Bytes, NoMemory, put_bytes, put_digest, put_name, put_number};
 
 /// The four bytes at the head of a history file.
-const MAGIC: [u8; 4] = *b"TWH1";
+pub(crate) const MAGIC: [u8; 4] = *b"TWH1";
 
 /// The most bytes that a history file may have: 64 MiB.
-const MOST_BYTES: usize = 67_108_864;
+pub(crate) const MOST_BYTES: usize = 67_108_864;
 
 /// The bytes of the history's file: `TWH1`, the name, the number of steps, and then for each step
 /// its content, its new nodes and its root. The time is linear in their number. TooLong comes
