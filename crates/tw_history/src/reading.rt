@@ -64,3 +64,6 @@ fn judged(alloc: Global, history: History) -> Result<History, HistoryFault>
         Err(fault) => Err(fault),
     }
 }
+
+#[cfg(test)]
+mod tests;
