@@ -1,5 +1,5 @@
 -- Each front of a history file that is let through goes on to a whole one.
-use Rattle.std.proofs.Common.{ℕ, Bool, true, false, ◌-◌, ◌≤◌, ◌^◌, List, arith, lit≤}
+use Rattle.std.proofs.Common.{Bool, true, false, ◌-◌, ◌^◌, lit≤}
 use Rattle.std.specs.Prelude.{◌==◌, if◌then◌else◌}
 use Rattle.tw_base.specs.Formats.{GoesOn}
 use Rattle.tw_base.specs.Fields.{digest, name, number, repeated, sized_bytes, text}

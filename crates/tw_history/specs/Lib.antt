@@ -5,3 +5,4 @@ pub mod Layout
 pub mod Rules
 pub mod Refusals
 pub mod Reading
+pub mod Writing

@@ -1,5 +1,5 @@
 -- Reading a history file field by field, over the whole input and a place in it.
-use Rattle.std.specs.Prelude.{ℕ, ◌-◌, ◌^◌, List, length, drop, ◌==◌, if◌then◌else◌, Result, Ok, Err}
+use Rattle.std.specs.Prelude.{ℕ, ◌-◌, ◌^◌, List, length, drop, ◌==◌, if◌then◌else◌, Result, Ok}
 use Rattle.tw_base.specs.Formats.{Placed, ◌>>=◌, read_at}
 use Rattle.tw_base.specs.Fields.{bytes, digest, name, number, repeated, sized_bytes, text}
 use Rattle.tw_base.specs.History.{Content, History, Node, Step}

@@ -4,6 +4,7 @@
 mod authenticators;
 mod fault;
 mod history;
+mod laws;
 mod reading;
 mod reading_content;
 mod reading_steps;
@@ -18,6 +19,7 @@ mod writing;
 pub use authenticators::auth_of;
 pub use fault::{HistoryFault, ShowFault};
 pub use history::History;
+pub use laws::history_laws;
 pub use reading::read_history;
 pub use showing::show_event;
 pub use soundness::is_sound;

@@ -1,9 +1,6 @@
-use Rattle.std.proofs.Common.{List, ℕ, length, ◌+◌, ◌<◌, ◌≤◌, ◌∙◌, ◌≡◌, sym, ap, arith, subst, length-append, ◌∷◌, [], ◌++◌}
+use Rattle.std.proofs.Common.{length, ◌<◌, ◌≤◌, ◌∙◌, ap, arith, length-append, ◌∷◌, []}
 use Rattle.std.proofs.lemmas.Result.{err_from_is_err_and}
-use Rattle.std.specs.Prelude.{Ok}
-use Rattle.tw_base.specs.Fields.{repeated, sized_bytes}
-use Rattle.tw_base.specs.Formats.{read_at}
-use Rattle.tw_base.specs.Lists.{Each}
+use Rattle.tw_base.specs.Fields.{sized_bytes}
 use Rattle.tw_base.proofs.FieldLaws.{repeated-start}
 use Rattle.tw_history.proofs.ReadingLaws.{event_at-is}
 use Rattle.tw_history.proofs.TableReading.{each_further, list_further, list_stopped}

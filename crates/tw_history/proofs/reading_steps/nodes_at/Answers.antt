@@ -1,4 +1,4 @@
-use Rattle.std.proofs.Common.{List, ℕ, length, map, ◌+◌, ◌*◌, ◌<◌, ◌≤◌, ◌^◌, ◌∙◌, ◌≡◌, sym, ap, arith, length-append, ◌∷◌, []}
+use Rattle.std.proofs.Common.{length, map, ◌+◌, ◌<◌, ◌^◌, ap, arith, length-append, ◌∷◌, []}
 use Rattle.std.proofs.lemmas.Result.{err_from_is_err_and}
 use Rattle.tw_history.specs.Layout.{node_layout}
 use Rattle.tw_history.specs.Meaning.{node_of}

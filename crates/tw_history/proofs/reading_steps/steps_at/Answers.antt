@@ -1,4 +1,4 @@
-use Rattle.std.proofs.Common.{List, ℕ, length, ◌+◌, ◌<◌, ◌≤◌, ◌∙◌, ◌≡◌, sym, ap, arith, length-append, ◌∷◌, [], refl}
+use Rattle.std.proofs.Common.{length, ◌<◌, ap, arith, length-append, ◌∷◌, [], refl}
 use Rattle.std.proofs.lemmas.Result.{err_from_is_err_and}
 use Rattle.tw_base.proofs.FieldLaws.{repeated-start}
 use Rattle.tw_history.specs.declared.reading_steps.Table.{Table}
