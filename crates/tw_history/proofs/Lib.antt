@@ -4,3 +4,4 @@ pub mod TableReading
 pub mod LayoutLaws
 pub mod WritingLaws
 pub mod SpellingLaws
+pub mod ByteCounts

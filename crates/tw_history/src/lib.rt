@@ -9,6 +9,7 @@ mod reading;
 mod reading_content;
 mod reading_steps;
 mod showing;
+mod sizes;
 mod soundness;
 mod step;
 mod table;

@@ -1,6 +1,6 @@
 // Writing history files.
 
-ghost use Rattle.std.specs.Prelude.{◌≡◌, ◌<◌, ◌≤◌, ◌^◌, ◌++◌, length, map, sum_by, IfOk, IfErr, OnOk};
+ghost use Rattle.std.specs.Prelude.{◌≡◌, ◌<◌, ◌≤◌, ◌^◌, [], ◌++◌, length, map, sum_by, IfOk, IfErr, OnOk};
 ghost use Rattle.tw_base.specs.Fields.{sized_bytes};
 ghost use Rattle.tw_base.specs.Formats.{Spells};
 ghost use Rattle.tw_base.specs.Lists.{Each};
@@ -13,6 +13,7 @@ ghost use Rattle.tw_history.specs.Writing.{AllSpelled};
 
 use crate::fault::HistoryFault;
 use crate::history::History;
+use crate::sizes::file_size;
 use crate::step::{Content, Node, Step};
 use std::alloc::Global;
 use tw_base::{Bytes, NoMemory, put_bytes, put_digest, put_name, put_number};
@@ -33,13 +34,33 @@ pub fn write_history(alloc: Global, history: &History) -> Result<Bytes, HistoryF
     ensures short { IfOk result (λ bytes. length bytes ≤ most_bytes) }
     ensures long { IfErr result (TellsLength (history_bytes history.now)) }
 {
-    let mut bytes = Bytes::new(alloc);
-    match put_history(&mut bytes, history) {
+    let size = file_size(history);
+    if size > MOST_BYTES as u64 {
+        return Err(HistoryFault::TooLong { bytes: size });
+    }
+    match written(alloc, history, size as usize) {
+        Ok(bytes) => Ok(bytes),
         Err(NoMemory) => Err(HistoryFault::NoMemory),
-        Ok(()) if bytes.len() > MOST_BYTES => Err(HistoryFault::TooLong {
-            bytes: bytes.len() as u64,
-        }),
-        Ok(()) => Ok(bytes),
+    }
+}
+
+/// The bytes of the history's file, in room for so many.
+fn written(alloc: Global, history: &History, size: usize) -> Result<Bytes, NoMemory>
+    ensures bytes { IfOk result (λ bytes. bytes ≡ history_bytes history.now) }
+    ensures spelled { IfOk result (λ bytes. Spells history_layout bytes history.now) }
+{
+    let mut bytes = with_room(alloc, size)?;
+    put_history(&mut bytes, history)?;
+    Ok(bytes)
+}
+
+/// No bytes, with room for so many.
+fn with_room(alloc: Global, size: usize) -> Result<Bytes, NoMemory>
+    ensures { IfOk result (λ bytes. bytes ≡ []) }
+{
+    match Vec::with_capacity(alloc, size) {
+        Ok(items) => Ok(Bytes::from_vec(items)),
+        Err(_) => Err(NoMemory),
     }
 }
 
