@@ -4,3 +4,5 @@ pub mod HistoryFile
 pub mod Layout
 pub mod Rules
 pub mod Refusals
+pub mod Reading
+pub mod Writing

@@ -1,63 +1,94 @@
 // Writing history files.
 
-ghost use Rattle.std.specs.Prelude.{◌≡◌, ◌≤◌, ◌++◌, length, map, sum_by, IfOk, IfErr, OnOk};
+ghost use Rattle.std.specs.Prelude.{◌≡◌, ◌<◌, ◌≤◌, ◌^◌, [], ◌++◌, length, map, sum_by, IfOk, IfErr, OnOk};
+ghost use Rattle.tw_base.specs.Fields.{sized_bytes};
+ghost use Rattle.tw_base.specs.Formats.{Spells};
 ghost use Rattle.tw_base.specs.Lists.{Each};
 ghost use Rattle.tw_base.specs.Texts.{joined};
 ghost use Rattle.tw_history.specs.HistoryFile.{content_bytes, event_bytes, history_bytes, most_bytes, node_bytes, step_bytes};
+ghost use Rattle.tw_history.specs.Layout.{content_layout, history_layout, node_layout, step_layout};
 ghost use Rattle.tw_history.specs.Meaning.{IsInRange, content_of, node_of, step_of, steps_of};
 ghost use Rattle.tw_history.specs.Refusals.{TellsLength};
+ghost use Rattle.tw_history.specs.Writing.{AllSpelled};
 
 use crate::fault::HistoryFault;
 use crate::history::History;
+use crate::sizes::file_size;
 use crate::step::{Content, Node, Step};
 use std::alloc::Global;
 use tw_base::{Bytes, NoMemory, put_bytes, put_digest, put_name, put_number};
 
 /// The four bytes at the head of a history file.
-const MAGIC: [u8; 4] = *b"TWH1";
+pub(crate) const MAGIC: [u8; 4] = *b"TWH1";
 
 /// The most bytes that a history file may have: 64 MiB.
-const MOST_BYTES: usize = 67_108_864;
+pub(crate) const MOST_BYTES: usize = 67_108_864;
 
 /// The bytes of the history's file: `TWH1`, the name, the number of steps, and then for each step
-/// its content, its new nodes and its root. The time is linear in their number. TooLong comes
-/// exactly where there would be more than 67,108,864 of them, and tells how many.
+/// its content, its new nodes and its root. They spell the history. The time is linear in their
+/// number. TooLong comes exactly where there would be more than 67,108,864 of them, and tells how
+/// many.
 pub fn write_history(alloc: Global, history: &History) -> Result<Bytes, HistoryFault>
     ensures bytes { IfOk result (λ bytes. bytes ≡ history_bytes history.now) }
+    ensures spelled { IfOk result (λ bytes. Spells history_layout bytes history.now) }
     ensures short { IfOk result (λ bytes. length bytes ≤ most_bytes) }
     ensures long { IfErr result (TellsLength (history_bytes history.now)) }
 {
-    let mut bytes = Bytes::new(alloc);
-    match put_history(&mut bytes, history) {
+    let size = file_size(history);
+    if size > MOST_BYTES as u64 {
+        return Err(HistoryFault::TooLong { bytes: size });
+    }
+    match written(alloc, history, size as usize) {
+        Ok(bytes) => Ok(bytes),
         Err(NoMemory) => Err(HistoryFault::NoMemory),
-        Ok(()) if bytes.len() > MOST_BYTES => Err(HistoryFault::TooLong {
-            bytes: bytes.len() as u64,
-        }),
-        Ok(()) => Ok(bytes),
+    }
+}
+
+/// The bytes of the history's file, in room for so many.
+fn written(alloc: Global, history: &History, size: usize) -> Result<Bytes, NoMemory>
+    ensures bytes { IfOk result (λ bytes. bytes ≡ history_bytes history.now) }
+    ensures spelled { IfOk result (λ bytes. Spells history_layout bytes history.now) }
+{
+    let mut bytes = with_room(alloc, size)?;
+    put_history(&mut bytes, history)?;
+    Ok(bytes)
+}
+
+/// No bytes, with room for so many.
+fn with_room(alloc: Global, size: usize) -> Result<Bytes, NoMemory>
+    ensures { IfOk result (λ bytes. bytes ≡ []) }
+{
+    match Vec::with_capacity(alloc, size) {
+        Ok(items) => Ok(Bytes::from_vec(items)),
+        Err(_) => Err(NoMemory),
     }
 }
 
 /// Appends the bytes of the history's file.
 fn put_history(into: &mut Bytes, history: &History) -> Result<(), NoMemory>
-    ensures { OnOk result (into.new ≡ into.old ++ history_bytes history.now) }
+    ensures ok { OnOk result (into.new ≡ into.old ++ history_bytes history.now) }
+    ensures spelled { OnOk result (Spells history_layout (history_bytes history.now) history.now) }
 {
     put_bytes(into, &MAGIC)?;
     put_name(into, &history.name)?;
     put_number(into, history.steps.len() as u64, 8)?;
-    put_steps(into, history.steps.as_slice(), history.nodes.as_slice())
+    put_steps(into, history.steps.as_slice(), history.nodes.as_slice())?;
+    Ok(())
 }
 
 /// Appends the steps, each with the next of the nodes.
 fn put_steps(into: &mut Bytes, steps: &[Step], nodes: &[Node]) -> Result<(), NoMemory>
     requires counted { sum_by (λ s. s.fresh) steps.now ≡ length nodes.now }
     requires contents { Each (λ s. IsInRange s.content) steps.now }
-    ensures { OnOk result (into.new ≡ into.old ++ joined (map step_bytes (steps_of steps.now nodes.now))) }
+    requires entries { Each (λ n. n.entry < 2 ^ 40) nodes.now }
+    ensures ok { OnOk result (into.new ≡ into.old ++ joined (map step_bytes (steps_of steps.now nodes.now))) }
+    ensures spelled { OnOk result (AllSpelled step_layout step_bytes (steps_of steps.now nodes.now)) }
 {
     let mut rest = nodes;
     for step in steps {
-        let fresh = step.fresh as usize;
-        put_step(into, step, &rest[..fresh])?;
-        rest = &rest[fresh..];
+        let (fresh, later) = rest.split_at(step.fresh as usize);
+        put_step(into, step, fresh)?;
+        rest = later;
     }
     Ok(())
 }
@@ -66,30 +97,36 @@ fn put_steps(into: &mut Bytes, steps: &[Step], nodes: &[Node]) -> Result<(), NoM
 fn put_step(into: &mut Bytes, step: &Step, fresh: &[Node]) -> Result<(), NoMemory>
     requires counted { length fresh.now ≡ step.now.fresh }
     requires content { IsInRange step.now.content }
-    ensures { OnOk result (into.new ≡ into.old ++ step_bytes (step_of step.now fresh.now)) }
+    requires entries { Each (λ n. n.entry < 2 ^ 40) fresh.now }
+    ensures ok { OnOk result (into.new ≡ into.old ++ step_bytes (step_of step.now fresh.now)) }
+    ensures spelled { OnOk result (Spells step_layout (step_bytes (step_of step.now fresh.now)) (step_of step.now fresh.now)) }
 {
     put_content(into, &step.content)?;
     put_number(into, step.fresh as u64, 2)?;
     put_nodes(into, fresh)?;
-    put_number(into, step.root as u64, 4)
+    put_number(into, step.root as u64, 4)?;
+    Ok(())
 }
 
 /// Appends the kind of the content and the content.
 fn put_content(into: &mut Bytes, content: &Content) -> Result<(), NoMemory>
     requires { IsInRange content.now }
-    ensures { OnOk result (into.new ≡ into.old ++ content_bytes (content_of content.now)) }
+    ensures ok { OnOk result (into.new ≡ into.old ++ content_bytes (content_of content.now)) }
+    ensures spelled { OnOk result (Spells content_layout (content_bytes (content_of content.now)) (content_of content.now)) }
 {
     match content {
         Content::Events(events) => {
             put_bytes(into, &[1])?;
             put_number(into, events.len() as u64, 4)?;
-            put_events(into, events.as_slice())
+            put_events(into, events.as_slice())?;
+            Ok(())
         }
         Content::Received(thread) => {
             put_bytes(into, &[2])?;
             put_name(into, &thread.from)?;
             put_number(into, thread.step, 8)?;
-            put_digest(into, &thread.auth)
+            put_digest(into, &thread.auth)?;
+            Ok(())
         }
     }
 }
@@ -97,7 +134,8 @@ fn put_content(into: &mut Bytes, content: &Content) -> Result<(), NoMemory>
 /// Appends the events, each behind its length.
 fn put_events(into: &mut Bytes, events: &[Bytes]) -> Result<(), NoMemory>
     requires { Each (λ event. length event ≤ 1024) events.now }
-    ensures { OnOk result (into.new ≡ into.old ++ joined (map event_bytes events.now)) }
+    ensures ok { OnOk result (into.new ≡ into.old ++ joined (map event_bytes events.now)) }
+    ensures spelled { OnOk result (AllSpelled (sized_bytes 4 0 1024) event_bytes events.now) }
 {
     for event in events {
         put_event(into, event)?;
@@ -108,15 +146,19 @@ fn put_events(into: &mut Bytes, events: &[Bytes]) -> Result<(), NoMemory>
 /// Appends the event behind its length.
 fn put_event(into: &mut Bytes, event: &Bytes) -> Result<(), NoMemory>
     requires { length event.now ≤ 1024 }
-    ensures { OnOk result (into.new ≡ into.old ++ event_bytes event.now) }
+    ensures ok { OnOk result (into.new ≡ into.old ++ event_bytes event.now) }
+    ensures spelled { OnOk result (Spells (sized_bytes 4 0 1024) (event_bytes event.now) event.now) }
 {
     put_number(into, event.len() as u64, 4)?;
-    put_bytes(into, event.as_slice())
+    put_bytes(into, event.as_slice())?;
+    Ok(())
 }
 
 /// Appends the nodes.
 fn put_nodes(into: &mut Bytes, nodes: &[Node]) -> Result<(), NoMemory>
-    ensures { OnOk result (into.new ≡ into.old ++ joined (map node_bytes (map node_of nodes.now))) }
+    requires { Each (λ n. n.entry < 2 ^ 40) nodes.now }
+    ensures ok { OnOk result (into.new ≡ into.old ++ joined (map node_bytes (map node_of nodes.now))) }
+    ensures spelled { OnOk result (AllSpelled node_layout node_bytes (map node_of nodes.now)) }
 {
     for node in nodes {
         put_node(into, node)?;
@@ -126,9 +168,12 @@ fn put_nodes(into: &mut Bytes, nodes: &[Node]) -> Result<(), NoMemory>
 
 /// Appends the node.
 fn put_node(into: &mut Bytes, node: &Node) -> Result<(), NoMemory>
-    ensures { OnOk result (into.new ≡ into.old ++ node_bytes (node_of node.now)) }
+    requires { node.now.entry < 2 ^ 40 }
+    ensures ok { OnOk result (into.new ≡ into.old ++ node_bytes (node_of node.now)) }
+    ensures spelled { OnOk result (Spells node_layout (node_bytes (node_of node.now)) (node_of node.now)) }
 {
     put_number(into, node.left as u64, 4)?;
     put_number(into, node.entry, 8)?;
-    put_number(into, node.right as u64, 4)
+    put_number(into, node.right as u64, 4)?;
+    Ok(())
 }

@@ -1,9 +1,13 @@
 use Rattle.std.proofs.Common.{◌≡◌, ◌++◌, drop, map}
 use Rattle.tw_base.specs.Texts.{joined}
 use Rattle.tw_history.specs.HistoryFile.{node_bytes}
+use Rattle.tw_history.specs.Layout.{node_layout}
 use Rattle.tw_history.specs.Meaning.{node_of}
+use Rattle.tw_history.specs.Writing.{AllSpelled}
 use Rattle.tw_history.proofs.writing.put_nodes.Given as goal
 
 abbrev pub invariant-loop-node : goal.invariant-loop-node
-invariant-loop-node l =
-    l.into ++ joined (map node_bytes (map node_of (drop l.node-index l.nodes))) ≡ l.initial.into ++ joined (map node_bytes (map node_of l.nodes))
+invariant-loop-node l = record {
+  written : l.into ++ joined (map node_bytes (map node_of (drop l.node-index l.nodes))) ≡ l.initial.into ++ joined (map node_bytes (map node_of l.nodes));
+  spelled : AllSpelled node_layout node_bytes (map node_of (drop l.node-index l.nodes)) → AllSpelled node_layout node_bytes (map node_of l.nodes);
+}

@@ -1,0 +1,15 @@
+use Rattle.std.proofs.Common.{arith, length, map, ap, sym, ◌∙◌, ◌+◌}
+use Rattle.tw_base.specs.Texts.{joined}
+use Rattle.tw_history.specs.HistoryFile.{event_bytes}
+use Rattle.tw_history.proofs.ByteCounts.{events-size, thread-size}
+use Rattle.tw_history.proofs.sizes.content_size.Goals as goal
+
+pub returns-in-Events-clause-size : goal.returns-in-Events-clause-size
+returns-in-Events-clause-size c =
+    rw c.in-Events.is
+    (ap (λ n. 5 + n) (c.events_size.ensures.size ∙ ap (λ es. length (joined (map event_bytes es))) c.as_slice.ensures) ∙ sym (events-size c.in-Events.events))
+
+pub returns-in-Received-clause-size : goal.returns-in-Received-clause-size
+returns-in-Received-clause-size c =
+    let name = ap length c.as_bytes-name.ensures.value in
+    rw (c.in-Received.is, ← c.thread.view_is) (sym (thread-size _ (omega (arith, c.as_bytes-name.ensures.size, name)) c.thread.invariant))

@@ -1,0 +1,82 @@
+// How many bytes the file of a history has.
+
+ghost use Rattle.std.specs.Prelude.{◌≡◌, ◌+◌, ◌*◌, ◌<◌, ◌≤◌, ◌^◌, length, map, sum_by};
+ghost use Rattle.tw_base.specs.Lists.{Each};
+ghost use Rattle.tw_base.specs.Texts.{joined};
+ghost use Rattle.tw_history.specs.HistoryFile.{content_bytes, event_bytes, history_bytes};
+ghost use Rattle.tw_history.specs.Meaning.{IsInRange, content_of};
+ghost use Rattle.tw_history.specs.Writing.{step_size as step_size_of};
+
+use crate::history::History;
+use crate::step::{Content, Step};
+use tw_base::Bytes;
+
+/// The number of bytes of the history's file.
+pub(crate) fn file_size(history: &History) -> u64
+    ensures { result ≡ length (history_bytes history.now) }
+{
+    let name = history.name.as_bytes();
+    12 + name.len() as u64 + steps_size(history.steps.as_slice())
+}
+
+/// The number of bytes of the steps.
+fn steps_size(steps: &[Step]) -> u64
+    requires contents { Each (λ s. IsInRange s.content) steps.now }
+    requires few { length steps.now < 2 ^ 40 }
+    ensures size { result ≡ sum_by step_size_of steps.now }
+    ensures small { result < 2 ^ 62 }
+{
+    let mut size = 0;
+    for step in steps {
+        size += step_size(step);
+    }
+    size
+}
+
+/// The number of bytes of the step with its new nodes.
+fn step_size(step: &Step) -> u64
+    requires { IsInRange step.now.content }
+    ensures size { result ≡ step_size_of step.now }
+    ensures small { result < 2 ^ 22 }
+{
+    content_size(&step.content) + 16 * step.fresh as u64 + 6
+}
+
+/// The number of bytes of the content behind its kind.
+fn content_size(content: &Content) -> u64
+    requires { IsInRange content.now }
+    ensures size { result ≡ length (content_bytes (content_of content.now)) }
+    ensures small { result < 2 ^ 21 }
+{
+    match content {
+        Content::Events(events) => 5 + events_size(events.as_slice()),
+        Content::Received(thread) => {
+            let name = thread.from.as_bytes();
+            let auth = &thread.auth.0;
+            9 + name.len() as u64 + auth.len() as u64
+        }
+    }
+}
+
+/// The number of bytes of the events, each behind its length.
+fn events_size(events: &[Bytes]) -> u64
+    requires few { length events.now ≤ 1024 }
+    requires sizes { Each (λ event. length event ≤ 1024) events.now }
+    ensures size { result ≡ length (joined (map event_bytes events.now)) }
+    ensures small { result ≤ 1028 * length events.now }
+{
+    let mut size = 0;
+    for event in events {
+        size += event_size(event);
+    }
+    size
+}
+
+/// The number of bytes of the event behind its length.
+fn event_size(event: &Bytes) -> u64
+    requires { length event.now ≤ 1024 }
+    ensures size { result ≡ length (event_bytes event.now) }
+    ensures small { result ≤ 1028 }
+{
+    4 + event.len() as u64
+}
