@@ -1,1 +1,5 @@
 pub mod TableLaws
+pub mod TableSteps
+pub mod LinkLabels
+pub mod Passes
+pub mod Existences

@@ -2,12 +2,17 @@
 #![tactic(auto)]
 
 mod authenticators;
+mod event_part;
 mod fault;
 mod history;
+mod lookup;
+mod pass;
+mod path_links;
 mod reading;
 mod showing;
 mod soundness;
 mod step;
+mod step_digests;
 mod table;
 #[cfg(test)]
 mod tests;
