@@ -5,3 +5,7 @@ pub mod LayoutLaws
 pub mod WritingLaws
 pub mod SpellingLaws
 pub mod ByteCounts
+pub mod TableSteps
+pub mod LinkLabels
+pub mod Passes
+pub mod Existences

@@ -6,3 +6,4 @@ pub mod Rules
 pub mod Refusals
 pub mod Reading
 pub mod Writing
+pub mod Passing

@@ -2,9 +2,13 @@
 #![tactic(auto)]
 
 mod authenticators;
+mod event_part;
 mod fault;
 mod history;
 mod laws;
+mod lookup;
+mod pass;
+mod path_links;
 mod reading;
 mod reading_content;
 mod reading_steps;
@@ -12,6 +16,7 @@ mod showing;
 mod sizes;
 mod soundness;
 mod step;
+mod step_digests;
 mod table;
 #[cfg(test)]
 mod tests;

@@ -1,20 +1,163 @@
 // Proofs that a history itself makes.
 
-ghost use Rattle.std.specs.Prelude.{◌≡◌, List, length, Some, IfOk, IfErr};
+ghost use Rattle.std.specs.Prelude.{◌≡◌, ◌^◌, ◌<◌, ◌≤◌, List, length, Some, IfOk, IfErr, OnOk};
 ghost use Rattle.tw_base.specs.declared.thread.Thread.{Thread};
 ghost use Rattle.tw_base.specs.Anchors.{anchor_of};
 ghost use Rattle.tw_base.specs.Auth.{auth};
-ghost use Rattle.tw_base.specs.Sound.{IsSound};
+ghost use Rattle.tw_base.specs.EventTree.{event_root as event_root_of};
+ghost use Rattle.tw_base.specs.History.{events_at};
+ghost use Rattle.tw_base.specs.Lists.{Each};
 ghost use Rattle.tw_chain.specs.Accepting.{Accepts};
-ghost use Rattle.tw_chain.specs.Making.{MakesExistence};
+ghost use Rattle.tw_chain.specs.Making.{IsExistenceOf, MakesExistence};
+ghost use Rattle.tw_skipproof.specs.Making.{IsOpeningOf, IsPathOf};
+ghost use Rattle.tw_history.specs.Meaning.{IsInRange};
+ghost use Rattle.tw_history.specs.Passing.{HasPassed, events_in};
 ghost use Rattle.tw_history.specs.Refusals.{RefusesEvent};
 
+use crate::event_part::{event_part, root_over};
 use crate::fault::ShowFault;
 use crate::history::History;
+use crate::lookup::{content_at, content_behind, count_of_steps};
+use crate::pass::{Digests, auth_passed, begin, pass_step, pass_steps};
+use crate::path_links::path_links;
+use crate::step::Content;
+use crate::step_digests::{count_of_events, opening_with};
 use std::alloc::Global;
-use tw_base::{Bytes, Hasher};
+use tw_base::{Bytes, Digest, EventList, Hasher, NoMemory};
+use tw_skipproof::{ExistenceProof, Opening, Part, Path, write_existence};
 
-/// The bytes of the proof that the event of this index, from 0 on, stands in this step of a sound
+/// The events of the content, where one has this index; else how many there are.
+fn events_having(content: &Content, index: u32) -> Result<&EventList, u32>
+    requires { IsInRange content.now }
+    ensures events { IfOk result (λ events. (events.now ≡ events_in content.now) × (index < length events.now)) }
+    ensures ranges { IfOk result (λ events. (length events.now ≤ 1024) × Each (λ event. length event ≤ 1024) events.now) }
+    ensures count { IfErr result (λ count. (count ≡ length (events_in content.now)) × (count ≤ index)) }
+{
+    match content {
+        Content::Events(events) => {
+            let count = events.len() as u32;
+            if index < count {
+                Ok(events)
+            } else {
+                Err(count)
+            }
+        }
+        Content::Received(_) => Err(0),
+    }
+}
+
+/// The events of the step, where the history has the step, and the step an event of this index.
+fn events_to_show(history: &History, step: u64, index: u32) -> Result<&EventList, ShowFault>
+    ensures step { OnOk result ((0 < step) × (step ≤ length history.now.steps)) }
+    ensures events { IfOk result (λ events. (events.now ≡ events_at history.now step) × (index < length events.now)) }
+    ensures ranges { IfOk result (λ events. (length events.now ≤ 1024) × Each (λ event. length event ≤ 1024) events.now) }
+    ensures refused { IfErr result (RefusesEvent history.now step index) }
+{
+    match content_at(history, step) {
+        None => Err(ShowFault::NoStep {
+            last: count_of_steps(history),
+        }),
+        Some(content) => match events_having(content, index) {
+            Ok(events) => Ok(events),
+            Err(count) => Err(ShowFault::NoEvent { count }),
+        },
+    }
+}
+
+/// The opening of the step, of whose events this is the root, by a pass that ends behind it.
+fn opening_of<H: Hasher>(
+    alloc: Global,
+    history: &History,
+    step: u64,
+    event_root: Digest,
+    digests: &mut Digests,
+) -> Result<Opening, NoMemory>
+    requires from_1 { 0 < step }
+    requires inside { step ≤ length history.now.steps }
+    requires begun { HasPassed H.dig history.now 0 digests.old }
+    requires event_root { event_root ≡ event_root_of H.dig (events_at history.now step) }
+    ensures opening { IfOk result (IsOpeningOf H.dig history.now step) }
+    ensures passed { OnOk result (HasPassed H.dig history.now step digests.new) }
+{
+    pass_steps::<H>(history, 0, step - 1, digests)?;
+    let prev = auth_passed(digests, step - 1);
+    let passed = pass_step::<H>(history, step - 1, event_root, digests)?;
+    let count = count_of_events(content_behind(history, step - 1));
+    opening_with(alloc, &passed, count, prev)
+}
+
+/// The step, of whose events this is the root, under the history's last step.
+fn part_of<H: Hasher>(
+    alloc: Global,
+    history: &History,
+    step: u64,
+    event_root: Digest,
+) -> Result<Part, NoMemory>
+    requires from_1 { 0 < step }
+    requires inside { step ≤ length history.now.steps }
+    requires event_root { event_root ≡ event_root_of H.dig (events_at history.now step) }
+    ensures place { IfOk result (λ part. (part.service ≡ history.now.name) × (part.step ≡ step) × (part.top ≡ length history.now.steps)) }
+    ensures path { IfOk result (λ part. IsPathOf H.dig history.now part.path.links (length history.now.steps) step) }
+    ensures opening { IfOk result (λ part. IsOpeningOf H.dig history.now step part.opening) }
+    ensures few { OnOk result (length history.now.steps < 2 ^ 40) }
+{
+    let top = count_of_steps(history);
+    let mut digests = begin::<H>(alloc, history)?;
+    let opening = opening_of::<H>(alloc, history, step, event_root, &mut digests)?;
+    let links = path_links::<H>(alloc, history, top, step, &mut digests)?;
+    Ok(Part {
+        service: history.name,
+        step,
+        top,
+        path: Path { links },
+        opening,
+    })
+}
+
+/// The proof that the event of this index stands in the step, whose events these are.
+fn existence_of<H: Hasher>(
+    alloc: Global,
+    history: &History,
+    step: u64,
+    events: &EventList,
+    index: u32,
+) -> Result<ExistenceProof, NoMemory>
+    requires from_1 { 0 < step }
+    requires inside { step ≤ length history.now.steps }
+    requires events { events.now ≡ events_at history.now step }
+    requires index { index < length events.now }
+    requires few { length events.now ≤ 1024 }
+    requires small { Each (λ event. length event ≤ 1024) events.now }
+    ensures existence { IfOk result (IsExistenceOf H.dig history.now step index (length history.now.steps)) }
+    ensures few { OnOk result (length history.now.steps < 2 ^ 40) }
+{
+    let event = event_part::<H>(alloc, events, index)?;
+    let event_root = root_over::<H>(&event, events);
+    let at = part_of::<H>(alloc, history, step, event_root)?;
+    Ok(ExistenceProof { at, event })
+}
+
+/// The bytes of that proof.
+fn written<H: Hasher>(
+    alloc: Global,
+    history: &History,
+    step: u64,
+    events: &EventList,
+    index: u32,
+) -> Result<Bytes, NoMemory>
+    requires from_1 { 0 < step }
+    requires inside { step ≤ length history.now.steps }
+    requires events { events.now ≡ events_at history.now step }
+    requires index { index < length events.now }
+    requires few { length events.now ≤ 1024 }
+    requires small { Each (λ event. length event ≤ 1024) events.now }
+    ensures { IfOk result (MakesExistence H.dig history.now step index (length history.now.steps)) }
+{
+    let proof = existence_of::<H>(alloc, history, step, events, index)?;
+    write_existence(alloc, &proof)
+}
+
+/// The bytes of the proof that the event of this index, from 0 on, stands in this step of the
 /// history, with the history's last step as its top. It is accepted by whoever holds the
 /// authenticator of that last step. NoStep comes exactly where the history has no such step, and
 /// NoEvent where the step has no such event. Each text that the proof stands on is hashed once; the
@@ -25,12 +168,15 @@ pub fn show_event<H: Hasher>(
     step: u64,
     index: u32,
 ) -> Result<Bytes, ShowFault>
-    requires { IsSound history.now }
     ensures shown { IfOk result (MakesExistence H.dig history.now step index (length history.now.steps)) }
     ensures accepted { IfOk result (λ bytes. (anchors : List Thread) (anchor : Thread)
         → anchor_of anchors history.now.name (length history.now.steps) ≡ Some anchor
         → anchor.auth ≡ auth H.dig history.now (length history.now.steps) → Accepts H.dig anchors bytes) }
     ensures refused { IfErr result (RefusesEvent history.now step index) }
 {
-    Err(ShowFault::NoMemory)
+    let events = events_to_show(history, step, index)?;
+    match written::<H>(alloc, history, step, events, index) {
+        Ok(bytes) => Ok(bytes),
+        Err(NoMemory) => Err(ShowFault::NoMemory),
+    }
 }

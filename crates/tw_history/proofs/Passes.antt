@@ -1,0 +1,178 @@
+-- What a pass over the steps of a history keeps true.
+use Rattle.std.proofs.Common.{◌≡◌, ℕ, suc, zero, ◌+◌, ◌-◌, ◌<◌, ◌≤◌, List, [], ◌∷◌, ◌++◌, length, get_or, take, refl, ap, sym, ◌∙◌, subst, append_assoc, add-one, arith}
+use Rattle.std.specs.Prelude.{Option, Some, map, slice_get}
+use Rattle.std.proofs.lemmas.List.{append-nil, get_or_append_left, length-append, length-map, map_more, map_push, take_all}
+use Rattle.tw_base.specs.declared.thread.Entry.{Entry}
+use Rattle.tw_base.specs.Texts.{authenticator_text, datum_text, empty_tree_text, genesis_text}
+use Rattle.tw_base.specs.Entries.{entry_text}
+use Rattle.tw_base.specs.EventTree.{event_root}
+use Rattle.tw_base.specs.History.{History, entry_to, events_at, events_of, fresh_of, root_of, step_at}
+use Rattle.tw_base.specs.History.{Node as NodeMeant, Step as StepMeant}
+use Rattle.tw_base.specs.Levels.{top_level}
+use Rattle.tw_base.specs.Tree.{Tree, branch, forest, planted, tree}
+use Rattle.tw_base.specs.Tree.Tree.{Branch, Empty}
+use Rattle.tw_base.specs.Auth.{auth, auths, datum_text_at, link_texts, tree_label}
+use Rattle.tw_base.proofs.Auths.{auths-at, length-auths}
+use Rattle.tw_base.proofs.Plus.{forest-first}
+use Rattle.tw_skipproof.specs.Making.{labels_at}
+use Rattle.tw_history.specs.declared.step.Node.{Node}
+use Rattle.tw_history.specs.declared.step.Step.{Step}
+use Rattle.tw_history.specs.declared.pass.Digests.{Digests}
+use Rattle.tw_history.specs.declared.step_digests.StepDigests.{StepDigests}
+use Rattle.tw_history.specs.Meaning.{node_of, step_of}
+use Rattle.tw_history.specs.Passing.{HasPassed, IsOfStep, events_in}
+use Rattle.tw_history.proofs.LinkLabels.{length-labels_below}
+use Rattle.tw_history.proofs.TableSteps.{events_of-content}
+
+-- ---- trees
+
+pub planted-none : (entry : ℕ → Option Entry) (trees : List Tree) → trees ++ planted entry trees [] ≡ trees
+unfolding planted
+planted-none entry trees = append-nil trees
+
+-- one more node, over all trees so far
+pub planted-push : (entry : ℕ → Option Entry) (trees : List Tree) (ns : List NodeMeant) (n : NodeMeant)
+    → trees ++ planted entry trees (ns ++ n ∷ [])
+    ≡ (trees ++ planted entry trees ns) ++ branch (entry n.entry) (get_or (trees ++ planted entry trees ns) n.left Empty) (get_or (trees ++ planted entry trees ns) n.right Empty) ∷ []
+unfolding planted
+planted-push entry trees [] n =
+    ap (λ (ts : List Tree). ts ++ branch (entry n.entry) (get_or ts n.left Empty) (get_or ts n.right Empty) ∷ []) (sym (append-nil trees))
+planted-push entry trees (m ∷ ns) n =
+    let t : Tree = branch (entry m.entry) (get_or trees m.left Empty) (get_or trees m.right Empty) in
+    let same : (trees ++ t ∷ []) ++ planted entry (trees ++ t ∷ []) ns ≡ trees ++ (t ∷ planted entry (trees ++ t ∷ []) ns) = append_assoc trees (t ∷ []) (planted entry (trees ++ t ∷ []) ns) in
+    sym (append_assoc trees (t ∷ []) (planted entry (trees ++ t ∷ []) (ns ++ n ∷ [])))
+    ∙ planted-push entry (trees ++ t ∷ []) ns n
+    ∙ ap (λ (ts : List Tree). ts ++ branch (entry n.entry) (get_or ts n.left Empty) (get_or ts n.right Empty) ∷ []) same
+
+pub some_trees : (h : History) (i : ℕ) → 0 < length (forest h i)
+unfolding forest
+some_trees h zero = omega arith
+some_trees h (suc i) = omega (arith, some_trees h i, length-append (forest h i) (planted (entry_to h (suc i)) (forest h i) (fresh_of (step_at h (suc i)))))
+
+module _ (dig : List ℕ → List ℕ) where
+  pub tree_label-branch : (l : Tree) (e : Entry) (r : Tree) → tree_label dig (Branch l e r) ≡ dig (entry_text (tree_label dig l) e (tree_label dig r))
+  unfolding tree_label
+  tree_label-branch l e r = refl
+
+  -- the label of a node that stands
+  pub label-some : (entry : Option Entry) (e : Entry) (l r : Tree) (left right label : List ℕ) → Some e ≡ entry
+      → left ≡ tree_label dig l → right ≡ tree_label dig r → label ≡ dig (entry_text left e right) → label ≡ tree_label dig (branch entry l r)
+  label-some entry e l r left right label some left_is right_is is =
+      is ∙ (λ k. dig (entry_text (left_is k) e (right_is k))) ∙ sym (tree_label-branch l e r) ∙ ap (λ (o : Option Entry). tree_label dig (branch o l r)) some
+
+  -- the labels of the first fresh nodes, over those of the trees before them
+  abbrev pub labels_to : (h : History) (step : ℕ) (fresh : List Node) (trees : List Tree) → ℕ → List (List ℕ)
+  labels_to h step fresh trees i = map (tree_label dig) (trees ++ planted (entry_to h step) trees (map node_of (take i fresh)))
+
+  pub labels_to-none : (h : History) (step : ℕ) (fresh : List Node) (trees : List Tree) → labels_to h step fresh trees 0 ≡ map (tree_label dig) trees
+  labels_to-none h step fresh trees = ap (map (tree_label dig)) (planted-none (entry_to h step) trees)
+
+  pub labels_to-all : (h : History) (step : ℕ) (fresh : List Node) (trees : List Tree) (i : ℕ) → length fresh ≤ i
+      → labels_to h step fresh trees i ≡ map (tree_label dig) (trees ++ planted (entry_to h step) trees (map node_of fresh))
+  labels_to-all h step fresh trees i past =
+      ap (λ (ns : List Node). map (tree_label dig) (trees ++ planted (entry_to h step) trees (map node_of ns))) (take_all i fresh past)
+
+  -- what node i adds to them
+  pub labels_to-more : (h : History) (step : ℕ) (fresh : List Node) (trees : List Tree) (i : ℕ) (d : Node) → i < length fresh
+      → let node : Node = get_or fresh i d in
+      let all : List Tree = trees ++ planted (entry_to h step) trees (map node_of (take i fresh)) in
+      labels_to h step fresh trees (i + 1)
+      ≡ map (tree_label dig) all ++ tree_label dig (branch (entry_to h step node.entry) (get_or all node.left Empty) (get_or all node.right Empty)) ∷ []
+  labels_to-more h step fresh trees i d inside =
+      let node : Node = get_or fresh i d in
+      let all : List Tree = trees ++ planted (entry_to h step) trees (map node_of (take i fresh)) in
+      ap (λ (ns : List NodeMeant). map (tree_label dig) (trees ++ planted (entry_to h step) trees ns))
+      (map_more node_of fresh i d inside)
+      ∙ ap (map (tree_label dig)) (planted-push (entry_to h step) trees (map node_of (take i fresh)) (node_of node))
+      ∙ map_push (tree_label dig) all (branch (entry_to h step node.entry) (get_or all node.left Empty) (get_or all node.right Empty))
+
+  -- the first tree stays the first
+  pub first-stays : (trees more : List Tree) (labels : List (List ℕ)) → labels ≡ map (tree_label dig) trees → 0 < length labels
+      → get_or trees 0 Empty ≡ Empty → get_or (trees ++ more) 0 Empty ≡ Empty
+  first-stays trees more labels is some first =
+      let some_tree : 0 < length trees = omega (arith, some, ap length is, length-map trees (tree_label dig)) in
+      get_or_append_left trees more Empty 0 some_tree ∙ first
+
+  -- as many labels as trees, of which there is one at least
+  pub length-labels : (h : History) (i : ℕ) (labels : List (List ℕ)) → labels ≡ map (tree_label dig) (forest h i) → length labels ≡ length (forest h i)
+  length-labels h i labels is = ap length is ∙ length-map (forest h i) (tree_label dig)
+
+  pub some_labels : (h : History) (i : ℕ) (more : List Tree) (labels : List (List ℕ)) → labels ≡ map (tree_label dig) (forest h i ++ more) → 0 < length labels
+  some_labels h i more labels is =
+      omega (arith, some_trees h i, ap length is, length-map (forest h i ++ more) (tree_label dig), length-append (forest h i) more)
+
+  module _ (h : History) where
+    pub HasPassed-none : (d : Digests) → d.tree_labels ≡ dig empty_tree_text ∷ [] → d.auths ≡ dig (genesis_text h.name) ∷ [] → HasPassed dig h 0 d
+    unfolding forest tree_label auths
+    HasPassed-none d labels auths_are = record { tree_labels = labels; auths = auths_are }
+
+    -- ---- one step
+
+    pub record PassesStep (step i : ℕ) (s : Step) (fresh : List Node) (old new : Digests) (d : StepDigests) (last : List ℕ) : Type 0 where
+      pub passed : HasPassed dig h i old
+      pub there : slice_get h.steps i ≡ Some (step_of s fresh)
+      pub tree_labels : new.tree_labels ≡ map (tree_label dig) (forest h i ++ planted (entry_to h step) (forest h i) (map node_of fresh))
+      pub event_root : d.event_root ≡ event_root dig (events_at h step)
+      pub archive_root : (trees : List Tree) → new.tree_labels ≡ map (tree_label dig) trees → get_or trees 0 Empty ≡ Empty
+          → d.archive_root ≡ tree_label dig (get_or trees s.root Empty)
+      pub datum : d.datum ≡ dig (datum_text d.event_root d.archive_root (length (events_in s.content)))
+      pub labels : d.labels.items ≡ map dig (link_texts dig d.datum old.auths step (suc (top_level step)))
+      pub auth : last ≡ dig (authenticator_text step d.labels.items)
+      pub auths : new.auths ≡ old.auths ++ last ∷ []
+
+    module _ (i : ℕ) (s : Step) (fresh : List Node) (old new : Digests) (d : StepDigests) (last : List ℕ) (is : PassesStep (suc i) i s fresh old new d last) where
+      same_step : step_at h (suc i) ≡ Some (step_of s fresh)
+      same_step = is.there
+
+      forest_is : new.tree_labels ≡ map (tree_label dig) (forest h (suc i))
+      unfolding forest
+      forest_is =
+          is.tree_labels ∙ ap (λ (o : Option StepMeant). map (tree_label dig) (forest h i ++ planted (entry_to h (suc i)) (forest h i) (fresh_of o))) (sym same_step)
+
+      archive_is : d.archive_root ≡ tree_label dig (tree h (suc i))
+      unfolding tree
+      archive_is =
+          is.archive_root (forest h (suc i)) forest_is (forest-first h (suc i))
+          ∙ ap (λ (o : Option StepMeant). tree_label dig (get_or (forest h (suc i)) (root_of o) Empty)) (sym same_step)
+
+      events_are : events_in s.content ≡ events_at h (suc i)
+      events_are = sym (events_of-content s.content s fresh refl) ∙ ap events_of (sym same_step)
+
+      datum_is : d.datum ≡ dig (datum_text_at dig h (suc i))
+      unfolding datum_text_at
+      datum_is = is.datum ∙ (λ k. dig (datum_text (is.event_root k) (archive_is k) (length (events_are k))))
+
+      labels_are : d.labels.items ≡ labels_at dig h (suc i)
+      labels_are =
+          is.labels ∙ (λ k. map dig (link_texts dig (datum_is k) (is.passed.auths k) (suc i) (suc (top_level (suc i)))))
+          ∙ ap (λ n. map dig (link_texts dig (dig (datum_text_at dig h (suc i))) (auths dig h n) (suc i) (suc (top_level (suc i))))) (let e : i ≡ suc i - 1 = omega arith in e)
+
+      auths_are : new.auths ≡ auths dig h (suc i)
+      unfolding auths
+      auths_are =
+          let own : d.labels.items ≡ map dig (link_texts dig (dig (datum_text_at dig h (suc i))) (auths dig h i) (suc i) (suc (top_level (suc i)))) =
+          is.labels ∙ (λ k. map dig (link_texts dig (datum_is k) (is.passed.auths k) (suc i) (suc (top_level (suc i))))) in
+          is.auths ∙ (λ k. is.passed.auths k ++ (is.auth ∙ ap (λ ls. dig (authenticator_text (suc i) ls)) own) k ∷ [])
+
+      passes_suc : HasPassed dig h (suc i) new × IsOfStep dig h (suc i) d
+      passes_suc = (
+        record { tree_labels = forest_is; auths = auths_are },
+        record { event_root = is.event_root; archive_root = archive_is; datum = datum_is; labels = labels_are },
+      )
+
+    pub PassesStep-passes : (i : ℕ) (s : Step) (fresh : List Node) (old new : Digests) (d : StepDigests) (last : List ℕ)
+        → PassesStep (i + 1) i s fresh old new d last → HasPassed dig h (i + 1) new × IsOfStep dig h (i + 1) d
+    PassesStep-passes i s fresh old new d last =
+        subst (λ n. PassesStep n i s fresh old new d last → HasPassed dig h n new × IsOfStep dig h n d) (sym (add-one i)) (passes_suc i s fresh old new d last)
+
+    -- the authenticators are those of the steps passed, and of step 0
+    pub HasPassed-count : (last : ℕ) (d : Digests) → HasPassed dig h last d → length d.auths ≡ suc last
+    HasPassed-count last d passed = ap length passed.auths ∙ length-auths dig h last
+
+    pub HasPassed-auth : (last step : ℕ) (d : Digests) → HasPassed dig h last d → step ≤ last → get_or d.auths step [] ≡ auth dig h step
+    HasPassed-auth last step d passed within = ap (λ table. get_or table step []) passed.auths ∙ auths-at dig h last step within
+
+    -- a step has one label more than its greatest level
+    pub IsOfStep-count : (step n : ℕ) (d : StepDigests) → n ≡ step → IsOfStep dig h n d → length d.labels.items ≡ suc (top_level step)
+    IsOfStep-count step n d same is =
+        ap length is.labels ∙ length-labels_below dig (dig (datum_text_at dig h n)) (auths dig h (n - 1)) n (suc (top_level n)) ∙ ap (λ k. suc (top_level k)) same

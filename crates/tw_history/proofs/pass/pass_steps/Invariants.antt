@@ -1,0 +1,5 @@
+use Rattle.tw_history.specs.Passing.{HasPassed}
+use Rattle.tw_history.proofs.pass.pass_steps.Given as goal
+
+abbrev pub invariant-loop-index : goal.invariant-loop-index
+invariant-loop-index g l = HasPassed g.H.Hasher.dig l.history l.index l.digests

@@ -1,0 +1,17 @@
+use Rattle.std.proofs.Common.{◌≡◌, ◌-◌, ◌+◌, ◌<◌, arith}
+use Rattle.tw_base.specs.Levels.{top_level}
+use Rattle.tw_base.proofs.Levels.{top_level-below}
+use Rattle.tw_skipproof.proofs.Hops.{hop_level-le}
+use Rattle.tw_history.proofs.Passes.{IsOfStep-count}
+use Rattle.tw_history.proofs.path_links.+links_upwards.Goals as goal
+
+pub power-requires : goal.power-requires
+power-requires g t c =
+    let small : top_level c.args.from < 40 = top_level-below c.args.from c.requires.few in
+    omega (arith, small, hop_level-le c.args.from c.args.to, c.next_hop-level.ensures.level)
+
+pub link_at-requires : goal.link_at-requires
+link_at-requires g t c =
+    let same : c.args.from - 1 + 1 ≡ c.args.from = omega arith in
+    let count = IsOfStep-count g.H.Hasher.dig c.args.history.now c.args.from (c.args.from - 1 + 1) c.in_ok-passed.passed same c.in_ok-passed.ensures.step in
+    omega (arith, count, hop_level-le c.args.from c.args.to, c.next_hop-level.ensures.level)

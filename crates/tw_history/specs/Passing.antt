@@ -1,0 +1,35 @@
+-- What a pass over the steps of a history keeps.
+use Rattle.std.specs.Prelude.{◌≡◌, ℕ, List, [], map, Option, Some, None}
+use Rattle.tw_base.specs.declared.thread.Thread.{Thread}
+use Rattle.tw_base.specs.Auth.{auths, datum_text_at, tree_label}
+use Rattle.tw_base.specs.EventTree.{event_root}
+use Rattle.tw_base.specs.History.{History, events_at}
+use Rattle.tw_base.specs.Tree.{forest, tree}
+use Rattle.tw_skipproof.specs.Making.{labels_at}
+use Rattle.tw_history.specs.declared.step.Content.{Content}
+use Rattle.tw_history.specs.declared.step.Content.TheVariants.{Events, Received}
+use Rattle.tw_history.specs.declared.pass.Digests.{Digests}
+use Rattle.tw_history.specs.declared.step_digests.StepDigests.{StepDigests}
+
+-- the events of a step; one that received a thread has none
+abbrev pub events_in : Content → List (List ℕ)
+events_in (Events events) = events
+events_in (Received t) = []
+
+-- the thread that a step received, if it received one
+abbrev pub thread_in : Content → Option Thread
+thread_in (Events events) = None
+thread_in (Received t) = Some t
+
+module _ (dig : List ℕ → List ℕ) (h : History) where
+  -- of the steps up to i: the labels of the trees of their nodes, by number, and their authenticators
+  pub record HasPassed (i : ℕ) (d : Digests) : Type 0 where
+    pub tree_labels : d.tree_labels ≡ map (tree_label dig) (forest h i)
+    pub auths : d.auths ≡ auths dig h i
+
+  -- the digests that the step's authenticator is made of
+  pub record IsOfStep (step : ℕ) (d : StepDigests) : Type 0 where
+    pub event_root : d.event_root ≡ event_root dig (events_at h step)
+    pub archive_root : d.archive_root ≡ tree_label dig (tree h step)
+    pub datum : d.datum ≡ dig (datum_text_at dig h step)
+    pub labels : d.labels.items ≡ labels_at dig h step

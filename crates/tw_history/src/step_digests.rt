@@ -1,0 +1,158 @@
+// The digests that the authenticator of a step is made of.
+
+ghost use Rattle.std.specs.Prelude.{◌≡◌, ℕ, suc, ◌+◌, ◌-◌, ◌^◌, ◌<◌, ◌≤◌, List, [], drop, length, map, remove, slice_index_or, IfOk};
+ghost use Rattle.tw_base.specs.Auth.{link_texts};
+ghost use Rattle.tw_base.specs.EventTree.{event_root as event_root_of};
+ghost use Rattle.tw_base.specs.Levels.{top_level as top_level_of};
+ghost use Rattle.tw_base.specs.Texts.{datum_text};
+ghost use Rattle.tw_history.specs.Meaning.{IsInRange};
+ghost use Rattle.tw_history.specs.Passing.{events_in};
+
+use crate::step::Content;
+use arrayvec::ArrayVec;
+use std::alloc::Global;
+use tw_base::{Digest, Hasher, Labels, NoMemory, datum, link_label, no_events, top_level};
+use tw_events::event_root;
+use tw_skipproof::{Link, Opening};
+
+/// The digests that the authenticator of a step is made of: the root of its events, the label of
+/// its archive, its datum, and the labels of its links from level 0 on.
+#[derive(Drop)]
+pub(crate) struct StepDigests {
+    pub(crate) event_root: Digest,
+    pub(crate) archive_root: Digest,
+    pub(crate) datum: Digest,
+    pub(crate) labels: ArrayVec<Digest, 40>,
+}
+
+/// The root of the content's events.
+pub(crate) fn root_of_events<H: Hasher>(content: &Content) -> Digest
+    requires { IsInRange content.now }
+    ensures { result ≡ event_root_of H.dig (events_in content.now) }
+{
+    match content {
+        Content::Events(events) => event_root::<H>(events),
+        Content::Received(_) => no_events::<H>(),
+    }
+}
+
+/// The number of the content's events.
+pub(crate) fn count_of_events(content: &Content) -> u32
+    requires { IsInRange content.now }
+    ensures value { result ≡ length (events_in content.now) }
+{
+    match content {
+        Content::Events(events) => events.len() as u32,
+        Content::Received(_) => 0,
+    }
+}
+
+/// A power of two.
+pub(crate) fn power(level: u8) -> u64
+    requires { level < 64 }
+    ensures { result ≡ 2 ^ level }
+{
+    1 << level
+}
+
+/// The authenticator that a link leads to, of the earlier ones.
+fn below(earlier: &[Digest], step: u64, level: u8) -> &Digest
+    requires from_1 { 0 < step }
+    requires step { step < 2 ^ 40 }
+    requires earlier { step ≤ length earlier.now }
+    requires level { level ≤ top_level_of step }
+    ensures { result.now ≡ slice_index_or earlier.now (step - 2 ^ level) [] }
+{
+    &earlier[(step - power(level)) as usize]
+}
+
+/// The labels of the step's links from level 0 on, over the authenticators of the earlier steps.
+pub(crate) fn link_labels<H: Hasher>(
+    step: u64,
+    datum: &Digest,
+    earlier: &[Digest],
+) -> ArrayVec<Digest, 40>
+    requires from_1 { 0 < step }
+    requires step { step < 2 ^ 40 }
+    requires earlier { step ≤ length earlier.now }
+    ensures { result.items ≡ map H.dig (link_texts H.dig datum.now earlier.now step (suc (top_level_of step))) }
+{
+    let mut labels: ArrayVec<Digest, 40> = ArrayVec::new();
+    for level in 0..top_level(step) + 1 {
+        let label = link_label::<H>(step, level, datum, below(earlier, step, level));
+        labels.push(label);
+    }
+    labels
+}
+
+/// The digests of a step with this root and count of events and this label of its archive, over the
+/// authenticators of the earlier steps.
+pub(crate) fn digests_of_step<H: Hasher>(
+    step: u64,
+    event_root: Digest,
+    archive_root: Digest,
+    count: u32,
+    earlier: &[Digest],
+) -> StepDigests
+    requires from_1 { 0 < step }
+    requires step { step < 2 ^ 40 }
+    requires earlier { step ≤ length earlier.now }
+    ensures event_root { result.event_root ≡ event_root }
+    ensures archive_root { result.archive_root ≡ archive_root }
+    ensures datum { result.datum ≡ H.dig (datum_text result.event_root result.archive_root count) }
+    ensures labels { result.labels.items ≡ map H.dig (link_texts H.dig result.datum earlier.now step (suc (top_level_of step))) }
+{
+    let datum = datum::<H>(&event_root, &archive_root, count);
+    let labels = link_labels::<H>(step, &datum, earlier);
+    StepDigests {
+        event_root,
+        archive_root,
+        datum,
+        labels,
+    }
+}
+
+/// The labels of a list on the heap.
+fn copied(alloc: Global, labels: &[Digest]) -> Result<Vec<Digest>, NoMemory>
+    ensures { IfOk result (λ copy. copy.items ≡ labels.now) }
+{
+    match Vec::from_slice(alloc, labels) {
+        Ok(items) => Ok(items),
+        Err(_) => Err(NoMemory),
+    }
+}
+
+/// The link of a path that leaves the step at this level.
+pub(crate) fn link_at(alloc: Global, digests: &StepDigests, level: u8) -> Result<Link, NoMemory>
+    requires { level < length digests.now.labels.items }
+    ensures { IfOk result (λ link. (link.datum ≡ digests.now.datum) × (link.others ≡ remove digests.now.labels.items level)) }
+{
+    let mut others = copied(alloc, digests.labels.as_slice())?;
+    others.remove(level as usize);
+    Ok(Link {
+        datum: digests.datum,
+        others: Labels::from_vec(others),
+    })
+}
+
+/// The opening of the step, with its count of events and the authenticator of the step before it.
+pub(crate) fn opening_with(
+    alloc: Global,
+    digests: &StepDigests,
+    count: u32,
+    prev: Digest,
+) -> Result<Opening, NoMemory>
+    requires { 0 < length digests.now.labels.items }
+    ensures digests { IfOk result (λ o. (o.event_root ≡ digests.now.event_root) × (o.archive_root ≡ digests.now.archive_root)
+        × (o.others ≡ drop 1 digests.now.labels.items)) }
+    ensures given { IfOk result (λ o. (o.count ≡ count) × (o.prev ≡ prev)) }
+{
+    let others = copied(alloc, &digests.labels.as_slice()[1..])?;
+    Ok(Opening {
+        event_root: digests.event_root,
+        archive_root: digests.archive_root,
+        count,
+        prev,
+        others: Labels::from_vec(others),
+    })
+}
