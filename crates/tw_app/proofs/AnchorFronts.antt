@@ -75,8 +75,6 @@ digest-short word digest =
     let tests = two_tests (eqb (length word % 2) 1) (eqb (length word / 2) 32) _ _ _ digest in
     grind (arith, nat_tests)
 
-
-
 parts-length : (p : ℕ → Bool) (xs : List ℕ) → length xs ≤ length (before_first p xs) + 1 + length (after_first p xs)
 parts-length p xs =
     let place = position_or_len p xs in
@@ -86,8 +84,14 @@ anchor-short : (line : List ℕ) → is_anchor line ≡ true → length line ≤
 anchor-short line holds =
     let words = anchor-words line holds in
     let number = number-pos (step_word line) words.1 in
-    omega (arith, parts-length is_blank line, parts-length is_blank (after_first is_blank line), name-short (name_word line) words.0,
-    number-short (step_word line) number.0 number.2, digest-short (digest_word line) words.2)
+    omega (
+      arith,
+      parts-length is_blank line,
+      parts-length is_blank (after_first is_blank line),
+      name-short (name_word line) words.0,
+      number-short (step_word line) number.0 number.2,
+      digest-short (digest_word line) words.2,
+    )
 
 -- ---- good lines are few and short
 
@@ -178,12 +182,16 @@ same_lines (suc k) xs ys big short =
   where
     of_front : lines xs ≡ first xs ∷ lines (rest xs)
     of_front = lines-first xs (omega (arith, big))
+
     first_short : length (first xs) ≤ 127
     first_short = subst (λ ls. length (line_at ls 0) ≤ 127) of_front (short 0 (omega arith))
+
     rest_big : 128 * (k + 1) ≤ length (rest xs)
     rest_big = let size : length xs ≤ length (first xs) + 1 + length (rest xs) = parts-length is_line_feed xs in omega (arith, size, first_short, big)
+
     rest_short : (i : ℕ) → i < k → length (line_at (lines (rest xs)) i) ≤ 127
     rest_short i below = subst (λ ls. length (line_at ls (suc i)) ≤ 127) of_front (short (suc i) (omega (arith, below)))
+
     by : SameLines (rest xs) ys k → (position_or_len is_line_feed xs < length xs) ⊎ (length xs ≤ position_or_len is_line_feed xs) → SameLines xs ys (suc k)
     by next (inr none) = absurd (omega (arith, (first-long xs ys none).0, first_short, big))
     by next (inl found) =

@@ -56,12 +56,18 @@ module _ (told : Option Files) (file all : List ℕ) (there : IsThere told file)
   of_fault : (before after step index : ℕ) (f : HistoryFault) → ReadsHistory all (Err f) → ComesTo told before after (Show file step index) (outcome_of_fault file f)
   of_fault before after step index (TooLong count) reads =
       (refl, there, λ bytes tells. inl (is_longer all bytes (read bytes tells) reads.0, refl))
-  of_fault before after step index (Malformed place) reads =
-      (refl, there, λ bytes tells.
-          inr (subst (λ b. ReadsHistory b (Err (Malformed place))) (is_whole all bytes (read bytes tells) reads.0) reads))
-  of_fault before after step index (Unsound broken rule) reads =
-      (refl, there, λ bytes tells.
-          subst (λ b. ReadsHistory b (Err (Unsound broken rule))) (is_whole all bytes (read bytes tells) reads.0) reads)
+  of_fault before after step index (Malformed place) reads = (
+    refl,
+    there,
+    λ bytes tells.
+        inr (subst (λ b. ReadsHistory b (Err (Malformed place))) (is_whole all bytes (read bytes tells) reads.0) reads),
+  )
+  of_fault before after step index (Unsound broken rule) reads = (
+    refl,
+    there,
+    λ bytes tells.
+        subst (λ b. ReadsHistory b (Err (Unsound broken rule))) (is_whole all bytes (read bytes tells) reads.0) reads,
+  )
   of_fault before after step index NoMemory reads = tt
 
   pub refuses_file : (before after step index : ℕ) (f : HistoryFault) (outcome : Outcome) → ReadsHistory all (Err f)
@@ -95,7 +101,7 @@ makes_at h step index top bytes sound makes = elim (cases_lt 4294967295 index) [
 pub shown_at : (h : History) (step index at : ℕ) → IsSound h → at ≡ min index 4294967295 → (result : Result (List ℕ) ShowFault)
     → IfOk result (MakesExistence sha256 h step at (length h.steps))
     → IfOk result (λ bytes. (anchors : List Thread) (anchor : Thread) → anchor_of anchors h.name (length h.steps) ≡ Some anchor
-        → anchor.auth ≡ auth sha256 h (length h.steps) → Accepts sha256 anchors bytes)
+    → anchor.auth ≡ auth sha256 h (length h.steps) → Accepts sha256 anchors bytes)
     → IfOk result (λ bytes. ProvesEvent step index bytes h)
 shown_at h step index at sound is (Ok bytes) makes accepted = record {
   makes = makes_at h step index (length h.steps) bytes sound (subst (λ i. MakesExistence sha256 h step i (length h.steps) bytes) is makes);

@@ -70,8 +70,11 @@ pub refuses_line : (told : Option Files) (before after : ℕ) (proof file : List
     → IsThere told proof → IsThere told file → IsReadTo told file file_limit all_lines → IsFirstBadLine (lines all_lines) number
     → IsWhereMemory (Unreadable (BadLine file number)) outcome → ComesTo told before after (VerifyFile proof file) outcome
 refuses_line told before after proof file number all_lines outcome proof_there there read bad is =
-    where_memory told before after (VerifyFile proof file) (Unreadable (BadLine file number)) outcome is (refl, record {
-      proof_there = proof_there;
-      there = there;
-      bad = λ bytes tells. first_bad_of_front bytes number (subst (λ a. IsFirstBadLine (lines a) number) (read bytes tells) bad);
-    })
+    where_memory told before after (VerifyFile proof file) (Unreadable (BadLine file number)) outcome is (
+      refl,
+      record {
+        proof_there = proof_there;
+        there = there;
+        bad = λ bytes tells. first_bad_of_front bytes number (subst (λ a. IsFirstBadLine (lines a) number) (read bytes tells) bad);
+      },
+    )

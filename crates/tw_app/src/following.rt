@@ -27,12 +27,7 @@ pub(crate) fn follow_words<I: Inputs>(alloc: Global, words: &[String], inputs: &
 }
 
 /// What the words' command comes to.
-fn follow<I: Inputs>(
-    alloc: Global,
-    command: &Command,
-    words: &[String],
-    inputs: &mut I,
-) -> Outcome
+fn follow<I: Inputs>(alloc: Global, command: &Command, words: &[String], inputs: &mut I) -> Outcome
     requires command { command_of (map string_bytes words.now) ≡ Some command.now }
     requires files { Each (I.may_ask inputs.old) (files_of command.now) }
     ensures { ComesTo (I.told inputs.old) (I.faults inputs.old) (I.faults inputs.new) command.now result }

@@ -37,11 +37,7 @@ fn print_refused(alloc: Global, refusal: &Refusal) -> Result<Bytes, NoMemory>
 }
 
 /// Puts the refusal's name and fields at the end of the fields.
-fn put_refusal(
-    alloc: Global,
-    fields: &mut FieldList,
-    refusal: &Refusal,
-) -> Result<(), NoMemory>
+fn put_refusal(alloc: Global, fields: &mut FieldList, refusal: &Refusal) -> Result<(), NoMemory>
     ensures { OnOk result (fields.new ≡ fields.old ++ refusal_fields refusal.now) }
 {
     match refusal {

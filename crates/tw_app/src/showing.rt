@@ -47,12 +47,7 @@ pub(crate) fn show<I: Inputs>(
 
 /// The proof of the event of this index in this step of a sound history. No step has an event of an
 /// index above 2^32 - 1, so such an index is refused as that one is.
-fn show_at(
-    alloc: Global,
-    history: &History,
-    step: u64,
-    index: u64,
-) -> Result<Bytes, ShowFault>
+fn show_at(alloc: Global, history: &History, step: u64, index: u64) -> Result<Bytes, ShowFault>
     requires { IsSound history.now }
     ensures shown { IfOk result (λ proof. ProvesEvent step index proof history.now) }
     ensures refused { IfErr result (RefusesEvent history.now step index) }

@@ -6,6 +6,13 @@ use std::alloc::Global;
 use std::process::Abort;
 use tw_outside::MemInputs;
 
+/// The history of the service `a` without steps.
+fn no_steps() -> [u8; 28] {
+    let mut file = [0; 28];
+    file[..5].copy_from_slice(b"TWH1a");
+    file
+}
+
 /// The history of the service `a` with one step of one empty event.
 fn one_event() -> [u8; 43] {
     let mut file = [0; 43];
@@ -67,17 +74,14 @@ fn what_is_not_there_is_refused(rt: HostRuntime) {
     expect_shown(&rt, alloc, &file, "1", "1", 7, b"refused NoEvent 1\n");
     let high = "4294967296";
     expect_shown(&rt, alloc, &file, "1", high, 7, b"refused NoEvent 1\n");
-    let none = &file[..27];
-    let mut empty = [0; 28];
-    empty[..27].copy_from_slice(none);
-    expect_shown(&rt, alloc, &empty, "1", "0", 7, b"refused NoStep 0\n");
+    expect_shown(&rt, alloc, &no_steps(), "1", "0", 7, b"refused NoStep 0\n");
 }
 
 #[test]
 fn files_that_are_no_history(rt: HostRuntime) {
     let alloc = rt.alloc();
     let file = one_event();
-    let cut = &file[..42];
+    let cut = file.get(..42).expect(&rt, "43 bytes");
     expect_shown(&rt, alloc, cut, "1", "0", 9, b"unreadable h byte 42\n");
     expect_shown(&rt, alloc, &LEAST, "1", "0", 9, b"unreadable h byte 2\n");
     expect_shown(&rt, alloc, &[], "1", "0", 9, b"unreadable h byte 0\n");

@@ -127,13 +127,7 @@ fn an_anchor_in_the_second_line(rt: HostRuntime) {
     let accepted = "accepted exists\nevent a 1 0 -\n";
     expect_anchors(&rt, alloc, lines.as_str(), 0, accepted);
     let other = format!(in alloc; "b 7 {HEX}\na 2 {HEX}").expect(&rt, "memory");
-    expect_anchors(
-        &rt,
-        alloc,
-        other.as_str(),
-        1,
-        "rejected 3 NotHeld a 1\n",
-    );
+    expect_anchors(&rt, alloc, other.as_str(), 1, "rejected 3 NotHeld a 1\n");
 }
 
 #[test]
@@ -177,14 +171,7 @@ fn both_files_are_read_before_a_line_is_judged(rt: HostRuntime) {
         expect_over(&rt, alloc, &mut inputs, &words, 3, fault);
     }
     inputs.put("p", b"no proof").expect(&rt, "memory");
-    expect_over(
-        &rt,
-        alloc,
-        &mut inputs,
-        &words,
-        9,
-        b"unreadable k line 1\n",
-    );
+    expect_over(&rt, alloc, &mut inputs, &words, 9, b"unreadable k line 1\n");
     inputs.put("k", LINE.as_bytes()).expect(&rt, "memory");
     expect_over(
         &rt,
