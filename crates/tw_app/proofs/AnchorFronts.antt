@@ -1,6 +1,6 @@
 -- No good line of an anchors file is long, and there are few: so the first bad line of the bytes up to a limit is that of all.
-use Rattle.std.proofs.Common.{◌≡◌, ℕ, zero, suc, ◌+◌, ◌-◌, ◌*◌, ◌^◌, ◌<◌, ◌≤◌, List, [], ◌∷◌, ◌++◌, length, take, drop, map, get_or, Bool, true, false, not, ◌&&◌, ◌||◌, leb, leb-true, cond, eqb, refl, ap, sym, ◌∙◌, subst, arith, inl, inr, ◌⊎◌, length-append, add-one, pow_mono, pow-suc, lit≤, lit<}
-use Rattle.std.specs.Prelude.{Result, Ok, Err, is_ok, nat_le, if◌then◌else◌, ◌%◌, ◌/◌}
+use Rattle.std.proofs.Common.{◌≡◌, ℕ, zero, suc, ◌+◌, ◌*◌, ◌^◌, ◌<◌, ◌≤◌, List, [], ◌∷◌, ◌++◌, length, take, drop, map, Bool, true, false, not, ◌&&◌, leb, leb-true, eqb, refl, ap, sym, ◌∙◌, subst, arith, inl, inr, ◌⊎◌, length-append, pow_mono, pow-suc}
+use Rattle.std.specs.Prelude.{Result, Err, is_ok, nat_le, if◌then◌else◌, ◌%◌, ◌/◌}
 use Rattle.std.specs.Char.{digit_value}
 use Rattle.std.specs.List.{after_first, before_first, list_all, list_any, position_or_len}
 use Rattle.std.specs.Str.Parse.{digits_value_after}

@@ -1,8 +1,7 @@
 -- What a run's status says by itself.
-use Rattle.std.proofs.Common.{◌≡◌, ℕ, List, [], ◌++◌, ap, sym, ◌∙◌, subst, arith, inl, inr, ◌⊎◌, refl}
+use Rattle.std.proofs.Common.{◌≡◌, ℕ, List, ◌++◌, ap, sym, ◌∙◌, subst, arith, inl, inr, ◌⊎◌, refl}
 use Rattle.std.specs.Prelude.{Option, Some, None, MatchOption}
 use Rattle.sha2.specs.Sha256.{sha256}
-use Rattle.tw_base.specs.declared.thread.Thread.{Thread}
 use Rattle.tw_base.specs.declared.report.Claim.{Claim}
 use Rattle.tw_base.specs.declared.report.Report.{Report}
 use Rattle.tw_base.specs.Clash.{OrClash}
@@ -22,7 +21,7 @@ use Rattle.tw_app.specs.declared.outcome.Outcome.{Outcome}
 use Rattle.tw_app.specs.declared.outcome.Outcome.TheVariants.{Judged, Shown, Refused, Unreadable, BadWords, InputFault, NoMemory}
 use Rattle.tw_app.specs.Commands.{IsBuilt, IsShow, IsVerify}
 use Rattle.tw_app.specs.Outcomes.{status_of, text_of}
-use Rattle.tw_app.specs.Running.{ComesTo, Ends, EndsWith, HasOutcome, HaveNoForm, Refuses, Shows, CantRead}
+use Rattle.tw_app.specs.Running.{ComesTo, Ends, EndsWith, HasOutcome, HaveNoForm, Shows}
 use Rattle.tw_app.specs.Statuses.{AreBuilt, AreOf, AskForEvent, AskForVerdict, IsAcceptedRun, IsFaultRun, IsRefusedRun, IsRejectedRun, IsShownRun, IsUnreadableRun, IsUsage, IsUsageRun}
 use Rattle.tw_app.specs.Verifying.{Judges, proof_file}
 

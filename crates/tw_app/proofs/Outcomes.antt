@@ -1,5 +1,5 @@
 -- From what was read to what a command comes to.
-use Rattle.std.proofs.Common.{◌≡◌, ℕ, List, [], ◌∷◌, map, take, sym, subst, lit<, inl, inr, refl}
+use Rattle.std.proofs.Common.{◌≡◌, ℕ, List, [], ◌∷◌, map, sym, subst, lit<, inl, inr, refl}
 use Rattle.std.specs.Prelude.{Option}
 use Rattle.sha2.specs.Sha256.{sha256}
 use Rattle.tw_base.specs.declared.thread.Thread.{Thread}
@@ -16,7 +16,7 @@ use Rattle.tw_app.specs.declared.outcome.Outcome.TheVariants.{Unreadable}
 use Rattle.tw_app.specs.declared.outcome.BadInput.TheVariants.{BadLine}
 use Rattle.tw_app.specs.BadInputs.{IsWhereMemory}
 use Rattle.tw_app.specs.Running.{ComesTo}
-use Rattle.tw_app.specs.Verifying.{HasAnchors, HasBadLine, IsJudged, Judges}
+use Rattle.tw_app.specs.Verifying.{HasAnchors, IsJudged, Judges}
 use Rattle.tw_app.proofs.AnchorFronts.{file_limit, first_bad_of_front, good_is_whole}
 
 pub judged_by : (told : Option Files) (file : List ℕ) (anchors : List Thread) (verdict : Verdict) (all : List ℕ) → IsThere told file → IsReadTo told file file_limit all

@@ -1,5 +1,5 @@
 -- What a run of the program comes to, and how it ends.
-use Rattle.std.specs.Prelude.{◌≡◌, ◌⊎◌, ℕ, List, Option, Some, MatchOption}
+use Rattle.std.specs.Prelude.{◌≡◌, ◌⊎◌, ℕ, List, Option, MatchOption}
 use Rattle.tw_outside.specs.Faults.{Rose}
 use Rattle.tw_outside.specs.Files.{Files, IsThere, Tells}
 use Rattle.tw_outside.specs.Taken.{Appends, AppendsPart}
