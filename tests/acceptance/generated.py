@@ -110,8 +110,75 @@ def above_the_top():
             yield judged(f"step {step} under {top}, {service}", data, service, pos, line.auths[top])
 
 
+def shown(name, data, step, index):
+    """The case of showing an event of these bytes, as the reference does."""
+    output, status = reference.shown("h", data, step, index)
+    return {"name": name, "files": {"h": data}, "words": ["show", "h", str(step), str(index)], "status": status, "bytes": output}
+
+
+def woven(count, seed):
+    """The steps of a history `woven` that records events and threads of three services, in an order of its own. The archive
+    is an unbalanced tree: each thread adds a leaf and copies of the nodes above it."""
+    rand = random.Random(seed)
+    nodes, threads, last, steps, root = [], {}, {"a": 0, "b": 0, "wide-name": 0}, [], 0
+
+    def key(number):
+        return threads[nodes[number - 1][1]][:2]
+
+    def with_leaf(number, entry):
+        if number == 0:
+            nodes.append((0, entry, 0))
+        else:
+            left, own, right = nodes[number - 1]
+            if threads[entry][:2] < key(number):
+                left = with_leaf(left, entry)
+            else:
+                right = with_leaf(right, entry)
+            nodes.append((left, own, right))
+        return len(nodes)
+
+    for step in range(1, count + 1):
+        if rand.randrange(2):
+            steps.append(reference.Step([event_text(step, k) for k in range(rand.randrange(4))], root=root))
+            continue
+        service = rand.choice(sorted(last))
+        last[service] += rand.randrange(1, 300)
+        threads[step] = (service, last[service], reference.dig(event_text(step, 0)))
+        before = len(nodes)
+        root = with_leaf(root, step)
+        steps.append(reference.Step(thread=threads[step], nodes=nodes[before:], root=root))
+    return steps
+
+
+def histories():
+    """Each event of histories of events alone and of woven ones, and what isn't there."""
+    counts = [1, 3, 0, 2, 7, 1, 1, 5, 2, 1, 4, 1, 1]
+    plain = [reference.Step([event_text(step, k) for k in range(count)]) for step, count in enumerate(counts, 1)]
+    for name, steps in (("plain", plain), ("woven", woven(12, "one")), ("woven", woven(33, "two"))):
+        data = reference.history_bytes(name, steps)
+        for step in range(len(steps) + 2):
+            events = steps[step - 1].events if 1 <= step <= len(steps) else []
+            for index in range(len(events) + 1):
+                yield shown(f"{len(steps)} steps, {name}, event {index} of step {step}", data, step, index)
+
+
+def changed_histories():
+    """Each byte of a small history file changed, and each cut of it."""
+    steps = woven(7, "small")
+    data = reference.history_bytes("woven", steps)
+    last = max(number for number, step in enumerate(steps, 1) if step.events)
+    rand = random.Random("histories")
+    for place in range(len(data)):
+        for value in {data[place] ^ 1, rand.randrange(256)} - {data[place]}:
+            new = data[:place] + bytes([value]) + data[place + 1 :]
+            yield shown(f"byte {place} is {value}", new, last, 0)
+    for size in range(len(data)):
+        yield shown(f"cut to {size}", data[:size], last, 0)
+    yield shown("one byte more", data + b"\x00", last, 0)
+
+
 def cases():
-    groups = (paths, event_trees, sizes, deep, all_changed, above_the_top)
+    groups = (paths, event_trees, sizes, deep, all_changed, above_the_top, histories, changed_histories)
     for group in groups:
         for case in group():
             yield {**case, "name": f"{group.__name__}: {case['name']}"}

@@ -3,8 +3,8 @@
 The acceptance cases take their expected bytes, digests and places from here, and never from the program itself.
 
     python3 tests/acceptance/reference.py           prints the values that the documents quote
-    python3 tests/acceptance/reference.py FILE      writes a proof of an event of a service `shop` to the file, and prints
-                                                    the anchor that it is accepted under
+    python3 tests/acceptance/reference.py FILE      writes the history of a service `shop` to the file, and prints the
+                                                    anchor of its last step
 """
 
 import sys
@@ -86,11 +86,13 @@ def top_level(step):
 
 
 class Timeline:
-    """A service whose steps record events alone, so that its archive stays empty. steps[i - 1] has the events of step i."""
+    """A service's steps: steps[i - 1] has the events of step i, archives[i - 1] the label of its archive after it, which is
+    that of the empty tree where no archives are given."""
 
-    def __init__(self, name, steps):
+    def __init__(self, name, steps, archives=None):
         self.name = name
         self.steps = steps
+        self.archives = archives or [EMPTY_TREE] * len(steps)
         self.auths = [genesis(name)]
         for step in range(1, len(steps) + 1):
             self.auths.append(authenticator(step, self.labels(step)))
@@ -100,7 +102,7 @@ class Timeline:
 
     def datum(self, step):
         events = self.events(step)
-        return datum(event_root(events), EMPTY_TREE, len(events))
+        return datum(event_root(events), self.archives[step - 1], len(events))
 
     def labels(self, step):
         """The labels of the step's links, from level 0 on; the link at a level leads to step - 2^level."""
@@ -144,7 +146,7 @@ def opening_bytes(timeline, step):
     events = timeline.events(step)
     return (
         event_root(events)
-        + EMPTY_TREE
+        + timeline.archives[step - 1]
         + be(len(events), 4)
         + timeline.auths[step - 1]
         + b"".join(timeline.labels(step)[1:])
@@ -326,6 +328,126 @@ def deep_proof(name, step, index, top, events, made_up):
     return proof, reached
 
 
+# ---- history files
+
+HISTORY_LIMIT = 67108864
+
+
+class Step:
+    """What a step of a history records: events, or a thread (service, step, authenticator); the nodes that it adds, each
+    with left side, step of its thread and right side; and the number of the archive's root."""
+
+    def __init__(self, events=(), thread=None, nodes=(), root=0):
+        self.events = list(events)
+        self.thread = thread
+        self.nodes = list(nodes)
+        self.root = root
+
+    def bytes(self):
+        if self.thread:
+            service, step, auth = self.thread
+            content = b"\x02" + padded(service) + be(step, 8) + auth
+        else:
+            content = b"\x01" + be(len(self.events), 4) + b"".join(be(len(event), 4) + event for event in self.events)
+        nodes = b"".join(be(left, 4) + be(entry, 8) + be(right, 4) for left, entry, right in self.nodes)
+        return content + be(len(self.nodes), 2) + nodes + be(self.root, 4)
+
+
+def history_bytes(name, steps):
+    return b"TWH1" + padded(name) + be(len(steps), 8) + b"".join(step.bytes() for step in steps)
+
+
+def read_history(data):
+    """The name and the steps of a history file; raises Malformed where it is none."""
+    read = Reader(data)
+    read.text(b"TWH1")
+    name = read.name()
+    steps = []
+    for _ in range(read.number(8, 0, LAST_STEP)):
+        step = Step()
+        if read.number(1, 1, 2) == 1:
+            step.events = [read.bytes(read.number(4, 0, 1024)) for _ in range(read.number(4, 0, 1024))]
+        else:
+            step.thread = (read.name(), read.number(8, 1, LAST_STEP), read.bytes(32))
+        step.nodes = [
+            (read.number(4, 0, 2**32 - 1), read.number(8, 0, LAST_STEP), read.number(4, 0, 2**32 - 1))
+            for _ in range(read.number(2, 0, 65535))
+        ]
+        step.root = read.number(4, 0, 2**32 - 1)
+        steps.append(step)
+    read.end()
+    return name, steps
+
+
+class Archive:
+    """The trees of a history: the nodes so far, numbered from 1 on, and the threads received so far by their steps."""
+
+    def __init__(self):
+        self.nodes = []
+        self.received = {}
+
+    def keys(self, number):
+        """The keys of a tree in its order: service and step of each thread."""
+        if number == 0:
+            return []
+        left, entry, right = self.nodes[number - 1]
+        return self.keys(left) + [self.received[entry][:2]] + self.keys(right)
+
+    def label(self, number):
+        if number == 0:
+            return EMPTY_TREE
+        left, entry, right = self.nodes[number - 1]
+        service, step, auth = self.received[entry]
+        entry_bytes = padded(service) + be(step, 8) + auth + be(entry, 8)
+        return dig(b"\x15" + self.label(left) + entry_bytes + self.label(right))
+
+
+def broken_rule(name, number, step, archive):
+    """The first rule that the step of this number breaks, or None; the archive gets what it adds."""
+    earlier = list(archive.received.values())
+    if step.thread:
+        archive.received[number] = step.thread
+    for left, entry, right in step.nodes:
+        if max(left, right) > len(archive.nodes) or entry not in archive.received:
+            return 1
+        archive.nodes.append((left, entry, right))
+    if step.root > len(archive.nodes):
+        return 1
+    first = len(archive.nodes) - len(step.nodes) + 1
+    for keys in map(archive.keys, range(first, len(archive.nodes) + 1)):
+        if any(one >= next_one for one, next_one in zip(keys, keys[1:])):
+            return 2
+    if len(archive.keys(step.root)) != len(archive.received):
+        return 3
+    if step.thread and step.thread[0] == name:
+        return 4
+    if step.thread and any(service == step.thread[0] and at >= step.thread[1] for service, at, _ in earlier):
+        return 5
+    return 6 if sum(map(len, step.events)) > 65536 else None
+
+
+def shown(file, data, step, index):
+    """What the program writes of an event of a history file of this name, and its status."""
+    if len(data) > HISTORY_LIMIT:
+        return f"unreadable {file} byte {HISTORY_LIMIT}\n".encode(), 9
+    try:
+        name, steps = read_history(data)
+    except Malformed as bad:
+        return f"unreadable {file} byte {bad.place}\n".encode(), 9
+    archive, archives = Archive(), []
+    for number, recorded in enumerate(steps, 1):
+        rule = broken_rule(name, number, recorded, archive)
+        if rule:
+            return f"unsound {file} step {number} rule {rule}\n".encode(), 9
+        archives.append(archive.label(recorded.root))
+    if not 1 <= step <= len(steps):
+        return f"refused NoStep {len(steps)}\n".encode(), 7
+    if index >= len(steps[step - 1].events):
+        return f"refused NoEvent {len(steps[step - 1].events)}\n".encode(), 7
+    line = Timeline(name, [recorded.events for recorded in steps], archives)
+    return proof_bytes(line, step, index, len(steps)), 0
+
+
 def print_values():
     least = Timeline("a", [[b""]])
     print("least proof", len(proof_bytes(least, 1, 0, 1)), "bytes, authenticator", least.auths[1].hex())
@@ -335,14 +457,13 @@ def print_values():
     print("root of no events", event_root([]).hex())
 
 
-def write_proof(file):
-    """Thirteen steps of three events each; the proof is that of the second event of step 5, under step 13."""
+def write_history(file):
+    """Thirteen steps of three events each."""
     steps = [[f"order {step}.{k}".encode() for k in range(3)] for step in range(1, 14)]
-    line = Timeline("shop", steps)
     with open(file, "wb") as out:
-        out.write(proof_bytes(line, 5, 1, 13))
-    print("shop 13", line.auths[13].hex())
+        out.write(history_bytes("shop", [Step(events) for events in steps]))
+    print("shop 13", Timeline("shop", steps).auths[13].hex())
 
 
 if __name__ == "__main__":
-    write_proof(sys.argv[1]) if len(sys.argv) > 1 else print_values()
+    write_history(sys.argv[1]) if len(sys.argv) > 1 else print_values()

@@ -9,6 +9,7 @@ The cases stand in cases/*.json, those that are counted off in generated.py; doc
     files      files and folders of the folder that it runs in, by name; for their recipes see `made`
     status     the exit status
     stdout     the bytes of standard output, as text; none where the output goes to no file that can be read
+    bytes      in place of stdout, the bytes of standard output as a recipe
     to         where standard output goes: "full" (a device that is full), "closed", "unread" (a pipe that nobody
                reads), "short" (a file that takes five bytes), or a pipe (the default)
     memory     at most so many bytes of memory
@@ -44,6 +45,7 @@ def made(recipe):
     "least"            the least proof
     "folder"           a folder
     {"hex": H}         these bytes
+    {"text": T}        these bytes, as text
     {"from": RECIPE}   another recipe's bytes; then "edits" [[place, hex], ..] puts bytes over its own, "cut" keeps so
                        many of the first bytes, and "pad" appends so many zeros
     {"proof": ..}      a proof of a timeline "name" whose step i has counts[i - 1] events; event k of step i is the text
@@ -57,6 +59,8 @@ def made(recipe):
         return recipe
     if "hex" in recipe:
         return bytes.fromhex(recipe["hex"])
+    if "text" in recipe:
+        return recipe["text"].encode()
     if "proof" in recipe:
         wanted = recipe["proof"]
         line = generated.counted_timeline(wanted["name"], wanted["counts"])
@@ -117,7 +121,7 @@ def difference(program, case):
             status, out, err = ran(program, words, case, room)
         except subprocess.TimeoutExpired:
             return "  it ran for longer than a minute"
-    wanted = case.get("stdout", "").encode()
+    wanted = made(case["bytes"]) if "bytes" in case else case.get("stdout", "").encode()
     if (status, out, err) == (case["status"], wanted, b""):
         return None
     command = " ".join(shlex.quote(word) for word in ["timeweave", *words])

@@ -1,40 +1,45 @@
 -- What is known of a command that words make.
 use Rattle.std.proofs.Common.{◌≡◌, ℕ, List, [], ◌∷◌, Bool, true, false, refl, subst, sym, ◌∙◌}
-use Rattle.std.specs.Prelude.{Option, Some, None, Result, Ok, map, if◌then◌else◌, IfSome, IfNone, IsErrAnd, MatchResult}
+use Rattle.std.specs.Prelude.{Option, Some, None, Result, Ok, map, if◌then◌else◌, IfSome, IfNone, IsErrAnd, MatchOption, MatchResult}
 use Rattle.tw_base.specs.Lists.{Each}
 use Rattle.tw_text.specs.CommandLine.{IsBadWord, command_of, form_names, form_of, word_at}
 use Rattle.tw_text.specs.Forms.{Form, command_by, have_form}
 use Rattle.tw_text.specs.declared.command.Command.{Command}
-use Rattle.tw_text.specs.declared.command.Command.TheVariants.{VerifyOne}
+use Rattle.tw_text.specs.declared.command.Command.TheVariants.{Show, VerifyFile, VerifyOne}
 use Rattle.tw_text.specs.declared.words.WordFault.{WordFault}
 use Rattle.tw_text.specs.declared.words.WordFault.TheVariants.{NoMemory}
+use Rattle.tw_outside.specs.Files.{Files}
+use Rattle.tw_app.specs.declared.outcome.Outcome.{Outcome}
+use Rattle.tw_app.specs.Commands.{files_of}
+use Rattle.tw_app.specs.Running.{ComesTo, HasOutcome, HaveNoForm}
 use Rattle.tw_text.proofs.TableLaws.{command_by-names}
 
--- the proof file of the command is the second word
-abbrev FirstPath : List (List ℕ) → Command → Type 0
-FirstPath words (VerifyOne proof name pos auth) = proof ≡ word_at words 1
-FirstPath words _ = Unit {0}
+-- the files of a command are words of its own
+abbrev pub FilesAreWords : List (List ℕ) → Command → Type 0
+FilesAreWords words (Show history step index) = history ≡ word_at words 1
+FilesAreWords words (VerifyFile proof anchors) = (proof ≡ word_at words 1) × (anchors ≡ word_at words 2)
+FilesAreWords words (VerifyOne proof name pos auth) = proof ≡ word_at words 1
+FilesAreWords words _ = Unit {0}
 
 same_some : (c d : Command) → Some c ≡ Some d → c ≡ d
 same_some c d e = cc
 
-by_forms : (table : List Form) (words : List (List ℕ)) (c : Command) → Each (λ form. FirstPath words (form.command words)) table → command_by table words ≡ Some c → FirstPath words c
+by_forms : (table : List Form) (words : List (List ℕ)) (c : Command) → Each (λ form. FilesAreWords words (form.command words)) table → command_by table words ≡ Some c → FilesAreWords words c
 by_forms [] words c each made = cc
 by_forms (form ∷ table) words c each made =
-    let cases : (b : Bool) → (if b then Some (form.command words) else command_by table words) ≡ Some c → FirstPath words c =
+    let cases : (b : Bool) → (if b then Some (form.command words) else command_by table words) ≡ Some c → FilesAreWords words c =
     elim [
-      | true ↦ λ is. subst (FirstPath words) (same_some (form.command words) c is) each.0
+      | true ↦ λ is. subst (FilesAreWords words) (same_some (form.command words) c is) each.0
       | false ↦ λ is. by_forms table words c each.1 is
     ]
     in cases (have_form form words) made
 
-each_form : (words : List (List ℕ)) → Each (λ form. FirstPath words (form.command words)) (map form_of form_names)
+each_form : (words : List (List ℕ)) → Each (λ form. FilesAreWords words (form.command words)) (map form_of form_names)
 unfolding form_of
-each_form words = (tt, (tt, (tt, (tt, (tt, (tt, (tt, (tt, (tt, (tt, (tt, (tt, (tt, (tt, (refl, (tt, (tt, (tt, (tt, (tt, tt))))))))))))))))))))
+each_form words = (tt, (tt, (tt, (tt, (tt, (tt, (tt, (tt, (tt, (tt, (tt, (refl, (tt, ((refl, refl), (refl, (tt, (tt, (tt, (tt, (tt, tt))))))))))))))))))))
 
-pub proof_word : (words : List (List ℕ)) (proof name : List ℕ) (pos : ℕ) (auth : List ℕ) → command_of words ≡ Some (VerifyOne proof name pos auth) → proof ≡ word_at words 1
-proof_word words proof name pos auth made =
-    by_forms (map form_of form_names) words (VerifyOne proof name pos auth) (each_form words) (sym (command_by-names words) ∙ made)
+pub files_are_words : (words : List (List ℕ)) (c : Command) → command_of words ≡ Some c → FilesAreWords words c
+files_are_words words c made = by_forms (map form_of form_names) words c (each_form words) (sym (command_by-names words) ∙ made)
 
 -- ---- what reading words answered
 
@@ -52,3 +57,48 @@ read_command words c some none = by (command_of words) refl some none
     by : (o : Option Command) → command_of words ≡ o → IfSome o (λ command. MatchResult (asOk c) (λ d. d ≡ command) (λ e. e ≡ NoMemory)) → IfNone o (IsErrAnd (asOk c) (IsBadWord words)) → command_of words ≡ Some c
     by None is some none = absurd none
     by (Some d) is some none = is ∙ (λ i. Some (sym some i))
+
+-- ---- from a command to its files, which are words
+
+module _ (words : List (List ℕ)) (c : Command) (made : command_of words ≡ Some c) where
+  module _ (P : List ℕ → Type 0) (files : Each P (files_of c)) where
+    pub asks_history : (history : List ℕ) (step index : ℕ) → c ≡ Show history step index → P (word_at words 1)
+    asks_history history step index is =
+        subst P (subst (FilesAreWords words) is (files_are_words words c made)) (subst (λ d. Each P (files_of d)) is files).0
+
+    pub asks_files : (proof anchors : List ℕ) → c ≡ VerifyFile proof anchors → P (word_at words 1) × P (word_at words 2)
+    asks_files proof anchors is =
+        let both = subst (FilesAreWords words) is (files_are_words words c made) in
+        let asked = subst (λ d. Each P (files_of d)) is files in
+        (subst P both.0 asked.0, subst P both.1 asked.1.0)
+
+    pub asks_proof : (proof name : List ℕ) (pos : ℕ) (auth : List ℕ) → c ≡ VerifyOne proof name pos auth → P (word_at words 1)
+    asks_proof proof name pos auth is =
+        subst P (subst (FilesAreWords words) is (files_are_words words c made)) (subst (λ d. Each P (files_of d)) is files).0
+
+  module _ (told : Option Files) (before after : ℕ) (outcome : Outcome) where
+    pub comes_of_show : (history file : List ℕ) (step index : ℕ) → c ≡ Show history step index → file ≡ word_at words 1
+        → ComesTo told before after (Show file step index) outcome → ComesTo told before after c outcome
+    comes_of_show history file step index is at comes =
+        let same : file ≡ history = at ∙ sym (subst (FilesAreWords words) is (files_are_words words c made)) in
+        subst (λ d. ComesTo told before after d outcome) (sym is) (subst (λ f. ComesTo told before after (Show f step index) outcome) same comes)
+
+    pub comes_of_files : (proof anchors file anchors_file : List ℕ) → c ≡ VerifyFile proof anchors → file ≡ word_at words 1 → anchors_file ≡ word_at words 2
+        → ComesTo told before after (VerifyFile file anchors_file) outcome → ComesTo told before after c outcome
+    comes_of_files proof anchors file anchors_file is at anchors_at comes =
+        let both = subst (FilesAreWords words) is (files_are_words words c made) in
+        let same : file ≡ proof = at ∙ sym both.0 in
+        let same_anchors : anchors_file ≡ anchors = anchors_at ∙ sym both.1 in
+        subst (λ d. ComesTo told before after d outcome) (sym is)
+        (subst (λ f. ComesTo told before after (VerifyFile f anchors) outcome) same
+        (subst (λ f. ComesTo told before after (VerifyFile file f) outcome) same_anchors comes))
+
+    pub comes_of_proof : (proof name file : List ℕ) (pos : ℕ) (auth : List ℕ) → c ≡ VerifyOne proof name pos auth → file ≡ word_at words 1
+        → ComesTo told before after (VerifyOne file name pos auth) outcome → ComesTo told before after c outcome
+    comes_of_proof proof name file pos auth is at comes =
+        let same : file ≡ proof = at ∙ sym (subst (FilesAreWords words) is (files_are_words words c made)) in
+        subst (λ d. ComesTo told before after d outcome) (sym is) (subst (λ f. ComesTo told before after (VerifyOne f name pos auth) outcome) same comes)
+
+    -- what the words' command comes to, the words come to
+    pub has_outcome : ComesTo told before after c outcome → HasOutcome told before after words outcome
+    has_outcome comes = subst (λ o. MatchOption o (HaveNoForm words outcome) (λ d. ComesTo told before after d outcome)) (sym made) comes

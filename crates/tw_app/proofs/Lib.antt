@@ -1,3 +1,5 @@
 pub mod CommandWords
+pub mod AnchorFronts
 pub mod Outcomes
+pub mod Histories
 pub mod Endings

@@ -1,76 +1,80 @@
--- From what was read and judged to the outcome.
-use Rattle.std.proofs.Common.{◌≡◌, ℕ, List, [], ◌∷◌, take, ap, sym, ◌∙◌, subst, lit<}
-use Rattle.std.specs.Prelude.{Option, Some, IfSome, MatchOption}
+-- From what was read to what a command comes to.
+use Rattle.std.proofs.Common.{◌≡◌, ℕ, List, [], ◌∷◌, map, sym, subst, lit<, inl, inr, refl}
+use Rattle.std.specs.Prelude.{Option}
 use Rattle.sha2.specs.Sha256.{sha256}
 use Rattle.tw_base.specs.declared.thread.Thread.{Thread}
-use Rattle.tw_base.specs.Lists.{Each}
-use Rattle.tw_outside.specs.Files.{Files, IsThere, Tells}
-use Rattle.tw_text.specs.CommandLine.{command_of, word_at}
+use Rattle.tw_outside.specs.Files.{Files, IsReadTo, IsThere}
 use Rattle.tw_text.specs.declared.command.Command.{Command}
-use Rattle.tw_text.specs.declared.command.Command.TheVariants.{VerifyOne}
+use Rattle.tw_text.specs.declared.command.Command.TheVariants.{VerifyFile, VerifyOne}
+use Rattle.tw_msg.specs.Anchors.{AllGood, IsFirstBadLine, anchor, lines}
 use Rattle.tw_chain.specs.declared.verdict.Verdict.{Verdict}
 use Rattle.tw_chain.specs.Binding.{BindsHistories}
 use Rattle.tw_chain.specs.Reasons.{IsVerdict}
 use Rattle.tw_chain.proofs.Fronts.{binds_of_front, verdict_of_front}
 use Rattle.tw_app.specs.declared.outcome.Outcome.{Outcome}
-use Rattle.tw_app.specs.declared.outcome.Outcome.TheVariants.{Judged, BadWords, InputFault, NoMemory}
-use Rattle.tw_app.specs.Commands.{IsBuilt, anchor_given, files_of}
-use Rattle.tw_app.specs.Running.{HasFileOutcome, HasOutcome, IsJudged}
-use Rattle.tw_app.proofs.CommandWords.{proof_word}
+use Rattle.tw_app.specs.declared.outcome.Outcome.TheVariants.{Unreadable}
+use Rattle.tw_app.specs.declared.outcome.BadInput.TheVariants.{BadLine}
+use Rattle.tw_app.specs.BadInputs.{IsWhereMemory}
+use Rattle.tw_app.specs.Running.{ComesTo}
+use Rattle.tw_app.specs.Verifying.{HasAnchors, IsJudged, Judges}
+use Rattle.tw_app.proofs.AnchorFronts.{file_limit, first_bad_of_front, good_is_whole}
 
--- of a proof file so many bytes are read
-abbrev pub proof_limit : ℕ
-proof_limit = 5242880
-
-pub judged_by : (told : Option Files) (file : List ℕ) (anchor : Thread) (verdict : Verdict) (all : List ℕ) → IsThere told file
-    → ((bytes : List ℕ) → Tells told file bytes → all ≡ take proof_limit bytes)
-    → IsVerdict sha256 (anchor ∷ []) all verdict → BindsHistories sha256 (anchor ∷ []) all verdict → IsJudged told file anchor verdict
-judged_by told file anchor verdict all there read is holds = record {
+pub judged_by : (told : Option Files) (file : List ℕ) (anchors : List Thread) (verdict : Verdict) (all : List ℕ) → IsThere told file → IsReadTo told file file_limit all
+    → IsVerdict sha256 anchors all verdict → BindsHistories sha256 anchors all verdict → IsJudged told file anchors verdict
+judged_by told file anchors verdict all there read is holds = record {
   there = there;
-  is_verdict = λ bytes tells. verdict_of_front proof_limit (lit< tt) bytes sha256 (anchor ∷ []) verdict (subst (λ a. IsVerdict sha256 (anchor ∷ []) a verdict) (read bytes tells) is);
-  binds = λ bytes tells. binds_of_front proof_limit (lit< tt) bytes sha256 (anchor ∷ []) verdict (subst (λ a. BindsHistories sha256 (anchor ∷ []) a verdict) (read bytes tells) holds);
+  is_verdict = λ bytes tells. verdict_of_front file_limit (lit< tt) bytes sha256 anchors verdict (subst (λ a. IsVerdict sha256 anchors a verdict) (read bytes tells) is);
+  binds = λ bytes tells. binds_of_front file_limit (lit< tt) bytes sha256 anchors verdict (subst (λ a. BindsHistories sha256 anchors a verdict) (read bytes tells) holds);
 }
 
--- the command that gives an anchor is `verify` of one file
-abbrev pub IsVerify : Command → Thread → Type 0
-IsVerify command anchor = (proof : List ℕ) × (command ≡ VerifyOne proof anchor.from anchor.step anchor.auth)
+pub judges_one : (told : Option Files) (file : List ℕ) (anchor : Thread) (verdict : Verdict) (all : List ℕ) → IsThere told file → IsReadTo told file file_limit all
+    → IsVerdict sha256 (anchor ∷ []) all verdict → BindsHistories sha256 (anchor ∷ []) all verdict
+    → Judges told (VerifyOne file anchor.from anchor.step anchor.auth) verdict
+judges_one told file anchor verdict all there read is holds = record {
+  file = file;
+  anchors = anchor ∷ [];
+  asked = refl;
+  given = refl;
+  judged = judged_by told file (anchor ∷ []) verdict all there read is holds;
+}
 
-pub is_verify : (command : Command) (anchor : Thread) → anchor_given command ≡ Some anchor → IsVerify command anchor
-is_verify (VerifyOne proof name pos auth) anchor given =
-    let from : name ≡ anchor.from = ap (λ (t : Thread). t.from) (same_some _ anchor given) in
-    let step : pos ≡ anchor.step = ap (λ (t : Thread). t.step) (same_some _ anchor given) in
-    let at : auth ≡ anchor.auth = ap (λ (t : Thread). t.auth) (same_some _ anchor given) in
-    (proof, (λ i. VerifyOne proof (from i) (step i) (at i)))
-  where
-    same_some : (t u : Thread) → Some t ≡ Some u → t ≡ u
-    same_some t u e = cc
-is_verify command anchor given = cc
+-- the anchors of what was read of their file are the anchors of the file
+has_anchors : (told : Option Files) (file : List ℕ) (anchors : List Thread) (all : List ℕ) → IsThere told file → IsReadTo told file file_limit all
+    → anchors ≡ map anchor (lines all) → AllGood (lines all) → HasAnchors told file anchors
+has_anchors told file anchors all there read are good = record {
+  there = there;
+  good = λ bytes tells. subst (λ b. AllGood (lines b)) (good_is_whole all bytes (read bytes tells) good) good;
+  same = λ bytes tells. subst (λ b. anchors ≡ map anchor (lines b)) (good_is_whole all bytes (read bytes tells) good) are;
+}
 
-pub asked : (P : List ℕ → Type 0) (words : List (List ℕ)) (command : Command) (anchor : Thread) → IfSome (command_of words) (λ c. Each P (files_of c))
-    → command_of words ≡ Some command → anchor_given command ≡ Some anchor → P (word_at words 1)
-asked P words command anchor may is given =
-    let verify = is_verify command anchor given in
-    let made : command_of words ≡ Some (VerifyOne verify.0 anchor.from anchor.step anchor.auth) = is ∙ ap (λ (c : Command). Some c) verify.1 in
-    let files : Each P (verify.0 ∷ []) = subst (λ o. IfSome o (λ c. Each P (files_of c))) made may in
-    subst P (proof_word words verify.0 anchor.from anchor.step anchor.auth made) files.0
+pub judges_file : (told : Option Files) (proof file : List ℕ) (anchors : List Thread) (verdict : Verdict) (all all_lines : List ℕ)
+    → IsThere told file → IsReadTo told file file_limit all_lines → anchors ≡ map anchor (lines all_lines) → AllGood (lines all_lines)
+    → IsThere told proof → IsReadTo told proof file_limit all
+    → IsVerdict sha256 anchors all verdict → BindsHistories sha256 anchors all verdict
+    → Judges told (VerifyFile proof file) verdict
+judges_file told proof file anchors verdict all all_lines lines_there lines_read are good there read is holds = record {
+  file = proof;
+  anchors = anchors;
+  asked = refl;
+  given = has_anchors told file anchors all_lines lines_there lines_read are good;
+  judged = judged_by told proof anchors verdict all there read is holds;
+}
 
-pub file_outcome : (told : Option Files) (before after : ℕ) (words : List (List ℕ)) (file : List ℕ) (command : Command) (anchor : Thread) (outcome : Outcome)
-    → file ≡ word_at words 1 → command_of words ≡ Some command → anchor_given command ≡ Some anchor
-    → HasFileOutcome told before after file anchor outcome → HasOutcome told before after words outcome
-file_outcome told before after words file command anchor (Judged verdict) at is given has =
-    let verify = is_verify command anchor given in
-    let made : command_of words ≡ Some (VerifyOne verify.0 anchor.from anchor.step anchor.auth) = is ∙ ap (λ (c : Command). Some c) verify.1 in
-    record {
-      proof = verify.0;
-      name = anchor.from;
-      pos = anchor.step;
-      auth = anchor.auth;
-      command = made;
-      judged = subst (λ f. IsJudged told f anchor verdict) (at ∙ sym (proof_word words verify.0 anchor.from anchor.step anchor.auth made)) has;
-    }
-file_outcome told before after words file command anchor (BadWords number) at is given has = absurd has
-file_outcome told before after words file command anchor InputFault at is given has =
-    let verify = is_verify command anchor given in
-    let made : command_of words ≡ Some (VerifyOne verify.0 anchor.from anchor.step anchor.auth) = is ∙ ap (λ (c : Command). Some c) verify.1 in
-    (subst (λ o. MatchOption o ⊥ IsBuilt) (sym made) tt, has)
-file_outcome told before after words file command anchor NoMemory at is given has = tt
+-- an outcome that comes unless there was no memory for it
+pub where_memory : (told : Option Files) (before after : ℕ) (command : Command) (wanted outcome : Outcome) → IsWhereMemory wanted outcome
+    → ComesTo told before after command wanted → ComesTo told before after command outcome
+where_memory told before after command wanted outcome (inl is) comes = subst (ComesTo told before after command) (sym is) comes
+where_memory told before after command wanted outcome (inr none) comes = subst (ComesTo told before after command) (sym none) tt
+
+pub refuses_line : (told : Option Files) (before after : ℕ) (proof file : List ℕ) (number : ℕ) (all_lines : List ℕ) (outcome : Outcome)
+    → IsThere told proof → IsThere told file → IsReadTo told file file_limit all_lines → IsFirstBadLine (lines all_lines) number
+    → IsWhereMemory (Unreadable (BadLine file number)) outcome → ComesTo told before after (VerifyFile proof file) outcome
+refuses_line told before after proof file number all_lines outcome proof_there there read bad is =
+    where_memory told before after (VerifyFile proof file) (Unreadable (BadLine file number)) outcome is (
+      refl,
+      record {
+        proof_there = proof_there;
+        there = there;
+        bad = λ bytes tells. first_bad_of_front bytes number (subst (λ a. IsFirstBadLine (lines a) number) (read bytes tells) bad);
+      },
+    )

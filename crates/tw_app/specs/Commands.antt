@@ -1,6 +1,5 @@
 -- The commands: which files they name, and which of them are built.
-use Rattle.std.specs.Prelude.{ℕ, List, [], ◌∷◌, Option, Some, None}
-use Rattle.tw_base.specs.declared.thread.Thread.{Thread as Anchor}
+use Rattle.std.specs.Prelude.{ℕ, List, [], ◌∷◌}
 use Rattle.tw_text.specs.declared.command.Command.{Command}
 use Rattle.tw_text.specs.declared.command.Command.TheVariants.{Init, Append, Thread, Receive, ProveEvent, ProveThread, ProveAbsent, ProveLink, MapLow, MapHigh, Export, Show, Join, VerifyFile, VerifyOne, Strict, CheckMap, Audit, Replay, Generate}
 
@@ -27,12 +26,20 @@ files_of (Audit proof anchors histories) = proof ∷ anchors ∷ histories
 files_of (Replay file) = file ∷ []
 files_of (Generate number steps) = []
 
+-- the commands that judge a proof
+abbrev pub IsVerify : Command → Type 0
+IsVerify (VerifyFile proof anchors) = Unit {0}
+IsVerify (VerifyOne proof name pos auth) = Unit {0}
+IsVerify _ = ⊥
+
+-- the command that shows an event of a history
+abbrev pub IsShow : Command → Type 0
+IsShow (Show history step index) = Unit {0}
+IsShow _ = ⊥
+
 -- the commands whose work is built
 abbrev pub IsBuilt : Command → Type 0
+IsBuilt (Show history step index) = Unit {0}
+IsBuilt (VerifyFile proof anchors) = Unit {0}
 IsBuilt (VerifyOne proof name pos auth) = Unit {0}
 IsBuilt _ = ⊥
-
--- the one anchor that the command gives
-abbrev pub anchor_given : Command → Option Anchor
-anchor_given (VerifyOne proof name pos auth) = Some (record { from = name; step = pos; auth = auth })
-anchor_given _ = None

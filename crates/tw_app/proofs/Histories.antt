@@ -1,0 +1,110 @@
+-- From a history file that was read to what showing an event of it comes to.
+use Rattle.std.proofs.Common.{◌≡◌, ℕ, suc, zero, ◌<◌, ◌≤◌, List, length, take, min, refl, subst, ap, ◌∙◌, arith, inl, inr}
+use Rattle.std.specs.Prelude.{Option, Some, None, Result, Ok, Err, IfOk}
+use Rattle.std.proofs.lemmas.Bool.{cases_lt}
+use Rattle.std.proofs.lemmas.List.{length-take, length-take-le, take_all}
+use Rattle.std.proofs.lemmas.Option.{slice_get_within}
+use Rattle.sha2.specs.Sha256.{sha256}
+use Rattle.tw_base.specs.declared.thread.Thread.{Thread}
+use Rattle.tw_base.specs.Anchors.{anchor_of}
+use Rattle.tw_base.specs.Auth.{auth}
+use Rattle.tw_base.specs.History.{History, Step, events_at, events_of, step_at}
+use Rattle.tw_base.specs.Sound.{IsSound}
+use Rattle.tw_outside.specs.Files.{Files, IsReadTo, IsThere}
+use Rattle.tw_text.specs.declared.command.Command.TheVariants.{Show}
+use Rattle.tw_chain.specs.Accepting.{Accepts}
+use Rattle.tw_chain.specs.Making.{IsExistenceOf, MakesExistence}
+use Rattle.tw_history.specs.HistoryFile.{most_bytes}
+use Rattle.tw_history.specs.Refusals.{ReadsHistory}
+use Rattle.tw_history.specs.declared.fault.HistoryFault.{HistoryFault}
+use Rattle.tw_history.specs.declared.fault.HistoryFault.TheVariants.{Malformed, NoMemory, TooLong, Unsound}
+use Rattle.tw_history.specs.declared.fault.ShowFault.{ShowFault}
+use Rattle.tw_app.specs.declared.outcome.Outcome.{Outcome}
+use Rattle.tw_app.specs.BadInputs.{IsWhereMemory, outcome_of_fault}
+use Rattle.tw_app.specs.Running.{ComesTo}
+use Rattle.tw_app.specs.Showing.{OfHistory, ProvesEvent}
+use Rattle.tw_app.proofs.Outcomes.{where_memory}
+
+-- ---- what was read of the file
+
+-- of a history file so many bytes are read
+abbrev pub history_read : ℕ
+history_read = 67108865
+
+-- a file of which no more than the limit was read has no more
+is_whole : (all bytes : List ℕ) → all ≡ take history_read bytes → length all ≤ most_bytes → all ≡ bytes
+is_whole all bytes is short = elim (cases_lt history_read (length bytes)) [
+  | inl longer ↦
+      let size : length (take history_read bytes) ≡ history_read = length-take-le history_read bytes (omega arith) in
+      absurd (omega (arith, ap length is, size, short))
+  | inr fits ↦ is ∙ take_all history_read bytes fits
+]
+
+is_longer : (all bytes : List ℕ) → all ≡ take history_read bytes → most_bytes < length all → most_bytes < length bytes
+is_longer all bytes is longer = omega (arith, ap length is, length-take history_read bytes, longer)
+
+module _ (told : Option Files) (file all : List ℕ) (there : IsThere told file) (read : IsReadTo told file history_read all) where
+  pub of_history : (P : History → Type 0) (h : History) → ReadsHistory all (Ok h) → P h → OfHistory told file P
+  of_history P h reads holds = record {
+    there = there;
+    holds = λ bytes tells.
+        let whole : all ≡ bytes = is_whole all bytes (read bytes tells) reads.0 in
+        let same : ReadsHistory bytes (Ok h) = subst (λ b. ReadsHistory b (Ok h)) whole reads in
+        (h, record { short = same.0; spelled = same.1; sound = same.2 }, holds);
+  }
+
+  of_fault : (before after step index : ℕ) (f : HistoryFault) → ReadsHistory all (Err f) → ComesTo told before after (Show file step index) (outcome_of_fault file f)
+  of_fault before after step index (TooLong count) reads =
+      (refl, there, λ bytes tells. inl (is_longer all bytes (read bytes tells) reads.0, refl))
+  of_fault before after step index (Malformed place) reads = (
+    refl,
+    there,
+    λ bytes tells.
+        inr (subst (λ b. ReadsHistory b (Err (Malformed place))) (is_whole all bytes (read bytes tells) reads.0) reads),
+  )
+  of_fault before after step index (Unsound broken rule) reads = (
+    refl,
+    there,
+    λ bytes tells.
+        subst (λ b. ReadsHistory b (Err (Unsound broken rule))) (is_whole all bytes (read bytes tells) reads.0) reads,
+  )
+  of_fault before after step index NoMemory reads = tt
+
+  pub refuses_file : (before after step index : ℕ) (f : HistoryFault) (outcome : Outcome) → ReadsHistory all (Err f)
+      → IsWhereMemory (outcome_of_fault file f) outcome → ComesTo told before after (Show file step index) outcome
+  refuses_file before after step index f outcome reads is =
+      where_memory told before after (Show file step index) (outcome_of_fault file f) outcome is (of_fault before after step index f reads)
+
+-- ---- an index of more than 32 bits
+
+few_events : (h : History) (step : ℕ) → IsSound h → length (events_at h step) ≤ 1024
+few_events h zero sound = omega arith
+few_events h (suc i) sound = by (step_at h (suc i)) refl
+  where
+    by : (o : Option Step) → step_at h (suc i) ≡ o → length (events_of o) ≤ 1024
+    by None is = omega arith
+    by (Some s) is = (sound.steps i s is).event_count
+
+makes_at : (h : History) (step index top : ℕ) (bytes : List ℕ) → IsSound h → MakesExistence sha256 h step (min index 4294967295) top bytes
+    → MakesExistence sha256 h step index top bytes
+makes_at h step index top bytes sound makes = elim (cases_lt 4294967295 index) [
+  | inl more ↦
+      let p = makes.0 in
+      let is : IsExistenceOf sha256 h step (min index 4294967295) top p = makes.2 in
+      let inside : min index 4294967295 < length (events_at h step) = slice_get_within (events_at h step) (min index 4294967295) p.event.event is.event in
+      absurd (omega (arith, inside, few_events h step sound, more))
+  | inr less ↦
+      let same : min index 4294967295 ≡ index = omega (arith, less) in
+      subst (λ i. MakesExistence sha256 h step i top bytes) same makes
+]
+
+pub shown_at : (h : History) (step index at : ℕ) → IsSound h → at ≡ min index 4294967295 → (result : Result (List ℕ) ShowFault)
+    → IfOk result (MakesExistence sha256 h step at (length h.steps))
+    → IfOk result (λ bytes. (anchors : List Thread) (anchor : Thread) → anchor_of anchors h.name (length h.steps) ≡ Some anchor
+    → anchor.auth ≡ auth sha256 h (length h.steps) → Accepts sha256 anchors bytes)
+    → IfOk result (λ bytes. ProvesEvent step index bytes h)
+shown_at h step index at sound is (Ok bytes) makes accepted = record {
+  makes = makes_at h step index (length h.steps) bytes sound (subst (λ i. MakesExistence sha256 h step i (length h.steps) bytes) is makes);
+  accepted = accepted;
+}
+shown_at h step index at sound is (Err fault) makes accepted = tt

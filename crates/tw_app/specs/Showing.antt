@@ -1,0 +1,58 @@
+-- When an event of a history file is shown, and when it isn't.
+use Rattle.std.specs.Prelude.{◌≡◌, ◌⊎◌, ℕ, ◌<◌, ◌≤◌, List, length, Option, Some}
+use Rattle.sha2.specs.Sha256.{sha256}
+use Rattle.tw_base.specs.declared.thread.Thread.{Thread}
+use Rattle.tw_base.specs.Anchors.{anchor_of}
+use Rattle.tw_base.specs.Auth.{auth}
+use Rattle.tw_base.specs.Formats.{IsPlace, Spells, SpellsNothing}
+use Rattle.tw_base.specs.History.{History}
+use Rattle.tw_base.specs.Sound.{IsSound}
+use Rattle.tw_outside.specs.Files.{Files, IsThere, Tells}
+use Rattle.tw_chain.specs.Accepting.{Accepts}
+use Rattle.tw_chain.specs.Making.{MakesExistence}
+use Rattle.tw_history.specs.HistoryFile.{most_bytes}
+use Rattle.tw_history.specs.Layout.{history_layout}
+use Rattle.tw_history.specs.Refusals.{RefusesEvent}
+use Rattle.tw_history.specs.Rules.{IsFirstBroken}
+use Rattle.tw_history.specs.declared.fault.ShowFault.{ShowFault}
+use Rattle.tw_history.specs.declared.fault.ShowFault.TheVariants as fault
+use Rattle.tw_app.specs.declared.outcome.Refusal.{Refusal}
+use Rattle.tw_app.specs.declared.outcome.Refusal.TheVariants.{NoStep, NoEvent}
+
+-- the bytes are a history file of this sound history
+pub record IsFileOf (bytes : List ℕ) (h : History) : Type 0 where
+  pub short : length bytes ≤ most_bytes
+  pub spelled : Spells history_layout bytes h
+  pub sound : IsSound h
+
+-- the file is there; where the inputs tell its bytes, they are the file of a sound history for which P holds
+pub record OfHistory (told : Option Files) (file : List ℕ) (P : History → Type 0) : Type 0 where
+  pub there : IsThere told file
+  pub holds : (bytes : List ℕ) → Tells told file bytes → (h : History) × IsFileOf bytes h × P h
+
+-- the bytes are the proof that the history has of this event, with its last step as the top; so whoever holds the
+-- history's authenticator of that step accepts them
+pub record ProvesEvent (step index : ℕ) (proof : List ℕ) (h : History) : Type 0 where
+  pub makes : MakesExistence sha256 h step index (length h.steps) proof
+  pub accepted : (anchors : List Thread) (anchor : Thread) → anchor_of anchors h.name (length h.steps) ≡ Some anchor
+      → anchor.auth ≡ auth sha256 h (length h.steps) → Accepts sha256 anchors proof
+
+-- the history has no such step, and its last one is told; or the step no such event, and the number of its events is told
+abbrev pub fault_of : Refusal → ShowFault
+fault_of (NoStep last) = fault.NoStep last
+fault_of (NoEvent count) = fault.NoEvent count
+
+abbrev pub RefusesToShow : (step index : ℕ) → Refusal → History → Type 0
+RefusesToShow step index refusal h = RefusesEvent h step index (fault_of refusal)
+
+-- the place at which the bytes are no history file: the limit, where they are more than that; else that of the first byte at
+-- which no history file goes on
+abbrev pub IsBadByte : (bytes : List ℕ) (place : ℕ) → Type 0
+IsBadByte bytes place =
+    ((most_bytes < length bytes) × (place ≡ most_bytes))
+    ⊎ ((length bytes ≤ most_bytes) × SpellsNothing history_layout bytes × IsPlace history_layout bytes place)
+
+-- the bytes are the file of a history of which this is the first step that breaks a rule, and the first rule that it breaks
+abbrev pub BreaksRule : (bytes : List ℕ) (step rule : ℕ) → Type 0
+BreaksRule bytes step rule =
+    (length bytes ≤ most_bytes) × ((h : History) × Spells history_layout bytes h × IsFirstBroken h step rule)
