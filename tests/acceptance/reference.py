@@ -98,9 +98,12 @@ class Timeline:
     def events(self, step):
         return self.steps[step - 1]
 
+    def archive_label(self, step):
+        return EMPTY_TREE
+
     def datum(self, step):
         events = self.events(step)
-        return datum(event_root(events), EMPTY_TREE, len(events))
+        return datum(event_root(events), self.archive_label(step), len(events))
 
     def labels(self, step):
         """The labels of the step's links, from level 0 on; the link at a level leads to step - 2^level."""
@@ -144,7 +147,7 @@ def opening_bytes(timeline, step):
     events = timeline.events(step)
     return (
         event_root(events)
-        + EMPTY_TREE
+        + timeline.archive_label(step)
         + be(len(events), 4)
         + timeline.auths[step - 1]
         + b"".join(timeline.labels(step)[1:])

@@ -8,7 +8,7 @@ The cases stand in cases/*.json, those that are counted off in generated.py; doc
     words      the program's arguments; $AUTH is the authenticator of step 1 of the least proof
     files      files and folders of the folder that it runs in, by name; for their recipes see `made`
     status     the exit status
-    stdout     the bytes of standard output, as text; none where the output goes to no file that can be read
+    stdout     the bytes of standard output, as text or bytes; none where the output goes to no file that can be read
     to         where standard output goes: "full" (a device that is full), "closed", "unread" (a pipe that nobody
                reads), "short" (a file that takes five bytes), or a pipe (the default)
     memory     at most so many bytes of memory
@@ -30,6 +30,7 @@ from pathlib import Path
 
 import documents
 import generated
+import histories
 import reference
 
 HERE = Path(__file__).resolve().parent
@@ -117,7 +118,8 @@ def difference(program, case):
             status, out, err = ran(program, words, case, room)
         except subprocess.TimeoutExpired:
             return "  it ran for longer than a minute"
-    wanted = case.get("stdout", "").encode()
+    wanted = case.get("stdout", "")
+    wanted = wanted if isinstance(wanted, bytes) else wanted.encode()
     if (status, out, err) == (case["status"], wanted, b""):
         return None
     command = " ".join(shlex.quote(word) for word in ["timeweave", *words])
@@ -129,6 +131,7 @@ def all_cases():
         for case in json.loads(path.read_text()):
             yield {**case, "name": f"{path.stem}: {case['name']}"}
     yield from generated.cases()
+    yield from histories.cases()
     yield from documents.cases()
 
 
