@@ -93,6 +93,37 @@ def text_sizes(step, index, top, events):
     return opening + links + [1 + len(events[index])] + [65] * reference.path_length(len(events), index)
 
 
+def history_file(path, size, per_step):
+    """Writes a history of about so many bytes, of 200-byte events, so many a step; answers its number of steps."""
+    step = b"\x01" + reference.be(per_step, 4) + (reference.be(200, 4) + bytes(200)) * per_step + bytes(6)
+    count = (size - 28) // len(step)
+    with open(path, "wb") as file:
+        file.write(b"TWH1" + reference.padded("bench") + reference.be(count, 8))
+        for _ in range(count):
+            file.write(step)
+    return count
+
+
+def shown_rows(program, folder):
+    """How long `show` takes on histories of 1 to 64 MiB, and its instructions beside those of the hashes."""
+    null = os.open("/dev/null", os.O_WRONLY)
+    times, counts = [], []
+    for per_step in (300, 1):
+        for size in (1, 4, 16, 64):
+            path = f"{folder}/history"
+            steps = history_file(path, size * 2**20, per_step)
+            words = [program, "show", path, "1", "0"]
+            took = min(seconds(words, null) for _ in range(5))
+            times.append(f"| {size} | {per_step} | {steps:,} | {took * 1e3:.1f} | {took * 1e3 / size:.2f} |")
+            if size == 16 and shutil.which("valgrind"):
+                total, own, inside, calls = counted(words, folder)
+                counts.append(
+                    f"| {per_step} | {calls:,} | {inside:,} | {own:,} | {own / inside:.2f} | {total:,} | {total / inside:.2f} |"
+                )
+    os.close(null)
+    return times, counts
+
+
 def main():
     program = os.path.realpath(sys.argv[1] if len(sys.argv) > 1 else TOP / "crates/timeweave/out/timeweave")
     least = reference.Timeline("a", [[b""]])
@@ -121,6 +152,24 @@ def main():
             "|---|---|---|",
             *rows,
         ]
+        times, counts = shown_rows(program, folder)
+        text += [
+            "",
+            "`show HISTORY 1 0` on histories of events of 200 bytes:",
+            "",
+            "| MiB | events a step | steps | best of 5 runs, in milliseconds | a MiB |",
+            "|---|---|---|---|---|",
+            *times,
+        ]
+        if counts:
+            text += [
+                "",
+                "The same on 16 MiB, in instructions:",
+                "",
+                "| events a step | blocks hashed | inside the compression function | the program's own code | ratio | in all | ratio |",
+                "|---|---|---|---|---|---|---|",
+                *counts,
+            ]
         if shutil.which("valgrind"):
             total, own, inside, calls = counted(verify_deep, folder)
             wanted = blocks(text_sizes(step, index, top, events))

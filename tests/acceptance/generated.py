@@ -177,8 +177,54 @@ def changed_histories():
     yield shown("one byte more", data + b"\x00", last, 0)
 
 
+def broken_by_hand():
+    """Histories of a service `a` that break a rule, each by what its name says, with the rule."""
+    b5, b4, own, c1 = (("b", 5, bytes(32)), ("b", 4, bytes(32)), ("a", 1, bytes(32)), ("c", 1, bytes(32)))
+
+    def thread(received, nodes, root):
+        return reference.Step(thread=received, nodes=nodes, root=root)
+
+    yield 1, "a node beside itself", [thread(b5, [(1, 1, 0)], 1)]
+    yield 1, "a node of a later step", [thread(b5, [(0, 2, 0)], 1), thread(c1, [(1, 2, 0)], 2)]
+    yield 1, "a node of a step of events", [reference.Step([b"x"]), thread(b5, [(0, 1, 0)], 1)]
+    yield 1, "a node of step 0", [thread(b5, [(0, 0, 0)], 1)]
+    yield 1, "a root above the nodes", [thread(b5, [(0, 1, 0)], 2)]
+    yield 2, "keys by step before name", [thread(b5, [(0, 1, 0)], 1), thread(c1, [(0, 2, 1)], 2)]
+    yield 2, "a thread again, in the tree twice", [thread(b5, [(0, 1, 0)], 1), thread(b5, [(0, 2, 1)], 2)]
+    yield 2, "an entry twice", [thread(b5, [(0, 1, 0), (1, 1, 0)], 2)]
+    yield 3, "a thread again, in the tree once", [thread(b5, [(0, 1, 0)], 1), thread(b5, [], 1)]
+    yield 3, "a root that lost an entry", [thread(b5, [(0, 1, 0)], 1), reference.Step([b""])]
+    yield 3, "a thread left out", [thread(b5, [(0, 1, 0)], 1), thread(c1, [], 1)]
+    yield 4, "an own thread", [thread(own, [(0, 1, 0)], 1)]
+    yield 5, "a thread below an earlier one", [thread(b5, [(0, 1, 0)], 1), thread(b4, [(0, 2, 1)], 2)]
+    yield 6, "too many bytes of events", [reference.Step([bytes(1024)] * 64 + [b"x"])]
+
+
+def unsound_histories():
+    """Each rule broken by hand, and histories of which one number of a node or a root is changed."""
+    for rule, name, steps in broken_by_hand():
+        case = shown(name, reference.history_bytes("a", steps), 1, 0)
+        assert case["bytes"] == f"unsound h step {len(steps)} rule {rule}\n".encode() or rule == 1, name
+        yield case
+    yield shown("as many bytes of events as may be", reference.history_bytes("a", [reference.Step([bytes(1024)] * 64)]), 1, 63)
+    rand = random.Random("unsound")
+    for number in range(150):
+        steps = woven(rand.randint(2, 12), f"unsound {number}")
+        limit = sum(len(step.nodes) for step in steps) + 2
+        step = rand.choice(steps)
+        field = rand.randrange(4) if step.nodes else 3
+        if field == 3:
+            step.root = rand.randrange(limit)
+        else:
+            node = rand.randrange(len(step.nodes))
+            changed_node = list(step.nodes[node])
+            changed_node[field] = rand.randrange(limit)
+            step.nodes[node] = tuple(changed_node)
+        yield shown(f"random, {number}", reference.history_bytes("woven", steps), rand.randint(1, len(steps)), 0)
+
+
 def cases():
-    groups = (paths, event_trees, sizes, deep, all_changed, above_the_top, histories, changed_histories)
+    groups = (paths, event_trees, sizes, deep, all_changed, above_the_top, histories, changed_histories, unsound_histories)
     for group in groups:
         for case in group():
             yield {**case, "name": f"{group.__name__}: {case['name']}"}
