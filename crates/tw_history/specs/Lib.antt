@@ -4,3 +4,4 @@ pub mod HistoryFile
 pub mod Layout
 pub mod Rules
 pub mod Refusals
+pub mod Judging
