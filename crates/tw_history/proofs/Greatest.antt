@@ -68,7 +68,7 @@ IsGreatest-put es g new e greatest below here others name =
 pub add-done : (r : Result (Unit {0}) NoMemory) (old new : GreatestSteps) (o : Option Thread) (t : Thread) → o ≡ Some t
     → OnOk r (greatest_of new t.from ≡ Some t.step) → OnOk r ((name : List ℕ) → name ≢ t.from → greatest_of new name ≡ greatest_of old name)
     → OnOk r ((es : List Entry) (archived : ℕ) → IsGreatest es (greatest_of old) → IfSome o (λ u. IsLater u es)
-      → IsGreatest (es ++ option_to_list (option_map (λ u. record { thread = u; archived = archived }) o)) (greatest_of new))
+    → IsGreatest (es ++ option_to_list (option_map (λ u. record { thread = u; archived = archived }) o)) (greatest_of new))
 add-done (Ok done) old new o t is here others = λ es archived greatest later.
     subst (λ x. IsGreatest (es ++ option_to_list (option_map (λ u. record { thread = u; archived = archived }) x)) (greatest_of new)) (sym is)
     (IsGreatest-put es (greatest_of old) (greatest_of new) (record { thread = t; archived = archived }) greatest (subst (λ x. IfSome x (λ u. IsLater u es)) is later) here others)

@@ -1,14 +1,15 @@
 -- When a step keeps each of the rules, and what is known once it keeps them all.
-use Rattle.std.proofs.Common.{◌≡◌, ◌≢◌, ◌↔◌, ℕ, suc, zero, ◌+◌, ◌<◌, ◌≤◌, ◌^◌, List, [], ◌∷◌, ◌++◌, length, get_or, map, refl, ap, sym, subst, ◌∙◌, arith, Option, Some, None, Result, Ok, Err, add-one, Bool, IsTrue}
-use Rattle.std.specs.Prelude.{min, option_and_then, option_map, IfSome, MatchOption, MatchResult}
+use Rattle.std.proofs.Common.{◌≡◌, ◌≢◌, ◌↔◌, ℕ, suc, zero, ◌+◌, ◌<◌, ◌≤◌, ◌^◌, List, [], ◌∷◌, ◌++◌, length, get_or, map, refl, ap, sym, subst, ◌∙◌, arith, Option, Some, None, Result, Ok, Err, add-one, Bool, IsTrue, inl, inr}
+use Rattle.std.specs.Prelude.{min, option_and_then, option_map, IfSome, MatchOption, MatchResult, IsErrAnd}
 use Rattle.std.specs.Option.{option_to_list}
+use Rattle.std.proofs.lemmas.Bool.{cases_lt}
 use Rattle.std.proofs.lemmas.List.{get_or-map, length-append, length-map}
 use Rattle.tw_base.specs.declared.thread.Thread.{Thread}
 use Rattle.tw_base.specs.declared.thread.Entry.{Entry}
 use Rattle.tw_base.specs.Lists.{Each, In}
 use Rattle.tw_base.specs.Names.{IsName}
 use Rattle.tw_base.specs.History.{History, Node, Step, entry_at, events_of, fresh_of, received, root_of, step_at, thread_of}
-use Rattle.tw_base.specs.Sound.{IsSoundStep, IsThread, NodesFit}
+use Rattle.tw_base.specs.Sound.{IsSound, IsSoundStep, IsThread, NodesFit}
 use Rattle.tw_base.specs.Tree.{Tree, branch, entries, forest, new_trees, planted, tree}
 use Rattle.tw_base.specs.Tree.Tree.{Empty}
 use Rattle.tw_base.proofs.ListLemmas.{Each-append}
@@ -17,14 +18,16 @@ use Rattle.tw_history.specs.declared.step.Content.TheVariants.{Events, Received}
 use Rattle.tw_history.specs.declared.step.Step.{Step as StepOfTable}
 use Rattle.tw_history.specs.declared.step.Node.{Node as NodeOfTable}
 use Rattle.tw_history.specs.declared.fault.HistoryFault.{HistoryFault}
-use Rattle.tw_history.specs.declared.fault.HistoryFault.TheVariants.{Unsound}
+use Rattle.tw_history.specs.declared.fault.HistoryFault.TheVariants.{Malformed, NoMemory, TooLong, Unsound}
 use Rattle.tw_history.specs.declared.soundness.summary.Summary.{Summary}
 use Rattle.tw_history.specs.declared.soundness.Judged.{Judged}
 use Rattle.tw_history.specs.Judging.{IsGreatest, IsJudged, IsLater, TellsFirst, greatest_of, summary_of}
-use Rattle.tw_history.specs.Meaning.{IsInRange, content_of, node_of, step_of}
+use Rattle.tw_history.specs.Meaning.{IsInRange, IsTable, content_of, node_of, step_of, steps_of}
+use Rattle.tw_history.specs.Refusals.{TellsRule}
 use Rattle.tw_history.specs.Rules.{Keeps, Rule, number_of}
 use Rattle.tw_history.specs.Rules.Rule.{NodesAreKnown, TreesRise, HoldsAllThreads, IsOfAnother, StepsRise, EventsFit}
 use Rattle.tw_history.proofs.Planting.{Rises, forest-next}
+use Rattle.tw_history.proofs.TableLaws.{length-steps_of}
 use Rattle.tw_history.proofs.Summaries.{count-summary}
 
 -- each rule below the number, rule by rule
@@ -100,9 +103,10 @@ module _ (h : History) (i : ℕ) (s : Step) (there : step_at h (suc i) ≡ Some 
   pub known-is : (number first count : ℕ) → number ≡ suc i → first ≡ length (forest h i) → count ≡ length s.fresh
       → (NodesFit h number first s.fresh × (s.root < first + count)) ↔ Keeps h i s NodesAreKnown
   known-is number first count this so_far new =
-      let root : first + count ≡ length (forest h (suc i)) = omega (arith, length-forest_next, so_far, new) in
-      ((λ known. (subst (λ n. NodesFit h (suc i) n s.fresh) so_far (subst (λ n. NodesFit h n first s.fresh) this known.0), subst (λ n. s.root < n) root known.1)),
-        (λ kept. (subst (λ n. NodesFit h n first s.fresh) (sym this) (subst (λ n. NodesFit h (suc i) n s.fresh) (sym so_far) kept.0), subst (λ n. s.root < n) (sym root) kept.1)))
+      let root : first + count ≡ length (forest h (suc i)) = omega (arith, length-forest_next, so_far, new) in (
+        (λ known. (subst (λ n. NodesFit h (suc i) n s.fresh) so_far (subst (λ n. NodesFit h n first s.fresh) this known.0), subst (λ n. s.root < n) root known.1)),
+        (λ kept. (subst (λ n. NodesFit h n first s.fresh) (sym this) (subst (λ n. NodesFit h (suc i) n s.fresh) (sym so_far) kept.0), subst (λ n. s.root < n) (sym root) kept.1)),
+      )
 
   root_tree : tree h (suc i) ≡ get_or (forest h (suc i)) s.root Empty
   unfolding tree
@@ -120,8 +124,8 @@ module _ (h : History) (i : ℕ) (s : Step) (there : step_at h (suc i) ≡ Some 
 limits : (content : Content) (fresh : List Node) (root : ℕ) → IsInRange content
     → IfSome (thread_of (Some (record { content = content_of content; fresh = fresh; root = root }))) (λ t. IsName t.from × (length t.auth ≡ 32))
     → (length (events_of (Some (record { content = content_of content; fresh = fresh; root = root }))) ≤ 1024)
-      × Each (λ event. length event ≤ 1024) (events_of (Some (record { content = content_of content; fresh = fresh; root = root })))
-      × IfSome (thread_of (Some (record { content = content_of content; fresh = fresh; root = root }))) IsThread
+    × Each (λ event. length event ≤ 1024) (events_of (Some (record { content = content_of content; fresh = fresh; root = root })))
+    × IfSome (thread_of (Some (record { content = content_of content; fresh = fresh; root = root }))) IsThread
 limits (Events events) fresh root range law = (range.0, range.1, tt)
 limits (Received t) fresh root range law = (omega arith, tt, (law.0, range.0, range.1, law.1))
 
@@ -172,7 +176,7 @@ judged-none h judged kept none empty = record {
   rising = (tt, tt);
   threads = none;
   greatest = λ name. subst (λ o. MatchOption o (Each (λ (e : Entry). e.thread.from ≢ name) [])
-    (λ step. ((e : Entry) × In e [] × (e.thread.from ≡ name) × (e.thread.step ≡ step)) × Each (λ (e : Entry). e.thread.from ≡ name → e.thread.step ≤ step) [])) (sym (empty name)) tt;
+      (λ step. ((e : Entry) × In e [] × (e.thread.from ≡ name) × (e.thread.step ≡ step)) × Each (λ (e : Entry). e.thread.from ≡ name → e.thread.step ≤ step) [])) (sym (empty name)) tt;
 }
 
 -- the rules as the code tests them, of a step of the table with its new nodes
@@ -209,3 +213,49 @@ module _ (h : History) (i : ℕ) (step : StepOfTable) (fresh : List NodeOfTable)
   -- rule 5
   pub later_by : (thread : Option Thread) (r : Bool) → thread ≡ thread_of (Some ThisStep) → (IsTrue r ↔ IfSome thread (λ t. IsLater t (received h i))) → IsTrue r ↔ Keeps h i ThisStep StepsRise
   later_by thread r is exactly = subst (λ o. IsTrue r ↔ IfSome o (λ t. IsLater t (received h i))) is exactly
+
+-- the first step that isn't sound tells the history's rule
+pub tells-rule : (h : History) (k : ℕ) (s : Step) (fault : HistoryFault) → step_at h (suc k) ≡ Some s → TellsFirst h k s fault
+    → ((i : ℕ) (t : Step) → i < k → step_at h (suc i) ≡ Some t → IsSoundStep h i t) → TellsRule h fault
+tells-rule h k s (Unsound step rule) there tells sound = record {
+  i = k;
+  s = s;
+  there = (tells.0, there);
+  broken_rule = tells.1.0;
+  number = tells.1.1;
+  broken = tells.1.2;
+  lower = tells.1.3;
+  earlier = λ i t less at. sound-keeps h i t (sound i t less at);
+}
+tells-rule h k s NoMemory there tells sound = tt
+tells-rule h k s (Malformed place) there tells sound = tells
+tells-rule h k s (TooLong bytes) there tells sound = tells
+
+pub err-told : (r : Result (Unit {0}) HistoryFault) (P : Unit {0} → Type 0) (Q : HistoryFault → Type 0) (fault : HistoryFault) → IsErrAnd r (λ e. e ≡ fault) → Q fault → MatchResult r P Q
+err-told (Ok done) P Q fault is holds = absurd is
+err-told (Err e) P Q fault is holds = subst Q (sym is) holds
+
+-- one more sound step
+pub one_more : (h : History) (k : ℕ) (this : Step) (i : ℕ) (s : Step) → step_at h (suc k) ≡ Some this → IsSoundStep h k this
+    → ((j : ℕ) (t : Step) → j < k → step_at h (suc j) ≡ Some t → IsSoundStep h j t) → i < k + 1 → step_at h (suc i) ≡ Some s → IsSoundStep h i s
+one_more h k this i s there sound before less at =
+    elim (cases_lt i k) [
+      | inl lower ↦ before i s lower at
+      | inr last ↦ (let same : i ≡ k = omega (arith, last, less) in
+          let found : step_at h (suc k) ≡ Some s = subst (λ n. step_at h (suc n) ≡ Some s) same at in
+          let this_one : this ≡ s = cc in
+          subst (λ n. IsSoundStep h n s) (sym same) (subst (IsSoundStep h k) this_one sound))
+    ]
+
+pub ok-told : (r : Result (Unit {0}) HistoryFault) (P Q : Type 0) (R : HistoryFault → Type 0) → (P → Q) → MatchResult r (λ _. P) R → MatchResult r (λ _. Q) R
+ok-told (Ok done) P Q R more told = more told
+ok-told (Err e) P Q R more told = told
+
+-- a history whose steps are sound
+pub sound_history : (h : History) (name : List ℕ) (steps : List StepOfTable) (nodes : List NodeOfTable) → record { name = name; steps = steps_of steps nodes } ≡ h → IsTable steps nodes → IsName name
+    → ((i : ℕ) (s : Step) → step_at h (suc i) ≡ Some s → IsSoundStep h i s) → IsSound h
+sound_history h name steps nodes is table named sound = record {
+  name = subst (λ (x : History). IsName x.name) is named;
+  length = subst (λ n. n < 2 ^ 40) (sym (length-steps_of steps nodes) ∙ ap (λ (x : History). length x.steps) is) table.few;
+  steps = sound;
+}

@@ -95,9 +95,9 @@ fn judge_steps(
     let mut judged = judged;
     let mut rest = nodes;
     for (earlier, step) in steps.iter().enumerate() {
-        let fresh = step.fresh as usize;
-        judge_step(history, earlier as u64, step, &rest[..fresh], &mut judged)?;
-        rest = &rest[fresh..];
+        let (fresh, more) = rest.split_at(step.fresh as usize);
+        judge_step(history, earlier as u64, step, fresh, &mut judged)?;
+        rest = more;
     }
     Ok(())
 }

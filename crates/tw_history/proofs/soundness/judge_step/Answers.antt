@@ -69,7 +69,7 @@ returns-then-index-threads c =
     let one = known.0 (c.names_known.ensures.0 c.if-not-names_known.false) in
     let risen = c.in_ok-plant.ensures.risen c.if-not-branch.false in
     let all = all_by h i st fresh c.requires.there _ c.index.result.now c.args.judged.now.threads c.count.result risen.0 one c.index.ensures c.requires.judged.threads
-        (c.count.ensures ∙ ap (λ o. length (option_to_list o)) c.received_thread-thread.ensures) c.requires.few in
+    (c.count.ensures ∙ ap (λ o. length (option_to_list o)) c.received_thread-thread.ensures) c.requires.few in
     refusal h i s _ c.unsound-then-index-threads.result HoldsAllThreads c.unsound-then-index-threads.ensures (λ kept. c.if-index-threads.true (all.1 kept))
     (lower_rules h i s 3 (λ _. one) (λ _. risen.1) (λ l. absurd (omega (arith, l))) (λ l. absurd (omega (arith, l))) (λ l. absurd (omega (arith, l))) (λ l. absurd (omega (arith, l))))
 
@@ -85,7 +85,7 @@ returns-then-not-is_of_another c =
     let one = known.0 (c.names_known.ensures.0 c.if-not-names_known.false) in
     let risen = c.in_ok-plant.ensures.risen c.if-not-branch.false in
     let all = all_by h i st fresh c.requires.there _ c.index.result.now c.args.judged.now.threads c.count.result risen.0 one c.index.ensures c.requires.judged.threads
-        (c.count.ensures ∙ ap (λ o. length (option_to_list o)) c.received_thread-thread.ensures) c.requires.few in
+    (c.count.ensures ∙ ap (λ o. length (option_to_list o)) c.received_thread-thread.ensures) c.requires.few in
     let three = all.0 c.if-index-threads.false in
     let another = another_by h i st fresh c.requires.there c.history.inside.name _ c.is_of_another.result c.received_thread-thread.ensures (ap (λ (x : History). x.name) c.history.view_is) c.is_of_another.ensures in
     refusal h i s _ c.unsound-then-not-is_of_another.result IsOfAnother c.unsound-then-not-is_of_another.ensures (λ kept. is_false _ c.if-not-is_of_another.true (another.1 kept))
@@ -103,7 +103,7 @@ returns-then-not-is_later c =
     let one = known.0 (c.names_known.ensures.0 c.if-not-names_known.false) in
     let risen = c.in_ok-plant.ensures.risen c.if-not-branch.false in
     let all = all_by h i st fresh c.requires.there _ c.index.result.now c.args.judged.now.threads c.count.result risen.0 one c.index.ensures c.requires.judged.threads
-        (c.count.ensures ∙ ap (λ o. length (option_to_list o)) c.received_thread-thread.ensures) c.requires.few in
+    (c.count.ensures ∙ ap (λ o. length (option_to_list o)) c.received_thread-thread.ensures) c.requires.few in
     let three = all.0 c.if-index-threads.false in
     let another = another_by h i st fresh c.requires.there c.history.inside.name _ c.is_of_another.result c.received_thread-thread.ensures (ap (λ (x : History). x.name) c.history.view_is) c.is_of_another.ensures in
     let four = another.0 c.if-not-is_of_another.false in
@@ -123,7 +123,7 @@ returns-then-not-events_fit c =
     let one = known.0 (c.names_known.ensures.0 c.if-not-names_known.false) in
     let risen = c.in_ok-plant.ensures.risen c.if-not-branch.false in
     let all = all_by h i st fresh c.requires.there _ c.index.result.now c.args.judged.now.threads c.count.result risen.0 one c.index.ensures c.requires.judged.threads
-        (c.count.ensures ∙ ap (λ o. length (option_to_list o)) c.received_thread-thread.ensures) c.requires.few in
+    (c.count.ensures ∙ ap (λ o. length (option_to_list o)) c.received_thread-thread.ensures) c.requires.few in
     let three = all.0 c.if-index-threads.false in
     let another = another_by h i st fresh c.requires.there c.history.inside.name _ c.is_of_another.result c.received_thread-thread.ensures (ap (λ (x : History). x.name) c.history.view_is) c.is_of_another.ensures in
     let four = another.0 c.if-not-is_of_another.false in
@@ -144,7 +144,7 @@ returns-in-Ok c =
     let one = known.0 (c.names_known.ensures.0 c.if-not-names_known.false) in
     let risen = c.in_ok-plant.ensures.risen c.if-not-branch.false in
     let all = all_by h i st fresh c.requires.there _ c.index.result.now c.args.judged.now.threads c.count.result risen.0 one c.index.ensures c.requires.judged.threads
-        (c.count.ensures ∙ ap (λ o. length (option_to_list o)) c.received_thread-thread.ensures) c.requires.few in
+    (c.count.ensures ∙ ap (λ o. length (option_to_list o)) c.received_thread-thread.ensures) c.requires.few in
     let three = all.0 c.if-index-threads.false in
     let another = another_by h i st fresh c.requires.there c.history.inside.name _ c.is_of_another.result c.received_thread-thread.ensures (ap (λ (x : History). x.name) c.history.view_is) c.is_of_another.ensures in
     let four = another.0 c.if-not-is_of_another.false in
@@ -154,7 +154,8 @@ returns-in-Ok c =
     let every = lower_rules h i s 7 (λ _. one) (λ _. risen.1) (λ _. three) (λ _. four) (λ _. five) (λ _. six) in
     let thread = c.received_thread-thread.ensures in
     let counted = count-received h i s c.requires.there c.args.judged.now.threads c.count.result c.requires.judged.threads (c.count.ensures ∙ ap (λ o. length (option_to_list o)) thread) in
-    let added = c.in-Ok.ensures (received h i) (suc i) c.requires.judged.greatest ((c.is_later.ensures (received h i) c.requires.judged.greatest).0 c.if-not-is_later.false) in
-    (sound_step h i st fresh c.requires.content (subst (λ o. IfSome o (λ t. IsName t.from × (length t.auth ≡ 32))) thread c.thread_law.ensures) (λ rule. every rule (number-below rule)),
+    let added = c.in-Ok.ensures (received h i) (suc i) c.requires.judged.greatest ((c.is_later.ensures (received h i) c.requires.judged.greatest).0 c.if-not-is_later.false) in (
+      sound_step h i st fresh c.requires.content (subst (λ o. IfSome o (λ t. IsName t.from × (length t.auth ≡ 32))) thread c.thread_law.ensures) (λ rule. every rule (number-below rule)),
       judged_next h i s c.args.judged.now _ c.requires.there c.requires.judged risen.1 risen.0 counted
-      (subst (λ o. IsGreatest (received h i ++ option_to_list (entry_of (suc i) o)) (greatest_of c.add.new.self)) thread added))
+          (subst (λ o. IsGreatest (received h i ++ option_to_list (entry_of (suc i) o)) (greatest_of c.add.new.self)) thread added),
+    )
