@@ -9,3 +9,10 @@ pub mod TableSteps
 pub mod LinkLabels
 pub mod Passes
 pub mod Existences
+pub mod TableWalk
+pub mod Summaries
+pub mod NameOrder
+pub mod Planting
+pub mod Greatest
+pub mod EventSizes
+pub mod RulesJudged

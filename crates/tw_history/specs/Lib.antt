@@ -7,3 +7,4 @@ pub mod Refusals
 pub mod Reading
 pub mod Writing
 pub mod Passing
+pub mod Judging

@@ -1,12 +1,39 @@
 // Whether a history is sound.
 
-ghost use Rattle.std.specs.Prelude.{MatchResult};
-ghost use Rattle.tw_base.specs.Sound.{IsSound};
+ghost use Rattle.std.specs.Prelude.{◌≡◌, ℕ, suc, ◌<◌, ◌^◌, length, Some, Err, MatchResult};
+ghost use Rattle.tw_base.specs.History.{History as HistoryMeant, Step as StepMeant, step_at};
+ghost use Rattle.tw_base.specs.Sound.{IsSound, IsSoundStep};
+ghost use Rattle.tw_history.specs.Judging.{IsJudged, TellsFirst};
+ghost use Rattle.tw_history.specs.Meaning.{IsInRange, IsTable, step_of, steps_of};
 ghost use Rattle.tw_history.specs.Refusals.{TellsRule};
+
+mod greatest;
+mod keys;
+mod nodes;
+mod summary;
+#[cfg(test)]
+mod tests;
+mod threads;
 
 use crate::fault::HistoryFault;
 use crate::history::History;
+use crate::step::{Node, Step};
+use greatest::GreatestSteps;
+use nodes::{names_known, plant};
 use std::alloc::Global;
+use summary::Summary;
+use threads::{count, events_fit, is_later, is_of_another, received_thread, thread_law};
+
+/// What is kept of the steps that were judged.
+#[derive(Drop)]
+pub(crate) struct Judged {
+    /// Of each tree by its number: 0 is the empty tree.
+    summaries: Vec<Summary>,
+    /// How many threads were received.
+    threads: u64,
+    /// Of each service the greatest step that was received.
+    greatest: GreatestSteps,
+}
 
 /// Whether the history keeps the six rules; Ok exactly where it is sound. Unsound tells the least step
 /// that breaks a rule, and then the least rule that it breaks:
@@ -24,5 +51,107 @@ use std::alloc::Global;
 pub fn is_sound(alloc: Global, history: &History) -> Result<(), HistoryFault>
     ensures sound { MatchResult result (λ _. IsSound history.now) (TellsRule history.now) }
 {
-    Err(HistoryFault::NoMemory)
+    let judged = Judged::of_none(alloc)?;
+    let _ = history.name.as_bytes();
+    judge_steps(
+        history,
+        history.steps.as_slice(),
+        history.nodes.as_slice(),
+        judged,
+    )
+}
+
+impl Judged {
+    /// What is kept before the first step.
+    fn of_none(alloc: Global) -> Result<Self, HistoryFault>
+        ensures { MatchResult result (λ judged. (h : HistoryMeant) → IsJudged h 0 judged) (λ fault. fault ≡ HistoryFault.NoMemory) }
+    {
+        let mut summaries = Vec::new(alloc);
+        match summaries.push(Summary::of_none()) {
+            Ok(()) => Ok(Judged {
+                summaries,
+                threads: 0,
+                greatest: GreatestSteps::new(alloc),
+            }),
+            Err(_) => Err(HistoryFault::NoMemory),
+        }
+    }
+}
+
+/// Judges the steps of the history, each with the next of the nodes.
+fn judge_steps(
+    history: &History,
+    steps: &[Step],
+    nodes: &[Node],
+    judged: Judged,
+) -> Result<(), HistoryFault>
+    requires table { history.now.steps ≡ steps_of steps.now nodes.now }
+    requires ranges { IsTable steps.now nodes.now }
+    requires judged { IsJudged history.now 0 judged }
+    ensures { MatchResult result
+        (λ _. (i : ℕ) (s : StepMeant) → step_at history.now (suc i) ≡ Some s → IsSoundStep history.now i s)
+        (TellsRule history.now) }
+{
+    let mut judged = judged;
+    let mut rest = nodes;
+    for (earlier, step) in steps.iter().enumerate() {
+        let (fresh, more) = rest.split_at(step.fresh as usize);
+        judge_step(history, earlier as u64, step, fresh, &mut judged)?;
+        rest = more;
+    }
+    Ok(())
+}
+
+/// Judges the step after the earlier ones, with its new nodes, and keeps what the next one needs.
+fn judge_step(
+    history: &History,
+    earlier: u64,
+    step: &Step,
+    fresh: &[Node],
+    judged: &mut Judged,
+) -> Result<(), HistoryFault>
+    requires there { step_at history.now (suc earlier) ≡ Some (step_of step.now fresh.now) }
+    requires counted { length fresh.now ≡ step.now.fresh }
+    requires content { IsInRange step.now.content }
+    requires few { suc earlier < 2 ^ 40 }
+    requires judged { IsJudged history.now earlier judged.old }
+    ensures { MatchResult result
+        (λ _. IsSoundStep history.now earlier (step_of step.now fresh.now) × IsJudged history.now (suc earlier) judged.new)
+        (TellsFirst history.now earlier (step_of step.now fresh.now)) }
+{
+    let number = earlier + 1;
+    let first = judged.summaries.len();
+    if !names_known(history, number, first, fresh, step.root) {
+        return unsound(number, 1);
+    }
+    if !plant(history, earlier, fresh, &mut judged.summaries)? {
+        return unsound(number, 2);
+    }
+    let thread = received_thread(step);
+    let threads = judged.threads + count(&thread);
+    if judged.summaries[step.root as usize].count != threads {
+        return unsound(number, 3);
+    }
+    if !is_of_another(&history.name, &thread) {
+        return unsound(number, 4);
+    }
+    if !is_later(&judged.greatest, &thread) {
+        return unsound(number, 5);
+    }
+    if !events_fit(step) {
+        return unsound(number, 6);
+    }
+    thread_law(&thread);
+    judged.threads = threads;
+    match judged.greatest.add(&thread) {
+        Ok(()) => Ok(()),
+        Err(_) => Err(HistoryFault::NoMemory),
+    }
+}
+
+/// The refusal of the step by the rule.
+fn unsound(step: u64, rule: u8) -> Result<(), HistoryFault>
+    ensures { result ≡ Err (HistoryFault.Unsound step rule) }
+{
+    Err(HistoryFault::Unsound { step, rule })
 }

@@ -1,0 +1,261 @@
+-- When a step keeps each of the rules, and what is known once it keeps them all.
+use Rattle.std.proofs.Common.{◌≡◌, ◌≢◌, ◌↔◌, ℕ, suc, zero, ◌+◌, ◌<◌, ◌≤◌, ◌^◌, List, [], ◌∷◌, ◌++◌, length, get_or, map, refl, ap, sym, subst, ◌∙◌, arith, Option, Some, None, Result, Ok, Err, add-one, Bool, IsTrue, inl, inr}
+use Rattle.std.specs.Prelude.{min, option_and_then, option_map, IfSome, MatchOption, MatchResult, IsErrAnd}
+use Rattle.std.specs.Option.{option_to_list}
+use Rattle.std.proofs.lemmas.Bool.{cases_lt}
+use Rattle.std.proofs.lemmas.List.{get_or-map, length-append, length-map}
+use Rattle.tw_base.specs.declared.thread.Thread.{Thread}
+use Rattle.tw_base.specs.declared.thread.Entry.{Entry}
+use Rattle.tw_base.specs.Lists.{Each, In}
+use Rattle.tw_base.specs.Names.{IsName}
+use Rattle.tw_base.specs.History.{History, Node, Step, entry_at, events_of, fresh_of, received, root_of, step_at, thread_of}
+use Rattle.tw_base.specs.Sound.{IsSound, IsSoundStep, IsThread, NodesFit}
+use Rattle.tw_base.specs.Tree.{Tree, branch, entries, forest, new_trees, planted, tree}
+use Rattle.tw_base.specs.Tree.Tree.{Empty}
+use Rattle.tw_base.proofs.ListLemmas.{Each-append}
+use Rattle.tw_history.specs.declared.step.Content.{Content}
+use Rattle.tw_history.specs.declared.step.Content.TheVariants.{Events, Received}
+use Rattle.tw_history.specs.declared.step.Step.{Step as StepOfTable}
+use Rattle.tw_history.specs.declared.step.Node.{Node as NodeOfTable}
+use Rattle.tw_history.specs.declared.fault.HistoryFault.{HistoryFault}
+use Rattle.tw_history.specs.declared.fault.HistoryFault.TheVariants.{Malformed, NoMemory, TooLong, Unsound}
+use Rattle.tw_history.specs.declared.soundness.summary.Summary.{Summary}
+use Rattle.tw_history.specs.declared.soundness.Judged.{Judged}
+use Rattle.tw_history.specs.Judging.{IsGreatest, IsJudged, IsLater, TellsFirst, greatest_of, summary_of}
+use Rattle.tw_history.specs.Meaning.{IsInRange, IsTable, content_of, node_of, step_of, steps_of}
+use Rattle.tw_history.specs.Refusals.{TellsRule}
+use Rattle.tw_history.specs.Rules.{Keeps, Rule, number_of}
+use Rattle.tw_history.specs.Rules.Rule.{NodesAreKnown, TreesRise, HoldsAllThreads, IsOfAnother, StepsRise, EventsFit}
+use Rattle.tw_history.proofs.Planting.{Rises, forest-next}
+use Rattle.tw_history.proofs.TableLaws.{length-steps_of}
+use Rattle.tw_history.proofs.Summaries.{count-summary}
+
+-- each rule below the number, rule by rule
+pub lower_rules : (h : History) (i : ℕ) (s : Step) (n : ℕ) → (1 < n → Keeps h i s NodesAreKnown) → (2 < n → Keeps h i s TreesRise) → (3 < n → Keeps h i s HoldsAllThreads)
+    → (4 < n → Keeps h i s IsOfAnother) → (5 < n → Keeps h i s StepsRise) → (6 < n → Keeps h i s EventsFit) → (other : Rule) → number_of other < n → Keeps h i s other
+lower_rules h i s n one two three four five six NodesAreKnown less = one less
+lower_rules h i s n one two three four five six TreesRise less = two less
+lower_rules h i s n one two three four five six HoldsAllThreads less = three less
+lower_rules h i s n one two three four five six IsOfAnother less = four less
+lower_rules h i s n one two three four five six StepsRise less = five less
+lower_rules h i s n one two three four five six EventsFit less = six less
+
+pub number-below : (rule : Rule) → number_of rule < 7
+number-below NodesAreKnown = omega arith
+number-below TreesRise = omega arith
+number-below HoldsAllThreads = omega arith
+number-below IsOfAnother = omega arith
+number-below StepsRise = omega arith
+number-below EventsFit = omega arith
+
+-- the refusal by a rule that is broken
+pub refusal : (h : History) (i : ℕ) (s : Step) (P : Unit {0} → Type 0) (r : Result (Unit {0}) HistoryFault) (broken : Rule) → r ≡ Err (Unsound (i + 1) (number_of broken))
+    → (Keeps h i s broken → ⊥) → ((other : Rule) → number_of other < number_of broken → Keeps h i s other) → MatchResult r P (TellsFirst h i s)
+refusal h i s P r broken is breaks lower = subst (λ x. MatchResult x P (TellsFirst h i s)) (sym is) (omega arith, (broken, refl, breaks, lower))
+
+length-planted : (entry : ℕ → Option Entry) (trees : List Tree) (ns : List Node) → length (planted entry trees ns) ≡ length ns
+unfolding planted
+length-planted entry trees [] = refl
+length-planted entry trees (n ∷ ns) = ap suc (length-planted entry (trees ++ branch (entry n.entry) (get_or trees n.left Empty) (get_or trees n.right Empty) ∷ []) ns)
+
+pub length-option : {X : Type 0} (o : Option X) → length (option_to_list o) ≤ 1
+length-option None = omega arith
+length-option (Some x) = omega arith
+
+-- a step receives at most one thread
+pub length-received : (h : History) (i : ℕ) → length (received h i) ≤ i
+unfolding received
+length-received h zero = omega arith
+length-received h (suc i) =
+    let before = length-received h i in
+    let both = length-append (received h i) (option_to_list (entry_at h (suc i))) in
+    let one = length-option (entry_at h (suc i)) in
+    omega (arith, before, both, one)
+
+abbrev pub entry_of : ℕ → Option Thread → Option Entry
+entry_of archived t = option_map (λ u. record { thread = u; archived = archived }) t
+
+same_entry : (archived : ℕ) (t : Option Thread) → option_and_then (λ u. Some (record { thread = u; archived = archived })) t ≡ entry_of archived t
+same_entry archived None = refl
+same_entry archived (Some t) = refl
+
+length-entry_of : (archived : ℕ) (t : Option Thread) → length (option_to_list (entry_of archived t)) ≡ length (option_to_list t)
+length-entry_of archived None = refl
+length-entry_of archived (Some t) = refl
+
+module _ (h : History) (i : ℕ) (s : Step) (there : step_at h (suc i) ≡ Some s) where
+  pub received-next : received h (suc i) ≡ received h i ++ option_to_list (entry_of (suc i) (thread_of (Some s)))
+  unfolding received
+  received-next = ap (λ o. received h i ++ option_to_list o) (ap (λ o. option_and_then (λ t. Some (record { thread = t; archived = suc i })) (thread_of o)) there ∙ same_entry (suc i) (thread_of (Some s)))
+
+  pub count-received : (threads count : ℕ) → threads ≡ length (received h i) → count ≡ length (option_to_list (thread_of (Some s))) → threads + count ≡ length (received h (suc i))
+  count-received threads count before new =
+      let whole = ap length received-next ∙ length-append (received h i) (option_to_list (entry_of (suc i) (thread_of (Some s)))) in
+      let same = length-entry_of (suc i) (thread_of (Some s)) in
+      omega (arith, whole, same, before, new)
+
+  pub length-forest_next : length (forest h (suc i)) ≡ length (forest h i) + length s.fresh
+  length-forest_next =
+      ap length (forest-next h i) ∙ length-append (forest h i) (new_trees h i)
+      ∙ ap (λ n. length (forest h i) + n) (length-planted _ (forest h i) _ ∙ ap (λ o. length (fresh_of o)) there)
+
+  -- rule 1
+  pub known-is : (number first count : ℕ) → number ≡ suc i → first ≡ length (forest h i) → count ≡ length s.fresh
+      → (NodesFit h number first s.fresh × (s.root < first + count)) ↔ Keeps h i s NodesAreKnown
+  known-is number first count this so_far new =
+      let root : first + count ≡ length (forest h (suc i)) = omega (arith, length-forest_next, so_far, new) in (
+        (λ known. (subst (λ n. NodesFit h (suc i) n s.fresh) so_far (subst (λ n. NodesFit h n first s.fresh) this known.0), subst (λ n. s.root < n) root known.1)),
+        (λ kept. (subst (λ n. NodesFit h n first s.fresh) (sym this) (subst (λ n. NodesFit h (suc i) n s.fresh) (sym so_far) kept.0), subst (λ n. s.root < n) (sym root) kept.1)),
+      )
+
+  root_tree : tree h (suc i) ≡ get_or (forest h (suc i)) s.root Empty
+  unfolding tree
+  root_tree = ap (λ o. get_or (forest h (suc i)) (root_of o) Empty) there
+
+  -- rule 3
+  pub all-is : (summary : Summary) (threads : ℕ) → summary ≡ summary_of (get_or (forest h (suc i)) s.root Empty) → threads ≡ length (received h (suc i)) → threads < 2 ^ 40
+      → (summary.count ≡ threads) ↔ Keeps h i s HoldsAllThreads
+  all-is summary threads kept received few =
+      let count = count-summary summary _ kept in
+      let same = ap (λ t. length (entries t)) root_tree in
+      ((λ is. omega (arith, is, count, same, received, few)), (λ is. omega (arith, is, count, same, received, few)))
+
+-- the limits of a step's content
+limits : (content : Content) (fresh : List Node) (root : ℕ) → IsInRange content
+    → IfSome (thread_of (Some (record { content = content_of content; fresh = fresh; root = root }))) (λ t. IsName t.from × (length t.auth ≡ 32))
+    → (length (events_of (Some (record { content = content_of content; fresh = fresh; root = root }))) ≤ 1024)
+    × Each (λ event. length event ≤ 1024) (events_of (Some (record { content = content_of content; fresh = fresh; root = root })))
+    × IfSome (thread_of (Some (record { content = content_of content; fresh = fresh; root = root }))) IsThread
+limits (Events events) fresh root range law = (range.0, range.1, tt)
+limits (Received t) fresh root range law = (omega arith, tt, (law.0, range.0, range.1, law.1))
+
+-- a step that keeps each rule is sound
+pub sound_step : (h : History) (i : ℕ) (step : StepOfTable) (fresh : List NodeOfTable) → IsInRange step.content
+    → IfSome (thread_of (Some (step_of step fresh))) (λ t. IsName t.from × (length t.auth ≡ 32)) → ((rule : Rule) → Keeps h i (step_of step fresh) rule) → IsSoundStep h i (step_of step fresh)
+sound_step h i step fresh range law kept =
+    let limit = limits step.content (map node_of fresh) step.root range law in
+    record {
+      nodes = (kept NodesAreKnown).0;
+      root = (kept NodesAreKnown).1;
+      rising_trees = kept TreesRise;
+      all_threads = kept HoldsAllThreads;
+      not_own = kept IsOfAnother;
+      rising_steps = kept StepsRise;
+      event_bytes = kept EventsFit;
+      event_count = limit.0;
+      event_sizes = limit.1;
+      thread = limit.2;
+    }
+
+-- and a sound step keeps each rule
+pub sound-keeps : (h : History) (i : ℕ) (s : Step) → IsSoundStep h i s → (rule : Rule) → Keeps h i s rule
+sound-keeps h i s sound NodesAreKnown = (sound.nodes, sound.root)
+sound-keeps h i s sound TreesRise = sound.rising_trees
+sound-keeps h i s sound HoldsAllThreads = sound.all_threads
+sound-keeps h i s sound IsOfAnother = sound.not_own
+sound-keeps h i s sound StepsRise = sound.rising_steps
+sound-keeps h i s sound EventsFit = sound.event_bytes
+
+-- what is kept after a step that keeps each rule
+pub judged_next : (h : History) (i : ℕ) (s : Step) (before after : Judged) → step_at h (suc i) ≡ Some s → IsJudged h i before → Keeps h i s TreesRise
+    → after.summaries.items ≡ map summary_of (forest h (suc i)) → after.threads ≡ length (received h (suc i))
+    → IsGreatest (received h i ++ option_to_list (entry_of (suc i) (thread_of (Some s)))) (greatest_of after.greatest) → IsJudged h (suc i) after
+judged_next h i s before after there judged rise kept counted greatest = record {
+  summaries = kept;
+  rising = subst (Each Rises) (sym (forest-next h i)) (Each-append Rises (forest h i) (new_trees h i) judged.rising rise);
+  threads = counted;
+  greatest = subst (λ es. IsGreatest es (greatest_of after.greatest)) (sym (received-next h i s there)) greatest;
+}
+
+-- what is kept before the first step
+pub judged-none : (h : History) (judged : Judged) → judged.summaries.items ≡ summary_of Empty ∷ [] → judged.threads ≡ 0
+    → ((name : List ℕ) → greatest_of judged.greatest name ≡ None) → IsJudged h 0 judged
+unfolding forest received
+judged-none h judged kept none empty = record {
+  summaries = kept;
+  rising = (tt, tt);
+  threads = none;
+  greatest = λ name. subst (λ o. MatchOption o (Each (λ (e : Entry). e.thread.from ≢ name) [])
+      (λ step. ((e : Entry) × In e [] × (e.thread.from ≡ name) × (e.thread.step ≡ step)) × Each (λ (e : Entry). e.thread.from ≡ name → e.thread.step ≤ step) [])) (sym (empty name)) tt;
+}
+
+-- the rules as the code tests them, of a step of the table with its new nodes
+module _ (h : History) (i : ℕ) (step : StepOfTable) (fresh : List NodeOfTable) (there : step_at h (suc i) ≡ Some (step_of step fresh)) where
+  abbrev pub ThisStep : Step
+  ThisStep = step_of step fresh
+
+  -- rule 1
+  pub known_by : (first : ℕ) (items : List Summary) → items ≡ map summary_of (forest h i) → first ≡ length items
+      → (NodesFit h (i + 1) first (map node_of fresh) × (step.root < first + length fresh)) ↔ Keeps h i ThisStep NodesAreKnown
+  known_by first items kept is =
+      known-is h i ThisStep there (i + 1) first (length fresh) (add-one i) (is ∙ ap length kept ∙ length-map (forest h i) summary_of) (sym (length-map fresh node_of))
+
+  -- the root is the number of a summary
+  pub root-within : (items : List Summary) → items ≡ map summary_of (forest h (suc i)) → Keeps h i ThisStep NodesAreKnown → step.root < length items
+  root-within items kept known = subst (λ n. step.root < n) (sym (ap length kept ∙ length-map (forest h (suc i)) summary_of)) known.1
+
+  -- rule 3
+  pub all_by : (items : List Summary) (summary : Summary) (before count : ℕ) → items ≡ map summary_of (forest h (suc i)) → Keeps h i ThisStep NodesAreKnown
+      → summary ≡ get_or items step.root summary → before ≡ length (received h i) → count ≡ length (option_to_list (thread_of (Some ThisStep))) → suc i < 2 ^ 40
+      → (summary.count ≡ before + count) ↔ Keeps h i ThisStep HoldsAllThreads
+  all_by items summary before count kept known is so_far new few =
+      let threads = count-received h i ThisStep there before count so_far new in
+      all-is h i ThisStep there summary (before + count)
+      (is ∙ ap (λ xs. get_or xs step.root summary) kept ∙ get_or-map summary_of (forest h (suc i)) step.root Empty summary known.1)
+      threads (omega (arith, threads, length-received h (suc i), few))
+
+  -- rule 4
+  pub another_by : (own : List ℕ) (thread : Option Thread) (r : Bool) → thread ≡ thread_of (Some ThisStep) → own ≡ h.name
+      → (IsTrue r ↔ IfSome thread (λ t. t.from ≢ own)) → IsTrue r ↔ Keeps h i ThisStep IsOfAnother
+  another_by own thread r is same exactly =
+      subst (λ o. IsTrue r ↔ IfSome o (λ t. t.from ≢ h.name)) is (subst (λ name. IsTrue r ↔ IfSome thread (λ t. t.from ≢ name)) same exactly)
+
+  -- rule 5
+  pub later_by : (thread : Option Thread) (r : Bool) → thread ≡ thread_of (Some ThisStep) → (IsTrue r ↔ IfSome thread (λ t. IsLater t (received h i))) → IsTrue r ↔ Keeps h i ThisStep StepsRise
+  later_by thread r is exactly = subst (λ o. IsTrue r ↔ IfSome o (λ t. IsLater t (received h i))) is exactly
+
+-- the first step that isn't sound tells the history's rule
+pub tells-rule : (h : History) (k : ℕ) (s : Step) (fault : HistoryFault) → step_at h (suc k) ≡ Some s → TellsFirst h k s fault
+    → ((i : ℕ) (t : Step) → i < k → step_at h (suc i) ≡ Some t → IsSoundStep h i t) → TellsRule h fault
+tells-rule h k s (Unsound step rule) there tells sound = record {
+  i = k;
+  s = s;
+  there = (tells.0, there);
+  broken_rule = tells.1.0;
+  number = tells.1.1;
+  broken = tells.1.2;
+  lower = tells.1.3;
+  earlier = λ i t less at. sound-keeps h i t (sound i t less at);
+}
+tells-rule h k s NoMemory there tells sound = tt
+tells-rule h k s (Malformed place) there tells sound = tells
+tells-rule h k s (TooLong bytes) there tells sound = tells
+
+pub err-told : (r : Result (Unit {0}) HistoryFault) (P : Unit {0} → Type 0) (Q : HistoryFault → Type 0) (fault : HistoryFault) → IsErrAnd r (λ e. e ≡ fault) → Q fault → MatchResult r P Q
+err-told (Ok done) P Q fault is holds = absurd is
+err-told (Err e) P Q fault is holds = subst Q (sym is) holds
+
+-- one more sound step
+pub one_more : (h : History) (k : ℕ) (this : Step) (i : ℕ) (s : Step) → step_at h (suc k) ≡ Some this → IsSoundStep h k this
+    → ((j : ℕ) (t : Step) → j < k → step_at h (suc j) ≡ Some t → IsSoundStep h j t) → i < k + 1 → step_at h (suc i) ≡ Some s → IsSoundStep h i s
+one_more h k this i s there sound before less at =
+    elim (cases_lt i k) [
+      | inl lower ↦ before i s lower at
+      | inr last ↦ (let same : i ≡ k = omega (arith, last, less) in
+          let found : step_at h (suc k) ≡ Some s = subst (λ n. step_at h (suc n) ≡ Some s) same at in
+          let this_one : this ≡ s = cc in
+          subst (λ n. IsSoundStep h n s) (sym same) (subst (IsSoundStep h k) this_one sound))
+    ]
+
+pub ok-told : (r : Result (Unit {0}) HistoryFault) (P Q : Type 0) (R : HistoryFault → Type 0) → (P → Q) → MatchResult r (λ _. P) R → MatchResult r (λ _. Q) R
+ok-told (Ok done) P Q R more told = more told
+ok-told (Err e) P Q R more told = told
+
+-- a history whose steps are sound
+pub sound_history : (h : History) (name : List ℕ) (steps : List StepOfTable) (nodes : List NodeOfTable) → record { name = name; steps = steps_of steps nodes } ≡ h → IsTable steps nodes → IsName name
+    → ((i : ℕ) (s : Step) → step_at h (suc i) ≡ Some s → IsSoundStep h i s) → IsSound h
+sound_history h name steps nodes is table named sound = record {
+  name = subst (λ (x : History). IsName x.name) is named;
+  length = subst (λ n. n < 2 ^ 40) (sym (length-steps_of steps nodes) ∙ ap (λ (x : History). length x.steps) is) table.few;
+  steps = sound;
+}

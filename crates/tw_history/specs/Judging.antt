@@ -1,0 +1,72 @@
+-- What is kept of the steps that were judged, so that a step is judged without a walk over any tree.
+use Rattle.std.specs.Prelude.{◌≡◌, ◌≢◌, ℕ, suc, ◌<◌, ◌≤◌, ◌-◌, ◌^◌, min, List, [], ◌∷◌, length, map, Option, Some, MatchOption}
+use Rattle.std.specs.Ordering.{nat_cmp}
+use Rattle.std.specs.Cmp.Lexicographic.{slice_cmp}
+use Rattle.std.specs.BTreeMap.{get}
+use Rattle.tw_base.specs.declared.thread.Entry.{Entry}
+use Rattle.tw_base.specs.declared.thread.Key.{Key}
+use Rattle.tw_base.specs.declared.thread.Thread.{Thread}
+use Rattle.tw_base.specs.Lists.{Each, In}
+use Rattle.tw_base.specs.History.{History, Step, entry_at, received}
+use Rattle.tw_base.specs.Tree.{IsRising, Tree, entries, forest}
+use Rattle.tw_history.specs.declared.soundness.summary.Summary.{Summary}
+use Rattle.tw_history.specs.declared.soundness.greatest.GreatestSteps.{GreatestSteps}
+use Rattle.tw_history.specs.declared.soundness.Judged.{Judged}
+use Rattle.tw_history.specs.declared.fault.HistoryFault.{HistoryFault}
+use Rattle.tw_history.specs.declared.fault.HistoryFault.TheVariants.{NoMemory, Unsound}
+use Rattle.tw_history.specs.Rules.{Keeps, Rule, number_of}
+
+-- what an archive is ordered by
+abbrev pub thread_key : Thread → Key
+thread_key t = record { from = t.from; step = t.step }
+
+-- the step that received the first of the entries, 0 where there is none
+abbrev pub first_archived : List Entry → ℕ
+first_archived [] = 0
+first_archived (e ∷ es) = e.archived
+
+abbrev pub last_or : ℕ → List Entry → ℕ
+last_or step [] = step
+last_or step (e ∷ es) = last_or e.archived es
+
+-- the step that received the last of the entries, 0 where there is none
+abbrev pub last_archived : List Entry → ℕ
+last_archived es = last_or 0 es
+
+-- the number of entries, but at most 2^64 - 1, and the steps that received the first and the last
+unfoldable pub summary_of : Tree → Summary
+summary_of t =
+    record { count = min (length (entries t)) (2 ^ 64 - 1); first = first_archived (entries t); last = last_archived (entries t) }
+
+-- each entry is the thread that its step received
+abbrev pub AreReceived : History → List Entry → Type 0
+AreReceived h es = Each (λ e. entry_at h e.archived ≡ Some e) es
+
+-- the thread's step is above those of all entries of its service
+abbrev pub IsLater : Thread → List Entry → Type 0
+IsLater t es = Each (λ e. e.thread.from ≡ t.from → e.thread.step < t.step) es
+
+-- the step that is kept for the service
+abbrev pub greatest_of : GreatestSteps → (name : List ℕ) → Option ℕ
+greatest_of g name = get (slice_cmp nat_cmp) g.steps name
+
+-- of each service the greatest step among the entries; none where the service has no entry
+abbrev pub IsGreatest : List Entry → (List ℕ → Option ℕ) → Type 0
+IsGreatest es greatest =
+    (name : List ℕ) → MatchOption (greatest name) (Each (λ e. e.thread.from ≢ name) es)
+    (λ step. ((e : Entry) × In e es × (e.thread.from ≡ name) × (e.thread.step ≡ step)) × Each (λ e. e.thread.from ≡ name → e.thread.step ≤ step) es)
+
+-- what is kept of a history's steps up to i: a summary of each tree by its number, how many threads were received, and the
+-- greatest step of each service; each tree so far rises
+pub record IsJudged (h : History) (i : ℕ) (judged : Judged) : Type 0 where
+  pub summaries : judged.summaries.items ≡ map summary_of (forest h i)
+  pub rising : Each (λ t. IsRising (entries t)) (forest h i)
+  pub threads : judged.threads ≡ length (received h i)
+  pub greatest : IsGreatest (received h i) (greatest_of judged.greatest)
+
+-- why step i + 1, which is s, isn't sound: the first rule that it breaks
+abbrev pub TellsFirst : (h : History) (i : ℕ) (s : Step) → HistoryFault → Type 0
+TellsFirst h i s (Unsound step rule) =
+    (step ≡ suc i) × ((broken : Rule) × (rule ≡ number_of broken) × (Keeps h i s broken → ⊥) × ((other : Rule) → number_of other < rule → Keeps h i s other))
+TellsFirst h i s NoMemory = Unit {0}
+TellsFirst h i s _ = ⊥
