@@ -144,14 +144,20 @@ fn bytes_changed_in_a_file_of_a_thread(rt: HostRuntime) {
     assert_eq!(rt; bad_place(alloc, &bytes), Some(107));
 }
 
+/// So many zeros.
+fn zeros(alloc: Global, size: usize) -> Result<Vec<u8>, Fail> {
+    let bytes = vec![in alloc; 0; size]?;
+    Ok(bytes)
+}
+
 #[test]
 fn a_file_over_the_limit(rt: HostRuntime) -> Result<(), Fail> {
     let alloc = rt.alloc();
-    let bytes = vec![in alloc; 0; 67_108_865]?;
-    let bytes = bytes.as_slice();
+    let bytes = zeros(alloc, 67_108_865)?;
     let long = HistoryFault::TooLong { bytes: 67_108_865 };
-    assert!(rt; read_history(alloc, bytes).err() == Some(long));
+    assert!(rt; read_history(alloc, bytes.as_slice()).err() == Some(long));
+    let bytes = zeros(alloc, 67_108_864)?;
     let bad = HistoryFault::Malformed { place: 0 };
-    assert!(rt; read_history(alloc, &bytes[1..]).err() == Some(bad));
+    assert!(rt; read_history(alloc, bytes.as_slice()).err() == Some(bad));
     Ok(())
 }
