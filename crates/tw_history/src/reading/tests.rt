@@ -40,6 +40,13 @@ fn bad_place(alloc: Global, bytes: &[u8]) -> Option<u64> {
     }
 }
 
+/// Changes the byte at a place.
+fn put(bytes: &mut [u8], place: usize, byte: u8) {
+    if place < bytes.len() {
+        bytes[place] = byte;
+    }
+}
+
 /// The table that the bytes spell, and the bytes that it is written as.
 fn read_and_written(alloc: Global, bytes: &[u8]) -> Result<(History, Vec<u8>), Fail> {
     let history = read_table(alloc, bytes)?;
@@ -97,16 +104,16 @@ fn bytes_changed_in_a_file_of_events(rt: HostRuntime) {
     ];
     for (place, byte) in &bad {
         let mut bytes = ONE_EVENT;
-        bytes[*place] = *byte;
+        put(&mut bytes, *place, *byte);
         assert_eq!(rt; bad_place(alloc, &bytes), Some(*place as u64));
     }
     // 1,025 events, and an event of 1,025 bytes
-    for last in [32, 36] {
-        let mut bytes = ONE_EVENT;
-        bytes[last - 1] = 4;
-        bytes[last] = 1;
-        assert_eq!(rt; bad_place(alloc, &bytes), Some(last as u64));
-    }
+    let mut bytes = ONE_EVENT;
+    bytes[29..33].copy_from_slice(&[0, 0, 4, 1]);
+    assert_eq!(rt; bad_place(alloc, &bytes), Some(32));
+    bytes = ONE_EVENT;
+    bytes[33..37].copy_from_slice(&[0, 0, 4, 1]);
+    assert_eq!(rt; bad_place(alloc, &bytes), Some(36));
     // 2 steps and 2^40 - 1 of them in bytes for one
     for count in [[0, 0, 0, 0, 0, 0, 0, 2], [0, 0, 0, 255, 255, 255, 255, 255]] {
         let mut bytes = ONE_EVENT;
@@ -121,7 +128,7 @@ fn bytes_changed_in_a_file_of_a_thread(rt: HostRuntime) {
     // the name, the step 2^40 and more, a node's entry of 2^40
     for (place, byte) in [(29, b'B'), (29, 0), (45, 1), (47, 1), (93, 1)] {
         let mut bytes = ONE_THREAD;
-        bytes[place] = byte;
+        put(&mut bytes, place, byte);
         assert_eq!(rt; bad_place(alloc, &bytes), Some(place as u64));
     }
     // the step 0
@@ -137,14 +144,20 @@ fn bytes_changed_in_a_file_of_a_thread(rt: HostRuntime) {
     assert_eq!(rt; bad_place(alloc, &bytes), Some(107));
 }
 
+/// So many zeros.
+fn zeros(alloc: Global, size: usize) -> Result<Vec<u8>, Fail> {
+    let bytes = vec![in alloc; 0; size]?;
+    Ok(bytes)
+}
+
 #[test]
 fn a_file_over_the_limit(rt: HostRuntime) -> Result<(), Fail> {
     let alloc = rt.alloc();
-    let bytes = vec![in alloc; 0; 67_108_865]?;
-    let bytes = bytes.as_slice();
+    let bytes = zeros(alloc, 67_108_865)?;
     let long = HistoryFault::TooLong { bytes: 67_108_865 };
-    assert!(rt; read_history(alloc, bytes).err() == Some(long));
+    assert!(rt; read_history(alloc, bytes.as_slice()).err() == Some(long));
+    let bytes = zeros(alloc, 67_108_864)?;
     let bad = HistoryFault::Malformed { place: 0 };
-    assert!(rt; read_history(alloc, &bytes[1..]).err() == Some(bad));
+    assert!(rt; read_history(alloc, bytes.as_slice()).err() == Some(bad));
     Ok(())
 }
