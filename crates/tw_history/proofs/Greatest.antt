@@ -1,5 +1,5 @@
 -- The greatest steps of services, and what they tell of a thread.
-use Rattle.std.proofs.Common.{◌≡◌, ◌≢◌, ◌↔◌, ◌⊎◌, ℕ, suc, ◌<◌, ◌≤◌, List, [], ◌∷◌, ◌++◌, refl, sym, subst, ◌∙◌, arith, inl, inr, Option, Some, None, IsTrue, true, ltb}
+use Rattle.std.proofs.Common.{◌≡◌, ◌≢◌, ◌↔◌, ◌⊎◌, ℕ, ◌≤◌, List, [], ◌∷◌, ◌++◌, refl, sym, subst, ◌∙◌, arith, inl, inr, Option, Some, None, IsTrue, true, ltb}
 use Rattle.std.specs.Prelude.{MatchOption, Result, Ok, Err, option_map, IfSome, OnOk}
 use Rattle.std.specs.Option.{option_to_list}
 use Rattle.tw_base.specs.declared.failure.NoMemory.{NoMemory}

@@ -1,6 +1,6 @@
 -- When a step keeps each of the rules, and what is known once it keeps them all.
 use Rattle.std.proofs.Common.{◌≡◌, ◌≢◌, ◌↔◌, ℕ, suc, zero, ◌+◌, ◌<◌, ◌≤◌, ◌^◌, List, [], ◌∷◌, ◌++◌, length, get_or, map, refl, ap, sym, subst, ◌∙◌, arith, Option, Some, None, Result, Ok, Err, add-one, Bool, IsTrue, inl, inr}
-use Rattle.std.specs.Prelude.{min, option_and_then, option_map, IfSome, MatchOption, MatchResult, IsErrAnd}
+use Rattle.std.specs.Prelude.{option_and_then, option_map, IfSome, MatchOption, MatchResult, IsErrAnd}
 use Rattle.std.specs.Option.{option_to_list}
 use Rattle.std.proofs.lemmas.Bool.{cases_lt}
 use Rattle.std.proofs.lemmas.List.{get_or-map, length-append, length-map}

@@ -1,5 +1,5 @@
 -- What a summary tells of a tree.
-use Rattle.std.proofs.Common.{◌≡◌, ◌≢◌, ◌↔◌, ◌⊎◌, ℕ, suc, zero, ◌+◌, ◌-◌, ◌<◌, ◌≤◌, ◌^◌, List, [], ◌∷◌, ◌++◌, length, refl, ap, sym, ◌∙◌, subst, arith, inl, inr, Option, Some, None, Bool, true, false, IsTrue}
+use Rattle.std.proofs.Common.{◌≡◌, ◌≢◌, ◌↔◌, ◌⊎◌, ℕ, suc, zero, ◌+◌, ◌-◌, ◌<◌, ◌^◌, List, [], ◌∷◌, ◌++◌, length, refl, ap, sym, ◌∙◌, arith, inl, inr, Some, Bool, false, IsTrue}
 use Rattle.std.specs.Prelude.{min}
 use Rattle.std.proofs.lemmas.List.{length-append}
 use Rattle.tw_base.specs.declared.thread.Entry.{Entry}
@@ -7,7 +7,7 @@ use Rattle.tw_base.specs.Lists.{Each}
 use Rattle.tw_base.specs.Entries.{KeyBelow, key_of}
 use Rattle.tw_base.specs.History.{History, entry_at}
 use Rattle.tw_base.specs.Tree.{Tree, IsRising, entries}
-use Rattle.tw_base.specs.Tree.Tree.{Empty, Branch}
+use Rattle.tw_base.specs.Tree.Tree.{Branch}
 use Rattle.tw_base.proofs.ListLemmas.{Each-append, Each-map, Each-parts}
 use Rattle.tw_base.proofs.Keys.{KeyBelow-trans}
 use Rattle.tw_history.specs.declared.soundness.summary.Summary.{Summary}

@@ -210,7 +210,7 @@ fn events_of(alloc: Global, count: usize) -> Result<EventList, NoMemory>
     ensures sizes { IfOk result (λ events. Each (λ event. length event ≤ 1024) events) }
 {
     let mut events = EventList::new(alloc);
-    for _ in 0..count {
+    for _number in 0..count {
         let mut event = Bytes::new(alloc);
         event.extend_from_slice(&[0; 1024])?;
         events.push(event)?;

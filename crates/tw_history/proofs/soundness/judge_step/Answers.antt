@@ -1,11 +1,10 @@
-use Rattle.std.proofs.Common.{◌≡◌, suc, ◌+◌, ◌++◌, ◌<◌, refl, ap, sym, subst, ◌∙◌, arith, length, map}
+use Rattle.std.proofs.Common.{◌≡◌, suc, ◌++◌, ◌<◌, ap, sym, subst, ◌∙◌, arith, length}
 use Rattle.std.specs.Prelude.{IfSome}
 use Rattle.tw_base.specs.Names.{IsName}
 use Rattle.tw_history.specs.Judging.{IsGreatest, greatest_of}
 use Rattle.std.specs.Option.{option_to_list}
 use Rattle.tw_base.specs.History.{History, Step, received}
-use Rattle.tw_history.specs.Meaning.{node_of, step_of}
-use Rattle.tw_history.specs.Rules.{Keeps, Rule}
+use Rattle.tw_history.specs.Meaning.{step_of}
 use Rattle.tw_history.specs.Rules.Rule.{NodesAreKnown, TreesRise, HoldsAllThreads, IsOfAnother, StepsRise, EventsFit}
 use Rattle.tw_history.proofs.Summaries.{is_false}
 use Rattle.tw_history.proofs.RulesJudged.{all_by, another_by, count-received, entry_of, judged_next, known_by, later_by, length-option, length-received, lower_rules, number-below, refusal, root-within, sound_step}

@@ -1,7 +1,5 @@
-use Rattle.std.proofs.Common.{◌≡◌, ◌⊎◌, ℕ, suc, ◌<◌, Some, refl, ap, sym, subst, ◌∙◌, arith, take, drop, length, inl, inr, ◌+◌, add-one}
+use Rattle.std.proofs.Common.{Some, ap, sym, subst, ◌∙◌, arith, drop, length, ◌+◌, add-one}
 use Rattle.std.proofs.lemmas.Option.{slice_get_within}
-use Rattle.tw_base.specs.History.{History, Step, step_at}
-use Rattle.tw_base.specs.Sound.{IsSoundStep}
 use Rattle.tw_history.specs.Judging.{IsJudged}
 use Rattle.tw_history.specs.Meaning.{step_of, steps_of}
 use Rattle.tw_history.specs.Refusals.{TellsRule}

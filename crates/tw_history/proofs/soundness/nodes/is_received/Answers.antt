@@ -1,7 +1,7 @@
-use Rattle.std.proofs.Common.{◌≡◌, ◌↔◌, sym, subst, arith, IsTrue, None}
+use Rattle.std.proofs.Common.{◌↔◌, sym, subst, arith, IsTrue, None}
 use Rattle.std.proofs.lemmas.Bool.{leb-true}
 use Rattle.tw_base.specs.declared.thread.Entry.{Entry}
-use Rattle.std.specs.Prelude.{is_some, IsSome}
+use Rattle.std.specs.Prelude.{IsSome}
 use Rattle.tw_base.specs.History.{entry_at}
 use Rattle.tw_history.proofs.Planting.{entry_to-past, entry_to-within, some_key}
 use Rattle.tw_history.proofs.soundness.nodes.is_received.Goals as goal

@@ -1,4 +1,4 @@
-use Rattle.std.proofs.Common.{◌≡◌, ◌↔◌, sym, subst, IsTrue, true, ltb}
+use Rattle.std.proofs.Common.{◌↔◌, sym, subst, IsTrue, true, ltb}
 use Rattle.std.specs.Prelude.{IfSome}
 use Rattle.tw_history.specs.Judging.{IsLater}
 use Rattle.tw_history.proofs.Greatest.{later-none, later-some}

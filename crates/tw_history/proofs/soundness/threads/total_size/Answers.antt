@@ -1,4 +1,4 @@
-use Rattle.std.proofs.Common.{◌+◌, ◌*◌, ◌≤◌, drop, length, ap, arith, sum_by}
+use Rattle.std.proofs.Common.{length, ap, arith}
 use Rattle.std.proofs.lemmas.List.Sums.{sum_by-drop_more}
 use Rattle.tw_history.proofs.EventSizes.{sizes-bound}
 use Rattle.tw_history.proofs.soundness.threads.total_size.Goals as goal
