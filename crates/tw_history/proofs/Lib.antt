@@ -3,3 +3,4 @@ pub mod TableSteps
 pub mod LinkLabels
 pub mod Passes
 pub mod Existences
+pub mod TableGrowth

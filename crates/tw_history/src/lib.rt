@@ -10,6 +10,8 @@ mod pass;
 mod path_links;
 mod reading;
 mod showing;
+#[cfg(test)]
+mod showing_tests;
 mod soundness;
 mod step;
 mod step_digests;
