@@ -16,3 +16,4 @@ pub mod Planting
 pub mod Greatest
 pub mod EventSizes
 pub mod RulesJudged
+pub mod TableGrowth

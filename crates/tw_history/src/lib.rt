@@ -14,6 +14,8 @@ mod reading_content;
 mod reading_steps;
 mod showing;
 mod sizes;
+#[cfg(test)]
+mod showing_tests;
 mod soundness;
 mod step;
 mod step_digests;
