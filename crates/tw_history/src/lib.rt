@@ -13,9 +13,9 @@ mod reading;
 mod reading_content;
 mod reading_steps;
 mod showing;
-mod sizes;
 #[cfg(test)]
 mod showing_tests;
+mod sizes;
 mod soundness;
 mod step;
 mod step_digests;
