@@ -1,8 +1,7 @@
 // Small history files, read back, and the places of changed, cut and padded ones.
 
-use crate::fault::HistoryFault;
 use crate::history::History;
-use crate::reading::{read_history, read_table};
+use crate::reading::read_table;
 use crate::writing::write_history;
 use std::alloc::Global;
 use std::test::Fail;
@@ -148,22 +147,4 @@ fn bytes_changed_in_a_file_of_a_thread(rt: HostRuntime) {
     assert_eq!(rt; bad_place(alloc, &bytes), Some(91));
     bytes[86] = 2;
     assert_eq!(rt; bad_place(alloc, &bytes), Some(107));
-}
-
-/// So many zeros.
-fn zeros(alloc: Global, size: usize) -> Result<Vec<u8>, Fail> {
-    let bytes = vec![in alloc; 0; size]?;
-    Ok(bytes)
-}
-
-#[test]
-fn a_file_over_the_limit(rt: HostRuntime) -> Result<(), Fail> {
-    let alloc = rt.alloc();
-    let bytes = zeros(alloc, 67_108_865)?;
-    let long = HistoryFault::TooLong { bytes: 67_108_865 };
-    assert!(rt; read_history(alloc, bytes.as_slice()).err() == Some(long));
-    let bytes = zeros(alloc, 67_108_864)?;
-    let bad = HistoryFault::Malformed { place: 0 };
-    assert!(rt; read_history(alloc, bytes.as_slice()).err() == Some(bad));
-    Ok(())
 }
