@@ -1,8 +1,7 @@
 // Small history files, read back, and the places of changed, cut and padded ones.
 
-use crate::fault::HistoryFault;
 use crate::history::History;
-use crate::reading::{read_history, read_table};
+use crate::reading::read_table;
 use crate::writing::write_history;
 use std::alloc::Global;
 use std::test::Fail;
@@ -71,15 +70,21 @@ fn files_that_are_read(rt: HostRuntime) -> Result<(), Fail> {
     Ok(())
 }
 
+/// Whether the bytes, cut after each number of them, are malformed where they end.
+fn cut_at_their_ends(alloc: Global, bytes: &[u8]) -> bool {
+    for size in 0..bytes.len() {
+        if bad_place(alloc, &bytes[..size]) != Some(size as u64) {
+            return false;
+        }
+    }
+    true
+}
+
 #[test]
 fn files_cut_and_padded(rt: HostRuntime) {
     let alloc = rt.alloc();
-    for size in 0..ONE_EVENT.len() {
-        assert_eq!(rt; bad_place(alloc, &ONE_EVENT[..size]), Some(size as u64));
-    }
-    for size in 0..ONE_THREAD.len() {
-        assert_eq!(rt; bad_place(alloc, &ONE_THREAD[..size]), Some(size as u64));
-    }
+    assert!(rt; cut_at_their_ends(alloc, &ONE_EVENT));
+    assert!(rt; cut_at_their_ends(alloc, &ONE_THREAD));
     let mut padded = [0; 44];
     padded[..43].copy_from_slice(&ONE_EVENT);
     assert_eq!(rt; bad_place(alloc, &padded), Some(43));
@@ -142,22 +147,4 @@ fn bytes_changed_in_a_file_of_a_thread(rt: HostRuntime) {
     assert_eq!(rt; bad_place(alloc, &bytes), Some(91));
     bytes[86] = 2;
     assert_eq!(rt; bad_place(alloc, &bytes), Some(107));
-}
-
-/// So many zeros.
-fn zeros(alloc: Global, size: usize) -> Result<Vec<u8>, Fail> {
-    let bytes = vec![in alloc; 0; size]?;
-    Ok(bytes)
-}
-
-#[test]
-fn a_file_over_the_limit(rt: HostRuntime) -> Result<(), Fail> {
-    let alloc = rt.alloc();
-    let bytes = zeros(alloc, 67_108_865)?;
-    let long = HistoryFault::TooLong { bytes: 67_108_865 };
-    assert!(rt; read_history(alloc, bytes.as_slice()).err() == Some(long));
-    let bytes = zeros(alloc, 67_108_864)?;
-    let bad = HistoryFault::Malformed { place: 0 };
-    assert!(rt; read_history(alloc, bytes.as_slice()).err() == Some(bad));
-    Ok(())
 }
