@@ -52,6 +52,7 @@ pub fn is_sound(alloc: Global, history: &History) -> Result<(), HistoryFault>
     ensures sound { MatchResult result (λ _. IsSound history.now) (TellsRule history.now) }
 {
     let judged = Judged::of_none(alloc)?;
+    // The 16 bytes of a name are letters and then zeros, as the limits of a sound history ask.
     let _ = history.name.as_bytes();
     judge_steps(
         history,

@@ -9,8 +9,7 @@ ghost use Rattle.tw_history.specs.Judging.{summary_of};
 /// How many entries a tree has, and the steps that received the first and the last of them.
 #[derive(Clone, Copy, Drop, Debug)]
 pub(crate) struct Summary {
-    /// The number of entries, or 2^64 - 1 where there are more: sides may be shared, so a file can
-    /// name trees that are larger than any number of 8 bytes.
+    /// The number of entries; 2^64 - 1 stands for more, which no rising tree has.
     pub(crate) count: u64,
     /// The step that received the first entry, 0 where there is none.
     pub(crate) first: u64,
