@@ -1,4 +1,4 @@
-use Rattle.std.proofs.Common.{◌≡◌, ◌+◌, ◌<◌, ◌^◌, [], ◌∷◌, ◌++◌, length, refl, subst, sym, arith}
+use Rattle.std.proofs.Common.{◌+◌, ◌<◌, ◌^◌, [], ◌∷◌, ◌++◌, refl, subst, sym, arith}
 use Rattle.tw_history.specs.Meaning.{IsTable}
 use Rattle.tw_history.specs.declared.step.Node.{Node}
 use Rattle.tw_history.specs.declared.step.Step.{Step}
