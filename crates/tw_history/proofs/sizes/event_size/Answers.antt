@@ -1,4 +1,4 @@
-use Rattle.std.proofs.Common.{◌+◌, ap, sym, ◌∙◌, arith}
+use Rattle.std.proofs.Common.{◌+◌, ap, sym, ◌∙◌}
 use Rattle.tw_history.proofs.ByteCounts.{event-size}
 use Rattle.tw_history.proofs.sizes.event_size.Goals as goal
 
