@@ -1,0 +1,4 @@
+pub mod Bytes
+pub mod Keeping
+pub mod Infos
+pub mod Answers

@@ -1,0 +1,152 @@
+// Reading steps.
+
+ghost use Rattle.std.specs.Prelude.{◌≡◌, ℕ, ◌+◌, ◌<◌, ◌≤◌, ◌^◌, List, Some, IfOk};
+ghost use Rattle.tw_disk.specs.Image.{Image};
+ghost use Rattle.tw_disk.specs.Pages.{OnlyReads};
+ghost use Rattle.tw_base.specs.History.{History, events_at};
+ghost use Rattle.tw_skipproof.specs.Making.{IsPathOf};
+ghost use Rattle.tw_skiplist.specs.Answers.{FaultsRise, IfBadPage, NeverNoStep, NoStepUnless, NotDiskFault};
+ghost use Rattle.tw_skiplist.specs.Infos.{IsInfoOf};
+ghost use Rattle.tw_skiplist.specs.Keeping.{Keeps};
+
+use crate::fault::ListFault;
+use crate::head::Head;
+use crate::info::{StepInfo, StepProof};
+use std::alloc::Global;
+use tw_base::{EventList, Hasher};
+use tw_disk::Pages;
+use tw_skipproof::Path;
+
+/// The step i of the history whose head is given (a step below 2^40). It is reached by the links of
+/// the greedy path, and each page is read once.
+///
+/// NoStep exactly where i isn't within 1 and the head's step. BadPage never comes where the pages
+/// keep a history under the head.
+pub fn step<P: Pages, H: Hasher>(
+    _alloc: Global,
+    pages: &mut P,
+    head: &Head,
+    i: u64,
+) -> Result<StepInfo, ListFault>
+    requires { head.now.step < 2 ^ 40 }
+    ensures info { IfOk result (λ info. (ps : Image) (h : History) → P.list pages.old ≡ Some ps → Keeps H.dig ps h head.now →
+        IsInfoOf H.dig ps h i info) }
+    ensures good { IfBadPage result (λ _. (ps : Image) (h : History) → P.list pages.old ≡ Some ps → Keeps H.dig ps h head.now → ⊥) }
+    ensures no_step { NoStepUnless result head.now.step ((1 ≤ i) × (i ≤ head.now.step)) }
+    ensures kept { OnlyReads P.used_count P.list P.same P.unbroken pages.old pages.new (NotDiskFault result) }
+    ensures faults { FaultsRise (P.faults pages.old) (P.faults pages.new) result }
+{
+    let last = head.step;
+    let _used = pages.used();
+    if i == 0 || i > last {
+        return Err(ListFault::NoStep { last });
+    }
+    Err(ListFault::NoMemory)
+}
+
+/// The path from the step n down to the step i, of the history whose head is given (a step below
+/// 2^40). It is reached by the links of the greedy path, and each page is read once.
+///
+/// NoStep exactly where i <= n <= the head's step doesn't hold; i may be 0. BadPage never comes
+/// where the pages keep a history under the head.
+pub fn path<P: Pages, H: Hasher>(
+    _alloc: Global,
+    pages: &mut P,
+    head: &Head,
+    n: u64,
+    i: u64,
+) -> Result<Path, ListFault>
+    requires { head.now.step < 2 ^ 40 }
+    ensures path { IfOk result (λ path. (ps : Image) (h : History) → P.list pages.old ≡ Some ps → Keeps H.dig ps h head.now →
+        IsPathOf H.dig h path.links n i) }
+    ensures good { IfBadPage result (λ _. (ps : Image) (h : History) → P.list pages.old ≡ Some ps → Keeps H.dig ps h head.now → ⊥) }
+    ensures no_step { NoStepUnless result head.now.step ((i ≤ n) × (n ≤ head.now.step)) }
+    ensures kept { OnlyReads P.used_count P.list P.same P.unbroken pages.old pages.new (NotDiskFault result) }
+    ensures faults { FaultsRise (P.faults pages.old) (P.faults pages.new) result }
+{
+    let last = head.step;
+    let _used = pages.used();
+    if i > n || n > last {
+        return Err(ListFault::NoStep { last });
+    }
+    Err(ListFault::NoMemory)
+}
+
+/// What a proof of the step i under the top needs: the path from the top to the step, and the step.
+/// Each page is read once: those of the way from the head (a step below 2^40) to the top, and those
+/// of the path down to the step.
+///
+/// NoStep exactly where 1 <= i <= top <= the head's step doesn't hold. BadPage never comes where the
+/// pages keep a history under the head.
+pub fn prove<P: Pages, H: Hasher>(
+    _alloc: Global,
+    pages: &mut P,
+    head: &Head,
+    top: u64,
+    i: u64,
+) -> Result<StepProof, ListFault>
+    requires { head.now.step < 2 ^ 40 }
+    ensures path { IfOk result (λ proof. (ps : Image) (h : History) → P.list pages.old ≡ Some ps → Keeps H.dig ps h head.now →
+        IsPathOf H.dig h proof.path.links top i) }
+    ensures info { IfOk result (λ proof. (ps : Image) (h : History) → P.list pages.old ≡ Some ps → Keeps H.dig ps h head.now →
+        IsInfoOf H.dig ps h i proof.info) }
+    ensures good { IfBadPage result (λ _. (ps : Image) (h : History) → P.list pages.old ≡ Some ps → Keeps H.dig ps h head.now → ⊥) }
+    ensures no_step { NoStepUnless result head.now.step ((1 ≤ i) × (i ≤ top) × (top ≤ head.now.step)) }
+    ensures kept { OnlyReads P.used_count P.list P.same P.unbroken pages.old pages.new (NotDiskFault result) }
+    ensures faults { FaultsRise (P.faults pages.old) (P.faults pages.new) result }
+{
+    let last = head.step;
+    let _used = pages.used();
+    if i == 0 || i > top || top > last {
+        return Err(ListFault::NoStep { last });
+    }
+    Err(ListFault::NoMemory)
+}
+
+/// The events of a step that `step` or `prove` told of the same pages, from its event pages alone.
+///
+/// BadPage never comes where the info is of a step that the pages keep, and NoStep never comes.
+pub fn events_of<P: Pages>(
+    _alloc: Global,
+    pages: &mut P,
+    info: &StepInfo,
+) -> Result<EventList, ListFault>
+    ensures events { IfOk result (λ events. (dig : List ℕ → List ℕ) (ps : Image) (h : History) (i : ℕ) → P.list pages.old ≡ Some ps →
+        IsInfoOf dig ps h i info.now → events ≡ events_at h i) }
+    ensures good { IfBadPage result (λ _. (dig : List ℕ → List ℕ) (ps : Image) (h : History) (i : ℕ) → P.list pages.old ≡ Some ps →
+        IsInfoOf dig ps h i info.now → ⊥) }
+    ensures no_step { NeverNoStep result }
+    ensures kept { OnlyReads P.used_count P.list P.same P.unbroken pages.old pages.new (NotDiskFault result) }
+    ensures faults { FaultsRise (P.faults pages.old) (P.faults pages.new) result }
+{
+    let _step = info.step;
+    let _used = pages.used();
+    Err(ListFault::NoMemory)
+}
+
+/// The events of the step i of the history whose head is given (a step below 2^40). Each page is
+/// read once.
+///
+/// NoStep exactly where i isn't within 1 and the head's step. BadPage never comes where the pages
+/// keep a history under the head.
+pub fn events<P: Pages, H: Hasher>(
+    alloc: Global,
+    pages: &mut P,
+    head: &Head,
+    i: u64,
+) -> Result<EventList, ListFault>
+    requires { head.now.step < 2 ^ 40 }
+    ensures events { IfOk result (λ events. (ps : Image) (h : History) → P.list pages.old ≡ Some ps → Keeps H.dig ps h head.now →
+        events ≡ events_at h i) }
+    ensures good { IfBadPage result (λ _. (ps : Image) (h : History) → P.list pages.old ≡ Some ps → Keeps H.dig ps h head.now → ⊥) }
+    ensures no_step { NoStepUnless result head.now.step ((1 ≤ i) × (i ≤ head.now.step)) }
+    ensures kept { OnlyReads P.used_count P.list P.same P.unbroken pages.old pages.new (NotDiskFault result) }
+    ensures faults { FaultsRise (P.faults pages.old) (P.faults pages.new) result }
+{
+    let last = head.step;
+    let _used = pages.used();
+    if i == 0 || i > last {
+        return Err(ListFault::NoStep { last });
+    }
+    Err(ListFault::NoMemory)
+}
