@@ -1,1 +1,3 @@
+pub mod Decode
 pub mod Growing
+pub mod Padded

@@ -18,13 +18,14 @@ links_bytes (l ∷ ls) = to_be_bytes w64 l.page ++ (l.auth ++ links_bytes ls)
 abbrev pub step_numbers : (step : ℕ) → StepFields → List ℕ
 step_numbers step f = 1 ∷ (to_be_bytes w64 step ++ (1 ∷ (to_be_bytes w32 f.count ++ (to_be_bytes w32 f.stream.size ++ to_be_bytes w64 f.stream.page))))
 
--- the root of the events, the label of the archive, no page of the archive and no received thread, the authenticator
-abbrev pub step_digests : StepFields → List ℕ
-step_digests f = f.event_root ++ (f.archive ++ (replicate 64 0 ++ f.auth))
+-- all fields before the links: the numbers, the root of the events, the label of the archive, no page of the archive and
+-- no received thread, the authenticator, and the number of links
+abbrev pub step_front : (step : ℕ) → StepFields → (links : ℕ) → List ℕ
+step_front step f links = step_numbers step f ++ f.event_root ++ f.archive ++ replicate 64 0 ++ f.auth ++ links ∷ []
 
 -- the page of a step of events
 unfoldable pub step_bytes : (step : ℕ) → StepFields → List StepRef → List ℕ
-step_bytes step f links = padded ((step_numbers step f ++ (step_digests f ++ length links ∷ [])) ++ links_bytes links)
+step_bytes step f links = padded (step_front step f (length links) ++ links_bytes links)
 
 -- each event behind its length
 abbrev pub stream : List (List ℕ) → List ℕ

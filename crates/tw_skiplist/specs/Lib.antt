@@ -1,4 +1,5 @@
 pub mod Bytes
 pub mod Keeping
+pub mod Reading
 pub mod Infos
 pub mod Answers

@@ -7,6 +7,7 @@ mod fields;
 mod head;
 mod info;
 mod laws;
+mod page;
 mod reading;
 
 pub use adding::append;
