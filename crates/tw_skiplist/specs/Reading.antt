@@ -81,19 +81,26 @@ pub record IsStepAt (empty : List ℕ) (pages : Image) (page step : ℕ) (f : St
 abbrev pub IsNoStepAt : List ℕ → Image → (page step : ℕ) → Type 0
 IsNoStepAt empty pages page step = (f : StepFields) (links : List StepRef) → IsStepAt empty pages page step f links → ⊥
 
+-- the page is that of the step, and this is its link of that level
+pub record HasLink (empty : List ℕ) (pages : Image) (page step level : ℕ) (next : StepRef) : Type 0 where
+  pub fields : StepFields
+  pub links : List StepRef
+  pub is : IsStepAt empty pages page step fields links
+  pub next_is : next ≡ link_of links level
+
 -- ---- walks
 
 -- From the first link, which leads to step `from`, down the greedy path to a lower step: the walk comes to this link, which
 -- leads to step `at`. It reads the pages of the steps above `at`, and each is a page of its step.
 pub data Walks (empty : List ℕ) (pages : Image) (first : StepRef) (from to : ℕ) : StepRef → ℕ → Type 0 where
   here : Walks empty pages first from to first from
-  on : (link : StepRef) (at : ℕ) (f : StepFields) (links : List StepRef) → Walks empty pages first from to link at → to < at
-      → IsStepAt empty pages link.page at f links → Walks empty pages first from to (link_of links (hop_level at to)) (hop at to)
+  on : (link : StepRef) (at : ℕ) (next : StepRef) → Walks empty pages first from to link at → to < at
+      → HasLink empty pages link.page at (hop_level at to) next → Walks empty pages first from to next (hop at to)
 
--- the walk comes to a step above the lower one, or to it, whose page isn't the page of that step
+-- the walk comes to a link whose page isn't the page of the step that it leads to
 pub record MeetsBadPage (empty : List ℕ) (pages : Image) (first : StepRef) (from to page : ℕ) : Type 0 where
   pub link : StepRef
   pub at : ℕ
   pub walks : Walks empty pages first from to link at
   pub page_is : page ≡ link.page
-  pub bad : IsNoStepAt empty pages page at
+  pub bad : IsNoStepAt empty pages link.page at

@@ -9,6 +9,7 @@ mod info;
 mod laws;
 mod page;
 mod reading;
+mod walking;
 
 pub use adding::append;
 pub use fault::ListFault;
