@@ -1,3 +1,4 @@
 pub mod Decode
 pub mod Growing
+pub mod Kept
 pub mod Padded

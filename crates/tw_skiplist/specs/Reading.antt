@@ -101,6 +101,7 @@ pub data Walks (empty : List ℕ) (pages : Image) (first : StepRef) (from to : �
 pub record MeetsBadPage (empty : List ℕ) (pages : Image) (first : StepRef) (from to page : ℕ) : Type 0 where
   pub link : StepRef
   pub at : ℕ
+  pub recorded : 0 < at
   pub walks : Walks empty pages first from to link at
   pub page_is : page ≡ link.page
   pub bad : IsNoStepAt empty pages link.page at
