@@ -1,5 +1,5 @@
 -- The bytes of step pages and event pages. Numbers are big-endian, and unused bytes are zero.
-use Rattle.std.specs.Prelude.{ℕ, ◌-◌, ◌*◌, List, [], ◌∷◌, ◌++◌, length, take, drop, replicate}
+use Rattle.std.specs.Prelude.{ℕ, suc, zero, ◌-◌, ◌*◌, List, [], ◌∷◌, ◌++◌, length, take, drop, replicate}
 use Rattle.std.specs.Int.{to_be_bytes, w16, w32, w64}
 use Rattle.tw_skiplist.specs.declared.head.StepRef.{StepRef}
 use Rattle.tw_skiplist.specs.declared.fields.StepFields.{StepFields}
@@ -39,3 +39,8 @@ piece bytes number = take 4085 (drop (4085 * number) bytes)
 -- an event page: 2, the step, the number within the step, and a piece of the stream
 unfoldable pub event_bytes : (step number : ℕ) → List ℕ → List ℕ
 event_bytes step number bytes = padded ((2 ∷ (to_be_bytes w64 step ++ to_be_bytes w16 number)) ++ bytes)
+
+-- the event pages of the numbers below this count
+unfoldable pub event_pages : (step : ℕ) → List ℕ → (count : ℕ) → List (List ℕ)
+event_pages step bytes zero = []
+event_pages step bytes (suc number) = event_pages step bytes number ++ event_bytes step number (piece bytes number) ∷ []

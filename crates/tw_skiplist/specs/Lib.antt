@@ -1,5 +1,6 @@
 pub mod Bytes
 pub mod Keeping
 pub mod Reading
+pub mod Links
 pub mod Infos
 pub mod Answers

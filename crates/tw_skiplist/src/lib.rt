@@ -8,6 +8,7 @@ mod head;
 mod info;
 mod laws;
 mod page;
+mod pieces;
 mod reading;
 mod walking;
 

@@ -1,4 +1,4 @@
-use Rattle.tw_skiplist.proofs.Kept.{no_bad_page}
+use Rattle.tw_skiplist.proofs.Plus.{KeepsSteps-plus}
 use Rattle.tw_skiplist.proofs.Growing.{Keeps-first, Keeps-grows, head_page, no_head_page}
 use Rattle.tw_skiplist.proofs.laws.keeping_laws.Goals as goal
 
