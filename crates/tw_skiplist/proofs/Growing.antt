@@ -1,5 +1,5 @@
 -- Pages that keep a history keep it when more pages follow.
-use Rattle.std.proofs.Common.{◌≡◌, ℕ, suc, zero, ◌+◌, ◌-◌, ◌*◌, ◌<◌, ◌≤◌, List, [], ◌∷◌, ◌++◌, length, refl, ap, sym, ◌∙◌, arith, length-append}
+use Rattle.std.proofs.Common.{◌≡◌, ℕ, suc, zero, ◌+◌, ◌-◌, ◌*◌, ◌<◌, ◌≤◌, List, [], ◌∷◌, ◌++◌, length, refl, ap, sym, ◌∙◌, arith, subst, length-append}
 use Rattle.std.proofs.lemmas.List.{get_or_append_left}
 use Rattle.tw_disk.specs.Image.{Image, page_at}
 use Rattle.tw_base.specs.History.{History, Step}
@@ -70,3 +70,11 @@ module _ (dig : List ℕ → List ℕ) where
   head_page pages h head k some =
       let at = page_of pages h k.places k.keeps (length h.steps) (omega (arith, some, k.step)) (omega arith) in
       (omega (arith, at.0, k.page), omega (arith, at.1, k.page))
+
+  -- every page of a history lies below the used count
+  pub below_head : (pages : Image) (h : History) (places : List Place) → KeepsSteps dig pages h places → (place_of places (length h.steps)).page < 4 + length pages
+  below_head pages h places s = last (length h.steps) (omega arith)
+    where
+      last : (i : ℕ) → i ≤ length h.steps → (place_of places i).page < 4 + length pages
+      last zero l = subst (λ (p : Place). p.page < 4 + length pages) (sym s.nowhere) (omega arith)
+      last (suc k) l = (s.steps k (omega (arith, l))).below

@@ -1,4 +1,6 @@
+pub mod BadPages
 pub mod Decode
+pub mod Gathering
 pub mod Growing
 pub mod Kept
 pub mod Padded

@@ -27,6 +27,7 @@ fn put_event(into: &mut Bytes, event: &Bytes) -> Result<(), NoMemory>
 pub(crate) fn stream_of(alloc: Global, events: &EventList) -> Result<Bytes, NoMemory>
     requires { IsWithinLimits events.now }
     ensures stream { IfOk result (λ bytes. bytes ≡ stream events.now) }
+    ensures size { IfOk result (λ bytes. length bytes ≤ 69632) }
 {
     let mut bytes = Bytes::new(alloc);
     let items = events.as_slice();
