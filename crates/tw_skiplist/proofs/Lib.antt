@@ -5,4 +5,5 @@ pub mod Growing
 pub mod Kept
 pub mod Padded
 pub mod Plus
+pub mod Recording
 pub mod Streams

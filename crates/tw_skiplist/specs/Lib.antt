@@ -1,6 +1,7 @@
 pub mod Bytes
 pub mod Keeping
 pub mod Reading
+pub mod Records
 pub mod Links
 pub mod Infos
 pub mod Answers

@@ -2,6 +2,7 @@
 #![tactic(auto)]
 
 mod adding;
+mod collecting;
 mod fault;
 mod fields;
 mod head;
@@ -10,6 +11,7 @@ mod laws;
 mod page;
 mod pieces;
 mod reading;
+mod records;
 mod walking;
 
 pub use adding::append;

@@ -10,6 +10,7 @@ ghost use Rattle.tw_skiplist.specs.Reading.{HasLink, IsNoStepAt, IsStepAt, Meets
 use crate::fault::ListFault;
 use crate::head::StepRef;
 use crate::page::{StepPage, power, read_step_page};
+use crate::records::link_at;
 use tw_base::Digest;
 use tw_disk::Pages;
 use tw_skipproof::next_hop;
@@ -42,14 +43,6 @@ pub(crate) fn read_step<P: Pages>(
     }
 }
 
-// The link of this level.
-fn link_of_level(page: &StepPage, level: u8) -> StepRef
-    requires { level < length page.now.links.items }
-    ensures { result ≡ link_of page.now.links.items level }
-{
-    page.links.as_slice()[level as usize]
-}
-
 /// The link of a level that the page of a step (below 2^40) has.
 pub(crate) fn follow<P: Pages>(
     pages: &mut P,
@@ -68,7 +61,7 @@ pub(crate) fn follow<P: Pages>(
 {
     match read_step(pages, link.page, at, empty) {
         Err(fault) => Err(fault),
-        Ok(page) => Ok(link_of_level(&page, level)),
+        Ok(page) => Ok(link_at(page.links.as_slice(), level)),
     }
 }
 
