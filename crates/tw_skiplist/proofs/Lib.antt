@@ -1,9 +1,11 @@
 pub mod BadPages
 pub mod Decode
+pub mod Finding
 pub mod Gathering
 pub mod Growing
 pub mod Kept
 pub mod Padded
 pub mod Plus
 pub mod Recording
+pub mod Spelling
 pub mod Streams

@@ -3,5 +3,6 @@ pub mod Keeping
 pub mod Reading
 pub mod Records
 pub mod Links
+pub mod Events
 pub mod Infos
 pub mod Answers

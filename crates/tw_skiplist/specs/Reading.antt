@@ -1,5 +1,5 @@
 -- Which pages are step pages, and in which order a walk reads them.
-use Rattle.std.specs.Prelude.{◌≡◌, ℕ, suc, zero, ◌+◌, ◌-◌, ◌*◌, ◌^◌, ◌<◌, ◌≤◌, List, [], ◌∷◌, ◌++◌, length, take, drop, slice_index_or}
+use Rattle.std.specs.Prelude.{◌≡◌, ℕ, suc, zero, ◌+◌, ◌-◌, ◌*◌, ◌^◌, ◌<◌, ◌≤◌, ◌⊎◌, List, [], ◌∷◌, ◌++◌, length, take, drop, slice_index_or}
 use Rattle.std.specs.Int.{from_be_bytes, w32, w64}
 use Rattle.tw_disk.specs.Image.{Image, page_at}
 use Rattle.tw_base.specs.Levels.{top_level}
@@ -105,3 +105,14 @@ pub record MeetsBadPage (empty : List ℕ) (pages : Image) (first : StepRef) (fr
   pub walks : Walks empty pages first from to link at
   pub page_is : page ≡ link.page
   pub bad : IsNoStepAt empty pages link.page at
+
+-- the same of a walk down to one step and another from there down to the next: the first meets the page, or the second
+abbrev pub MeetsBadPageVia : List ℕ → Image → (first : StepRef) → (from via to page : ℕ) → Type 0
+MeetsBadPageVia empty pages first from via to page = MeetsBadPage empty pages first from via page
+    ⊎ ((middle : StepRef) × Walks empty pages first from via middle via × MeetsBadPage empty pages middle via to page)
+
+-- both walks come to their ends
+pub record WalksVia (empty : List ℕ) (pages : Image) (first : StepRef) (from via to : ℕ) (last : StepRef) : Type 0 where
+  pub middle : StepRef
+  pub down : Walks empty pages first from via middle via
+  pub further : Walks empty pages middle via to last to

@@ -1,13 +1,14 @@
 -- What the fields and links of a step's page make of a path and of an opening.
 use Rattle.std.specs.Prelude.{◌≡◌, ℕ, suc, zero, List, [], ◌∷◌, ◌++◌, length, remove}
 use Rattle.tw_disk.specs.Image.{Image}
-use Rattle.tw_base.specs.Texts.{datum_text, link_text}
+use Rattle.tw_base.specs.Texts.{datum_text, empty_tree_text, link_text}
 use Rattle.tw_skipproof.specs.declared.opening.Opening.{Opening}
 use Rattle.tw_skipproof.specs.declared.path.Link.{Link}
+use Rattle.tw_skiplist.specs.declared.head.Head.{Head}
 use Rattle.tw_skiplist.specs.declared.head.StepRef.{StepRef}
 use Rattle.tw_skiplist.specs.declared.fields.StepFields.{StepFields}
 use Rattle.tw_skiplist.specs.declared.info.StepInfo.{StepInfo}
-use Rattle.tw_skiplist.specs.Reading.{IsStepAt, link_of}
+use Rattle.tw_skiplist.specs.Reading.{IsStepAt, MeetsBadPage, MeetsBadPageVia, Walks, WalksVia, link_of}
 
 module _ (dig : List ℕ → List ℕ) where
   abbrev pub page_datum : StepFields → List ℕ
@@ -60,3 +61,30 @@ module _ (dig : List ℕ → List ℕ) where
     pub links : List StepRef
     pub is : IsStepAt empty pages page step fields links
     pub info_is : info ≡ info_record page step fields links
+
+-- the link that a head is
+abbrev pub head_ref : Head → StepRef
+head_ref head = record { page = head.page; auth = head.auth }
+
+module _ (dig : List ℕ → List ℕ) (pages : Image) (head : Head) where
+  abbrev pub empty_label : List ℕ
+  empty_label = dig empty_tree_text
+
+  -- the walk from the head down to the step comes to a page that tells this of the step
+  pub record FindsInfo (i : ℕ) (info : StepInfo) : Type 0 where
+    pub link : StepRef
+    pub walks : Walks empty_label pages (head_ref head) head.step i link i
+    pub tells : TellsInfo dig empty_label pages link.page i info
+
+  -- the walk meets a page that isn't the page of its step
+  abbrev pub FindsBadPage : (i page : ℕ) → Type 0
+  FindsBadPage i page = MeetsBadPage empty_label pages (head_ref head) head.step i page
+
+  -- the same of the walk from the head down to the top and on to the step
+  pub record FindsProof (top i : ℕ) (info : StepInfo) : Type 0 where
+    pub link : StepRef
+    pub walks : WalksVia empty_label pages (head_ref head) head.step top i link
+    pub tells : TellsInfo dig empty_label pages link.page i info
+
+  abbrev pub FindsBadPageVia : (top i page : ℕ) → Type 0
+  FindsBadPageVia top i page = MeetsBadPageVia empty_label pages (head_ref head) head.step top i page

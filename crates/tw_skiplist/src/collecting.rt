@@ -7,6 +7,7 @@ ghost use Rattle.tw_base.specs.History.{History};
 ghost use Rattle.tw_base.specs.Levels.{top_level};
 ghost use Rattle.tw_base.specs.Texts.{empty_tree_text};
 ghost use Rattle.tw_skipproof.specs.Making.{IsPathOf};
+ghost use Rattle.tw_skiplist.specs.declared.head.StepRef.{StepRef};
 ghost use Rattle.tw_skiplist.specs.Answers.{FaultsRise, IfBadPage, NeverNoStep, NotDiskFault};
 ghost use Rattle.tw_skiplist.specs.Keeping.{KeepsSteps, Place, link_to};
 ghost use Rattle.tw_skiplist.specs.Reading.{IsNoStepAt, MeetsBadPage, Walks};
@@ -14,14 +15,14 @@ ghost use Rattle.tw_skiplist.specs.Records.{HasHop, TellsInfo};
 
 use crate::fault::ListFault;
 use crate::head::StepRef;
-use crate::info::StepInfo;
+use crate::info::{StepInfo, StepProof};
 use crate::page::power;
 use crate::records::{info_of_page, link_at, link_of_page};
-use crate::walking::read_step;
+use crate::walking::{descend, read_step};
 use std::alloc::Global;
 use tw_base::{Digest, Hasher};
 use tw_disk::Pages;
-use tw_skipproof::{Link, LinkList, next_hop};
+use tw_skipproof::{Link, LinkList, Path, next_hop};
 
 // A link of a path, and where it leads.
 #[derive(Drop)]
@@ -125,6 +126,68 @@ pub(crate) fn read_info<P: Pages, H: Hasher>(
         Ok(page) => match info_of_page::<H>(alloc, link.page, step, &page) {
             Err(_) => Err(ListFault::NoMemory),
             Ok(info) => Ok(info),
+        },
+    }
+}
+
+/// Walks from the first link down to a step from 1 on, and tells what its page tells.
+pub(crate) fn find_info<P: Pages, H: Hasher>(
+    alloc: Global,
+    pages: &mut P,
+    empty: &Digest,
+    first: &StepRef,
+    from: u64,
+    to: u64,
+) -> Result<StepInfo, ListFault>
+    requires some { 0 < to }
+    requires below { to ≤ from }
+    requires step { from < 2 ^ 40 }
+    ensures info { IfOk result (λ info. (ps : Image) → P.list pages.old ≡ Some ps →
+        (link : StepRef) × Walks empty.now ps first.now from to link to × TellsInfo H.dig empty.now ps link.page to info) }
+    ensures bad { IfBadPage result (λ p. (ps : Image) → P.list pages.old ≡ Some ps → MeetsBadPage empty.now ps first.now from to p) }
+    ensures no_step { NeverNoStep result }
+    ensures kept { OnlyReads P.used_count P.list P.same P.unbroken pages.old pages.new (NotDiskFault result) }
+    ensures faults { FaultsRise (P.faults pages.old) (P.faults pages.new) result }
+{
+    match descend(pages, empty, first, from, to) {
+        Err(fault) => Err(fault),
+        Ok(link) => match read_info::<P, H>(alloc, pages, empty, &link, to) {
+            Err(fault) => Err(fault),
+            Ok(info) => Ok(info),
+        },
+    }
+}
+
+/// Walks as `collect` does, and tells what the page of the lower step, from 1 on, tells.
+pub(crate) fn collect_proof<P: Pages, H: Hasher>(
+    alloc: Global,
+    pages: &mut P,
+    empty: &Digest,
+    first: &StepRef,
+    from: u64,
+    to: u64,
+) -> Result<StepProof, ListFault>
+    requires some { 0 < to }
+    requires below { to ≤ from }
+    requires step { from < 2 ^ 40 }
+    requires empty { empty.now ≡ H.dig empty_tree_text }
+    ensures path { IfOk result (λ proof. (ps : Image) (h : History) (places : List Place) → P.list pages.old ≡ Some ps → KeepsSteps H.dig ps h places →
+        from ≤ length h.steps → first.now ≡ link_to H.dig h places from → IsPathOf H.dig h proof.path.links from to) }
+    ensures info { IfOk result (λ proof. (ps : Image) → P.list pages.old ≡ Some ps →
+        (link : StepRef) × Walks empty.now ps first.now from to link to × TellsInfo H.dig empty.now ps link.page to proof.info) }
+    ensures bad { IfBadPage result (λ p. (ps : Image) → P.list pages.old ≡ Some ps → MeetsBadPage empty.now ps first.now from to p) }
+    ensures no_step { NeverNoStep result }
+    ensures kept { OnlyReads P.used_count P.list P.same P.unbroken pages.old pages.new (NotDiskFault result) }
+    ensures faults { FaultsRise (P.faults pages.old) (P.faults pages.new) result }
+{
+    match collect::<P, H>(alloc, pages, empty, first, from, to) {
+        Err(fault) => Err(fault),
+        Ok(Collected { links, last }) => match read_info::<P, H>(alloc, pages, empty, &last, to) {
+            Err(fault) => Err(fault),
+            Ok(info) => Ok(StepProof {
+                path: Path { links },
+                info,
+            }),
         },
     }
 }

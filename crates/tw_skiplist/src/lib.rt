@@ -3,6 +3,7 @@
 
 mod adding;
 mod collecting;
+mod event_pages;
 mod fault;
 mod fields;
 mod head;
@@ -12,6 +13,7 @@ mod page;
 mod pieces;
 mod reading;
 mod records;
+
 mod walking;
 
 pub use adding::append;

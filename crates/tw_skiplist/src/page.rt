@@ -248,3 +248,12 @@ pub(crate) fn read_step_page(page: u64, step: u64, empty: &Digest, bytes: &[u8; 
         None
     }
 }
+
+/// Whether the bytes are the event page of this number of the step with so many bytes of its stream,
+/// those that stand in it.
+pub(crate) fn is_event_page(bytes: &[u8; 4096], step: u64, number: u16, count: usize) -> bool
+    requires { count ≤ 4085 }
+    ensures { IsTrue result ↔ (bytes.now ≡ event_bytes step number (take count (drop 11 bytes.now))) }
+{
+    is_same(bytes, &event_page(step, number, &bytes[11..11 + count]))
+}
