@@ -4,6 +4,7 @@ pub mod Finding
 pub mod Gathering
 pub mod Growing
 pub mod Kept
+pub mod KeptEvents
 pub mod Padded
 pub mod Plus
 pub mod Recording

@@ -41,6 +41,12 @@ pub record HasStream (pages : Image) (info : StepInfo) (bytes : List ℕ) : Type
   pub pieces : HasPieces pages info.stream.page info.step info.stream.size number bytes
   pub all : info.stream.size ≤ 4085 * number
 
+-- the event pages have a stream that spells these events
+pub record FindsEvents (pages : Image) (info : StepInfo) (events : List (List ℕ)) : Type 0 where
+  pub bytes : List ℕ
+  pub has : HasStream pages info bytes
+  pub spells : SpellsEvents bytes info.count events
+
 -- the event pages before this one are as they have to be, and it isn't
 pub record MeetsBadPiece (pages : Image) (info : StepInfo) (page : ℕ) : Type 0 where
   pub number : ℕ

@@ -6,7 +6,7 @@ ghost use Rattle.tw_disk.specs.Image.{Image};
 ghost use Rattle.tw_disk.specs.Pages.{OnlyReads};
 ghost use Rattle.tw_skiplist.specs.Answers.{FaultsRise, IfBadPage, NeverNoStep, NotDiskFault};
 ghost use Rattle.tw_skiplist.specs.Bytes.{event_bytes};
-ghost use Rattle.tw_skiplist.specs.Events.{HasEventAt, HasPieces, HasStream, IsEventPageAt, IsNoEventAt, IsNoEventPageAt, MeetsBadPiece, SpellsEvents};
+ghost use Rattle.tw_skiplist.specs.Events.{HasEventAt, HasPieces, HasStream, IsEventPageAt, IsNoEventAt, IsNoEventPageAt, MeetsBadPiece, SpellsEvents, last_page};
 
 use crate::fault::ListFault;
 use crate::info::StepInfo;
@@ -53,14 +53,23 @@ fn add_piece<P: Pages>(
     }
 }
 
-/// The bytes that the event pages of a step have.
+/// The bytes that the event pages of a step have, and the page that was read last before them or
+/// among them.
+#[derive(Drop)]
+pub(crate) struct StreamRead {
+    pub bytes: Bytes,
+    pub last: u64,
+}
+
+/// Reads the event pages of a step.
 pub(crate) fn read_stream<P: Pages>(
     alloc: Global,
     pages: &mut P,
     info: &StepInfo,
-) -> Result<Bytes, ListFault>
+) -> Result<StreamRead, ListFault>
     requires { info.now.stream.size ≤ 69632 }
-    ensures pieces { IfOk result (λ bytes. (ps : Image) → P.list pages.old ≡ Some ps → HasStream ps info.now bytes) }
+    ensures pieces { IfOk result (λ r. (ps : Image) → P.list pages.old ≡ Some ps →
+        (has : HasStream ps info.now r.bytes) × (r.last ≡ last_page info.now has.number)) }
     ensures bad { IfBadPage result (λ p. (ps : Image) → P.list pages.old ≡ Some ps → MeetsBadPiece ps info.now p) }
     ensures no_step { NeverNoStep result }
     ensures kept { OnlyReads P.used_count P.list P.same P.unbroken pages.old pages.new (NotDiskFault result) }
@@ -69,17 +78,19 @@ pub(crate) fn read_stream<P: Pages>(
     let size = info.stream.size;
     let mut bytes = Bytes::new(alloc);
     let mut page = info.stream.page;
+    let mut last = info.page;
     let mut number = 0u16;
     while 4085 * (number as u32) < size {
         match add_piece(pages, page, info.step, number, size, &mut bytes) {
             Err(fault) => return Err(fault),
             Ok(()) => {
+                last = page;
                 page += 1;
                 number += 1;
             }
         }
     }
-    Ok(bytes)
+    Ok(StreamRead { bytes, last })
 }
 
 // ---- the events in it

@@ -1,11 +1,13 @@
 // Reading steps.
 
-ghost use Rattle.std.specs.Prelude.{◌≡◌, ℕ, ◌+◌, ◌<◌, ◌≤◌, ◌^◌, List, Some, IfOk};
+ghost use Rattle.std.specs.Prelude.{◌≡◌, ℕ, ◌+◌, ◌<◌, ◌≤◌, ◌^◌, ◌⊎◌, List, Some, IfOk};
 ghost use Rattle.tw_disk.specs.Image.{Image};
 ghost use Rattle.tw_disk.specs.Pages.{OnlyReads};
 ghost use Rattle.tw_base.specs.History.{History, events_at};
 ghost use Rattle.tw_skipproof.specs.Making.{IsPathOf};
 ghost use Rattle.tw_skiplist.specs.Answers.{FaultsRise, IfBadPage, NeverNoStep, NoStepUnless, NotDiskFault};
+ghost use Rattle.tw_skiplist.specs.declared.info.StepInfo.{StepInfo};
+ghost use Rattle.tw_skiplist.specs.Events.{FindsEvents, FindsNoEvents};
 ghost use Rattle.tw_skiplist.specs.Infos.{IsInfoOf};
 ghost use Rattle.tw_base.specs.Texts.{empty_tree_text};
 ghost use Rattle.tw_skiplist.specs.declared.head.StepRef.{StepRef};
@@ -14,6 +16,7 @@ ghost use Rattle.tw_skiplist.specs.Reading.{WalksVia};
 ghost use Rattle.tw_skiplist.specs.Records.{FindsBadPage, FindsBadPageVia, FindsInfo, FindsProof, head_ref};
 
 use crate::collecting::{Collected, collect, collect_proof, find_info};
+use crate::event_pages::{StreamRead, read_events, read_stream};
 use crate::fault::ListFault;
 use crate::head::{Head, StepRef};
 use crate::info::{StepInfo, StepProof};
@@ -151,15 +154,25 @@ pub fn events_of<P: Pages>(
 ) -> Result<EventList, ListFault>
     ensures events { IfOk result (λ events. (dig : List ℕ → List ℕ) (ps : Image) (h : History) (i : ℕ) → P.list pages.old ≡ Some ps →
         IsInfoOf dig ps h i info.now → events ≡ events_at h i) }
+    ensures found { IfOk result (λ events. (ps : Image) → P.list pages.old ≡ Some ps → FindsEvents ps info.now events) }
+    ensures bad { IfBadPage result (λ p. (ps : Image) → P.list pages.old ≡ Some ps → FindsNoEvents ps info.now p) }
     ensures good { IfBadPage result (λ _. (dig : List ℕ → List ℕ) (ps : Image) (h : History) (i : ℕ) → P.list pages.old ≡ Some ps →
         IsInfoOf dig ps h i info.now → ⊥) }
     ensures no_step { NeverNoStep result }
     ensures kept { OnlyReads P.used_count P.list P.same P.unbroken pages.old pages.new (NotDiskFault result) }
     ensures faults { FaultsRise (P.faults pages.old) (P.faults pages.new) result }
 {
-    let _step = info.step;
-    let _used = pages.used();
-    Err(ListFault::NoMemory)
+    if info.stream.size > 69632 {
+        return Err(ListFault::BadPage { page: info.page });
+    }
+    match read_stream(alloc, pages, info) {
+        Err(fault) => Err(fault),
+        Ok(StreamRead { bytes, last }) => match read_events(alloc, bytes.as_slice(), info.count) {
+            Err(_) => Err(ListFault::NoMemory),
+            Ok(None) => Err(ListFault::BadPage { page: last }),
+            Ok(Some(events)) => Ok(events),
+        },
+    }
 }
 
 /// The events of the step i of the history whose head is given (a step below 2^40). Each page is
@@ -176,15 +189,19 @@ pub fn events<P: Pages, H: Hasher>(
     requires { head.now.step < 2 ^ 40 }
     ensures events { IfOk result (λ events. (ps : Image) (h : History) → P.list pages.old ≡ Some ps → Keeps H.dig ps h head.now →
         events ≡ events_at h i) }
+    ensures found { IfOk result (λ events. (ps : Image) → P.list pages.old ≡ Some ps → (info : StepInfo) × FindsInfo H.dig ps head.now i info × FindsEvents ps info events) }
+    ensures bad { IfBadPage result (λ p. (ps : Image) → P.list pages.old ≡ Some ps →
+        FindsBadPage H.dig ps head.now i p ⊎ ((info : StepInfo) × FindsInfo H.dig ps head.now i info × FindsNoEvents ps info p)) }
     ensures good { IfBadPage result (λ _. (ps : Image) (h : History) → P.list pages.old ≡ Some ps → Keeps H.dig ps h head.now → ⊥) }
     ensures no_step { NoStepUnless result head.now.step ((1 ≤ i) × (i ≤ head.now.step)) }
     ensures kept { OnlyReads P.used_count P.list P.same P.unbroken pages.old pages.new (NotDiskFault result) }
     ensures faults { FaultsRise (P.faults pages.old) (P.faults pages.new) result }
 {
-    let last = head.step;
-    let _used = pages.used();
-    if i == 0 || i > last {
-        return Err(ListFault::NoStep { last });
+    match step::<P, H>(alloc, pages, head, i) {
+        Err(fault) => Err(fault),
+        Ok(info) => match events_of(alloc, pages, &info) {
+            Err(fault) => Err(fault),
+            Ok(events) => Ok(events),
+        },
     }
-    Err(ListFault::NoMemory)
 }
