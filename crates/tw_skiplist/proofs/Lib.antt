@@ -5,8 +5,10 @@ pub mod Gathering
 pub mod Growing
 pub mod Kept
 pub mod KeptEvents
+pub mod Once
 pub mod Padded
 pub mod Plus
 pub mod Recording
+pub mod Sounding
 pub mod Spelling
 pub mod Streams
