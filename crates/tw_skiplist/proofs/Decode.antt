@@ -126,11 +126,11 @@ module _ (step : ℕ) (f : StepFields) (links : List StepRef) (widths : HasWidth
   module _ (level : ℕ) (d : StepRef) (l : level < length links) (small : (get_or links level d).page < 2 ^ 64) where
     at_link : (rest : List ℕ) × (drop (187 + 40 * level) (step_bytes step f links) ≡ to_be_bytes w64 (get_or links level d).page ++ ((get_or links level d).auth ++ rest))
     at_link = (
-        links_bytes (drop (suc level) links) ++ zeros step f links widths.event_root widths.archive widths.auth,
-        sym (drop-drop (40 * level) 187 (step_bytes step f links))
-            ∙ ap (drop (40 * level)) (behind_front step f links widths.event_root widths.archive widths.auth)
-            ∙ links_from links level _ d widths.each_link l,
-      )
+      links_bytes (drop (suc level) links) ++ zeros step f links widths.event_root widths.archive widths.auth,
+      sym (drop-drop (40 * level) 187 (step_bytes step f links))
+          ∙ ap (drop (40 * level)) (behind_front step f links widths.event_root widths.archive widths.auth)
+          ∙ links_from links level _ d widths.each_link l,
+    )
 
     pub link_read : link_in (step_bytes step f links) level ≡ get_or links level d
     link_read =

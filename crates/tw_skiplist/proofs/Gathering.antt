@@ -195,9 +195,9 @@ module _ (dig : List ℕ → List ℕ) where
           let longer_is : length longer_history.steps ≡ suc last_step = length_push h.steps (event_step events) ∙ omega arith in
           let rises : (place_of keeps.places last_step).page < new.page = let under = below_head dig ps h keeps.places keeps.keeps in omega (arith, under, page_is) in
           let kept = KeepsSteps-plus dig ps h keeps.places events keeps.keeps (omega (arith, short, keeps.step)) limits put.pieces put.first new.page
-              (subst (λ (n : ℕ). IsPieceCount n put.pieces) size_is put.piece_count)
-              (λ none. put.none (size_is ∙ none)) (λ some. put.some (omega (arith, some, size_is)))
-              page_is (omega (arith, page_is, used_is, room, few)) rises put_fields links fields_of links_of in
+          (subst (λ (n : ℕ). IsPieceCount n put.pieces) size_is put.piece_count)
+          (λ none. put.none (size_is ∙ none)) (λ some. put.some (omega (arith, some, size_is)))
+          page_is (omega (arith, page_is, used_is, room, few)) rises put_fields links fields_of links_of in
           let pieces : Image = event_pages (suc last_step) (stream events) put.pieces in
           let page : List ℕ = step_bytes (suc last_step) put_fields links in
           let grown : Image = pieces ++ page ∷ [] in

@@ -42,12 +42,12 @@ same_pieces s t size same (suc number) =
 same_stream : (ps : Image) (step first page : ℕ) (s t : List ℕ) → length s ≡ length t → KeepsStream ps step first page s → KeepsStream ps step first page t → s ≡ t
 same_stream ps step first page s t size one two =
     let each = λ (number : ℕ) (l : 4085 * number < length s).
-        let n : ℕ = length (piece s number) in
-        let sizes : length (piece t number) ≡ n = length-take 4085 (drop (4085 * number) t)
-            ∙ (let e : min 4085 (length (drop (4085 * number) t)) ≡ min 4085 (length (drop (4085 * number) s)) = omega (arith, length-drop (4085 * number) s, length-drop (4085 * number) t, size) in e)
-            ∙ sym (length-take 4085 (drop (4085 * number) s)) in
-        let is : piece s number ≡ piece t number =
-        sym (piece_read step number n _ (piece s number) (one.pieces number l) refl) ∙ piece_read step number n _ (piece t number) (two.pieces number (omega (arith, l, size))) sizes in is in
+    let n : ℕ = length (piece s number) in
+    let sizes : length (piece t number) ≡ n = length-take 4085 (drop (4085 * number) t)
+    ∙ (let e : min 4085 (length (drop (4085 * number) t)) ≡ min 4085 (length (drop (4085 * number) s)) = omega (arith, length-drop (4085 * number) s, length-drop (4085 * number) t, size) in e)
+    ∙ sym (length-take 4085 (drop (4085 * number) s)) in
+    let is : piece s number ≡ piece t number =
+    sym (piece_read step number n _ (piece s number) (one.pieces number l) refl) ∙ piece_read step number n _ (piece t number) (two.pieces number (omega (arith, l, size))) sizes in is in
     sym (take_all (4085 * length s) s (omega arith)) ∙ same_pieces s t size each (length s) ∙ take_all (4085 * length s) t (omega (arith, size))
 
 -- ---- two histories on the same pages

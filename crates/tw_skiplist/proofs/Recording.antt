@@ -129,9 +129,10 @@ module _ (dig : List ℕ → List ℕ) where
         let is = subst (λ (p : ℕ). IsStepAt (dig empty_tree_text) ps p (suc k) has.fields has.links) page_is has.is in
         let f = fields_are dig size h places ps kept (suc k) some within has.fields has.links is in
         let ls = links_are dig size h places ps kept (suc k) some within has.fields has.links is in
-        let rec : link ≡ link_record dig (suc k) (fields_at dig h places (suc k)) (links_at dig h places (suc k)) level = has.record_is ∙ (λ j. link_record dig (suc k) (f j) (ls j) level) in
-        (ap (λ (x : Link). x.datum) rec ∙ kept_datum k (omega (arith, within)),
-        ap (λ (x : Link). x.others) rec ∙ ap (λ (xs : List (List ℕ)). remove xs level) (kept_labels k (omega (arith, within))))
+        let rec : link ≡ link_record dig (suc k) (fields_at dig h places (suc k)) (links_at dig h places (suc k)) level = has.record_is ∙ (λ j. link_record dig (suc k) (f j) (ls j) level) in (
+          ap (λ (x : Link). x.datum) rec ∙ kept_datum k (omega (arith, within)),
+          ap (λ (x : Link). x.others) rec ∙ ap (λ (xs : List (List ℕ)). remove xs level) (kept_labels k (omega (arith, within))),
+        )
 
     -- what a page tells is the history's
     pub info_of : (page i : ℕ) (info : StepInfo) → 0 < i → i ≤ length h.steps → page ≡ (place_of places i).page → TellsInfo dig (dig empty_tree_text) ps page i info → IsInfoOf dig ps h i info
@@ -164,4 +165,3 @@ module _ (dig : List ℕ → List ℕ) where
           stream_size = refl;
           stream = s.stream;
         })
-

@@ -35,7 +35,7 @@ begins [] es rest p q l same = record { more = es; all = refl; rest_is = same }
 begins (x ∷ xs) [] rest p q l same = absurd (omega arith)
 begins (x ∷ xs) (e ∷ es) rest p q l same =
     let parts = event-fields x e (stream xs ++ rest) (stream es) p.0 q.0 (
-        ap (λ (t : List ℕ). to_be_bytes w32 (length x) ++ t) (sym (append_assoc x (stream xs) rest)) ∙ same) in
+    ap (λ (t : List ℕ). to_be_bytes w32 (length x) ++ t) (sym (append_assoc x (stream xs) rest)) ∙ same) in
     let on = begins xs es rest p.1 q.1 (omega arith) parts.1 in
     record { more = on.more; all = (λ j. sym parts.0 j ∷ on.all j); rest_is = on.rest_is }
 

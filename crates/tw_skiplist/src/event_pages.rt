@@ -138,7 +138,11 @@ fn copy_event(alloc: Global, bytes: &[u8], at: usize, size: usize) -> Result<Byt
 
 /// The events that the bytes spell, as many as the count, if they spell any within the limits of
 /// a step.
-pub(crate) fn read_events(alloc: Global, bytes: &[u8], count: u32) -> Result<Option<EventList>, NoMemory>
+pub(crate) fn read_events(
+    alloc: Global,
+    bytes: &[u8],
+    count: u32,
+) -> Result<Option<EventList>, NoMemory>
     ensures { IfOk result (λ found. MatchOption found ((events : List (List ℕ)) → SpellsEvents bytes.now count events → ⊥)
         (λ events. SpellsEvents bytes.now count events)) }
 {

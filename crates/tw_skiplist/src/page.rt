@@ -232,7 +232,12 @@ fn is_page(page: u64, step: u64, empty: &Digest, bytes: &[u8; 4096], found: &Ste
 
 /// The fields and links of the page of this step, where the bytes are one that may stand in the page
 /// of this number; `empty` is the label of the empty archive.
-pub(crate) fn read_step_page(page: u64, step: u64, empty: &Digest, bytes: &[u8; 4096]) -> Option<StepPage>
+pub(crate) fn read_step_page(
+    page: u64,
+    step: u64,
+    empty: &Digest,
+    bytes: &[u8; 4096],
+) -> Option<StepPage>
     requires { step < 2 ^ 40 }
     ensures { MatchOption result
         ((f : StepFields) (links : List StepRef) → IsStepPage empty.now page step f links bytes.now → ⊥)

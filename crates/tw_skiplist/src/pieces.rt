@@ -56,7 +56,11 @@ fn piece_page(step: u64, stream: &[u8], number: u16) -> [u8; 4096]
 }
 
 /// Stages the event pages of a step, and answers how many they are.
-pub(crate) fn stage_pieces<P: Pages>(pages: &mut P, step: u64, stream: &[u8]) -> Result<u16, NoMemory>
+pub(crate) fn stage_pieces<P: Pages>(
+    pages: &mut P,
+    step: u64,
+    stream: &[u8],
+) -> Result<u16, NoMemory>
     requires used { P.used_count pages.old < 2 ^ 47 }
     requires size { length stream.now ≤ 69632 }
     ensures list { IfOk result (λ count. P.list pages.new ≡ option_map (λ ps. ps ++ event_pages step stream.now count) (P.list pages.old)) }

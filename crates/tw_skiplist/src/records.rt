@@ -81,7 +81,11 @@ pub(crate) fn link_of_page<H: Hasher>(
     Ok(Link { datum, others })
 }
 
-fn opening_of_page<H: Hasher>(alloc: Global, step: u64, page: &StepPage) -> Result<Opening, NoMemory>
+fn opening_of_page<H: Hasher>(
+    alloc: Global,
+    step: u64,
+    page: &StepPage,
+) -> Result<Opening, NoMemory>
     requires some { 0 < length page.now.links.items }
     requires few { length page.now.links.items ≤ 40 }
     ensures { IfOk result (λ opening. opening ≡ opening_record H.dig step page.now.fields page.now.links.items) }

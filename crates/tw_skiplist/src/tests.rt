@@ -60,7 +60,13 @@ fn no_step() -> Result<Head, Fail> {
 }
 
 /// Appends a step of so many events of so many bytes.
-fn add(alloc: Global, pages: &mut MemPages, head: &Head, count: u32, size: usize) -> Result<Head, Fail>
+fn add(
+    alloc: Global,
+    pages: &mut MemPages,
+    head: &Head,
+    count: u32,
+    size: usize,
+) -> Result<Head, Fail>
     requires count { count ≤ 1024 }
     requires size { size ≤ 1024 }
     requires all { count * size ≤ 65536 }
@@ -196,8 +202,14 @@ fn a_proof_reads_each_page_once(rt: HostRuntime) -> Result<(), Fail> {
         Ok(proof) => {
             let links = proof.path.links.as_slice().len() as u64;
             assert_eq!(rt; pages.reads().saturating_sub(before), links + 1);
-            assert_eq!(rt; climb::<Sha>(&proof.path, 1023, 1, &first.auth), Some(head.auth));
-            assert_eq!(rt; check_opening::<Sha>(&proof.info.opening, 1), Some(first.auth));
+            assert_eq!(rt;
+                climb::<Sha>(&proof.path, 1023, 1, &first.auth),
+                Some(head.auth)
+            );
+            assert_eq!(rt;
+                check_opening::<Sha>(&proof.info.opening, 1),
+                Some(first.auth)
+            );
         }
         Err(_) => return Err("no proof")?,
     }
@@ -218,7 +230,10 @@ fn a_page_of_zeros_is_no_step_page(rt: HostRuntime) -> Result<(), Fail> {
     head.step = 1;
     for page in [0, 3, 4, 5] {
         head.page = page;
-        assert_eq!(rt; fault_at(rt.alloc(), &mut pages, &head, 1), Some(ListFault::BadPage { page }));
+        assert_eq!(rt;
+            fault_at(rt.alloc(), &mut pages, &head, 1),
+            Some(ListFault::BadPage { page })
+        );
     }
     Ok(())
 }
@@ -228,8 +243,14 @@ fn the_step_of_another_number_is_no_page_of_it(rt: HostRuntime) -> Result<(), Fa
     let mut pages = MemPages::new(rt.alloc())?;
     let mut head = four_steps(rt.alloc(), &mut pages)?;
     head.page = 24;
-    assert_eq!(rt; fault_at(rt.alloc(), &mut pages, &head, 4), Some(ListFault::BadPage { page: 24 }));
-    assert_eq!(rt; fault_at(rt.alloc(), &mut pages, &head, 1), Some(ListFault::BadPage { page: 24 }));
+    assert_eq!(rt;
+        fault_at(rt.alloc(), &mut pages, &head, 4),
+        Some(ListFault::BadPage { page: 24 })
+    );
+    assert_eq!(rt;
+        fault_at(rt.alloc(), &mut pages, &head, 1),
+        Some(ListFault::BadPage { page: 24 })
+    );
     Ok(())
 }
 
@@ -237,8 +258,14 @@ fn the_step_of_another_number_is_no_page_of_it(rt: HostRuntime) -> Result<(), Fa
 fn a_step_that_is_not_there_is_refused(rt: HostRuntime) -> Result<(), Fail> {
     let mut pages = MemPages::new(rt.alloc())?;
     let head = four_steps(rt.alloc(), &mut pages)?;
-    assert_eq!(rt; fault_at(rt.alloc(), &mut pages, &head, 0), Some(ListFault::NoStep { last: 4 }));
-    assert_eq!(rt; fault_at(rt.alloc(), &mut pages, &head, 5), Some(ListFault::NoStep { last: 4 }));
+    assert_eq!(rt;
+        fault_at(rt.alloc(), &mut pages, &head, 0),
+        Some(ListFault::NoStep { last: 4 })
+    );
+    assert_eq!(rt;
+        fault_at(rt.alloc(), &mut pages, &head, 5),
+        Some(ListFault::NoStep { last: 4 })
+    );
     assert_eq!(rt; fault_at(rt.alloc(), &mut pages, &head, 4), None);
     if head.step >= 1 << 40 {
         return Err("too many steps")?;
@@ -255,7 +282,11 @@ fn a_failed_read_is_told(rt: HostRuntime) -> Result<(), Fail> {
     let head = four_steps(rt.alloc(), &mut pages)?;
     for (call, i) in [(1, 4), (2, 3), (3, 1)] {
         pages.fail(call)?;
-        assert_eq!(rt; fault_at(rt.alloc(), &mut pages, &head, i), Some(ListFault::DiskFault), "call {call}");
+        assert_eq!(rt;
+            fault_at(rt.alloc(), &mut pages, &head, i),
+            Some(ListFault::DiskFault),
+            "call {call}"
+        );
     }
     Ok(())
 }

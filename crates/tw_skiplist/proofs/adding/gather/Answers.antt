@@ -64,9 +64,9 @@ returns-in-Err-clause-good g c =
     let from = c.args.from in
     let lower : level < top_level_of (from + 1) = omega (arith, c.loop-level-test.true, c.top_level-top.ensures.value) in
     let bad = λ (ps : Image) (told : g.P.Pages.list c.args.pages.now ≡ Some ps) (no : IsNoStepAt c.args.empty.now ps c.loop-level.link.page (from + 1 - c.power.result)).
-        bad_link dig g.met.H.Hasher.size ps c.args.first.now c.loop-level.link from level c.requires.step lower (inv.link ps told)
-        (subst (λ (e : List ℕ). IsNoStepAt e ps c.loop-level.link.page (from + 1 - 2 ^ level)) c.requires.empty
-            (subst (λ (p : ℕ). IsNoStepAt c.args.empty.now ps c.loop-level.link.page (from + 1 - p)) c.power.ensures no)) in
+    bad_link dig g.met.H.Hasher.size ps c.args.first.now c.loop-level.link from level c.requires.step lower (inv.link ps told)
+    (subst (λ (e : List ℕ). IsNoStepAt e ps c.loop-level.link.page (from + 1 - 2 ^ level)) c.requires.empty
+    (subst (λ (p : ℕ). IsNoStepAt c.args.empty.now ps c.loop-level.link.page (from + 1 - p)) c.power.ensures no)) in
     bad_page_on c.in-Err.fault
     (λ p. (p ≡ c.loop-level.link.page) × ((ps : Image) → g.P.Pages.list c.loop-level.pages ≡ Some ps → IsNoStepAt c.args.empty.now ps c.loop-level.link.page (from + 1 - c.power.result)))
     (λ _. (ps : Image) → g.P.Pages.list c.args.pages.now ≡ Some ps → LeadsNowhere dig ps c.args.first.now from)
@@ -83,7 +83,7 @@ returns-clause-links g c = λ ps told.
     let datum = c.args.datum.now in
     subst (λ (count : ℕ). HasLinks dig ps first from datum c.add-2.new.self.links.items c.add-2.new.self.labels.items count) at
     (HasLinks-more dig ps first c.loop-level.link from datum c.loop-level.links.links.items c.add-2.new.self.links.items c.loop-level.links.labels.items c.add-2.new.self.labels.items
-        c.top_level-top.result
-        (subst (λ (l : ℕ). (h : History) (places : List Place) → KeepsSteps dig ps h places → from ≡ length h.steps → first ≡ link_to dig h places from → c.loop-level.link ≡ link_to dig h places (from + 1 - 2 ^ l)) end (inv.link ps told))
-        c.add-2.ensures.links c.add-2.ensures.labels
-        (subst (λ (l : ℕ). HasLinks dig ps first from datum c.loop-level.links.links.items c.loop-level.links.labels.items l) end (inv.links ps told)))
+    c.top_level-top.result
+    (subst (λ (l : ℕ). (h : History) (places : List Place) → KeepsSteps dig ps h places → from ≡ length h.steps → first ≡ link_to dig h places from → c.loop-level.link ≡ link_to dig h places (from + 1 - 2 ^ l)) end (inv.link ps told))
+    c.add-2.ensures.links c.add-2.ensures.labels
+    (subst (λ (l : ℕ). HasLinks dig ps first from datum c.loop-level.links.links.items c.loop-level.links.labels.items l) end (inv.links ps told)))

@@ -55,8 +55,8 @@ loop-at-preserved g c =
     let power : c.power-at.result ≡ 2 ^ hop_level at to = c.power-at.ensures ∙ ap (λ (l : ℕ). 2 ^ l) level in
     let short = hop_level-short at to under in
     let hops = λ (ps : Image) (told : g.P.Pages.list c.args.pages.now ≡ Some ps).
-        let has : HasHop dig c.args.empty.now ps c.loop-at.last.page at (hop_level at to) link next =
-        subst (λ (l : ℕ). HasHop dig c.args.empty.now ps c.loop-at.last.page at l link next) level (c.in-Ok.ensures.hop ps (inv.kept.list_kept ∙ told)) in has in
+    let has : HasHop dig c.args.empty.now ps c.loop-at.last.page at (hop_level at to) link next =
+    subst (λ (l : ℕ). HasHop dig c.args.empty.now ps c.loop-at.last.page at l link next) level (c.in-Ok.ensures.hop ps (inv.kept.list_kept ∙ told)) in has in
     record {
       walks = λ ps told.
           subst (λ (p : ℕ). Walks c.args.empty.now ps first from to next (at - p)) (sym power)
@@ -66,7 +66,7 @@ loop-at-preserved g c =
           let leads = walk_leads dig g.met.H.Hasher.size h places ps kept first from to c.loop-at.last at c.requires.below within first_is walks in
           let has = subst (λ (e : List ℕ). HasHop dig e ps c.loop-at.last.page at (hop_level at to) link next) c.requires.empty (hops ps told) in
           let record_is = record_of dig g.met.H.Hasher.size h places ps kept c.loop-at.last.page at (hop_level at to) link next (omega (arith, under)) (omega (arith, leads.high, within))
-              (ap (λ (x : StepRef). x.page) leads.link_is) has in
+          (ap (λ (x : StepRef). x.page) leads.link_is) has in
           let so_far : LeadsTo dig h c.loop-at.links from at to = inv.leads ps h places told kept within first_is in
           let further : LeadsTo dig h (c.loop-at.links ++ link ∷ []) from (hop at to) to =
           leads-further dig h c.loop-at.links link from at to under record_is.0 record_is.1 so_far in

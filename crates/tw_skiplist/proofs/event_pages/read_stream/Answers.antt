@@ -28,7 +28,7 @@ loop-number-preserved g c =
           let next : suc number ≡ number + 1 = omega arith in
           subst (λ (b : List ℕ). HasPieces ps info.stream.page info.step size (number + 1) b) (sym piece.1)
           (subst (λ (n : ℕ). HasPieces ps info.stream.page info.step size n (c.loop-number.bytes ++ piece.0)) next
-              (more number c.loop-number.bytes piece.0 (inv.pieces ps told) (omega (arith, c.loop-number-test.true)) at));
+          (more number c.loop-number.bytes piece.0 (inv.pieces ps told) (omega (arith, c.loop-number-test.true)) at));
       page = omega (arith, inv.page);
       last = inv.page ∙ ap (last_page info) (let next : suc number ≡ number + 1 = omega arith in next);
       few = omega (arith, c.loop-number-test.true, c.requires);
@@ -38,6 +38,6 @@ loop-number-preserved g c =
 
 pub returns-clause-pieces : goal.returns-clause-pieces
 returns-clause-pieces g c = λ ps told. (
-    record { number = c.loop-number.number; pieces = c.loop-number.invariant.pieces ps told; all = omega (arith, c.loop-number-test.false) },
-    c.loop-number.invariant.last,
-  )
+  record { number = c.loop-number.number; pieces = c.loop-number.invariant.pieces ps told; all = omega (arith, c.loop-number-test.false) },
+  c.loop-number.invariant.last,
+)

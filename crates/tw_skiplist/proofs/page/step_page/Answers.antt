@@ -19,13 +19,14 @@ loop-link-preserved c =
     let size : length (front ++ before) ≡ c.loop-link.at = omega (arith, length-append front before, c.front-page.ensures.size, inv.1, inv.2) in
     let less : i < length c.args.links.now = omega (arith, c.loop-link-test.true) in
     let is : c.link-item.result ≡ get_or c.args.links.now i c.link-item.result = c.link-item.is in
-    let auth_size = ap (λ (k : StepRef). length k.auth) (sym is) ∙ c.fill_link.ensures.size in
-    (c.fill_link.ensures.bytes (front ++ before) size inv.0
-        ∙ ap (λ (k : StepRef). padded ((front ++ before) ++ (to_be_bytes w64 k.page ++ k.auth))) is
-        ∙ filled_link front c.args.links.now i c.link-item.result less,
-    omega (arith, inv.1),
-    length-links_bytes-more c.args.links.now i (40 * i) c.link-item.result less inv.2 auth_size ∙ omega arith,
-    AllSized-more c.args.links.now i c.link-item.result less inv.3 auth_size)
+    let auth_size = ap (λ (k : StepRef). length k.auth) (sym is) ∙ c.fill_link.ensures.size in (
+      c.fill_link.ensures.bytes (front ++ before) size inv.0
+          ∙ ap (λ (k : StepRef). padded ((front ++ before) ++ (to_be_bytes w64 k.page ++ k.auth))) is
+          ∙ filled_link front c.args.links.now i c.link-item.result less,
+      omega (arith, inv.1),
+      length-links_bytes-more c.args.links.now i (40 * i) c.link-item.result less inv.2 auth_size ∙ omega arith,
+      AllSized-more c.args.links.now i c.link-item.result less inv.3 auth_size,
+    )
 
 pub returns-clause-bytes : goal.returns-clause-bytes
 unfolding step_bytes

@@ -19,7 +19,7 @@ returns-in-Err-clause-good g c =
     (λ p. (ps : Image) → list c.args.pages.now ≡ Some ps → MeetsBadPage c.empty_tree-empty.result ps c.link_to_head.result head.step c.args.n p)
     (λ _. (ps : Image) (h : History) → list c.args.pages.now ≡ Some ps → Keeps g.H.Hasher.dig ps h head → ⊥)
     (λ p at ps h told keeps. meets_none g.H.Hasher.dig g.met.H.Hasher.size ps h head keeps c.empty_tree-empty.result c.link_to_head.result c.empty_tree-empty.ensures c.link_to_head.ensures
-        c.args.n p below (at ps told))
+    c.args.n p below (at ps told))
     c.in-Err.ensures.bad
 
 pub returns-in-Err-collect-clause-good : goal.returns-in-Err-collect-clause-good
@@ -32,7 +32,7 @@ returns-in-Err-collect-clause-good g c =
     (λ p. (ps : Image) → list c.descend.new.pages ≡ Some ps → MeetsBadPage c.empty_tree-empty.result ps c.in-Ok.link c.args.n c.args.i p)
     (λ _. (ps : Image) (h : History) → list c.args.pages.now ≡ Some ps → Keeps g.H.Hasher.dig ps h head → ⊥)
     (λ p at ps h told keeps. meets_none_further g.H.Hasher.dig g.met.H.Hasher.size ps h head keeps c.empty_tree-empty.result c.link_to_head.result c.empty_tree-empty.ensures c.link_to_head.ensures
-        c.args.n c.in-Ok.link below (c.in-Ok.ensures.walks ps told) c.args.i p lower (at ps (c.in-Ok.ensures.kept.list_kept ∙ told)))
+    c.args.n c.in-Ok.link below (c.in-Ok.ensures.walks ps told) c.args.i p lower (at ps (c.in-Ok.ensures.kept.list_kept ∙ told)))
     c.in-Err-collect.ensures.bad
 
 pub returns-in-Ok-collect-clause-path : goal.returns-in-Ok-collect-clause-path
@@ -52,6 +52,8 @@ returns-in-Ok-collect-clause-found g c = λ ps told.
     let further = c.in-Ok-collect.ensures.walks ps (c.in-Ok.ensures.kept.list_kept ∙ told) in
     let head = c.args.head.now in
     let last = c.in-Ok-collect.field-0.last in
-    let both : WalksVia c.empty_tree-empty.result ps c.link_to_head.result head.step c.args.n c.args.i last = record { middle = c.in-Ok.link; down = down; further = further } in
-    (last, subst (λ (e : List ℕ). WalksVia e ps (head_ref head) head.step c.args.n c.args.i last) c.empty_tree-empty.ensures
-        (subst (λ (f : StepRef). WalksVia c.empty_tree-empty.result ps f head.step c.args.n c.args.i last) c.link_to_head.ensures both))
+    let both : WalksVia c.empty_tree-empty.result ps c.link_to_head.result head.step c.args.n c.args.i last = record { middle = c.in-Ok.link; down = down; further = further } in (
+      last,
+      subst (λ (e : List ℕ). WalksVia e ps (head_ref head) head.step c.args.n c.args.i last) c.empty_tree-empty.ensures
+          (subst (λ (f : StepRef). WalksVia c.empty_tree-empty.result ps f head.step c.args.n c.args.i last) c.link_to_head.ensures both),
+    )

@@ -19,7 +19,7 @@ returns-in-Err-clause-good g c =
     (λ p. (ps : Image) → list c.args.pages.now ≡ Some ps → MeetsBadPage c.empty_tree-empty.result ps c.link_to_head.result head.step c.args.top p)
     (λ _. (ps : Image) (h : History) → list c.args.pages.now ≡ Some ps → Keeps g.H.Hasher.dig ps h head → ⊥)
     (λ p at ps h told keeps. meets_none g.H.Hasher.dig g.met.H.Hasher.size ps h head keeps c.empty_tree-empty.result c.link_to_head.result c.empty_tree-empty.ensures c.link_to_head.ensures
-        c.args.top p below (at ps told))
+    c.args.top p below (at ps told))
     c.in-Err.ensures.bad
 
 pub returns-in-Err-collect_proof-clause-good : goal.returns-in-Err-collect_proof-clause-good
@@ -32,7 +32,7 @@ returns-in-Err-collect_proof-clause-good g c =
     (λ p. (ps : Image) → list c.descend.new.pages ≡ Some ps → MeetsBadPage c.empty_tree-empty.result ps c.in-Ok.link c.args.top c.args.i p)
     (λ _. (ps : Image) (h : History) → list c.args.pages.now ≡ Some ps → Keeps g.H.Hasher.dig ps h head → ⊥)
     (λ p at ps h told keeps. meets_none_further g.H.Hasher.dig g.met.H.Hasher.size ps h head keeps c.empty_tree-empty.result c.link_to_head.result c.empty_tree-empty.ensures c.link_to_head.ensures
-        c.args.top c.in-Ok.link below (c.in-Ok.ensures.walks ps told) c.args.i p lower (at ps (c.in-Ok.ensures.kept.list_kept ∙ told)))
+    c.args.top c.in-Ok.link below (c.in-Ok.ensures.walks ps told) c.args.i p lower (at ps (c.in-Ok.ensures.kept.list_kept ∙ told)))
     c.in-Err-collect_proof.ensures.bad
 
 pub returns-in-Ok-collect_proof-clause-path : goal.returns-in-Ok-collect_proof-clause-path

@@ -19,7 +19,7 @@ returns-in-Err-clause-good g c =
     (λ p. (ps : Image) → list c.args.pages.now ≡ Some ps → MeetsBadPage c.empty_tree-empty.result ps c.link_to_head.result head.step c.args.i p)
     (λ _. (ps : Image) (h : History) → list c.args.pages.now ≡ Some ps → Keeps g.H.Hasher.dig ps h head → ⊥)
     (λ p at ps h told keeps. meets_none g.H.Hasher.dig g.met.H.Hasher.size ps h head keeps c.empty_tree-empty.result c.link_to_head.result c.empty_tree-empty.ensures c.link_to_head.ensures
-        c.args.i p below (at ps told))
+    c.args.i p below (at ps told))
     c.in-Err.ensures.bad
 
 pub returns-in-Ok-clause-info : goal.returns-in-Ok-clause-info
