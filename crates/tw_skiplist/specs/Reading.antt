@@ -116,3 +116,21 @@ pub record WalksVia (empty : List ℕ) (pages : Image) (first : StepRef) (from v
   pub middle : StepRef
   pub down : Walks empty pages first from via middle via
   pub further : Walks empty pages middle via to last to
+
+-- ---- the links of one more step
+
+-- From the link to step `from`, level by level: this is the link of that level of the step after `from`. The link of the next
+-- level is the one of the same level that the page of the step it leads to has.
+pub data Gathers (empty : List ℕ) (pages : Image) (first : StepRef) (from : ℕ) : (level : ℕ) → StepRef → Type 0 where
+  start : Gathers empty pages first from 0 first
+  next : (level : ℕ) (link next : StepRef) → Gathers empty pages first from level link
+      → HasLink empty pages link.page (from + 1 - 2 ^ level) level next → Gathers empty pages first from (suc level) next
+
+-- a link of the step after `from`, below its top level, whose page isn't the page of the step that it leads to
+pub record GathersBadPage (empty : List ℕ) (pages : Image) (first : StepRef) (from page : ℕ) : Type 0 where
+  pub level : ℕ
+  pub link : StepRef
+  pub gathers : Gathers empty pages first from level link
+  pub lower : level < top_level (from + 1)
+  pub page_is : page ≡ link.page
+  pub bad : IsNoStepAt empty pages link.page (from + 1 - 2 ^ level)

@@ -9,6 +9,9 @@ ghost use Rattle.tw_base.specs.Texts.{authenticator_text, empty_tree_text, link_
 ghost use Rattle.tw_skiplist.specs.Answers.{FaultsRise, IfBadPage, NeverNoStep, NotDiskFault};
 ghost use Rattle.tw_skiplist.specs.Infos.{Added};
 ghost use Rattle.tw_skiplist.specs.Keeping.{IsWithinLimits, Keeps, event_step};
+ghost use Rattle.tw_skiplist.specs.Reading.{Gathers, GathersBadPage};
+ghost use Rattle.tw_skiplist.specs.Records.{head_ref};
+ghost use Rattle.tw_skiplist.specs.declared.head.StepRef.{StepRef};
 ghost use Rattle.tw_skiplist.specs.Links.{HasLinks, IsPut, LeadsNowhere};
 
 use crate::fault::ListFault;
@@ -72,6 +75,9 @@ fn gather<P: Pages, H: Hasher>(
     ensures links { IfOk result (λ l. (ps : Image) → P.list pages.old ≡ Some ps →
         HasLinks H.dig ps first.now from datum.now l.links.items l.labels.items (suc (top_level_of (from + 1)))) }
     ensures sizes { IfOk result (λ l. (length l.links.items ≤ 40) × (length l.labels.items ≤ 40)) }
+    ensures found { IfOk result (λ _. (ps : Image) → P.list pages.old ≡ Some ps →
+        (last : StepRef) × Gathers empty.now ps first.now from (top_level_of (from + 1)) last) }
+    ensures bad { IfBadPage result (λ p. (ps : Image) → P.list pages.old ≡ Some ps → GathersBadPage empty.now ps first.now from p) }
     ensures good { IfBadPage result (λ _. (ps : Image) → P.list pages.old ≡ Some ps → LeadsNowhere H.dig ps first.now from) }
     ensures no_step { NeverNoStep result }
     ensures kept { OnlyReads P.used_count P.list P.same P.unbroken pages.old pages.new (NotDiskFault result) }
@@ -171,6 +177,10 @@ pub fn append<P: Pages, H: Hasher>(
     ensures page { IfOk result (λ new. P.used_count pages.new ≡ new.page + 1) }
     ensures used { P.used_count pages.old ≤ P.used_count pages.new }
     ensures few { P.used_count pages.new ≤ P.used_count pages.old + 19 }
+    ensures found { IfOk result (λ _. (ps : Image) → P.list pages.old ≡ Some ps →
+        (last : StepRef) × Gathers (H.dig empty_tree_text) ps (head_ref head.now) head.now.step (top_level_of (head.now.step + 1)) last) }
+    ensures bad { IfBadPage result (λ p. (ps : Image) → P.list pages.old ≡ Some ps →
+        GathersBadPage (H.dig empty_tree_text) ps (head_ref head.now) head.now.step p) }
     ensures good { IfBadPage result (λ _. (ps : Image) (h : History) → P.list pages.old ≡ Some ps → Keeps H.dig ps h head.now → ⊥) }
     ensures no_step { NeverNoStep result }
     ensures same { P.same pages.old pages.new }
