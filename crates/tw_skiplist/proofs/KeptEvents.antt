@@ -1,0 +1,74 @@
+-- The event pages of a step that the pages keep.
+use Rattle.std.proofs.Common.{◌≡◌, ℕ, suc, zero, ◌+◌, ◌-◌, ◌*◌, ◌<◌, ◌≤◌, ◌⊎◌, List, [], ◌∷◌, ◌++◌, length, take, drop, refl, ap, sym, ◌∙◌, arith, inl, inr, subst, length-take, length-drop}
+use Rattle.std.specs.Prelude.{min}
+use Rattle.std.proofs.lemmas.List.{take_all}
+use Rattle.tw_disk.specs.Image.{Image, page_at}
+use Rattle.tw_base.specs.History.{History, events_at}
+use Rattle.tw_skiplist.specs.declared.info.StepInfo.{StepInfo}
+use Rattle.tw_skiplist.specs.Bytes.{event_bytes, piece, stream}
+use Rattle.tw_skiplist.specs.Events.{FindsEvents, FindsNoEvents, HasPieces, HasStream, IsEventPageAt, MeetsBadPiece, MisspellsEvents, SpellsEvents, piece_size}
+use Rattle.tw_skiplist.specs.Events.HasPieces.{none, more}
+use Rattle.tw_skiplist.specs.Infos.{IsInfoOf}
+use Rattle.tw_skiplist.proofs.Growing.{has_bytes}
+use Rattle.tw_skiplist.proofs.Kept.{length-stream}
+use Rattle.tw_skiplist.proofs.Spelling.{piece_read, spells_one, take_on}
+
+module _ (dig : List ℕ → List ℕ) (ps : Image) (h : History) (i : ℕ) (info : StepInfo) (is : IsInfoOf dig ps h i info) where
+  abbrev bytes_of : List ℕ
+  bytes_of = stream (events_at h i)
+
+  abbrev first : ℕ
+  first = info.stream.page
+
+  abbrev size : ℕ
+  size = info.stream.size
+
+  -- an event page of the step
+  piece_at : (number : ℕ) → 4085 * number < size → IsEventPageAt ps (first + number) info.step number size (piece bytes_of number)
+  piece_at number l =
+      let less : 4085 * number < length bytes_of = omega (arith, l, is.stream_size) in
+      let low = is.stream.low (has_bytes number _ less) in
+      let under = is.stream.below number less in
+      record {
+        low = omega (arith, low);
+        below = omega (arith, under, is.page_below);
+        bytes_are = is.stream.pieces number less ∙ ap (λ (k : ℕ). event_bytes k number (piece bytes_of number)) (sym is.step);
+        size_is = length-take 4085 (drop (4085 * number) bytes_of) ∙ omega (arith, length-drop (4085 * number) bytes_of, is.stream_size);
+      }
+
+  -- has no other piece
+  one_piece : (number : ℕ) (bytes : List ℕ) → 4085 * number < size → IsEventPageAt ps (first + number) info.step number size bytes → bytes ≡ piece bytes_of number
+  one_piece number bytes l at =
+      let own = piece_at number l in
+      sym (piece_read info.step number (piece_size size number) _ bytes at.bytes_are at.size_is) ∙ piece_read info.step number (piece_size size number) _ (piece bytes_of number) own.bytes_are own.size_is
+
+  pieces_are : (number : ℕ) (bytes : List ℕ) → HasPieces ps first info.step size number bytes → bytes ≡ take (4085 * number) bytes_of
+  pieces_are _ _ none = refl
+  pieces_are _ _ (more number before bytes has l at) =
+      (λ j. pieces_are number before has j ++ one_piece number bytes l at j) ∙ take_on (4085 * number) 4085 bytes_of
+      ∙ ap (λ (n : ℕ). take n bytes_of) (let e : 4085 * number + 4085 ≡ 4085 * suc number = omega arith in e)
+
+  stream_is : (bytes : List ℕ) → HasStream ps info bytes → bytes ≡ bytes_of
+  stream_is bytes has = pieces_are has.number bytes has.pieces ∙ take_all (4085 * has.number) bytes_of (omega (arith, has.all, is.stream_size))
+
+  own_events : (bytes : List ℕ) → bytes ≡ bytes_of → SpellsEvents bytes info.count (events_at h i)
+  own_events bytes same = record { stream_is = sym same; count_is = sym is.count; limits = is.limits }
+
+  -- the events that are found are the history's
+  pub events_are : (events : List (List ℕ)) → FindsEvents ps info events → events ≡ events_at h i
+  events_are events found = spells_one found.bytes info.count events (events_at h i) found.spells (own_events found.bytes (stream_is found.bytes found.has))
+
+  no_bad_piece : (page : ℕ) → MeetsBadPiece ps info page → ⊥
+  no_bad_piece page meets = meets.bad (piece bytes_of meets.number) (piece_at meets.number meets.needed)
+
+  spelled : (page : ℕ) → MisspellsEvents ps info page → ⊥
+  spelled page bad = bad.nothing (events_at h i) (own_events bad.bytes (stream_is bad.bytes bad.has))
+
+  short_stream : size ≤ 69632
+  short_stream = omega (arith, is.stream_size, length-stream (events_at h i), is.limits.count, is.limits.bytes)
+
+  -- and some are found
+  pub finds_some : (page : ℕ) → FindsNoEvents ps info page → ⊥
+  finds_some page (inl long) = omega (arith, long.0, short_stream)
+  finds_some page (inr (inl meets)) = no_bad_piece page meets
+  finds_some page (inr (inr bad)) = spelled page bad

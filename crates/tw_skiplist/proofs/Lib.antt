@@ -1,0 +1,14 @@
+pub mod BadPages
+pub mod Decode
+pub mod Finding
+pub mod Gathering
+pub mod Growing
+pub mod Kept
+pub mod KeptEvents
+pub mod Once
+pub mod Padded
+pub mod Plus
+pub mod Recording
+pub mod Sounding
+pub mod Spelling
+pub mod Streams

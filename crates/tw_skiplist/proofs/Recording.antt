@@ -1,0 +1,167 @@
+-- The records of paths and openings that pages make, and those of the history that the pages keep.
+use Rattle.std.proofs.Common.{◌≡◌, ℕ, suc, zero, ◌+◌, ◌-◌, ◌*◌, ◌^◌, ◌<◌, ◌≤◌, List, [], ◌∷◌, ◌++◌, length, get_or, drop, refl, ap, sym, ◌∙◌, arith, inl, inr, subst, Option, Some}
+use Rattle.std.specs.Prelude.{map, remove, ◌==◌, nat_eq, if◌then◌else◌}
+use Rattle.std.proofs.lemmas.Bool.{cases_lt, eq-eqb, ne_eqb}
+use Rattle.std.proofs.lemmas.Bool.Decides.{eqb_tells}
+use Rattle.std.proofs.lemmas.List.{length_push, map_push}
+use Rattle.std.proofs.lemmas.List.Edits.{remove-append_left, remove-append_right}
+use Rattle.std.proofs.lemmas.Nat.{pow_pos}
+use Rattle.tw_disk.specs.Image.{Image}
+use Rattle.tw_base.specs.Texts.{datum_text, empty_tree_text, link_text}
+use Rattle.tw_base.specs.EventTree.{event_root}
+use Rattle.tw_base.specs.History.{History, Step, events_at, root_of, step_at}
+use Rattle.tw_base.specs.Tree.{Tree, forest, tree}
+use Rattle.tw_base.specs.Tree.Tree.{Empty, Branch}
+use Rattle.tw_base.specs.Levels.{top_level}
+use Rattle.tw_base.specs.Auth.{auth, auths, datum_text_at, link_texts, tree_label}
+use Rattle.tw_base.proofs.Auths.{auths-at}
+use Rattle.tw_base.proofs.Plus.{forest-first}
+use Rattle.tw_skipproof.specs.Making.{IsOpeningOf, labels_at}
+use Rattle.tw_skipproof.specs.declared.path.Link.{Link}
+use Rattle.tw_skiplist.specs.declared.head.StepRef.{StepRef}
+use Rattle.tw_skiplist.specs.declared.fields.StepFields.{StepFields}
+use Rattle.tw_skiplist.specs.declared.info.StepInfo.{StepInfo}
+use Rattle.tw_skiplist.specs.Infos.{IsInfoOf}
+use Rattle.tw_skiplist.specs.Keeping.{KeepsStream, KeepsSteps, Place, event_step, fields_at, link_to, links_at, links_to, place_of}
+use Rattle.tw_skiplist.specs.Reading.{HasLink, IsStepAt, link_of, no_ref}
+use Rattle.tw_skiplist.specs.Records.{HasHop, TellsInfo, info_record, link_record, opening_record, other_labels, page_datum, page_labels}
+use Rattle.tw_skiplist.specs.Bytes.{stream}
+use Rattle.tw_skiplist.proofs.Growing.{KeepsStream-grows}
+use Rattle.tw_skiplist.proofs.Kept.{fields_are, get_or-links_to, length-links_to, links_are}
+
+-- ---- a list without one of its elements
+
+remove_past : (xs : List (List ℕ)) (i : ℕ) → length xs ≤ i → remove xs i ≡ xs
+remove_past [] zero l = refl
+remove_past [] (suc i) l = refl
+remove_past (x ∷ xs) zero l = absurd (omega arith)
+remove_past (x ∷ xs) (suc i) l = ap (λ (ys : List (List ℕ)). x ∷ ys) (remove_past xs i (omega arith))
+
+remove_same : (xs : List (List ℕ)) (x : List ℕ) → remove (xs ++ x ∷ []) (length xs) ≡ xs
+remove_same [] x = refl
+remove_same (y ∷ xs) x = ap (λ (ys : List (List ℕ)). y ∷ ys) (remove_same xs x)
+
+-- one more element, which may be the one left out
+pub remove_push : (xs : List (List ℕ)) (x : List ℕ) (n i : ℕ) → length xs ≡ n → remove (xs ++ x ∷ []) i ≡ (if n == i then remove xs i else remove xs i ++ x ∷ [])
+remove_push xs x n i size =
+    elim (eqb_tells n i) [
+      | inl is ↦ (
+          let e : length xs ≡ i = size ∙ is.1 in
+          ap (λ (k : ℕ). remove (xs ++ x ∷ []) k) (sym e) ∙ remove_same xs x ∙ sym (remove_past xs i (omega (arith, e)))
+          ∙ ap (λ b. if b then remove xs i else remove xs i ++ x ∷ []) (sym is.0))
+      | inr not ↦ (
+          elim (cases_lt i n) [
+            | inl less ↦ remove-append_left xs (x ∷ []) i (omega (arith, size, less))
+            | inr more ↦ (
+                let ne = not.1 in
+                let over : n < i = omega (arith, more, ne) in
+                remove_past (xs ++ x ∷ []) i (omega (arith, length_push xs x, size, over))
+                ∙ ap (λ (ys : List (List ℕ)). ys ++ x ∷ []) (sym (remove_past xs i (omega (arith, size, over)))))
+          ]
+          ∙ ap (λ b. if b then remove xs i else remove xs i ++ x ∷ []) (sym not.0))
+    ]
+
+remove_first : (xs : List (List ℕ)) → remove xs 0 ≡ drop 1 xs
+remove_first [] = refl
+remove_first (x ∷ xs) = refl
+
+module _ (dig : List ℕ → List ℕ) where
+  pub page_labels-none : (step : ℕ) (datum : List ℕ) (links : List StepRef) (without : ℕ) → [] ≡ remove (page_labels dig step datum links 0) without
+  unfolding page_labels
+  page_labels-none step datum links without = sym (remove_past [] without (omega arith))
+
+  pub length-page_labels : (step : ℕ) (datum : List ℕ) (links : List StepRef) (count : ℕ) → length (page_labels dig step datum links count) ≡ count
+  unfolding page_labels
+  length-page_labels step datum links zero = refl
+  length-page_labels step datum links (suc level) = length_push (page_labels dig step datum links level) _ ∙ omega (arith, length-page_labels step datum links level)
+
+  pub page_labels-more : (step : ℕ) (datum : List ℕ) (links : List StepRef) (level without : ℕ)
+      → (if level == without then remove (page_labels dig step datum links level) without else remove (page_labels dig step datum links level) without ++ dig (link_text step level datum (link_of links level).auth) ∷ [])
+      ≡ remove (page_labels dig step datum links (level + 1)) without
+  unfolding page_labels
+  page_labels-more step datum links level without =
+      sym (remove_push (page_labels dig step datum links level) _ level without (length-page_labels step datum links level))
+      ∙ ap (λ (k : ℕ). remove (page_labels dig step datum links k) without) (let e : suc level ≡ level + 1 = omega arith in e)
+
+  -- a hop has its link
+  pub hop_link : (empty : List ℕ) (ps : Image) (page step level : ℕ) (link : Link) (next : StepRef) → HasHop dig empty ps page step level link next → HasLink empty ps page step level next
+  hop_link empty ps page step level link next has = record { fields = has.fields; links = has.links; is = has.is; next_is = has.next_is }
+
+  -- ---- of a history that the pages keep
+
+  module _ (size : (text : List ℕ) → length (dig text) ≡ 32) (h : History) (places : List Place) (ps : Image) (kept : KeepsSteps dig ps h places) where
+    kept_tree : (k : ℕ) → k < length h.steps → tree h (suc k) ≡ Empty
+    unfolding tree
+    kept_tree k l = ap (λ (o : Option Step). get_or (forest h (suc k)) (root_of o) Empty) (kept.steps k l).events_only ∙ forest-first h (suc k)
+
+    kept_label : (k : ℕ) → k < length h.steps → tree_label dig (tree h (suc k)) ≡ dig empty_tree_text
+    unfolding tree_label
+    kept_label k l = ap (tree_label dig) (kept_tree k l)
+
+    kept_datum : (k : ℕ) → k < length h.steps → page_datum dig (fields_at dig h places (suc k)) ≡ dig (datum_text_at dig h (suc k))
+    unfolding datum_text_at
+    kept_datum k l = ap (λ (a : List ℕ). dig (datum_text (event_root dig (events_at h (suc k))) a (length (events_at h (suc k))))) (sym (kept_label k l))
+
+    labels_to : (k : ℕ) (datum : List ℕ) (count : ℕ) → count ≤ suc (top_level (suc k))
+        → page_labels dig (suc k) datum (links_at dig h places (suc k)) count ≡ map dig (link_texts dig datum (auths dig h k) (suc k) count)
+    unfolding page_labels link_texts
+    labels_to k datum zero l = refl
+    labels_to k datum (suc level) l =
+        let at = get_or-links_to dig size h places no_ref (suc k) (suc (top_level (suc k))) level (omega arith) in
+        let label : (link_of (links_at dig h places (suc k)) level).auth ≡ get_or (auths dig h k) (suc k - 2 ^ level) [] =
+        ap (λ (x : StepRef). x.auth) at ∙ sym (auths-at dig h k (suc k - 2 ^ level) (omega (arith, pow_pos level))) in
+        (λ j. labels_to k datum level (omega (arith, l)) j ++ dig (link_text (suc k) level datum (label j)) ∷ [])
+        ∙ sym (map_push dig (link_texts dig datum (auths dig h k) (suc k) level) _)
+
+    kept_labels : (k : ℕ) → k < length h.steps
+        → page_labels dig (suc k) (page_datum dig (fields_at dig h places (suc k))) (links_at dig h places (suc k)) (length (links_at dig h places (suc k))) ≡ labels_at dig h (suc k)
+    kept_labels k l =
+        let before : k ≡ suc k - 1 = omega arith in
+        (λ j. page_labels dig (suc k) (kept_datum k l j) (links_at dig h places (suc k)) (length-links_to dig size h places (suc k) (suc (top_level (suc k))) j))
+        ∙ labels_to k (dig (datum_text_at dig h (suc k))) (suc (top_level (suc k))) (omega arith)
+        ∙ ap (λ (n : ℕ). map dig (link_texts dig (dig (datum_text_at dig h (suc k))) (auths dig h n) (suc k) (suc (top_level (suc k))))) before
+
+    -- the record of a link is the history's
+    pub record_of : (page i level : ℕ) (link : Link) (next : StepRef) → 0 < i → i ≤ length h.steps → page ≡ (place_of places i).page
+        → HasHop dig (dig empty_tree_text) ps page i level link next → (link.datum ≡ dig (datum_text_at dig h i)) × (link.others ≡ remove (labels_at dig h i) level)
+    record_of page zero level link next some within page_is has = absurd (omega arith)
+    record_of page (suc k) level link next some within page_is has =
+        let is = subst (λ (p : ℕ). IsStepAt (dig empty_tree_text) ps p (suc k) has.fields has.links) page_is has.is in
+        let f = fields_are dig size h places ps kept (suc k) some within has.fields has.links is in
+        let ls = links_are dig size h places ps kept (suc k) some within has.fields has.links is in
+        let rec : link ≡ link_record dig (suc k) (fields_at dig h places (suc k)) (links_at dig h places (suc k)) level = has.record_is ∙ (λ j. link_record dig (suc k) (f j) (ls j) level) in (
+          ap (λ (x : Link). x.datum) rec ∙ kept_datum k (omega (arith, within)),
+          ap (λ (x : Link). x.others) rec ∙ ap (λ (xs : List (List ℕ)). remove xs level) (kept_labels k (omega (arith, within))),
+        )
+
+    -- what a page tells is the history's
+    pub info_of : (page i : ℕ) (info : StepInfo) → 0 < i → i ≤ length h.steps → page ≡ (place_of places i).page → TellsInfo dig (dig empty_tree_text) ps page i info → IsInfoOf dig ps h i info
+    info_of page zero info some within page_is tells = absurd (omega arith)
+    info_of page (suc k) info some within page_is tells =
+        let is = subst (λ (p : ℕ). IsStepAt (dig empty_tree_text) ps p (suc k) tells.fields tells.links) page_is tells.is in
+        let f = fields_are dig size h places ps kept (suc k) some within tells.fields tells.links is in
+        let ls = links_are dig size h places ps kept (suc k) some within tells.fields tells.links is in
+        let s = kept.steps k (omega (arith, within)) in
+        let own : StepInfo = info_record dig (place_of places (suc k)).page (suc k) (fields_at dig h places (suc k)) (links_at dig h places (suc k)) in
+        let rec : own ≡ info = sym (tells.info_is ∙ (λ j. info_record dig (page_is j) (suc k) (f j) (ls j))) in
+        let first = get_or-links_to dig size h places no_ref (suc k) (suc (top_level (suc k))) 0 (omega arith) in
+        subst (λ (x : StepInfo). IsInfoOf dig ps h (suc k) x) rec (record {
+          step = refl;
+          short = omega (arith, within, kept.short);
+          event_root = refl;
+          count = refl;
+          auth = refl;
+          opening = record {
+            binds = record {
+              event_root = refl;
+              archive_root = kept_label k (omega (arith, within));
+              count = refl;
+              prev = sym (ap (λ (x : StepRef). x.auth) first);
+            };
+            others = ap (λ (xs : List (List ℕ)). remove xs 0) (kept_labels k (omega (arith, within))) ∙ remove_first (labels_at dig h (suc k));
+          };
+          limits = s.limits;
+          page_below = s.below;
+          stream_size = refl;
+          stream = s.stream;
+        })

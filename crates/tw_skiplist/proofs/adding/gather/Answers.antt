@@ -1,0 +1,121 @@
+use Rattle.std.proofs.Common.{◌≡◌, ◌<◌, ◌≤◌, ◌^◌, ◌+◌, ◌-◌, ◌++◌, ◌∷◌, [], ℕ, suc, List, length, refl, ap, sym, ◌∙◌, subst, arith, Some}
+use Rattle.tw_disk.specs.Image.{Image}
+use Rattle.tw_disk.specs.Pages.{only_reads_itself, only_reads_on}
+use Rattle.tw_base.specs.Levels.{top_level as top_level_of}
+use Rattle.tw_base.specs.Texts.{empty_tree_text}
+use Rattle.tw_base.specs.History.{History}
+use Rattle.tw_skiplist.specs.declared.fault.ListFault.{ListFault}
+use Rattle.tw_skiplist.specs.declared.fault.ListFault.TheVariants.{NoStep, BadPage, DiskFault, NoMemory}
+use Rattle.tw_skiplist.specs.Keeping.{KeepsSteps, Place, link_to}
+use Rattle.tw_skiplist.specs.Links.{HasLinks, LeadsNowhere}
+use Rattle.tw_skiplist.specs.Reading.Gathers.{next, start}
+use Rattle.tw_skiplist.specs.Reading.{Gathers, GathersBadPage, HasLink, IsNoStepAt}
+use Rattle.tw_skiplist.specs.Answers.{IfBadPage}
+use Rattle.tw_skiplist.proofs.BadPages.{bad_page_on}
+use Rattle.tw_skiplist.proofs.Kept.{power-le}
+use Rattle.tw_skiplist.proofs.Gathering.{HasLinks-more, HasLinks-none, bad_link, level_fits, next_link}
+use Rattle.tw_skiplist.proofs.adding.gather.Goals as goal
+
+pub loop-level-init : goal.loop-level-init
+loop-level-init g c = record {
+  link = λ ps told h places kept last first_is. first_is ∙ ap (λ (i : ℕ). link_to g.H.Hasher.dig h places i) (let e : c.args.from ≡ c.args.from + 1 - 1 = omega arith in e);
+  links = λ ps told. HasLinks-none g.H.Hasher.dig ps c.args.first.now c.args.from c.args.datum.now c.none-links.result.links.items c.none-links.result.labels.items c.none-links.ensures.links c.none-links.ensures.labels;
+  gathers = λ ps told. start;
+  link_count = ap length c.none-links.ensures.links;
+  label_count = ap length c.none-links.ensures.labels;
+  kept = only_reads_itself g.P.Pages.used_count g.P.Pages.list g.P.Pages.same g.P.Pages.unbroken _ _ (g.met.P.Pages.same_itself _);
+  faults = omega arith;
+}
+
+pub overflow_sub-step : goal.overflow_sub-step
+overflow_sub-step g c =
+    let le = power-le (c.args.from + 1) c.loop-level.level (omega arith) c.requires.step (omega (arith, c.loop-level-test.true, c.top_level-top.ensures.value)) in
+    omega (arith, le, c.power.ensures)
+
+pub follow-requires-clause-level : goal.follow-requires-clause-level
+follow-requires-clause-level g c =
+    subst (λ (p : ℕ). c.loop-level.level ≤ top_level_of (c.args.from + 1 - p)) (sym c.power.ensures)
+    (level_fits (c.args.from + 1) c.loop-level.level (omega arith) c.requires.step (omega (arith, c.loop-level-test.true, c.top_level-top.ensures.value)))
+
+pub loop-level-preserved : goal.loop-level-preserved
+loop-level-preserved g c =
+    let inv = c.loop-level.invariant in
+    let dig = g.H.Hasher.dig in
+    let level = c.loop-level.level in
+    let from = c.args.from in
+    let lower : level < top_level_of (from + 1) = omega (arith, c.loop-level-test.true, c.top_level-top.ensures.value) in
+    record {
+      link = λ ps told.
+          let has = c.in-Ok.ensures.next ps (inv.kept.list_kept ∙ told) in
+          let has_level = subst (λ (p : ℕ). HasLink c.args.empty.now ps c.loop-level.link.page (from + 1 - p) level c.in-Ok.next) c.power.ensures has in
+          next_link dig g.met.H.Hasher.size ps c.args.first.now c.loop-level.link c.in-Ok.next from level c.requires.step lower (inv.link ps told)
+          (subst (λ (e : List ℕ). HasLink e ps c.loop-level.link.page (from + 1 - 2 ^ level) level c.in-Ok.next) c.requires.empty has_level);
+      links = λ ps told. HasLinks-more dig ps c.args.first.now c.loop-level.link from c.args.datum.now c.loop-level.links.links.items c.add.new.self.links.items c.loop-level.links.labels.items c.add.new.self.labels.items
+          level (inv.link ps told) c.add.ensures.links c.add.ensures.labels (inv.links ps told);
+      gathers = λ ps told.
+          let has = subst (λ (p : ℕ). HasLink c.args.empty.now ps c.loop-level.link.page (from + 1 - p) level c.in-Ok.next) c.power.ensures (c.in-Ok.ensures.next ps (inv.kept.list_kept ∙ told)) in
+          let e : suc level ≡ level + 1 = omega arith in
+          subst (λ (n : ℕ). Gathers c.args.empty.now ps c.args.first.now from n c.in-Ok.next) e (next level c.loop-level.link c.in-Ok.next (inv.gathers ps told) has);
+      link_count = omega (arith, c.add.ensures.link_count, inv.link_count);
+      label_count = omega (arith, c.add.ensures.label_count, inv.label_count);
+      kept = only_reads_on g.P.Pages.used_count g.P.Pages.list g.P.Pages.same g.P.Pages.unbroken _ _ _ _ _ _ g.met.P.Pages.same_on (λ good. tt) (λ good. tt) inv.kept c.in-Ok.ensures.kept;
+      faults = omega (arith, inv.faults, c.in-Ok.ensures.faults.later);
+    }
+
+pub returns-in-Err-clause-good : goal.returns-in-Err-clause-good
+returns-in-Err-clause-good g c =
+    let inv = c.loop-level.invariant in
+    let dig = g.H.Hasher.dig in
+    let level = c.loop-level.level in
+    let from = c.args.from in
+    let lower : level < top_level_of (from + 1) = omega (arith, c.loop-level-test.true, c.top_level-top.ensures.value) in
+    let bad = λ (ps : Image) (told : g.P.Pages.list c.args.pages.now ≡ Some ps) (no : IsNoStepAt c.args.empty.now ps c.loop-level.link.page (from + 1 - c.power.result)).
+    bad_link dig g.met.H.Hasher.size ps c.args.first.now c.loop-level.link from level c.requires.step lower (inv.link ps told)
+    (subst (λ (e : List ℕ). IsNoStepAt e ps c.loop-level.link.page (from + 1 - 2 ^ level)) c.requires.empty
+    (subst (λ (p : ℕ). IsNoStepAt c.args.empty.now ps c.loop-level.link.page (from + 1 - p)) c.power.ensures no)) in
+    bad_page_on c.in-Err.fault
+    (λ p. (p ≡ c.loop-level.link.page) × ((ps : Image) → g.P.Pages.list c.loop-level.pages ≡ Some ps → IsNoStepAt c.args.empty.now ps c.loop-level.link.page (from + 1 - c.power.result)))
+    (λ _. (ps : Image) → g.P.Pages.list c.args.pages.now ≡ Some ps → LeadsNowhere dig ps c.args.first.now from)
+    (λ page at ps told. bad ps told (at.1 ps (inv.kept.list_kept ∙ told))) c.in-Err.ensures.bad
+
+pub returns-clause-links : goal.returns-clause-links
+returns-clause-links g c = λ ps told.
+    let inv = c.loop-level.invariant in
+    let dig = g.H.Hasher.dig in
+    let from = c.args.from in
+    let end : c.loop-level.level ≡ c.top_level-top.result = omega (arith, c.loop-level-test.false, c.loop-level.auto.level-end) in
+    let at : c.top_level-top.result + 1 ≡ suc (top_level_of (from + 1)) = omega (arith, c.top_level-top.ensures.value) in
+    let first = c.args.first.now in
+    let datum = c.args.datum.now in
+    subst (λ (count : ℕ). HasLinks dig ps first from datum c.add-2.new.self.links.items c.add-2.new.self.labels.items count) at
+    (HasLinks-more dig ps first c.loop-level.link from datum c.loop-level.links.links.items c.add-2.new.self.links.items c.loop-level.links.labels.items c.add-2.new.self.labels.items
+    c.top_level-top.result
+    (subst (λ (l : ℕ). (h : History) (places : List Place) → KeepsSteps dig ps h places → from ≡ length h.steps → first ≡ link_to dig h places from → c.loop-level.link ≡ link_to dig h places (from + 1 - 2 ^ l)) end (inv.link ps told))
+    c.add-2.ensures.links c.add-2.ensures.labels
+    (subst (λ (l : ℕ). HasLinks dig ps first from datum c.loop-level.links.links.items c.loop-level.links.labels.items l) end (inv.links ps told)))
+
+pub returns-in-Err-clause-bad : goal.returns-in-Err-clause-bad
+returns-in-Err-clause-bad g c =
+    let inv = c.loop-level.invariant in
+    let level = c.loop-level.level in
+    let from = c.args.from in
+    let link = c.loop-level.link in
+    let lower : level < top_level_of (from + 1) = omega (arith, c.loop-level-test.true, c.top_level-top.ensures.value) in
+    bad_page_on c.in-Err.fault
+    (λ p. (p ≡ link.page) × ((ps : Image) → g.P.Pages.list c.loop-level.pages ≡ Some ps → IsNoStepAt c.args.empty.now ps link.page (from + 1 - c.power.result)))
+    (λ p. (ps : Image) → g.P.Pages.list c.args.pages.now ≡ Some ps → GathersBadPage c.args.empty.now ps c.args.first.now from p)
+    (λ p at ps told. record {
+      level = level;
+      link = link;
+      gathers = inv.gathers ps told;
+      lower = lower;
+      page_is = at.0;
+      bad = subst (λ (q : ℕ). IsNoStepAt c.args.empty.now ps link.page (from + 1 - q)) c.power.ensures (at.1 ps (inv.kept.list_kept ∙ told));
+    })
+    c.in-Err.ensures.bad
+
+pub returns-clause-found : goal.returns-clause-found
+returns-clause-found g c = λ ps told.
+    let from = c.args.from in
+    let end : c.loop-level.level ≡ top_level_of (from + 1) = omega (arith, c.loop-level-test.false, c.loop-level.auto.level-end, c.top_level-top.ensures.value) in
+    (c.loop-level.link, subst (λ (l : ℕ). Gathers c.args.empty.now ps c.args.first.now from l c.loop-level.link) end (c.loop-level.invariant.gathers ps told))

@@ -1,0 +1,22 @@
+use Rattle.std.proofs.Common.{◌≡◌, ◌∙◌, ℕ, Some}
+use Rattle.tw_disk.specs.Image.{Image}
+use Rattle.tw_skiplist.specs.Reading.{IsNoStepAt, MeetsBadPage}
+use Rattle.tw_skiplist.proofs.BadPages.{bad_page_on}
+use Rattle.tw_skiplist.proofs.collecting.find_info.Goals as goal
+
+pub returns-in-Err-read_info-clause-bad : goal.returns-in-Err-read_info-clause-bad
+returns-in-Err-read_info-clause-bad g c =
+    let list = g.P.Pages.list in
+    let link = c.in-Ok.link in
+    bad_page_on c.in-Err-read_info.fault
+    (λ p. (p ≡ link.page) × ((ps : Image) → list c.descend.new.pages ≡ Some ps → IsNoStepAt c.args.empty.now ps link.page c.args.to))
+    (λ p. (ps : Image) → list c.args.pages.now ≡ Some ps → MeetsBadPage c.args.empty.now ps c.args.first.now c.args.from c.args.to p)
+    (λ p at ps told. record {
+      link = link;
+      at = c.args.to;
+      recorded = c.requires.some;
+      walks = c.in-Ok.ensures.walks ps told;
+      page_is = at.0;
+      bad = at.1 ps (c.in-Ok.ensures.kept.list_kept ∙ told);
+    })
+    c.in-Err-read_info.ensures.bad

@@ -1,0 +1,62 @@
+use Rattle.std.proofs.Common.{◌≡◌, ◌+◌, ◌-◌, ◌*◌, ◌<◌, ◌≤◌, ◌++◌, ◌∷◌, [], ℕ, List, ap, sym, ◌∙◌, arith, subst, length, take, drop, length-take, length-append}
+use Rattle.std.proofs.lemmas.List.{length_push, take_all}
+use Rattle.tw_base.specs.Lists.{Each}
+use Rattle.tw_skiplist.specs.Bytes.{stream}
+use Rattle.tw_skiplist.proofs.Kept.{length-stream}
+use Rattle.tw_skiplist.proofs.Spelling.{AllShort, all_taken, more_sizes, more_taken, no_event}
+use Rattle.tw_skiplist.proofs.event_pages.read_events.Goals as goal
+use Rattle.tw_skiplist.proofs.event_pages.read_events.Goals.{then-at-bytes-via-then-at-bytes, then-at-bytes-via-else-at-bytes+then-at-count}
+
+pub returns-in_default : goal.returns-in_default
+returns-in_default c = λ es spells.
+    let inv = c.loop-index.invariant in
+    no_event c.args.bytes.now c.args.count c.loop-index.at c.loop-index.index c.loop-index.events es inv.so_far inv.within inv.count inv.sizes spells (omega (arith, c.loop-index-test.true))
+    (omega (arith, c.loop-index-test.true)) c.in_default.ensures
+
+pub loop-index-preserved : goal.loop-index-preserved
+loop-index-preserved c =
+    let inv = c.loop-index.invariant in
+    let bytes = c.args.bytes.now in
+    let at = c.loop-index.at in
+    let size = c.in-Some.size in
+    let event = c.in_ok-copy_event.field-0 in
+    let has = c.in-Some.ensures in
+    let pushed = c.in_ok-push.ensures.ok in
+    record {
+      so_far = ap stream pushed ∙ more_taken bytes at size c.loop-index.events event inv.so_far has c.in_ok-copy_event.ensures;
+      within = omega (arith, has.room);
+      count = ap (λ (es : List (List ℕ)). length es) pushed ∙ length_push c.loop-index.events event ∙ omega (arith, inv.count);
+      sizes = subst AllShort (sym pushed) (more_sizes bytes at size c.loop-index.events event inv.so_far has c.in_ok-copy_event.ensures inv.sizes);
+    }
+
+pub returns-then-at-bytes : goal.returns-then-at-bytes
+returns-then-at-bytes c = λ es spells.
+    let inv = c.loop-index.invariant in
+    let events = c.loop-index.events in
+    let done : c.loop-index.index ≡ c.args.count = omega (arith, c.loop-index-test.false, c.loop-index.auto.index-end) in
+    let taken = all_taken c.args.bytes.now c.args.count c.loop-index.at c.loop-index.index events es inv.so_far inv.within inv.count inv.sizes spells (omega (arith, done)) done in
+    let sum = length-stream es in
+    let size : length (stream es) ≡ length c.args.bytes.now = ap (λ (t : List ℕ). length t) spells.stream_is in
+    elim c.then-at-bytes.branch [
+      | then-at-bytes-via-then-at-bytes w ↦ w.if-at-bytes.true taken.0
+      | then-at-bytes-via-else-at-bytes+then-at-count w ↦ omega (arith, w.if-at-count.true, sum, size, taken.0, spells.count_is, spells.limits.bytes)
+    ]
+
+pub returns : goal.returns
+returns c =
+    let inv = c.loop-index.invariant in
+    let events = c.loop-index.events in
+    let bytes = c.args.bytes.now in
+    let done : c.loop-index.index ≡ c.args.count = omega (arith, c.loop-index-test.false, c.loop-index.auto.index-end) in
+    let end : c.loop-index.at ≡ length bytes = omega (arith, c.if-at-bytes.false) in
+    let sum = length-stream events in
+    let size : length (stream events) ≡ c.loop-index.at = ap (λ (t : List ℕ). length t) inv.so_far ∙ length-take c.loop-index.at bytes ∙ omega (arith, inv.within) in
+    record {
+      stream_is = inv.so_far ∙ take_all c.loop-index.at bytes (omega (arith, end));
+      count_is = inv.count ∙ done;
+      limits = record {
+        count = omega (arith, inv.count, done, c.if-count-gt1024.false);
+        sizes = inv.sizes;
+        bytes = omega (arith, sum, size, inv.count, done, c.if-at-count.false);
+      };
+    }

@@ -1,0 +1,18 @@
+use Rattle.std.proofs.Common.{◌≡◌, ◌+◌, ◌*◌, ◌-◌, ◌≤◌, ℕ, List, Some}
+use Rattle.tw_disk.specs.Image.{Image}
+use Rattle.tw_disk.specs.Pages.{OnlyReads}
+use Rattle.tw_skiplist.specs.Events.{HasPieces, last_page}
+use Rattle.tw_skiplist.proofs.event_pages.read_stream.Given as goal
+
+abbrev pub invariant-loop-number : goal.invariant-loop-number
+invariant-loop-number g l = record {
+  pieces : (ps : Image) → g.P.Pages.list l.initial.pages ≡ Some ps → HasPieces ps l.info.stream.page l.info.step l.size l.number l.bytes;
+  page : l.page ≡ l.info.stream.page + l.number;
+  last : l.last ≡ last_page l.info l.number;
+  few : l.number ≤ 18;
+  kept : OnlyReads g.P.Pages.used_count g.P.Pages.list g.P.Pages.same g.P.Pages.unbroken l.initial.pages l.pages (Unit {0});
+  faults : g.P.Pages.faults l.initial.pages ≤ g.P.Pages.faults l.pages;
+}
+
+abbrev pub decreases-loop-number : goal.decreases-loop-number
+decreases-loop-number g l = l.size - 4085 * l.number

@@ -1,0 +1,37 @@
+use Rattle.std.proofs.Common.{◌≡◌, ◌+◌, ◌-◌, ◌*◌, ◌<◌, ◌≤◌, ◌++◌, ◌∷◌, [], ℕ, List, Option, Some, None, length, refl, ap, sym, ◌∙◌, arith, subst, inl, inr, append_assoc}
+use Rattle.std.proofs.lemmas.Bool.{cases_lt}
+use Rattle.std.proofs.lemmas.List.{append-nil}
+use Rattle.tw_disk.specs.Image.{Image}
+use Rattle.tw_skiplist.specs.Bytes.{event_pages, event_bytes, piece}
+use Rattle.tw_skiplist.proofs.Streams.{event_pages-first, event_pages-more, option_ap, option_more, option_same}
+use Rattle.tw_skiplist.proofs.pieces.stage_pieces.Goals as goal
+
+pub loop-count-init : goal.loop-count-init
+loop-count-init g c = record {
+  list = option_same (g.P.Pages.list c.args.pages.now) (event_pages c.args.step c.args.stream.now 0) (event_pages-first c.args.step c.args.stream.now);
+  needed = λ number l. absurd (omega arith);
+  used = omega arith;
+  few = omega arith;
+  same = g.met.P.Pages.same_itself _;
+  unbroken = λ u. u;
+  faults = refl;
+}
+
+pub loop-count-preserved : goal.loop-count-preserved
+loop-count-preserved g c =
+    let inv = c.loop-count.invariant in
+    let count = c.loop-count.count in
+    record {
+      list = c.in_ok-stage.ensures.list
+          ∙ option_more (g.P.Pages.list c.args.pages.now) (g.P.Pages.list c.loop-count.pages) (event_pages c.args.step c.args.stream.now count) c.piece_page.result inv.list
+          ∙ option_ap (g.P.Pages.list c.args.pages.now) (ap (λ (p : List ℕ). event_pages c.args.step c.args.stream.now count ++ p ∷ []) c.piece_page.ensures ∙ sym (event_pages-more c.args.step c.args.stream.now count));
+      needed = λ number l. elim (cases_lt number count) [
+        | inl less ↦ inv.needed number less
+        | inr more ↦ (let e : count ≡ number = omega (arith, l, more) in subst (λ (k : ℕ). 4085 * k < length c.args.stream.now) e (omega (arith, c.loop-count-test.true)))
+      ];
+      used = omega (arith, c.in_ok-stage.ensures.used, inv.used);
+      few = omega (arith, c.loop-count-test.true, c.requires.size);
+      same = g.met.P.Pages.same_on _ _ _ inv.same c.in_ok-stage.ensures.same;
+      unbroken = λ u. c.in_ok-stage.ensures.unbroken (inv.unbroken u);
+      faults = c.in_ok-stage.ensures.faults ∙ inv.faults;
+    }

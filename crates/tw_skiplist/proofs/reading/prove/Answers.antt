@@ -1,0 +1,57 @@
+use Rattle.std.proofs.Common.{◌≡◌, ◌<◌, ◌≤◌, ◌∙◌, ℕ, List, Some, arith, inl, inr, sym, subst}
+use Rattle.tw_disk.specs.Image.{Image}
+use Rattle.tw_base.specs.History.{History}
+use Rattle.tw_base.specs.Texts.{empty_tree_text}
+use Rattle.tw_skiplist.specs.declared.head.StepRef.{StepRef}
+use Rattle.tw_skiplist.specs.Keeping.{Keeps}
+use Rattle.tw_skiplist.specs.Reading.{MeetsBadPage, Walks, WalksVia}
+use Rattle.tw_skiplist.specs.Records.{head_ref}
+use Rattle.tw_skiplist.proofs.BadPages.{bad_page_on}
+use Rattle.tw_skiplist.proofs.Finding.{leads_to_last, meets_none, meets_none_further, middle_is, tells_info, tells_info_further, top_within}
+use Rattle.tw_skiplist.proofs.reading.prove.Goals as goal
+
+pub returns-in-Err-clause-good : goal.returns-in-Err-clause-good
+returns-in-Err-clause-good g c =
+    let list = g.P.Pages.list in
+    let head = c.args.head.now in
+    let below : c.args.top ≤ head.step = omega (arith, c.if-top-last.false) in
+    bad_page_on c.in-Err.fault
+    (λ p. (ps : Image) → list c.args.pages.now ≡ Some ps → MeetsBadPage c.empty_tree-empty.result ps c.link_to_head.result head.step c.args.top p)
+    (λ _. (ps : Image) (h : History) → list c.args.pages.now ≡ Some ps → Keeps g.H.Hasher.dig ps h head → ⊥)
+    (λ p at ps h told keeps. meets_none g.H.Hasher.dig g.met.H.Hasher.size ps h head keeps c.empty_tree-empty.result c.link_to_head.result c.empty_tree-empty.ensures c.link_to_head.ensures
+    c.args.top p below (at ps told))
+    c.in-Err.ensures.bad
+
+pub returns-in-Err-collect_proof-clause-good : goal.returns-in-Err-collect_proof-clause-good
+returns-in-Err-collect_proof-clause-good g c =
+    let list = g.P.Pages.list in
+    let head = c.args.head.now in
+    let below : c.args.top ≤ head.step = omega (arith, c.if-top-last.false) in
+    let lower : c.args.i ≤ c.args.top = omega (arith, c.if-i-top.false) in
+    bad_page_on c.in-Err-collect_proof.fault
+    (λ p. (ps : Image) → list c.descend.new.pages ≡ Some ps → MeetsBadPage c.empty_tree-empty.result ps c.in-Ok.link c.args.top c.args.i p)
+    (λ _. (ps : Image) (h : History) → list c.args.pages.now ≡ Some ps → Keeps g.H.Hasher.dig ps h head → ⊥)
+    (λ p at ps h told keeps. meets_none_further g.H.Hasher.dig g.met.H.Hasher.size ps h head keeps c.empty_tree-empty.result c.link_to_head.result c.empty_tree-empty.ensures c.link_to_head.ensures
+    c.args.top c.in-Ok.link below (c.in-Ok.ensures.walks ps told) c.args.i p lower (at ps (c.in-Ok.ensures.kept.list_kept ∙ told)))
+    c.in-Err-collect_proof.ensures.bad
+
+pub returns-in-Ok-collect_proof-clause-path : goal.returns-in-Ok-collect_proof-clause-path
+returns-in-Ok-collect_proof-clause-path g c = λ ps h told keeps.
+    let dig = g.H.Hasher.dig in
+    let size = g.met.H.Hasher.size in
+    let head = c.args.head.now in
+    let below : c.args.top ≤ head.step = omega (arith, c.if-top-last.false) in
+    let down = c.in-Ok.ensures.walks ps told in
+    c.in-Ok-collect_proof.ensures.path ps h keeps.places (c.in-Ok.ensures.kept.list_kept ∙ told) keeps.keeps
+    (top_within dig size ps h head keeps c.empty_tree-empty.result c.link_to_head.result c.empty_tree-empty.ensures c.link_to_head.ensures c.args.top c.in-Ok.link below down)
+    (middle_is dig size ps h head keeps c.empty_tree-empty.result c.link_to_head.result c.empty_tree-empty.ensures c.link_to_head.ensures c.args.top c.in-Ok.link below down)
+
+pub returns-in-Ok-collect_proof-clause-info : goal.returns-in-Ok-collect_proof-clause-info
+returns-in-Ok-collect_proof-clause-info g c = λ ps h told keeps.
+    let head = c.args.head.now in
+    let below : c.args.top ≤ head.step = omega (arith, c.if-top-last.false) in
+    let lower : c.args.i ≤ c.args.top = omega (arith, c.if-i-top.false) in
+    let some : 0 < c.args.i = omega (arith, c.if-i-eq0.false) in
+    let found = c.in-Ok-collect_proof.ensures.info ps (c.in-Ok.ensures.kept.list_kept ∙ told) in
+    tells_info_further g.H.Hasher.dig g.met.H.Hasher.size ps h head keeps c.empty_tree-empty.result c.link_to_head.result c.empty_tree-empty.ensures c.link_to_head.ensures
+    c.args.top c.in-Ok.link below (c.in-Ok.ensures.walks ps told) c.args.i found.0 c.in-Ok-collect_proof.proof.info some lower found.1 found.2

@@ -1,0 +1,31 @@
+use Rattle.std.proofs.Common.{◌≡◌, ◌<◌, ◌≤◌, ◌∙◌, ℕ, List, Some, arith, inl, inr, sym, subst}
+use Rattle.tw_disk.specs.Image.{Image}
+use Rattle.tw_base.specs.History.{History}
+use Rattle.tw_base.specs.Texts.{empty_tree_text}
+use Rattle.tw_skiplist.specs.declared.head.StepRef.{StepRef}
+use Rattle.tw_skiplist.specs.Keeping.{Keeps}
+use Rattle.tw_skiplist.specs.Reading.{MeetsBadPage, Walks, WalksVia}
+use Rattle.tw_skiplist.specs.Records.{head_ref}
+use Rattle.tw_skiplist.proofs.BadPages.{bad_page_on}
+use Rattle.tw_skiplist.proofs.Finding.{leads_to_last, meets_none, meets_none_further, middle_is, tells_info, tells_info_further, top_within}
+use Rattle.tw_skiplist.proofs.reading.step.Goals as goal
+
+pub returns-in-Err-clause-good : goal.returns-in-Err-clause-good
+returns-in-Err-clause-good g c =
+    let list = g.P.Pages.list in
+    let head = c.args.head.now in
+    let below : c.args.i ≤ head.step = omega (arith, c.if-i-last.false) in
+    bad_page_on c.in-Err.fault
+    (λ p. (ps : Image) → list c.args.pages.now ≡ Some ps → MeetsBadPage c.empty_tree-empty.result ps c.link_to_head.result head.step c.args.i p)
+    (λ _. (ps : Image) (h : History) → list c.args.pages.now ≡ Some ps → Keeps g.H.Hasher.dig ps h head → ⊥)
+    (λ p at ps h told keeps. meets_none g.H.Hasher.dig g.met.H.Hasher.size ps h head keeps c.empty_tree-empty.result c.link_to_head.result c.empty_tree-empty.ensures c.link_to_head.ensures
+    c.args.i p below (at ps told))
+    c.in-Err.ensures.bad
+
+pub returns-in-Ok-clause-info : goal.returns-in-Ok-clause-info
+returns-in-Ok-clause-info g c = λ ps h told keeps.
+    let found = c.in-Ok.ensures.info ps told in
+    let some : 0 < c.args.i = omega (arith, c.if-i-eq0.false) in
+    let below : c.args.i ≤ c.args.head.now.step = omega (arith, c.if-i-last.false) in
+    tells_info g.H.Hasher.dig g.met.H.Hasher.size ps h c.args.head.now keeps c.empty_tree-empty.result c.link_to_head.result c.empty_tree-empty.ensures c.link_to_head.ensures
+    c.args.i found.0 c.in-Ok.info some below found.1 found.2

@@ -1,0 +1,12 @@
+use Rattle.std.proofs.Common.{List, ap, ◌∙◌}
+use Rattle.tw_skiplist.specs.declared.head.StepRef.{StepRef}
+use Rattle.tw_skiplist.specs.Reading.{link_of}
+use Rattle.tw_skiplist.proofs.walking.follow.Goals as goal
+
+pub returns-in-Ok-clause-next : goal.returns-in-Ok-clause-next
+returns-in-Ok-clause-next g c = λ ps told. record {
+  fields = c.in-Ok.page.fields;
+  links = c.in-Ok.page.links.items;
+  is = c.in-Ok.ensures.is ps told;
+  next_is = c.link_at.ensures ∙ ap (λ (ls : List StepRef). link_of ls c.args.level) c.as_slice.ensures.value;
+}

@@ -1,0 +1,97 @@
+-- Pages that keep a history of events.
+use Rattle.std.specs.Prelude.{◌≡◌, ℕ, suc, zero, ◌+◌, ◌-◌, ◌*◌, ◌^◌, ◌<◌, ◌≤◌, List, [], ◌∷◌, ◌++◌, length, slice_index_or, sum_by, Some}
+use Rattle.tw_disk.specs.Image.{Image, page_at}
+use Rattle.tw_base.specs.Lists.{Each}
+use Rattle.tw_base.specs.Texts.{empty_tree_text}
+use Rattle.tw_base.specs.EventTree.{event_root}
+use Rattle.tw_base.specs.History.{History, Step, step_at, events_at}
+use Rattle.tw_base.specs.History.Content.{Events}
+use Rattle.tw_base.specs.Levels.{top_level}
+use Rattle.tw_base.specs.Auth.{auth}
+use Rattle.tw_skiplist.specs.declared.head.Head.{Head}
+use Rattle.tw_skiplist.specs.declared.head.StepRef.{StepRef}
+use Rattle.tw_skiplist.specs.declared.fields.StepFields.{StepFields}
+use Rattle.tw_skiplist.specs.Bytes.{step_bytes, event_bytes, stream, piece}
+
+-- ---- histories of events
+
+-- a step of these events: it adds no node, and the archive stays empty
+abbrev pub event_step : List (List ℕ) → Step
+event_step events = record { content = Events events; fresh = []; root = 0 }
+
+-- the limits of the events of a step
+pub record IsWithinLimits (events : List (List ℕ)) : Type 0 where
+  pub count : length events ≤ 1024
+  pub sizes : Each (λ event. length event ≤ 1024) events
+  pub bytes : sum_by (λ event. length event) events ≤ 65536
+
+-- ---- where steps are kept
+
+-- the page of a step, and its first event page, which is 0 where the step has none
+pub record Place : Type 0 where
+  pub page : ℕ
+  pub first : ℕ
+
+abbrev pub no_place : Place
+no_place = record { page = 0; first = 0 }
+
+-- the place of step i; step 0 has none
+abbrev pub place_of : List Place → ℕ → Place
+place_of places i = slice_index_or places i no_place
+
+-- the event pages from this one on, all below the step page, keep the stream; a stream of no bytes has no page
+pub record KeepsStream (pages : Image) (step first page : ℕ) (bytes : List ℕ) : Type 0 where
+  pub none : length bytes ≡ 0 → first ≡ 0
+  pub low : 0 < length bytes → 4 ≤ first
+  pub below : (number : ℕ) → 4085 * number < length bytes → first + number < page
+  pub pieces : (number : ℕ) → 4085 * number < length bytes → page_at pages (first + number - 4) ≡ event_bytes step number (piece bytes number)
+
+module _ (dig : List ℕ → List ℕ) where
+  module _ (h : History) (places : List Place) where
+    abbrev pub link_to : ℕ → StepRef
+    link_to i = record { page = (place_of places i).page; auth = auth dig h i }
+
+    -- the links of step i at the levels below this count; the link at a level leads to step i - 2 ^ level
+    unfoldable pub links_to : (i count : ℕ) → List StepRef
+    links_to i zero = []
+    links_to i (suc level) = links_to i level ++ link_to (i - 2 ^ level) ∷ []
+
+    -- all links of step i
+    abbrev pub links_at : ℕ → List StepRef
+    links_at i = links_to i (suc (top_level i))
+
+    -- the fields of step i's page
+    abbrev pub fields_at : ℕ → StepFields
+    fields_at i = record {
+      count = length (events_at h i);
+      stream = record { page = (place_of places i).first; size = length (stream (events_at h i)) };
+      event_root = event_root dig (events_at h i);
+      archive = dig empty_tree_text;
+      auth = auth dig h i;
+    }
+
+  -- the pages keep step k + 1 of the history, which is one of events, at its place above that of step k
+  pub record KeepsStep (pages : Image) (h : History) (places : List Place) (k : ℕ) : Type 0 where
+    pub events_only : step_at h (suc k) ≡ Some (event_step (events_at h (suc k)))
+    pub limits : IsWithinLimits (events_at h (suc k))
+    pub low : 4 ≤ (place_of places (suc k)).page
+    pub rising : (place_of places k).page < (place_of places (suc k)).page
+    pub below : (place_of places (suc k)).page < 4 + length pages
+    pub small : (place_of places (suc k)).page < 2 ^ 48
+    pub bytes : page_at pages ((place_of places (suc k)).page - 4) ≡ step_bytes (suc k) (fields_at h places (suc k)) (links_at h places (suc k))
+    pub stream : KeepsStream pages (suc k) (place_of places (suc k)).first (place_of places (suc k)).page (stream (events_at h (suc k)))
+
+  -- the pages keep each step of the history at these places
+  pub record KeepsSteps (pages : Image) (h : History) (places : List Place) : Type 0 where
+    pub count : length places ≡ suc (length h.steps)
+    pub nowhere : place_of places 0 ≡ no_place
+    pub short : length h.steps < 2 ^ 40
+    pub steps : (k : ℕ) → k < length h.steps → KeepsStep pages h places k
+
+  -- the pages, of which the first has number 4, keep the history whose head this is
+  pub record Keeps (pages : Image) (h : History) (head : Head) : Type 0 where
+    pub places : List Place
+    pub keeps : KeepsSteps pages h places
+    pub step : head.step ≡ length h.steps
+    pub auth : head.auth ≡ auth dig h (length h.steps)
+    pub page : head.page ≡ (place_of places (length h.steps)).page

@@ -1,0 +1,90 @@
+-- What the fields and links of a step's page make of a path and of an opening.
+use Rattle.std.specs.Prelude.{◌≡◌, ℕ, suc, zero, List, [], ◌∷◌, ◌++◌, length, remove}
+use Rattle.tw_disk.specs.Image.{Image}
+use Rattle.tw_base.specs.Texts.{datum_text, empty_tree_text, link_text}
+use Rattle.tw_skipproof.specs.declared.opening.Opening.{Opening}
+use Rattle.tw_skipproof.specs.declared.path.Link.{Link}
+use Rattle.tw_skiplist.specs.declared.head.Head.{Head}
+use Rattle.tw_skiplist.specs.declared.head.StepRef.{StepRef}
+use Rattle.tw_skiplist.specs.declared.fields.StepFields.{StepFields}
+use Rattle.tw_skiplist.specs.declared.info.StepInfo.{StepInfo}
+use Rattle.tw_skiplist.specs.Reading.{IsStepAt, MeetsBadPage, MeetsBadPageVia, Walks, WalksVia, link_of}
+
+module _ (dig : List ℕ → List ℕ) where
+  abbrev pub page_datum : StepFields → List ℕ
+  page_datum f = dig (datum_text f.event_root f.archive f.count)
+
+  -- the labels of the links at the levels below this count
+  unfoldable pub page_labels : (step : ℕ) (datum : List ℕ) → List StepRef → (count : ℕ) → List (List ℕ)
+  page_labels step datum links zero = []
+  page_labels step datum links (suc level) = page_labels step datum links level ++ dig (link_text step level datum (link_of links level).auth) ∷ []
+
+  -- the labels of all links but the one of this level
+  abbrev pub other_labels : (step : ℕ) (datum : List ℕ) → List StepRef → (level : ℕ) → List (List ℕ)
+  other_labels step datum links level = remove (page_labels step datum links (length links)) level
+
+  -- the record of the link of this level in a path
+  abbrev pub link_record : (step : ℕ) → StepFields → List StepRef → (level : ℕ) → Link
+  link_record step f links level = record { datum = page_datum f; others = other_labels step (page_datum f) links level }
+
+  abbrev pub opening_record : (step : ℕ) → StepFields → List StepRef → Opening
+  opening_record step f links = record {
+    event_root = f.event_root;
+    archive_root = f.archive;
+    count = f.count;
+    prev = (link_of links 0).auth;
+    others = other_labels step (page_datum f) links 0;
+  }
+
+  abbrev pub info_record : (page step : ℕ) → StepFields → List StepRef → StepInfo
+  info_record page step f links = record {
+    step = step;
+    page = page;
+    event_root = f.event_root;
+    count = f.count;
+    auth = f.auth;
+    opening = opening_record step f links;
+    stream = f.stream;
+  }
+
+  -- the page is that of the step; its link of that level leads on, and has this record
+  pub record HasHop (empty : List ℕ) (pages : Image) (page step level : ℕ) (of_link : Link) (next : StepRef) : Type 0 where
+    pub fields : StepFields
+    pub links : List StepRef
+    pub is : IsStepAt empty pages page step fields links
+    pub next_is : next ≡ link_of links level
+    pub record_is : of_link ≡ link_record step fields links level
+
+  -- the page is that of the step, and tells this
+  pub record TellsInfo (empty : List ℕ) (pages : Image) (page step : ℕ) (info : StepInfo) : Type 0 where
+    pub fields : StepFields
+    pub links : List StepRef
+    pub is : IsStepAt empty pages page step fields links
+    pub info_is : info ≡ info_record page step fields links
+
+-- the link that a head is
+abbrev pub head_ref : Head → StepRef
+head_ref head = record { page = head.page; auth = head.auth }
+
+module _ (dig : List ℕ → List ℕ) (pages : Image) (head : Head) where
+  abbrev pub empty_label : List ℕ
+  empty_label = dig empty_tree_text
+
+  -- the walk from the head down to the step comes to a page that tells this of the step
+  pub record FindsInfo (i : ℕ) (info : StepInfo) : Type 0 where
+    pub link : StepRef
+    pub walks : Walks empty_label pages (head_ref head) head.step i link i
+    pub tells : TellsInfo dig empty_label pages link.page i info
+
+  -- the walk meets a page that isn't the page of its step
+  abbrev pub FindsBadPage : (i page : ℕ) → Type 0
+  FindsBadPage i page = MeetsBadPage empty_label pages (head_ref head) head.step i page
+
+  -- the same of the walk from the head down to the top and on to the step
+  pub record FindsProof (top i : ℕ) (info : StepInfo) : Type 0 where
+    pub link : StepRef
+    pub walks : WalksVia empty_label pages (head_ref head) head.step top i link
+    pub tells : TellsInfo dig empty_label pages link.page i info
+
+  abbrev pub FindsBadPageVia : (top i page : ℕ) → Type 0
+  FindsBadPageVia top i page = MeetsBadPageVia empty_label pages (head_ref head) head.step top i page

@@ -1,0 +1,211 @@
+// One more step.
+
+ghost use Rattle.std.specs.Prelude.{◌≡◌, ℕ, suc, ◌+◌, ◌<◌, ◌≤◌, ◌^◌, ◌++◌, ◌∷◌, [], List, length, Some, IfOk};
+ghost use Rattle.tw_disk.specs.Image.{Image};
+ghost use Rattle.tw_disk.specs.Pages.{OnlyReads};
+ghost use Rattle.tw_base.specs.History.{History, plus};
+ghost use Rattle.tw_base.specs.Levels.{top_level as top_level_of};
+ghost use Rattle.tw_base.specs.Texts.{authenticator_text, empty_tree_text, link_text};
+ghost use Rattle.tw_skiplist.specs.Answers.{FaultsRise, IfBadPage, NeverNoStep, NotDiskFault};
+ghost use Rattle.tw_skiplist.specs.Infos.{Added};
+ghost use Rattle.tw_skiplist.specs.Keeping.{IsWithinLimits, Keeps, event_step};
+ghost use Rattle.tw_skiplist.specs.Reading.{Gathers, GathersBadPage};
+ghost use Rattle.tw_skiplist.specs.Records.{head_ref};
+ghost use Rattle.tw_skiplist.specs.declared.head.StepRef.{StepRef};
+ghost use Rattle.tw_skiplist.specs.Links.{HasLinks, IsPut, LeadsNowhere};
+
+use crate::fault::ListFault;
+use crate::fields::{StepFields, StreamRef};
+use crate::head::{Head, StepRef};
+use crate::page::{power, step_page};
+use crate::pieces::{stage_pieces, stream_of};
+use crate::walking::follow;
+use arrayvec::ArrayVec;
+use std::alloc::Global;
+use tw_base::{
+    Bytes, Digest, EventList, Hasher, NoMemory, authenticator, datum, empty_tree, link_label,
+    top_level,
+};
+use tw_disk::Pages;
+use tw_events::event_root;
+
+// A step's links, with their labels.
+#[derive(Drop)]
+struct Links {
+    links: ArrayVec<StepRef, 40>,
+    labels: ArrayVec<Digest, 40>,
+}
+
+impl Links {
+    fn none() -> Links
+        ensures links { result.links.items ≡ [] }
+        ensures labels { result.labels.items ≡ [] }
+    {
+        Links {
+            links: ArrayVec::new(),
+            labels: ArrayVec::new(),
+        }
+    }
+
+    fn add<H: Hasher>(&mut self, link: &StepRef, step: u64, level: u8, datum: &Digest)
+        requires links { length self.old.links.items < 40 }
+        requires labels { length self.old.labels.items < 40 }
+        ensures links { self.new.links.items ≡ self.old.links.items ++ link.now ∷ [] }
+        ensures labels { self.new.labels.items ≡ self.old.labels.items ++ H.dig (link_text step level datum.now link.now.auth) ∷ [] }
+        ensures link_count { length self.new.links.items ≡ length self.old.links.items + 1 }
+        ensures label_count { length self.new.labels.items ≡ length self.old.labels.items + 1 }
+    {
+        let label = link_label::<H>(step, level, datum, &link.auth);
+        self.links.push(*link);
+        self.labels.push(label);
+    }
+}
+
+// The links of the step after `from`, to which the first link leads, with their labels over the step's datum. It reads the page
+// of a step for each link but the last.
+fn gather<P: Pages, H: Hasher>(
+    pages: &mut P,
+    empty: &Digest,
+    first: &StepRef,
+    from: u64,
+    datum: &Digest,
+) -> Result<Links, ListFault>
+    requires step { from + 1 < 2 ^ 40 }
+    requires empty { empty.now ≡ H.dig empty_tree_text }
+    ensures links { IfOk result (λ l. (ps : Image) → P.list pages.old ≡ Some ps →
+        HasLinks H.dig ps first.now from datum.now l.links.items l.labels.items (suc (top_level_of (from + 1)))) }
+    ensures sizes { IfOk result (λ l. (length l.links.items ≤ 40) × (length l.labels.items ≤ 40)) }
+    ensures found { IfOk result (λ _. (ps : Image) → P.list pages.old ≡ Some ps →
+        (last : StepRef) × Gathers empty.now ps first.now from (top_level_of (from + 1)) last) }
+    ensures bad { IfBadPage result (λ p. (ps : Image) → P.list pages.old ≡ Some ps → GathersBadPage empty.now ps first.now from p) }
+    ensures good { IfBadPage result (λ _. (ps : Image) → P.list pages.old ≡ Some ps → LeadsNowhere H.dig ps first.now from) }
+    ensures no_step { NeverNoStep result }
+    ensures kept { OnlyReads P.used_count P.list P.same P.unbroken pages.old pages.new (NotDiskFault result) }
+    ensures faults { FaultsRise (P.faults pages.old) (P.faults pages.new) result }
+{
+    let step = from + 1;
+    let top = top_level(step);
+    let mut links = Links::none();
+    let mut link = *first;
+    for level in 0..top {
+        links.add::<H>(&link, step, level, datum);
+        match follow(pages, empty, &link, step - power(level), level) {
+            Err(fault) => return Err(fault),
+            Ok(next) => link = next,
+        }
+    }
+    links.add::<H>(&link, step, top, datum);
+    Ok(links)
+}
+
+// What a step of events records.
+#[derive(Drop)]
+struct Content {
+    stream: Bytes,
+    count: u32,
+    event_root: Digest,
+    archive: Digest,
+}
+
+// The first event page of a stream of that many bytes, where so many pages are used.
+fn first_page(used: u64, size: usize) -> u64
+    ensures none { size ≡ 0 → result ≡ 0 }
+    ensures some { 0 < size → result ≡ used }
+{
+    if size == 0 { 0 } else { used }
+}
+
+// Stages the event pages and the page of a step.
+fn put_step<P: Pages, H: Hasher>(
+    pages: &mut P,
+    step: u64,
+    content: &Content,
+    links: &Links,
+) -> Result<Head, NoMemory>
+    requires used { P.used_count pages.old < 2 ^ 47 }
+    requires size { length content.now.stream ≤ 69632 }
+    requires links { length links.now.links.items ≤ 40 }
+    requires labels { length links.now.labels.items ≤ 40 }
+    ensures put { IfOk result (λ new. (ps : Image) → P.list pages.old ≡ Some ps →
+        IsPut ps step content.now.stream content.now.count content.now.event_root content.now.archive links.now.links.items (P.list pages.new) new) }
+    ensures auth { IfOk result (λ new. new.auth ≡ H.dig (authenticator_text step links.now.labels.items)) }
+    ensures step { IfOk result (λ new. new.step ≡ step) }
+    ensures page { IfOk result (λ new. P.used_count pages.new ≡ new.page + 1) }
+    ensures used { P.used_count pages.old ≤ P.used_count pages.new }
+    ensures few { P.used_count pages.new ≤ P.used_count pages.old + 19 }
+    ensures same { P.same pages.old pages.new }
+    ensures unbroken { P.unbroken pages.old → P.unbroken pages.new }
+    ensures faults { P.faults pages.new ≡ P.faults pages.old }
+{
+    let auth = authenticator::<H>(step, links.labels.as_slice());
+    let stream = content.stream.as_slice();
+    let first = first_page(pages.used(), stream.len());
+    stage_pieces(pages, step, stream)?;
+    let fields = StepFields {
+        count: content.count,
+        stream: StreamRef {
+            page: first,
+            size: stream.len() as u32,
+        },
+        event_root: content.event_root,
+        archive: content.archive,
+        auth,
+    };
+    let page = pages.stage(&step_page(step, &fields, links.links.as_slice()))?;
+    Ok(Head { step, auth, page })
+}
+
+/// Adds a step of these events to the history whose head is given, and answers the new head. It
+/// stages the event pages and then the step page, at most 19 pages in all.
+///
+/// Conditions: the head's step is below 2^40 - 1, fewer than 2^47 pages are used, and the events are
+/// within the limits of a step: at most 1,024, each at most 1,024 bytes, together at most 65,536.
+/// After a refusal pages of the call may stay staged. BadPage never comes where the pages keep
+/// a history under the head, and NoStep never comes.
+pub fn append<P: Pages, H: Hasher>(
+    alloc: Global,
+    pages: &mut P,
+    head: &Head,
+    events: &EventList,
+) -> Result<Head, ListFault>
+    requires step { head.now.step + 1 < 2 ^ 40 }
+    requires used { P.used_count pages.old < 2 ^ 47 }
+    requires limits { IsWithinLimits events.now }
+    ensures added { IfOk result (λ new. (ps : Image) (h : History) → P.list pages.old ≡ Some ps → Keeps H.dig ps h head.now →
+        Added H.dig ps (plus h (event_step events.now)) (P.list pages.new) new) }
+    ensures step { IfOk result (λ new. new.step ≡ head.now.step + 1) }
+    ensures page { IfOk result (λ new. P.used_count pages.new ≡ new.page + 1) }
+    ensures used { P.used_count pages.old ≤ P.used_count pages.new }
+    ensures few { P.used_count pages.new ≤ P.used_count pages.old + 19 }
+    ensures found { IfOk result (λ _. (ps : Image) → P.list pages.old ≡ Some ps →
+        (last : StepRef) × Gathers (H.dig empty_tree_text) ps (head_ref head.now) head.now.step (top_level_of (head.now.step + 1)) last) }
+    ensures bad { IfBadPage result (λ p. (ps : Image) → P.list pages.old ≡ Some ps →
+        GathersBadPage (H.dig empty_tree_text) ps (head_ref head.now) head.now.step p) }
+    ensures good { IfBadPage result (λ _. (ps : Image) (h : History) → P.list pages.old ≡ Some ps → Keeps H.dig ps h head.now → ⊥) }
+    ensures no_step { NeverNoStep result }
+    ensures same { P.same pages.old pages.new }
+    ensures unbroken { NotDiskFault result → P.unbroken pages.old → P.unbroken pages.new }
+    ensures faults { FaultsRise (P.faults pages.old) (P.faults pages.new) result }
+{
+    let Ok(stream) = stream_of(alloc, events) else {
+        return Err(ListFault::NoMemory);
+    };
+    let content = Content {
+        stream,
+        count: events.len() as u32,
+        event_root: event_root::<H>(events),
+        archive: empty_tree::<H>(),
+    };
+    let first = StepRef {
+        page: head.page,
+        auth: head.auth,
+    };
+    let datum = datum::<H>(&content.event_root, &content.archive, content.count);
+    match gather::<P, H>(pages, &content.archive, &first, head.step, &datum) {
+        Err(fault) => Err(fault),
+        Ok(links) => match put_step::<P, H>(pages, head.step + 1, &content, &links) {
+            Err(_) => Err(ListFault::NoMemory),
+            Ok(new) => Ok(new),
+        },
+    }
+}

@@ -1,0 +1,193 @@
+// Collecting what a proof needs, on the way down.
+
+ghost use Rattle.std.specs.Prelude.{◌≡◌, ℕ, suc, ◌+◌, ◌<◌, ◌≤◌, ◌^◌, List, length, Some, IfOk};
+ghost use Rattle.tw_disk.specs.Image.{Image};
+ghost use Rattle.tw_disk.specs.Pages.{OnlyReads};
+ghost use Rattle.tw_base.specs.History.{History};
+ghost use Rattle.tw_base.specs.Levels.{top_level};
+ghost use Rattle.tw_base.specs.Texts.{empty_tree_text};
+ghost use Rattle.tw_skipproof.specs.Making.{IsPathOf};
+ghost use Rattle.tw_skiplist.specs.declared.head.StepRef.{StepRef};
+ghost use Rattle.tw_skiplist.specs.Answers.{FaultsRise, IfBadPage, NeverNoStep, NotDiskFault};
+ghost use Rattle.tw_skiplist.specs.Keeping.{KeepsSteps, Place, link_to};
+ghost use Rattle.tw_skiplist.specs.Reading.{IsNoStepAt, MeetsBadPage, Walks};
+ghost use Rattle.tw_skiplist.specs.Records.{HasHop, TellsInfo};
+
+use crate::fault::ListFault;
+use crate::head::StepRef;
+use crate::info::{StepInfo, StepProof};
+use crate::page::power;
+use crate::records::{info_of_page, link_at, link_of_page};
+use crate::walking::{descend, read_step};
+use std::alloc::Global;
+use tw_base::{Digest, Hasher};
+use tw_disk::Pages;
+use tw_skipproof::{Link, LinkList, Path, next_hop};
+
+// A link of a path, and where it leads.
+#[derive(Drop)]
+struct Hop {
+    link: Link,
+    next: StepRef,
+}
+
+// The record of a step's link of this level, and where the link leads.
+fn hop_at<P: Pages, H: Hasher>(
+    alloc: Global,
+    pages: &mut P,
+    empty: &Digest,
+    link: &StepRef,
+    at: u64,
+    level: u8,
+) -> Result<Hop, ListFault>
+    requires step { at < 2 ^ 40 }
+    requires level { level ≤ top_level at }
+    ensures hop { IfOk result (λ hop. (ps : Image) → P.list pages.old ≡ Some ps → HasHop H.dig empty.now ps link.now.page at level hop.link hop.next) }
+    ensures bad { IfBadPage result (λ p. (p ≡ link.now.page) × ((ps : Image) → P.list pages.old ≡ Some ps → IsNoStepAt empty.now ps link.now.page at)) }
+    ensures no_step { NeverNoStep result }
+    ensures kept { OnlyReads P.used_count P.list P.same P.unbroken pages.old pages.new (NotDiskFault result) }
+    ensures faults { FaultsRise (P.faults pages.old) (P.faults pages.new) result }
+{
+    match read_step(pages, link.page, at, empty) {
+        Err(fault) => Err(fault),
+        Ok(page) => {
+            let next = link_at(page.links.as_slice(), level);
+            match link_of_page::<H>(alloc, at, &page, level) {
+                Err(_) => Err(ListFault::NoMemory),
+                Ok(link) => Ok(Hop { link, next }),
+            }
+        }
+    }
+}
+
+/// The links of a path, and the link to its lower step.
+#[derive(Drop)]
+pub(crate) struct Collected {
+    pub links: LinkList,
+    pub last: StepRef,
+}
+
+/// Walks as `descend` does, and makes a path of it.
+pub(crate) fn collect<P: Pages, H: Hasher>(
+    alloc: Global,
+    pages: &mut P,
+    empty: &Digest,
+    first: &StepRef,
+    from: u64,
+    to: u64,
+) -> Result<Collected, ListFault>
+    requires below { to ≤ from }
+    requires step { from < 2 ^ 40 }
+    requires empty { empty.now ≡ H.dig empty_tree_text }
+    ensures walks { IfOk result (λ c. (ps : Image) → P.list pages.old ≡ Some ps → Walks empty.now ps first.now from to c.last to) }
+    ensures path { IfOk result (λ c. (ps : Image) (h : History) (places : List Place) → P.list pages.old ≡ Some ps → KeepsSteps H.dig ps h places →
+        from ≤ length h.steps → first.now ≡ link_to H.dig h places from → IsPathOf H.dig h c.links from to) }
+    ensures bad { IfBadPage result (λ p. (ps : Image) → P.list pages.old ≡ Some ps → MeetsBadPage empty.now ps first.now from to p) }
+    ensures no_step { NeverNoStep result }
+    ensures kept { OnlyReads P.used_count P.list P.same P.unbroken pages.old pages.new (NotDiskFault result) }
+    ensures faults { FaultsRise (P.faults pages.old) (P.faults pages.new) result }
+{
+    let mut links = LinkList::new(alloc);
+    let mut last = *first;
+    let mut at = from;
+    while at > to {
+        let level = next_hop(at, to);
+        match hop_at::<P, H>(alloc, pages, empty, &last, at, level) {
+            Err(fault) => return Err(fault),
+            Ok(Hop { link, next }) => match links.push(link) {
+                Err(_) => return Err(ListFault::NoMemory),
+                Ok(()) => {
+                    last = next;
+                    at -= power(level);
+                }
+            },
+        }
+    }
+    Ok(Collected { links, last })
+}
+
+/// What the page of a step from 1 on (below 2^40) tells of it.
+pub(crate) fn read_info<P: Pages, H: Hasher>(
+    alloc: Global,
+    pages: &mut P,
+    empty: &Digest,
+    link: &StepRef,
+    step: u64,
+) -> Result<StepInfo, ListFault>
+    requires { step < 2 ^ 40 }
+    ensures info { IfOk result (λ info. (ps : Image) → P.list pages.old ≡ Some ps → TellsInfo H.dig empty.now ps link.now.page step info) }
+    ensures bad { IfBadPage result (λ p. (p ≡ link.now.page) × ((ps : Image) → P.list pages.old ≡ Some ps → IsNoStepAt empty.now ps link.now.page step)) }
+    ensures no_step { NeverNoStep result }
+    ensures kept { OnlyReads P.used_count P.list P.same P.unbroken pages.old pages.new (NotDiskFault result) }
+    ensures faults { FaultsRise (P.faults pages.old) (P.faults pages.new) result }
+{
+    match read_step(pages, link.page, step, empty) {
+        Err(fault) => Err(fault),
+        Ok(page) => match info_of_page::<H>(alloc, link.page, step, &page) {
+            Err(_) => Err(ListFault::NoMemory),
+            Ok(info) => Ok(info),
+        },
+    }
+}
+
+/// Walks from the first link down to a step from 1 on, and tells what its page tells.
+pub(crate) fn find_info<P: Pages, H: Hasher>(
+    alloc: Global,
+    pages: &mut P,
+    empty: &Digest,
+    first: &StepRef,
+    from: u64,
+    to: u64,
+) -> Result<StepInfo, ListFault>
+    requires some { 0 < to }
+    requires below { to ≤ from }
+    requires step { from < 2 ^ 40 }
+    ensures info { IfOk result (λ info. (ps : Image) → P.list pages.old ≡ Some ps →
+        (link : StepRef) × Walks empty.now ps first.now from to link to × TellsInfo H.dig empty.now ps link.page to info) }
+    ensures bad { IfBadPage result (λ p. (ps : Image) → P.list pages.old ≡ Some ps → MeetsBadPage empty.now ps first.now from to p) }
+    ensures no_step { NeverNoStep result }
+    ensures kept { OnlyReads P.used_count P.list P.same P.unbroken pages.old pages.new (NotDiskFault result) }
+    ensures faults { FaultsRise (P.faults pages.old) (P.faults pages.new) result }
+{
+    match descend(pages, empty, first, from, to) {
+        Err(fault) => Err(fault),
+        Ok(link) => match read_info::<P, H>(alloc, pages, empty, &link, to) {
+            Err(fault) => Err(fault),
+            Ok(info) => Ok(info),
+        },
+    }
+}
+
+/// Walks as `collect` does, and tells what the page of the lower step, from 1 on, tells.
+pub(crate) fn collect_proof<P: Pages, H: Hasher>(
+    alloc: Global,
+    pages: &mut P,
+    empty: &Digest,
+    first: &StepRef,
+    from: u64,
+    to: u64,
+) -> Result<StepProof, ListFault>
+    requires some { 0 < to }
+    requires below { to ≤ from }
+    requires step { from < 2 ^ 40 }
+    requires empty { empty.now ≡ H.dig empty_tree_text }
+    ensures path { IfOk result (λ proof. (ps : Image) (h : History) (places : List Place) → P.list pages.old ≡ Some ps → KeepsSteps H.dig ps h places →
+        from ≤ length h.steps → first.now ≡ link_to H.dig h places from → IsPathOf H.dig h proof.path.links from to) }
+    ensures info { IfOk result (λ proof. (ps : Image) → P.list pages.old ≡ Some ps →
+        (link : StepRef) × Walks empty.now ps first.now from to link to × TellsInfo H.dig empty.now ps link.page to proof.info) }
+    ensures bad { IfBadPage result (λ p. (ps : Image) → P.list pages.old ≡ Some ps → MeetsBadPage empty.now ps first.now from to p) }
+    ensures no_step { NeverNoStep result }
+    ensures kept { OnlyReads P.used_count P.list P.same P.unbroken pages.old pages.new (NotDiskFault result) }
+    ensures faults { FaultsRise (P.faults pages.old) (P.faults pages.new) result }
+{
+    match collect::<P, H>(alloc, pages, empty, first, from, to) {
+        Err(fault) => Err(fault),
+        Ok(Collected { links, last }) => match read_info::<P, H>(alloc, pages, empty, &last, to) {
+            Err(fault) => Err(fault),
+            Ok(info) => Ok(StepProof {
+                path: Path { links },
+                info,
+            }),
+        },
+    }
+}

@@ -1,0 +1,165 @@
+// Reading the stream of a step's events.
+
+ghost use Rattle.std.specs.Prelude.{◌≡◌, ℕ, ◌+◌, ◌-◌, ◌*◌, ◌<◌, ◌≤◌, ◌^◌, ◌++◌, ◌↔◌, List, length, take, drop, min, Some, IfOk, IsTrue, OnOk, MatchOption};
+ghost use Rattle.std.specs.Int.{to_be_bytes, w32};
+ghost use Rattle.tw_disk.specs.Image.{Image};
+ghost use Rattle.tw_disk.specs.Pages.{OnlyReads};
+ghost use Rattle.tw_skiplist.specs.Answers.{FaultsRise, IfBadPage, NeverNoStep, NotDiskFault};
+ghost use Rattle.tw_skiplist.specs.Bytes.{event_bytes};
+ghost use Rattle.tw_skiplist.specs.Events.{HasEventAt, HasPieces, HasStream, IsEventPageAt, IsNoEventAt, IsNoEventPageAt, MeetsBadPiece, SpellsEvents, last_page};
+
+use crate::fault::ListFault;
+use crate::info::StepInfo;
+use crate::page::is_event_page;
+use std::alloc::Global;
+use tw_base::{Bytes, EventList, NoMemory};
+use tw_disk::Pages;
+
+// Reads the event page of this number of the step, and appends its piece of a stream of this size.
+fn add_piece<P: Pages>(
+    pages: &mut P,
+    page: u64,
+    step: u64,
+    number: u16,
+    size: u32,
+    into: &mut Bytes,
+) -> Result<(), ListFault>
+    requires { 4085 * number < size }
+    ensures piece { OnOk result ((ps : Image) → P.list pages.old ≡ Some ps →
+        (bytes : List ℕ) × (into.new ≡ into.old ++ bytes) × IsEventPageAt ps page step number size bytes) }
+    ensures next { OnOk result (page + 1 < 2 ^ 64) }
+    ensures bad { IfBadPage result (λ p. (p ≡ page) × ((ps : Image) → P.list pages.old ≡ Some ps → IsNoEventPageAt ps page step number size)) }
+    ensures no_step { NeverNoStep result }
+    ensures kept { OnlyReads P.used_count P.list P.same P.unbroken pages.old pages.new (NotDiskFault result) }
+    ensures faults { FaultsRise (P.faults pages.old) (P.faults pages.new) result }
+{
+    if page < 4 || page >= pages.used() {
+        return Err(ListFault::BadPage { page });
+    }
+    let count = (size as usize - 4085 * number as usize).min(4085);
+    let mut bytes = [0; 4096];
+    match pages.read(page, &mut bytes) {
+        Err(_) => Err(ListFault::DiskFault),
+        Ok(()) => {
+            if is_event_page(&bytes, step, number, count) {
+                match into.extend_from_slice(&bytes[11..11 + count]) {
+                    Err(_) => Err(ListFault::NoMemory),
+                    Ok(()) => Ok(()),
+                }
+            } else {
+                Err(ListFault::BadPage { page })
+            }
+        }
+    }
+}
+
+/// The bytes that the event pages of a step have, and the page that was read last before them or
+/// among them.
+#[derive(Drop)]
+pub(crate) struct StreamRead {
+    pub bytes: Bytes,
+    pub last: u64,
+}
+
+/// Reads the event pages of a step.
+pub(crate) fn read_stream<P: Pages>(
+    alloc: Global,
+    pages: &mut P,
+    info: &StepInfo,
+) -> Result<StreamRead, ListFault>
+    requires { info.now.stream.size ≤ 69632 }
+    ensures pieces { IfOk result (λ r. (ps : Image) → P.list pages.old ≡ Some ps →
+        (has : HasStream ps info.now r.bytes) × (r.last ≡ last_page info.now has.number)) }
+    ensures bad { IfBadPage result (λ p. (ps : Image) → P.list pages.old ≡ Some ps → MeetsBadPiece ps info.now p) }
+    ensures no_step { NeverNoStep result }
+    ensures kept { OnlyReads P.used_count P.list P.same P.unbroken pages.old pages.new (NotDiskFault result) }
+    ensures faults { FaultsRise (P.faults pages.old) (P.faults pages.new) result }
+{
+    let size = info.stream.size;
+    let mut bytes = Bytes::new(alloc);
+    let mut page = info.stream.page;
+    let mut last = info.page;
+    let mut number = 0u16;
+    while 4085 * (number as u32) < size {
+        match add_piece(pages, page, info.step, number, size, &mut bytes) {
+            Err(fault) => return Err(fault),
+            Ok(()) => {
+                last = page;
+                page += 1;
+                number += 1;
+            }
+        }
+    }
+    Ok(StreamRead { bytes, last })
+}
+
+// ---- the events in it
+
+fn word_at(bytes: &[u8], at: usize) -> [u8; 4]
+    requires { at + 4 ≤ length bytes.now }
+    ensures { result ≡ take 4 (drop at bytes.now) }
+{
+    let mut word = [0; 4];
+    word.copy_from_slice(&bytes[at..at + 4]);
+    word
+}
+
+// The number that the bytes spell.
+fn number_of(word: &[u8; 4]) -> u32
+    ensures { to_be_bytes w32 result ≡ word.now }
+{
+    u32::from_be_bytes(*word)
+}
+
+// The size of the event that stands at a place behind its length, where one of at most 1,024 bytes does.
+fn event_size(bytes: &[u8], at: usize) -> Option<usize>
+    requires { at ≤ length bytes.now }
+    ensures { MatchOption result (IsNoEventAt bytes.now at) (λ n. HasEventAt bytes.now at n) }
+{
+    if bytes.len() - at < 4 {
+        return None;
+    }
+    let size = number_of(&word_at(bytes, at)) as usize;
+    if size > 1024 || bytes.len() - at - 4 < size {
+        return None;
+    }
+    Some(size)
+}
+
+fn copy_event(alloc: Global, bytes: &[u8], at: usize, size: usize) -> Result<Bytes, NoMemory>
+    requires { at + size ≤ length bytes.now }
+    ensures { IfOk result (λ event. event ≡ take size (drop at bytes.now)) }
+{
+    match Vec::from_slice(alloc, &bytes[at..at + size]) {
+        Ok(items) => Ok(Bytes::from_vec(items)),
+        Err(_) => Err(NoMemory),
+    }
+}
+
+/// The events that the bytes spell, as many as the count, if they spell any within the limits of
+/// a step.
+pub(crate) fn read_events(
+    alloc: Global,
+    bytes: &[u8],
+    count: u32,
+) -> Result<Option<EventList>, NoMemory>
+    ensures { IfOk result (λ found. MatchOption found ((events : List (List ℕ)) → SpellsEvents bytes.now count events → ⊥)
+        (λ events. SpellsEvents bytes.now count events)) }
+{
+    if count > 1024 {
+        return Ok(None);
+    }
+    let mut events = EventList::new(alloc);
+    let mut at = 0;
+    for index in 0..count {
+        let Some(size) = event_size(bytes, at) else {
+            return Ok(None);
+        };
+        events.push(copy_event(alloc, bytes, at + 4, size)?)?;
+        at += 4 + size;
+    }
+    if at != bytes.len() || at > 4 * count as usize + 65536 {
+        return Ok(None);
+    }
+    Ok(Some(events))
+}

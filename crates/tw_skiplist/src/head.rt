@@ -1,0 +1,19 @@
+// Heads of lists of steps, and links.
+
+use tw_base::Digest;
+
+/// The last step of a history, its authenticator and its page. A history of no step has step 0,
+/// the authenticator of its name, and page 0.
+#[derive(Clone, Copy, Debug, PartialEq, Eq, Drop)]
+pub struct Head {
+    pub step: u64,
+    pub auth: Digest,
+    pub page: u64,
+}
+
+/// A step that a later one has a link to: its page (0 for step 0) and its authenticator.
+#[derive(Clone, Copy, Default, Debug, PartialEq, Eq, Drop)]
+pub struct StepRef {
+    pub page: u64,
+    pub auth: Digest,
+}

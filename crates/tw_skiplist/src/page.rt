@@ -1,0 +1,264 @@
+// The bytes of step pages and event pages.
+
+ghost use Rattle.std.specs.Prelude.{◌≡◌, ◌<◌, ◌≤◌, ◌^◌, ◌+◌, ◌*◌, ◌++◌, ◌↔◌, List, ℕ, suc, length, take, drop, IsTrue, MatchOption};
+ghost use Rattle.std.specs.Int.{to_be_bytes, from_be_bytes, w32, w64};
+ghost use Rattle.tw_base.specs.Levels.{top_level as top_level_of};
+ghost use Rattle.tw_skiplist.specs.declared.fields.StepFields.{StepFields};
+ghost use Rattle.tw_skiplist.specs.declared.head.StepRef.{StepRef};
+ghost use Rattle.tw_skiplist.specs.Bytes.{event_bytes, padded, step_bytes, step_front, step_numbers};
+ghost use Rattle.tw_skiplist.specs.Reading.{AllSized, HasWidths, IsStepPage, KeepsFieldRules, KeepsLinkRules, LiesBelow, fields_in, link_in, links_in};
+
+use crate::fields::{StepFields, StreamRef};
+use crate::head::StepRef;
+use arrayvec::ArrayVec;
+use tw_base::{Digest, top_level};
+
+// ---- writing
+
+// Puts bytes behind those that stand at the front of a page.
+fn fill(page: &mut [u8; 4096], at: usize, bytes: &[u8])
+    requires { at + length bytes.now ≤ 4096 }
+    ensures { (front : List ℕ) → length front ≡ at → page.old ≡ padded front → page.new ≡ padded (front ++ bytes.now) }
+{
+    page[at..at + bytes.len()].copy_from_slice(bytes);
+}
+
+fn fill_digest(page: &mut [u8; 4096], at: usize, digest: &Digest)
+    requires { at + 32 ≤ 4096 }
+    ensures bytes { (front : List ℕ) → length front ≡ at → page.old ≡ padded front → page.new ≡ padded (front ++ digest.now) }
+    ensures size { length digest.now ≡ 32 }
+{
+    fill(page, at, &digest.0);
+}
+
+fn fill_link(page: &mut [u8; 4096], at: usize, link: &StepRef)
+    requires { at + 40 ≤ 4096 }
+    ensures bytes { (front : List ℕ) → length front ≡ at → page.old ≡ padded front → page.new ≡ padded (front ++ (to_be_bytes w64 link.now.page ++ link.now.auth)) }
+    ensures size { length link.now.auth ≡ 32 }
+{
+    fill(page, at, &link.page.to_be_bytes());
+    fill_digest(page, at + 8, &link.auth);
+}
+
+// The fields before the digests.
+fn numbers(step: u64, fields: &StepFields) -> [u8; 4096]
+    ensures { result ≡ padded (step_numbers step fields.now) }
+{
+    let mut page = [0; 4096];
+    fill(&mut page, 0, &[1]);
+    fill(&mut page, 1, &step.to_be_bytes());
+    fill(&mut page, 9, &[1]);
+    fill(&mut page, 10, &fields.count.to_be_bytes());
+    fill(&mut page, 14, &fields.stream.size.to_be_bytes());
+    fill(&mut page, 18, &fields.stream.page.to_be_bytes());
+    page
+}
+
+// The fields before the links.
+fn front(step: u64, fields: &StepFields, links: u8) -> [u8; 4096]
+    ensures bytes { result ≡ padded (step_front step fields.now links) }
+    ensures size { length (step_front step fields.now links) ≡ 187 }
+    ensures event_root { length fields.now.event_root ≡ 32 }
+    ensures archive { length fields.now.archive ≡ 32 }
+    ensures auth { length fields.now.auth ≡ 32 }
+{
+    let mut page = numbers(step, fields);
+    fill_digest(&mut page, 26, &fields.event_root);
+    fill_digest(&mut page, 58, &fields.archive);
+    fill(&mut page, 90, &[0; 64]);
+    fill_digest(&mut page, 154, &fields.auth);
+    fill(&mut page, 186, &[links]);
+    page
+}
+
+/// The page of a step of events.
+#[tactic(auto, using(crate::proofs::Decode::more))]
+pub(crate) fn step_page(step: u64, fields: &StepFields, links: &[StepRef]) -> [u8; 4096]
+    requires { length links.now ≤ 40 }
+    ensures bytes { result ≡ step_bytes step fields.now links.now }
+    ensures widths { HasWidths fields.now links.now }
+{
+    let mut page = front(step, fields, links.len() as u8);
+    let mut at = 187;
+    for link in links {
+        fill_link(&mut page, at, link);
+        at += 40;
+    }
+    page
+}
+
+/// The event page of this number within a step.
+pub(crate) fn event_page(step: u64, number: u16, piece: &[u8]) -> [u8; 4096]
+    requires { length piece.now ≤ 4085 }
+    ensures { result ≡ event_bytes step number piece.now }
+{
+    let mut page = [0; 4096];
+    fill(&mut page, 0, &[2]);
+    fill(&mut page, 1, &step.to_be_bytes());
+    fill(&mut page, 9, &number.to_be_bytes());
+    fill(&mut page, 11, piece);
+    page
+}
+
+// ---- reading
+
+/// The fields and the links of a step page.
+#[derive(Drop)]
+pub(crate) struct StepPage {
+    pub fields: StepFields,
+    pub links: ArrayVec<StepRef, 40>,
+}
+
+fn word_at(page: &[u8; 4096], at: usize) -> u64
+    requires { at + 8 ≤ 4096 }
+    ensures { result ≡ from_be_bytes w64 (take 8 (drop at page.now)) }
+{
+    let mut word = [0; 8];
+    word.copy_from_slice(&page[at..at + 8]);
+    u64::from_be_bytes(word)
+}
+
+fn short_word_at(page: &[u8; 4096], at: usize) -> u32
+    requires { at + 4 ≤ 4096 }
+    ensures { result ≡ from_be_bytes w32 (take 4 (drop at page.now)) }
+{
+    let mut word = [0; 4];
+    word.copy_from_slice(&page[at..at + 4]);
+    u32::from_be_bytes(word)
+}
+
+fn digest_at(page: &[u8; 4096], at: usize) -> Digest
+    requires { at + 32 ≤ 4096 }
+    ensures { result ≡ take 32 (drop at page.now) }
+{
+    let mut bytes = [0; 32];
+    bytes.copy_from_slice(&page[at..at + 32]);
+    Digest(bytes)
+}
+
+fn fields_at(page: &[u8; 4096]) -> StepFields
+    ensures { result ≡ fields_in page.now }
+{
+    StepFields {
+        count: short_word_at(page, 10),
+        stream: StreamRef {
+            page: word_at(page, 18),
+            size: short_word_at(page, 14),
+        },
+        event_root: digest_at(page, 26),
+        archive: digest_at(page, 58),
+        auth: digest_at(page, 154),
+    }
+}
+
+fn link_at(page: &[u8; 4096], level: u8) -> StepRef
+    requires { level < 40 }
+    ensures { result ≡ link_in page.now level }
+{
+    let at = 187 + 40 * level as usize;
+    StepRef {
+        page: word_at(page, at),
+        auth: digest_at(page, at + 8),
+    }
+}
+
+// The links of the levels below the count.
+#[tactic(auto, using(crate::proofs::Decode::links_read))]
+fn links_at(page: &[u8; 4096], count: u8) -> ArrayVec<StepRef, 40>
+    requires { count ≤ 40 }
+    ensures links { result.items ≡ links_in page.now count }
+    ensures size { length result.items ≡ count }
+{
+    let mut links: ArrayVec<StepRef, 40> = ArrayVec::new();
+    for level in 0..count {
+        links.push(link_at(page, level));
+    }
+    links
+}
+
+fn is_same(page: &[u8; 4096], other: &[u8; 4096]) -> bool
+    ensures { IsTrue result ↔ (page.now ≡ other.now) }
+{
+    page.as_slice() == other.as_slice()
+}
+
+/// A power of two.
+pub(crate) fn power(level: u8) -> u64
+    requires { level < 64 }
+    ensures { result ≡ 2 ^ level }
+{
+    1 << level
+}
+
+fn keeps_field_rules(empty: &Digest, page: u64, fields: &StepFields) -> bool
+    ensures { IsTrue result ↔ KeepsFieldRules empty.now page fields.now }
+{
+    fields.count <= 1024
+        && fields.stream.size <= 69632
+        && (fields.stream.size != 0 || fields.stream.page == 0)
+        && fields.stream.page < page
+        && fields.archive == *empty
+}
+
+fn lies_below(page: u64, step: u64, level: u8, link: &StepRef) -> bool
+    requires { level < 40 }
+    ensures { IsTrue result ↔ LiesBelow page step level link.now }
+{
+    link.page < page && (step != power(level) || link.page == 0)
+}
+
+fn keeps_link_rules(page: u64, step: u64, links: &[StepRef]) -> bool
+    requires { length links.now ≤ 40 }
+    ensures { IsTrue result ↔ KeepsLinkRules page step links.now }
+{
+    for level in 0..links.len() {
+        if !lies_below(page, step, level as u8, &links[level]) {
+            return false;
+        }
+    }
+    true
+}
+
+// Whether the bytes are the step's page with what was found in them, and stand where they may.
+fn is_page(page: u64, step: u64, empty: &Digest, bytes: &[u8; 4096], found: &StepPage) -> bool
+    requires { length found.now.links.items ≡ suc (top_level_of step) }
+    ensures { IsTrue result ↔ IsStepPage empty.now page step found.now.fields found.now.links.items bytes.now }
+{
+    let anew = step_page(step, &found.fields, found.links.as_slice());
+    is_same(bytes, &anew)
+        && keeps_field_rules(empty, page, &found.fields)
+        && keeps_link_rules(page, step, found.links.as_slice())
+}
+
+/// The fields and links of the page of this step, where the bytes are one that may stand in the page
+/// of this number; `empty` is the label of the empty archive.
+pub(crate) fn read_step_page(
+    page: u64,
+    step: u64,
+    empty: &Digest,
+    bytes: &[u8; 4096],
+) -> Option<StepPage>
+    requires { step < 2 ^ 40 }
+    ensures { MatchOption result
+        ((f : StepFields) (links : List StepRef) → IsStepPage empty.now page step f links bytes.now → ⊥)
+        (λ p. IsStepPage empty.now page step p.fields p.links.items bytes.now) }
+{
+    let found = StepPage {
+        fields: fields_at(bytes),
+        links: links_at(bytes, top_level(step) + 1),
+    };
+    if is_page(page, step, empty, bytes, &found) {
+        Some(found)
+    } else {
+        None
+    }
+}
+
+/// Whether the bytes are the event page of this number of the step with so many bytes of its stream,
+/// those that stand in it.
+pub(crate) fn is_event_page(bytes: &[u8; 4096], step: u64, number: u16, count: usize) -> bool
+    requires { count ≤ 4085 }
+    ensures { IsTrue result ↔ (bytes.now ≡ event_bytes step number (take count (drop 11 bytes.now))) }
+{
+    is_same(bytes, &event_page(step, number, &bytes[11..11 + count]))
+}

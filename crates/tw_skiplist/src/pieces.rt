@@ -1,0 +1,81 @@
+// The stream of a step's events, and its pieces.
+
+ghost use Rattle.std.specs.Prelude.{◌≡◌, ℕ, ◌+◌, ◌*◌, ◌<◌, ◌≤◌, ◌^◌, ◌++◌, List, length, IfOk, OnOk, OnErr};
+ghost use Rattle.std.specs.Int.{to_be_bytes, w32};
+ghost use Rattle.std.specs.Option.{option_map};
+ghost use Rattle.tw_base.specs.Lists.{Each};
+ghost use Rattle.tw_skiplist.specs.Bytes.{event_bytes, event_pages, piece, stream};
+ghost use Rattle.tw_skiplist.specs.Keeping.{IsWithinLimits};
+ghost use Rattle.tw_skiplist.specs.Links.{IsPieceCount};
+
+use crate::page::event_page;
+use std::alloc::Global;
+use tw_base::{Bytes, EventList, NoMemory};
+use tw_disk::Pages;
+
+// Puts an event behind its length.
+fn put_event(into: &mut Bytes, event: &Bytes) -> Result<(), NoMemory>
+    requires { length event.now < 2 ^ 32 }
+    ensures { OnOk result (into.new ≡ into.old ++ (to_be_bytes w32 (length event.now) ++ event.now)) }
+{
+    into.extend_from_slice(&(event.len() as u32).to_be_bytes())?;
+    into.extend_from_slice(event.as_slice())?;
+    Ok(())
+}
+
+/// Each event behind its length.
+pub(crate) fn stream_of(alloc: Global, events: &EventList) -> Result<Bytes, NoMemory>
+    requires { IsWithinLimits events.now }
+    ensures stream { IfOk result (λ bytes. bytes ≡ stream events.now) }
+    ensures size { IfOk result (λ bytes. length bytes ≤ 69632) }
+{
+    let mut bytes = Bytes::new(alloc);
+    let items = events.as_slice();
+    for event in items {
+        put_event(&mut bytes, event)?;
+    }
+    Ok(bytes)
+}
+
+// The piece of this number.
+fn piece_of(stream: &[u8], number: u16) -> &[u8]
+    requires { 4085 * number ≤ length stream.now }
+    ensures piece { result.now ≡ piece stream.now number }
+    ensures size { length result.now ≤ 4085 }
+{
+    let rest = &stream[4085 * number as usize..];
+    &rest[..rest.len().min(4085)]
+}
+
+// The event page of this number.
+fn piece_page(step: u64, stream: &[u8], number: u16) -> [u8; 4096]
+    requires { 4085 * number ≤ length stream.now }
+    ensures { result ≡ event_bytes step number (piece stream.now number) }
+{
+    event_page(step, number, piece_of(stream, number))
+}
+
+/// Stages the event pages of a step, and answers how many they are.
+pub(crate) fn stage_pieces<P: Pages>(
+    pages: &mut P,
+    step: u64,
+    stream: &[u8],
+) -> Result<u16, NoMemory>
+    requires used { P.used_count pages.old < 2 ^ 47 }
+    requires size { length stream.now ≤ 69632 }
+    ensures list { IfOk result (λ count. P.list pages.new ≡ option_map (λ ps. ps ++ event_pages step stream.now count) (P.list pages.old)) }
+    ensures count { IfOk result (λ count. IsPieceCount (length stream.now) count) }
+    ensures used { IfOk result (λ count. P.used_count pages.new ≡ P.used_count pages.old + count) }
+    ensures few { P.used_count pages.new ≤ P.used_count pages.old + 18 }
+    ensures grown { P.used_count pages.old ≤ P.used_count pages.new }
+    ensures same { P.same pages.old pages.new }
+    ensures unbroken { P.unbroken pages.old → P.unbroken pages.new }
+    ensures faults { P.faults pages.new ≡ P.faults pages.old }
+{
+    let mut count = 0u16;
+    while 4085 * (count as usize) < stream.len() {
+        pages.stage(&piece_page(step, stream, count))?;
+        count += 1;
+    }
+    Ok(count)
+}

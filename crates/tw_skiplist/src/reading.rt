@@ -1,0 +1,207 @@
+// Reading steps.
+
+ghost use Rattle.std.specs.Prelude.{◌≡◌, ℕ, ◌+◌, ◌<◌, ◌≤◌, ◌^◌, ◌⊎◌, List, Some, IfOk};
+ghost use Rattle.tw_disk.specs.Image.{Image};
+ghost use Rattle.tw_disk.specs.Pages.{OnlyReads};
+ghost use Rattle.tw_base.specs.History.{History, events_at};
+ghost use Rattle.tw_skipproof.specs.Making.{IsPathOf};
+ghost use Rattle.tw_skiplist.specs.Answers.{FaultsRise, IfBadPage, NeverNoStep, NoStepUnless, NotDiskFault};
+ghost use Rattle.tw_skiplist.specs.declared.info.StepInfo.{StepInfo};
+ghost use Rattle.tw_skiplist.specs.Events.{FindsEvents, FindsNoEvents};
+ghost use Rattle.tw_skiplist.specs.Infos.{IsInfoOf};
+ghost use Rattle.tw_base.specs.Texts.{empty_tree_text};
+ghost use Rattle.tw_skiplist.specs.declared.head.StepRef.{StepRef};
+ghost use Rattle.tw_skiplist.specs.Keeping.{Keeps};
+ghost use Rattle.tw_skiplist.specs.Reading.{WalksVia};
+ghost use Rattle.tw_skiplist.specs.Records.{FindsBadPage, FindsBadPageVia, FindsInfo, FindsProof, head_ref};
+
+use crate::collecting::{Collected, collect, collect_proof, find_info};
+use crate::event_pages::{StreamRead, read_events, read_stream};
+use crate::fault::ListFault;
+use crate::head::{Head, StepRef};
+use crate::info::{StepInfo, StepProof};
+use crate::walking::descend;
+use std::alloc::Global;
+use tw_base::{EventList, Hasher, empty_tree};
+use tw_disk::Pages;
+use tw_skipproof::Path;
+
+// The link that the head is.
+fn link_to_head(head: &Head) -> StepRef
+    ensures { result ≡ head_ref head.now }
+{
+    StepRef {
+        page: head.page,
+        auth: head.auth,
+    }
+}
+
+/// The step i of the history whose head is given (a step below 2^40). It is reached by the links of
+/// the greedy path, and each page is read once.
+///
+/// NoStep exactly where i isn't within 1 and the head's step. BadPage never comes where the pages
+/// keep a history under the head.
+pub fn step<P: Pages, H: Hasher>(
+    alloc: Global,
+    pages: &mut P,
+    head: &Head,
+    i: u64,
+) -> Result<StepInfo, ListFault>
+    requires { head.now.step < 2 ^ 40 }
+    ensures info { IfOk result (λ info. (ps : Image) (h : History) → P.list pages.old ≡ Some ps → Keeps H.dig ps h head.now →
+        IsInfoOf H.dig ps h i info) }
+    ensures found { IfOk result (λ info. (ps : Image) → P.list pages.old ≡ Some ps → FindsInfo H.dig ps head.now i info) }
+    ensures bad { IfBadPage result (λ p. (ps : Image) → P.list pages.old ≡ Some ps → FindsBadPage H.dig ps head.now i p) }
+    ensures good { IfBadPage result (λ _. (ps : Image) (h : History) → P.list pages.old ≡ Some ps → Keeps H.dig ps h head.now → ⊥) }
+    ensures no_step { NoStepUnless result head.now.step ((1 ≤ i) × (i ≤ head.now.step)) }
+    ensures kept { OnlyReads P.used_count P.list P.same P.unbroken pages.old pages.new (NotDiskFault result) }
+    ensures faults { FaultsRise (P.faults pages.old) (P.faults pages.new) result }
+{
+    let last = head.step;
+    if i == 0 || i > last {
+        return Err(ListFault::NoStep { last });
+    }
+    let empty = empty_tree::<H>();
+    match find_info::<P, H>(alloc, pages, &empty, &link_to_head(head), last, i) {
+        Err(fault) => Err(fault),
+        Ok(info) => Ok(info),
+    }
+}
+
+/// The path from the step n down to the step i, of the history whose head is given (a step below
+/// 2^40). It is reached by the links of the greedy path, and each page is read once.
+///
+/// NoStep exactly where i <= n <= the head's step doesn't hold; i may be 0. BadPage never comes
+/// where the pages keep a history under the head.
+pub fn path<P: Pages, H: Hasher>(
+    alloc: Global,
+    pages: &mut P,
+    head: &Head,
+    n: u64,
+    i: u64,
+) -> Result<Path, ListFault>
+    requires { head.now.step < 2 ^ 40 }
+    ensures path { IfOk result (λ path. (ps : Image) (h : History) → P.list pages.old ≡ Some ps → Keeps H.dig ps h head.now →
+        IsPathOf H.dig h path.links n i) }
+    ensures found { IfOk result (λ _. (ps : Image) → P.list pages.old ≡ Some ps →
+        (last : StepRef) × WalksVia (H.dig empty_tree_text) ps (head_ref head.now) head.now.step n i last) }
+    ensures bad { IfBadPage result (λ p. (ps : Image) → P.list pages.old ≡ Some ps → FindsBadPageVia H.dig ps head.now n i p) }
+    ensures good { IfBadPage result (λ _. (ps : Image) (h : History) → P.list pages.old ≡ Some ps → Keeps H.dig ps h head.now → ⊥) }
+    ensures no_step { NoStepUnless result head.now.step ((i ≤ n) × (n ≤ head.now.step)) }
+    ensures kept { OnlyReads P.used_count P.list P.same P.unbroken pages.old pages.new (NotDiskFault result) }
+    ensures faults { FaultsRise (P.faults pages.old) (P.faults pages.new) result }
+{
+    let last = head.step;
+    if i > n || n > last {
+        return Err(ListFault::NoStep { last });
+    }
+    let empty = empty_tree::<H>();
+    match descend(pages, &empty, &link_to_head(head), last, n) {
+        Err(fault) => Err(fault),
+        Ok(link) => match collect::<P, H>(alloc, pages, &empty, &link, n, i) {
+            Err(fault) => Err(fault),
+            Ok(Collected { links, last: _ }) => Ok(Path { links }),
+        },
+    }
+}
+
+/// What a proof of the step i under the top needs: the path from the top to the step, and the step.
+/// Each page is read once: those of the way from the head (a step below 2^40) to the top, and those
+/// of the path down to the step.
+///
+/// NoStep exactly where 1 <= i <= top <= the head's step doesn't hold. BadPage never comes where the
+/// pages keep a history under the head.
+pub fn prove<P: Pages, H: Hasher>(
+    alloc: Global,
+    pages: &mut P,
+    head: &Head,
+    top: u64,
+    i: u64,
+) -> Result<StepProof, ListFault>
+    requires { head.now.step < 2 ^ 40 }
+    ensures path { IfOk result (λ proof. (ps : Image) (h : History) → P.list pages.old ≡ Some ps → Keeps H.dig ps h head.now →
+        IsPathOf H.dig h proof.path.links top i) }
+    ensures info { IfOk result (λ proof. (ps : Image) (h : History) → P.list pages.old ≡ Some ps → Keeps H.dig ps h head.now →
+        IsInfoOf H.dig ps h i proof.info) }
+    ensures found { IfOk result (λ proof. (ps : Image) → P.list pages.old ≡ Some ps → FindsProof H.dig ps head.now top i proof.info) }
+    ensures bad { IfBadPage result (λ p. (ps : Image) → P.list pages.old ≡ Some ps → FindsBadPageVia H.dig ps head.now top i p) }
+    ensures good { IfBadPage result (λ _. (ps : Image) (h : History) → P.list pages.old ≡ Some ps → Keeps H.dig ps h head.now → ⊥) }
+    ensures no_step { NoStepUnless result head.now.step ((1 ≤ i) × (i ≤ top) × (top ≤ head.now.step)) }
+    ensures kept { OnlyReads P.used_count P.list P.same P.unbroken pages.old pages.new (NotDiskFault result) }
+    ensures faults { FaultsRise (P.faults pages.old) (P.faults pages.new) result }
+{
+    let last = head.step;
+    if i == 0 || i > top || top > last {
+        return Err(ListFault::NoStep { last });
+    }
+    let empty = empty_tree::<H>();
+    match descend(pages, &empty, &link_to_head(head), last, top) {
+        Err(fault) => Err(fault),
+        Ok(link) => match collect_proof::<P, H>(alloc, pages, &empty, &link, top, i) {
+            Err(fault) => Err(fault),
+            Ok(proof) => Ok(proof),
+        },
+    }
+}
+
+/// The events of a step that `step` or `prove` told of the same pages, from its event pages alone.
+///
+/// BadPage never comes where the info is of a step that the pages keep, and NoStep never comes.
+pub fn events_of<P: Pages>(
+    alloc: Global,
+    pages: &mut P,
+    info: &StepInfo,
+) -> Result<EventList, ListFault>
+    ensures events { IfOk result (λ events. (dig : List ℕ → List ℕ) (ps : Image) (h : History) (i : ℕ) → P.list pages.old ≡ Some ps →
+        IsInfoOf dig ps h i info.now → events ≡ events_at h i) }
+    ensures found { IfOk result (λ events. (ps : Image) → P.list pages.old ≡ Some ps → FindsEvents ps info.now events) }
+    ensures bad { IfBadPage result (λ p. (ps : Image) → P.list pages.old ≡ Some ps → FindsNoEvents ps info.now p) }
+    ensures good { IfBadPage result (λ _. (dig : List ℕ → List ℕ) (ps : Image) (h : History) (i : ℕ) → P.list pages.old ≡ Some ps →
+        IsInfoOf dig ps h i info.now → ⊥) }
+    ensures no_step { NeverNoStep result }
+    ensures kept { OnlyReads P.used_count P.list P.same P.unbroken pages.old pages.new (NotDiskFault result) }
+    ensures faults { FaultsRise (P.faults pages.old) (P.faults pages.new) result }
+{
+    if info.stream.size > 69632 {
+        return Err(ListFault::BadPage { page: info.page });
+    }
+    match read_stream(alloc, pages, info) {
+        Err(fault) => Err(fault),
+        Ok(StreamRead { bytes, last }) => match read_events(alloc, bytes.as_slice(), info.count) {
+            Err(_) => Err(ListFault::NoMemory),
+            Ok(None) => Err(ListFault::BadPage { page: last }),
+            Ok(Some(events)) => Ok(events),
+        },
+    }
+}
+
+/// The events of the step i of the history whose head is given (a step below 2^40). Each page is
+/// read once.
+///
+/// NoStep exactly where i isn't within 1 and the head's step. BadPage never comes where the pages
+/// keep a history under the head.
+pub fn events<P: Pages, H: Hasher>(
+    alloc: Global,
+    pages: &mut P,
+    head: &Head,
+    i: u64,
+) -> Result<EventList, ListFault>
+    requires { head.now.step < 2 ^ 40 }
+    ensures events { IfOk result (λ events. (ps : Image) (h : History) → P.list pages.old ≡ Some ps → Keeps H.dig ps h head.now →
+        events ≡ events_at h i) }
+    ensures found { IfOk result (λ events. (ps : Image) → P.list pages.old ≡ Some ps → (info : StepInfo) × FindsInfo H.dig ps head.now i info × FindsEvents ps info events) }
+    ensures bad { IfBadPage result (λ p. (ps : Image) → P.list pages.old ≡ Some ps →
+        FindsBadPage H.dig ps head.now i p ⊎ ((info : StepInfo) × FindsInfo H.dig ps head.now i info × FindsNoEvents ps info p)) }
+    ensures good { IfBadPage result (λ _. (ps : Image) (h : History) → P.list pages.old ≡ Some ps → Keeps H.dig ps h head.now → ⊥) }
+    ensures no_step { NoStepUnless result head.now.step ((1 ≤ i) × (i ≤ head.now.step)) }
+    ensures kept { OnlyReads P.used_count P.list P.same P.unbroken pages.old pages.new (NotDiskFault result) }
+    ensures faults { FaultsRise (P.faults pages.old) (P.faults pages.new) result }
+{
+    match step::<P, H>(alloc, pages, head, i) {
+        Err(fault) => Err(fault),
+        Ok(info) => match events_of(alloc, pages, &info) {
+            Err(fault) => Err(fault),
+            Ok(events) => Ok(events),
+        },
+    }
+}

@@ -1,0 +1,126 @@
+// What a step's page makes of paths and openings.
+
+ghost use Rattle.std.specs.Prelude.{◌≡◌, ℕ, suc, ◌+◌, ◌<◌, ◌≤◌, ◌^◌, ◌++◌, ◌∷◌, [], ◌==◌, List, length, remove, Some, IfOk, OnOk, if◌then◌else◌};
+ghost use Rattle.tw_base.specs.Texts.{link_text};
+ghost use Rattle.tw_skiplist.specs.Reading.{link_of};
+ghost use Rattle.tw_skiplist.specs.Records.{info_record, link_record, opening_record, other_labels, page_datum};
+
+use crate::head::StepRef;
+use crate::info::StepInfo;
+use crate::page::StepPage;
+use std::alloc::Global;
+use tw_base::{Digest, Hasher, Labels, NoMemory, datum, link_label};
+use tw_skipproof::{Link, Opening};
+
+/// The link of this level.
+pub(crate) fn link_at(links: &[StepRef], level: u8) -> StepRef
+    requires { level < length links.now }
+    ensures { result ≡ link_of links.now level }
+{
+    links[level as usize]
+}
+
+// Appends the label of the link of this level, unless its level is the one left out.
+fn push_other<H: Hasher>(
+    labels: &mut Labels,
+    step: u64,
+    level: u8,
+    without: u8,
+    datum: &Digest,
+    links: &[StepRef],
+) -> Result<(), NoMemory>
+    requires inside { level < length links.now }
+    requires few { level < 40 }
+    ensures { OnOk result (labels.new ≡ (if level == without then labels.old else labels.old ++ H.dig (link_text step level datum.now (link_of links.now level).auth) ∷ [])) }
+{
+    if level == without {
+        return Ok(());
+    }
+    let link = link_at(links, level);
+    labels.push(link_label::<H>(step, level, datum, &link.auth))?;
+    Ok(())
+}
+
+// The labels of the links but the one of the level left out.
+fn labels_without<H: Hasher>(
+    alloc: Global,
+    step: u64,
+    datum: &Digest,
+    links: &[StepRef],
+    without: u8,
+) -> Result<Labels, NoMemory>
+    requires { length links.now ≤ 40 }
+    ensures { IfOk result (λ labels. labels ≡ other_labels H.dig step datum.now links.now without) }
+{
+    let mut labels = Labels::with_capacity(alloc, links.len())?;
+    for level in 0..links.len() {
+        push_other::<H>(&mut labels, step, level as u8, without, datum, links)?;
+    }
+    Ok(labels)
+}
+
+fn datum_of<H: Hasher>(page: &StepPage) -> Digest
+    ensures { result ≡ page_datum H.dig page.now.fields }
+{
+    let fields = &page.fields;
+    datum::<H>(&fields.event_root, &fields.archive, fields.count)
+}
+
+/// The record that a path has of the step's link of this level.
+pub(crate) fn link_of_page<H: Hasher>(
+    alloc: Global,
+    step: u64,
+    page: &StepPage,
+    level: u8,
+) -> Result<Link, NoMemory>
+    requires { length page.now.links.items ≤ 40 }
+    ensures { IfOk result (λ link. link ≡ link_record H.dig step page.now.fields page.now.links.items level) }
+{
+    let datum = datum_of::<H>(page);
+    let others = labels_without::<H>(alloc, step, &datum, page.links.as_slice(), level)?;
+    Ok(Link { datum, others })
+}
+
+fn opening_of_page<H: Hasher>(
+    alloc: Global,
+    step: u64,
+    page: &StepPage,
+) -> Result<Opening, NoMemory>
+    requires some { 0 < length page.now.links.items }
+    requires few { length page.now.links.items ≤ 40 }
+    ensures { IfOk result (λ opening. opening ≡ opening_record H.dig step page.now.fields page.now.links.items) }
+{
+    let datum = datum_of::<H>(page);
+    let links = page.links.as_slice();
+    let others = labels_without::<H>(alloc, step, &datum, links, 0)?;
+    Ok(Opening {
+        event_root: page.fields.event_root,
+        archive_root: page.fields.archive,
+        count: page.fields.count,
+        prev: link_at(links, 0).auth,
+        others,
+    })
+}
+
+/// What the page of this number tells of its step.
+pub(crate) fn info_of_page<H: Hasher>(
+    alloc: Global,
+    number: u64,
+    step: u64,
+    page: &StepPage,
+) -> Result<StepInfo, NoMemory>
+    requires some { 0 < length page.now.links.items }
+    requires few { length page.now.links.items ≤ 40 }
+    ensures { IfOk result (λ info. info ≡ info_record H.dig number step page.now.fields page.now.links.items) }
+{
+    let opening = opening_of_page::<H>(alloc, step, page)?;
+    Ok(StepInfo {
+        step,
+        page: number,
+        event_root: page.fields.event_root,
+        count: page.fields.count,
+        auth: page.fields.auth,
+        opening,
+        stream: page.fields.stream,
+    })
+}
