@@ -1,0 +1,179 @@
+-- From the answers of a call to steps of the machine.
+use Rattle.std.proofs.Common.{◌≡◌, ◌⊎◌, ℕ, ◌-◌, ◌^◌, ◌<◌, List, length, refl, ap, sym, ◌∙◌, subst, inl, inr, Bool, true, false}
+use Rattle.std.specs.Prelude.{IfErr, IfOk, Ok, Option, Some, None, Result, Err, MatchOption, if◌then◌else◌, nat_le, nat_lt}
+use Rattle.std.proofs.lemmas.Bool.{lt-ltb}
+use Rattle.tw_base.specs.History.{History, events_at, plus}
+use Rattle.tw_chain.specs.Making.{MakesExistence}
+use Rattle.tw_base.specs.declared.thread.Thread.{Thread}
+use Rattle.tw_skiplist.specs.Keeping.{event_step}
+use Rattle.tw_service.specs.Faults.{IsBadPage, IsFault, IsNoEvent}
+use Rattle.tw_service.specs.Limits.{append_refusal, bytes_of, event_refusal, first_long, is_in_order, length_refusal, limits_refusal, or_else, order_refusal, proof_refusal}
+use Rattle.tw_service.specs.Machine.{Answers, Call, IsStepOf, Reply, last_thread}
+use Rattle.tw_service.specs.Machine.Call.{Append, ProveEvent}
+use Rattle.tw_service.specs.Machine.Reply.{OfProof, OfThread, Refused}
+use Rattle.tw_service.specs.declared.refusal.Refusal.{Refusal}
+use Rattle.tw_service.specs.declared.refusal.Refusal.TheVariants.{NoStep, NoEvent, TooMany, TooLong, Full, BadPage, DiskFault, Reopen, NoMemory}
+
+-- ---- refusals of the tables are no faults
+
+-- what holds of the refusal, where there is one
+abbrev pub Of : (Refusal → Type 0) → Option Refusal → Type 0
+Of P None = Unit {0}
+Of P (Some r) = P r
+
+of_if : (P : Refusal → Type 0) (b : Bool) (o q : Option Refusal) → Of P o → Of P q → Of P (if b then o else q)
+of_if P true o q one other = one
+of_if P false o q one other = other
+
+pub of_some : (P : Refusal → Type 0) (o : Option Refusal) (r : Refusal) → Some r ≡ o → Of P o → P r
+of_some P o r is all = subst (Of P) (sym is) all
+
+-- of no page, disk or memory
+abbrev pub NoFault : Refusal → Type 0
+NoFault r = IsFault r → ⊥
+
+-- and not the answer after a disk fault
+abbrev pub IsTold : Refusal → Type 0
+IsTold r = (IsFault r → ⊥) × (r ≡ Reopen → ⊥)
+
+is_told_count : (n : ℕ) → IsTold (TooMany n)
+is_told_count n = (λ is. is, λ is. cc)
+
+is_told_length : (n : ℕ) → IsTold (TooLong n)
+is_told_length n = (λ is. is, λ is. cc)
+
+lengths_told : (o : Option (List ℕ)) (bytes : ℕ) → Of IsTold (length_refusal o bytes)
+lengths_told (Some event) bytes = is_told_length (length event)
+lengths_told None bytes = of_if IsTold (nat_lt 65536 bytes) (Some (TooLong bytes)) None (is_told_length bytes) tt
+
+pub append_told : (steps : ℕ) (events : List (List ℕ)) → Of IsTold (append_refusal false steps events)
+unfolding append_refusal limits_refusal
+append_told steps events =
+    of_if IsTold (nat_le (2 ^ 40 - 1) steps) (Some Full) (limits_refusal events) ((λ is. is), (λ is. cc))
+    (of_if IsTold (nat_lt 1024 (length events)) (Some (TooMany (length events))) (length_refusal (first_long events) (bytes_of events)) (is_told_count (length events)) (lengths_told (first_long events) (bytes_of events)))
+
+of_weaker : (P Q : Refusal → Type 0) → ((r : Refusal) → P r → Q r) → (o : Option Refusal) → Of P o → Of Q o
+of_weaker P Q step None all = tt
+of_weaker P Q step (Some r) all = step r all
+
+pub append_no_fault : (broken : Bool) (steps : ℕ) (events : List (List ℕ)) → Of NoFault (append_refusal broken steps events)
+unfolding append_refusal
+append_no_fault true steps events = λ is. is
+append_no_fault false steps events = of_weaker IsTold NoFault (λ r is. is.0) _ (append_told steps events)
+
+pub order_told : (last step top : ℕ) → Of IsTold (order_refusal false last step top)
+unfolding order_refusal
+order_told last step top = of_if IsTold (is_in_order last step top) None (Some (NoStep last)) tt ((λ is. is), (λ is. cc))
+
+pub order_no_fault : (broken : Bool) (last step top : ℕ) → Of NoFault (order_refusal broken last step top)
+unfolding order_refusal
+order_no_fault true last step top = λ is. is
+order_no_fault false last step top = of_weaker IsTold NoFault (λ r is. is.0) _ (order_told last step top)
+
+-- ---- a bad page and a disk fault are faults
+
+pub is_bad_fault : (r : Refusal) → IsBadPage r → IsFault r
+is_bad_fault (BadPage page) is = tt
+is_bad_fault (NoStep last) is = absurd is
+is_bad_fault (NoEvent count) is = absurd is
+is_bad_fault (TooMany count) is = absurd is
+is_bad_fault (TooLong bytes) is = absurd is
+is_bad_fault Full is = absurd is
+is_bad_fault DiskFault is = absurd is
+is_bad_fault Reopen is = absurd is
+is_bad_fault NoMemory is = absurd is
+
+abbrev pub fails : (T : Type 0) → Refusal → Result T Refusal
+fails T r = Err r
+
+pub is_disk_fault : (T : Type 0) (r : Refusal) → fails T r ≡ fails T DiskFault → IsFault r
+is_disk_fault T r is = let same : r ≡ DiskFault = cc in subst IsFault (sym same) tt
+
+module _ (dig : List ℕ → List ℕ) {T : Type 0} (h : History) (call : Call) (reply : T → Reply) (Serves : History → Type 0) where
+  -- a refusal of a table
+  pub answers_refusal : (r : Refusal) → IsTold r → IsStepOf dig h call (Refused r) h → Serves h → Answers dig h call reply (Err r) Serves
+  answers_refusal (NoStep last) is step served = (step, served)
+  answers_refusal (NoEvent count) is step served = (step, served)
+  answers_refusal (TooMany count) is step served = (step, served)
+  answers_refusal (TooLong bytes) is step served = (step, served)
+  answers_refusal Full is step served = (step, served)
+  answers_refusal (BadPage page) is step served = absurd (is.0 tt)
+  answers_refusal DiskFault is step served = tt
+  answers_refusal Reopen is step served = absurd (is.1 refl)
+  answers_refusal NoMemory is step served = served
+
+  -- a fault
+  pub answers_fault : (r : Refusal) → IsFault r → (IsBadPage r → ⊥) → (r ≡ DiskFault) ⊎ Serves h → Answers dig h call reply (Err r) Serves
+  answers_fault (NoStep last) is good served = absurd is
+  answers_fault (NoEvent count) is good served = absurd is
+  answers_fault (TooMany count) is good served = absurd is
+  answers_fault (TooLong bytes) is good served = absurd is
+  answers_fault Full is good served = absurd is
+  answers_fault (BadPage page) is good served = absurd (good tt)
+  answers_fault DiskFault is good served = tt
+  answers_fault Reopen is good served = absurd is
+  answers_fault NoMemory is good (inl same) = cc
+  answers_fault NoMemory is good (inr served) = served
+
+-- ---- adding a step
+
+module _ (dig : List ℕ → List ℕ) (h : History) (events : List (List ℕ)) where
+  pub append_refused : (r : Refusal) → Some r ≡ append_refusal false (length h.steps) events → IsStepOf dig h (Append events) (Refused r) h
+  append_refused r is = subst (λ o. MatchOption o ((h ≡ plus h (event_step events)) × (Refused r ≡ OfThread (last_thread dig h))) (λ refusal. (h ≡ h) × (Refused r ≡ Refused refusal))) is (refl, refl)
+
+  pub append_done : (t : Thread) → None ≡ append_refusal false (length h.steps) events → t ≡ last_thread dig (plus h (event_step events)) → IsStepOf dig h (Append events) (OfThread t) (plus h (event_step events))
+  append_done t is same =
+      subst (λ o. MatchOption o ((plus h (event_step events) ≡ plus h (event_step events)) × (OfThread t ≡ OfThread (last_thread dig (plus h (event_step events))))) (λ refusal. (plus h (event_step events) ≡ h) × (OfThread t ≡ Refused refusal))) is
+      (refl, ap OfThread same)
+
+-- ---- proving an event
+
+pub no_event_told : (r : Refusal) → IsNoEvent r → IsTold r
+no_event_told (NoEvent count) is = ((λ fault. fault), (λ same. cc))
+no_event_told (NoStep last) is = absurd is
+no_event_told (TooMany count) is = absurd is
+no_event_told (TooLong bytes) is = absurd is
+no_event_told Full is = absurd is
+no_event_told (BadPage page) is = absurd is
+no_event_told DiskFault is = absurd is
+no_event_told Reopen is = absurd is
+no_event_told NoMemory is = absurd is
+
+pub has_event : (count index : ℕ) → index < count → event_refusal count index ≡ None
+unfolding event_refusal
+has_event count index below = ap (λ (b : Bool). if b then None else Some (NoEvent count)) (lt-ltb index count below)
+
+module _ (dig : List ℕ → List ℕ) (h : History) (step index top : ℕ) where
+  abbrev pub count : ℕ
+  count = length (events_at h step)
+
+  -- the table's answer, where the order stands
+  in_order : (o : Option Refusal) → None ≡ order_refusal false (length h.steps) step top → event_refusal count index ≡ o → proof_refusal false h step index top ≡ o
+  in_order o order is = ap (λ (q : Option Refusal). or_else q (event_refusal count index)) (sym order) ∙ is
+
+  pub proof_disordered : (r : Refusal) → Some r ≡ order_refusal false (length h.steps) step top → IsStepOf dig h (ProveEvent step index top) (Refused r) h
+  proof_disordered r is =
+      let all : Some r ≡ proof_refusal false h step index top = ap (λ (q : Option Refusal). or_else q (event_refusal count index)) is in
+      (refl, subst (λ o. MatchOption o ((bytes : List ℕ) × MakesExistence dig h step index top bytes × (Refused r ≡ OfProof bytes)) (λ refusal. Refused r ≡ Refused refusal)) all refl)
+
+  pub proof_without_event : (r : Refusal) → None ≡ order_refusal false (length h.steps) step top → event_refusal count index ≡ Some r → IsStepOf dig h (ProveEvent step index top) (Refused r) h
+  proof_without_event r order is =
+      (refl, subst (λ o. MatchOption o ((bytes : List ℕ) × MakesExistence dig h step index top bytes × (Refused r ≡ OfProof bytes)) (λ refusal. Refused r ≡ Refused refusal)) (sym (in_order (Some r) order is)) refl)
+
+  pub proof_made : (bytes : List ℕ) → None ≡ order_refusal false (length h.steps) step top → index < count → MakesExistence dig h step index top bytes → IsStepOf dig h (ProveEvent step index top) (OfProof bytes) h
+  proof_made bytes order below makes =
+      (refl, subst (λ o. MatchOption o ((bs : List ℕ) × MakesExistence dig h step index top bs × (OfProof bytes ≡ OfProof bs)) (λ refusal. OfProof bytes ≡ Refused refusal)) (sym (in_order None order (has_event count index below))) (bytes, makes, refl))
+
+pub event_told : (count index : ℕ) → Of IsNoEvent (event_refusal count index)
+unfolding event_refusal
+event_told count index = of_if IsNoEvent (nat_lt index count) None (Some (NoEvent count)) tt tt
+
+-- ---- what holds of an answer
+
+pub if_ok : {T E : Type 0} (r : Result T E) (P Q : T → Type 0) → ((x : T) → P x → Q x) → IfOk r P → IfOk r Q
+if_ok (Ok x) P Q step is = step x is
+if_ok (Err e) P Q step is = tt
+
+pub if_err : {T E : Type 0} (r : Result T E) (P Q : E → Type 0) → ((e : E) → P e → Q e) → IfErr r P → IfErr r Q
+if_err (Ok x) P Q step is = tt
+if_err (Err e) P Q step is = step e is

@@ -1,0 +1,12 @@
+pub mod EventLimits
+pub mod EventHistories
+pub mod RootFields
+pub mod RootReading
+pub mod Answering
+pub mod BadPages
+pub mod Beginning
+pub mod Counted
+pub mod Opened
+pub mod Serving
+pub mod Existences
+pub mod Standing

@@ -1,0 +1,8 @@
+use Rattle.tw_service.proofs.EventHistories.{only_plus, sound_plus}
+use Rattle.tw_service.proofs.laws.event_laws.Goals as goal
+
+pub returns-clause-sound : goal.returns-clause-sound
+returns-clause-sound c = sound_plus
+
+pub returns-clause-events : goal.returns-clause-events
+returns-clause-events c = only_plus

@@ -1,0 +1,50 @@
+use Rattle.std.proofs.Common.{◌∙◌, ℕ, ap, arith, inr, sym}
+use Rattle.tw_base.specs.declared.bytes.Bytes.{Bytes}
+use Rattle.tw_base.specs.declared.event_list.EventList.{EventList}
+use Rattle.tw_skiplist.specs.declared.info.StepProof.{StepProof}
+use Rattle.tw_service.specs.Faults.{IsNoEvent}
+use Rattle.tw_service.specs.Limits.{event_refusal}
+use Rattle.tw_service.proofs.Answering.{event_told, if_err, if_ok, is_bad_fault, is_disk_fault, no_event_told, of_some}
+use Rattle.tw_service.proofs.BadPages.{bad_page}
+use Rattle.tw_service.proofs.proving.make_proof.Goals as goal
+
+pub returns-in-Err-clause-good : goal.returns-in-Err-clause-good
+returns-in-Err-clause-good g c = λ bad. bad_page StepProof _ c.in-Err.fault c.from.result c.from.ensures c.in-Err.ensures.good bad
+
+pub returns-in-Some-clause-no_event : goal.returns-in-Some-clause-no_event
+returns-in-Some-clause-no_event g c = λ ps h list keeps none.
+    let info = c.in-Ok.ensures.info ps h list keeps in
+    ap (λ (n : ℕ). event_refusal n c.args.index) (sym info.count) ∙ sym c.event_refusal.ensures.answer ∙ c.in-Some.is
+
+pub returns-in-Some-clause-good : goal.returns-in-Some-clause-good
+returns-in-Some-clause-good g c =
+    let none = of_some IsNoEvent _ c.in-Some.refusal (sym c.in-Some.is ∙ c.event_refusal.ensures.answer) (event_told c.in-Ok.proof.info.count c.args.index) in
+    λ bad. absurd ((no_event_told c.in-Some.refusal none).0 (is_bad_fault c.in-Some.refusal bad))
+
+pub returns-in-Some-clause-answers : goal.returns-in-Some-clause-answers
+returns-in-Some-clause-answers g c =
+    inr (of_some IsNoEvent _ c.in-Some.refusal (sym c.in-Some.is ∙ c.event_refusal.ensures.answer) (event_told c.in-Ok.proof.info.count c.args.index))
+
+pub returns-in-Some-clause-fault : goal.returns-in-Some-clause-fault
+returns-in-Some-clause-fault g c =
+    let none = of_some IsNoEvent _ c.in-Some.refusal (sym c.in-Some.is ∙ c.event_refusal.ensures.answer) (event_told c.in-Ok.proof.info.count c.args.index) in
+    λ is. absurd ((no_event_told c.in-Some.refusal none).0 (is_disk_fault Bytes c.in-Some.refusal is))
+
+pub returns-in-Err-events_of-clause-good : goal.returns-in-Err-events_of-clause-good
+returns-in-Err-events_of-clause-good g c = λ bad ps h list keeps.
+    let info = c.in-Ok.ensures.info ps h list keeps in
+    bad_page EventList _ c.in-Err-events_of.fault c.from-in-Err-events_of.result c.from-in-Err-events_of.ensures c.in-Err-events_of.ensures.good bad
+    g.H.Hasher.dig ps h c.args.step (c.in-Ok.ensures.kept.list_kept ∙ list) info
+
+pub returns-in-Ok-events_of-clause-made : goal.returns-in-Ok-events_of-clause-made
+returns-in-Ok-events_of-clause-made g c =
+    if_ok c.write_proof.result _ _ (λ bytes made ps h list keeps sound named.
+    let info = c.in-Ok.ensures.info ps h list keeps in
+    made ps h c.args.step sound named c.requires.order (omega (arith, c.requires.last, keeps.step)) (c.in-Ok.ensures.path ps h list keeps) info
+    (c.in-Ok-events_of.ensures.events g.H.Hasher.dig ps h c.args.step (c.in-Ok.ensures.kept.list_kept ∙ list) info)) c.write_proof.ensures.made
+
+pub returns-in-Ok-events_of-clause-good : goal.returns-in-Ok-events_of-clause-good
+returns-in-Ok-events_of-clause-good g c =
+    if_err c.write_proof.result _ _ (λ refusal good bad ps h list keeps.
+    let info = c.in-Ok.ensures.info ps h list keeps in
+    good bad ps h c.args.step info (c.in-Ok-events_of.ensures.events g.H.Hasher.dig ps h c.args.step (c.in-Ok.ensures.kept.list_kept ∙ list) info)) c.write_proof.ensures.good

@@ -1,0 +1,79 @@
+use Rattle.std.proofs.Common.{◌∙◌, ℕ, Bool, ap, inl, inr, length, ⊎_elim, sym}
+use Rattle.std.specs.Prelude.{false}
+use Rattle.tw_base.specs.History.{plus}
+use Rattle.tw_base.specs.declared.thread.Thread.{Thread}
+use Rattle.tw_pages.specs.Same.{is_same_itself}
+use Rattle.tw_skiplist.specs.Keeping.{event_step}
+use Rattle.tw_disk.specs.Disk.{IsAtRest}
+use Rattle.tw_pages.specs.Kept.{disk_of}
+use Rattle.tw_service.specs.Keeps.{KeepsHistory}
+use Rattle.tw_service.specs.Limits.{append_refusal}
+use Rattle.tw_service.specs.Machine.Call.{Append}
+use Rattle.tw_service.specs.Machine.Reply.{OfThread}
+use Rattle.tw_service.specs.Serves.{Serves}
+use Rattle.tw_service.proofs.Answering.{IsTold, NoFault, answers_fault, answers_refusal, append_done, append_no_fault, append_refused, append_told, is_bad_fault, is_disk_fault, of_some}
+use Rattle.tw_service.proofs.Serving.{rest_stands, same_leaves, still_keeps}
+use Rattle.tw_service.proofs.service.Service.append.Goals as goal
+
+pub returns-in-Some-clause-refused : goal.returns-in-Some-clause-refused
+returns-in-Some-clause-refused g c = inr (λ h served.
+    let d = g.D.Disk in
+    let s = c.args.self.now in (
+      served,
+      same_leaves d.content d.may_leave d.moment d.left_since g.met.D.Disk.only_now g.H.Hasher.dig s.store s.store _ (is_same_itself d.content d.may_leave d.moment d.left_since s.store)
+          (λ i left. rest_stands d.content d.may_leave d.moment d.left_since g.met.D.Disk.only_now g.H.Hasher.dig s.store s.name s.head h served i left),
+    ))
+
+pub returns-in-Some-clause-broken : goal.returns-in-Some-clause-broken
+returns-in-Some-clause-broken g c =
+    let no_fault = of_some NoFault _ c.in-Some.refusal (sym c.in-Some.is ∙ c.append_refusal.ensures.answer) (append_no_fault c.args.self.now.is_broken c.args.self.now.head.step c.args.events.now) in
+    (λ failed. inl failed, λ either. ⊎_elim (λ failed. failed) (λ is. absurd (no_fault (is_disk_fault Thread c.in-Some.refusal is))) either)
+
+pub returns-in-Some-clause-fault : goal.returns-in-Some-clause-fault
+returns-in-Some-clause-fault g c =
+    let no_fault = of_some NoFault _ c.in-Some.refusal (sym c.in-Some.is ∙ c.append_refusal.ensures.answer) (append_no_fault c.args.self.now.is_broken c.args.self.now.head.step c.args.events.now) in
+    λ is. absurd (no_fault (is_disk_fault Thread c.in-Some.refusal is))
+
+pub returns-in-Some-clause-good : goal.returns-in-Some-clause-good
+returns-in-Some-clause-good g c =
+    let no_fault = of_some NoFault _ c.in-Some.refusal (sym c.in-Some.is ∙ c.append_refusal.ensures.answer) (append_no_fault c.args.self.now.is_broken c.args.self.now.head.step c.args.events.now) in
+    λ bad h served. no_fault (is_bad_fault c.in-Some.refusal bad)
+
+pub returns-in-Some-clause-machine : goal.returns-in-Some-clause-machine
+returns-in-Some-clause-machine g c = λ whole h served.
+    let s = c.args.self.now in
+    let events = c.args.events.now in
+    let is = sym c.in-Some.is ∙ c.append_refusal.ensures.answer ∙ ap (λ (b : Bool). append_refusal b s.head.step events) whole ∙ ap (λ (n : ℕ). append_refusal false n events) served.has.keeps.step in
+    answers_refusal g.H.Hasher.dig h (Append events) (λ (t : Thread). OfThread t) (Serves g.H.Hasher.dig g.D.Disk.content g.D.Disk.may_leave s) c.in-Some.refusal
+    (of_some IsTold _ c.in-Some.refusal is (append_told (length h.steps) events)) (append_refused g.H.Hasher.dig h events c.in-Some.refusal is) served
+
+pub returns-in-Ok-clause-any_moment : goal.returns-in-Ok-clause-any_moment
+returns-in-Ok-clause-any_moment g c = λ h served. c.in-Ok.ensures.any_moment h served
+
+pub returns-in-Ok-clause-machine : goal.returns-in-Ok-clause-machine
+returns-in-Ok-clause-machine g c = λ whole h served.
+    let s = c.args.self.now in
+    let events = c.args.events.now in
+    let is = sym c.in_default.is ∙ c.append_refusal.ensures.answer ∙ ap (λ (b : Bool). append_refusal b s.head.step events) whole ∙ ap (λ (n : ℕ). append_refusal false n events) served.has.keeps.step in
+    let done = c.in-Ok.ensures.done h served in
+    (plus h (event_step events), append_done g.H.Hasher.dig h events c.head.result is (c.head.ensures.served (plus h (event_step events)) done), done)
+
+pub returns-in-Err-clause-any_moment : goal.returns-in-Err-clause-any_moment
+returns-in-Err-clause-any_moment g c = λ h served. c.in-Err.ensures.any_moment h served
+
+pub returns-in-Err-clause-refused : goal.returns-in-Err-clause-refused
+returns-in-Err-clause-refused g c =
+    let d = g.D.Disk in
+    let s = c.args.self.now in
+    ⊎_elim (λ fault. inl fault) (λ same. inr (λ h served. (
+      still_keeps d.content d.may_leave d.moment d.left_since g.met.D.Disk.only_now g.H.Hasher.dig s.store c.add_step.new.store s.name s.head h same c.in-Err.ensures.clean served,
+      same_leaves d.content d.may_leave d.moment d.left_since g.met.D.Disk.only_now g.H.Hasher.dig s.store c.add_step.new.store _ same
+          (λ i left. rest_stands d.content d.may_leave d.moment d.left_since g.met.D.Disk.only_now g.H.Hasher.dig s.store s.name s.head h served i left),
+    ))) c.in-Err.ensures.same
+
+pub returns-in-Err-clause-machine : goal.returns-in-Err-clause-machine
+returns-in-Err-clause-machine g c = λ whole h served.
+    let d = g.D.Disk in
+    let s = c.args.self.now in
+    answers_fault g.H.Hasher.dig h (Append c.args.events.now) (λ (t : Thread). OfThread t) (λ k. IsAtRest d.content d.may_leave (disk_of c.add_step.new.store) (KeepsHistory g.H.Hasher.dig c.add_step.new.store s.name s.head k)) c.in-Err.refusal c.in-Err.ensures.answers (λ bad. c.in-Err.ensures.good bad h served)
+    (⊎_elim (λ fault. inl fault) (λ same. inr (still_keeps d.content d.may_leave d.moment d.left_since g.met.D.Disk.only_now g.H.Hasher.dig s.store c.add_step.new.store s.name s.head h same c.in-Err.ensures.clean served)) c.in-Err.ensures.same)

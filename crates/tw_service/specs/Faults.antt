@@ -1,0 +1,48 @@
+-- What kinds of refusals there are, and which one a fault of the list of steps becomes.
+use Rattle.tw_skiplist.specs.declared.fault.ListFault.{ListFault}
+use Rattle.tw_skiplist.specs.declared.fault.ListFault.TheVariants as list
+use Rattle.tw_service.specs.declared.refusal.Refusal.{Refusal}
+use Rattle.tw_service.specs.declared.refusal.Refusal.TheVariants.{NoStep, NoEvent, TooMany, TooLong, Full, BadPage, DiskFault, Reopen, NoMemory}
+
+-- what a list's fault is to the service
+abbrev pub refusal_of : ListFault → Refusal
+refusal_of (list.NoStep last) = NoStep last
+refusal_of (list.BadPage page) = BadPage page
+refusal_of list.DiskFault = DiskFault
+refusal_of list.NoMemory = NoMemory
+
+-- of a page, the disk or memory, and of no table
+abbrev pub IsFault : Refusal → Type 0
+IsFault (BadPage _) = Unit {0}
+IsFault DiskFault = Unit {0}
+IsFault NoMemory = Unit {0}
+IsFault (NoStep _) = ⊥
+IsFault (NoEvent _) = ⊥
+IsFault (TooMany _) = ⊥
+IsFault (TooLong _) = ⊥
+IsFault Full = ⊥
+IsFault Reopen = ⊥
+
+-- that the step has no such event
+abbrev pub IsNoEvent : Refusal → Type 0
+IsNoEvent (NoEvent _) = Unit {0}
+IsNoEvent (BadPage _) = ⊥
+IsNoEvent DiskFault = ⊥
+IsNoEvent NoMemory = ⊥
+IsNoEvent (NoStep _) = ⊥
+IsNoEvent (TooMany _) = ⊥
+IsNoEvent (TooLong _) = ⊥
+IsNoEvent Full = ⊥
+IsNoEvent Reopen = ⊥
+
+-- that a page isn't of its kind
+abbrev pub IsBadPage : Refusal → Type 0
+IsBadPage (BadPage _) = Unit {0}
+IsBadPage (NoEvent _) = ⊥
+IsBadPage DiskFault = ⊥
+IsBadPage NoMemory = ⊥
+IsBadPage (NoStep _) = ⊥
+IsBadPage (TooMany _) = ⊥
+IsBadPage (TooLong _) = ⊥
+IsBadPage Full = ⊥
+IsBadPage Reopen = ⊥

@@ -1,0 +1,19 @@
+-- The history that a store keeps.
+use Rattle.std.specs.Prelude.{◌≡◌, ℕ, List, []}
+use Rattle.tw_base.specs.History.{History}
+use Rattle.tw_base.specs.Sound.{IsSound}
+use Rattle.tw_disk.specs.Image.{Image}
+use Rattle.tw_pages.specs.declared.store.Store.{Store}
+use Rattle.tw_pages.specs.Kept.{IsKept, opening_of, staged_of}
+use Rattle.tw_skiplist.specs.declared.head.Head.{Head}
+use Rattle.tw_skiplist.specs.Keeping.{Keeps}
+use Rattle.tw_service.specs.Stands.{HasRoot}
+
+-- the store, over this content of its disk, keeps this history of this name under this head, and nothing is staged
+pub record KeepsHistory {D : Type 0} {g : _} (dig : List ℕ → List ℕ) (store : Store D g) (name : List ℕ) (head : Head) (h : History) (image : Image) : Type 0 where
+  pub sound : IsSound h
+  pub named : h.name ≡ name
+  pub kept : IsKept store image
+  pub clean : staged_of store ≡ []
+  pub root : HasRoot dig (opening_of store image) name head
+  pub keeps : Keeps dig (opening_of store image).pages h head

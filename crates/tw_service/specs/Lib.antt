@@ -1,0 +1,9 @@
+pub mod EventSteps
+pub mod Roots
+pub mod Stands
+pub mod Faults
+pub mod Limits
+pub mod Machine
+pub mod Made
+pub mod Keeps
+pub mod Serves

@@ -1,0 +1,53 @@
+-- The tables of refusals, whose lines are tried in their order.
+use Rattle.std.specs.Prelude.{ℕ, ◌-◌, ◌^◌, List, length, Bool, true, false, ◌&&◌, nat_le, nat_lt, if◌then◌else◌, find, sum_by, Option, Some, None}
+use Rattle.tw_base.specs.History.{History, events_at}
+use Rattle.tw_service.specs.declared.refusal.Refusal.{Refusal}
+use Rattle.tw_service.specs.declared.refusal.Refusal.TheVariants.{NoStep, NoEvent, TooMany, TooLong, Full, Reopen}
+
+-- ---- adding a step
+
+-- the first event that is longer than 1,024 bytes
+abbrev pub first_long : List (List ℕ) → Option (List ℕ)
+first_long events = find (λ event. nat_lt 1024 (length event)) events
+
+-- the bytes of all events
+abbrev pub bytes_of : List (List ℕ) → ℕ
+bytes_of events = sum_by (λ event. length event) events
+
+abbrev pub length_refusal : (long : Option (List ℕ)) → (bytes : ℕ) → Option Refusal
+length_refusal (Some event) bytes = Some (TooLong (length event))
+length_refusal None bytes = if nat_lt 65536 bytes then Some (TooLong bytes) else None
+
+-- events beyond the limits of a step: more than 1,024; one longer than 1,024 bytes, the first such one; more than 65,536 bytes in all
+unfoldable pub limits_refusal : List (List ℕ) → Option Refusal
+limits_refusal events =
+    if nat_lt 1024 (length events) then Some (TooMany (length events)) else length_refusal (first_long events) (bytes_of events)
+
+-- a call before met a disk fault; there is no further step; the events are beyond the limits
+unfoldable pub append_refusal : (is_broken : Bool) → (steps : ℕ) → List (List ℕ) → Option Refusal
+append_refusal true steps events = Some Reopen
+append_refusal false steps events = if nat_le (2 ^ 40 - 1) steps then Some Full else limits_refusal events
+
+-- ---- proving an event
+
+-- whether 1 <= step <= top <= last
+abbrev pub is_in_order : (last step top : ℕ) → Bool
+is_in_order last step top = (nat_le 1 step && nat_le step top) && nat_le top last
+
+-- a call before met a disk fault; the steps aren't in their order
+unfoldable pub order_refusal : (is_broken : Bool) → (last step top : ℕ) → Option Refusal
+order_refusal true last step top = Some Reopen
+order_refusal false last step top = if is_in_order last step top then None else Some (NoStep last)
+
+-- the index isn't below the count of events
+unfoldable pub event_refusal : (count index : ℕ) → Option Refusal
+event_refusal count index = if nat_lt index count then None else Some (NoEvent count)
+
+abbrev pub or_else : Option Refusal → Option Refusal → Option Refusal
+or_else (Some refusal) other = Some refusal
+or_else None other = other
+
+-- the whole table
+abbrev pub proof_refusal : (is_broken : Bool) → History → (step index top : ℕ) → Option Refusal
+proof_refusal is_broken h step index top =
+    or_else (order_refusal is_broken (length h.steps) step top) (event_refusal (length (events_at h step)) index)

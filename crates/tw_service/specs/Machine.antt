@@ -1,0 +1,57 @@
+-- The service as a machine whose state is one sound history: which replies and next states each call has.
+use Rattle.std.specs.Prelude.{◌≡◌, ℕ, List, length, Result, Ok, Err, MatchOption, false}
+use Rattle.tw_base.specs.declared.thread.Thread.{Thread}
+use Rattle.tw_base.specs.Auth.{auth}
+use Rattle.tw_base.specs.History.{History, plus}
+use Rattle.tw_chain.specs.Making.{MakesExistence}
+use Rattle.tw_skiplist.specs.Keeping.{event_step}
+use Rattle.tw_service.specs.declared.refusal.Refusal.{Refusal}
+use Rattle.tw_service.specs.declared.refusal.Refusal.TheVariants.{NoStep, NoEvent, TooMany, TooLong, Full, BadPage, DiskFault, Reopen, NoMemory}
+use Rattle.tw_service.specs.Limits.{append_refusal, proof_refusal}
+
+pub data Call : Type 0 where
+  Append : (events : List (List ℕ)) → Call
+  ProveEvent : (step index top : ℕ) → Call
+  CountSteps : Call
+  TellHead : Call
+  TellName : Call
+
+pub data Reply : Type 0 where
+  OfThread : Thread → Reply
+  OfProof : List ℕ → Reply
+  OfNumber : ℕ → Reply
+  OfName : List ℕ → Reply
+  Refused : Refusal → Reply
+
+-- the thread of the last step; of a history of no step it has step 0 and the authenticator of its name
+abbrev pub last_thread : (dig : List ℕ → List ℕ) → History → Thread
+last_thread dig h = record { from = h.name; step = length h.steps; auth = auth dig h (length h.steps) }
+
+module _ (dig : List ℕ → List ℕ) where
+  -- the machine in the state h answers the call with this reply and goes on in the next state
+  abbrev pub IsStepOf : (h : History) → Call → Reply → (next : History) → Type 0
+  IsStepOf h (Append events) reply next =
+      MatchOption (append_refusal false (length h.steps) events)
+      ((next ≡ plus h (event_step events)) × (reply ≡ OfThread (last_thread dig next)))
+      (λ refusal. (next ≡ h) × (reply ≡ Refused refusal))
+  IsStepOf h (ProveEvent step index top) reply next =
+      (next ≡ h) × MatchOption (proof_refusal false h step index top)
+      ((bytes : List ℕ) × MakesExistence dig h step index top bytes × (reply ≡ OfProof bytes))
+      (λ refusal. reply ≡ Refused refusal)
+  IsStepOf h CountSteps reply next = (next ≡ h) × (reply ≡ OfNumber (length h.steps))
+  IsStepOf h TellHead reply next = (next ≡ h) × (reply ≡ OfThread (last_thread dig h))
+  IsStepOf h TellName reply next = (next ≡ h) × (reply ≡ OfName h.name)
+
+  -- the call's answer is a step of the machine to a state that is now served; a disk fault and want of memory excepted, of
+  -- which want of memory leaves the state
+  abbrev pub Answers : {T : Type 0} → (h : History) → Call → (T → Reply) → Result T Refusal → (History → Type 0) → Type 0
+  Answers h call reply (Ok value) Serves = (next : History) × IsStepOf h call (reply value) next × Serves next
+  Answers h call reply (Err DiskFault) Serves = Unit {0}
+  Answers h call reply (Err NoMemory) Serves = Serves h
+  Answers h call reply (Err (NoStep last)) Serves = IsStepOf h call (Refused (NoStep last)) h × Serves h
+  Answers h call reply (Err (NoEvent count)) Serves = IsStepOf h call (Refused (NoEvent count)) h × Serves h
+  Answers h call reply (Err (TooMany count)) Serves = IsStepOf h call (Refused (TooMany count)) h × Serves h
+  Answers h call reply (Err (TooLong bytes)) Serves = IsStepOf h call (Refused (TooLong bytes)) h × Serves h
+  Answers h call reply (Err Full) Serves = IsStepOf h call (Refused Full) h × Serves h
+  Answers h call reply (Err (BadPage page)) Serves = ⊥
+  Answers h call reply (Err Reopen) Serves = ⊥

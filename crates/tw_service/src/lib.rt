@@ -1,0 +1,17 @@
+//! A service: one history on a disk, which it keeps through every crash.
+#![tactic(auto)]
+
+mod adding;
+mod laws;
+mod limits;
+mod proving;
+mod refusal;
+mod root;
+mod service;
+
+pub use laws::{event_laws, standing_laws};
+pub use refusal::Refusal;
+pub use service::Service;
+
+#[cfg(test)]
+mod tests;

@@ -1,0 +1,135 @@
+// The existence proof of an event of a history that pages keep.
+
+ghost use Rattle.std.specs.Prelude.{◌≡◌, ◌↔◌, ◌⊎◌, ℕ, ◌<◌, ◌≤◌, ◌^◌, length, slice_get, IfOk, IfErr, IsTrue, Some, Err};
+ghost use Rattle.tw_base.specs.History.{History, events_at};
+ghost use Rattle.tw_base.specs.Sound.{IsSound};
+ghost use Rattle.tw_chain.specs.Making.{MakesExistence};
+ghost use Rattle.tw_disk.specs.Disk.{Rose};
+ghost use Rattle.tw_disk.specs.Image.{Image};
+ghost use Rattle.tw_disk.specs.Pages.{OnlyReads};
+ghost use Rattle.tw_skiplist.specs.Infos.{IsInfoOf};
+ghost use Rattle.tw_skiplist.specs.Keeping.{IsWithinLimits, Keeps};
+ghost use Rattle.tw_skipproof.specs.Making.{IsPathOf};
+ghost use Rattle.tw_service.specs.Faults.{IsBadPage, IsFault, IsNoEvent};
+ghost use Rattle.tw_service.specs.Limits.{event_refusal as event_refusal_of};
+ghost use Rattle.tw_service.specs.Made.{made_of};
+
+use crate::limits::{event_refusal, limits_refusal};
+use crate::refusal::Refusal;
+use std::alloc::Global;
+use tw_base::{Bytes, EventList, Hasher, Labels, Name, NoMemory};
+use tw_disk::Pages;
+use tw_events::event_path;
+use tw_skiplist::{Head, StepProof, events_of, prove};
+use tw_skipproof::{EventPart, ExistenceProof, Part, write_existence};
+
+/// The event at that index.
+fn take_event(events: EventList, index: u32) -> Bytes
+    requires { index < length events }
+    ensures { slice_get events index ≡ Some result }
+{
+    let mut items = events.into_vec();
+    items.swap_remove(index as usize)
+}
+
+/// The proof of the event at that index of the step, with its audit path.
+fn existence_of(
+    name: &Name,
+    top: u64,
+    index: u32,
+    proof: StepProof,
+    event: Bytes,
+    path: Labels,
+) -> ExistenceProof
+    ensures { result ≡ made_of name.now top index proof event path }
+{
+    let StepProof { path: links, info } = proof;
+    ExistenceProof {
+        at: Part {
+            service: *name,
+            step: info.step,
+            top,
+            path: links,
+            opening: info.opening,
+        },
+        event: EventPart { index, event, path },
+    }
+}
+
+/// Whether the events are as many as the step has, and within the limits of a step.
+fn are_of_step(events: &EventList, count: u32) -> bool
+    ensures { IsTrue result ↔ ((length events.now ≡ count) × IsWithinLimits events.now) }
+{
+    events.len() == count as usize && limits_refusal(events).is_none()
+}
+
+/// The bytes of the proof of the event at that index among the events of the step. Events that
+/// aren't the step's make its page a bad one.
+fn write_proof<H: Hasher>(
+    alloc: Global,
+    name: &Name,
+    top: u64,
+    index: u32,
+    proof: StepProof,
+    events: EventList,
+) -> Result<Bytes, Refusal>
+    requires { index < proof.info.count }
+    ensures made { IfOk result (λ bytes. (ps : Image) (h : History) (step : ℕ) → IsSound h → h.name ≡ name.now → step ≤ top → top ≤ length h.steps →
+        IsPathOf H.dig h proof.path.links top step → IsInfoOf H.dig ps h step proof.info → events ≡ events_at h step → MakesExistence H.dig h step index top bytes) }
+    ensures good { IfErr result (λ refusal. IsBadPage refusal → (ps : Image) (h : History) (step : ℕ) → IsInfoOf H.dig ps h step proof.info → events ≡ events_at h step → ⊥) }
+    ensures answers { IfErr result (λ refusal. IsBadPage refusal ⊎ (refusal ≡ Refusal.NoMemory)) }
+{
+    if !are_of_step(&events, proof.info.count) {
+        return Err(Refusal::BadPage {
+            page: proof.info.page,
+        });
+    }
+    match event_path::<H>(alloc, &events, index) {
+        Err(_) => Err(Refusal::NoMemory),
+        Ok(path) => {
+            let event = take_event(events, index);
+            let made = existence_of(name, top, index, proof, event, path);
+            match write_existence(alloc, &made) {
+                Err(_) => Err(Refusal::NoMemory),
+                Ok(bytes) => Ok(bytes),
+            }
+        }
+    }
+}
+
+/// The proof of the event at that index of a step, under that top. A page that doesn't give the
+/// step's events is a bad one.
+pub(crate) fn make_proof<P: Pages, H: Hasher>(
+    alloc: Global,
+    pages: &mut P,
+    name: &Name,
+    head: &Head,
+    step: u64,
+    index: u32,
+    top: u64,
+) -> Result<Bytes, Refusal>
+    requires short { head.now.step < 2 ^ 40 }
+    requires from { 1 ≤ step }
+    requires order { step ≤ top }
+    requires last { top ≤ head.now.step }
+    ensures made { IfOk result (λ bytes. (ps : Image) (h : History) → P.list pages.old ≡ Some ps → Keeps H.dig ps h head.now → IsSound h → h.name ≡ name.now →
+        MakesExistence H.dig h step index top bytes) }
+    ensures no_event { (ps : Image) (h : History) → P.list pages.old ≡ Some ps → Keeps H.dig ps h head.now →
+        IfErr result (λ refusal. IsNoEvent refusal → event_refusal_of (length (events_at h step)) index ≡ Some refusal) }
+    ensures event { IfOk result (λ _. (ps : Image) (h : History) → P.list pages.old ≡ Some ps → Keeps H.dig ps h head.now → index < length (events_at h step)) }
+    ensures good { IfErr result (λ refusal. IsBadPage refusal → (ps : Image) (h : History) → P.list pages.old ≡ Some ps → Keeps H.dig ps h head.now → ⊥) }
+    ensures answers { IfErr result (λ refusal. IsFault refusal ⊎ IsNoEvent refusal) }
+    ensures kept { OnlyReads P.used_count P.list P.same P.unbroken pages.old pages.new (result ≡ Err Refusal.DiskFault → ⊥) }
+    ensures fault { result ≡ Err Refusal.DiskFault → Rose (P.faults pages.old) (P.faults pages.new) }
+{
+    match prove::<P, H>(alloc, pages, head, top, step) {
+        Err(fault) => Err(Refusal::from(fault)),
+        Ok(proof) => match event_refusal(proof.info.count, index) {
+            Some(refusal) => Err(refusal),
+            None => match events_of(alloc, pages, &proof.info) {
+                Err(fault) => Err(Refusal::from(fault)),
+                Ok(events) => write_proof::<H>(alloc, name, top, index, proof, events),
+            },
+        },
+    }
+}

@@ -1,0 +1,62 @@
+// Why a service refuses a call.
+
+ghost use Rattle.std.specs.Prelude.{◌≡◌, ◌↔◌, IsTrue};
+ghost use Rattle.tw_service.specs.Faults.{refusal_of};
+
+use tw_base::NoMemory;
+use tw_skiplist::ListFault;
+
+/// Why a service refuses a call.
+#[derive(Clone, Copy, Debug, PartialEq, Eq, Drop)]
+pub enum Refusal {
+    /// The steps asked for aren't in their order: 1 <= step <= top <= last. The last step is told.
+    NoStep { last: u64 },
+    /// The step has no event of that index. The number of its events is told.
+    NoEvent { count: u32 },
+    /// There are more than 1,024 events. Their number is told.
+    TooMany { count: u64 },
+    /// An event is longer than 1,024 bytes, and the length of the first such one is told; or there
+    /// is none, and together they are longer than 65,536 bytes, and that length is told.
+    TooLong { bytes: u64 },
+    /// The service has 2^40 - 1 steps.
+    Full,
+    /// The page of this number isn't of its kind. It never comes over a disk that stands for a
+    /// history.
+    BadPage { page: u64 },
+    /// A device call failed; the disk's count of faults rose in this call.
+    DiskFault,
+    /// An earlier call on this value answered DiskFault: open the disk again.
+    Reopen,
+    /// There was no memory for what the call needed.
+    NoMemory,
+}
+
+impl From<ListFault> for Refusal {
+    ghost from_gives = { λ fault refusal. refusal ≡ refusal_of fault };
+
+    fn from(fault: ListFault) -> Self {
+        match fault {
+            ListFault::NoStep { last } => Refusal::NoStep { last },
+            ListFault::BadPage { page } => Refusal::BadPage { page },
+            ListFault::DiskFault => Refusal::DiskFault,
+            ListFault::NoMemory => Refusal::NoMemory,
+        }
+    }
+}
+
+impl From<NoMemory> for Refusal {
+    ghost use Rattle.tw_service.specs.declared.refusal.Refusal.TheVariants.{NoMemory as WantedMemory};
+
+    ghost from_gives = { λ _ refusal. refusal ≡ WantedMemory };
+
+    fn from(_none: NoMemory) -> Self {
+        Refusal::NoMemory
+    }
+}
+
+/// Whether the refusal is a disk fault, after which the disk has to be opened again.
+pub(crate) fn is_disk_fault(refusal: &Refusal) -> bool
+    ensures { IsTrue result ↔ (refusal.now ≡ Refusal.DiskFault) }
+{
+    *refusal == Refusal::DiskFault
+}

@@ -1,0 +1,296 @@
+// Services.
+ghost use Rattle.std.specs.Prelude.{◌≡◌, ◌<◌, ◌≤◌, ◌+◌, ◌*◌, ◌^◌, ◌⊎◌, true, false};
+ghost use Rattle.tw_pages.specs.Kept.{generation_of, is_broken as store_is_broken};
+ghost use Rattle.tw_pages.specs.Same.{count_of};
+
+use crate::adding::add_step;
+use crate::limits::{append_refusal, order_refusal};
+use crate::proving::make_proof;
+use crate::refusal::{Refusal, is_disk_fault};
+use crate::root::{read_root, root_record};
+use std::alloc::Global;
+use std::marker::PhantomData;
+use tw_base::{Bytes, EventList, Hasher, Name, Thread, genesis};
+use tw_disk::{Disk, Pages};
+use tw_pages::{Store, StoreFault};
+use tw_skiplist::Head;
+
+/// A service: one sound history on a disk.
+#[derive(Drop)]
+pub struct Service<D: Disk, H: Hasher> {
+    alloc: Global,
+    store: Store<D>,
+    name: Name,
+    head: Head,
+    is_broken: bool,
+    hasher: PhantomData<H>,
+    ghost short: { head.step < 2 ^ 40 },
+    ghost few_pages: { count_of store ≤ 4 + 64 * head.step },
+    ghost few_commits: { generation_of store ≤ head.step + 1 },
+    ghost tells_faults: { is_broken ≡ false → store_is_broken store ≡ false },
+}
+
+impl<D: Disk, H: Hasher> Service<D, H> {
+    ghost use Rattle.std.specs.Prelude.{◌↔◌, ◌≢◌, ℕ, length, List, Some, None, Ok, Err, IfOk, IfErr, IsErrAnd, IsTrue, OnErr, MatchOption, MatchResult};
+    ghost use Rattle.tw_base.specs.Anchors.{anchor_of};
+    ghost use Rattle.tw_base.specs.Auth.{auth};
+    ghost use Rattle.tw_base.specs.History.{History, events_at, plus};
+    ghost use Rattle.tw_base.specs.declared.thread.Thread.{Thread as ThreadOf};
+    ghost use Rattle.tw_chain.specs.Accepting.{Accepts};
+    ghost use Rattle.tw_chain.specs.Making.{MakesExistence};
+    ghost use Rattle.tw_disk.specs.Disk.{IsAtRest, LeavesOnly, Rose};
+    ghost use Rattle.tw_disk.specs.Image.{Image};
+    ghost use Rattle.tw_pages.specs.Slots.{IsTaken};
+    ghost use Rattle.tw_pages.specs.declared.open.StoreFault.{StoreFault as Fault};
+    ghost use Rattle.tw_skiplist.specs.Keeping.{event_step};
+    ghost use Rattle.tw_service.specs.Faults.{IsBadPage, IsFault, IsNoEvent};
+    ghost use Rattle.tw_service.specs.Limits.{append_refusal as append_refusal_of, order_refusal as order_refusal_of, proof_refusal};
+    ghost use Rattle.tw_service.specs.Machine.{Answers, last_thread};
+    ghost use Rattle.tw_service.specs.Machine.Call.{Append, ProveEvent};
+    ghost use Rattle.tw_service.specs.Machine.Reply.{OfProof, OfThread};
+    ghost use Rattle.tw_service.specs.Serves.{HasSameDisk, Serves, disk_of, has_failed, name_of, steps_of, thread_of};
+    ghost use Rattle.tw_service.specs.Stands.{IsBlankOrNew, IsNotOpenedFor, StandsFor, StandsForOneOf, no_history};
+
+    /// Makes a service of this name, without a step, on a disk that has no store. It takes no memory.
+    ///
+    /// `Taken` exactly where the disk has at least four pages and a gate reads open, and then nothing
+    /// is changed; else only `DiskFault`. Where a crash stops it, the disk is blank or stands for the
+    /// empty history of the name, or is what a crash might have left before.
+    pub fn init(alloc: Global, disk: D, name: Name) -> Result<Service<D, H>, (D, StoreFault)>
+        // The empty history of the name, for good.
+        ensures served { IfOk result (λ s. (c : Image) → D.content disk ≡ Some c
+            → Serves H.dig D.content D.may_leave s (no_history name)) }
+        ensures thread { IfOk result (λ s. (name_of s ≡ name) × (steps_of s ≡ 0) × (has_failed s ≡ false)) }
+
+        // Taken exactly where there is something, a disk fault excepted.
+        ensures taken { IfErr result (λ e. e.1 ≡ StoreFault.Taken → (c : Image) → D.content disk ≡ Some c
+            → IsTaken c) }
+        ensures exact { (c : Image) → D.content disk ≡ Some c → IsTaken c
+            → IsErrAnd result (λ e. (e.1 ≡ StoreFault.Taken) ⊎ (e.1 ≡ StoreFault.DiskFault)) }
+        ensures unchanged { IfErr result (λ e. e.1 ≡ StoreFault.Taken → (D.content e.0 ≡ D.content disk)
+            × LeavesOnly D.moment D.may_leave D.left_since disk e.0 (D.may_leave disk)) }
+        ensures answers { IfErr result (λ e. (e.1 ≡ StoreFault.Taken) ⊎ (e.1 ≡ StoreFault.DiskFault)) }
+        ensures fault { IfErr result (λ e. e.1 ≡ StoreFault.DiskFault → Rose (D.faults disk) (D.faults e.0)) }
+
+        // Each image that a crash since the start may leave is one that it might have left before, or blank, or stands for the empty history.
+        ensures any_moment { IfOk result (λ s. (c : Image) → D.content disk ≡ Some c
+            → LeavesOnly D.moment D.may_leave D.left_since disk (disk_of s) (λ i. D.may_leave disk i
+            ⊎ IsBlankOrNew H.dig name i)) }
+        ensures any_moment_err { IfErr result (λ e. (c : Image) → D.content disk ≡ Some c
+            → LeavesOnly D.moment D.may_leave D.left_since disk e.0 (λ i. D.may_leave disk i
+            ⊎ IsBlankOrNew H.dig name i)) }
+    {
+        let auth = genesis::<H>(&name);
+        let head = Head {
+            step: 0,
+            auth,
+            page: 0,
+        };
+        let root = root_record::<H>(&name, &head);
+        match Store::init(alloc, disk, root.as_slice()) {
+            Err((disk, fault)) => Err((disk, fault)),
+            Ok(store) => Ok(Service {
+                alloc,
+                store,
+                name,
+                head,
+                is_broken: false,
+                hasher: PhantomData,
+            }),
+        }
+    }
+
+    /// Opens the service that a disk holds, after a barrier that makes it stable. It takes no memory.
+    ///
+    /// `Blank` and `NotAStore` exactly where the store answers them; `NotAStore` with the slot that
+    /// counts, too, exactly where the root record is none of a service. Else only `DiskFault`. A disk
+    /// that stands for a history is never refused.
+    pub fn open(alloc: Global, disk: D) -> Result<Service<D, H>, (D, StoreFault)>
+        // A disk that reads as one that stands for a history is opened as it, for good.
+        ensures served { (c : Image) (of : List ℕ) (h : History) → D.content disk ≡ Some c → StandsFor H.dig c of h
+            → MatchResult result (λ s. Serves H.dig D.content D.may_leave s h) (λ e. e.1 ≡ StoreFault.DiskFault) }
+        ensures stable { IfOk result (λ s. (c : Image) → D.content disk ≡ Some c
+            → IsAtRest D.content D.may_leave (disk_of s) (λ i. i ≡ c)) }
+        ensures whole { IfOk result (λ s. has_failed s ≡ false) }
+
+        // Each refusal exactly where its reason stands, a disk fault excepted.
+        ensures refused { IfErr result (λ e. (c : Image) → D.content disk ≡ Some c
+            → (e.1 ≡ StoreFault.DiskFault) ⊎ IsNotOpenedFor H.dig c e.1) }
+        ensures exact { (c : Image) (fault : Fault) → D.content disk ≡ Some c → IsNotOpenedFor H.dig c fault
+            → IsErrAnd result (λ e. (e.1 ≡ fault) ⊎ (e.1 ≡ StoreFault.DiskFault)) }
+        ensures unchanged { IfErr result (λ e. (c : Image) → D.content disk ≡ Some c → D.content e.0 ≡ Some c) }
+        ensures answers { IfErr result (λ e. (e.1 ≢ StoreFault.Taken) × (e.1 ≢ StoreFault.NoMemory)) }
+        ensures fault { IfErr result (λ e. e.1 ≡ StoreFault.DiskFault → Rose (D.faults disk) (D.faults e.0)) }
+
+        // It writes nothing.
+        ensures any_moment { IfOk result (λ s. LeavesOnly D.moment D.may_leave D.left_since disk (disk_of s) (D.may_leave disk)) }
+        ensures any_moment_err { IfErr result (λ e. LeavesOnly D.moment D.may_leave D.left_since disk e.0 (D.may_leave disk)) }
+    {
+        match Store::open(alloc, disk) {
+            Err((disk, fault)) => Err((disk, fault)),
+            Ok(store) => match read_root::<H>(store.root(), store.used(), store.generation()) {
+                None => {
+                    let slot = store.slot();
+                    Err((store.close(), StoreFault::NotAStore { slot }))
+                }
+                Some(root) => Ok(Service {
+                    alloc,
+                    store,
+                    name: root.name,
+                    head: root.head,
+                    is_broken: false,
+                    hasher: PhantomData,
+                }),
+            },
+        }
+    }
+
+    /// The number of steps.
+    pub fn steps(&self) -> u64
+        ensures value { result ≡ steps_of self.now }
+        ensures served { (h : History) → Serves H.dig D.content D.may_leave self.now h → result ≡ length h.steps }
+    {
+        self.head.step
+    }
+
+    /// The thread of the last step; where there is no step, step 0 with the authenticator of the name.
+    pub fn head(&self) -> Thread
+        ensures value { result ≡ thread_of self.now }
+        ensures served { (h : History) → Serves H.dig D.content D.may_leave self.now h → result ≡ last_thread H.dig h }
+    {
+        Thread {
+            from: self.name,
+            step: self.head.step,
+            auth: self.head.auth,
+        }
+    }
+
+    /// The name.
+    pub fn name(&self) -> Name
+        ensures value { result ≡ name_of self.now }
+        ensures served { (h : History) → Serves H.dig D.content D.may_leave self.now h → result ≡ h.name }
+    {
+        self.name
+    }
+
+    /// Gives the disk back.
+    pub fn close(self) -> D
+        ensures disk { result ≡ disk_of self }
+    {
+        let Service {
+            alloc: _,
+            store,
+            name: _,
+            head: _,
+            is_broken: _,
+            hasher: _,
+        } = self;
+        store.close()
+    }
+
+    /// Adds a step of these events, and answers its thread.
+    ///
+    /// Refusals, the first that stands: `Reopen` where an earlier call on this value answered
+    /// `DiskFault`; `Full` where there are 2^40 - 1 steps; `TooMany` where there are more than 1,024
+    /// events; `TooLong` where one is longer than 1,024 bytes, with the length of the first such one,
+    /// or where together they are longer than 65,536 bytes, with that length. All memory is taken
+    /// before the first write, so after `NoMemory` the disk is as before. After `DiskFault` the disk
+    /// stands for the history before the call or with the new step, and this value has to be given
+    /// up.
+    pub fn append(&mut self, events: &EventList) -> Result<Thread, Refusal>
+        // The refusals of the table, in its order, and no others where none of it stands.
+        ensures table { MatchOption (append_refusal_of (has_failed self.old) (steps_of self.old) events.now)
+            (IfErr result IsFault) (λ refusal. result ≡ Err refusal) }
+
+        // After Ok the longer history is served, for good, and the answer is its last thread.
+        ensures done { IfOk result (λ thread. (h : History) → Serves H.dig D.content D.may_leave self.old h
+            → Serves H.dig D.content D.may_leave self.new (plus h (event_step events.now))
+            × (thread ≡ last_thread H.dig (plus h (event_step events.now)))) }
+        ensures thread { IfOk result (λ thread. thread ≡ thread_of self.new) }
+
+        // Each image that a crash since the start may leave stands for the history before or for the longer one.
+        ensures any_moment { (h : History) → Serves H.dig D.content D.may_leave self.old h
+            → LeavesOnly D.moment D.may_leave D.left_since (disk_of self.old) (disk_of self.new)
+            (StandsForOneOf H.dig (name_of self.old) h events.now) }
+
+        // After a refusal but DiskFault the history is served as before, and nothing was written.
+        ensures refused { IfErr result (λ refusal. (refusal ≡ Refusal.DiskFault)
+            ⊎ ((h : History) → Serves H.dig D.content D.may_leave self.old h → Serves H.dig D.content D.may_leave self.new h
+            × LeavesOnly D.moment D.may_leave D.left_since (disk_of self.old) (disk_of self.new) (λ i. StandsFor H.dig i (name_of self.old) h))) }
+        ensures unwritten { IfErr result (λ refusal. (refusal ≡ Refusal.DiskFault)
+            ⊎ HasSameDisk D.content D.may_leave D.moment D.left_since self.old self.new) }
+
+        // What the value tells of itself after a refusal is as before, but that a disk fault is remembered.
+        ensures kept { OnErr result (thread_of self.new ≡ thread_of self.old) }
+        ensures broken { IsTrue (has_failed self.new) ↔ (IsTrue (has_failed self.old) ⊎ (result ≡ Err Refusal.DiskFault)) }
+        ensures fault { result ≡ Err Refusal.DiskFault → Rose (D.faults (disk_of self.old)) (D.faults (disk_of self.new)) }
+        ensures good { IfErr result (λ refusal. IsBadPage refusal → (h : History) → Serves H.dig D.content D.may_leave self.old h → ⊥) }
+
+        // The call is a step of the machine.
+        ensures machine { has_failed self.old ≡ false → (h : History) → Serves H.dig D.content D.may_leave self.old h
+            → Answers H.dig h (Append events.now) (λ thread. OfThread thread) result (Serves H.dig D.content D.may_leave self.new) }
+    {
+        if let Some(refusal) = append_refusal(self.is_broken, self.head.step, events) {
+            return Err(refusal);
+        }
+        match add_step::<D, H>(self.alloc, &mut self.store, &self.name, &self.head, events) {
+            Ok(head) => {
+                self.head = head;
+                Ok(self.head())
+            }
+            Err(refusal) => {
+                self.is_broken = is_disk_fault(&refusal);
+                Err(refusal)
+            }
+        }
+    }
+
+    /// The existence proof of the event at that index (from 0) of a step, under that top.
+    ///
+    /// Refusals, the first that stands: `Reopen` where an earlier call on this value answered
+    /// `DiskFault`; `NoStep` where 1 <= step <= top <= the last step doesn't hold, with the last step;
+    /// `NoEvent` where the index isn't below the step's count of events, with the count. It writes
+    /// nothing.
+    pub fn prove_event(&mut self, step: u64, index: u32, top: u64) -> Result<Bytes, Refusal>
+        // The refusals of the table that need no page, in its order.
+        ensures table { MatchOption (order_refusal_of (has_failed self.old) (steps_of self.old) step top)
+            (IfErr result (λ refusal. IsFault refusal ⊎ IsNoEvent refusal)) (λ refusal. result ≡ Err refusal) }
+
+        // The history's own proof, which is accepted under the history's own authenticator of the top.
+        ensures made { IfOk result (λ bytes. (h : History) → Serves H.dig D.content D.may_leave self.old h
+            → MakesExistence H.dig h step index top bytes) }
+        ensures accepted { IfOk result (λ bytes. (h : History) → Serves H.dig D.content D.may_leave self.old h
+            → (anchors : List ThreadOf) (anchor : ThreadOf) → anchor_of anchors h.name top ≡ Some anchor → anchor.auth ≡ auth H.dig h top
+            → Accepts H.dig anchors bytes) }
+
+        // The call is a step of the machine, which changes nothing.
+        ensures machine { has_failed self.old ≡ false → (h : History) → Serves H.dig D.content D.may_leave self.old h
+            → Answers H.dig h (ProveEvent step index top) (λ bytes. OfProof bytes) result (Serves H.dig D.content D.may_leave self.new) }
+        ensures same { (h : History) → Serves H.dig D.content D.may_leave self.old h → Serves H.dig D.content D.may_leave self.new h
+            × LeavesOnly D.moment D.may_leave D.left_since (disk_of self.old) (disk_of self.new) (λ i. StandsFor H.dig i (name_of self.old) h) }
+        ensures unwritten { HasSameDisk D.content D.may_leave D.moment D.left_since self.old self.new }
+        ensures kept { thread_of self.new ≡ thread_of self.old }
+        ensures broken { IsTrue (has_failed self.new) ↔ (IsTrue (has_failed self.old) ⊎ (result ≡ Err Refusal.DiskFault)) }
+        ensures fault { result ≡ Err Refusal.DiskFault → Rose (D.faults (disk_of self.old)) (D.faults (disk_of self.new)) }
+        ensures good { IfErr result (λ refusal. IsBadPage refusal → (h : History) → Serves H.dig D.content D.may_leave self.old h → ⊥) }
+    {
+        if let Some(refusal) = order_refusal(self.is_broken, self.head.step, step, top) {
+            return Err(refusal);
+        }
+        match make_proof::<Store<D>, H>(
+            self.alloc,
+            &mut self.store,
+            &self.name,
+            &self.head,
+            step,
+            index,
+            top,
+        ) {
+            Ok(bytes) => Ok(bytes),
+            Err(refusal) => {
+                self.is_broken = is_disk_fault(&refusal);
+                Err(refusal)
+            }
+        }
+    }
+}
