@@ -121,6 +121,7 @@ impl<D: Disk, H: Hasher> Service<D, H> {
         ensures unchanged { IfErr result (λ e. (c : Image) → D.content disk ≡ Some c → D.content e.0 ≡ Some c) }
         ensures answers { IfErr result (λ e. (e.1 ≢ StoreFault.Taken) × (e.1 ≢ StoreFault.NoMemory)) }
         ensures fault { IfErr result (λ e. e.1 ≡ StoreFault.DiskFault → Rose (D.faults disk) (D.faults e.0)) }
+        ensures later { IfOk result (λ s. D.faults disk ≤ D.faults (disk_of s)) }
 
         // It writes nothing.
         ensures any_moment { IfOk result (λ s. LeavesOnly D.moment D.may_leave D.left_since disk (disk_of s) (D.may_leave disk)) }
