@@ -1,5 +1,5 @@
 -- What BadPage says, from one answer to another.
-use Rattle.std.proofs.Common.{◌≡◌, ℕ, Ok, Err, Result}
+use Rattle.std.proofs.Common.{ℕ, Err}
 use Rattle.tw_skiplist.specs.declared.fault.ListFault.{ListFault}
 use Rattle.tw_skiplist.specs.declared.fault.ListFault.TheVariants.{NoStep, BadPage, DiskFault, NoMemory}
 use Rattle.tw_skiplist.specs.Answers.{IfBadPage, NeverNoStep, NoStepUnless}

@@ -1,5 +1,5 @@
 -- What walks from a history's head find.
-use Rattle.std.proofs.Common.{◌≡◌, ℕ, suc, zero, ◌+◌, ◌-◌, ◌<◌, ◌≤◌, List, length, ap, sym, ◌∙◌, arith, subst}
+use Rattle.std.proofs.Common.{◌≡◌, ℕ, ◌<◌, ◌≤◌, List, length, ap, sym, ◌∙◌, arith, subst}
 use Rattle.tw_disk.specs.Image.{Image}
 use Rattle.tw_base.specs.Texts.{empty_tree_text}
 use Rattle.tw_base.specs.History.{History}

@@ -1,5 +1,5 @@
 -- The links of one more step, level by level.
-use Rattle.std.proofs.Common.{◌≡◌, ℕ, suc, zero, ◌+◌, ◌-◌, ◌*◌, ◌^◌, ◌%◌, ◌<◌, ◌≤◌, List, [], ◌∷◌, ◌++◌, length, get_or, refl, ap, sym, ◌∙◌, arith, subst, lit<, Option, Some, append_assoc}
+use Rattle.std.proofs.Common.{◌≡◌, ℕ, suc, zero, ◌+◌, ◌-◌, ◌*◌, ◌^◌, ◌<◌, ◌≤◌, List, [], ◌∷◌, ◌++◌, length, get_or, ap, sym, ◌∙◌, arith, subst, Option, Some, append_assoc}
 use Rattle.std.specs.Prelude.{map}
 use Rattle.std.proofs.lemmas.List.{map_push, length_push}
 use Rattle.std.proofs.lemmas.Nat.{pow_pos}
@@ -7,9 +7,9 @@ use Rattle.std.proofs.Math.Nat.{pow-suc}
 use Rattle.tw_disk.specs.Image.{Image}
 use Rattle.tw_base.specs.Texts.{authenticator_text, datum_text, empty_tree_text, link_text}
 use Rattle.tw_base.specs.EventTree.{event_root}
-use Rattle.tw_base.specs.History.{History, Step, events_at, events_of, plus, root_of, step_at}
-use Rattle.tw_base.specs.Tree.{Tree, forest, tree}
-use Rattle.tw_base.specs.Tree.Tree.{Empty, Branch}
+use Rattle.tw_base.specs.History.{History, Step, events_at, events_of, plus, root_of}
+use Rattle.tw_base.specs.Tree.{forest, tree}
+use Rattle.tw_base.specs.Tree.Tree.{Empty}
 use Rattle.tw_base.specs.Levels.{top_level}
 use Rattle.tw_base.specs.Auth.{auth, auths, datum_text_at, link_texts, tree_label}
 use Rattle.tw_base.proofs.Auths.{auth-suc, auths-at}
@@ -23,9 +23,9 @@ use Rattle.tw_skiplist.specs.Infos.{Added}
 use Rattle.tw_skiplist.specs.Keeping.{IsWithinLimits, Keeps, KeepsSteps, Place, event_step, fields_at, link_to, links_at, links_to, place_of}
 use Rattle.tw_skiplist.specs.Links.{HasLinks, IsPieceCount, IsPut, LeadsNowhere}
 use Rattle.tw_skiplist.specs.Reading.{HasLink, IsNoStepAt, IsStepAt}
-use Rattle.tw_skiplist.proofs.Kept.{kept_page, link_leads, power-le, small_page}
+use Rattle.tw_skiplist.proofs.Kept.{kept_page, link_leads, power-le}
 use Rattle.tw_skiplist.proofs.Growing.{below_head}
-use Rattle.tw_skiplist.proofs.Plus.{KeepsSteps-plus, new_events, place_of-new}
+use Rattle.tw_skiplist.proofs.Plus.{KeepsSteps-plus, place_of-new}
 
 -- the step that a lower link of a step leads to has a link of that level itself
 module _ (step level : ℕ) (some : 0 < step) (small : step < 2 ^ 40) (lower : level < top_level step) where

@@ -1,26 +1,25 @@
 -- What the pages of a history's steps are, and where their links lead.
-use Rattle.std.proofs.Common.{◌≡◌, ℕ, suc, zero, ◌+◌, ◌-◌, ◌*◌, ◌^◌, ◌%◌, ◌<◌, ◌≤◌, List, [], ◌∷◌, ◌++◌, length, get_or, refl, ap, sym, ◌∙◌, arith, inl, inr, subst, length-append, lit<}
+use Rattle.std.proofs.Common.{◌≡◌, ℕ, suc, zero, ◌+◌, ◌-◌, ◌*◌, ◌^◌, ◌%◌, ◌<◌, ◌≤◌, List, [], ◌∷◌, length, get_or, refl, ap, sym, ◌∙◌, arith, inl, inr, subst, length-append, lit<}
 use Rattle.std.specs.Prelude.{sum_by}
-use Rattle.std.proofs.lemmas.Bool.{cases_lt, cases_eq}
+use Rattle.std.proofs.lemmas.Bool.{cases_lt}
 use Rattle.std.proofs.lemmas.List.{length_push, get_or_push, get_or_append_left}
 use Rattle.std.proofs.lemmas.List.Sums.{sum_by-cons}
 use Rattle.std.proofs.lemmas.Nat.{pow_pos}
 use Rattle.std.proofs.Math.Nat.{pow-le-pow_right, mod-eq_of_lt}
-use Rattle.tw_disk.specs.Image.{Image, page_at}
+use Rattle.tw_disk.specs.Image.{Image}
 use Rattle.tw_base.specs.Texts.{empty_tree_text}
 use Rattle.tw_base.specs.History.{History, events_at}
 use Rattle.tw_base.specs.Levels.{top_level}
-use Rattle.tw_base.specs.Auth.{auth}
 use Rattle.tw_base.proofs.Levels.{top_level-divides}
 use Rattle.tw_base.proofs.EventTrees.{length-event_root}
 use Rattle.tw_base.proofs.Sizes.{auth-size}
-use Rattle.tw_skipproof.specs.Paths.{hop, hop_level}
-use Rattle.tw_skipproof.proofs.Hops.{hop_level-le, hop_level-short, hop-below}
+use Rattle.tw_skipproof.specs.Paths.{hop_level}
+use Rattle.tw_skipproof.proofs.Hops.{hop_level-le, hop-below}
 use Rattle.tw_skiplist.specs.declared.head.StepRef.{StepRef}
 use Rattle.tw_skiplist.specs.declared.fields.StepFields.{StepFields}
 use Rattle.tw_skiplist.specs.Bytes.{stream}
-use Rattle.tw_skiplist.specs.Keeping.{Place, KeepsStep, KeepsSteps, fields_at, link_to, links_at, links_to, no_place, place_of}
-use Rattle.tw_skiplist.specs.Reading.{AllSized, HasLink, IsStepAt, IsStepPage, LiesBelow, MeetsBadPage, Walks, link_of, no_ref}
+use Rattle.tw_skiplist.specs.Keeping.{Place, KeepsStep, KeepsSteps, fields_at, link_to, links_at, links_to, place_of}
+use Rattle.tw_skiplist.specs.Reading.{AllSized, HasLink, IsStepAt, LiesBelow, MeetsBadPage, Walks, link_of, no_ref}
 use Rattle.tw_skiplist.specs.Reading.Walks.{here, on}
 use Rattle.tw_skiplist.proofs.Decode.{AllSized-push, fields_read, links_read_all}
 

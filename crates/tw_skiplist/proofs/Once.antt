@@ -4,17 +4,15 @@ use Rattle.std.specs.Prelude.{min}
 use Rattle.std.proofs.lemmas.Bool.{cases_lt}
 use Rattle.std.proofs.lemmas.List.{ext_get_or, take_all}
 use Rattle.std.proofs.lemmas.Option.{get_or_from_slice_get}
-use Rattle.tw_disk.specs.Image.{Image, page_at}
-use Rattle.tw_base.specs.History.{History, Step, events_at, step_at}
+use Rattle.tw_disk.specs.Image.{Image}
+use Rattle.tw_base.specs.History.{History, events_at, step_at}
 use Rattle.tw_base.specs.Texts.{empty_tree_text}
 use Rattle.tw_base.specs.Levels.{top_level}
-use Rattle.tw_base.specs.Auth.{auth}
 use Rattle.tw_skiplist.specs.declared.head.Head.{Head}
 use Rattle.tw_skiplist.specs.declared.head.StepRef.{StepRef}
 use Rattle.tw_skiplist.specs.declared.fields.StepFields.{StepFields}
-use Rattle.tw_skiplist.specs.Bytes.{event_bytes, piece, stream}
-use Rattle.tw_skiplist.specs.Keeping.{Keeps, KeepsSteps, KeepsStream, Place, event_step, fields_at, link_to, links_at, place_of}
-use Rattle.tw_skiplist.specs.Events.{SpellsEvents}
+use Rattle.tw_skiplist.specs.Bytes.{piece, stream}
+use Rattle.tw_skiplist.specs.Keeping.{Keeps, KeepsSteps, KeepsStream, Place, event_step, fields_at, links_at, place_of}
 use Rattle.tw_skiplist.specs.Reading.{IsStepAt, link_of, no_ref}
 use Rattle.tw_skiplist.proofs.Kept.{fields_are, get_or-links_to, kept_page, links_are}
 use Rattle.tw_skiplist.proofs.Spelling.{piece_read, spells_one, take_on}

@@ -1,19 +1,18 @@
 -- Pages that keep a history keep the one with one more step of events, with that step's pages behind them.
-use Rattle.std.proofs.Common.{◌≡◌, ℕ, suc, zero, ◌+◌, ◌-◌, ◌*◌, ◌^◌, ◌<◌, ◌≤◌, List, [], ◌∷◌, ◌++◌, length, get_or, refl, ap, sym, ◌∙◌, arith, inl, inr, subst, length-append, append_assoc, Some, Option}
+use Rattle.std.proofs.Common.{◌≡◌, ℕ, suc, zero, ◌+◌, ◌-◌, ◌*◌, ◌^◌, ◌<◌, ◌≤◌, List, [], ◌∷◌, ◌++◌, length, refl, ap, sym, ◌∙◌, arith, inl, inr, subst, length-append, Some}
 use Rattle.std.proofs.lemmas.Bool.{cases_lt}
 use Rattle.std.proofs.lemmas.List.{length_push, get_or_push, get_or_append_left, get_or-append_right}
 use Rattle.std.proofs.lemmas.Nat.{pow_pos}
 use Rattle.tw_disk.specs.Image.{Image, page_at}
 use Rattle.tw_base.specs.Texts.{empty_tree_text}
 use Rattle.tw_base.specs.EventTree.{event_root}
-use Rattle.tw_base.specs.History.{History, Step, events_at, events_of, plus, step_at}
+use Rattle.tw_base.specs.History.{History, Step, events_at, events_of, plus}
 use Rattle.tw_base.specs.Levels.{top_level}
-use Rattle.tw_base.specs.Auth.{auth}
 use Rattle.tw_base.proofs.Plus.{auth-plus, step_at-new, step_at-plus}
 use Rattle.tw_skiplist.specs.declared.head.StepRef.{StepRef}
 use Rattle.tw_skiplist.specs.declared.fields.StepFields.{StepFields}
 use Rattle.tw_skiplist.specs.Bytes.{event_bytes, event_pages, piece, step_bytes, stream}
-use Rattle.tw_skiplist.specs.Keeping.{IsWithinLimits, Keeps, KeepsStep, KeepsSteps, KeepsStream, Place, event_step, fields_at, link_to, links_at, links_to, no_place, place_of}
+use Rattle.tw_skiplist.specs.Keeping.{IsWithinLimits, KeepsStep, KeepsSteps, KeepsStream, Place, event_step, fields_at, link_to, links_at, links_to, no_place, place_of}
 use Rattle.tw_skiplist.specs.Links.{IsPieceCount}
 use Rattle.tw_skiplist.proofs.Growing.{KeepsStep-grows, has_bytes}
 use Rattle.tw_skiplist.proofs.Streams.{length-event_pages, page_at-event_pages}

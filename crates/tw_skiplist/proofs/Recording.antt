@@ -1,32 +1,29 @@
 -- The records of paths and openings that pages make, and those of the history that the pages keep.
-use Rattle.std.proofs.Common.{◌≡◌, ℕ, suc, zero, ◌+◌, ◌-◌, ◌*◌, ◌^◌, ◌<◌, ◌≤◌, List, [], ◌∷◌, ◌++◌, length, get_or, drop, refl, ap, sym, ◌∙◌, arith, inl, inr, subst, Option, Some}
-use Rattle.std.specs.Prelude.{map, remove, ◌==◌, nat_eq, if◌then◌else◌}
-use Rattle.std.proofs.lemmas.Bool.{cases_lt, eq-eqb, ne_eqb}
+use Rattle.std.proofs.Common.{◌≡◌, ℕ, suc, zero, ◌+◌, ◌-◌, ◌^◌, ◌<◌, ◌≤◌, List, [], ◌∷◌, ◌++◌, length, get_or, drop, refl, ap, sym, ◌∙◌, arith, inl, inr, subst, Option}
+use Rattle.std.specs.Prelude.{map, remove, ◌==◌, if◌then◌else◌}
+use Rattle.std.proofs.lemmas.Bool.{cases_lt}
 use Rattle.std.proofs.lemmas.Bool.Decides.{eqb_tells}
 use Rattle.std.proofs.lemmas.List.{length_push, map_push}
-use Rattle.std.proofs.lemmas.List.Edits.{remove-append_left, remove-append_right}
+use Rattle.std.proofs.lemmas.List.Edits.{remove-append_left}
 use Rattle.std.proofs.lemmas.Nat.{pow_pos}
 use Rattle.tw_disk.specs.Image.{Image}
 use Rattle.tw_base.specs.Texts.{datum_text, empty_tree_text, link_text}
 use Rattle.tw_base.specs.EventTree.{event_root}
-use Rattle.tw_base.specs.History.{History, Step, events_at, root_of, step_at}
-use Rattle.tw_base.specs.Tree.{Tree, forest, tree}
-use Rattle.tw_base.specs.Tree.Tree.{Empty, Branch}
+use Rattle.tw_base.specs.History.{History, Step, events_at, root_of}
+use Rattle.tw_base.specs.Tree.{forest, tree}
+use Rattle.tw_base.specs.Tree.Tree.{Empty}
 use Rattle.tw_base.specs.Levels.{top_level}
-use Rattle.tw_base.specs.Auth.{auth, auths, datum_text_at, link_texts, tree_label}
+use Rattle.tw_base.specs.Auth.{auths, datum_text_at, link_texts, tree_label}
 use Rattle.tw_base.proofs.Auths.{auths-at}
 use Rattle.tw_base.proofs.Plus.{forest-first}
-use Rattle.tw_skipproof.specs.Making.{IsOpeningOf, labels_at}
+use Rattle.tw_skipproof.specs.Making.{labels_at}
 use Rattle.tw_skipproof.specs.declared.path.Link.{Link}
 use Rattle.tw_skiplist.specs.declared.head.StepRef.{StepRef}
-use Rattle.tw_skiplist.specs.declared.fields.StepFields.{StepFields}
 use Rattle.tw_skiplist.specs.declared.info.StepInfo.{StepInfo}
 use Rattle.tw_skiplist.specs.Infos.{IsInfoOf}
-use Rattle.tw_skiplist.specs.Keeping.{KeepsStream, KeepsSteps, Place, event_step, fields_at, link_to, links_at, links_to, place_of}
+use Rattle.tw_skiplist.specs.Keeping.{KeepsSteps, Place, fields_at, links_at, place_of}
 use Rattle.tw_skiplist.specs.Reading.{HasLink, IsStepAt, link_of, no_ref}
-use Rattle.tw_skiplist.specs.Records.{HasHop, TellsInfo, info_record, link_record, opening_record, other_labels, page_datum, page_labels}
-use Rattle.tw_skiplist.specs.Bytes.{stream}
-use Rattle.tw_skiplist.proofs.Growing.{KeepsStream-grows}
+use Rattle.tw_skiplist.specs.Records.{HasHop, TellsInfo, info_record, link_record, page_datum, page_labels}
 use Rattle.tw_skiplist.proofs.Kept.{fields_are, get_or-links_to, length-links_to, links_are}
 
 -- ---- a list without one of its elements

@@ -1,20 +1,19 @@
 -- A history that pages keep is sound.
-use Rattle.std.proofs.Common.{◌≡◌, ℕ, suc, zero, ◌+◌, ◌-◌, ◌<◌, ◌≤◌, List, [], ◌∷◌, ◌++◌, length, get_or, refl, ap, sym, ◌∙◌, arith, inl, inr, subst, Option, Some, None, length-append}
+use Rattle.std.proofs.Common.{◌≡◌, ℕ, suc, zero, ◌<◌, ◌≤◌, List, [], ◌++◌, length, get_or, refl, ap, sym, ◌∙◌, arith, subst, Option, Some, None, length-append}
 use Rattle.std.specs.Prelude.{option_and_then}
 use Rattle.std.specs.Option.{option_to_list}
 use Rattle.std.proofs.lemmas.Option.{slice_get_within}
-use Rattle.std.proofs.lemmas.Bool.{cases_lt}
 use Rattle.tw_disk.specs.Image.{Image}
 use Rattle.tw_base.specs.declared.thread.Entry.{Entry}
 use Rattle.tw_base.specs.Lists.{Each}
 use Rattle.tw_base.specs.Names.{IsName}
 use Rattle.tw_base.specs.History.{History, Step, Node, entry_at, entry_to, events_at, fresh_of, received, root_of, step_at, thread_of}
-use Rattle.tw_base.specs.Tree.{IsRising, Tree, entries, forest, new_trees, planted, tree}
-use Rattle.tw_base.specs.Tree.Tree.{Empty, Branch}
+use Rattle.tw_base.specs.Tree.{IsRising, Tree, entries, forest, planted, tree}
+use Rattle.tw_base.specs.Tree.Tree.{Empty}
 use Rattle.tw_base.specs.Sound.{IsSound, IsSoundStep}
 use Rattle.tw_base.proofs.Plus.{forest-first}
 use Rattle.tw_skiplist.specs.declared.head.Head.{Head}
-use Rattle.tw_skiplist.specs.Keeping.{IsWithinLimits, Keeps, KeepsSteps, Place, event_step}
+use Rattle.tw_skiplist.specs.Keeping.{Keeps, KeepsSteps, Place, event_step}
 
 some_tree : (h : History) (i : ℕ) → 0 < length (forest h i)
 unfolding forest

@@ -1,17 +1,12 @@
 -- The events that a stream spells.
-use Rattle.std.proofs.Common.{◌≡◌, ℕ, suc, zero, ◌+◌, ◌-◌, ◌*◌, ◌^◌, ◌<◌, ◌≤◌, List, [], ◌∷◌, ◌++◌, length, take, drop, refl, ap, sym, ◌∙◌, arith, inl, inr, subst, append_assoc, length-append, length-take, length-drop}
-use Rattle.std.specs.Prelude.{min, sum_by}
+use Rattle.std.proofs.Common.{◌≡◌, ℕ, suc, zero, ◌+◌, ◌<◌, ◌≤◌, List, [], ◌∷◌, ◌++◌, length, take, drop, refl, ap, sym, ◌∙◌, arith, subst, append_assoc, length-append, length-take, length-drop}
 use Rattle.std.specs.Int.{to_be_bytes, from_be_bytes, w32}
-use Rattle.std.proofs.lemmas.Bool.{cases_lt}
-use Rattle.std.proofs.lemmas.List.{take_at, drop_at, drop-drop, append-nil, take_all, length_push}
-use Rattle.std.proofs.lemmas.List.Sums.{sum_by-cons}
+use Rattle.std.proofs.lemmas.List.{take_at, drop-drop, append-nil}
 use Rattle.std.proofs.lemmas.Nat.{from_be_bytes-to_be_bytes_4}
 use Rattle.tw_base.specs.Lists.{Each}
 use Rattle.tw_base.proofs.TextFields.{halves}
-use Rattle.tw_skiplist.specs.Bytes.{event_bytes, padded, piece, stream}
-use Rattle.tw_skiplist.specs.Keeping.{IsWithinLimits}
+use Rattle.tw_skiplist.specs.Bytes.{event_bytes, stream}
 use Rattle.tw_skiplist.specs.Events.{HasEventAt, IsNoEventAt, SpellsEvents}
-use Rattle.tw_skiplist.proofs.Kept.{length-stream}
 use Rattle.tw_skiplist.proofs.Streams.{stream-append}
 
 abbrev pub AllShort : List (List ℕ) → Type 0

@@ -1,7 +1,4 @@
-use Rattle.std.proofs.Common.{◌≡◌, ◌+◌, ◌++◌, ℕ, List, length, suc, Some, Option, ap, sym, ◌∙◌, subst}
-use Rattle.tw_disk.specs.Image.{Image}
-use Rattle.tw_base.specs.Texts.{datum_text, authenticator_text}
-use Rattle.tw_skiplist.specs.Links.{IsPut}
+use Rattle.std.proofs.Common.{◌∙◌}
 use Rattle.tw_skiplist.proofs.Gathering.{added}
 use Rattle.tw_skiplist.proofs.adding.append.Goals as goal
 

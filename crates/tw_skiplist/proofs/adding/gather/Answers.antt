@@ -1,16 +1,12 @@
-use Rattle.std.proofs.Common.{◌≡◌, ◌<◌, ◌≤◌, ◌^◌, ◌+◌, ◌-◌, ◌++◌, ◌∷◌, [], ℕ, suc, List, length, refl, ap, sym, ◌∙◌, subst, arith, Some}
+use Rattle.std.proofs.Common.{◌≡◌, ◌<◌, ◌≤◌, ◌^◌, ◌+◌, ◌-◌, ℕ, suc, List, length, ap, sym, ◌∙◌, subst, arith, Some}
 use Rattle.tw_disk.specs.Image.{Image}
 use Rattle.tw_disk.specs.Pages.{only_reads_itself, only_reads_on}
 use Rattle.tw_base.specs.Levels.{top_level as top_level_of}
-use Rattle.tw_base.specs.Texts.{empty_tree_text}
 use Rattle.tw_base.specs.History.{History}
-use Rattle.tw_skiplist.specs.declared.fault.ListFault.{ListFault}
-use Rattle.tw_skiplist.specs.declared.fault.ListFault.TheVariants.{NoStep, BadPage, DiskFault, NoMemory}
 use Rattle.tw_skiplist.specs.Keeping.{KeepsSteps, Place, link_to}
 use Rattle.tw_skiplist.specs.Links.{HasLinks, LeadsNowhere}
 use Rattle.tw_skiplist.specs.Reading.Gathers.{next, start}
 use Rattle.tw_skiplist.specs.Reading.{Gathers, GathersBadPage, HasLink, IsNoStepAt}
-use Rattle.tw_skiplist.specs.Answers.{IfBadPage}
 use Rattle.tw_skiplist.proofs.BadPages.{bad_page_on}
 use Rattle.tw_skiplist.proofs.Kept.{power-le}
 use Rattle.tw_skiplist.proofs.Gathering.{HasLinks-more, HasLinks-none, bad_link, level_fits, next_link}

@@ -1,20 +1,14 @@
-use Rattle.std.proofs.Common.{◌≡◌, ◌<◌, ◌≤◌, ◌-◌, ◌^◌, ◌++◌, ◌∷◌, [], ℕ, List, ap, sym, ◌∙◌, subst, arith, length, Some}
-use Rattle.std.specs.Prelude.{remove}
+use Rattle.std.proofs.Common.{◌≡◌, ◌<◌, ◌-◌, ◌^◌, ◌++◌, ◌∷◌, [], ℕ, List, ap, sym, ◌∙◌, subst, arith, Some}
 use Rattle.tw_disk.specs.Image.{Image}
 use Rattle.tw_disk.specs.Pages.{only_reads_itself, only_reads_on}
-use Rattle.tw_base.specs.Auth.{datum_text_at}
-use Rattle.tw_base.specs.History.{History}
-use Rattle.tw_base.specs.Levels.{top_level}
-use Rattle.tw_base.specs.Texts.{empty_tree_text}
 use Rattle.tw_base.proofs.Levels.{top_level-below}
-use Rattle.tw_skipproof.specs.Making.{IsPathOf, labels_at}
+use Rattle.tw_skipproof.specs.Making.{IsPathOf}
 use Rattle.tw_skipproof.specs.Paths.{hop, hop_level}
 use Rattle.tw_skipproof.specs.declared.path.Link.{Link}
 use Rattle.tw_skipproof.proofs.Hops.{hop_level-le, hop_level-short}
-use Rattle.tw_skipproof.proofs.Making.{LeadsTo, leads-end, leads-further, leads-start}
+use Rattle.tw_skipproof.proofs.Making.{LeadsTo, leads-end, leads-further}
 use Rattle.tw_skiplist.specs.declared.head.StepRef.{StepRef}
-use Rattle.tw_skiplist.specs.Keeping.{KeepsSteps, Place, link_to, place_of}
-use Rattle.tw_skiplist.specs.Reading.{HasLink, Walks}
+use Rattle.tw_skiplist.specs.Reading.{Walks}
 use Rattle.tw_skiplist.specs.Reading.Walks.{here, on}
 use Rattle.tw_skiplist.specs.Records.{HasHop}
 use Rattle.tw_skiplist.proofs.Kept.{walk_leads}

@@ -1,4 +1,4 @@
-use Rattle.std.proofs.Common.{◌≡◌, ◌≤◌, ℕ, List, Some, length}
+use Rattle.std.proofs.Common.{◌≡◌, ◌≤◌, List, Some, length}
 use Rattle.tw_disk.specs.Image.{Image}
 use Rattle.tw_disk.specs.Pages.{OnlyReads}
 use Rattle.tw_base.specs.History.{History}

@@ -1,7 +1,6 @@
-use Rattle.std.proofs.Common.{◌≡◌, ◌∙◌, ℕ, Some, sym, subst}
+use Rattle.std.proofs.Common.{◌≡◌, ◌∙◌, Some}
 use Rattle.tw_disk.specs.Image.{Image}
-use Rattle.tw_skiplist.specs.declared.head.StepRef.{StepRef}
-use Rattle.tw_skiplist.specs.Reading.{IsNoStepAt, MeetsBadPage, Walks}
+use Rattle.tw_skiplist.specs.Reading.{IsNoStepAt, MeetsBadPage}
 use Rattle.tw_skiplist.proofs.BadPages.{bad_page_on}
 use Rattle.tw_skiplist.proofs.collecting.collect_proof.Goals as goal
 

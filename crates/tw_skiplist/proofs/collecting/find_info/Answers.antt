@@ -1,4 +1,4 @@
-use Rattle.std.proofs.Common.{◌≡◌, ◌∙◌, ℕ, Some}
+use Rattle.std.proofs.Common.{◌≡◌, ◌∙◌, Some}
 use Rattle.tw_disk.specs.Image.{Image}
 use Rattle.tw_skiplist.specs.Reading.{IsNoStepAt, MeetsBadPage}
 use Rattle.tw_skiplist.proofs.BadPages.{bad_page_on}

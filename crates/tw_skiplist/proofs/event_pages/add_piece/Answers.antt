@@ -1,5 +1,4 @@
-use Rattle.std.proofs.Common.{false, IsTrue, ◌≡◌, ◌+◌, ◌-◌, ◌*◌, ℕ, List, ap, sym, ◌∙◌, refl, arith, take, drop, length}
-use Rattle.std.specs.Prelude.{min}
+use Rattle.std.proofs.Common.{false, IsTrue, ℕ, List, ap, sym, ◌∙◌, refl}
 use Rattle.tw_skiplist.specs.Bytes.{event_bytes}
 use Rattle.tw_skiplist.proofs.Spelling.{piece_read}
 use Rattle.tw_skiplist.proofs.event_pages.add_piece.Goals as goal

@@ -1,6 +1,5 @@
-use Rattle.std.proofs.Common.{◌≡◌, ◌+◌, ◌-◌, ◌*◌, ◌<◌, ◌≤◌, ◌++◌, ◌∷◌, [], ℕ, List, ap, sym, ◌∙◌, arith, subst, length, take, drop, length-take, length-append}
+use Rattle.std.proofs.Common.{◌≡◌, ℕ, List, ap, sym, ◌∙◌, arith, subst, length, length-take}
 use Rattle.std.proofs.lemmas.List.{length_push, take_all}
-use Rattle.tw_base.specs.Lists.{Each}
 use Rattle.tw_skiplist.specs.Bytes.{stream}
 use Rattle.tw_skiplist.proofs.Kept.{length-stream}
 use Rattle.tw_skiplist.proofs.Spelling.{AllShort, all_taken, more_sizes, more_taken, no_event}

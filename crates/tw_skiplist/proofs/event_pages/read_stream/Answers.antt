@@ -1,5 +1,4 @@
-use Rattle.std.proofs.Common.{◌≡◌, ◌<◌, ◌≤◌, ◌+◌, ◌*◌, ◌-◌, ◌++◌, ℕ, suc, zero, List, ap, sym, ◌∙◌, subst, arith, refl}
-use Rattle.tw_disk.specs.Image.{Image}
+use Rattle.std.proofs.Common.{◌≡◌, ◌+◌, ◌++◌, ℕ, suc, List, ap, sym, ◌∙◌, subst, arith, refl}
 use Rattle.tw_disk.specs.Pages.{only_reads_itself, only_reads_on}
 use Rattle.tw_skiplist.specs.Events.{HasPieces, IsEventPageAt, last_page}
 use Rattle.tw_skiplist.specs.Events.HasPieces.{none, more}

@@ -1,4 +1,4 @@
-use Rattle.std.proofs.Common.{◌≡◌, ◌++◌, ◌∷◌, [], List, ℕ, ap, ◌∙◌, refl}
+use Rattle.std.proofs.Common.{◌++◌, ◌∷◌, [], List, ℕ, ap, ◌∙◌, refl}
 use Rattle.std.specs.Int.{to_be_bytes, w16, w64}
 use Rattle.tw_skiplist.specs.Bytes.{padded, event_bytes}
 use Rattle.tw_skiplist.proofs.page.event_page.Goals as goal

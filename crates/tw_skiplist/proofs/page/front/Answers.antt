@@ -1,5 +1,5 @@
-use Rattle.std.proofs.Common.{◌≡◌, ◌+◌, ◌++◌, ◌∷◌, [], List, ℕ, length, replicate, ap, ◌∙◌, refl, arith, length-append}
-use Rattle.tw_skiplist.specs.Bytes.{padded, step_numbers}
+use Rattle.std.proofs.Common.{◌≡◌, ◌++◌, ◌∷◌, [], List, ℕ, length, replicate, refl, arith, length-append}
+use Rattle.tw_skiplist.specs.Bytes.{step_numbers}
 use Rattle.tw_skiplist.proofs.page.front.Goals as goal
 
 pub returns-clause-bytes : goal.returns-clause-bytes

@@ -1,4 +1,4 @@
-use Rattle.std.proofs.Common.{◌≡◌, ◌++◌, ◌∷◌, [], List, ℕ, ap, ◌∙◌, refl}
+use Rattle.std.proofs.Common.{◌++◌, ◌∷◌, [], List, ℕ, ap, ◌∙◌, refl}
 use Rattle.std.specs.Int.{to_be_bytes, w64, w32}
 use Rattle.tw_skiplist.specs.Bytes.{padded}
 use Rattle.tw_skiplist.proofs.page.numbers.Goals as goal

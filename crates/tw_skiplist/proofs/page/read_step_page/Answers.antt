@@ -1,4 +1,4 @@
-use Rattle.std.proofs.Common.{false, IsTrue, ◌≡◌, ◌+◌, suc, ℕ, List, ◌∙◌, ap, arith}
+use Rattle.std.proofs.Common.{false, IsTrue, ◌≡◌, ◌+◌, suc, ℕ, ◌∙◌, ap, arith}
 use Rattle.tw_base.specs.Levels.{top_level}
 use Rattle.tw_skiplist.specs.Reading.{links_in}
 use Rattle.tw_skiplist.proofs.Decode.{found_is}

@@ -1,6 +1,6 @@
-use Rattle.std.proofs.Common.{◌≡◌, ◌+◌, ◌*◌, ◌<◌, ◌++◌, ◌∷◌, [], List, ℕ, length, take, get_or, ap, ◌∙◌, refl, sym, subst, arith, length-append}
+use Rattle.std.proofs.Common.{◌≡◌, ◌*◌, ◌<◌, ◌++◌, List, length, take, get_or, ap, ◌∙◌, refl, sym, subst, arith, length-append}
 use Rattle.std.proofs.lemmas.List.{append-nil, take_all}
-use Rattle.std.specs.Int.{to_be_bytes, w64, w32}
+use Rattle.std.specs.Int.{to_be_bytes, w64}
 use Rattle.tw_skiplist.specs.declared.head.StepRef.{StepRef}
 use Rattle.tw_skiplist.specs.Bytes.{padded, step_front, step_bytes, links_bytes}
 use Rattle.tw_skiplist.specs.Reading.{AllSized}

@@ -1,4 +1,4 @@
-use Rattle.std.proofs.Common.{◌≡◌, ◌+◌, ◌*◌, ◌++◌, ◌≤◌, take, length}
+use Rattle.std.proofs.Common.{◌≡◌, ◌+◌, ◌*◌, ◌++◌, take, length}
 use Rattle.tw_skiplist.specs.Bytes.{padded, step_front, links_bytes}
 use Rattle.tw_skiplist.specs.Reading.{AllSized}
 use Rattle.tw_skiplist.proofs.page.step_page.Given as goal

@@ -1,4 +1,4 @@
-use Rattle.std.proofs.Common.{◌≡◌, ◌-◌, ◌*◌, List, ℕ, ap, ◌∙◌, length, take, drop, arith, length-drop}
+use Rattle.std.proofs.Common.{◌≡◌, ◌-◌, ◌*◌, ap, ◌∙◌, length, take, drop, arith, length-drop}
 use Rattle.std.proofs.lemmas.List.{take_all}
 use Rattle.tw_skiplist.proofs.Streams.{taken}
 use Rattle.tw_skiplist.proofs.pieces.piece_of.Goals as goal

@@ -1,9 +1,9 @@
-use Rattle.std.proofs.Common.{◌≡◌, ◌+◌, ◌*◌, ◌<◌, ◌≤◌, ◌++◌, List, ℕ, ap, ◌∙◌, sym, length, get_or, take, arith}
+use Rattle.std.proofs.Common.{◌≡◌, ◌++◌, List, ℕ, ap, ◌∙◌, sym, length, take, arith}
 use Rattle.std.proofs.lemmas.List.{take_all}
 use Rattle.std.specs.Int.{to_be_bytes, w32}
 use Rattle.tw_skiplist.specs.Bytes.{stream}
 use Rattle.tw_skiplist.proofs.Kept.{length-stream}
-use Rattle.tw_skiplist.proofs.Streams.{Each-at, stream-more}
+use Rattle.tw_skiplist.proofs.Streams.{stream-more}
 use Rattle.tw_skiplist.proofs.pieces.stream_of.Goals as goal
 
 pub loop-event-preserved : goal.loop-event-preserved

@@ -1,4 +1,4 @@
-use Rattle.std.proofs.Common.{◌≡◌, ◌∙◌, ◌⊎◌, ℕ, List, Some, inl, inr}
+use Rattle.std.proofs.Common.{◌≡◌, ◌∙◌, ◌⊎◌, ℕ, List, Some, inr}
 use Rattle.tw_disk.specs.Image.{Image}
 use Rattle.tw_base.specs.History.{History}
 use Rattle.tw_skiplist.specs.declared.info.StepInfo.{StepInfo}

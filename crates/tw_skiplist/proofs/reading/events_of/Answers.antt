@@ -1,8 +1,8 @@
-use Rattle.std.proofs.Common.{◌≡◌, ◌<◌, ◌∙◌, ◌⊎◌, ℕ, List, Option, Some, None, ap, arith, inl, inr, refl, sym, subst}
+use Rattle.std.proofs.Common.{◌≡◌, ℕ, List, Option, Some, None, arith, inl, inr, refl, sym, subst}
 use Rattle.std.specs.Prelude.{MatchOption}
 use Rattle.tw_disk.specs.Image.{Image}
 use Rattle.tw_base.specs.History.{History}
-use Rattle.tw_skiplist.specs.Events.{FindsEvents, FindsNoEvents, HasStream, MeetsBadPiece, MisspellsEvents, SpellsEvents}
+use Rattle.tw_skiplist.specs.Events.{MeetsBadPiece, SpellsEvents}
 use Rattle.tw_skiplist.specs.Infos.{IsInfoOf}
 use Rattle.tw_skiplist.proofs.BadPages.{bad_page_on}
 use Rattle.tw_skiplist.proofs.KeptEvents.{events_are, finds_some}

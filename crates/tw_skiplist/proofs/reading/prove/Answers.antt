@@ -1,13 +1,10 @@
-use Rattle.std.proofs.Common.{◌≡◌, ◌<◌, ◌≤◌, ◌∙◌, ℕ, List, Some, arith, inl, inr, sym, subst}
+use Rattle.std.proofs.Common.{◌≡◌, ◌<◌, ◌≤◌, ◌∙◌, Some, arith}
 use Rattle.tw_disk.specs.Image.{Image}
 use Rattle.tw_base.specs.History.{History}
-use Rattle.tw_base.specs.Texts.{empty_tree_text}
-use Rattle.tw_skiplist.specs.declared.head.StepRef.{StepRef}
 use Rattle.tw_skiplist.specs.Keeping.{Keeps}
-use Rattle.tw_skiplist.specs.Reading.{MeetsBadPage, Walks, WalksVia}
-use Rattle.tw_skiplist.specs.Records.{head_ref}
+use Rattle.tw_skiplist.specs.Reading.{MeetsBadPage}
 use Rattle.tw_skiplist.proofs.BadPages.{bad_page_on}
-use Rattle.tw_skiplist.proofs.Finding.{leads_to_last, meets_none, meets_none_further, middle_is, tells_info, tells_info_further, top_within}
+use Rattle.tw_skiplist.proofs.Finding.{meets_none, meets_none_further, middle_is, tells_info_further, top_within}
 use Rattle.tw_skiplist.proofs.reading.prove.Goals as goal
 
 pub returns-in-Err-clause-good : goal.returns-in-Err-clause-good

@@ -1,6 +1,5 @@
-use Rattle.std.proofs.Common.{◌≡◌, ◌<◌, ◌≤◌, ◌-◌, ◌^◌, ℕ, ap, sym, ◌∙◌, subst, arith}
+use Rattle.std.proofs.Common.{◌≡◌, ◌<◌, ◌-◌, ◌^◌, ℕ, ap, sym, ◌∙◌, subst, arith}
 use Rattle.tw_disk.specs.Pages.{only_reads_itself, only_reads_on}
-use Rattle.tw_base.specs.Levels.{top_level}
 use Rattle.tw_base.proofs.Levels.{top_level-below}
 use Rattle.tw_skipproof.specs.Paths.{hop_level}
 use Rattle.tw_skipproof.proofs.Hops.{hop_level-le, hop_level-short}
