@@ -2,7 +2,8 @@
 
     python3 tests/acceptance/run.py [PROGRAM]      `make check` calls it so
 
-The cases stand in cases/*.json, those that are counted off in generated.py; documents.py checks the documents. A case has
+The cases stand in cases/*.json, those that are counted off in generated.py, those of services
+in steps.py; documents.py checks the documents. A case has
 
     name       what it shows
     words      the program's arguments; $AUTH is the authenticator of step 1 of the least proof
@@ -32,6 +33,7 @@ from pathlib import Path
 import documents
 import generated
 import reference
+import steps
 
 HERE = Path(__file__).resolve().parent
 TOP = HERE.parent.parent
@@ -133,6 +135,7 @@ def all_cases():
         for case in json.loads(path.read_text()):
             yield {**case, "name": f"{path.stem}: {case['name']}"}
     yield from generated.cases()
+    yield from steps.cases()
     yield from documents.cases()
 
 

@@ -5,17 +5,20 @@ use Rattle.tw_base.specs.Lists.{Each}
 use Rattle.tw_text.specs.CommandLine.{IsBadWord, command_of, form_names, form_of, word_at}
 use Rattle.tw_text.specs.Forms.{Form, command_by, have_form}
 use Rattle.tw_text.specs.declared.command.Command.{Command}
-use Rattle.tw_text.specs.declared.command.Command.TheVariants.{Show, VerifyFile, VerifyOne}
+use Rattle.tw_text.specs.declared.command.Command.TheVariants.{Append, Show, VerifyFile, VerifyOne}
 use Rattle.tw_text.specs.declared.words.WordFault.{WordFault}
 use Rattle.tw_text.specs.declared.words.WordFault.TheVariants.{NoMemory}
+use Rattle.tw_disk.specs.Image.{Image}
 use Rattle.tw_outside.specs.Files.{Files}
 use Rattle.tw_app.specs.declared.outcome.Outcome.{Outcome}
 use Rattle.tw_app.specs.Commands.{files_of}
-use Rattle.tw_app.specs.Running.{ComesTo, HasOutcome, HaveNoForm}
+use Rattle.tw_app.specs.Running.{ComesOfFiles, ComesTo, HasOutcome, HaveNoForm}
+use Rattle.tw_app.specs.Leaving.{CommandLeaves, Leaves}
 use Rattle.tw_text.proofs.TableLaws.{command_by-names}
 
 -- the files of a command are words of its own
 abbrev pub FilesAreWords : List (List ℕ) → Command → Type 0
+FilesAreWords words (Append dir file) = file ≡ word_at words 2
 FilesAreWords words (Show history step index) = history ≡ word_at words 1
 FilesAreWords words (VerifyFile proof anchors) = (proof ≡ word_at words 1) × (anchors ≡ word_at words 2)
 FilesAreWords words (VerifyOne proof name pos auth) = proof ≡ word_at words 1
@@ -36,7 +39,7 @@ by_forms (form ∷ table) words c each made =
 
 each_form : (words : List (List ℕ)) → Each (λ form. FilesAreWords words (form.command words)) (map form_of form_names)
 unfolding form_of
-each_form words = (tt, (tt, (tt, (tt, (tt, (tt, (tt, (tt, (tt, (tt, (tt, (refl, (tt, ((refl, refl), (refl, (tt, (tt, (tt, (tt, (tt, tt))))))))))))))))))))
+each_form words = (tt, (refl, (tt, (tt, (tt, (tt, (tt, (tt, (tt, (tt, (tt, (refl, (tt, ((refl, refl), (refl, (tt, (tt, (tt, (tt, (tt, tt))))))))))))))))))))
 
 pub files_are_words : (words : List (List ℕ)) (c : Command) → command_of words ≡ Some c → FilesAreWords words c
 files_are_words words c made = by_forms (map form_of form_names) words c (each_form words) (sym (command_by-names words) ∙ made)
@@ -62,6 +65,10 @@ read_command words c some none = by (command_of words) refl some none
 
 module _ (words : List (List ℕ)) (c : Command) (made : command_of words ≡ Some c) where
   module _ (P : List ℕ → Type 0) (files : Each P (files_of c)) where
+    pub asks_events : (dir file : List ℕ) → c ≡ Append dir file → P (word_at words 2)
+    asks_events dir file is =
+        subst P (subst (FilesAreWords words) is (files_are_words words c made)) (subst (λ d. Each P (files_of d)) is files).0
+
     pub asks_history : (history : List ℕ) (step index : ℕ) → c ≡ Show history step index → P (word_at words 1)
     asks_history history step index is =
         subst P (subst (FilesAreWords words) is (files_are_words words c made)) (subst (λ d. Each P (files_of d)) is files).0
@@ -78,27 +85,41 @@ module _ (words : List (List ℕ)) (c : Command) (made : command_of words ≡ So
 
   module _ (told : Option Files) (before after : ℕ) (outcome : Outcome) where
     pub comes_of_show : (history file : List ℕ) (step index : ℕ) → c ≡ Show history step index → file ≡ word_at words 1
-        → ComesTo told before after (Show file step index) outcome → ComesTo told before after c outcome
+        → ComesOfFiles told before after (Show file step index) outcome → ComesOfFiles told before after c outcome
     comes_of_show history file step index is at comes =
         let same : file ≡ history = at ∙ sym (subst (FilesAreWords words) is (files_are_words words c made)) in
-        subst (λ d. ComesTo told before after d outcome) (sym is) (subst (λ f. ComesTo told before after (Show f step index) outcome) same comes)
+        subst (λ d. ComesOfFiles told before after d outcome) (sym is) (subst (λ f. ComesOfFiles told before after (Show f step index) outcome) same comes)
 
     pub comes_of_files : (proof anchors file anchors_file : List ℕ) → c ≡ VerifyFile proof anchors → file ≡ word_at words 1 → anchors_file ≡ word_at words 2
-        → ComesTo told before after (VerifyFile file anchors_file) outcome → ComesTo told before after c outcome
+        → ComesOfFiles told before after (VerifyFile file anchors_file) outcome → ComesOfFiles told before after c outcome
     comes_of_files proof anchors file anchors_file is at anchors_at comes =
         let both = subst (FilesAreWords words) is (files_are_words words c made) in
         let same : file ≡ proof = at ∙ sym both.0 in
         let same_anchors : anchors_file ≡ anchors = anchors_at ∙ sym both.1 in
-        subst (λ d. ComesTo told before after d outcome) (sym is)
-        (subst (λ f. ComesTo told before after (VerifyFile f anchors) outcome) same
-        (subst (λ f. ComesTo told before after (VerifyFile file f) outcome) same_anchors comes))
+        subst (λ d. ComesOfFiles told before after d outcome) (sym is)
+        (subst (λ f. ComesOfFiles told before after (VerifyFile f anchors) outcome) same
+        (subst (λ f. ComesOfFiles told before after (VerifyFile file f) outcome) same_anchors comes))
 
     pub comes_of_proof : (proof name file : List ℕ) (pos : ℕ) (auth : List ℕ) → c ≡ VerifyOne proof name pos auth → file ≡ word_at words 1
-        → ComesTo told before after (VerifyOne file name pos auth) outcome → ComesTo told before after c outcome
+        → ComesOfFiles told before after (VerifyOne file name pos auth) outcome → ComesOfFiles told before after c outcome
     comes_of_proof proof name file pos auth is at comes =
         let same : file ≡ proof = at ∙ sym (subst (FilesAreWords words) is (files_are_words words c made)) in
-        subst (λ d. ComesTo told before after d outcome) (sym is) (subst (λ f. ComesTo told before after (VerifyOne f name pos auth) outcome) same comes)
+        subst (λ d. ComesOfFiles told before after d outcome) (sym is) (subst (λ f. ComesOfFiles told before after (VerifyOne f name pos auth) outcome) same comes)
 
-    -- what the words' command comes to, the words come to
-    pub has_outcome : ComesTo told before after c outcome → HasOutcome told before after words outcome
-    has_outcome comes = subst (λ o. MatchOption o (HaveNoForm words outcome) (λ d. ComesTo told before after d outcome)) (sym made) comes
+  -- what holds of the command with a word of the words in the place of its file holds of it
+  pub of_append : (P : Command → Type 0) (dir file given : List ℕ) → c ≡ Append dir file → given ≡ word_at words 2 → P (Append dir given) → P c
+  of_append P dir file given is at holds =
+      let same : given ≡ file = at ∙ sym (subst (FilesAreWords words) is (files_are_words words c made)) in
+      subst P (sym is) (subst (λ (f : List ℕ). P (Append dir f)) same holds)
+
+  -- what the words' command comes to, the words come to
+  pub has_outcome : (told : Option Files) (before after : ℕ) (found : Option Image) (disk_before disk_after : ℕ) (outcome : Outcome)
+      → ComesTo told before after found disk_before disk_after c outcome → HasOutcome told before after found disk_before disk_after words outcome
+  has_outcome told before after found disk_before disk_after outcome comes =
+      subst (λ o. MatchOption o (HaveNoForm words outcome) (λ d. ComesTo told before after found disk_before disk_after d outcome)) (sym made) comes
+
+  module _ {D : Type 0} (content : D → Option Image) (may_leave : D → Image → Type 0) (moment : D → ℕ) (left_since : D → ℕ → Image → Type 0) (old new : D) where
+    pub leaves_words : (told : Option Files) (outcome : Outcome) → CommandLeaves content may_leave moment left_since old new told c outcome
+        → Leaves content may_leave moment left_since old new told words outcome
+    leaves_words told outcome leaves =
+        subst (λ o. MatchOption o (new ≡ old) (λ d. CommandLeaves content may_leave moment left_since old new told d outcome)) (sym made) leaves

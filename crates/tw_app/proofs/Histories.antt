@@ -21,7 +21,7 @@ use Rattle.tw_history.specs.declared.fault.HistoryFault.TheVariants.{Malformed, 
 use Rattle.tw_history.specs.declared.fault.ShowFault.{ShowFault}
 use Rattle.tw_app.specs.declared.outcome.Outcome.{Outcome}
 use Rattle.tw_app.specs.BadInputs.{IsWhereMemory, outcome_of_fault}
-use Rattle.tw_app.specs.Running.{ComesTo}
+use Rattle.tw_app.specs.Running.{ComesOfFiles}
 use Rattle.tw_app.specs.Showing.{OfHistory, ProvesEvent}
 use Rattle.tw_app.proofs.Outcomes.{where_memory}
 
@@ -53,31 +53,31 @@ module _ (told : Option Files) (file all : List ℕ) (there : IsThere told file)
         (h, record { short = same.0; spelled = same.1; sound = same.2 }, holds);
   }
 
-  of_fault : (before after step index : ℕ) (f : HistoryFault) → ReadsHistory all (Err f) → ComesTo told before after (Show file step index) (outcome_of_fault file f)
+  of_fault : (before after step index : ℕ) (f : HistoryFault) → ReadsHistory all (Err f) → ComesOfFiles told before after (Show file step index) (outcome_of_fault file f)
   of_fault before after step index (TooLong count) reads =
-      (refl, there, λ bytes tells. inl (is_longer all bytes (read bytes tells) reads.0, refl))
-  of_fault before after step index (Malformed place) reads = (
+      λ found disk_before disk_after. (refl, there, λ bytes tells. inl (is_longer all bytes (read bytes tells) reads.0, refl))
+  of_fault before after step index (Malformed place) reads = λ found disk_before disk_after. (
     refl,
     there,
     λ bytes tells.
         inr (subst (λ b. ReadsHistory b (Err (Malformed place))) (is_whole all bytes (read bytes tells) reads.0) reads),
   )
-  of_fault before after step index (Unsound broken rule) reads = (
+  of_fault before after step index (Unsound broken rule) reads = λ found disk_before disk_after. (
     refl,
     there,
     λ bytes tells.
         subst (λ b. ReadsHistory b (Err (Unsound broken rule))) (is_whole all bytes (read bytes tells) reads.0) reads,
   )
-  of_fault before after step index NoMemory reads = tt
+  of_fault before after step index NoMemory reads = λ found disk_before disk_after. tt
 
   pub refuses_file : (before after step index : ℕ) (f : HistoryFault) (outcome : Outcome) → ReadsHistory all (Err f)
-      → IsWhereMemory (outcome_of_fault file f) outcome → ComesTo told before after (Show file step index) outcome
+      → IsWhereMemory (outcome_of_fault file f) outcome → ComesOfFiles told before after (Show file step index) outcome
   refuses_file before after step index f outcome reads is =
       where_memory told before after (Show file step index) (outcome_of_fault file f) outcome is (of_fault before after step index f reads)
 
 -- ---- an index of more than 32 bits
 
-few_events : (h : History) (step : ℕ) → IsSound h → length (events_at h step) ≤ 1024
+pub few_events : (h : History) (step : ℕ) → IsSound h → length (events_at h step) ≤ 1024
 few_events h zero sound = omega arith
 few_events h (suc i) sound = by (step_at h (suc i)) refl
   where
@@ -85,7 +85,7 @@ few_events h (suc i) sound = by (step_at h (suc i)) refl
     by None is = omega arith
     by (Some s) is = (sound.steps i s is).event_count
 
-makes_at : (h : History) (step index top : ℕ) (bytes : List ℕ) → IsSound h → MakesExistence sha256 h step (min index 4294967295) top bytes
+pub makes_at : (h : History) (step index top : ℕ) (bytes : List ℕ) → IsSound h → MakesExistence sha256 h step (min index 4294967295) top bytes
     → MakesExistence sha256 h step index top bytes
 makes_at h step index top bytes sound makes = elim (cases_lt 4294967295 index) [
   | inl more ↦

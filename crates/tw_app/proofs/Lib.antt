@@ -2,4 +2,10 @@ pub mod CommandWords
 pub mod AnchorFronts
 pub mod Outcomes
 pub mod Histories
+pub mod EventFiles
+pub mod AtRest
+pub mod Steps
+pub mod EventProofs
+pub mod Landings
 pub mod Endings
+pub mod DiskEndings

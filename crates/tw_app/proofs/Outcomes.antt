@@ -15,7 +15,7 @@ use Rattle.tw_app.specs.declared.outcome.Outcome.{Outcome}
 use Rattle.tw_app.specs.declared.outcome.Outcome.TheVariants.{Unreadable}
 use Rattle.tw_app.specs.declared.outcome.BadInput.TheVariants.{BadLine}
 use Rattle.tw_app.specs.BadInputs.{IsWhereMemory}
-use Rattle.tw_app.specs.Running.{ComesTo}
+use Rattle.tw_app.specs.Running.{ComesOfFiles}
 use Rattle.tw_app.specs.Verifying.{HasAnchors, IsJudged, Judges}
 use Rattle.tw_app.proofs.AnchorFronts.{file_limit, first_bad_of_front, good_is_whole}
 
@@ -62,19 +62,19 @@ judges_file told proof file anchors verdict all all_lines lines_there lines_read
 
 -- an outcome that comes unless there was no memory for it
 pub where_memory : (told : Option Files) (before after : ℕ) (command : Command) (wanted outcome : Outcome) → IsWhereMemory wanted outcome
-    → ComesTo told before after command wanted → ComesTo told before after command outcome
-where_memory told before after command wanted outcome (inl is) comes = subst (ComesTo told before after command) (sym is) comes
-where_memory told before after command wanted outcome (inr none) comes = subst (ComesTo told before after command) (sym none) tt
+    → ComesOfFiles told before after command wanted → ComesOfFiles told before after command outcome
+where_memory told before after command wanted outcome (inl is) comes = subst (ComesOfFiles told before after command) (sym is) comes
+where_memory told before after command wanted outcome (inr none) comes = subst (ComesOfFiles told before after command) (sym none) (λ found disk_before disk_after. tt)
 
 pub refuses_line : (told : Option Files) (before after : ℕ) (proof file : List ℕ) (number : ℕ) (all_lines : List ℕ) (outcome : Outcome)
     → IsThere told proof → IsThere told file → IsReadTo told file file_limit all_lines → IsFirstBadLine (lines all_lines) number
-    → IsWhereMemory (Unreadable (BadLine file number)) outcome → ComesTo told before after (VerifyFile proof file) outcome
+    → IsWhereMemory (Unreadable (BadLine file number)) outcome → ComesOfFiles told before after (VerifyFile proof file) outcome
 refuses_line told before after proof file number all_lines outcome proof_there there read bad is =
-    where_memory told before after (VerifyFile proof file) (Unreadable (BadLine file number)) outcome is (
+    where_memory told before after (VerifyFile proof file) (Unreadable (BadLine file number)) outcome is (λ found disk_before disk_after. (
       refl,
       record {
         proof_there = proof_there;
         there = there;
         bad = λ bytes tells. first_bad_of_front bytes number (subst (λ a. IsFirstBadLine (lines a) number) (read bytes tells) bad);
       },
-    )
+    ))

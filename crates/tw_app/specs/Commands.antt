@@ -37,8 +37,31 @@ abbrev pub IsShow : Command → Type 0
 IsShow (Show history step index) = Unit {0}
 IsShow _ = ⊥
 
+-- the command that makes a service, that which adds a step, and that which proves an event
+abbrev pub IsInit : Command → Type 0
+IsInit (Init dir name) = Unit {0}
+IsInit _ = ⊥
+
+abbrev pub IsAppend : Command → Type 0
+IsAppend (Append dir file) = Unit {0}
+IsAppend _ = ⊥
+
+abbrev pub IsProve : Command → Type 0
+IsProve (ProveEvent dir step index top) = Unit {0}
+IsProve _ = ⊥
+
+-- the commands that work on the disk of a directory
+abbrev pub UsesDisk : Command → Type 0
+UsesDisk (Init dir name) = Unit {0}
+UsesDisk (Append dir file) = Unit {0}
+UsesDisk (ProveEvent dir step index top) = Unit {0}
+UsesDisk _ = ⊥
+
 -- the commands whose work is built
 abbrev pub IsBuilt : Command → Type 0
+IsBuilt (Init dir name) = Unit {0}
+IsBuilt (Append dir file) = Unit {0}
+IsBuilt (ProveEvent dir step index top) = Unit {0}
 IsBuilt (Show history step index) = Unit {0}
 IsBuilt (VerifyFile proof anchors) = Unit {0}
 IsBuilt (VerifyOne proof name pos auth) = Unit {0}

@@ -1,33 +1,63 @@
 -- What a run of the program comes to, and how it ends.
 use Rattle.std.specs.Prelude.{◌≡◌, ◌⊎◌, ℕ, List, Option, MatchOption}
+use Rattle.tw_base.specs.declared.thread.Thread.{Thread}
+use Rattle.tw_disk.specs.Image.{Image}
 use Rattle.tw_outside.specs.Faults.{Rose}
 use Rattle.tw_outside.specs.Files.{Files, IsThere, Tells}
 use Rattle.tw_outside.specs.Taken.{Appends, AppendsPart}
 use Rattle.tw_text.specs.CommandLine.{command_of, forms}
 use Rattle.tw_text.specs.Forms.{IsFirstBad}
 use Rattle.tw_text.specs.declared.command.Command.{Command}
-use Rattle.tw_text.specs.declared.command.Command.TheVariants.{Show, VerifyFile}
+use Rattle.tw_text.specs.declared.command.Command.TheVariants.{Init, Append, ProveEvent, Show, VerifyFile}
 use Rattle.tw_app.specs.declared.outcome.Outcome.{Outcome}
-use Rattle.tw_app.specs.declared.outcome.Outcome.TheVariants.{Judged, Shown, Refused, Unreadable, BadWords, InputFault, NoMemory}
+use Rattle.tw_app.specs.declared.outcome.Outcome.TheVariants.{Judged, Shown, Made, Refused, Unserved, Unreadable, BadWords, InputFault, DiskFault, NoMemory}
 use Rattle.tw_app.specs.declared.outcome.Refusal.{Refusal}
+use Rattle.tw_app.specs.declared.outcome.Refusal.TheVariants.{Taken}
+use Rattle.tw_app.specs.declared.outcome.StoreCause.{StoreCause}
 use Rattle.tw_app.specs.declared.outcome.BadInput.{BadInput}
 use Rattle.tw_app.specs.declared.outcome.BadInput.TheVariants.{BadByte, BadLine, Unsound}
-use Rattle.tw_app.specs.Commands.{IsBuilt}
+use Rattle.tw_app.specs.Appending.{AddsStep, IsBadEventsByte, OfEvents, RefusesStep}
+use Rattle.tw_app.specs.Commands.{IsBuilt, UsesDisk}
+use Rattle.tw_app.specs.Disks.{IsUnserved}
+use Rattle.tw_app.specs.Making.{HasStore, MakesService}
 use Rattle.tw_app.specs.Outcomes.{status_of, text_of}
+use Rattle.tw_app.specs.Proving.{Proves, RefusesProof}
 use Rattle.tw_app.specs.Showing.{BreaksRule, IsBadByte, OfHistory, RefusesToShow, ProvesEvent}
 use Rattle.tw_app.specs.Verifying.{HasBadLine, Judges}
 
 -- ---- what a command comes to
 
--- the command shows an event of a history file, and these bytes are its proof
-abbrev pub Shows : Option Files → Command → (proof : List ℕ) → Type 0
-Shows told (Show history step index) proof = OfHistory told history (ProvesEvent step index proof)
-Shows told _ proof = ⊥
+-- `told` is what the inputs tell of the files, and `found` what the disk reads as where it tells that
 
--- it shows an event of a history file that has none such
-abbrev pub Refuses : Option Files → Command → Refusal → Type 0
-Refuses told (Show history step index) refusal = OfHistory told history (RefusesToShow step index refusal)
-Refuses told _ refusal = ⊥
+-- the command shows an event of a history file, or proves one of the service on the disk, and these bytes are the proof
+abbrev pub Shows : (told : Option Files) (found : Option Image) → Command → (proof : List ℕ) → Type 0
+Shows told found (Show history step index) proof = OfHistory told history (ProvesEvent step index proof)
+Shows told found (ProveEvent dir step index top) proof = Proves found step index top proof
+Shows told found _ proof = ⊥
+
+-- it makes a service or a step, and this is the thread of its last step
+abbrev pub Makes : (told : Option Files) (found : Option Image) → Command → Thread → Type 0
+Makes told found (Init dir name) thread = MakesService found name thread
+Makes told found (Append dir file) thread = OfEvents told file (λ events. AddsStep found events thread)
+Makes told found _ thread = ⊥
+
+-- it asks for an event that isn't there, for a service where there is a store, or for a step beyond the limits
+abbrev pub RefusesInit : (found : Option Image) → Refusal → Type 0
+RefusesInit found Taken = HasStore found
+RefusesInit found _ = ⊥
+
+abbrev pub Refuses : (told : Option Files) (found : Option Image) → Command → Refusal → Type 0
+Refuses told found (Show history step index) refusal = OfHistory told history (RefusesToShow step index refusal)
+Refuses told found (Init dir name) refusal = RefusesInit found refusal
+Refuses told found (Append dir file) refusal = RefusesStep told found file refusal
+Refuses told found (ProveEvent dir step index top) refusal = RefusesProof found step index top refusal
+Refuses told found _ refusal = ⊥
+
+-- it wants a service, and the disk has none that can serve it
+abbrev pub CantServe : (found : Option Image) → Command → StoreCause → Type 0
+CantServe found (Append dir file) cause = IsUnserved found cause
+CantServe found (ProveEvent dir step index top) cause = IsUnserved found cause
+CantServe found _ cause = ⊥
 
 -- one of its files isn't what it reads: it is named by the command's word, and is there
 abbrev pub CantRead : Option Files → Command → BadInput → Type 0
@@ -36,17 +66,27 @@ CantRead told (Show history step index) (BadByte file place) =
     (file ≡ history) × IsThere told history × ((bytes : List ℕ) → Tells told history bytes → IsBadByte bytes place)
 CantRead told (Show history step index) (Unsound file broken rule) =
     (file ≡ history) × IsThere told history × ((bytes : List ℕ) → Tells told history bytes → BreaksRule bytes broken rule)
+CantRead told (Append dir file) (BadByte named place) =
+    (named ≡ file) × IsThere told file × ((bytes : List ℕ) → Tells told file bytes → IsBadEventsByte bytes place)
 CantRead told _ _ = ⊥
 
--- what the inputs told, and their counts of faults before and after, allow a command to come to; want of memory is free
-abbrev pub ComesTo : (told : Option Files) (before after : ℕ) → Command → Outcome → Type 0
-ComesTo told before after command (Judged verdict) = Judges told command verdict
-ComesTo told before after command (Shown proof) = Shows told command proof
-ComesTo told before after command (Refused refusal) = Refuses told command refusal
-ComesTo told before after command (Unreadable bad) = CantRead told command bad
-ComesTo told before after command (BadWords number) = (number ≡ 0) × (IsBuilt command → ⊥)
-ComesTo told before after command InputFault = IsBuilt command × Rose before after
-ComesTo told before after command NoMemory = Unit {0}
+-- what the inputs and the disk told, and their counts of faults before and after, allow a command to come to; want of memory is free
+abbrev pub ComesTo : (told : Option Files) (before after : ℕ) (found : Option Image) (disk_before disk_after : ℕ) → Command → Outcome → Type 0
+ComesTo told before after found disk_before disk_after command (Judged verdict) = Judges told command verdict
+ComesTo told before after found disk_before disk_after command (Shown proof) = Shows told found command proof
+ComesTo told before after found disk_before disk_after command (Made thread) = Makes told found command thread
+ComesTo told before after found disk_before disk_after command (Refused refusal) = Refuses told found command refusal
+ComesTo told before after found disk_before disk_after command (Unserved cause) = CantServe found command cause
+ComesTo told before after found disk_before disk_after command (Unreadable bad) = CantRead told command bad
+ComesTo told before after found disk_before disk_after command (BadWords number) = (number ≡ 0) × (IsBuilt command → ⊥)
+ComesTo told before after found disk_before disk_after command InputFault = IsBuilt command × Rose before after
+ComesTo told before after found disk_before disk_after command DiskFault = UsesDisk command × Rose disk_before disk_after
+ComesTo told before after found disk_before disk_after command NoMemory = Unit {0}
+
+-- what a command comes to over whatever disk
+abbrev pub ComesOfFiles : (told : Option Files) (before after : ℕ) → Command → Outcome → Type 0
+ComesOfFiles told before after command outcome =
+    (found : Option Image) (disk_before disk_after : ℕ) → ComesTo told before after found disk_before disk_after command outcome
 
 -- what words come to that have no form: the number is that of the first word at which none goes on
 abbrev pub HaveNoForm : (words : List (List ℕ)) → Outcome → Type 0
@@ -55,9 +95,9 @@ HaveNoForm words NoMemory = Unit {0}
 HaveNoForm words _ = ⊥
 
 -- what words come to
-abbrev pub HasOutcome : (told : Option Files) (before after : ℕ) (words : List (List ℕ)) → Outcome → Type 0
-HasOutcome told before after words outcome =
-    MatchOption (command_of words) (HaveNoForm words outcome) (λ command. ComesTo told before after command outcome)
+abbrev pub HasOutcome : (told : Option Files) (before after : ℕ) (found : Option Image) (disk_before disk_after : ℕ) (words : List (List ℕ)) → Outcome → Type 0
+HasOutcome told before after found disk_before disk_after words outcome =
+    MatchOption (command_of words) (HaveNoForm words outcome) (λ command. ComesTo told before after found disk_before disk_after command outcome)
 
 -- ---- how the run ends
 
@@ -68,9 +108,11 @@ EndsWith before after faults_before faults_after status outcome =
     ((status ≡ status_of outcome) × Appends before after (text_of outcome))
     ⊎ ((status ≡ 4) × AppendsPart before after (text_of outcome) × Rose faults_before faults_after)
 
--- the run ends with some outcome that is allowed
-pub record Ends (told : Option Files) (input_faults_before input_faults_after : ℕ) (words : List (List ℕ))
-    (taken_before taken_after : Option (List ℕ)) (sink_faults_before sink_faults_after : ℕ) (status : ℕ) : Type 0 where
+-- the run ends with some outcome that is allowed, and the disk is left as is right for it, whether its text could be written or not
+pub record Ends (told : Option Files) (input_faults_before input_faults_after : ℕ) (found : Option Image) (disk_faults_before disk_faults_after : ℕ)
+    (words : List (List ℕ)) (taken_before taken_after : Option (List ℕ)) (sink_faults_before sink_faults_after : ℕ)
+    (LeavesDisk : Outcome → Type 0) (status : ℕ) : Type 0 where
   pub outcome : Outcome
-  pub has : HasOutcome told input_faults_before input_faults_after words outcome
+  pub has : HasOutcome told input_faults_before input_faults_after found disk_faults_before disk_faults_after words outcome
   pub ends : EndsWith taken_before taken_after sink_faults_before sink_faults_after status outcome
+  pub leaves : LeavesDisk outcome

@@ -14,7 +14,6 @@ use Rattle.tw_history.specs.HistoryFile.{most_bytes}
 use Rattle.tw_history.specs.Layout.{history_layout}
 use Rattle.tw_history.specs.Refusals.{RefusesEvent}
 use Rattle.tw_history.specs.Rules.{IsFirstBroken}
-use Rattle.tw_history.specs.declared.fault.ShowFault.{ShowFault}
 use Rattle.tw_history.specs.declared.fault.ShowFault.TheVariants as fault
 use Rattle.tw_app.specs.declared.outcome.Refusal.{Refusal}
 use Rattle.tw_app.specs.declared.outcome.Refusal.TheVariants.{NoStep, NoEvent}
@@ -38,12 +37,10 @@ pub record ProvesEvent (step index : ℕ) (proof : List ℕ) (h : History) : Typ
       → anchor.auth ≡ auth sha256 h (length h.steps) → Accepts sha256 anchors proof
 
 -- the history has no such step, and its last one is told; or the step no such event, and the number of its events is told
-abbrev pub fault_of : Refusal → ShowFault
-fault_of (NoStep last) = fault.NoStep last
-fault_of (NoEvent count) = fault.NoEvent count
-
 abbrev pub RefusesToShow : (step index : ℕ) → Refusal → History → Type 0
-RefusesToShow step index refusal h = RefusesEvent h step index (fault_of refusal)
+RefusesToShow step index (NoStep last) h = RefusesEvent h step index (fault.NoStep last)
+RefusesToShow step index (NoEvent count) h = RefusesEvent h step index (fault.NoEvent count)
+RefusesToShow step index _ h = ⊥
 
 -- the place at which the bytes are no history file: the limit, where they are more than that; else that of the first byte at
 -- which no history file goes on

@@ -8,6 +8,7 @@ use Rattle.tw_base.specs.Family.{AllSound, Facts, HasThreads, family_texts}
 use Rattle.tw_base.specs.Formats.{Spells}
 use Rattle.tw_base.specs.History.{History}
 use Rattle.tw_base.specs.Lists.{In}
+use Rattle.tw_disk.specs.Image.{Image}
 use Rattle.tw_outside.specs.Faults.{Rose}
 use Rattle.tw_outside.specs.Files.{Files, IsThere, Tells}
 use Rattle.tw_outside.specs.Taken.{Appends}
@@ -22,7 +23,7 @@ use Rattle.tw_chain.specs.Accepting.{Accepts, claim_of, held, proof_texts, repor
 use Rattle.tw_chain.specs.Reasons.{IsLowest}
 use Rattle.tw_app.specs.declared.outcome.Refusal.{Refusal}
 use Rattle.tw_app.specs.declared.outcome.BadInput.{BadInput}
-use Rattle.tw_app.specs.Commands.{IsBuilt, IsShow, IsVerify}
+use Rattle.tw_app.specs.Commands.{IsAppend, IsBuilt, IsInit, IsProve, IsShow, IsVerify, UsesDisk}
 use Rattle.tw_app.specs.Outcomes.{bad_input_text, refused_text}
 use Rattle.tw_app.specs.Running.{CantRead, Refuses, Shows}
 use Rattle.tw_app.specs.Verifying.{GivesAnchors, proof_file}
@@ -40,9 +41,21 @@ AskForVerdict words = AreOf IsVerify words
 abbrev pub AskForEvent : (words : List (List ℕ)) → Type 0
 AskForEvent words = AreOf IsShow words
 
+abbrev pub AskForService : (words : List (List ℕ)) → Type 0
+AskForService words = AreOf IsInit words
+
+abbrev pub AskForStep : (words : List (List ℕ)) → Type 0
+AskForStep words = AreOf IsAppend words
+
+abbrev pub AskForProof : (words : List (List ℕ)) → Type 0
+AskForProof words = AreOf IsProve words
+
+abbrev pub AskForDisk : (words : List (List ℕ)) → Type 0
+AskForDisk words = AreOf UsesDisk words
+
 -- the statuses that there are
 abbrev pub IsStatus : ℕ → Type 0
-IsStatus status = In status (0 ∷ 1 ∷ 2 ∷ 3 ∷ 4 ∷ 6 ∷ 7 ∷ 9 ∷ [])
+IsStatus status = In status (0 ∷ 1 ∷ 2 ∷ 3 ∷ 4 ∷ 5 ∷ 6 ∷ 7 ∷ 8 ∷ 9 ∷ [])
 
 -- status 0 of words that ask for a verdict: the proof file is there. Where the inputs tell its bytes, they spell a proof that
 -- is accepted under the command's anchors, and its report was written whole; and in every family of sound histories that has
@@ -62,11 +75,11 @@ pub record IsAcceptedRun (told : Option Files) (words : List (List ℕ)) (taken_
       → OrClash sha256 (family_texts sha256 family ++ proof_texts sha256 p) (Facts family (claim_of p))
 
 -- status 0 of words that ask to show an event: what was written are the bytes of its proof
-pub record IsShownRun (told : Option Files) (words : List (List ℕ)) (taken_before taken_after : Option (List ℕ)) : Type 0 where
+pub record IsShownRun (told : Option Files) (found : Option Image) (words : List (List ℕ)) (taken_before taken_after : Option (List ℕ)) : Type 0 where
   pub command : Command
   pub proof : List ℕ
   pub is_command : command_of words ≡ Some command
-  pub shows : Shows told command proof
+  pub shows : Shows told found command proof
   pub written : Appends taken_before taken_after proof
 
 -- status 1: the words ask for a verdict, and the proof file is there; the bytes told spell no proof that is accepted under the
@@ -102,12 +115,12 @@ pub record IsFaultRun (faults_before faults_after : ℕ) (words : List (List ℕ
   pub failed : Rose faults_before faults_after
   pub written : Appends taken_before taken_after fault_input_text
 
--- status 7: the words ask for what isn't there, and the line of the refusal was written whole
-pub record IsRefusedRun (told : Option Files) (words : List (List ℕ)) (taken_before taken_after : Option (List ℕ)) : Type 0 where
+-- status 7: the words ask for what isn't there, or may not be made, and the line of the refusal was written whole
+pub record IsRefusedRun (told : Option Files) (found : Option Image) (words : List (List ℕ)) (taken_before taken_after : Option (List ℕ)) : Type 0 where
   pub command : Command
   pub refusal : Refusal
   pub is_command : command_of words ≡ Some command
-  pub refuses : Refuses told command refusal
+  pub refuses : Refuses told found command refusal
   pub written : Appends taken_before taken_after (refused_text refusal)
 
 -- status 9: a file of the command isn't what it reads, and the line that says where was written whole

@@ -3,7 +3,7 @@
 ghost use Rattle.std.specs.Prelude.{◌≡◌, IfOk};
 ghost use Rattle.tw_app.specs.BadInputs.{IsWhereMemory, outcome_of_fault};
 ghost use Rattle.tw_app.specs.declared.outcome.Outcome.TheVariants.{Unreadable};
-ghost use Rattle.tw_app.specs.declared.outcome.BadInput.TheVariants.{BadLine};
+ghost use Rattle.tw_app.specs.declared.outcome.BadInput.TheVariants.{BadByte, BadLine};
 
 use crate::outcome::{BadInput, Outcome};
 use std::alloc::Global;
@@ -19,6 +19,16 @@ pub(crate) fn refuse_line(alloc: Global, file: &str, line: u64) -> Outcome
 {
     match copied(alloc, file) {
         Ok(file) => Outcome::Unreadable(BadInput::BadLine { file, line }),
+        Err(NoMemory) => Outcome::NoMemory,
+    }
+}
+
+/// What comes of a file that goes on at this byte as no word of its format does.
+pub(crate) fn refuse_byte(alloc: Global, file: &str, place: u64) -> Outcome
+    ensures { IsWhereMemory (Unreadable (BadByte file.now place)) result }
+{
+    match copied(alloc, file) {
+        Ok(file) => Outcome::Unreadable(BadInput::BadByte { file, place }),
         Err(NoMemory) => Outcome::NoMemory,
     }
 }

@@ -1,25 +1,30 @@
 // How a run ends.
 
-ghost use Rattle.std.specs.Prelude.{◌≡◌, ◌⊎◌, ℕ, List, map, string_bytes, IfSome};
+ghost use Rattle.std.specs.Prelude.{◌≡◌, ◌⊎◌, ℕ, List, Some, map, string_bytes, IfSome};
 ghost use Rattle.tw_base.specs.Lists.{Each};
 ghost use Rattle.tw_outside.specs.Faults.{Rose};
 ghost use Rattle.tw_outside.specs.Taken.{Appends, AppendsPart};
 ghost use Rattle.tw_text.specs.CommandLine.{command_of};
-ghost use Rattle.tw_text.specs.Lines.{no_memory_text};
+ghost use Rattle.tw_text.specs.declared.command.Command.{Command};
+ghost use Rattle.tw_text.specs.Lines.{anchor_text, no_memory_text};
 ghost use Rattle.tw_app.specs.declared.outcome.Outcome.TheVariants.{NoMemory as NoMemoryOutcome};
 ghost use Rattle.tw_app.specs.Commands.{files_of};
-ghost use Rattle.tw_app.specs.Outcomes.{status_of as status_of_outcome};
+ghost use Rattle.tw_app.specs.Outcomes.{TakesMemory, status_of as status_of_outcome};
+ghost use Rattle.tw_app.specs.Disks.{Keeps};
+ghost use Rattle.tw_app.specs.DiskStatuses.{IsAppendedRun, IsCrashSafe, IsDiskFaultRun, IsMadeRun, IsProvedRun, IsUnservedRun};
+ghost use Rattle.tw_app.specs.Leaving.{Leaves};
 ghost use Rattle.tw_app.specs.Running.{Ends, EndsWith};
-ghost use Rattle.tw_app.specs.Statuses.{AreBuilt, AskForEvent, AskForVerdict, IsAcceptedRun, IsFaultRun, IsRefusedRun, IsRejectedRun, IsShownRun, IsStatus, IsUnreadableRun, IsUsageRun};
+ghost use Rattle.tw_app.specs.Statuses.{AreBuilt, AskForDisk, AskForEvent, AskForProof, AskForService, AskForStep, AskForVerdict, IsAcceptedRun, IsFaultRun, IsRefusedRun, IsRejectedRun, IsShownRun, IsStatus, IsUnreadableRun, IsUsageRun};
 
 use crate::following::follow_words;
-use crate::outcome::Outcome;
+use crate::outcome::{Outcome, Worked};
 use crate::printing::print;
 use std::alloc::Global;
-use tw_base::NoMemory;
+use tw_base::{NoMemory, Thread};
 use tw_chain::Verdict;
+use tw_disk::Disk;
 use tw_outside::{Inputs, Sink, write_all};
-use tw_text::{fault_input, no_memory};
+use tw_text::{anchor_line, fault_disk, fault_input, no_memory};
 
 /// Status 4: the sink failed.
 const OUTPUT_FAULT: u8 = 4;
@@ -35,29 +40,43 @@ fn tell<S: Sink>(out: &mut S, status: u8, text: &[u8]) -> u8
     }
 }
 
+/// Writes the anchor line of the thread whole and answers 0, or answers 4 where the sink failed. It
+/// takes no memory.
+fn tell_thread<S: Sink>(out: &mut S, thread: &Thread) -> u8
+    ensures { ((result ≡ 0) × Appends (S.taken out.old) (S.taken out.new) (anchor_text thread.now))
+        ⊎ ((result ≡ 4) × AppendsPart (S.taken out.old) (S.taken out.new) (anchor_text thread.now) × Rose (S.faults out.old) (S.faults out.new)) }
+{
+    let line = anchor_line(thread);
+    tell(out, 0, &line.bytes[..line.count as usize])
+}
+
 /// The status of an outcome whose text could be written.
 fn status_of(outcome: &Outcome) -> u8
     ensures { result ≡ status_of_outcome outcome.now }
 {
     match outcome {
-        Outcome::Judged(Verdict::Yes(_)) | Outcome::Shown(_) => 0,
+        Outcome::Judged(Verdict::Yes(_)) | Outcome::Shown(_) | Outcome::Made(_) => 0,
         Outcome::Judged(Verdict::No(_)) => 1,
         Outcome::BadWords { .. } => 2,
         Outcome::InputFault => 3,
+        Outcome::DiskFault => 5,
         Outcome::NoMemory => 6,
         Outcome::Refused(_) => 7,
+        Outcome::Unserved(_) => 8,
         Outcome::Unreadable(_) => 9,
     }
 }
 
 /// Writes the text of the outcome and answers its status; or those of want of memory, where there is
-/// no memory for its text.
+/// no memory for its text. What became of the disk, a step that was made or a fault, takes none.
 fn conclude<S: Sink>(alloc: Global, outcome: &Outcome, out: &mut S) -> u8
     ensures { EndsWith (S.taken out.old) (S.taken out.new) (S.faults out.old) (S.faults out.new) result outcome.now
-        ⊎ EndsWith (S.taken out.old) (S.taken out.new) (S.faults out.old) (S.faults out.new) result NoMemoryOutcome }
+        ⊎ (TakesMemory outcome.now × EndsWith (S.taken out.old) (S.taken out.new) (S.faults out.old) (S.faults out.new) result NoMemoryOutcome) }
 {
     match outcome {
         Outcome::InputFault => tell(out, 3, fault_input()),
+        Outcome::DiskFault => tell(out, 5, fault_disk()),
+        Outcome::Made(thread) => tell_thread(out, thread),
         Outcome::NoMemory => tell(out, 6, no_memory()),
         Outcome::Shown(proof) => tell(out, 0, proof.as_slice()),
         _ => match print(alloc, outcome) {
@@ -67,54 +86,95 @@ fn conclude<S: Sink>(alloc: Global, outcome: &Outcome, out: &mut S) -> u8
     }
 }
 
+/// How a run ended: its status, and the disk that was handed in.
+#[derive(Drop)]
+pub struct Ran<D> {
+    pub status: u8,
+    pub disk: D,
+}
+
 /// Does what the words ask, and ends.
-fn run_to_the_end<I: Inputs, S: Sink>(
+fn run_to_the_end<D: Disk, I: Inputs, S: Sink>(
     alloc: Global,
     words: &[String],
+    disk: D,
     inputs: &mut I,
     out: &mut S,
-) -> u8
+) -> Ran<D>
     requires { IfSome (command_of (map string_bytes words.now)) (λ command. Each (I.may_ask inputs.old) (files_of command)) }
-    ensures { Ends (I.told inputs.old) (I.faults inputs.old) (I.faults inputs.new) (map string_bytes words.now)
-        (S.taken out.old) (S.taken out.new) (S.faults out.old) (S.faults out.new) result }
+    ensures { Ends (I.told inputs.old) (I.faults inputs.old) (I.faults inputs.new) (D.content disk) (D.faults disk) (D.faults result.disk)
+        (map string_bytes words.now) (S.taken out.old) (S.taken out.new) (S.faults out.old) (S.faults out.new)
+        (Leaves D.content D.may_leave D.moment D.left_since disk result.disk (I.told inputs.old) (map string_bytes words.now)) result.status }
 {
-    let outcome = follow_words(alloc, words, inputs);
-    conclude(alloc, &outcome, out)
+    let Worked { outcome, disk } = follow_words(alloc, words, disk, inputs);
+    let status = conclude(alloc, &outcome, out);
+    Ran { status, disk }
 }
 
 /// Does all that the program does for its words, which don't hold its own name, and answers its
-/// status; whatever it has to say is written to the sink.
+/// status with the disk; whatever it has to say is written to the sink.
 ///
-/// - 0: the command's output was written whole: the report of an accepted proof, or the proof that
-///   was made.
+/// - 0: the command's output was written whole: the report of an accepted proof, the proof that was
+///   made, or the anchor line of the service or step that was made.
 /// - 1: the proof isn't accepted; `rejected`, the lowest reason that stands and its fields.
 /// - 2: the words have no form; `usage` and the number of the first word at which none goes on, or 0
 ///   where the words have a form whose work isn't built yet.
 /// - 3: the inputs failed; `fault input`.
-/// - 4: the sink failed; a part of the text was written.
-/// - 6: there was no memory; `no memory`.
-/// - 7: what was asked for isn't there; `refused`, the refusal's name and its fields.
+/// - 4: the sink failed; a part of the text was written. A step that was made stands.
+/// - 5: the disk failed; `fault disk`. Of `append` it may hold the step or not.
+/// - 6: there was no memory; `no memory`. No step was made.
+/// - 7: what was asked for isn't there or may not be made; `refused`, the refusal's name and its
+///   fields.
+/// - 8: the disk has no service that can serve the command; `store`, why, and the slot or the page.
 /// - 9: a file isn't what the command reads; `unreadable` or `unsound`, the file and where.
 ///
 /// The words are judged first; then all files are read, anchors before a proof; then what the files
-/// hold is judged, that of a proof last.
-pub fn run<I: Inputs, S: Sink>(alloc: Global, words: &[String], inputs: &mut I, out: &mut S) -> u8
+/// hold is judged, that of a proof last; then comes the disk. A command whose words name no
+/// directory makes no device call.
+pub fn run<D: Disk, I: Inputs, S: Sink>(
+    alloc: Global,
+    words: &[String],
+    disk: D,
+    inputs: &mut I,
+    out: &mut S,
+) -> Ran<D>
     requires { IfSome (command_of (map string_bytes words.now)) (λ command. Each (I.may_ask inputs.old) (files_of command)) }
-    ensures ends { Ends (I.told inputs.old) (I.faults inputs.old) (I.faults inputs.new) (map string_bytes words.now)
-        (S.taken out.old) (S.taken out.new) (S.faults out.old) (S.faults out.new) result }
-    ensures built { result ≡ 0 → AreBuilt (map string_bytes words.now) }
-    ensures accepted { result ≡ 0 → AskForVerdict (map string_bytes words.now)
+    ensures ends { Ends (I.told inputs.old) (I.faults inputs.old) (I.faults inputs.new) (D.content disk) (D.faults disk) (D.faults result.disk)
+        (map string_bytes words.now) (S.taken out.old) (S.taken out.new) (S.faults out.old) (S.faults out.new)
+        (Leaves D.content D.may_leave D.moment D.left_since disk result.disk (I.told inputs.old) (map string_bytes words.now)) result.status }
+
+    // Status 0, by what the words ask for.
+    ensures built { result.status ≡ 0 → AreBuilt (map string_bytes words.now) }
+    ensures accepted { result.status ≡ 0 → AskForVerdict (map string_bytes words.now)
         → IsAcceptedRun (I.told inputs.old) (map string_bytes words.now) (S.taken out.old) (S.taken out.new) }
-    ensures shown { result ≡ 0 → AskForEvent (map string_bytes words.now)
-        → IsShownRun (I.told inputs.old) (map string_bytes words.now) (S.taken out.old) (S.taken out.new) }
-    ensures rejected { result ≡ 1 → IsRejectedRun (I.told inputs.old) (map string_bytes words.now) (S.taken out.old) (S.taken out.new) }
-    ensures usage { result ≡ 2 → IsUsageRun (map string_bytes words.now) (S.taken out.old) (S.taken out.new) }
-    ensures input_fault { result ≡ 3 → IsFaultRun (I.faults inputs.old) (I.faults inputs.new) (map string_bytes words.now) (S.taken out.old) (S.taken out.new) }
-    ensures output_fault { result ≡ 4 → Rose (S.faults out.old) (S.faults out.new) }
-    ensures no_memory { result ≡ 6 → Appends (S.taken out.old) (S.taken out.new) no_memory_text }
-    ensures refused { result ≡ 7 → IsRefusedRun (I.told inputs.old) (map string_bytes words.now) (S.taken out.old) (S.taken out.new) }
-    ensures unreadable { result ≡ 9 → IsUnreadableRun (I.told inputs.old) (map string_bytes words.now) (S.taken out.old) (S.taken out.new) }
-    ensures statuses { IsStatus result }
+    ensures shown { result.status ≡ 0 → AskForEvent (map string_bytes words.now)
+        → IsShownRun (I.told inputs.old) (D.content disk) (map string_bytes words.now) (S.taken out.old) (S.taken out.new) }
+    ensures initialised { result.status ≡ 0 → AskForService (map string_bytes words.now)
+        → IsMadeRun D.content D.may_leave D.moment D.left_since disk result.disk (map string_bytes words.now) (S.taken out.old) (S.taken out.new) }
+    ensures appended { result.status ≡ 0 → AskForStep (map string_bytes words.now)
+        → IsAppendedRun D.content D.may_leave D.moment D.left_since disk result.disk (I.told inputs.old) (map string_bytes words.now) (S.taken out.old) (S.taken out.new) }
+    ensures proved { result.status ≡ 0 → AskForProof (map string_bytes words.now)
+        → IsProvedRun (D.content disk) (map string_bytes words.now) (S.taken out.old) (S.taken out.new) }
+
+    // The other statuses.
+    ensures rejected { result.status ≡ 1 → IsRejectedRun (I.told inputs.old) (map string_bytes words.now) (S.taken out.old) (S.taken out.new) }
+    ensures usage { result.status ≡ 2 → IsUsageRun (map string_bytes words.now) (S.taken out.old) (S.taken out.new) }
+    ensures input_fault { result.status ≡ 3 → IsFaultRun (I.faults inputs.old) (I.faults inputs.new) (map string_bytes words.now) (S.taken out.old) (S.taken out.new) }
+    ensures output_fault { result.status ≡ 4 → Rose (S.faults out.old) (S.faults out.new) }
+    ensures disk_fault { result.status ≡ 5 → IsDiskFaultRun (D.faults disk) (D.faults result.disk) (map string_bytes words.now) (S.taken out.old) (S.taken out.new) }
+    ensures no_memory { result.status ≡ 6 → Appends (S.taken out.old) (S.taken out.new) no_memory_text }
+    ensures refused { result.status ≡ 7 → IsRefusedRun (I.told inputs.old) (D.content disk) (map string_bytes words.now) (S.taken out.old) (S.taken out.new) }
+    ensures store { result.status ≡ 8 → IsUnservedRun (D.content disk) (map string_bytes words.now) (S.taken out.old) (S.taken out.new) }
+    ensures unreadable { result.status ≡ 9 → IsUnreadableRun (I.told inputs.old) (map string_bytes words.now) (S.taken out.old) (S.taken out.new) }
+    ensures statuses { IsStatus result.status }
+
+    // The disk: whatever the status, a crash at any moment leaves the history or the longer one; a command without a directory
+    // hands the disk back as it is.
+    ensures crash { (command : Command) → command_of (map string_bytes words.now) ≡ Some command
+        → IsCrashSafe D.content D.may_leave D.moment D.left_since disk result.disk (I.told inputs.old) command }
+    ensures kept { (result.status ≡ 0 → ⊥) → (result.status ≡ 4 → ⊥) → (result.status ≡ 5 → ⊥)
+        → AskForDisk (map string_bytes words.now) → Keeps D.content D.may_leave D.moment D.left_since disk result.disk }
+    ensures untouched { (AskForDisk (map string_bytes words.now) → ⊥) → result.disk ≡ disk }
 {
-    run_to_the_end(alloc, words, inputs, out)
+    run_to_the_end(alloc, words, disk, inputs, out)
 }

@@ -1,17 +1,21 @@
 // All that the program does, over any inputs and any sink.
 #![tactic(auto)]
 
+mod appending;
 mod bad_input;
 mod ending;
 mod following;
+mod making;
 mod outcome;
 mod pair;
 mod printing;
+mod proving;
+mod service_fault;
 mod showing;
 mod verifying;
 
-pub use ending::run;
-pub use outcome::{BadInput, Outcome, Refusal};
+pub use ending::{Ran, run};
+pub use outcome::{BadInput, Outcome, Refusal, StoreCause};
 
 #[cfg(test)]
 mod showing_tests;

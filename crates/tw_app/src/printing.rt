@@ -4,16 +4,15 @@ ghost use Rattle.std.specs.Prelude.{◌≡◌, ◌∷◌, [], ◌++◌, codes, O
 ghost use Rattle.tw_text.specs.Lines.{line};
 ghost use Rattle.tw_text.specs.declared.field.Field.TheVariants.{Number, Word};
 ghost use Rattle.tw_app.specs.declared.outcome.BadInput.TheVariants.{Unsound};
-ghost use Rattle.tw_app.specs.Outcomes.{bad_input_text, refusal_fields, refused_text, text_of};
+ghost use Rattle.tw_app.specs.Outcomes.{bad_input_text, cause_fields, refusal_fields, refused_text, store_text, text_of};
 
-use crate::outcome::{BadInput, Outcome, Refusal};
+use crate::outcome::{BadInput, Outcome, Refusal, StoreCause};
 use std::alloc::Global;
 use tw_base::{Bytes, NoMemory};
 use tw_chain::Verdict;
 use tw_text::{Field, FieldList, print_line, print_rejected, print_report, print_usage};
 
-/// The text of an outcome. Those of a failed input and of want of memory take none, and are written
-/// as they are; so are the bytes of a proof.
+/// The text of an outcome. Those that take no memory are written as they are.
 pub(crate) fn print(alloc: Global, outcome: &Outcome) -> Result<Bytes, NoMemory>
     ensures { IfOk result (λ text. text ≡ text_of outcome.now) }
 {
@@ -21,9 +20,14 @@ pub(crate) fn print(alloc: Global, outcome: &Outcome) -> Result<Bytes, NoMemory>
         Outcome::Judged(Verdict::Yes(report)) => print_report(alloc, report),
         Outcome::Judged(Verdict::No(reason)) => print_rejected(alloc, reason),
         Outcome::Refused(refusal) => print_refused(alloc, refusal),
+        Outcome::Unserved(cause) => print_store(alloc, cause),
         Outcome::Unreadable(bad) => print_bad_input(alloc, bad),
         Outcome::BadWords { number } => print_usage(alloc, *number),
-        Outcome::Shown(_) | Outcome::InputFault | Outcome::NoMemory => Err(NoMemory),
+        Outcome::Shown(_)
+        | Outcome::Made(_)
+        | Outcome::InputFault
+        | Outcome::DiskFault
+        | Outcome::NoMemory => Err(NoMemory),
     }
 }
 
@@ -41,14 +45,32 @@ fn put_refusal(alloc: Global, fields: &mut FieldList, refusal: &Refusal) -> Resu
     ensures { OnOk result (fields.new ≡ fields.old ++ refusal_fields refusal.now) }
 {
     match refusal {
-        Refusal::NoStep { last } => {
-            put_word(alloc, fields, b"NoStep")?;
-            fields.push(Field::Number(*last))
-        }
-        Refusal::NoEvent { count } => {
-            put_word(alloc, fields, b"NoEvent")?;
-            fields.push(Field::Number(*count as u64))
-        }
+        Refusal::NoStep { last } => put_number(alloc, fields, b"NoStep", *last),
+        Refusal::NoEvent { count } => put_number(alloc, fields, b"NoEvent", *count as u64),
+        Refusal::Taken => put_word(alloc, fields, b"Taken"),
+        Refusal::Full => put_word(alloc, fields, b"Full"),
+        Refusal::TooMany { count } => put_number(alloc, fields, b"TooMany", *count),
+        Refusal::TooLong { bytes } => put_number(alloc, fields, b"TooLong", *bytes),
+    }
+}
+
+/// The line `store` with the name of the cause and its field.
+fn print_store(alloc: Global, cause: &StoreCause) -> Result<Bytes, NoMemory>
+    ensures { IfOk result (λ text. text ≡ store_text cause.now) }
+{
+    let mut fields = FieldList::new(alloc);
+    put_cause(alloc, &mut fields, cause)?;
+    print_line(alloc, b"store", &fields)
+}
+
+/// Puts the name of the cause and its field at the end of the fields.
+fn put_cause(alloc: Global, fields: &mut FieldList, cause: &StoreCause) -> Result<(), NoMemory>
+    ensures { OnOk result (fields.new ≡ fields.old ++ cause_fields cause.now) }
+{
+    match cause {
+        StoreCause::Blank => put_word(alloc, fields, b"Blank"),
+        StoreCause::NotAStore { slot } => put_number(alloc, fields, b"NotAStore", *slot as u64),
+        StoreCause::BadPage { page } => put_number(alloc, fields, b"BadPage", *page),
     }
 }
 
@@ -96,6 +118,19 @@ fn print_unsound(alloc: Global, file: &[u8], step: u64, rule: u8) -> Result<Byte
     put_word(alloc, &mut fields, b"rule")?;
     fields.push(Field::Number(rule as u64))?;
     print_line(alloc, b"unsound", &fields)
+}
+
+/// Puts a word and a number at the end of the fields.
+fn put_number(
+    alloc: Global,
+    fields: &mut FieldList,
+    word: &[u8],
+    number: u64,
+) -> Result<(), NoMemory>
+    ensures { OnOk result (fields.new ≡ fields.old ++ Word word.now ∷ Number number ∷ []) }
+{
+    put_word(alloc, fields, word)?;
+    fields.push(Field::Number(number))
 }
 
 /// Puts a word at the end of the fields.

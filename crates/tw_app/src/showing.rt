@@ -4,7 +4,7 @@ ghost use Rattle.std.specs.Prelude.{IfErr, IfOk};
 ghost use Rattle.tw_base.specs.Sound.{IsSound};
 ghost use Rattle.tw_history.specs.Refusals.{RefusesEvent};
 ghost use Rattle.tw_text.specs.declared.command.Command.TheVariants.{Show};
-ghost use Rattle.tw_app.specs.Running.{ComesTo};
+ghost use Rattle.tw_app.specs.Running.{ComesOfFiles};
 ghost use Rattle.tw_app.specs.Showing.{ProvesEvent};
 
 use crate::bad_input::refuse_history;
@@ -26,7 +26,7 @@ pub(crate) fn show<I: Inputs>(
     index: u64,
 ) -> Outcome
     requires { I.may_ask inputs.old file.now }
-    ensures { ComesTo (I.told inputs.old) (I.faults inputs.old) (I.faults inputs.new) (Show file.now step index) result }
+    ensures { ComesOfFiles (I.told inputs.old) (I.faults inputs.old) (I.faults inputs.new) (Show file.now step index) result }
 {
     let bytes = match read_all(alloc, inputs, file, HISTORY_READ) {
         Ok(bytes) => bytes,

@@ -3,6 +3,7 @@
 use super::*;
 use std::alloc::Global;
 use std::process::Abort;
+use tw_disk::MemDisk;
 use tw_outside::{MemInputs, MemSink};
 
 /// The proof that step 1 of the service `a` has one empty event, under step 1 as its top.
@@ -59,7 +60,14 @@ pub(crate) fn expect_over<R: Abort>(
 ) {
     let words = words(rt, alloc, texts);
     let mut out = MemSink::new(alloc);
-    assert_eq!(rt; run(alloc, words.as_slice(), inputs, &mut out), status);
+    let ran = run(
+        alloc,
+        words.as_slice(),
+        MemDisk::new(alloc),
+        inputs,
+        &mut out,
+    );
+    assert_eq!(rt; ran.status, status);
     assert_eq!(rt; out.taken(), bytes);
 }
 
@@ -204,10 +212,14 @@ fn a_failing_sink_and_a_failing_read(rt: HostRuntime) {
     let mut inputs = inputs(&rt, alloc, 145);
     let mut out = MemSink::new(alloc);
     out.fail(1).expect(&rt, "memory");
-    assert_eq!(rt; run(alloc, words.as_slice(), &mut inputs, &mut out), 4);
+    let disk = MemDisk::new(alloc);
+    let ran = run(alloc, words.as_slice(), disk, &mut inputs, &mut out);
+    assert_eq!(rt; ran.status, 4);
     assert_eq!(rt; out.taken().len(), 0);
     inputs.fail(2).expect(&rt, "memory");
-    assert_eq!(rt; run(alloc, words.as_slice(), &mut inputs, &mut out), 3);
+    let ran = run(alloc, words.as_slice(), ran.disk, &mut inputs, &mut out);
+    assert_eq!(rt; ran.status, 3);
+    assert_eq!(rt; ran.disk.device_calls(), 0);
     assert_eq!(rt; out.taken(), b"fault input\n".as_slice());
 }
 

@@ -2,7 +2,7 @@
 
 ghost use Rattle.std.specs.Prelude.{◌≡◌, ◌∷◌, []};
 ghost use Rattle.tw_text.specs.declared.command.Command.TheVariants.{VerifyFile, VerifyOne};
-ghost use Rattle.tw_app.specs.Running.{ComesTo};
+ghost use Rattle.tw_app.specs.Running.{ComesOfFiles};
 
 use crate::bad_input::refuse_line;
 use crate::outcome::Outcome;
@@ -24,7 +24,7 @@ pub(crate) fn verify_one<I: Inputs>(
     anchor: Thread,
 ) -> Outcome
     requires { I.may_ask inputs.old proof.now }
-    ensures { ComesTo (I.told inputs.old) (I.faults inputs.old) (I.faults inputs.new) (VerifyOne proof.now anchor.from anchor.step anchor.auth) result }
+    ensures { ComesOfFiles (I.told inputs.old) (I.faults inputs.old) (I.faults inputs.new) (VerifyOne proof.now anchor.from anchor.step anchor.auth) result }
 {
     let bytes = match read_all(alloc, inputs, proof, FILE_LIMIT) {
         Ok(bytes) => bytes,
@@ -47,7 +47,7 @@ pub(crate) fn verify_file<I: Inputs>(
 ) -> Outcome
     requires proof { I.may_ask inputs.old proof.now }
     requires anchors { I.may_ask inputs.old anchors.now }
-    ensures { ComesTo (I.told inputs.old) (I.faults inputs.old) (I.faults inputs.new) (VerifyFile proof.now anchors.now) result }
+    ensures { ComesOfFiles (I.told inputs.old) (I.faults inputs.old) (I.faults inputs.new) (VerifyFile proof.now anchors.now) result }
 {
     let pair = match read_pair(alloc, inputs, anchors, proof, FILE_LIMIT) {
         Ok(pair) => pair,

@@ -1,40 +1,56 @@
-use Rattle.std.proofs.Common.{sym, subst}
-use Rattle.tw_app.proofs.CommandWords.{asks_files, asks_history, asks_proof, comes_of_files, comes_of_proof, comes_of_show}
+use Rattle.std.proofs.Common.{rules, sym, subst}
+use Rattle.tw_app.specs.Leaving.{CommandLeaves}
+use Rattle.tw_app.specs.Running.{ComesTo}
+use Rattle.tw_app.proofs.CommandWords.{asks_events, of_append}
+use Rattle.tw_app.proofs.Landings.{other_leaves}
 use Rattle.tw_app.proofs.following.follow.Goals as goal
 
-pub show-requires : goal.show-requires
-show-requires g c =
+pub append-requires : goal.append-requires
+append-requires g c =
     subst (g.I.Inputs.may_ask c.args.inputs.now) (sym c.word.ensures)
-    (asks_history _ c.args.command.now c.requires.command (g.I.Inputs.may_ask c.args.inputs.now) c.requires.files c.in-Show.history c.in-Show.step c.in-Show.index c.in-Show.is)
+    (asks_events _ c.args.command.now c.requires.command (g.I.Inputs.may_ask c.args.inputs.now) c.requires.files c.in-Append.dir c.in-Append.file c.in-Append.is)
 
-pub verify_file-requires-clause-proof : goal.verify_file-requires-clause-proof
-verify_file-requires-clause-proof g c =
-    subst (g.I.Inputs.may_ask c.args.inputs.now) (sym c.word-in-VerifyFile.ensures)
-    (asks_files _ c.args.command.now c.requires.command (g.I.Inputs.may_ask c.args.inputs.now) c.requires.files c.in-VerifyFile.proof c.in-VerifyFile.anchors c.in-VerifyFile.is).0
+pub returns-in-Init-clause-comes : goal.returns-in-Init-clause-comes
+returns-in-Init-clause-comes g c =
+    let told = g.I.Inputs.told c.args.inputs.now in
+    let faults = g.I.Inputs.faults c.args.inputs.now in
+    let d = g.D.Disk in
+    subst (λ command. ComesTo told faults faults (d.content c.args.disk) (d.faults c.args.disk) (d.faults c.make.result.disk) command c.make.result.outcome) (sym c.in-Init.is)
+    (c.make.ensures.comes told faults faults c.in-Init.dir)
 
-pub verify_file-requires-clause-anchors : goal.verify_file-requires-clause-anchors
-verify_file-requires-clause-anchors g c =
-    subst (g.I.Inputs.may_ask c.args.inputs.now) (sym c.word-in-VerifyFile-2.ensures)
-    (asks_files _ c.args.command.now c.requires.command (g.I.Inputs.may_ask c.args.inputs.now) c.requires.files c.in-VerifyFile.proof c.in-VerifyFile.anchors c.in-VerifyFile.is).1
+pub returns-in-Init-clause-leaves : goal.returns-in-Init-clause-leaves
+returns-in-Init-clause-leaves g c =
+    let told = g.I.Inputs.told c.args.inputs.now in
+    let d = g.D.Disk in
+    subst (λ command. CommandLeaves d.content d.may_leave d.moment d.left_since c.args.disk c.make.result.disk told command c.make.result.outcome) (sym c.in-Init.is)
+    (c.make.ensures.leaves told c.in-Init.dir)
 
-pub verify_one-requires : goal.verify_one-requires
-verify_one-requires g c =
-    subst (g.I.Inputs.may_ask c.args.inputs.now) (sym c.word-in-VerifyOne.ensures)
-    (asks_proof _ c.args.command.now c.requires.command (g.I.Inputs.may_ask c.args.inputs.now) c.requires.files c.in-VerifyOne.proof c.in-VerifyOne.name c.in-VerifyOne.pos c.in-VerifyOne.auth c.in-VerifyOne.is)
+pub returns-in-Append-clause-comes : goal.returns-in-Append-clause-comes
+returns-in-Append-clause-comes g c =
+    let told = g.I.Inputs.told c.args.inputs.now in
+    let d = g.D.Disk in
+    of_append _ c.args.command.now c.requires.command
+    (λ command. ComesTo told (g.I.Inputs.faults c.args.inputs.now) (g.I.Inputs.faults c.append.new.inputs) (d.content c.args.disk) (d.faults c.args.disk) (d.faults c.append.result.disk) command c.append.result.outcome)
+    c.in-Append.dir c.in-Append.file c.word.result.now c.in-Append.is c.word.ensures (c.append.ensures.comes c.in-Append.dir)
 
-pub returns-in-Show : goal.returns-in-Show
-returns-in-Show g c =
-    comes_of_show _ c.args.command.now c.requires.command (g.I.Inputs.told c.args.inputs.now) _ _ c.show.result
-    c.in-Show.history c.word.result.now c.in-Show.step c.in-Show.index c.in-Show.is c.word.ensures c.show.ensures
+pub returns-in-Append-clause-leaves : goal.returns-in-Append-clause-leaves
+returns-in-Append-clause-leaves g c =
+    let told = g.I.Inputs.told c.args.inputs.now in
+    let d = g.D.Disk in
+    of_append _ c.args.command.now c.requires.command
+    (λ command. CommandLeaves d.content d.may_leave d.moment d.left_since c.args.disk c.append.result.disk told command c.append.result.outcome)
+    c.in-Append.dir c.in-Append.file c.word.result.now c.in-Append.is c.word.ensures (c.append.ensures.leaves c.in-Append.dir)
 
-pub returns-in-VerifyFile : goal.returns-in-VerifyFile
-returns-in-VerifyFile g c =
-    comes_of_files _ c.args.command.now c.requires.command (g.I.Inputs.told c.args.inputs.now) _ _ c.verify_file.result
-    c.in-VerifyFile.proof c.in-VerifyFile.anchors c.word-in-VerifyFile.result.now c.word-in-VerifyFile-2.result.now c.in-VerifyFile.is
-    c.word-in-VerifyFile.ensures c.word-in-VerifyFile-2.ensures c.verify_file.ensures
+pub returns-in-ProveEvent-clause-comes : goal.returns-in-ProveEvent-clause-comes
+returns-in-ProveEvent-clause-comes g c =
+    let told = g.I.Inputs.told c.args.inputs.now in
+    let faults = g.I.Inputs.faults c.args.inputs.now in
+    let d = g.D.Disk in
+    subst (λ command. ComesTo told faults faults (d.content c.args.disk) (d.faults c.args.disk) (d.faults c.prove.result.disk) command c.prove.result.outcome) (sym c.in-ProveEvent.is)
+    (c.prove.ensures.comes told faults faults c.in-ProveEvent.dir)
 
-pub returns-in-VerifyOne : goal.returns-in-VerifyOne
-returns-in-VerifyOne g c =
-    comes_of_proof _ c.args.command.now c.requires.command (g.I.Inputs.told c.args.inputs.now) _ _ c.verify_one.result
-    c.in-VerifyOne.proof c.in-VerifyOne.name c.word-in-VerifyOne.result.now c.in-VerifyOne.pos c.in-VerifyOne.auth c.in-VerifyOne.is
-    c.word-in-VerifyOne.ensures c.verify_one.ensures
+pub returns-in_default : goal.returns-in_default
+returns-in_default g c = record {
+  comes = c.follow_files.ensures (g.D.Disk.content c.args.disk) (g.D.Disk.faults c.args.disk) (g.D.Disk.faults c.args.disk);
+  leaves = other_leaves g.D.Disk.content g.D.Disk.may_leave g.D.Disk.moment g.D.Disk.left_since c.args.disk (g.I.Inputs.told c.args.inputs.now) c.args.command.now c.follow_files.result (search rules);
+}

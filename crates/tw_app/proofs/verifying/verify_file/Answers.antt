@@ -9,7 +9,7 @@ returns-in-Err-BadLine g c =
     (rw c.in-Err-BadLine.field-0-is at c.in-Err-BadLine.ensures.bad) c.refuse_line.ensures
 
 pub returns-in-Ok-verify : goal.returns-in-Ok-verify
-returns-in-Ok-verify g c =
+returns-in-Ok-verify g c = λ found disk_before disk_after.
     judges_file (g.I.Inputs.told c.args.inputs.now) c.args.proof.now c.args.anchors.now c.as_slice-3.result.now c.in-Ok-verify.verdict c.as_slice-2.result.now c.as_slice.result.now
     c.in-Ok.ensures.first_there (λ bytes tells. c.as_slice.ensures.value ∙ c.in-Ok.ensures.first_read bytes tells)
     (c.as_slice-3.ensures ∙ c.in-Ok-read_anchors.ensures.anchors) c.in-Ok-read_anchors.ensures.good

@@ -1,0 +1,340 @@
+-- What a run's status says by itself of a command that works on a disk, and what the run leaves of the disk.
+use Rattle.std.proofs.Common.{◌≡◌, ◌∙◌, ℕ, List, ap, sym, subst, arith, inl, inr, ◌⊎◌, ⊎_elim, refl}
+use Rattle.std.specs.Prelude.{Option, Some, None, MatchOption}
+use Rattle.tw_base.specs.declared.thread.Thread.{Thread}
+use Rattle.tw_base.specs.History.{History}
+use Rattle.tw_disk.specs.Disk.{LeavesOnly}
+use Rattle.tw_disk.specs.Image.{Image}
+use Rattle.sha2.specs.Sha256.{sha256}
+use Rattle.tw_disk.specs.Moments.{leaves_weaker}
+use Rattle.tw_outside.specs.Files.{Files}
+use Rattle.tw_service.specs.Stands.{IsBlankOrNew}
+use Rattle.tw_text.specs.CommandLine.{command_of}
+use Rattle.tw_text.specs.declared.command.Command.{Command}
+use Rattle.tw_text.specs.declared.command.Command.TheVariants.{Append, Init, ProveEvent}
+use Rattle.tw_chain.specs.declared.verdict.Verdict.{Verdict}
+use Rattle.tw_chain.specs.declared.verdict.Verdict.TheVariants.{Yes, No}
+use Rattle.tw_app.specs.declared.outcome.Outcome.{Outcome}
+use Rattle.tw_app.specs.declared.outcome.Outcome.TheVariants.{Judged, Shown, Made, Refused, Unserved, Unreadable, BadWords, InputFault, DiskFault, NoMemory}
+use Rattle.tw_app.specs.Commands.{IsAppend, IsInit, IsProve, IsVerify, UsesDisk}
+use Rattle.tw_app.specs.Disks.{IsLeft, IsOf, Keeps, MayBegin, Stands}
+use Rattle.tw_app.specs.DiskStatuses.{AddsAtMost, IsAppendedRun, IsCrashSafe, IsDiskFaultRun, IsMadeRun, IsProvedRun, IsUnservedRun}
+use Rattle.tw_app.specs.Leaving.{AppendLeaves, CommandLeaves, InitLeaves, Leaves}
+use Rattle.tw_app.specs.Outcomes.{status_of, text_of}
+use Rattle.tw_app.specs.Running.{ComesTo, Ends, EndsWith, HasOutcome, HaveNoForm}
+use Rattle.tw_app.specs.Statuses.{AreOf, AskForDisk, AskForProof, AskForService, AskForStep}
+use Rattle.tw_app.specs.Verifying.{Judges}
+use Rattle.tw_app.proofs.AtRest.{left_keeps, no_call_left}
+use Rattle.tw_app.proofs.Endings.{Ended, judging_is_verify, making_is, not_judged, not_show_make, not_verify_make, not_verify_show, of_command, of_option, of_words, outcome_is, showing_is}
+
+-- the command, by what it is
+is_init : (c : Command) → IsInit c → (dir : List ℕ) × (name : List ℕ) × (c ≡ Init dir name)
+is_init (Init dir name) is = (dir, name, refl)
+is_init _ is = absurd is
+
+is_append : (c : Command) → IsAppend c → (dir : List ℕ) × (file : List ℕ) × (c ≡ Append dir file)
+is_append (Append dir file) is = (dir, file, refl)
+is_append _ is = absurd is
+
+record OfProve (c : Command) : Type 0 where
+  dir : List ℕ
+  step : ℕ
+  index : ℕ
+  top : Option ℕ
+  is : c ≡ ProveEvent dir step index top
+
+is_prove : (c : Command) → IsProve c → OfProve c
+is_prove (ProveEvent dir step index top) is = record { dir = dir; step = step; index = index; top = top; is = refl }
+is_prove _ is = absurd is
+
+module _ {D : Type 0} (content : D → Option Image) (may_leave : D → Image → Type 0) (moment : D → ℕ) (left_since : D → ℕ → Image → Type 0)
+    (only_now : (d : D) (image : Image) → left_since d (moment d) image → may_leave d image) (old new : D)
+    (told : Option Files) (before after disk_before disk_after : ℕ) (words : List (List ℕ)) (taken taken_after : Option (List ℕ)) (faults faults_after : ℕ) (status : ℕ) where
+  abbrev Left : Outcome → Type 0
+  Left outcome = Leaves content may_leave moment left_since old new told words outcome
+
+  abbrev CommandLeft : Command → Outcome → Type 0
+  CommandLeft c outcome = CommandLeaves content may_leave moment left_since old new told c outcome
+
+  abbrev EndsNow : Type 0
+  EndsNow = Ends told before after (content old) disk_before disk_after words taken taken_after faults faults_after Left status
+
+  abbrev Has : Outcome → Type 0
+  Has outcome = HasOutcome told before after (content old) disk_before disk_after words outcome
+
+  abbrev ComesToNow : Command → Outcome → Type 0
+  ComesToNow c outcome = ComesTo told before after (content old) disk_before disk_after c outcome
+
+  abbrev EndedBy : ℕ → Outcome → Type 0
+  EndedBy n outcome = Ended told before after (content old) disk_before disk_after words taken taken_after faults faults_after Left status n outcome
+
+  left_by : (c : Command) (outcome : Outcome) → command_of words ≡ Some c → Left outcome → CommandLeft c outcome
+  left_by c outcome is left = subst (λ (o : Option Command). MatchOption o (new ≡ old) (λ d. CommandLeft d outcome)) is left
+
+  abbrev OfCommand : Outcome → Type 0
+  OfCommand outcome = (c : Command) × (command_of words ≡ Some c) × ComesToNow c outcome
+
+  command_by : (outcome : Outcome) → (HaveNoForm words outcome → ⊥) → Has outcome → OfCommand outcome
+  command_by outcome none has = of_words told before after (content old) disk_before disk_after words taken taken_after faults faults_after Left status outcome none has
+
+  ended_by : (n : ℕ) → (n ≡ 4 → ⊥) → status ≡ n → (outcome : Outcome) → EndsWith taken taken_after faults faults_after status outcome → EndedBy n outcome
+  ended_by n other is outcome ends = outcome_is told before after (content old) disk_before disk_after words taken taken_after faults faults_after Left status n other is outcome ends
+
+  -- ---- status 0
+
+  made_by : (c : Command) (thread : Thread) → command_of words ≡ Some c → IsInit c → ComesToNow c (Made thread) → Left (Made thread) → EndedBy 0 (Made thread)
+      → IsMadeRun content may_leave moment left_since old new words taken taken_after
+  made_by c thread is init comes left ended =
+      let of = is_init c init in
+      let is_of : command_of words ≡ Some (Init of.0 of.1) = is ∙ ap (λ (d : Command). Some d) of.2 in
+      record {
+        dir = of.0;
+        name = of.1;
+        thread = thread;
+        is_command = is_of;
+        makes = subst (λ (d : Command). ComesToNow d (Made thread)) of.2 comes;
+        begins = left_by (Init of.0 of.1) (Made thread) is_of left;
+        written = ended.1;
+      }
+
+  appended_by : (c : Command) (thread : Thread) → command_of words ≡ Some c → IsAppend c → Left (Made thread) → EndedBy 0 (Made thread)
+      → IsAppendedRun content may_leave moment left_since old new told words taken taken_after
+  appended_by c thread is append left ended =
+      let of = is_append c append in
+      let is_of : command_of words ≡ Some (Append of.0 of.1) = is ∙ ap (λ (d : Command). Some d) of.2 in
+      let leaves = left_by (Append of.0 of.1) (Made thread) is_of left in
+      record {
+        dir = of.0;
+        file = of.1;
+        thread = thread;
+        is_command = is_of;
+        events = leaves.0;
+        are = leaves.1;
+        added = leaves.2.0;
+        adds = leaves.2.1;
+        written = ended.1;
+      }
+
+  proved_by : (c : Command) (proof : List ℕ) → command_of words ≡ Some c → IsProve c → ComesToNow c (Shown proof) → EndedBy 0 (Shown proof)
+      → IsProvedRun (content old) words taken taken_after
+  proved_by c proof is prove comes ended =
+      let of = is_prove c prove in
+      record {
+        dir = of.dir;
+        step = of.step;
+        index = of.index;
+        top = of.top;
+        proof = proof;
+        is_command = is ∙ ap (λ (d : Command). Some d) of.is;
+        proves = subst (λ (d : Command). ComesToNow d (Shown proof)) of.is comes;
+        written = ended.1;
+      }
+
+  pub made : EndsNow → status ≡ 0 → AskForService words → IsMadeRun content may_leave moment left_since old new words taken taken_after
+  made e is asks = by e.outcome e.has e.leaves (ended_by 0 (λ four. omega arith) is e.outcome e.ends)
+    where
+      by : (outcome : Outcome) → Has outcome → Left outcome → EndedBy 0 outcome → IsMadeRun content may_leave moment left_since old new words taken taken_after
+      by (Made thread) has left ended =
+          let of = command_by (Made thread) (λ none. none) has in made_by of.0 thread of.1 (of_command IsInit words of.0 of.1 asks) of.2 left ended
+      by (Judged verdict) has left ended =
+          let of = command_by (Judged verdict) (λ none. none) has in
+          absurd (not_verify_make of.0 (judging_is_verify told of.0 verdict of.2) (inl (of_command IsInit words of.0 of.1 asks)))
+      by (Shown proof) has left ended =
+          let of = command_by (Shown proof) (λ none. none) has in
+          absurd (not_show_make of.0 (showing_is told (content old) of.0 proof of.2) (inl (of_command IsInit words of.0 of.1 asks)))
+      by (Refused refusal) has left ended = absurd (omega (arith, ended.0))
+      by (Unserved cause) has left ended = absurd (omega (arith, ended.0))
+      by (Unreadable bad) has left ended = absurd (omega (arith, ended.0))
+      by (BadWords number) has left ended = absurd (omega (arith, ended.0))
+      by InputFault has left ended = absurd (omega (arith, ended.0))
+      by DiskFault has left ended = absurd (omega (arith, ended.0))
+      by NoMemory has left ended = absurd (omega (arith, ended.0))
+
+  pub appended : EndsNow → status ≡ 0 → AskForStep words → IsAppendedRun content may_leave moment left_since old new told words taken taken_after
+  appended e is asks = by e.outcome e.has e.leaves (ended_by 0 (λ four. omega arith) is e.outcome e.ends)
+    where
+      by : (outcome : Outcome) → Has outcome → Left outcome → EndedBy 0 outcome → IsAppendedRun content may_leave moment left_since old new told words taken taken_after
+      by (Made thread) has left ended =
+          let of = command_by (Made thread) (λ none. none) has in appended_by of.0 thread of.1 (of_command IsAppend words of.0 of.1 asks) left ended
+      by (Judged verdict) has left ended =
+          let of = command_by (Judged verdict) (λ none. none) has in
+          absurd (not_verify_make of.0 (judging_is_verify told of.0 verdict of.2) (inr (of_command IsAppend words of.0 of.1 asks)))
+      by (Shown proof) has left ended =
+          let of = command_by (Shown proof) (λ none. none) has in
+          absurd (not_show_make of.0 (showing_is told (content old) of.0 proof of.2) (inr (of_command IsAppend words of.0 of.1 asks)))
+      by (Refused refusal) has left ended = absurd (omega (arith, ended.0))
+      by (Unserved cause) has left ended = absurd (omega (arith, ended.0))
+      by (Unreadable bad) has left ended = absurd (omega (arith, ended.0))
+      by (BadWords number) has left ended = absurd (omega (arith, ended.0))
+      by InputFault has left ended = absurd (omega (arith, ended.0))
+      by DiskFault has left ended = absurd (omega (arith, ended.0))
+      by NoMemory has left ended = absurd (omega (arith, ended.0))
+
+  pub proved : EndsNow → status ≡ 0 → AskForProof words → IsProvedRun (content old) words taken taken_after
+  proved e is asks = by e.outcome e.has (ended_by 0 (λ four. omega arith) is e.outcome e.ends)
+    where
+      by : (outcome : Outcome) → Has outcome → EndedBy 0 outcome → IsProvedRun (content old) words taken taken_after
+      by (Shown proof) has ended =
+          let of = command_by (Shown proof) (λ none. none) has in proved_by of.0 proof of.1 (of_command IsProve words of.0 of.1 asks) of.2 ended
+      by (Judged verdict) has ended =
+          let of = command_by (Judged verdict) (λ none. none) has in
+          absurd (not_verify_show of.0 (judging_is_verify told of.0 verdict of.2) (inr (of_command IsProve words of.0 of.1 asks)))
+      by (Made thread) has ended =
+          let of = command_by (Made thread) (λ none. none) has in
+          absurd (not_show_make of.0 (inr (of_command IsProve words of.0 of.1 asks)) (making_is told (content old) of.0 thread of.2))
+      by (Refused refusal) has ended = absurd (omega (arith, ended.0))
+      by (Unserved cause) has ended = absurd (omega (arith, ended.0))
+      by (Unreadable bad) has ended = absurd (omega (arith, ended.0))
+      by (BadWords number) has ended = absurd (omega (arith, ended.0))
+      by InputFault has ended = absurd (omega (arith, ended.0))
+      by DiskFault has ended = absurd (omega (arith, ended.0))
+      by NoMemory has ended = absurd (omega (arith, ended.0))
+
+  -- ---- statuses 5 and 8
+
+  not_verdict : (verdict : Verdict) (n : ℕ) → (1 ≡ n → ⊥) → (0 ≡ n → ⊥) → n ≡ status_of (Judged verdict) → ⊥
+  not_verdict (Yes report) n one zeroth is = zeroth (sym is)
+  not_verdict (No reason) n one zeroth is = one (sym is)
+
+  pub disk_fault : EndsNow → status ≡ 5 → IsDiskFaultRun disk_before disk_after words taken taken_after
+  disk_fault e is = by e.outcome e.has (ended_by 5 (λ four. omega arith) is e.outcome e.ends)
+    where
+      by : (outcome : Outcome) → Has outcome → EndedBy 5 outcome → IsDiskFaultRun disk_before disk_after words taken taken_after
+      by DiskFault has ended =
+          let of = command_by DiskFault (λ none. none) has in
+          record { asked = of_option UsesDisk words of.0 of.1 of.2.0; failed = of.2.1; written = ended.1 }
+      by (Judged verdict) has ended = absurd (not_verdict verdict 5 (λ n. omega arith) (λ n. omega arith) ended.0)
+      by (Shown proof) has ended = absurd (omega (arith, ended.0))
+      by (Made thread) has ended = absurd (omega (arith, ended.0))
+      by (Refused refusal) has ended = absurd (omega (arith, ended.0))
+      by (Unserved cause) has ended = absurd (omega (arith, ended.0))
+      by (Unreadable bad) has ended = absurd (omega (arith, ended.0))
+      by (BadWords number) has ended = absurd (omega (arith, ended.0))
+      by InputFault has ended = absurd (omega (arith, ended.0))
+      by NoMemory has ended = absurd (omega (arith, ended.0))
+
+  pub unserved : EndsNow → status ≡ 8 → IsUnservedRun (content old) words taken taken_after
+  unserved e is = by e.outcome e.has (ended_by 8 (λ four. omega arith) is e.outcome e.ends)
+    where
+      by : (outcome : Outcome) → Has outcome → EndedBy 8 outcome → IsUnservedRun (content old) words taken taken_after
+      by (Unserved cause) has ended =
+          let of = command_by (Unserved cause) (λ none. none) has in
+          record { command = of.0; cause = cause; is_command = of.1; cant = of.2; written = ended.1 }
+      by (Judged verdict) has ended = absurd (not_verdict verdict 8 (λ n. omega arith) (λ n. omega arith) ended.0)
+      by (Shown proof) has ended = absurd (omega (arith, ended.0))
+      by (Made thread) has ended = absurd (omega (arith, ended.0))
+      by (Refused refusal) has ended = absurd (omega (arith, ended.0))
+      by (Unreadable bad) has ended = absurd (omega (arith, ended.0))
+      by (BadWords number) has ended = absurd (omega (arith, ended.0))
+      by InputFault has ended = absurd (omega (arith, ended.0))
+      by DiskFault has ended = absurd (omega (arith, ended.0))
+      by NoMemory has ended = absurd (omega (arith, ended.0))
+
+  -- ---- the disk
+
+  begin_safe : (name : List ℕ) (outcome : Outcome) → InitLeaves content may_leave moment left_since old new name outcome → MayBegin content may_leave moment left_since name old new
+  begin_safe name outcome left = by outcome left
+    where
+      wider : IsLeft content may_leave moment left_since old new → MayBegin content may_leave moment left_since name old new
+      wider left = λ image told_image. leaves_weaker moment may_leave left_since old new (may_leave old) (λ i. may_leave old i ⊎ IsBlankOrNew sha256 name i) (λ i was. inl was) left.1
+
+      by : (outcome : Outcome) → InitLeaves content may_leave moment left_since old new name outcome → MayBegin content may_leave moment left_since name old new
+      by (Made thread) left = left.0
+      by DiskFault left = left
+      by (Judged verdict) left = wider left
+      by (Shown proof) left = wider left
+      by (Refused refusal) left = wider left
+      by (Unserved cause) left = wider left
+      by (Unreadable bad) left = wider left
+      by (BadWords number) left = wider left
+      by InputFault left = wider left
+      by NoMemory left = wider left
+
+  append_safe : (file : List ℕ) (outcome : Outcome) → AppendLeaves content may_leave moment left_since old new told file outcome
+      → AddsAtMost content may_leave moment left_since old new told file
+  append_safe file (Made thread) left = λ h stands. inr (left.0, left.1, (left.2.1 h stands).0)
+  append_safe file DiskFault left = λ h stands. inr (left.0, left.1, left.2 h stands)
+  append_safe file (Judged verdict) left = λ h stands. inl (left h stands).0
+  append_safe file (Shown proof) left = λ h stands. inl (left h stands).0
+  append_safe file (Refused refusal) left = λ h stands. inl (left h stands).0
+  append_safe file (Unserved cause) left = λ h stands. inl (left h stands).0
+  append_safe file (Unreadable bad) left = λ h stands. inl (left h stands).0
+  append_safe file (BadWords number) left = λ h stands. inl (left h stands).0
+  append_safe file InputFault left = λ h stands. inl (left h stands).0
+  append_safe file NoMemory left = λ h stands. inl (left h stands).0
+
+  same_keeps : new ≡ old → Keeps content may_leave moment left_since old new
+  same_keeps is =
+      subst (λ (d : D). Keeps content may_leave moment left_since old d) (sym is)
+      (left_keeps content may_leave moment left_since old old (no_call_left content may_leave moment left_since old (only_now old)))
+
+  safe_by : (c : Command) (outcome : Outcome) → CommandLeft c outcome → IsCrashSafe content may_leave moment left_since old new told c
+  safe_by (Init dir name) outcome left = begin_safe name outcome left
+  safe_by (Append dir file) outcome left = append_safe file outcome left
+  safe_by (ProveEvent dir step index top) outcome left = left
+  safe_by _ outcome left = same_keeps left
+
+  pub crash : EndsNow → (c : Command) → command_of words ≡ Some c → IsCrashSafe content may_leave moment left_since old new told c
+  crash e c is = safe_by c e.outcome (left_by c e.outcome is e.leaves)
+
+  -- the statuses of outcomes that make nothing, and after which no disk failed
+  abbrev MakesNothing : Outcome → Type 0
+  MakesNothing (Made thread) = ⊥
+  MakesNothing DiskFault = ⊥
+  MakesNothing _ = Unit {0}
+
+  nothing_made : (status ≡ 0 → ⊥) → (status ≡ 4 → ⊥) → (status ≡ 5 → ⊥) → (outcome : Outcome) → EndsWith taken taken_after faults faults_after status outcome → MakesNothing outcome
+  nothing_made zeroth fourth fifth outcome (inr ends) = absurd (fourth ends.0)
+  nothing_made zeroth fourth fifth (Made thread) (inl ends) = zeroth ends.0
+  nothing_made zeroth fourth fifth DiskFault (inl ends) = fifth ends.0
+  nothing_made zeroth fourth fifth _ (inl ends) = tt
+
+  kept_by : (c : Command) (outcome : Outcome) → MakesNothing outcome → UsesDisk c → CommandLeft c outcome → Keeps content may_leave moment left_since old new
+  kept_by (Init dir name) outcome nothing uses left = by outcome nothing left
+    where
+      by : (outcome : Outcome) → MakesNothing outcome → InitLeaves content may_leave moment left_since old new name outcome → Keeps content may_leave moment left_since old new
+      by (Made thread) nothing left = absurd nothing
+      by DiskFault nothing left = absurd nothing
+      by (Judged verdict) nothing left = left_keeps content may_leave moment left_since old new left
+      by (Shown proof) nothing left = left_keeps content may_leave moment left_since old new left
+      by (Refused refusal) nothing left = left_keeps content may_leave moment left_since old new left
+      by (Unserved cause) nothing left = left_keeps content may_leave moment left_since old new left
+      by (Unreadable bad) nothing left = left_keeps content may_leave moment left_since old new left
+      by (BadWords number) nothing left = left_keeps content may_leave moment left_since old new left
+      by InputFault nothing left = left_keeps content may_leave moment left_since old new left
+      by NoMemory nothing left = left_keeps content may_leave moment left_since old new left
+  kept_by (Append dir file) outcome nothing uses left = by outcome nothing left
+    where
+      by : (outcome : Outcome) → MakesNothing outcome → AppendLeaves content may_leave moment left_since old new told file outcome → Keeps content may_leave moment left_since old new
+      by (Made thread) nothing left = absurd nothing
+      by DiskFault nothing left = absurd nothing
+      by (Judged verdict) nothing left = left
+      by (Shown proof) nothing left = left
+      by (Refused refusal) nothing left = left
+      by (Unserved cause) nothing left = left
+      by (Unreadable bad) nothing left = left
+      by (BadWords number) nothing left = left
+      by InputFault nothing left = left
+      by NoMemory nothing left = left
+  kept_by (ProveEvent dir step index top) outcome nothing uses left = left
+  kept_by _ outcome nothing uses left = absurd uses
+
+  pub kept : EndsNow → (status ≡ 0 → ⊥) → (status ≡ 4 → ⊥) → (status ≡ 5 → ⊥) → AskForDisk words → Keeps content may_leave moment left_since old new
+  kept e zeroth fourth fifth asks = by (command_of words) refl asks
+    where
+      by : (o : Option Command) → command_of words ≡ o → MatchOption o ⊥ UsesDisk → Keeps content may_leave moment left_since old new
+      by None is asks = absurd asks
+      by (Some c) is asks = kept_by c e.outcome (nothing_made zeroth fourth fifth e.outcome e.ends) asks (left_by c e.outcome is e.leaves)
+
+  untouched_by : (c : Command) (outcome : Outcome) → (UsesDisk c → ⊥) → CommandLeft c outcome → new ≡ old
+  untouched_by (Init dir name) outcome other left = absurd (other tt)
+  untouched_by (Append dir file) outcome other left = absurd (other tt)
+  untouched_by (ProveEvent dir step index top) outcome other left = absurd (other tt)
+  untouched_by _ outcome other left = left
+
+  pub untouched : EndsNow → (AskForDisk words → ⊥) → new ≡ old
+  untouched e other = by (command_of words) refl e.leaves
+    where
+      by : (o : Option Command) → command_of words ≡ o → MatchOption o (new ≡ old) (λ c. CommandLeft c e.outcome) → new ≡ old
+      by None is left = left
+      by (Some c) is left = untouched_by c e.outcome (λ uses. other (of_option UsesDisk words c is uses)) left

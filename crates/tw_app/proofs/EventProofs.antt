@@ -1,0 +1,148 @@
+-- From what a service answers to the asking for a proof to what the command comes to.
+use Rattle.std.proofs.Common.{◌≡◌, ◌∙◌, ℕ, suc, ◌<◌, ◌≤◌, List, length, min, Bool, true, false, refl, ap, sym, subst, arith, inl, inr, ◌⊎◌, ⊎_elim}
+use Rattle.std.specs.Prelude.{Option, Some, None, Result, Ok, Err, IfErr, IfOk, MatchOption, nat_le, nat_lt, if◌then◌else◌}
+use Rattle.std.proofs.lemmas.Bool.{cases_lt}
+use Rattle.std.proofs.lemmas.Bool.Decides.{nat_tests}
+use Rattle.sha2.specs.Sha256.{sha256}
+use Rattle.tw_base.specs.declared.thread.Thread.{Thread}
+use Rattle.tw_base.specs.Anchors.{anchor_of}
+use Rattle.tw_base.specs.Auth.{auth}
+use Rattle.tw_base.specs.History.{History, events_at}
+use Rattle.tw_base.specs.Sound.{IsSound}
+use Rattle.tw_chain.specs.Accepting.{Accepts}
+use Rattle.tw_chain.specs.Making.{MakesExistence}
+use Rattle.tw_disk.specs.Image.{Image}
+use Rattle.tw_outside.specs.Faults.{Rose}
+use Rattle.tw_service.specs.declared.refusal.Refusal.{Refusal}
+use Rattle.tw_service.specs.declared.refusal.Refusal.TheVariants as service
+use Rattle.tw_service.specs.Faults.{IsBadPage, IsFault, IsNoEvent}
+use Rattle.tw_service.specs.Limits.{event_refusal, is_in_order, or_else, order_refusal, proof_refusal}
+use Rattle.tw_service.specs.Machine.{Answers, Call, IsStepOf, Reply}
+use Rattle.tw_service.specs.Machine.Call.{ProveEvent}
+use Rattle.tw_service.specs.Machine.Reply.{OfProof, Refused}
+use Rattle.tw_app.specs.declared.outcome.Outcome.{Outcome}
+use Rattle.tw_app.specs.Disks.{ReadsAs}
+use Rattle.tw_app.specs.Proving.{MachineRefuses, Proves, ProvesUnder, top_of}
+use Rattle.tw_app.specs.ServiceFaults.{outcome_of_refusal}
+use Rattle.tw_app.specs.Stepping.{ComesToProof}
+use Rattle.tw_app.proofs.Histories.{few_events, makes_at}
+
+-- ---- the table for the order of steps
+
+abbrev pub IsOfOrder : (last : ℕ) → Refusal → Type 0
+IsOfOrder last (service.NoStep told) = told ≡ last
+IsOfOrder last _ = ⊥
+
+pub order_of_order : (last step top : ℕ) (r : Refusal) → order_refusal false last step top ≡ Some r → IsOfOrder last r
+unfolding order_refusal
+order_of_order last step top r is =
+    let cases : (b : Bool) → (if b then None else Some (service.NoStep last)) ≡ Some r → IsOfOrder last r =
+    elim [ true ↦ λ same. cc | false ↦ λ same. subst (λ (o : Option Refusal). MatchOption o ⊥ (IsOfOrder last)) same refl ] in
+    cases (is_in_order last step top) is
+
+abbrev pub Table : Option Refusal → Result (List ℕ) Refusal → Type 0
+Table table result = MatchOption table (IfErr result (λ r. IsFault r ⊎ IsNoEvent r)) (λ refusal. result ≡ Err refusal)
+
+abbrev refusal : Refusal → Result (List ℕ) Refusal
+refusal r = Err r
+
+same_err : (r s : Refusal) → refusal r ≡ refusal s → s ≡ r
+same_err r s is = cc
+
+is_refusal : (table : Option Refusal) (r : Refusal) → Table table (Err r) → (IsFault r → ⊥) → (IsNoEvent r → ⊥) → table ≡ Some r
+is_refusal None r is not_fault not_event = absurd (⊎_elim not_fault not_event is)
+is_refusal (Some s) r is not_fault not_event = ap (λ (t : Refusal). Some t) (same_err r s is)
+
+-- ---- an index of more than 32 bits
+
+least-lt : (index n : ℕ) → n ≤ 1024 → nat_lt (min index 4294967295) n ≡ nat_lt index n
+least-lt index n few = elim (cases_lt 4294967295 index) [
+  | inl more ↦ grind (arith, nat_tests)
+  | inr less ↦ let same : min index 4294967295 ≡ index = omega (arith, less) in ap (λ (i : ℕ). nat_lt i n) same
+]
+
+same_event : (count index : ℕ) → count ≤ 1024 → event_refusal count (min index 4294967295) ≡ event_refusal count index
+unfolding event_refusal
+same_event count index few = ap (λ (b : Bool). if b then None else Some (service.NoEvent count)) (least-lt index count few)
+
+same_table : (h : History) (step index top : ℕ) → IsSound h → proof_refusal false h step (min index 4294967295) top ≡ proof_refusal false h step index top
+same_table h step index top sound =
+    ap (λ (o : Option Refusal). or_else (order_refusal false (length h.steps) step top) o) (same_event (length (events_at h step)) index (few_events h step sound))
+
+module _ (h : History) (step index top : ℕ) (sound : IsSound h) where
+  abbrev At : (at : ℕ) → Reply → Option Refusal → Type 0
+  At at reply table = MatchOption table ((bytes : List ℕ) × MakesExistence sha256 h step at top bytes × (reply ≡ OfProof bytes)) (λ r. reply ≡ Refused r)
+
+  to_index : (reply : Reply) (table : Option Refusal) → At (min index 4294967295) reply table → At index reply table
+  to_index reply None is = (is.0, makes_at h step index top is.0 sound is.1, is.2)
+  to_index reply (Some r) is = is
+
+  pub step_at_index : (reply : Reply) (next : History) → IsStepOf sha256 h (ProveEvent step (min index 4294967295) top) reply next → IsStepOf sha256 h (ProveEvent step index top) reply h
+  step_at_index reply next is =
+      (refl, to_index reply (proof_refusal false h step index top) (subst (At (min index 4294967295) reply) (same_table h step index top sound) is.1))
+
+-- ---- what the service's answer comes to
+
+module _ (found : Option Image) (before after : ℕ) (step index at : ℕ) (asked : Option ℕ) (top : ℕ) (is_broken : Bool) (last : ℕ) (whole : is_broken ≡ false)
+    (at_is : at ≡ min index 4294967295) (top_is : top ≡ top_of asked last)
+    (OldServes NewServes : History → Type 0) (serves : (h : History) → ReadsAs found h → OldServes h)
+    (ends_at : (h : History) → OldServes h → last ≡ length h.steps) where
+  the_top : (h : History) → ReadsAs found h → top ≡ top_of asked (length h.steps)
+  the_top h reads = top_is ∙ ap (top_of asked) (ends_at h (serves h reads))
+
+  machine_at : (reply : Reply) (h next : History) → ReadsAs found h → IsStepOf sha256 h (ProveEvent step at top) reply next
+      → IsStepOf sha256 h (ProveEvent step index (top_of asked (length h.steps))) reply h
+  machine_at reply h next reads is =
+      subst (λ (t : ℕ). IsStepOf sha256 h (ProveEvent step index t) reply h) (the_top h reads)
+      (step_at_index h step index top reads.stands.sound reply next (subst (λ (i : ℕ). IsStepOf sha256 h (ProveEvent step i top) reply next) at_is is))
+
+  pub proof_done : (bytes : List ℕ) → ((h : History) → OldServes h → MakesExistence sha256 h step at top bytes)
+      → ((h : History) → OldServes h → (anchors : List Thread) (anchor : Thread) → anchor_of anchors h.name top ≡ Some anchor → anchor.auth ≡ auth sha256 h top → Accepts sha256 anchors bytes)
+      → (is_broken ≡ false → (h : History) → OldServes h → Answers sha256 h (ProveEvent step at top) (λ b. OfProof b) (Ok bytes) NewServes)
+      → Proves found step index asked bytes
+  proof_done bytes made accepted machine = λ h reads. subst (λ (t : ℕ). ProvesUnder step index t bytes h) (the_top h reads) (under h reads)
+    where
+      under : (h : History) → ReadsAs found h → ProvesUnder step index top bytes h
+      under h reads =
+          let move = machine whole h (serves h reads) in
+          record {
+            makes = makes_at h step index top bytes reads.stands.sound (subst (λ (i : ℕ). MakesExistence sha256 h step i top bytes) at_is (made h (serves h reads)));
+            machine = step_at_index h step index top reads.stands.sound (OfProof bytes) move.0 (subst (λ (i : ℕ). IsStepOf sha256 h (ProveEvent step i top) (OfProof bytes) move.0) at_is move.1);
+            accepted = accepted h (serves h reads);
+          }
+
+  pub proof_refused : (r : Refusal) (came : Outcome) → came ≡ outcome_of_refusal r → Table (order_refusal is_broken last step top) (Err r)
+      → (is_broken ≡ false → (h : History) → OldServes h → Answers sha256 h (ProveEvent step at top) (λ b. OfProof b) (Err r) NewServes)
+      → (refusal r ≡ Err service.DiskFault → Rose before after) → (IsBadPage r → (h : History) → OldServes h → ⊥)
+      → ComesToProof found before after step index asked came
+  proof_refused r came is table_then machine fault bad = subst (ComesToProof found before after step index asked) (sym is) (by r table_then machine fault bad)
+    where
+      table_of : (r : Refusal) → Table (order_refusal is_broken last step top) (Err r) → (IsFault r → ⊥) → (IsNoEvent r → ⊥) → order_refusal false last step top ≡ Some r
+      table_of r table not_fault not_event =
+          is_refusal (order_refusal false last step top) r (subst (λ b. Table (order_refusal b last step top) (Err r)) whole table) not_fault not_event
+
+      never : (r : Refusal) → Table (order_refusal is_broken last step top) (Err r) → (IsFault r → ⊥) → (IsNoEvent r → ⊥) → (IsOfOrder last r → ⊥) → ⊥
+      never r table not_fault not_event other = other (order_of_order last step top r (table_of r table not_fault not_event))
+
+      no_step : (told : ℕ) → Table (order_refusal is_broken last step top) (Err (service.NoStep told))
+          → order_refusal false told step (top_of asked told) ≡ Some (service.NoStep told)
+      no_step told table =
+          let is_so = table_of (service.NoStep told) table (λ no. no) (λ no. no) in
+          let same : told ≡ last = order_of_order last step top (service.NoStep told) is_so in
+          subst (λ (l : ℕ). order_refusal false l step (top_of asked l) ≡ Some (service.NoStep told)) (sym same)
+          (subst (λ (t : ℕ). order_refusal false last step t ≡ Some (service.NoStep told)) top_is is_so)
+
+      by : (r : Refusal) → Table (order_refusal is_broken last step top) (Err r)
+          → (is_broken ≡ false → (h : History) → OldServes h → Answers sha256 h (ProveEvent step at top) (λ b. OfProof b) (Err r) NewServes)
+          → (refusal r ≡ Err service.DiskFault → Rose before after) → (IsBadPage r → (h : History) → OldServes h → ⊥)
+          → ComesToProof found before after step index asked (outcome_of_refusal r)
+      by (service.NoStep told) table machine fault bad =
+          (no_step told table, λ h reads. machine_at (Refused (service.NoStep told)) h h reads (machine whole h (serves h reads)).0)
+      by (service.NoEvent count) table machine fault bad = λ h reads. machine_at (Refused (service.NoEvent count)) h h reads (machine whole h (serves h reads)).0
+      by service.Full table machine fault bad = absurd (never service.Full table (λ no. no) (λ no. no) (λ no. no))
+      by (service.TooMany count) table machine fault bad = absurd (never (service.TooMany count) table (λ no. no) (λ no. no) (λ no. no))
+      by (service.TooLong bytes) table machine fault bad = absurd (never (service.TooLong bytes) table (λ no. no) (λ no. no) (λ no. no))
+      by service.Reopen table machine fault bad = absurd (never service.Reopen table (λ no. no) (λ no. no) (λ no. no))
+      by (service.BadPage page) table machine fault bad = λ image told h stands. bad tt h (serves h (record { image = image; told = told; stands = stands }))
+      by service.DiskFault table machine fault bad = fault refl
+      by service.NoMemory table machine fault bad = tt

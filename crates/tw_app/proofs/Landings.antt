@@ -1,0 +1,187 @@
+-- From the work on a disk to what the command comes to, and what it leaves.
+use Rattle.std.proofs.Common.{◌≡◌, ◌∙◌, ℕ, ◌≤◌, List, refl, ap, sym, subst, arith, inl, inr, ◌⊎◌, ⊎_elim}
+use Rattle.std.specs.Prelude.{Option, Some, None, MatchOption, ◌≢◌}
+use Rattle.sha2.specs.Sha256.{sha256}
+use Rattle.tw_base.specs.declared.thread.Thread.{Thread}
+use Rattle.tw_base.specs.History.{History, plus}
+use Rattle.tw_disk.specs.Disk.{LeavesOnly}
+use Rattle.tw_disk.specs.Image.{Image}
+use Rattle.tw_disk.specs.Moments.{leaves_weaker}
+use Rattle.tw_outside.specs.Faults.{Rose}
+use Rattle.tw_outside.specs.Files.{Files}
+use Rattle.tw_pages.specs.Slots.{IsTaken}
+use Rattle.tw_pages.specs.declared.open.StoreFault.{StoreFault}
+use Rattle.tw_pages.specs.declared.open.StoreFault.TheVariants as store
+use Rattle.tw_service.specs.Stands.{IsBlankOrNew, IsNotOpenedFor, StandsForOneOf}
+use Rattle.tw_text.specs.CommandLine.{command_of}
+use Rattle.tw_text.specs.declared.command.Command.{Command}
+use Rattle.tw_text.specs.declared.command.Command.TheVariants.{Append, Init, ProveEvent}
+use Rattle.tw_app.specs.declared.outcome.Outcome.{Outcome}
+use Rattle.tw_app.specs.declared.outcome.Outcome.TheVariants.{Judged, Shown, Made, Refused, Unserved, Unreadable, BadWords, InputFault, DiskFault, NoMemory}
+use Rattle.tw_app.specs.declared.outcome.Refusal.TheVariants.{Taken}
+use Rattle.tw_app.specs.Appending.{AddsStep, AreEventsOf}
+use Rattle.tw_app.specs.Commands.{IsBuilt, UsesDisk}
+use Rattle.tw_app.specs.Disks.{Begins, IsLeft, IsOf, Keeps, MayBegin, Stands}
+use Rattle.tw_app.specs.Leaving.{AppendLeaves, CommandLeaves, InitLeaves, Leaves}
+use Rattle.tw_app.specs.Outcomes.{TakesMemory}
+use Rattle.tw_app.specs.Running.{ComesTo}
+use Rattle.tw_app.specs.ServiceFaults.{outcome_of_store}
+use Rattle.tw_app.specs.Stepping.{ComesToProof, ComesToStep, IsStop, LeavesStep}
+use Rattle.tw_app.proofs.AtRest.{left_keeps, no_call_left, still_keeps}
+
+-- ---- a disk that isn't opened
+
+module _ (found : Option Image) (before after : ℕ) (events : List (List ℕ)) (f : StoreFault)
+    (refused : (image : Image) → found ≡ Some image → (f ≡ store.DiskFault) ⊎ IsNotOpenedFor sha256 image f)
+    (answers : (f ≢ store.Taken) × (f ≢ store.NoMemory)) (fault : f ≡ store.DiskFault → Rose before after) where
+  not_opened : (g : StoreFault) → g ≡ f → (g ≡ store.DiskFault → ⊥) → (image : Image) → found ≡ Some image → IsNotOpenedFor sha256 image g
+  not_opened g same other image told =
+      ⊎_elim (λ is. absurd (other (same ∙ is))) (λ why. subst (IsNotOpenedFor sha256 image) (sym same) why) (refused image told)
+
+  pub unopened_step : (came : Outcome) → came ≡ outcome_of_store f → ComesToStep found before after events came
+  unopened_step came is = subst (ComesToStep found before after events) (sym is) (by f refl)
+    where
+      by : (g : StoreFault) → g ≡ f → ComesToStep found before after events (outcome_of_store g)
+      by store.Taken same = absurd (answers.0 (sym same))
+      by store.Blank same = not_opened store.Blank same (λ is. cc)
+      by (store.NotAStore slot) same = not_opened (store.NotAStore slot) same (λ is. cc)
+      by store.DiskFault same = fault (sym same)
+      by store.NoMemory same = tt
+
+  pub unopened_proof : (step index : ℕ) (top : Option ℕ) (came : Outcome) → came ≡ outcome_of_store f → ComesToProof found before after step index top came
+  unopened_proof step index top came is = subst (ComesToProof found before after step index top) (sym is) (by f refl)
+    where
+      by : (g : StoreFault) → g ≡ f → ComesToProof found before after step index top (outcome_of_store g)
+      by store.Taken same = absurd (answers.0 (sym same))
+      by store.Blank same = not_opened store.Blank same (λ is. cc)
+      by (store.NotAStore slot) same = not_opened (store.NotAStore slot) same (λ is. cc)
+      by store.DiskFault same = fault (sym same)
+      by store.NoMemory same = tt
+
+-- ---- what the work comes to is what its command comes to
+
+module _ (told : Option Files) (before after : ℕ) (found : Option Image) (disk_before disk_after : ℕ) (dir : List ℕ) where
+  pub comes_of_step : (file : List ℕ) (events : List (List ℕ)) (came : Outcome) → AreEventsOf told file events → ComesToStep found disk_before disk_after events came
+      → ComesTo told before after found disk_before disk_after (Append dir file) came
+  comes_of_step file events (Made thread) are comes = (events, are, comes)
+  comes_of_step file events (Refused refusal) are comes = (events, are, comes)
+  comes_of_step file events (Unserved cause) are comes = comes
+  comes_of_step file events DiskFault are comes = (tt, comes)
+  comes_of_step file events NoMemory are comes = tt
+  comes_of_step file events _ are comes = absurd comes
+
+  pub comes_of_proof : (step index : ℕ) (top : Option ℕ) (came : Outcome) → ComesToProof found disk_before disk_after step index top came
+      → ComesTo told before after found disk_before disk_after (ProveEvent dir step index top) came
+  comes_of_proof step index top (Shown proof) comes = comes
+  comes_of_proof step index top (Refused refusal) comes = comes
+  comes_of_proof step index top (Unserved cause) comes = comes
+  comes_of_proof step index top DiskFault comes = (tt, comes)
+  comes_of_proof step index top NoMemory comes = tt
+  comes_of_proof step index top _ comes = absurd comes
+
+  -- a service that isn't made: only where there is one, or where the disk failed
+  pub unmade : (name : List ℕ) (f : StoreFault) (came : Outcome) → came ≡ outcome_of_store f → (f ≡ store.Taken) ⊎ (f ≡ store.DiskFault)
+      → (f ≡ store.Taken → (image : Image) → found ≡ Some image → IsTaken image) → (f ≡ store.DiskFault → Rose disk_before disk_after)
+      → ComesTo told before after found disk_before disk_after (Init dir name) came
+  unmade name f came is (inl taken) has fault =
+      subst (ComesTo told before after found disk_before disk_after (Init dir name)) (sym (is ∙ ap outcome_of_store taken)) (has taken)
+  unmade name f came is (inr failed) has fault =
+      subst (ComesTo told before after found disk_before disk_after (Init dir name)) (sym (is ∙ ap outcome_of_store failed)) (tt, fault failed)
+
+-- ---- what is left
+
+module _ {D : Type 0} (content : D → Option Image) (may_leave : D → Image → Type 0) (moment : D → ℕ) (left_since : D → ℕ → Image → Type 0) where
+  module _ (old new : D) where
+    pub unopened_leaves : (events : List (List ℕ)) (h : History) (f : StoreFault) (came : Outcome) → came ≡ outcome_of_store f
+        → LeavesOnly moment may_leave left_since old new (IsOf h) × Stands content may_leave moment left_since new h
+        → LeavesStep content may_leave moment left_since old new events h came
+    unopened_leaves events h f came is left = subst (LeavesStep content may_leave moment left_since old new events h) (sym is) (by f)
+      where
+        by : (f : StoreFault) → LeavesStep content may_leave moment left_since old new events h (outcome_of_store f)
+        by store.Taken = left
+        by store.Blank = left
+        by (store.NotAStore slot) = left
+        by store.DiskFault = leaves_weaker moment may_leave left_since old new (IsOf h) (StandsForOneOf sha256 h.name h events) (λ image is. inl is) left.0
+        by store.NoMemory = left
+
+    pub leaves_of_step : (told : Option Files) (before after : ℕ) (dir file : List ℕ) (events : List (List ℕ)) (came : Outcome) → AreEventsOf told file events
+        → ComesToStep (content old) before after events came
+        → ((h : History) → Stands content may_leave moment left_since old h → LeavesStep content may_leave moment left_since old new events h came)
+        → CommandLeaves content may_leave moment left_since old new told (Append dir file) came
+    leaves_of_step told before after dir file events (Made thread) are comes leaves = (events, are, (comes, leaves))
+    leaves_of_step told before after dir file events DiskFault are comes leaves = (events, are, leaves)
+    leaves_of_step told before after dir file events (Refused refusal) are comes leaves = leaves
+    leaves_of_step told before after dir file events (Unserved cause) are comes leaves = leaves
+    leaves_of_step told before after dir file events NoMemory are comes leaves = leaves
+    leaves_of_step told before after dir file events _ are comes leaves = absurd comes
+
+    pub unmade_leaves : (name : List ℕ) (f : StoreFault) (came : Outcome) → came ≡ outcome_of_store f → (f ≡ store.Taken) ⊎ (f ≡ store.DiskFault)
+        → (f ≡ store.Taken → (content new ≡ content old) × LeavesOnly moment may_leave left_since old new (may_leave old))
+        → MayBegin content may_leave moment left_since name old new → InitLeaves content may_leave moment left_since old new name came
+    unmade_leaves name f came is (inl taken) left begins =
+        subst (InitLeaves content may_leave moment left_since old new name) (sym (is ∙ ap outcome_of_store taken)) (left taken)
+    unmade_leaves name f came is (inr failed) left begins =
+        subst (InitLeaves content may_leave moment left_since old new name) (sym (is ∙ ap outcome_of_store failed)) begins
+
+    -- where there was no memory for the text, what is left is as right for that
+    memory_leaves_of : (told : Option Files) (c : Command) (came : Outcome) → TakesMemory came → CommandLeaves content may_leave moment left_since old new told c came
+        → CommandLeaves content may_leave moment left_since old new told c NoMemory
+    memory_leaves_of told (Init dir name) came takes leaves = by came takes leaves
+      where
+        by : (came : Outcome) → TakesMemory came → InitLeaves content may_leave moment left_since old new name came → IsLeft content may_leave moment left_since old new
+        by (Judged verdict) takes leaves = leaves
+        by (Refused refusal) takes leaves = leaves
+        by (Unserved cause) takes leaves = leaves
+        by (Unreadable bad) takes leaves = leaves
+        by (BadWords number) takes leaves = leaves
+        by _ takes leaves = absurd takes
+    memory_leaves_of told (Append dir file) came takes leaves = by came takes leaves
+      where
+        by : (came : Outcome) → TakesMemory came → AppendLeaves content may_leave moment left_since old new told file came → Keeps content may_leave moment left_since old new
+        by (Judged verdict) takes leaves = leaves
+        by (Refused refusal) takes leaves = leaves
+        by (Unserved cause) takes leaves = leaves
+        by (Unreadable bad) takes leaves = leaves
+        by (BadWords number) takes leaves = leaves
+        by _ takes leaves = absurd takes
+    memory_leaves_of told _ came takes leaves = leaves
+
+    pub memory_leaves : (told : Option Files) (words : List (List ℕ)) (came : Outcome) → Leaves content may_leave moment left_since old new told words came → TakesMemory came
+        → Leaves content may_leave moment left_since old new told words NoMemory
+    memory_leaves told words came leaves takes = by (command_of words) leaves
+      where
+        by : (o : Option Command) → MatchOption o (new ≡ old) (λ c. CommandLeaves content may_leave moment left_since old new told c came)
+            → MatchOption o (new ≡ old) (λ c. CommandLeaves content may_leave moment left_since old new told c NoMemory)
+        by None leaves = leaves
+        by (Some c) leaves = memory_leaves_of told c came takes leaves
+
+  -- ---- a disk that wasn't touched
+
+  module _ (only_now : (d : D) (image : Image) → left_since d (moment d) image → may_leave d image) (disk : D) where
+    abbrev keeps_here : Keeps content may_leave moment left_since disk disk
+    keeps_here = left_keeps content may_leave moment left_since disk disk (no_call_left content may_leave moment left_since disk (only_now disk))
+
+    pub stop_leaves : (told : Option Files) (dir file : List ℕ) (came : Outcome) → IsStop came → CommandLeaves content may_leave moment left_since disk disk told (Append dir file) came
+    stop_leaves told dir file (Unreadable bad) stop = keeps_here
+    stop_leaves told dir file InputFault stop = keeps_here
+    stop_leaves told dir file NoMemory stop = keeps_here
+    stop_leaves told dir file _ stop = absurd stop
+
+    no_memory_leaves_of : (told : Option Files) (c : Command) → CommandLeaves content may_leave moment left_since disk disk told c NoMemory
+    no_memory_leaves_of told (Init dir name) = no_call_left content may_leave moment left_since disk (only_now disk)
+    no_memory_leaves_of told (Append dir file) = keeps_here
+    no_memory_leaves_of told (ProveEvent dir step index top) = keeps_here
+    no_memory_leaves_of told _ = refl
+
+    pub no_memory_leaves : (told : Option Files) (words : List (List ℕ)) → Leaves content may_leave moment left_since disk disk told words NoMemory
+    no_memory_leaves told words = by (command_of words)
+      where
+        by : (o : Option Command) → MatchOption o (disk ≡ disk) (λ c. CommandLeaves content may_leave moment left_since disk disk told c NoMemory)
+        by None = refl
+        by (Some c) = no_memory_leaves_of told c
+
+  pub other_leaves : (disk : D) (told : Option Files) (c : Command) (came : Outcome) → (UsesDisk c → ⊥) → CommandLeaves content may_leave moment left_since disk disk told c came
+  other_leaves disk told (Init dir name) came other = absurd (other tt)
+  other_leaves disk told (Append dir file) came other = absurd (other tt)
+  other_leaves disk told (ProveEvent dir step index top) came other = absurd (other tt)
+  other_leaves disk told _ came other = refl

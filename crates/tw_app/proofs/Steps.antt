@@ -1,0 +1,166 @@
+-- From what a service answers to the adding of a step to what the command comes to.
+use Rattle.std.proofs.Common.{◌≡◌, ◌∙◌, ℕ, suc, ◌<◌, ◌≤◌, ◌^◌, ◌-◌, List, length, Bool, true, false, refl, ap, sym, subst, arith, inl, inr, ◌⊎◌, ⊎_elim}
+use Rattle.std.specs.Prelude.{Option, Some, None, Result, Ok, Err, IfErr, IfOk, MatchOption, nat_le, nat_lt, if◌then◌else◌}
+use Rattle.sha2.specs.Sha256.{sha256}
+use Rattle.tw_base.specs.declared.thread.Thread.{Thread}
+use Rattle.tw_base.specs.History.{History, plus}
+use Rattle.tw_disk.specs.Disk.{LeavesOnly}
+use Rattle.tw_disk.specs.Image.{Image}
+use Rattle.tw_outside.specs.Faults.{Rose}
+use Rattle.tw_skiplist.specs.Keeping.{event_step}
+use Rattle.tw_service.specs.declared.refusal.Refusal.{Refusal}
+use Rattle.tw_service.specs.declared.refusal.Refusal.TheVariants as service
+use Rattle.tw_service.specs.Faults.{IsBadPage, IsFault}
+use Rattle.tw_service.specs.Limits.{append_refusal, first_long, bytes_of, length_refusal, limits_refusal}
+use Rattle.tw_service.specs.Machine.{Answers, Call, IsStepOf, Reply, last_thread}
+use Rattle.tw_service.specs.Machine.Call.{Append}
+use Rattle.tw_service.specs.Machine.Reply.{OfThread, Refused}
+use Rattle.tw_service.specs.Stands.{StandsFor, StandsForOneOf}
+use Rattle.tw_app.specs.declared.outcome.Outcome.{Outcome}
+use Rattle.tw_app.specs.declared.outcome.Outcome.TheVariants as outcome
+use Rattle.tw_app.specs.Appending.{AddsStep, RefusesEvents}
+use Rattle.tw_app.specs.Disks.{IsOf, ReadsAs, Stands}
+use Rattle.tw_app.specs.ServiceFaults.{outcome_of_refusal}
+use Rattle.tw_app.specs.Stepping.{ComesToStep, LeavesStep}
+use Rattle.tw_app.proofs.AtRest.{own_name, own_names}
+
+-- ---- the table for a step
+
+-- of the table for a step, and of no other
+abbrev pub IsOfStep : Refusal → Type 0
+IsOfStep service.Full = Unit {0}
+IsOfStep (service.TooMany count) = Unit {0}
+IsOfStep (service.TooLong bytes) = Unit {0}
+IsOfStep _ = ⊥
+
+length_of_step : (long : Option (List ℕ)) (bytes : ℕ) (r : Refusal) → length_refusal long bytes ≡ Some r → IsOfStep r
+length_of_step (Some event) bytes r is = subst (λ (o : Option Refusal). MatchOption o ⊥ IsOfStep) is tt
+length_of_step None bytes r is =
+    let cases : (b : Bool) → (if b then Some (service.TooLong bytes) else None) ≡ Some r → IsOfStep r =
+    elim [ true ↦ λ same. subst (λ (o : Option Refusal). MatchOption o ⊥ IsOfStep) same tt | false ↦ λ same. cc ] in
+    cases (nat_lt 65536 bytes) is
+
+limits_of_step : (events : List (List ℕ)) (r : Refusal) → limits_refusal events ≡ Some r → IsOfStep r
+unfolding limits_refusal
+limits_of_step events r is =
+    let cases : (b : Bool) → (if b then Some (service.TooMany (length events)) else length_refusal (first_long events) (bytes_of events)) ≡ Some r → IsOfStep r =
+    elim [
+      | true ↦ λ same. subst (λ (o : Option Refusal). MatchOption o ⊥ IsOfStep) same tt
+      | false ↦ λ same. length_of_step (first_long events) (bytes_of events) r same
+    ] in
+    cases (nat_lt 1024 (length events)) is
+
+pub append_of_step : (steps : ℕ) (events : List (List ℕ)) (r : Refusal) → append_refusal false steps events ≡ Some r → IsOfStep r
+unfolding append_refusal
+append_of_step steps events r is =
+    let cases : (b : Bool) → (if b then Some service.Full else limits_refusal events) ≡ Some r → IsOfStep r =
+    elim [
+      | true ↦ λ same. subst (λ (o : Option Refusal). MatchOption o ⊥ IsOfStep) same tt
+      | false ↦ λ same. limits_of_step events r same
+    ] in
+    cases (nat_le (2 ^ 40 - 1) steps) is
+
+abbrev pub Table : Option Refusal → Result Thread Refusal → Type 0
+Table table result = MatchOption table (IfErr result IsFault) (λ refusal. result ≡ Err refusal)
+
+abbrev answer : Thread → Result Thread Refusal
+answer thread = Ok thread
+
+abbrev refusal : Refusal → Result Thread Refusal
+refusal r = Err r
+
+no_refusal : (table : Option Refusal) (thread : Thread) → Table table (Ok thread) → table ≡ None
+no_refusal None thread is = refl
+no_refusal (Some r) thread is = let other : answer thread ≡ refusal r = is in cc
+
+same_err : (r s : Refusal) → refusal r ≡ refusal s → s ≡ r
+same_err r s is = cc
+
+is_refusal : (table : Option Refusal) (r : Refusal) → Table table (Err r) → (IsFault r → ⊥) → table ≡ Some r
+is_refusal None r is not_fault = absurd (not_fault is)
+is_refusal (Some s) r is not_fault = ap (λ (t : Refusal). Some t) (same_err r s is)
+
+-- ---- a step of the machine
+
+is_thread : (t u : Thread) → OfThread t ≡ OfThread u → t ≡ u
+is_thread t u is = cc
+
+to_longer_by : (table : Option Refusal) (h next : History) (events : List (List ℕ)) (thread : Thread)
+    → MatchOption table ((next ≡ plus h (event_step events)) × (OfThread thread ≡ OfThread (last_thread sha256 next))) (λ r. (next ≡ h) × (OfThread thread ≡ Refused r))
+    → MatchOption table ((plus h (event_step events) ≡ plus h (event_step events)) × (OfThread thread ≡ OfThread (last_thread sha256 (plus h (event_step events)))))
+    (λ r. (plus h (event_step events) ≡ h) × (OfThread thread ≡ Refused r))
+to_longer_by None h next events thread is = (refl, is.1 ∙ ap (λ (n : History). OfThread (last_thread sha256 n)) is.0)
+to_longer_by (Some r) h next events thread is = let other : OfThread thread ≡ Refused r = is.1 in absurd (cc)
+
+to_longer : (h next : History) (events : List (List ℕ)) (thread : Thread) → IsStepOf sha256 h (Append events) (OfThread thread) next
+    → IsStepOf sha256 h (Append events) (OfThread thread) (plus h (event_step events))
+to_longer h next events thread is = to_longer_by (append_refusal false (length h.steps) events) h next events thread is
+
+-- ---- what the service's answer comes to
+
+module _ (found : Option Image) (before after : ℕ) (events : List (List ℕ)) (is_broken : Bool) (steps : ℕ) (whole : is_broken ≡ false)
+    (OldServes NewServes : History → Type 0) (serves : (h : History) → ReadsAs found h → OldServes h) where
+  pub step_done : (thread : Thread) → Table (append_refusal is_broken steps events) (Ok thread)
+      → ((h : History) → OldServes h → NewServes (plus h (event_step events)) × (thread ≡ last_thread sha256 (plus h (event_step events))))
+      → (is_broken ≡ false → (h : History) → OldServes h → Answers sha256 h (Append events) (λ t. OfThread t) (Ok thread) NewServes)
+      → AddsStep found events thread
+  step_done thread table done machine = record {
+    steps = steps;
+    allowed = no_refusal (append_refusal false steps events) thread (subst (λ b. Table (append_refusal b steps events) (Ok thread)) whole table);
+    last = λ h reads. (done h (serves h reads)).1;
+    machine = λ h reads. let step = machine whole h (serves h reads) in to_longer h step.0 events thread step.1;
+  }
+
+  pub step_refused : (r : Refusal) (came : Outcome) → came ≡ outcome_of_refusal r → Table (append_refusal is_broken steps events) (Err r)
+      → (is_broken ≡ false → (h : History) → OldServes h → Answers sha256 h (Append events) (λ t. OfThread t) (Err r) NewServes)
+      → (refusal r ≡ Err service.DiskFault → Rose before after) → (IsBadPage r → (h : History) → OldServes h → ⊥)
+      → ComesToStep found before after events came
+  step_refused r came is table_then machine fault bad = subst (ComesToStep found before after events) (sym is) (by r table_then machine fault bad)
+    where
+      table_of : (r : Refusal) → Table (append_refusal is_broken steps events) (Err r) → (IsFault r → ⊥) → append_refusal false steps events ≡ Some r
+      table_of r table not_fault = is_refusal (append_refusal false steps events) r (subst (λ b. Table (append_refusal b steps events) (Err r)) whole table) not_fault
+
+      never : (r : Refusal) → Table (append_refusal is_broken steps events) (Err r) → (IsFault r → ⊥) → (IsOfStep r → ⊥) → ⊥
+      never r table not_fault other = other (append_of_step steps events r (table_of r table not_fault))
+
+      by : (r : Refusal) → Table (append_refusal is_broken steps events) (Err r)
+          → (is_broken ≡ false → (h : History) → OldServes h → Answers sha256 h (Append events) (λ t. OfThread t) (Err r) NewServes)
+          → (refusal r ≡ Err service.DiskFault → Rose before after) → (IsBadPage r → (h : History) → OldServes h → ⊥)
+          → ComesToStep found before after events (outcome_of_refusal r)
+      by service.Full table machine fault bad = record { steps = steps; refused = table_of service.Full table (λ no. no); machine = λ h reads. (machine whole h (serves h reads)).0 }
+      by (service.TooMany count) table machine fault bad =
+          record { steps = steps; refused = table_of (service.TooMany count) table (λ no. no); machine = λ h reads. (machine whole h (serves h reads)).0 }
+      by (service.TooLong bytes) table machine fault bad =
+          record { steps = steps; refused = table_of (service.TooLong bytes) table (λ no. no); machine = λ h reads. (machine whole h (serves h reads)).0 }
+      by (service.NoStep last) table machine fault bad = absurd (never (service.NoStep last) table (λ no. no) (λ no. no))
+      by (service.NoEvent count) table machine fault bad = absurd (never (service.NoEvent count) table (λ no. no) (λ no. no))
+      by service.Reopen table machine fault bad = absurd (never service.Reopen table (λ no. no) (λ no. no))
+      by (service.BadPage page) table machine fault bad = λ image told h stands. bad tt h (serves h (record { image = image; told = told; stands = stands }))
+      by service.DiskFault table machine fault bad = fault refl
+      by service.NoMemory table machine fault bad = tt
+
+-- ---- what it leaves
+
+module _ {D : Type 0} (content : D → Option Image) (may_leave : D → Image → Type 0) (moment : D → ℕ) (left_since : D → ℕ → Image → Type 0)
+    (old new : D) (events : List (List ℕ)) (h : History) where
+  abbrev Kept : Type 0
+  Kept = LeavesOnly moment may_leave left_since old new (IsOf h) × Stands content may_leave moment left_since new h
+
+  pub step_leaves : (r : Refusal) (came : Outcome) → came ≡ outcome_of_refusal r → LeavesOnly moment may_leave left_since old new (StandsForOneOf sha256 h.name h events)
+      → (r ≡ service.DiskFault) ⊎ Kept → LeavesStep content may_leave moment left_since old new events h came
+  step_leaves r came is any kept = subst (LeavesStep content may_leave moment left_since old new events h) (sym is) (by r kept)
+    where
+      here : (r : Refusal) → (r ≡ service.DiskFault → ⊥) → (r ≡ service.DiskFault) ⊎ Kept → Kept
+      here r other (inl same) = absurd (other same)
+      here r other (inr kept) = kept
+
+      by : (r : Refusal) → (r ≡ service.DiskFault) ⊎ Kept → LeavesStep content may_leave moment left_since old new events h (outcome_of_refusal r)
+      by service.DiskFault kept = any
+      by service.Reopen kept = any
+      by service.Full kept = here service.Full (λ same. cc) kept
+      by (service.TooMany count) kept = here (service.TooMany count) (λ same. cc) kept
+      by (service.TooLong bytes) kept = here (service.TooLong bytes) (λ same. cc) kept
+      by (service.NoStep last) kept = here (service.NoStep last) (λ same. cc) kept
+      by (service.NoEvent count) kept = here (service.NoEvent count) (λ same. cc) kept
+      by (service.BadPage page) kept = here (service.BadPage page) (λ same. cc) kept
+      by service.NoMemory kept = here service.NoMemory (λ same. cc) kept

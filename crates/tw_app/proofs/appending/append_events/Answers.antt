@@ -1,0 +1,31 @@
+use Rattle.tw_disk.specs.Moments.{leaves_weaker}
+use Rattle.tw_app.specs.Disks.{IsOf}
+use Rattle.tw_service.specs.Serves.{disk_of}
+use Rattle.tw_app.proofs.AtRest.{leaves_from, rest_leaves, still_keeps}
+use Rattle.tw_app.proofs.Landings.{unopened_leaves, unopened_step}
+use Rattle.tw_app.proofs.appending.append_events.Goals as goal
+
+pub returns-in-Ok-clause-comes : goal.returns-in-Ok-clause-comes
+returns-in-Ok-clause-comes g c =
+    c.append_to.ensures.comes (g.D.Disk.content c.args.disk) (g.D.Disk.faults c.args.disk)
+    (λ h reads. c.in-Ok.ensures.served reads.image h.name h reads.told reads.stands) c.in-Ok.ensures.later
+
+pub returns-in-Ok-clause-leaves : goal.returns-in-Ok-clause-leaves
+returns-in-Ok-clause-leaves g c = λ h stands.
+    let d = g.D.Disk in
+    let mid = disk_of c.in-Ok.service in
+    leaves_from d.content d.may_leave d.moment d.left_since c.args.disk mid c.append_to.result.disk c.args.events.now h c.append_to.result.outcome
+    (leaves_weaker d.moment d.may_leave d.left_since c.args.disk mid (d.may_leave c.args.disk) (IsOf h)
+    (rest_leaves d.content d.may_leave d.moment d.left_since c.args.disk (IsOf h) stands) c.in-Ok.ensures.any_moment)
+    (c.append_to.ensures.leaves h (c.in-Ok.ensures.served stands.image h.name h stands.told stands.has))
+
+pub returns-in-Err-clause-comes : goal.returns-in-Err-clause-comes
+returns-in-Err-clause-comes g c =
+    unopened_step (g.D.Disk.content c.args.disk) (g.D.Disk.faults c.args.disk) (g.D.Disk.faults c.in-Err.disk) c.args.events.now c.in-Err.fault
+    c.in-Err.ensures.refused c.in-Err.ensures.answers c.in-Err.ensures.fault c.outcome_of_store.result c.outcome_of_store.ensures
+
+pub returns-in-Err-clause-leaves : goal.returns-in-Err-clause-leaves
+returns-in-Err-clause-leaves g c = λ h stands.
+    let d = g.D.Disk in
+    unopened_leaves d.content d.may_leave d.moment d.left_since c.args.disk c.in-Err.disk c.args.events.now h c.in-Err.fault c.outcome_of_store.result c.outcome_of_store.ensures
+    (still_keeps d.content d.may_leave d.moment d.left_since c.args.disk c.in-Err.disk c.in-Err.ensures.unchanged c.in-Err.ensures.any_moment_err h stands)

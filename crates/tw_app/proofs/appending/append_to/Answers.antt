@@ -1,0 +1,60 @@
+use Rattle.std.proofs.Common.{sym, subst, arith, inl, inr, ⊎_elim}
+use Rattle.sha2.specs.Sha256.{sha256}
+use Rattle.tw_base.specs.History.{plus}
+use Rattle.tw_disk.specs.Moments.{leaves_weaker}
+use Rattle.tw_skiplist.specs.Keeping.{event_step}
+use Rattle.tw_outside.specs.Faults.{Rose}
+use Rattle.tw_service.specs.Serves.{Serves, disk_of}
+use Rattle.tw_service.specs.Stands.{StandsFor, StandsForOneOf}
+use Rattle.tw_app.specs.declared.outcome.Outcome.TheVariants.{Made}
+use Rattle.tw_app.specs.Disks.{IsOf}
+use Rattle.tw_app.specs.Stepping.{LeavesStep}
+use Rattle.tw_app.proofs.AtRest.{own_name, own_names, rose_since, serves_stands}
+use Rattle.tw_app.proofs.Steps.{step_done, step_leaves, step_refused}
+use Rattle.tw_app.proofs.appending.append_to.Goals as goal
+
+pub returns-in-Ok-clause-comes : goal.returns-in-Ok-clause-comes
+returns-in-Ok-clause-comes g c = λ found before serves le.
+    let d = g.D.Disk in
+    step_done found before 0 c.args.events.now c.args.service.is_broken c.args.service.head.step c.requires
+    (Serves sha256 d.content d.may_leave c.args.service) (Serves sha256 d.content d.may_leave c.append.new.self) serves
+    c.in-Ok.thread c.in-Ok.ensures.table c.in-Ok.ensures.done c.in-Ok.ensures.machine
+
+pub returns-in-Ok-clause-leaves : goal.returns-in-Ok-clause-leaves
+returns-in-Ok-clause-leaves g c = λ h served.
+    let d = g.D.Disk in
+    let old = c.args.service in
+    let new = c.append.new.self in
+    let events = c.args.events.now in
+    let done = c.in-Ok.ensures.done h served in
+    subst (λ disk. LeavesStep d.content d.may_leave d.moment d.left_since (disk_of old) disk events h (Made c.in-Ok.thread)) (sym c.close.ensures.disk) (
+      leaves_weaker d.moment d.may_leave d.left_since (disk_of old) (disk_of new) (StandsForOneOf sha256 old.name h events) (StandsForOneOf sha256 h.name h events)
+          (λ i stands. own_names old.name h events i served.has.named stands) (c.in-Ok.ensures.any_moment h served),
+      serves_stands d.content d.may_leave d.moment d.left_since g.met.D.Disk.only_now new (plus h (event_step events)) done.0,
+    )
+
+pub returns-in-Err-clause-comes : goal.returns-in-Err-clause-comes
+returns-in-Err-clause-comes g c = λ found before serves le.
+    let d = g.D.Disk in
+    step_refused found before (d.faults c.close-in-Err.result) c.args.events.now c.args.service.is_broken c.args.service.head.step c.requires
+    (Serves sha256 d.content d.may_leave c.args.service) (Serves sha256 d.content d.may_leave c.append.new.self) serves
+    c.in-Err.refusal c.outcome_of_refusal.result c.outcome_of_refusal.ensures c.in-Err.ensures.table c.in-Err.ensures.machine
+    (λ is. rose_since before (d.faults (disk_of c.args.service)) (d.faults c.close-in-Err.result) le
+    (subst (λ disk. Rose (d.faults (disk_of c.args.service)) (d.faults disk)) (sym c.close-in-Err.ensures.disk) (c.in-Err.ensures.fault is)))
+    c.in-Err.ensures.good
+
+pub returns-in-Err-clause-leaves : goal.returns-in-Err-clause-leaves
+returns-in-Err-clause-leaves g c = λ h served.
+    let d = g.D.Disk in
+    let old = c.args.service in
+    let new = c.append.new.self in
+    let events = c.args.events.now in
+    subst (λ disk. LeavesStep d.content d.may_leave d.moment d.left_since (disk_of old) disk events h c.outcome_of_refusal.result) (sym c.close-in-Err.ensures.disk)
+    (step_leaves d.content d.may_leave d.moment d.left_since (disk_of old) (disk_of new) events h c.in-Err.refusal c.outcome_of_refusal.result c.outcome_of_refusal.ensures
+    (leaves_weaker d.moment d.may_leave d.left_since (disk_of old) (disk_of new) (StandsForOneOf sha256 old.name h events) (StandsForOneOf sha256 h.name h events)
+    (λ i stands. own_names old.name h events i served.has.named stands) (c.in-Err.ensures.any_moment h served))
+    (⊎_elim (λ is. inl is) (λ keeps. inr (
+      leaves_weaker d.moment d.may_leave d.left_since (disk_of old) (disk_of new) (λ i. StandsFor sha256 i old.name h) (IsOf h)
+          (λ i stands. own_name old.name h i stands) (keeps h served).1,
+      serves_stands d.content d.may_leave d.moment d.left_since g.met.D.Disk.only_now new h (keeps h served).0,
+    )) c.in-Err.ensures.refused))

@@ -1,0 +1,35 @@
+use Rattle.std.proofs.Common.{sym, subst}
+use Rattle.sha2.specs.Sha256.{sha256}
+use Rattle.tw_app.specs.declared.outcome.Outcome.TheVariants.{Made}
+use Rattle.tw_service.specs.Serves.{disk_of}
+use Rattle.tw_service.specs.Stands.{no_history}
+use Rattle.tw_app.specs.Leaving.{InitLeaves}
+use Rattle.tw_app.proofs.AtRest.{serves_stands}
+use Rattle.tw_app.proofs.Landings.{unmade, unmade_leaves}
+use Rattle.tw_app.proofs.making.make.Goals as goal
+
+pub returns-in-Ok-clause-comes : goal.returns-in-Ok-clause-comes
+returns-in-Ok-clause-comes g c = λ told before after dir. record {
+  free = λ image told_image taken. c.in-Ok.ensures.exact image told_image taken;
+  first = c.first_thread.ensures;
+}
+
+pub returns-in-Ok-clause-leaves : goal.returns-in-Ok-clause-leaves
+returns-in-Ok-clause-leaves g c = λ told dir.
+    let d = g.D.Disk in
+    subst (λ disk. InitLeaves d.content d.may_leave d.moment d.left_since c.args.disk disk c.args.name (Made c.first_thread.result)) (sym c.close.ensures.disk) (
+      c.in-Ok.ensures.any_moment,
+      λ image told_image.
+          serves_stands d.content d.may_leave d.moment d.left_since g.met.D.Disk.only_now c.in-Ok.service (no_history c.args.name) (c.in-Ok.ensures.served image told_image),
+    )
+
+pub returns-in-Err-clause-comes : goal.returns-in-Err-clause-comes
+returns-in-Err-clause-comes g c = λ told before after dir.
+    unmade told before after (g.D.Disk.content c.args.disk) (g.D.Disk.faults c.args.disk) (g.D.Disk.faults c.in-Err.disk) dir c.args.name c.in-Err.fault
+    c.outcome_of_store.result c.outcome_of_store.ensures c.in-Err.ensures.answers c.in-Err.ensures.taken c.in-Err.ensures.fault
+
+pub returns-in-Err-clause-leaves : goal.returns-in-Err-clause-leaves
+returns-in-Err-clause-leaves g c = λ told dir.
+    let d = g.D.Disk in
+    unmade_leaves d.content d.may_leave d.moment d.left_since c.args.disk c.in-Err.disk c.args.name c.in-Err.fault
+    c.outcome_of_store.result c.outcome_of_store.ensures c.in-Err.ensures.answers c.in-Err.ensures.unchanged c.in-Err.ensures.any_moment_err

@@ -1,0 +1,64 @@
+-- When a step of the events of a file is added, and when it isn't.
+use Rattle.std.specs.Prelude.{◌≡◌, ◌⊎◌, ℕ, ◌<◌, ◌≤◌, List, length, Option, Some, None, false}
+use Rattle.sha2.specs.Sha256.{sha256}
+use Rattle.tw_base.specs.declared.thread.Thread.{Thread}
+use Rattle.tw_base.specs.Formats.{IsPlace, Spells, SpellsNothing}
+use Rattle.tw_base.specs.History.{History, plus}
+use Rattle.tw_disk.specs.Image.{Image}
+use Rattle.tw_msg.specs.EventsFile.{events_file}
+use Rattle.tw_outside.specs.Files.{Files, IsThere, Tells}
+use Rattle.tw_skiplist.specs.Keeping.{event_step}
+use Rattle.tw_service.specs.declared.refusal.Refusal.{Refusal as ServiceRefusal}
+use Rattle.tw_service.specs.declared.refusal.Refusal.TheVariants as service
+use Rattle.tw_service.specs.Limits.{append_refusal}
+use Rattle.tw_service.specs.Machine.{IsStepOf, last_thread}
+use Rattle.tw_service.specs.Machine.Call.{Append}
+use Rattle.tw_service.specs.Machine.Reply.{OfThread, Refused}
+use Rattle.tw_app.specs.declared.outcome.Refusal.{Refusal}
+use Rattle.tw_app.specs.declared.outcome.Refusal.TheVariants.{Full, TooMany, TooLong}
+use Rattle.tw_app.specs.Disks.{ReadsAs}
+
+-- the most bytes of an events file
+abbrev pub most_events : ℕ
+most_events = 1048576
+
+-- the file is there; where the inputs tell its bytes, they are the events file of these events
+pub record AreEventsOf (told : Option Files) (file : List ℕ) (events : List (List ℕ)) : Type 0 where
+  pub there : IsThere told file
+  pub short : (bytes : List ℕ) → Tells told file bytes → length bytes ≤ most_events
+  pub spelled : (bytes : List ℕ) → Tells told file bytes → Spells events_file bytes events
+
+-- the place at which the bytes are no events file: the limit, where they are more than that; else that of the first byte at which
+-- no events file goes on
+abbrev pub IsBadEventsByte : (bytes : List ℕ) (place : ℕ) → Type 0
+IsBadEventsByte bytes place =
+    ((most_events < length bytes) × (place ≡ most_events))
+    ⊎ ((length bytes ≤ most_events) × SpellsNothing events_file bytes × IsPlace events_file bytes place)
+
+-- the service had so many steps, and refuses nothing; where the disk reads as a history, this is a step of the machine to the
+-- longer one, whose last thread is told
+pub record AddsStep (found : Option Image) (events : List (List ℕ)) (thread : Thread) : Type 0 where
+  pub steps : ℕ
+  pub allowed : append_refusal false steps events ≡ None
+  pub last : (h : History) → ReadsAs found h → thread ≡ last_thread sha256 (plus h (event_step events))
+  pub machine : (h : History) → ReadsAs found h → IsStepOf sha256 h (Append events) (OfThread thread) (plus h (event_step events))
+
+-- the service had so many steps, and refuses the events; where the disk reads as a history, so does the machine
+pub record RefusesEvents (found : Option Image) (events : List (List ℕ)) (refusal : ServiceRefusal) : Type 0 where
+  pub steps : ℕ
+  pub refused : append_refusal false steps events ≡ Some refusal
+  pub machine : (h : History) → ReadsAs found h → IsStepOf sha256 h (Append events) (Refused refusal) h
+
+-- P holds of the events of the file
+abbrev pub OfEvents : (told : Option Files) (file : List ℕ) → (List (List ℕ) → Type 0) → Type 0
+OfEvents told file P = (events : List (List ℕ)) × AreEventsOf told file events × P events
+
+-- the refusal is one of the table's for a step
+abbrev pub RefusesAs : (found : Option Image) (events : List (List ℕ)) → Refusal → Type 0
+RefusesAs found events Full = RefusesEvents found events service.Full
+RefusesAs found events (TooMany count) = RefusesEvents found events (service.TooMany count)
+RefusesAs found events (TooLong bytes) = RefusesEvents found events (service.TooLong bytes)
+RefusesAs found events _ = ⊥
+
+abbrev pub RefusesStep : (told : Option Files) (found : Option Image) (file : List ℕ) → Refusal → Type 0
+RefusesStep told found file refusal = OfEvents told file (λ events. RefusesAs found events refusal)

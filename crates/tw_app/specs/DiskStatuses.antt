@@ -1,0 +1,86 @@
+-- What the statuses of commands that work on a disk say by themselves.
+use Rattle.std.specs.Prelude.{◌≡◌, ◌⊎◌, ℕ, List, Option, Some}
+use Rattle.tw_base.specs.declared.thread.Thread.{Thread}
+use Rattle.tw_base.specs.History.{History}
+use Rattle.tw_disk.specs.Disk.{LeavesOnly}
+use Rattle.tw_disk.specs.Image.{Image}
+use Rattle.sha2.specs.Sha256.{sha256}
+use Rattle.tw_outside.specs.Faults.{Rose}
+use Rattle.tw_outside.specs.Files.{Files}
+use Rattle.tw_outside.specs.Taken.{Appends}
+use Rattle.tw_service.specs.Stands.{StandsForOneOf}
+use Rattle.tw_text.specs.CommandLine.{command_of}
+use Rattle.tw_text.specs.Lines.{anchor_text, fault_disk_text}
+use Rattle.tw_text.specs.declared.command.Command.{Command}
+use Rattle.tw_text.specs.declared.command.Command.TheVariants.{Init, Append, ProveEvent}
+use Rattle.tw_app.specs.declared.outcome.StoreCause.{StoreCause}
+use Rattle.tw_app.specs.Appending.{AddsStep, AreEventsOf, OfEvents}
+use Rattle.tw_app.specs.Disks.{Adds, Begins, IsOf, Keeps, MayBegin, Stands}
+use Rattle.tw_app.specs.Making.{MakesService}
+use Rattle.tw_app.specs.Outcomes.{store_text}
+use Rattle.tw_app.specs.Proving.{Proves}
+use Rattle.tw_app.specs.Running.{CantServe}
+use Rattle.tw_app.specs.Statuses.{AskForDisk}
+
+-- status 0 of words that ask to prove an event: what was written are the bytes of its proof
+pub record IsProvedRun (found : Option Image) (words : List (List ℕ)) (taken_before taken_after : Option (List ℕ)) : Type 0 where
+  pub dir : List ℕ
+  pub step : ℕ
+  pub index : ℕ
+  pub top : Option ℕ
+  pub proof : List ℕ
+  pub is_command : command_of words ≡ Some (ProveEvent dir step index top)
+  pub proves : Proves found step index top proof
+  pub written : Appends taken_before taken_after proof
+
+-- status 5: the words ask for work on a disk, the disk failed, and the line that says so was written whole
+pub record IsDiskFaultRun (faults_before faults_after : ℕ) (words : List (List ℕ)) (taken_before taken_after : Option (List ℕ)) : Type 0 where
+  pub asked : AskForDisk words
+  pub failed : Rose faults_before faults_after
+  pub written : Appends taken_before taken_after fault_disk_text
+
+-- status 8: the command wants a service that the disk can't serve, and the line that says why was written whole
+pub record IsUnservedRun (found : Option Image) (words : List (List ℕ)) (taken_before taken_after : Option (List ℕ)) : Type 0 where
+  pub command : Command
+  pub cause : StoreCause
+  pub is_command : command_of words ≡ Some command
+  pub cant : CantServe found command cause
+  pub written : Appends taken_before taken_after (store_text cause)
+
+module _ {D : Type 0} (content : D → Option Image) (may_leave : D → Image → Type 0) (moment : D → ℕ) (left_since : D → ℕ → Image → Type 0) (old new : D) where
+  -- status 0 of words that ask for a service: the anchor line of its step 0 was written whole, and the disk stands for its
+  -- history, without a step, for good
+  pub record IsMadeRun (words : List (List ℕ)) (taken_before taken_after : Option (List ℕ)) : Type 0 where
+    pub dir : List ℕ
+    pub name : List ℕ
+    pub thread : Thread
+    pub is_command : command_of words ≡ Some (Init dir name)
+    pub makes : MakesService (content old) name thread
+    pub begins : Begins content may_leave moment left_since name old new
+    pub written : Appends taken_before taken_after (anchor_text thread)
+
+  -- status 0 of words that ask for a step: the anchor line of the new step was written whole, and the disk stands for the longer
+  -- history for good
+  pub record IsAppendedRun (told : Option Files) (words : List (List ℕ)) (taken_before taken_after : Option (List ℕ)) : Type 0 where
+    pub dir : List ℕ
+    pub file : List ℕ
+    pub thread : Thread
+    pub is_command : command_of words ≡ Some (Append dir file)
+    pub events : List (List ℕ)
+    pub are : AreEventsOf told file events
+    pub added : AddsStep (content old) events thread
+    pub adds : Adds content may_leave moment left_since events old new
+    pub written : Appends taken_before taken_after (anchor_text thread)
+
+  -- each image since stands for the history that the disk stood for, or for that with a step of the events of the file
+  abbrev pub AddsAtMost : (told : Option Files) (file : List ℕ) → Type 0
+  AddsAtMost told file = (h : History) → Stands content may_leave moment left_since old h →
+      LeavesOnly moment may_leave left_since old new (IsOf h)
+      ⊎ OfEvents told file (λ events. LeavesOnly moment may_leave left_since old new (StandsForOneOf sha256 h.name h events))
+
+  -- whatever the status: `init` leaves no image but such that there might have been, blank ones and the empty history; `append` at
+  -- most adds the step; every other command keeps the history in each image
+  abbrev pub IsCrashSafe : (told : Option Files) → Command → Type 0
+  IsCrashSafe told (Init dir name) = MayBegin content may_leave moment left_since name old new
+  IsCrashSafe told (Append dir file) = AddsAtMost told file
+  IsCrashSafe told _ = Keeps content may_leave moment left_since old new

@@ -1,0 +1,63 @@
+-- What a disk reads as, what it stands for, and what a run leaves of it.
+use Rattle.std.specs.Prelude.{◌≡◌, ◌⊎◌, ℕ, List, Option, Some}
+use Rattle.sha2.specs.Sha256.{sha256}
+use Rattle.tw_base.specs.History.{History, plus}
+use Rattle.tw_disk.specs.Disk.{IsAtRest, LeavesOnly}
+use Rattle.tw_disk.specs.Image.{Image}
+use Rattle.tw_pages.specs.declared.open.StoreFault.TheVariants as fault
+use Rattle.tw_skiplist.specs.Keeping.{event_step}
+use Rattle.tw_service.specs.Stands.{IsBlankOrNew, IsNotOpenedFor, StandsFor, StandsForOneOf, no_history}
+use Rattle.tw_app.specs.declared.outcome.StoreCause.{StoreCause}
+use Rattle.tw_app.specs.declared.outcome.StoreCause.TheVariants.{Blank, NotAStore, BadPage}
+
+-- the image stands for the history, under its name
+abbrev pub IsOf : History → Image → Type 0
+IsOf h image = StandsFor sha256 image h.name h
+
+-- what the disk reads as is told, and stands for the history
+pub record ReadsAs (found : Option Image) (h : History) : Type 0 where
+  pub image : Image
+  pub told : found ≡ Some image
+  pub stands : IsOf h image
+
+-- why an image can't be served: it opens as no service, or it stands for no history
+abbrev pub IsCause : Image → StoreCause → Type 0
+IsCause image Blank = IsNotOpenedFor sha256 image fault.Blank
+IsCause image (NotAStore slot) = IsNotOpenedFor sha256 image (fault.NotAStore slot)
+IsCause image (BadPage page) = (h : History) → IsOf h image → ⊥
+
+-- the same of what the disk reads as, where it is told
+abbrev pub IsUnserved : (found : Option Image) → StoreCause → Type 0
+IsUnserved found cause = (image : Image) → found ≡ Some image → IsCause image cause
+
+module _ {D : Type 0} (content : D → Option Image) (may_leave : D → Image → Type 0) (moment : D → ℕ) (left_since : D → ℕ → Image → Type 0) where
+  -- the disk stands for the history for good: its content is told and stands for it, and a crash leaves nothing else
+  abbrev pub Stands : D → History → Type 0
+  Stands disk h = IsAtRest content may_leave disk (IsOf h)
+
+  -- the history that the disk stood for stands in each image that a crash since the start may leave, and now for good
+  abbrev pub Keeps : (old new : D) → Type 0
+  Keeps old new = (h : History) → Stands old h → LeavesOnly moment may_leave left_since old new (IsOf h) × Stands new h
+
+  -- each image since stands for that history or for the longer one
+  abbrev pub KeepsOrAdds : (events : List (List ℕ)) → (old new : D) → Type 0
+  KeepsOrAdds events old new = (h : History) → Stands old h → LeavesOnly moment may_leave left_since old new (StandsForOneOf sha256 h.name h events)
+
+  -- the same, and now it stands for the longer one for good
+  abbrev pub Adds : (events : List (List ℕ)) → (old new : D) → Type 0
+  Adds events old new =
+      (h : History) → Stands old h → LeavesOnly moment may_leave left_since old new (StandsForOneOf sha256 h.name h events) × Stands new (plus h (event_step events))
+
+  -- where the content is told, each image since is one that a crash might have left before, or is blank, or stands for the history
+  -- of this name that has no step
+  abbrev pub MayBegin : (name : List ℕ) → (old new : D) → Type 0
+  MayBegin name old new =
+      (image : Image) → content old ≡ Some image → LeavesOnly moment may_leave left_since old new (λ i. may_leave old i ⊎ IsBlankOrNew sha256 name i)
+
+  -- the same, and now it stands for that history for good
+  abbrev pub Begins : (name : List ℕ) → (old new : D) → Type 0
+  Begins name old new = MayBegin name old new × ((image : Image) → content old ≡ Some image → Stands new (no_history name))
+
+  -- it reads as before, and a crash leaves nothing else than before
+  abbrev pub IsLeft : (old new : D) → Type 0
+  IsLeft old new = (content new ≡ content old) × LeavesOnly moment may_leave left_since old new (may_leave old)

@@ -1,0 +1,34 @@
+-- What a run leaves of its disk, by its command and its outcome.
+use Rattle.std.specs.Prelude.{◌≡◌, ℕ, List, Option, MatchOption}
+use Rattle.tw_disk.specs.Image.{Image}
+use Rattle.tw_outside.specs.Files.{Files}
+use Rattle.tw_text.specs.CommandLine.{command_of}
+use Rattle.tw_text.specs.declared.command.Command.{Command}
+use Rattle.tw_text.specs.declared.command.Command.TheVariants.{Init, Append, ProveEvent}
+use Rattle.tw_app.specs.declared.outcome.Outcome.{Outcome}
+use Rattle.tw_app.specs.declared.outcome.Outcome.TheVariants.{Made, DiskFault}
+use Rattle.tw_app.specs.Appending.{AddsStep, OfEvents}
+use Rattle.tw_app.specs.Disks.{Adds, Begins, IsLeft, Keeps, KeepsOrAdds, MayBegin}
+
+module _ {D : Type 0} (content : D → Option Image) (may_leave : D → Image → Type 0) (moment : D → ℕ) (left_since : D → ℕ → Image → Type 0) (old new : D) where
+  -- a service is made, or a disk fault came and it may be; at every other outcome the disk is left as it was
+  abbrev pub InitLeaves : (name : List ℕ) → Outcome → Type 0
+  InitLeaves name (Made thread) = Begins content may_leave moment left_since name old new
+  InitLeaves name DiskFault = MayBegin content may_leave moment left_since name old new
+  InitLeaves name _ = IsLeft content may_leave moment left_since old new
+
+  -- the step is added, or a disk fault came and it may be; at every other outcome the history is kept
+  abbrev pub AppendLeaves : (told : Option Files) (file : List ℕ) → Outcome → Type 0
+  AppendLeaves told file (Made thread) = OfEvents told file (λ events. AddsStep (content old) events thread × Adds content may_leave moment left_since events old new)
+  AppendLeaves told file DiskFault = OfEvents told file (λ events. KeepsOrAdds content may_leave moment left_since events old new)
+  AppendLeaves told file _ = Keeps content may_leave moment left_since old new
+
+  -- a proof keeps the history, and a command without a directory makes no device call
+  abbrev pub CommandLeaves : (told : Option Files) → Command → Outcome → Type 0
+  CommandLeaves told (Init dir name) outcome = InitLeaves name outcome
+  CommandLeaves told (Append dir file) outcome = AppendLeaves told file outcome
+  CommandLeaves told (ProveEvent dir step index top) outcome = Keeps content may_leave moment left_since old new
+  CommandLeaves told _ outcome = new ≡ old
+
+  abbrev pub Leaves : (told : Option Files) (words : List (List ℕ)) → Outcome → Type 0
+  Leaves told words outcome = MatchOption (command_of words) (new ≡ old) (λ command. CommandLeaves told command outcome)

@@ -1,0 +1,47 @@
+-- What the work on an opened disk comes to: adding a step once its events were read, and proving an event.
+use Rattle.std.specs.Prelude.{ℕ, List, Option}
+use Rattle.tw_base.specs.History.{History, plus}
+use Rattle.tw_disk.specs.Disk.{LeavesOnly}
+use Rattle.sha2.specs.Sha256.{sha256}
+use Rattle.tw_disk.specs.Image.{Image}
+use Rattle.tw_outside.specs.Faults.{Rose}
+use Rattle.tw_skiplist.specs.Keeping.{event_step}
+use Rattle.tw_service.specs.Stands.{StandsForOneOf}
+use Rattle.tw_app.specs.declared.outcome.Outcome.{Outcome}
+use Rattle.tw_app.specs.declared.outcome.Outcome.TheVariants.{Made, Shown, Refused, Unserved, Unreadable, InputFault, DiskFault, NoMemory}
+use Rattle.tw_app.specs.Appending.{AddsStep, RefusesAs}
+use Rattle.tw_app.specs.Disks.{IsOf, IsUnserved, Stands}
+use Rattle.tw_app.specs.Proving.{Proves, RefusesProof}
+
+-- a command stops before the disk is touched
+abbrev pub IsStop : Outcome → Type 0
+IsStop (Unreadable bad) = Unit {0}
+IsStop InputFault = Unit {0}
+IsStop NoMemory = Unit {0}
+IsStop _ = ⊥
+
+-- what the disk, with its counts of faults before and after, allows the adding of these events to come to
+abbrev pub ComesToStep : (found : Option Image) (before after : ℕ) (events : List (List ℕ)) → Outcome → Type 0
+ComesToStep found before after events (Made thread) = AddsStep found events thread
+ComesToStep found before after events (Refused refusal) = RefusesAs found events refusal
+ComesToStep found before after events (Unserved cause) = IsUnserved found cause
+ComesToStep found before after events DiskFault = Rose before after
+ComesToStep found before after events NoMemory = Unit {0}
+ComesToStep found before after events _ = ⊥
+
+-- the same of the proof of an event
+abbrev pub ComesToProof : (found : Option Image) (before after : ℕ) (step index : ℕ) (top : Option ℕ) → Outcome → Type 0
+ComesToProof found before after step index top (Shown proof) = Proves found step index top proof
+ComesToProof found before after step index top (Refused refusal) = RefusesProof found step index top refusal
+ComesToProof found before after step index top (Unserved cause) = IsUnserved found cause
+ComesToProof found before after step index top DiskFault = Rose before after
+ComesToProof found before after step index top NoMemory = Unit {0}
+ComesToProof found before after step index top _ = ⊥
+
+module _ {D : Type 0} (content : D → Option Image) (may_leave : D → Image → Type 0) (moment : D → ℕ) (left_since : D → ℕ → Image → Type 0) (old new : D) where
+  -- what it leaves of a disk that stood for this history
+  abbrev pub LeavesStep : (events : List (List ℕ)) → History → Outcome → Type 0
+  LeavesStep events h (Made thread) =
+      LeavesOnly moment may_leave left_since old new (StandsForOneOf sha256 h.name h events) × Stands content may_leave moment left_since new (plus h (event_step events))
+  LeavesStep events h DiskFault = LeavesOnly moment may_leave left_since old new (StandsForOneOf sha256 h.name h events)
+  LeavesStep events h _ = LeavesOnly moment may_leave left_since old new (IsOf h) × Stands content may_leave moment left_since new h

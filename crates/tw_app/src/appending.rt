@@ -1,0 +1,106 @@
+// The command that adds a step.
+
+ghost use Rattle.std.specs.Prelude.{◌≡◌, ◌≤◌, ℕ, List, Option, IfErr, IfOk, false};
+ghost use Rattle.sha2.specs.Sha256.{sha256};
+ghost use Rattle.tw_base.specs.History.{History};
+ghost use Rattle.tw_disk.specs.Image.{Image};
+ghost use Rattle.tw_service.specs.Serves.{Serves, disk_of, has_failed};
+ghost use Rattle.tw_text.specs.declared.command.Command.TheVariants.{Append};
+ghost use Rattle.tw_app.specs.Appending.{AreEventsOf};
+ghost use Rattle.tw_app.specs.Disks.{ReadsAs, Stands};
+ghost use Rattle.tw_app.specs.Leaving.{CommandLeaves};
+ghost use Rattle.tw_app.specs.Running.{ComesTo, ComesOfFiles};
+ghost use Rattle.tw_app.specs.Stepping.{IsStop, LeavesStep, ComesToStep};
+
+use crate::bad_input::refuse_byte;
+use crate::outcome::{Outcome, Worked};
+use crate::service_fault::{outcome_of_refusal, outcome_of_store};
+use std::alloc::Global;
+use tw_base::{EventList, ReadFault as GrammarFault, Sha};
+use tw_disk::Disk;
+use tw_msg::read_events;
+use tw_outside::{Inputs, ReadFault, read_all};
+use tw_service::Service;
+
+/// The most bytes that an events file may have.
+const EVENTS_LIMIT: usize = 1_048_576;
+
+/// Of an events file so many bytes are read: one more than it may have.
+const EVENTS_READ: usize = 1_048_577;
+
+/// Adds a step of the events of the named file to the service on the disk. The file is read and
+/// judged before the disk is touched.
+pub(crate) fn append<D: Disk, I: Inputs>(
+    alloc: Global,
+    disk: D,
+    inputs: &mut I,
+    file: &str,
+) -> Worked<D>
+    requires { I.may_ask inputs.old file.now }
+    ensures comes { (dir : List ℕ) → ComesTo (I.told inputs.old) (I.faults inputs.old) (I.faults inputs.new) (D.content disk) (D.faults disk) (D.faults result.disk)
+        (Append dir file.now) result.outcome }
+    ensures leaves { (dir : List ℕ) → CommandLeaves D.content D.may_leave D.moment D.left_since disk result.disk (I.told inputs.old) (Append dir file.now) result.outcome }
+{
+    match read_step(alloc, inputs, file) {
+        Ok(events) => append_events(alloc, disk, &events),
+        Err(outcome) => Worked { outcome, disk },
+    }
+}
+
+/// The events of the named file, or what comes of a file that isn't read or is none.
+fn read_step<I: Inputs>(alloc: Global, inputs: &mut I, file: &str) -> Result<EventList, Outcome>
+    requires { I.may_ask inputs.old file.now }
+    ensures read { IfOk result (AreEventsOf (I.told inputs.old) file.now) }
+    ensures stops { IfErr result IsStop }
+    ensures stopped { IfErr result (λ outcome. (dir : List ℕ) → ComesOfFiles (I.told inputs.old) (I.faults inputs.old) (I.faults inputs.new) (Append dir file.now) outcome) }
+{
+    let bytes = match read_all(alloc, inputs, file, EVENTS_READ) {
+        Ok(bytes) => bytes,
+        Err(ReadFault::Failed) => return Err(Outcome::InputFault),
+        Err(ReadFault::NoMemory) => return Err(Outcome::NoMemory),
+    };
+    if bytes.len() > EVENTS_LIMIT {
+        return Err(refuse_byte(alloc, file, EVENTS_LIMIT as u64));
+    }
+    match read_events(alloc, bytes.as_slice()) {
+        Ok(events) => Ok(events),
+        Err(GrammarFault::Malformed { place }) => Err(refuse_byte(alloc, file, place)),
+        Err(GrammarFault::NoMemory) => Err(Outcome::NoMemory),
+    }
+}
+
+/// Adds a step of these events to the service on the disk.
+fn append_events<D: Disk>(alloc: Global, disk: D, events: &EventList) -> Worked<D>
+    ensures comes { ComesToStep (D.content disk) (D.faults disk) (D.faults result.disk) events.now result.outcome }
+    ensures leaves { (h : History) → Stands D.content D.may_leave D.moment D.left_since disk h
+        → LeavesStep D.content D.may_leave D.moment D.left_since disk result.disk events.now h result.outcome }
+{
+    match Service::<D, Sha>::open(alloc, disk) {
+        Ok(service) => append_to(service, events),
+        Err((disk, fault)) => Worked {
+            outcome: outcome_of_store(fault),
+            disk,
+        },
+    }
+}
+
+/// Adds a step of these events to the service, and gives its disk back.
+fn append_to<D: Disk>(service: Service<D, Sha>, events: &EventList) -> Worked<D>
+    requires { has_failed service ≡ false }
+    ensures comes { (found : Option Image) (before : ℕ) → ((h : History) → ReadsAs found h → Serves sha256 D.content D.may_leave service h) → before ≤ D.faults (disk_of service)
+        → ComesToStep found before (D.faults result.disk) events.now result.outcome }
+    ensures leaves { (h : History) → Serves sha256 D.content D.may_leave service h
+        → LeavesStep D.content D.may_leave D.moment D.left_since (disk_of service) result.disk events.now h result.outcome }
+{
+    let mut service = service;
+    match service.append(events) {
+        Ok(thread) => Worked {
+            outcome: Outcome::Made(thread),
+            disk: service.close(),
+        },
+        Err(refusal) => Worked {
+            outcome: outcome_of_refusal(refusal),
+            disk: service.close(),
+        },
+    }
+}

@@ -1,0 +1,76 @@
+// The command that proves an event of a service.
+
+ghost use Rattle.std.specs.Prelude.{◌≡◌, ◌≤◌, ℕ, List, Option, false};
+ghost use Rattle.sha2.specs.Sha256.{sha256};
+ghost use Rattle.tw_base.specs.History.{History};
+ghost use Rattle.tw_disk.specs.Disk.{LeavesOnly};
+ghost use Rattle.tw_disk.specs.Image.{Image};
+ghost use Rattle.tw_outside.specs.Files.{Files};
+ghost use Rattle.tw_service.specs.Serves.{Serves, disk_of, has_failed};
+ghost use Rattle.tw_text.specs.declared.command.Command.TheVariants.{ProveEvent};
+ghost use Rattle.tw_app.specs.Disks.{IsOf, Keeps, ReadsAs, Stands};
+ghost use Rattle.tw_app.specs.Proving.{top_of};
+ghost use Rattle.tw_app.specs.Running.{ComesTo};
+ghost use Rattle.tw_app.specs.Stepping.{ComesToProof};
+
+use crate::outcome::{Outcome, Worked};
+use crate::service_fault::{outcome_of_refusal, outcome_of_store};
+use std::alloc::Global;
+use tw_base::Sha;
+use tw_disk::Disk;
+use tw_service::Service;
+
+/// Proves the event of this index in this step of the service on the disk, under this top, or under
+/// the last step where none is given.
+pub(crate) fn prove<D: Disk>(
+    alloc: Global,
+    disk: D,
+    step: u64,
+    index: u64,
+    top: Option<u64>,
+) -> Worked<D>
+    ensures comes { (told : Option Files) (before after : ℕ) (dir : List ℕ)
+        → ComesTo told before after (D.content disk) (D.faults disk) (D.faults result.disk) (ProveEvent dir step index top) result.outcome }
+    ensures leaves { Keeps D.content D.may_leave D.moment D.left_since disk result.disk }
+{
+    match Service::<D, Sha>::open(alloc, disk) {
+        Ok(service) => prove_by(service, step, index, top),
+        Err((disk, fault)) => Worked {
+            outcome: outcome_of_store(fault),
+            disk,
+        },
+    }
+}
+
+/// Proves the event by the service, and gives its disk back. No step has an event of an index above
+/// 2^32 - 1, so such an index is refused as that one is.
+fn prove_by<D: Disk>(service: Service<D, Sha>, step: u64, index: u64, top: Option<u64>) -> Worked<D>
+    requires { has_failed service ≡ false }
+    ensures comes { (found : Option Image) (before : ℕ) → ((h : History) → ReadsAs found h → Serves sha256 D.content D.may_leave service h) → before ≤ D.faults (disk_of service)
+        → ComesToProof found before (D.faults result.disk) step index top result.outcome }
+    ensures leaves { (h : History) → Serves sha256 D.content D.may_leave service h
+        → LeavesOnly D.moment D.may_leave D.left_since (disk_of service) result.disk (IsOf h) × Stands D.content D.may_leave D.moment D.left_since result.disk h }
+{
+    let mut service = service;
+    let top = top_for(top, service.steps());
+    match service.prove_event(step, index.min(u32::MAX as u64) as u32, top) {
+        Ok(proof) => Worked {
+            outcome: Outcome::Shown(proof),
+            disk: service.close(),
+        },
+        Err(refusal) => Worked {
+            outcome: outcome_of_refusal(refusal),
+            disk: service.close(),
+        },
+    }
+}
+
+/// The top that was given, or the last step where none was.
+fn top_for(top: Option<u64>, last: u64) -> u64
+    ensures { result ≡ top_of top last }
+{
+    match top {
+        Some(top) => top,
+        None => last,
+    }
+}

@@ -1,0 +1,334 @@
+"""Acceptance cases of services over real folders: `init`, `append` and `prove DIR event` one after another, each with its output
+and the bytes of its store, which stores.py makes."""
+
+import os
+import random
+import resource
+import signal
+import subprocess
+import tempfile
+import time
+from pathlib import Path
+
+import reference
+from stores import PAGE, Store, events_file
+
+LIMIT = 1048576
+ROOM = 8 * PAGE
+
+
+class Wrong(Exception):
+    """The program did something else."""
+
+
+class Room:
+    """A folder with the service `d` of it, and the program that runs there."""
+
+    def __init__(self, program, folder):
+        self.program = program
+        self.folder = Path(folder)
+
+    def put(self, name, data):
+        (self.folder / name).write_bytes(data)
+
+    def store(self):
+        return (self.folder / "d/timeline.tw").read_bytes()
+
+    def run(self, *words, limit=None, to=subprocess.PIPE):
+        done = subprocess.run(
+            [self.program, *words], cwd=self.folder, stdout=to, stderr=subprocess.PIPE, stdin=subprocess.DEVNULL,
+            preexec_fn=limit, timeout=60,
+        )
+        return done.returncode, done.stdout or b"", done.stderr
+
+    def expect(self, words, status, output, **settings):
+        found = self.run(*words.split(), **settings)
+        if found != (status, output, b""):
+            raise Wrong(f"  timeweave {words}\n  wanted {status} {output!r}\n  got    {found}")
+
+    def expect_store(self, data):
+        found = self.store()
+        if found != data:
+            place = next((i for i, (a, b) in enumerate(zip(found, data)) if a != b), min(len(found), len(data)))
+            raise Wrong(f"  the store has {len(found)} bytes, and {len(data)} are wanted; byte {place % PAGE} of page {place // PAGE} is the first other one")
+
+    def made(self, name, steps):
+        """Makes the service `d` and its steps, and answers its store."""
+        (self.folder / "d").mkdir()
+        store = Store(name, steps)
+        self.expect(f"init d {name}", 0, store.anchor(0))
+        for step, events in enumerate(steps, 1):
+            self.put("e", events_file(events))
+            self.expect("append d e", 0, store.anchor(step))
+        return store
+
+
+def case(work):
+    """The case of this work, which raises Wrong where the program does something else."""
+
+    def check(program):
+        with tempfile.TemporaryDirectory() as folder:
+            try:
+                work(Room(program, folder))
+            except Wrong as wrong:
+                return str(wrong)
+            except subprocess.TimeoutExpired:
+                return "  it ran for longer than a minute"
+        return None
+
+    return {"name": f"steps: {(work.__doc__ or work.__name__).splitlines()[0]}", "check": check}
+
+
+def some_steps(seed, count):
+    """Steps of none to many events, some of which need several pages."""
+    rand = random.Random(seed)
+    sizes = (0, 0, 1, 3, 40, 1000, 1024)
+    return [[rand.randbytes(rand.choice(sizes)) for _ in range(rand.choice((0, 1, 2, 5, 30)))] for _ in range(count)]
+
+
+# ---- what is made, and proved
+
+
+def each_store(room):
+    """the store after each step, and each event proved under each top"""
+    steps = some_steps("each", 9)
+    (room.folder / "d").mkdir()
+    store = Store("each", steps)
+    room.expect("init d each", 0, store.anchor(0))
+    room.expect_store(Store("each", []).file())
+    for step, events in enumerate(steps, 1):
+        room.put("e", events_file(events))
+        room.expect("append d e", 0, store.anchor(step))
+        room.expect_store(Store("each", steps[:step]).file())
+    for step, events in enumerate(steps, 1):
+        for index in {0, len(events) // 2, len(events) - 1} if events else ():
+            room.expect(f"prove d event {step} {index}", 0, reference.proof_bytes(store.line, step, index, 9))
+            for top in (step, 9):
+                room.expect(f"prove d event {step} {index} {top}", 0, reference.proof_bytes(store.line, step, index, top))
+    room.expect_store(store.file())
+
+
+def accepted_by_verify(room):
+    """proofs are accepted under the anchor lines that the program wrote"""
+    store = room.made("both", some_steps("both", 5) + [[b"last"]])
+    _, anchor, _ = room.run("append", "d", "e")
+    room.put("k", anchor)
+    _, proof, _ = room.run("prove", "d", "event", "6", "0")
+    room.put("p", proof)
+    room.expect("verify p k", 0, reference.accepted_text("both", 6, 0, b"last").encode())
+
+
+def full_steps(room):
+    """steps at their limits"""
+    most = [bytes([k % 256]) * 64 for k in range(1024)]
+    longest = [bytes([k]) * 1024 for k in range(64)]
+    store = room.made("full", [most, longest, [b""] * 1024, []])
+    room.expect_store(store.file())
+    room.expect("prove d event 1 1023", 0, reference.proof_bytes(store.line, 1, 1023, 4))
+    room.expect("prove d event 2 63 3", 0, reference.proof_bytes(store.line, 2, 63, 3))
+
+
+def two_services(room):
+    """the lines of two services are an anchors file"""
+    store = room.made("one", [[b"a"], [b"b"]])
+    other = Store("two", [[b"c"]])
+    (room.folder / "f").mkdir()
+    room.put("e", events_file([b"c"]))
+    room.expect("init f two", 0, other.anchor(0))
+    room.expect("append f e", 0, other.anchor(1))
+    room.put("k", store.anchor(2) + other.anchor(1))
+    for folder, line, step, top, event in (("d", store.line, 1, 2, b"a"), ("f", other.line, 1, 1, b"c")):
+        proof = reference.proof_bytes(line, step, 0, top)
+        room.expect(f"prove {folder} event {step} 0", 0, proof)
+        room.put("p", proof)
+        room.expect("verify p k", 0, reference.accepted_text(line.name, step, 0, event).encode())
+
+
+# ---- what is refused
+
+
+def refusals(room):
+    """Taken, NoStep, NoEvent, TooMany and TooLong; the store stays as it is"""
+    store = room.made("no", [[b"x", b"y"], []])
+    before = room.store()
+    room.expect("init d other", 7, b"refused Taken\n")
+    for words in ("0 0", "3 0", "1 0 3", "2 0 1", "18446744073709551615 0", "1 0 0"):
+        room.expect(f"prove d event {words}", 7, b"refused NoStep 2\n")
+    for words, count in (("1 2", 2), ("1 4294967295", 2), ("1 4294967296", 2), ("1 18446744073709551615 2", 2), ("2 0", 0)):
+        room.expect(f"prove d event {words}", 7, f"refused NoEvent {count}\n".encode())
+    room.expect("prove d event 3 9 1", 7, b"refused NoStep 2\n")
+    for events, refusal in (
+        ([b""] * 1025, "TooMany 1025"),
+        ([bytes(1025)] * 1025, "TooMany 1025"),
+        ([b"", bytes(1025), bytes(2000)], "TooLong 1025"),
+        ([bytes(1024)] * 64 + [b"x"], "TooLong 65537"),
+        ([bytes(1024)] * 65 + [bytes(1030)], "TooLong 1030"),
+    ):
+        room.put("f", events_file(events))
+        room.expect("append d f", 7, f"refused {refusal}\n".encode())
+    room.expect_store(before)
+    room.put("e", events_file([b"z"]))
+    longer = Store("no", [[b"x", b"y"], [], [b"z"]])
+    room.expect("append d e", 0, longer.anchor(3))
+    room.expect_store(longer.file())
+    assert store.anchor(2) == longer.anchor(2)
+
+
+def bad_events_files(room):
+    """files that are no events file, each with its byte; the disk isn't asked"""
+    good = events_file([b"ab", b""])
+    for place in range(4):
+        room.put("f", good[:place] + b"\xff" + good[place + 1 :])
+        room.expect("append d f", 9, f"unreadable f byte {place}\n".encode())
+    for size in range(len(good)):
+        room.put("f", good[:size])
+        room.expect("append d f", 9, f"unreadable f byte {size}\n".encode())
+    room.put("f", good + b"\x00")
+    room.expect("append d f", 9, f"unreadable f byte {len(good)}\n".encode())
+    room.put("f", b"TWE1" + b"\xff" * 4)
+    room.expect("append d f", 9, b"unreadable f byte 8\n")
+    room.expect("append d missing", 3, b"fault input\n")
+    if (room.folder / "d").exists():
+        raise Wrong("  a folder was made")
+
+
+def longest_events_files(room):
+    """events files of the limit, and of one byte more"""
+    store = room.made("long", [])
+    count = (LIMIT - 8) // 4
+    room.put("f", events_file([b""] * count))
+    room.expect("append d f", 7, f"refused TooMany {count}\n".encode())
+    room.put("f", events_file([bytes(LIMIT - 12)]))
+    room.expect("append d f", 7, f"refused TooLong {LIMIT - 12}\n".encode())
+    for longer in (events_file([bytes(LIMIT - 11)]), bytes(LIMIT + 1), bytes(3 * LIMIT)):
+        room.put("f", longer)
+        room.expect("append d f", 9, f"unreadable f byte {LIMIT}\n".encode())
+    room.put("f", bytes(LIMIT))
+    room.expect("append d f", 9, b"unreadable f byte 0\n")
+    room.expect_store(store.file())
+
+
+# ---- disks that are no service
+
+
+def no_stores(room):
+    """blank files, files that are no store, and pages that aren't of their kind"""
+    store = room.made("kind", [[b"x"], [b"y"], [b"z"]])
+    good = room.store()
+    path = room.folder / "d/timeline.tw"
+
+    def expect(data, output):
+        path.write_bytes(data)
+        for words in ("append d e", "prove d event 1 0"):
+            room.expect(words, 8, output)
+        room.expect_store(data)
+
+    def edited(place, new):
+        return good[:place] + new + good[place + len(new) :]
+
+    for data in (b"", bytes(PAGE), good[: 4 * PAGE - 1], edited(0, b"\x00" * PAGE * 2), bytes(20 * PAGE)):
+        expect(data, b"store Blank\n")
+    for slot in (0, 1):
+        expect(edited((2 + slot) * PAGE, b"X"), f"store NotAStore {slot}\n".encode())
+        expect(edited((2 + slot) * PAGE + 4095, b"\x01"), f"store NotAStore {slot}\n".encode())
+    # the last step is in slot 1: there aren't all its pages; the other body has its generation; its name is none
+    expect(good[:-PAGE], b"store NotAStore 1\n")
+    expect(edited(2 * PAGE + 15, b"\x04"), b"store NotAStore 1\n")
+    expect(edited(3 * PAGE + 26, b"K"), b"store NotAStore 1\n")
+    # the pages of the steps are 5, 7 and 9, that of the events of step 1 is 4
+    for page, words in ((9, "append d e"), (9, "prove d event 1 0"), (7, "prove d event 1 0"), (5, "prove d event 1 0"), (4, "prove d event 1 0")):
+        path.write_bytes(edited(page * PAGE, bytes(PAGE)))
+        room.expect(words, 8, f"store BadPage {page}\n".encode())
+    path.write_bytes(good)
+    room.expect("prove d event 1 0", 0, reference.proof_bytes(store.line, 1, 0, 3))
+
+
+def begun_again(room):
+    """a store that was begun and not made is made anew"""
+    (room.folder / "d").mkdir()
+    fresh = Store("again", []).file()
+    for begun in (bytes(PAGE), bytes(3 * PAGE), bytes(2 * PAGE) + b"\x55" * PAGE * 2, bytes(2 * PAGE) + fresh[2 * PAGE :]):
+        (room.folder / "d/timeline.tw").write_bytes(begun)
+        room.expect("init d again", 0, Store("again", []).anchor(0))
+        room.expect_store(fresh)
+
+
+def failing_disks(room):
+    """a folder that isn't there, a folder in the place of the file, and a file that can't grow"""
+    room.put("e", events_file([bytes(1024)] * 60))
+    for words in ("init d a", "append d e", "prove d event 1 0"):
+        room.expect(words, 5, b"fault disk\n")
+    (room.folder / "g/timeline.tw").mkdir(parents=True)
+    for words in ("init g a", "append g e", "prove g event 1 0"):
+        room.expect(words, 5, b"fault disk\n")
+    store = room.made("room", [[b"x"]])
+
+    def limit():
+        signal.signal(signal.SIGXFSZ, signal.SIG_IGN)
+        resource.setrlimit(resource.RLIMIT_FSIZE, (ROOM, ROOM))
+
+    room.put("e", events_file([bytes(1024)] * 60))
+    room.expect("append d e", 5, b"fault disk\n", limit=limit)
+    room.expect("prove d event 1 0", 0, reference.proof_bytes(store.line, 1, 0, 1))
+    longer = Store("room", [[b"x"], [bytes(1024)] * 60])
+    room.expect("append d e", 0, longer.anchor(2))
+    room.expect_store(longer.file())
+    if os.geteuid() != 0:
+        (room.folder / "d/timeline.tw").chmod(0o444)
+        room.expect("append d e", 5, b"fault disk\n")
+
+
+def failing_outputs(room):
+    """output that can't be written: status 4, and the step stands"""
+    room.made("out", [[b"x"]])
+
+    def closed():
+        os.close(1)
+
+    for step in range(2, 5):
+        longer = Store("out", [[b"x"]] * step)
+        if step == 2:
+            found = room.run("append", "d", "e", limit=closed, to=None)
+        else:
+            with open("/dev/full", "wb") as full:
+                found = room.run("append", "d", "e", to=full)
+        if found != (4, b"", b""):
+            raise Wrong(f"  append d e, with no output: {found}")
+        room.expect_store(longer.file())
+
+
+def stopped(room):
+    """a run that is killed amid 200 appends: each step that was told is there"""
+    rand = random.Random("stopped")
+    (room.folder / "d").mkdir()
+    steps = [[rand.randbytes(rand.randrange(1025)) for _ in range(20)] for _ in range(201)]
+    store = Store("stop", steps)
+    room.expect("init d stop", 0, store.anchor(0))
+    told = 0
+    for _ in range(200):
+        room.put("e", events_file(steps[told]))
+        running = subprocess.Popen([room.program, "append", "d", "e"], cwd=room.folder, stdout=subprocess.PIPE, stdin=subprocess.DEVNULL)
+        if rand.randrange(3):
+            time.sleep(rand.random() * 0.004)
+            running.kill()
+        line, _ = running.communicate()
+        if line and line != store.anchor(told + 1):
+            raise Wrong(f"  step {told + 1} was told as {line!r}")
+        # (a step may stand that wasn't told; the next event of it tells)
+        status, proof, _ = room.run("prove", "d", "event", str(told + 1), "0")
+        if status == 0 and proof == reference.proof_bytes(reference.Timeline("stop", steps[: told + 1]), told + 1, 0, told + 1):
+            told += 1
+        elif status != 7 or line:
+            raise Wrong(f"  after step {told} a proof of the next gives {status} {proof[:60]!r}, and the line was {line!r}")
+        if told and rand.randrange(10) == 0:
+            step = rand.randrange(1, told + 1)
+            line_now = reference.Timeline("stop", steps[:told])
+            room.expect(f"prove d event {step} 19", 0, reference.proof_bytes(line_now, step, 19, told))
+
+
+def cases():
+    works = (
+        each_store, accepted_by_verify, full_steps, two_services, refusals, bad_events_files, longest_events_files, no_stores,
+        begun_again, failing_disks, failing_outputs, stopped,
+    )
+    return [case(work) for work in works]

@@ -1,0 +1,64 @@
+"""The file of a service's store, byte by byte: gates, bodies, event pages and step pages."""
+
+import reference
+from reference import be, padded
+
+PAGE = 4096
+PIECE = 4085
+
+
+def page(data):
+    return data + bytes(PAGE - len(data))
+
+
+def events_file(events):
+    """The events file of these events."""
+    return b"TWE1" + be(len(events), 4) + b"".join(be(len(event), 4) + event for event in events)
+
+
+class Store:
+    """The store of a service after steps of these events."""
+
+    def __init__(self, name, steps):
+        self.line = reference.Timeline(name, steps)
+        self.pages = []
+        self.step_pages = [0]
+        self.used = [4]
+        for step in range(1, len(steps) + 1):
+            self.add(step)
+
+    def add(self, step):
+        events = self.line.events(step)
+        stream = b"".join(be(len(event), 4) + event for event in events)
+        first = 4 + len(self.pages)
+        for number, place in enumerate(range(0, len(stream), PIECE)):
+            self.pages.append(page(b"\x02" + be(step, 8) + be(number, 2) + stream[place : place + PIECE]))
+        links = [step - 2**level for level in range(reference.top_level(step) + 1)]
+        self.step_pages.append(4 + len(self.pages))
+        self.pages.append(page(
+            b"\x01" + be(step, 8) + b"\x01" + be(len(events), 4) + be(len(stream), 4) + be(first if stream else 0, 8)
+            + reference.event_root(events) + reference.EMPTY_TREE + bytes(8) + bytes(16 + 8 + 32) + self.line.auths[step]
+            + be(len(links), 1) + b"".join(be(self.step_pages[below], 8) + self.line.auths[below] for below in links)
+        ))
+        self.used.append(4 + len(self.pages))
+
+    def root(self, steps):
+        return (
+            padded(self.line.name) + be(steps, 8) + self.line.auths[steps] + be(self.step_pages[steps], 8)
+            + bytes(8) + reference.EMPTY_TREE + bytes(8)
+        )
+
+    def body(self, generation, steps):
+        root = self.root(steps)
+        return page(b"TWSTORE1" + be(generation, 8) + be(self.used[steps], 8) + be(len(root), 2) + root)
+
+    def file(self):
+        """The whole file: both gates open, the body of the last step in its slot and that of the step before in the other."""
+        last = len(self.line.steps)
+        bodies = [self.body(last + 1, last), self.body(last, max(last - 1, 0))]
+        if last % 2:
+            bodies.reverse()
+        return b"".join([page(b"\x01")] * 2 + bodies + self.pages)
+
+    def anchor(self, step):
+        return f"{self.line.name} {step} {self.line.auths[step].hex()}\n".encode()
