@@ -409,3 +409,25 @@ fn a_full_service_refuses(rt: HostRuntime) -> Result<(), Fail> {
     );
     Ok(())
 }
+
+#[test]
+fn a_proof_reads_each_page_of_its_path_once(rt: HostRuntime) -> Result<(), Fail> {
+    let alloc = rt.alloc();
+    let mut service = init(alloc, MemDisk::new(alloc), alpha(&rt)).ok_or("no service")?;
+    let mut threads = Vec::new(alloc);
+    append_steps(alloc, &mut service, 40, &mut threads)?;
+    let disk = service.close();
+    let before = disk.reads();
+    let mut service = open(alloc, disk).ok_or("not opened")?;
+    assert_eq!(rt; proof_refusal(&mut service, 1, 0, 40), None);
+    let disk = service.close();
+
+    // Two gates and two bodies; steps 40, 32, 16, 8, 4, 2 and 1; one event page.
+    assert_eq!(rt; disk.reads(), before.saturating_add(12));
+    let mut service = open(alloc, disk).ok_or("not opened again")?;
+    let _ = append(alloc, &mut service, 1, 1)?;
+
+    // Two gates and two bodies; step 40, to which the one link of step 41 leads.
+    assert!(rt; service.close().reads() <= before.saturating_add(18));
+    Ok(())
+}
