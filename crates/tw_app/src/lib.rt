@@ -18,6 +18,8 @@ pub use ending::{Ran, run};
 pub use outcome::{BadInput, Outcome, Refusal, StoreCause};
 
 #[cfg(test)]
+mod disk_tests;
+#[cfg(test)]
 mod showing_tests;
 #[cfg(test)]
 mod tests;

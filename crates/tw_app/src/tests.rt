@@ -24,7 +24,8 @@ pub(crate) const LEAST: [u8; 145] = [
 const HEX: &str = "9f9cc8f6baef592ed6bf90b106ebe7b882f59a1cc9803a6d1eef6974da5f87ed";
 
 /// Its anchor, as a line.
-const LINE: &str = "a 1 9f9cc8f6baef592ed6bf90b106ebe7b882f59a1cc9803a6d1eef6974da5f87ed\n";
+pub(crate) const LINE: &str =
+    "a 1 9f9cc8f6baef592ed6bf90b106ebe7b882f59a1cc9803a6d1eef6974da5f87ed\n";
 
 /// The same in upper case and without the line feed.
 const UPPER: &str = "a 1 9F9CC8F6BAEF592ED6BF90B106EBE7B882F59A1CC9803A6D1EEF6974DA5F87ED";

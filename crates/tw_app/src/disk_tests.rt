@@ -1,0 +1,233 @@
+// Runs of the commands that work on a service, over a disk in memory.
+
+use super::*;
+use crate::tests::{LEAST, LINE, words};
+use std::alloc::Global;
+use std::process::Abort;
+use tw_disk::MemDisk;
+use tw_outside::{MemInputs, MemSink};
+
+/// The line of step 0 of the service `a`.
+const FIRST: &str = "a 0 712a98165e96cb35d4ff3630786a060f8670f726c26cdb94247ec0f033a632af\n";
+
+/// The line of its step 2, where each step has one empty event.
+const SECOND: &str = "a 2 42ecf76a1a15b2b9d451f7de6e855c52d41acec95e38cf5fe3d6938bd86932de\n";
+
+/// An events file of one empty event.
+const EVENT: [u8; 12] = [0x54, 0x57, 0x45, 0x31, 0, 0, 0, 1, 0, 0, 0, 0];
+
+/// Inputs with the events file `e`.
+fn inputs(rt: &impl Abort, alloc: Global) -> MemInputs {
+    let mut inputs = MemInputs::new(alloc);
+    inputs.put("e", &EVENT).expect(rt, "memory");
+    inputs
+}
+
+/// Runs the words over the disk and these inputs, sees that this status and these bytes come, and
+/// gives the disk back.
+fn expect_on<R: Abort>(
+    rt: &R,
+    alloc: Global,
+    disk: MemDisk,
+    inputs: &mut MemInputs,
+    texts: &[&str],
+    status: u8,
+    bytes: &[u8],
+) -> MemDisk {
+    let words = words(rt, alloc, texts);
+    let mut out = MemSink::new(alloc);
+    let ran = run(alloc, words.as_slice(), disk, inputs, &mut out);
+    assert_eq!(rt; ran.status, status);
+    assert_eq!(rt; out.taken(), bytes);
+    ran.disk
+}
+
+/// The same over the events file alone.
+fn expect<R: Abort>(
+    rt: &R,
+    alloc: Global,
+    disk: MemDisk,
+    texts: &[&str],
+    status: u8,
+    bytes: &[u8],
+) -> MemDisk {
+    let mut inputs = inputs(rt, alloc);
+    expect_on(rt, alloc, disk, &mut inputs, texts, status, bytes)
+}
+
+/// A disk with the service `a`, without a step.
+fn made<R: Abort>(rt: &R, alloc: Global) -> MemDisk {
+    let disk = MemDisk::new(alloc);
+    expect(rt, alloc, disk, &["init", "d", "a"], 0, FIRST.as_bytes())
+}
+
+/// A disk with the service `a` and its step 1.
+fn with_step<R: Abort>(rt: &R, alloc: Global) -> MemDisk {
+    let disk = made(rt, alloc);
+    expect(rt, alloc, disk, &["append", "d", "e"], 0, LINE.as_bytes())
+}
+
+/// The status of the words over the disk, and the disk.
+fn status_of<R: Abort>(rt: &R, alloc: Global, disk: MemDisk, texts: &[&str]) -> (u8, MemDisk) {
+    let mut inputs = inputs(rt, alloc);
+    let words = words(rt, alloc, texts);
+    let mut out = MemSink::new(alloc);
+    let ran = run(alloc, words.as_slice(), disk, &mut inputs, &mut out);
+    (ran.status, ran.disk)
+}
+
+#[test]
+fn an_event_of_a_service_is_proved(rt: HostRuntime) {
+    let alloc = rt.alloc();
+    let disk = with_step(&rt, alloc);
+    let disk = expect(
+        &rt,
+        alloc,
+        disk,
+        &["prove", "d", "event", "1", "0"],
+        0,
+        &LEAST,
+    );
+    let disk = expect(
+        &rt,
+        alloc,
+        disk,
+        &["append", "d", "e"],
+        0,
+        SECOND.as_bytes(),
+    );
+    let under = ["prove", "d", "event", "1", "0", "1"];
+    drop(expect(&rt, alloc, disk, &under, 0, &LEAST));
+}
+
+#[test]
+fn a_service_is_made_once(rt: HostRuntime) {
+    let alloc = rt.alloc();
+    let disk = made(&rt, alloc);
+    let again = ["init", "d", "b"];
+    let disk = expect(&rt, alloc, disk, &again, 7, b"refused Taken\n");
+    drop(expect(&rt, alloc, disk, &["append", "d", "e"], 0, LINE.as_bytes()));
+}
+
+#[test]
+fn what_a_service_does_not_have_is_refused(rt: HostRuntime) {
+    let alloc = rt.alloc();
+    let disk = with_step(&rt, alloc);
+    let no_step = b"refused NoStep 1\n";
+    let disk = expect(
+        &rt,
+        alloc,
+        disk,
+        &["prove", "d", "event", "0", "0"],
+        7,
+        no_step,
+    );
+    let disk = expect(
+        &rt,
+        alloc,
+        disk,
+        &["prove", "d", "event", "2", "0"],
+        7,
+        no_step,
+    );
+    let disk = expect(
+        &rt,
+        alloc,
+        disk,
+        &["prove", "d", "event", "1", "0", "2"],
+        7,
+        no_step,
+    );
+    let no_event = b"refused NoEvent 1\n";
+    let disk = expect(
+        &rt,
+        alloc,
+        disk,
+        &["prove", "d", "event", "1", "1"],
+        7,
+        no_event,
+    );
+    let high = ["prove", "d", "event", "1", "4294967296"];
+    drop(expect(&rt, alloc, disk, &high, 7, no_event));
+}
+
+#[test]
+fn a_blank_disk_has_no_service(rt: HostRuntime) {
+    let alloc = rt.alloc();
+    let blank = b"store Blank\n";
+    let disk = MemDisk::new(alloc);
+    let disk = expect(&rt, alloc, disk, &["append", "d", "e"], 8, blank);
+    drop(expect(
+        &rt,
+        alloc,
+        disk,
+        &["prove", "d", "event", "1", "0"],
+        8,
+        blank,
+    ));
+}
+
+#[test]
+fn a_file_is_judged_before_the_disk_is_touched(rt: HostRuntime) {
+    let alloc = rt.alloc();
+    let mut inputs = inputs(&rt, alloc);
+    let cut = EVENT.get(..11).expect(&rt, "12 bytes");
+    inputs.put("f", cut).expect(&rt, "memory");
+    let disk = MemDisk::new(alloc);
+    let missing = ["append", "d", "missing"];
+    let disk = expect_on(&rt, alloc, disk, &mut inputs, &missing, 3, b"fault input\n");
+    let bad = b"unreadable f byte 11\n";
+    let disk = expect_on(&rt, alloc, disk, &mut inputs, &["append", "d", "f"], 9, bad);
+    assert_eq!(rt; disk.device_calls(), 0);
+}
+
+#[test]
+fn a_step_stands_that_could_not_be_told(rt: HostRuntime) {
+    let alloc = rt.alloc();
+    let disk = made(&rt, alloc);
+    let words = words(&rt, alloc, &["append", "d", "e"]);
+    let mut inputs = inputs(&rt, alloc);
+    let mut out = MemSink::new(alloc);
+    out.fail(1).expect(&rt, "memory");
+    let ran = run(alloc, words.as_slice(), disk, &mut inputs, &mut out);
+    assert_eq!(rt; ran.status, 4);
+    drop(expect(
+        &rt,
+        alloc,
+        ran.disk,
+        &["prove", "d", "event", "1", "0"],
+        0,
+        &LEAST,
+    ));
+}
+
+#[test]
+fn a_disk_fault_at_each_call_leaves_the_step_or_none(rt: HostRuntime) {
+    let alloc = rt.alloc();
+    for call in 1u64..9 {
+        let mut disk = made(&rt, alloc);
+        disk.fail(call).expect(&rt, "memory");
+        let disk = expect(&rt, alloc, disk, &["append", "d", "e"], 5, b"fault disk\n");
+        let (status, disk) = status_of(&rt, alloc, disk, &["prove", "d", "event", "1", "0"]);
+        assert!(rt; status == 0 || status == 7);
+        drop(disk);
+    }
+}
+
+#[test]
+fn a_crash_at_each_call_leaves_the_step_or_none(rt: HostRuntime) {
+    let alloc = rt.alloc();
+    for call in 1u64..9 {
+        for choice in 0u8..4 {
+            let mut disk = made(&rt, alloc);
+            disk.stop_at(call);
+            let mut disk = expect(&rt, alloc, disk, &["append", "d", "e"], 5, b"fault disk\n");
+            disk.crash(choice);
+            let (status, disk) = status_of(&rt, alloc, disk, &["prove", "d", "event", "1", "0"]);
+            assert!(rt; status == 0 || status == 7);
+            let (status, disk) = status_of(&rt, alloc, disk, &["append", "d", "e"]);
+            assert_eq!(rt; status, 0);
+            drop(disk);
+        }
+    }
+}
