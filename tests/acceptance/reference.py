@@ -370,7 +370,7 @@ def read_history(data):
         else:
             step.thread = (read.name(), read.number(8, 1, LAST_STEP), read.bytes(32))
         step.nodes = [
-            (read.number(4, 0, 2**32 - 1), read.number(8, 0, LAST_STEP), read.number(4, 0, 2**32 - 1))
+            (read.number(4, 0, 2**32 - 1), read.number(8, 0, 2**64 - 1), read.number(4, 0, 2**32 - 1))
             for _ in range(read.number(2, 0, 65535))
         ]
         step.root = read.number(4, 0, 2**32 - 1)

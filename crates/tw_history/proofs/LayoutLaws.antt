@@ -34,7 +34,7 @@ goes_on-node : GoesOn node_layout
 unfolding node_layout
 goes_on-node =
     goes_on-then (number 4 0 (2 ^ 32 - 1)) _ (goes_on-number 4 0 (2 ^ 32 - 1) (lit≤ tt)) (λ left.
-    goes_on-then (number 8 0 (2 ^ 40 - 1)) _ (goes_on-number 8 0 (2 ^ 40 - 1) (lit≤ tt)) (λ entry.
+    goes_on-then (number 8 0 (2 ^ 64 - 1)) _ (goes_on-number 8 0 (2 ^ 64 - 1) (lit≤ tt)) (λ entry.
     goes_on-then (number 4 0 (2 ^ 32 - 1)) _ (goes_on-number 4 0 (2 ^ 32 - 1) (lit≤ tt)) (λ right. tt)))
 
 goes_on-step : GoesOn step_layout

@@ -79,10 +79,10 @@ node-written : WrittenAs node_layout node_bytes
 unfolding node_layout
 node-written =
     all_words-then (number 4 0 (2 ^ 32 - 1)) _ (λ word n. word ≡ node_bytes n) (λ left_word left on_left.
-    all_words-then (number 8 0 (2 ^ 40 - 1)) _ _ (λ entry_word entry entered.
+    all_words-then (number 8 0 (2 ^ 64 - 1)) _ _ (λ entry_word entry entered.
     all_words-then (number 4 0 (2 ^ 32 - 1)) _ _ (λ right_word right on_right.
     let word : left_word ++ (entry_word ++ (right_word ++ [])) ≡ number_bytes 4 left ++ (number_bytes 8 entry ++ number_bytes 4 right) =
-    (λ k. number-written 4 0 (2 ^ 32 - 1) (lit≤ tt) (lit< tt) left_word left on_left k ++ (number-written 8 0 (2 ^ 40 - 1) (lit≤ tt) (lit< tt) entry_word entry entered k
+    (λ k. number-written 4 0 (2 ^ 32 - 1) (lit≤ tt) (lit< tt) left_word left on_left k ++ (number-written 8 0 (2 ^ 64 - 1) (lit≤ tt) (lit< tt) entry_word entry entered k
     ++ (append-nil right_word ∙ number-written 4 0 (2 ^ 32 - 1) (lit≤ tt) (lit< tt) right_word right on_right) k)) in
     all_words-done (record { left = left; entry = entry; right = right }) _ word)))
 

@@ -83,13 +83,13 @@ thread_spelled t some low from auth =
     (spells_then digest _ t.auth [] t.auth (Received t) auth refl)) in
     spells_then (number 1 1 2) _ (2 ∷ []) _ 2 (Received t) (kind_spelled 2 (lit≤ tt) (lit≤ tt) thread_kind) (subst P (append-nil t.auth) spelled)
 
-pub node_spelled : (n : Node) → n.left < 2 ^ 32 → n.entry < 2 ^ 40 → n.right < 2 ^ 32 → Spells node_layout (node_bytes n) n
+pub node_spelled : (n : Node) → n.left < 2 ^ 32 → n.entry < 2 ^ 64 → n.right < 2 ^ 32 → Spells node_layout (node_bytes n) n
 unfolding node_layout
 node_spelled n left entry right =
     let P : List ℕ → Type 0 = λ w. Spells node_layout (number_bytes 4 n.left ++ (number_bytes 8 n.entry ++ w)) n in
     let spelled : P (number_bytes 4 n.right ++ []) =
     spells_then (number 4 0 (2 ^ 32 - 1)) _ (number_bytes 4 n.left) _ n.left n (number_spells 4 0 (2 ^ 32 - 1) n.left (lit< tt) (omega arith) (omega arith))
-    (spells_then (number 8 0 (2 ^ 40 - 1)) _ (number_bytes 8 n.entry) _ n.entry n (number_spells 8 0 (2 ^ 40 - 1) n.entry (lit< tt) (omega arith) (omega arith))
+    (spells_then (number 8 0 (2 ^ 64 - 1)) _ (number_bytes 8 n.entry) _ n.entry n (number_spells 8 0 (2 ^ 64 - 1) n.entry (lit< tt) (omega arith) (omega arith))
     (spells_then (number 4 0 (2 ^ 32 - 1)) _ (number_bytes 4 n.right) [] n.right n (number_spells 4 0 (2 ^ 32 - 1) n.right (lit< tt) (omega arith) (omega arith)) refl)) in
     subst P (append-nil (number_bytes 4 n.right)) spelled
 
@@ -125,7 +125,7 @@ pub record StepsFurther (steps : List TableStep) (nodes later : List TableNode) 
       → more ++ joined (map step_bytes (steps_of (drop (i + 1) steps) later)) ≡ all
   pub spelled : AllSpelled step_layout step_bytes (steps_of (drop (i + 1) steps) later) → AllSpelled step_layout step_bytes (steps_of (drop i steps) nodes)
   pub counted : sum_by (λ s. s.fresh) (drop i steps) ≡ length nodes → sum_by (λ s. s.fresh) (drop (i + 1) steps) ≡ length later
-  pub entries : Each {X = TableNode} (λ n. n.entry < 2 ^ 40) nodes → Each {X = TableNode} (λ n. n.entry < 2 ^ 40) later
+  pub entries : Each {X = TableNode} (λ n. n.entry < 2 ^ 64) nodes → Each {X = TableNode} (λ n. n.entry < 2 ^ 64) later
 
 pub steps_further : (steps : List TableStep) (nodes fresh later : List TableNode) (i : ℕ) (s : TableStep) → i < length steps → s ≡ get_or steps i s
     → fresh ≡ take s.fresh nodes → later ≡ drop s.fresh nodes → Spells step_layout (step_bytes (step_of s fresh)) (step_of s fresh)
@@ -145,7 +145,7 @@ steps_further steps nodes fresh later i s l is front back one =
       counted = λ counted.
           omega (arith, counted, ap (sum_by (λ s. s.fresh)) cut, sum_by-cons (λ s. s.fresh) s (drop (i + 1) steps), ap length back, length-drop s.fresh nodes);
       entries = λ all.
-          let P : TableNode → Type 0 = λ n. n.entry < 2 ^ 40 in
+          let P : TableNode → Type 0 = λ n. n.entry < 2 ^ 64 in
           subst (Each P) (sym back) (Each-parts P (take s.fresh nodes) (drop s.fresh nodes) (subst (Each P) (sym (take-append-drop s.fresh nodes)) all)).1;
     }
 

@@ -29,7 +29,7 @@ content_layout = then_by (number 1 1 2) (λ kind. if kind == 1 then events_layou
 unfoldable pub node_layout : Format Node
 node_layout =
     then_by (number 4 0 (2 ^ 32 - 1)) (λ left.
-    then_by (number 8 0 (2 ^ 40 - 1)) (λ entry.
+    then_by (number 8 0 (2 ^ 64 - 1)) (λ entry.
     then_by (number 4 0 (2 ^ 32 - 1)) (λ right.
     Done (record { left = left; entry = entry; right = right }))))
 

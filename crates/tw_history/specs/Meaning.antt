@@ -34,4 +34,4 @@ pub record IsTable (steps : List Step) (nodes : List Node) : Type 0 where
   pub counted : sum_by (λ s. s.fresh) steps ≡ length nodes
   pub few : length steps < 2 ^ 40
   pub contents : Each (λ s. IsInRange s.content) steps
-  pub entries : Each (λ n. n.entry < 2 ^ 40) nodes
+  pub entries : Each (λ n. n.entry < 2 ^ 64) nodes

@@ -33,7 +33,7 @@ content_at whole at = do
 unfoldable pub node_at : List ℕ → ℕ → Result (Placed Node) ℕ
 node_at whole at = do
   left ← read_at (number 4 0 (2 ^ 32 - 1)) whole at
-  entry ← read_at (number 8 0 (2 ^ 40 - 1)) whole left.after
+  entry ← read_at (number 8 0 (2 ^ 64 - 1)) whole left.after
   right ← read_at (number 4 0 (2 ^ 32 - 1)) whole entry.after
   Ok (record { value = record { left = left.value; entry = entry.value; right = right.value }; after = right.after })
 

@@ -10,7 +10,7 @@ ghost use Rattle.tw_history.specs.Layout.{node_layout, step_layout};
 ghost use Rattle.tw_history.specs.Meaning.{IsInRange, IsTable, node_of, step_of, steps_of};
 ghost use Rattle.tw_history.specs.Reading.{added, node_at as node_at_of, step_at as step_at_of};
 
-use crate::reading_content::{LAST_STEP, content_at};
+use crate::reading_content::content_at;
 use crate::step::{Node, Step};
 use crate::table::{Nodes, Steps};
 use std::alloc::Global;
@@ -29,10 +29,10 @@ fn node_at(bytes: &[u8], at: u64) -> Result<Node, ReadFault>
     requires within { at ≤ length bytes.now }
     ensures read { GivesIfMemory node_of result (at + 16) (node_at_of bytes.now at) }
     ensures within { IfOk result (λ _. at + 16 ≤ length bytes.now) }
-    ensures entry { IfOk result (λ n. n.entry < 2 ^ 40) }
+    ensures entry { IfOk result (λ n. n.entry < 2 ^ 64) }
 {
     let left = malformed(read_number(bytes, at, 4, 0, u32::MAX as u64))?;
-    let entry = malformed(read_number(bytes, at + 4, 8, 0, LAST_STEP))?;
+    let entry = malformed(read_number(bytes, at + 4, 8, 0, u64::MAX))?;
     let right = malformed(read_number(bytes, at + 12, 4, 0, u32::MAX as u64))?;
     Ok(Node {
         left: left as u32,
@@ -44,12 +44,12 @@ fn node_at(bytes: &[u8], at: u64) -> Result<Node, ReadFault>
 /// Appends the nodes at a place, so many of them.
 fn nodes_at(bytes: &[u8], at: u64, count: u64, nodes: &mut Nodes) -> Result<(), ReadFault>
     requires within { at ≤ length bytes.now }
-    requires entries { Each (λ n. n.entry < 2 ^ 40) nodes.old }
+    requires entries { Each (λ n. n.entry < 2 ^ 64) nodes.old }
     ensures read { GivesIfMemory (λ _. map node_of (added nodes.old nodes.new)) result (at + 16 * count) (read_at (repeated count node_layout) bytes.now at) }
     ensures within { IfOk result (λ _. at + 16 * count ≤ length bytes.now) }
     ensures kept { IfOk result (λ _. nodes.new ≡ nodes.old ++ added nodes.old nodes.new) }
     ensures count { IfOk result (λ _. length nodes.new ≡ length nodes.old + count) }
-    ensures entries { IfOk result (λ _. Each (λ n. n.entry < 2 ^ 40) nodes.new) }
+    ensures entries { IfOk result (λ _. Each (λ n. n.entry < 2 ^ 64) nodes.new) }
 {
     let mut place = at;
     'nodes: for _ in 0..count {
@@ -69,13 +69,13 @@ fn step_at(
     nodes: &mut Nodes,
 ) -> Result<(Step, u64), ReadFault>
     requires within { at ≤ length bytes.now }
-    requires entries { Each (λ n. n.entry < 2 ^ 40) nodes.old }
+    requires entries { Each (λ n. n.entry < 2 ^ 64) nodes.old }
     ensures read { GivesWithEnd (λ (s : Step). step_of s (added nodes.old nodes.new)) result (step_at_of bytes.now at) }
     ensures within { IfOk result (λ r. r.1 ≤ length bytes.now) }
     ensures kept { IfOk result (λ _. nodes.new ≡ nodes.old ++ added nodes.old nodes.new) }
     ensures count { IfOk result (λ r. length nodes.new ≡ length nodes.old + r.0.fresh) }
     ensures content { IfOk result (λ r. IsInRange r.0.content) }
-    ensures entries { IfOk result (λ _. Each (λ n. n.entry < 2 ^ 40) nodes.new) }
+    ensures entries { IfOk result (λ _. Each (λ n. n.entry < 2 ^ 64) nodes.new) }
 {
     let (content, after) = content_at(alloc, bytes, at)?;
     let fresh = malformed(read_number(bytes, after, 2, 0, u16::MAX as u64))?;

@@ -27,7 +27,8 @@ pub struct Step {
 pub struct Node {
     /// The number of the root of the left side: 0 for the empty tree, else that of a node.
     pub left: u32,
-    /// The step that received the node's thread, at most 2^40 - 1.
+    /// The step that received the node's thread. Any number of 64 bits can be told here; one that is
+    /// no such step makes the history unsound.
     pub entry: u64,
     /// The number of the root of the right side.
     pub right: u32,

@@ -80,7 +80,7 @@ fn put_history(into: &mut Bytes, history: &History) -> Result<(), NoMemory>
 fn put_steps(into: &mut Bytes, steps: &[Step], nodes: &[Node]) -> Result<(), NoMemory>
     requires counted { sum_by (λ s. s.fresh) steps.now ≡ length nodes.now }
     requires contents { Each (λ s. IsInRange s.content) steps.now }
-    requires entries { Each (λ n. n.entry < 2 ^ 40) nodes.now }
+    requires entries { Each (λ n. n.entry < 2 ^ 64) nodes.now }
     ensures ok { OnOk result (into.new ≡ into.old ++ joined (map step_bytes (steps_of steps.now nodes.now))) }
     ensures spelled { OnOk result (AllSpelled step_layout step_bytes (steps_of steps.now nodes.now)) }
 {
@@ -97,7 +97,7 @@ fn put_steps(into: &mut Bytes, steps: &[Step], nodes: &[Node]) -> Result<(), NoM
 fn put_step(into: &mut Bytes, step: &Step, fresh: &[Node]) -> Result<(), NoMemory>
     requires counted { length fresh.now ≡ step.now.fresh }
     requires content { IsInRange step.now.content }
-    requires entries { Each (λ n. n.entry < 2 ^ 40) fresh.now }
+    requires entries { Each (λ n. n.entry < 2 ^ 64) fresh.now }
     ensures ok { OnOk result (into.new ≡ into.old ++ step_bytes (step_of step.now fresh.now)) }
     ensures spelled { OnOk result (Spells step_layout (step_bytes (step_of step.now fresh.now)) (step_of step.now fresh.now)) }
 {
@@ -156,7 +156,7 @@ fn put_event(into: &mut Bytes, event: &Bytes) -> Result<(), NoMemory>
 
 /// Appends the nodes.
 fn put_nodes(into: &mut Bytes, nodes: &[Node]) -> Result<(), NoMemory>
-    requires { Each (λ n. n.entry < 2 ^ 40) nodes.now }
+    requires { Each (λ n. n.entry < 2 ^ 64) nodes.now }
     ensures ok { OnOk result (into.new ≡ into.old ++ joined (map node_bytes (map node_of nodes.now))) }
     ensures spelled { OnOk result (AllSpelled node_layout node_bytes (map node_of nodes.now)) }
 {
@@ -168,7 +168,7 @@ fn put_nodes(into: &mut Bytes, nodes: &[Node]) -> Result<(), NoMemory>
 
 /// Appends the node.
 fn put_node(into: &mut Bytes, node: &Node) -> Result<(), NoMemory>
-    requires { node.now.entry < 2 ^ 40 }
+    requires { node.now.entry < 2 ^ 64 }
     ensures ok { OnOk result (into.new ≡ into.old ++ node_bytes (node_of node.now)) }
     ensures spelled { OnOk result (Spells node_layout (node_bytes (node_of node.now)) (node_of node.now)) }
 {

@@ -37,5 +37,5 @@ nodes-preserved c =
       read = further.0;
       kept = further.1;
       count = omega (arith, ap length pushed, length-append c.nodes.nodes (c.in_ok-node.node ∷ []), c.nodes.invariant.count);
-      entries = each_further (λ n. n.entry < 2 ^ 40) c.nodes.nodes c.push.new.self c.in_ok-node.node pushed c.nodes.invariant.entries c.in_ok-node.ensures.entry;
+      entries = each_further (λ n. n.entry < 2 ^ 64) c.nodes.nodes c.push.new.self c.in_ok-node.node pushed c.nodes.invariant.entries c.in_ok-node.ensures.entry;
     }

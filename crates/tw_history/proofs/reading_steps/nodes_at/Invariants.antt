@@ -14,5 +14,5 @@ invariant-nodes l = record {
   read : read_at (repeated l.counter node_layout) l.bytes l.at ≡ Ok (record { value = map node_of (added l.initial.nodes l.nodes); after = l.place });
   kept : l.nodes ≡ l.initial.nodes ++ added l.initial.nodes l.nodes;
   count : length l.nodes ≡ length l.initial.nodes + l.counter;
-  entries : Each (λ n. n.entry < 2 ^ 40) l.nodes;
+  entries : Each (λ n. n.entry < 2 ^ 64) l.nodes;
 }

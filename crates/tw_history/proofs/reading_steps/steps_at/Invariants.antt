@@ -13,7 +13,7 @@ invariant-steps l = record {
   read : read_at (repeated (length l.steps) step_layout) l.bytes l.at ≡ Ok (record { value = steps_of l.steps l.nodes; after = l.place });
   counted : sum_by (λ s. s.fresh) l.steps ≡ length l.nodes;
   contents : Each (λ s. IsInRange s.content) l.steps;
-  entries : Each (λ n. n.entry < 2 ^ 40) l.nodes;
+  entries : Each (λ n. n.entry < 2 ^ 64) l.nodes;
 }
 
 abbrev pub decreases-steps : goal.decreases-steps

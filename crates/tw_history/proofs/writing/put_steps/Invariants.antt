@@ -12,5 +12,5 @@ invariant-loop-step l = record {
   written : l.into ++ joined (map step_bytes (steps_of (drop l.step-index l.steps) l.rest)) ≡ l.initial.into ++ joined (map step_bytes (steps_of l.steps l.initial.rest));
   spelled : AllSpelled step_layout step_bytes (steps_of (drop l.step-index l.steps) l.rest) → AllSpelled step_layout step_bytes (steps_of l.steps l.initial.rest);
   counted : sum_by (λ s. s.fresh) (drop l.step-index l.steps) ≡ length l.rest;
-  entries : Each (λ n. n.entry < 2 ^ 40) l.rest;
+  entries : Each (λ n. n.entry < 2 ^ 64) l.rest;
 }
