@@ -431,3 +431,38 @@ fn a_proof_reads_each_page_of_its_path_once(rt: HostRuntime) -> Result<(), Fail>
     assert!(rt; service.close().reads() <= before.saturating_add(18));
     Ok(())
 }
+
+// The number of steps that a new service has after its first append was stopped at this call and the
+// disk crashed with this outcome; None where it isn't opened.
+fn steps_after_a_stop(alloc: Global, name: Name, call: u64, choice: u8) -> Option<u64> {
+    let service = init(alloc, MemDisk::new(alloc), name)?;
+    let mut service = open(alloc, service.close())?;
+    let events = equal_events(alloc, 1, 0).ok()?;
+    let mut disk = service.close();
+    disk.stop_at(call.max(1).saturating_add(1));
+    service = open(alloc, disk)?;
+    let _ = service.append(&events);
+    let mut disk = service.close();
+    disk.crash(choice.min(3));
+    let service = open(alloc, disk)?;
+    let steps = service.steps();
+    drop(service.close());
+    Some(steps)
+}
+
+#[test]
+fn a_stop_leaves_the_step_or_not(rt: HostRuntime) -> Result<(), Fail> {
+    let alloc = rt.alloc();
+    let name = alpha(&rt);
+    for choice in 0..4 {
+        for call in 1..7 {
+            assert_eq!(rt; steps_after_a_stop(alloc, name, call, choice), Some(0));
+        }
+        for call in 7..9 {
+            let steps = steps_after_a_stop(alloc, name, call, choice).ok_or("not opened")?;
+            assert!(rt; steps <= 1);
+        }
+        assert_eq!(rt; steps_after_a_stop(alloc, name, 9, choice), Some(1));
+    }
+    Ok(())
+}
