@@ -159,7 +159,7 @@ def refusals(room):
     room.expect("prove d event 3 9 1", 7, b"refused NoStep 2\n")
     for events, refusal in (
         ([b""] * 1025, "TooMany 1025"),
-        ([bytes(1025)] + [b""] * 1024, "TooMany 1025"),
+        ([bytes(1025)] * 1000 + [b""] * 25, "TooMany 1025"),
         ([b"", bytes(1025), bytes(2000)], "TooLong 1025"),
         ([bytes(1024)] * 64 + [b"x"], "TooLong 65537"),
         ([bytes(1024)] * 65 + [bytes(1030)], "TooLong 1030"),

@@ -1,9 +1,11 @@
 // The program `timeweave`: the top call over real files, a folder's store and standard output.
 #![tactic(auto)]
 
+mod standard_streams;
 mod store_path;
 mod words;
 
+use standard_streams::keep_standard_numbers;
 use std::process::ExitCode;
 use store_path::path_of_store;
 use tw_app::run;
@@ -15,6 +17,7 @@ use words::read_arguments;
 const NO_MEMORY: u8 = 6;
 
 fn main(rt: HostRuntime) -> ExitCode {
+    let _kept = keep_standard_numbers(&rt);
     let status = match read_arguments(&rt) {
         Ok(words) => match path_of_store(rt.alloc(), words.as_slice()) {
             Ok(path) => {

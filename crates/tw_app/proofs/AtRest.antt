@@ -1,16 +1,15 @@
 -- Disks that stand for a history, and runs of calls that keep it.
-use Rattle.std.proofs.Common.{◌≡◌, ◌∙◌, ◌≤◌, ℕ, List, arith, refl, sym, subst, inl, inr, ◌⊎◌}
+use Rattle.std.proofs.Common.{◌≡◌, ◌∙◌, ◌≤◌, ℕ, List, arith, refl, sym, subst, inl}
 use Rattle.std.specs.Prelude.{Option, Some}
 use Rattle.sha2.specs.Sha256.{sha256}
-use Rattle.tw_base.specs.History.{History, plus}
+use Rattle.tw_base.specs.History.{History}
 use Rattle.tw_disk.specs.Disk.{IsAtRest, LeavesOnly}
 use Rattle.tw_disk.specs.Image.{Image}
 use Rattle.tw_disk.specs.Moments.{goes_on, leaves_weaker, no_call}
 use Rattle.tw_outside.specs.Faults.{Rose}
 use Rattle.tw_pages.specs.Kept.{opening_of}
-use Rattle.tw_skiplist.specs.Keeping.{event_step}
 use Rattle.tw_service.specs.declared.service.Service.{Service}
-use Rattle.tw_service.specs.Serves.{Serves, disk_of, name_of}
+use Rattle.tw_service.specs.Serves.{Serves, disk_of}
 use Rattle.tw_service.specs.Stands.{StandsFor, StandsForOneOf}
 use Rattle.tw_service.proofs.Opened.{opens_kept}
 use Rattle.tw_service.proofs.Serving.{keeps_stands}

@@ -1,9 +1,7 @@
 -- What a run's status says by itself of a command that works on a disk, and what the run leaves of the disk.
-use Rattle.std.proofs.Common.{◌≡◌, ◌∙◌, ℕ, List, ap, sym, subst, arith, inl, inr, ◌⊎◌, ⊎_elim, refl}
+use Rattle.std.proofs.Common.{◌≡◌, ◌∙◌, ℕ, List, ap, sym, subst, arith, inl, inr, ◌⊎◌, refl}
 use Rattle.std.specs.Prelude.{Option, Some, None, MatchOption}
 use Rattle.tw_base.specs.declared.thread.Thread.{Thread}
-use Rattle.tw_base.specs.History.{History}
-use Rattle.tw_disk.specs.Disk.{LeavesOnly}
 use Rattle.tw_disk.specs.Image.{Image}
 use Rattle.sha2.specs.Sha256.{sha256}
 use Rattle.tw_disk.specs.Moments.{leaves_weaker}
@@ -16,16 +14,15 @@ use Rattle.tw_chain.specs.declared.verdict.Verdict.{Verdict}
 use Rattle.tw_chain.specs.declared.verdict.Verdict.TheVariants.{Yes, No}
 use Rattle.tw_app.specs.declared.outcome.Outcome.{Outcome}
 use Rattle.tw_app.specs.declared.outcome.Outcome.TheVariants.{Judged, Shown, Made, Refused, Unserved, Unreadable, BadWords, InputFault, DiskFault, NoMemory}
-use Rattle.tw_app.specs.Commands.{IsAppend, IsInit, IsProve, IsVerify, UsesDisk}
-use Rattle.tw_app.specs.Disks.{IsLeft, IsOf, Keeps, MayBegin, Stands}
+use Rattle.tw_app.specs.Commands.{IsAppend, IsInit, IsProve, UsesDisk}
+use Rattle.tw_app.specs.Disks.{IsLeft, Keeps, MayBegin}
 use Rattle.tw_app.specs.DiskStatuses.{AddsAtMost, IsAppendedRun, IsCrashSafe, IsDiskFaultRun, IsMadeRun, IsProvedRun, IsUnservedRun}
 use Rattle.tw_app.specs.Leaving.{AppendLeaves, CommandLeaves, InitLeaves, Leaves}
-use Rattle.tw_app.specs.Outcomes.{status_of, text_of}
+use Rattle.tw_app.specs.Outcomes.{status_of}
 use Rattle.tw_app.specs.Running.{ComesTo, Ends, EndsWith, HasOutcome, HaveNoForm}
-use Rattle.tw_app.specs.Statuses.{AreOf, AskForDisk, AskForProof, AskForService, AskForStep}
-use Rattle.tw_app.specs.Verifying.{Judges}
+use Rattle.tw_app.specs.Statuses.{AskForDisk, AskForProof, AskForService, AskForStep}
 use Rattle.tw_app.proofs.AtRest.{left_keeps, no_call_left}
-use Rattle.tw_app.proofs.Endings.{Ended, judging_is_verify, making_is, not_judged, not_show_make, not_verify_make, not_verify_show, of_command, of_option, of_words, outcome_is, showing_is}
+use Rattle.tw_app.proofs.Endings.{Ended, judging_is_verify, making_is, not_show_make, not_verify_make, not_verify_show, of_command, of_option, of_words, outcome_is, showing_is}
 
 -- the command, by what it is
 is_init : (c : Command) → IsInit c → (dir : List ℕ) × (name : List ℕ) × (c ≡ Init dir name)

@@ -21,7 +21,7 @@ use Rattle.tw_chain.specs.declared.verdict.Verdict.TheVariants.{Yes, No}
 use Rattle.tw_chain.specs.Accepting.{Accepts, claim_of, proof_texts}
 use Rattle.tw_app.specs.declared.outcome.Outcome.{Outcome}
 use Rattle.tw_app.specs.declared.outcome.Outcome.TheVariants.{Judged, Shown, Made, Refused, Unserved, Unreadable, BadWords, InputFault, DiskFault, NoMemory}
-use Rattle.tw_app.specs.Commands.{IsAppend, IsBuilt, IsInit, IsProve, IsShow, IsVerify, UsesDisk}
+use Rattle.tw_app.specs.Commands.{IsAppend, IsBuilt, IsInit, IsProve, IsShow, IsVerify}
 use Rattle.tw_app.specs.Outcomes.{TakesMemory, status_of, text_of}
 use Rattle.tw_app.specs.Running.{ComesTo, Ends, EndsWith, HasOutcome, HaveNoForm, Makes, Shows}
 use Rattle.tw_app.specs.Statuses.{AreBuilt, AreOf, AskForEvent, AskForVerdict, IsAcceptedRun, IsFaultRun, IsRefusedRun, IsRejectedRun, IsShownRun, IsUnreadableRun, IsUsage, IsUsageRun}

@@ -1,6 +1,6 @@
 -- From what a service answers to the asking for a proof to what the command comes to.
-use Rattle.std.proofs.Common.{◌≡◌, ◌∙◌, ℕ, suc, ◌<◌, ◌≤◌, List, length, min, Bool, true, false, refl, ap, sym, subst, arith, inl, inr, ◌⊎◌, ⊎_elim}
-use Rattle.std.specs.Prelude.{Option, Some, None, Result, Ok, Err, IfErr, IfOk, MatchOption, nat_le, nat_lt, if◌then◌else◌}
+use Rattle.std.proofs.Common.{◌≡◌, ◌∙◌, ℕ, ◌≤◌, List, length, min, Bool, true, false, refl, ap, sym, subst, arith, inl, inr, ◌⊎◌, ⊎_elim}
+use Rattle.std.specs.Prelude.{Option, Some, None, Result, Ok, Err, IfErr, MatchOption, nat_lt, if◌then◌else◌}
 use Rattle.std.proofs.lemmas.Bool.{cases_lt}
 use Rattle.std.proofs.lemmas.Bool.Decides.{nat_tests}
 use Rattle.sha2.specs.Sha256.{sha256}
@@ -17,12 +17,12 @@ use Rattle.tw_service.specs.declared.refusal.Refusal.{Refusal}
 use Rattle.tw_service.specs.declared.refusal.Refusal.TheVariants as service
 use Rattle.tw_service.specs.Faults.{IsBadPage, IsFault, IsNoEvent}
 use Rattle.tw_service.specs.Limits.{event_refusal, is_in_order, or_else, order_refusal, proof_refusal}
-use Rattle.tw_service.specs.Machine.{Answers, Call, IsStepOf, Reply}
+use Rattle.tw_service.specs.Machine.{Answers, IsStepOf, Reply}
 use Rattle.tw_service.specs.Machine.Call.{ProveEvent}
 use Rattle.tw_service.specs.Machine.Reply.{OfProof, Refused}
 use Rattle.tw_app.specs.declared.outcome.Outcome.{Outcome}
 use Rattle.tw_app.specs.Disks.{ReadsAs}
-use Rattle.tw_app.specs.Proving.{MachineRefuses, Proves, ProvesUnder, top_of}
+use Rattle.tw_app.specs.Proving.{Proves, ProvesUnder, top_of}
 use Rattle.tw_app.specs.ServiceFaults.{outcome_of_refusal}
 use Rattle.tw_app.specs.Stepping.{ComesToProof}
 use Rattle.tw_app.proofs.Histories.{few_events, makes_at}

@@ -1,9 +1,8 @@
 -- From the work on a disk to what the command comes to, and what it leaves.
-use Rattle.std.proofs.Common.{◌≡◌, ◌∙◌, ℕ, ◌≤◌, List, refl, ap, sym, subst, arith, inl, inr, ◌⊎◌, ⊎_elim}
+use Rattle.std.proofs.Common.{◌≡◌, ◌∙◌, ℕ, List, refl, ap, sym, subst, inl, inr, ◌⊎◌, ⊎_elim}
 use Rattle.std.specs.Prelude.{Option, Some, None, MatchOption, ◌≢◌}
 use Rattle.sha2.specs.Sha256.{sha256}
-use Rattle.tw_base.specs.declared.thread.Thread.{Thread}
-use Rattle.tw_base.specs.History.{History, plus}
+use Rattle.tw_base.specs.History.{History}
 use Rattle.tw_disk.specs.Disk.{LeavesOnly}
 use Rattle.tw_disk.specs.Image.{Image}
 use Rattle.tw_disk.specs.Moments.{leaves_weaker}
@@ -12,22 +11,21 @@ use Rattle.tw_outside.specs.Files.{Files}
 use Rattle.tw_pages.specs.Slots.{IsTaken}
 use Rattle.tw_pages.specs.declared.open.StoreFault.{StoreFault}
 use Rattle.tw_pages.specs.declared.open.StoreFault.TheVariants as store
-use Rattle.tw_service.specs.Stands.{IsBlankOrNew, IsNotOpenedFor, StandsForOneOf}
+use Rattle.tw_service.specs.Stands.{IsNotOpenedFor, StandsForOneOf}
 use Rattle.tw_text.specs.CommandLine.{command_of}
 use Rattle.tw_text.specs.declared.command.Command.{Command}
 use Rattle.tw_text.specs.declared.command.Command.TheVariants.{Append, Init, ProveEvent}
 use Rattle.tw_app.specs.declared.outcome.Outcome.{Outcome}
 use Rattle.tw_app.specs.declared.outcome.Outcome.TheVariants.{Judged, Shown, Made, Refused, Unserved, Unreadable, BadWords, InputFault, DiskFault, NoMemory}
-use Rattle.tw_app.specs.declared.outcome.Refusal.TheVariants.{Taken}
-use Rattle.tw_app.specs.Appending.{AddsStep, AreEventsOf}
-use Rattle.tw_app.specs.Commands.{IsBuilt, UsesDisk}
-use Rattle.tw_app.specs.Disks.{Begins, IsLeft, IsOf, Keeps, MayBegin, Stands}
+use Rattle.tw_app.specs.Appending.{AreEventsOf}
+use Rattle.tw_app.specs.Commands.{UsesDisk}
+use Rattle.tw_app.specs.Disks.{IsLeft, IsOf, Keeps, MayBegin, Stands}
 use Rattle.tw_app.specs.Leaving.{AppendLeaves, CommandLeaves, InitLeaves, Leaves}
 use Rattle.tw_app.specs.Outcomes.{TakesMemory}
 use Rattle.tw_app.specs.Running.{ComesTo}
 use Rattle.tw_app.specs.ServiceFaults.{outcome_of_store}
 use Rattle.tw_app.specs.Stepping.{ComesToProof, ComesToStep, IsStop, LeavesStep}
-use Rattle.tw_app.proofs.AtRest.{left_keeps, no_call_left, still_keeps}
+use Rattle.tw_app.proofs.AtRest.{left_keeps, no_call_left}
 
 -- ---- a disk that isn't opened
 

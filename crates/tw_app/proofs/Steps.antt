@@ -1,6 +1,6 @@
 -- From what a service answers to the adding of a step to what the command comes to.
-use Rattle.std.proofs.Common.{◌≡◌, ◌∙◌, ℕ, suc, ◌<◌, ◌≤◌, ◌^◌, ◌-◌, List, length, Bool, true, false, refl, ap, sym, subst, arith, inl, inr, ◌⊎◌, ⊎_elim}
-use Rattle.std.specs.Prelude.{Option, Some, None, Result, Ok, Err, IfErr, IfOk, MatchOption, nat_le, nat_lt, if◌then◌else◌}
+use Rattle.std.proofs.Common.{◌≡◌, ◌∙◌, ℕ, ◌^◌, ◌-◌, List, length, Bool, true, false, refl, ap, sym, subst, inl, inr, ◌⊎◌}
+use Rattle.std.specs.Prelude.{Option, Some, None, Result, Ok, Err, IfErr, MatchOption, nat_le, nat_lt, if◌then◌else◌}
 use Rattle.sha2.specs.Sha256.{sha256}
 use Rattle.tw_base.specs.declared.thread.Thread.{Thread}
 use Rattle.tw_base.specs.History.{History, plus}
@@ -12,17 +12,15 @@ use Rattle.tw_service.specs.declared.refusal.Refusal.{Refusal}
 use Rattle.tw_service.specs.declared.refusal.Refusal.TheVariants as service
 use Rattle.tw_service.specs.Faults.{IsBadPage, IsFault}
 use Rattle.tw_service.specs.Limits.{append_refusal, first_long, bytes_of, length_refusal, limits_refusal}
-use Rattle.tw_service.specs.Machine.{Answers, Call, IsStepOf, Reply, last_thread}
+use Rattle.tw_service.specs.Machine.{Answers, IsStepOf, last_thread}
 use Rattle.tw_service.specs.Machine.Call.{Append}
 use Rattle.tw_service.specs.Machine.Reply.{OfThread, Refused}
-use Rattle.tw_service.specs.Stands.{StandsFor, StandsForOneOf}
+use Rattle.tw_service.specs.Stands.{StandsForOneOf}
 use Rattle.tw_app.specs.declared.outcome.Outcome.{Outcome}
-use Rattle.tw_app.specs.declared.outcome.Outcome.TheVariants as outcome
-use Rattle.tw_app.specs.Appending.{AddsStep, RefusesEvents}
+use Rattle.tw_app.specs.Appending.{AddsStep}
 use Rattle.tw_app.specs.Disks.{IsOf, ReadsAs, Stands}
 use Rattle.tw_app.specs.ServiceFaults.{outcome_of_refusal}
 use Rattle.tw_app.specs.Stepping.{ComesToStep, LeavesStep}
-use Rattle.tw_app.proofs.AtRest.{own_name, own_names}
 
 -- ---- the table for a step
 

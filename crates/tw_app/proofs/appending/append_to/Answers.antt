@@ -1,4 +1,4 @@
-use Rattle.std.proofs.Common.{sym, subst, arith, inl, inr, ⊎_elim}
+use Rattle.std.proofs.Common.{sym, subst, inl, inr, ⊎_elim}
 use Rattle.sha2.specs.Sha256.{sha256}
 use Rattle.tw_base.specs.History.{plus}
 use Rattle.tw_disk.specs.Moments.{leaves_weaker}

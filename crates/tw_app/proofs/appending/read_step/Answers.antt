@@ -1,4 +1,4 @@
-use Rattle.std.proofs.Common.{◌≤◌, ◌<◌, ℕ, List, length, ◌∙◌, arith, ap}
+use Rattle.std.proofs.Common.{◌∙◌, arith}
 use Rattle.tw_app.proofs.EventFiles.{are_events, no_events, too_long}
 use Rattle.tw_app.proofs.appending.read_step.Goals as goal
 

@@ -1,7 +1,5 @@
 use Rattle.std.proofs.Common.{sym, subst}
-use Rattle.sha2.specs.Sha256.{sha256}
 use Rattle.tw_app.specs.declared.outcome.Outcome.TheVariants.{Made}
-use Rattle.tw_service.specs.Serves.{disk_of}
 use Rattle.tw_service.specs.Stands.{no_history}
 use Rattle.tw_app.specs.Leaving.{InitLeaves}
 use Rattle.tw_app.proofs.AtRest.{serves_stands}
