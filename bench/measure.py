@@ -20,6 +20,7 @@ TOP = Path(__file__).resolve().parent.parent
 sys.path.insert(0, str(TOP / "tests/acceptance"))
 
 import reference  # noqa: E402
+from stores import Store, events_file  # noqa: E402
 
 RUNS = 3000
 COMPRESS = "sha2::block256::compress"
@@ -124,6 +125,50 @@ def shown_rows(program, folder):
     return times, counts
 
 
+def counted_reads(words):
+    """How many pages the command reads of the store, as strace sees them; the store is the only file read by whole pages."""
+    traced = subprocess.run(["strace", "-e", "trace=read", *words], capture_output=True, check=True).stderr
+    return len(re.findall(rb"= 4096$", traced, re.M))
+
+
+def service_rows(program, folder):
+    """What `prove` and `append` cost on stores of 1,000 to 100,000 steps of one event each."""
+    null = os.open("/dev/null", os.O_WRONLY)
+    calls = f"{folder}/append_calls"
+    subprocess.run(["cc", "-O2", "-o", calls, TOP / "bench/append_calls.c"], check=True)
+    events = f"{folder}/events"
+    Path(events).write_bytes(events_file([b"bench"]))
+    proofs, appends = [], []
+    for count in (1_000, 10_000, 65_535, 100_000):
+        steps = [[reference.be(step, 8)] for step in range(1, count + 1)]
+        store = Store("bench", steps)
+        data = store.file()
+        os.makedirs(f"{folder}/s{count}", exist_ok=True)
+        path = f"{folder}/s{count}/timeline.tw"
+        Path(path).write_bytes(data)
+        for step in (1, count):
+            prove = [program, "prove", f"{folder}/s{count}", "event", str(step), "0"]
+            nothing, took = best_times(["/bin/true"], prove)
+            pages = counted_reads(prove) if shutil.which("strace") else "?"
+            proofs.append(f"| {count:,} | {step:,} | {pages} | {took * 1e6:.0f} | {took / nothing:.2f} |")
+        # (the link at a level from 1 on is found in the page of the step half as far below)
+        places = [str(store.step_pages[count + 1 - 2**level]) for level in range(reference.top_level(count + 1))]
+        append = [program, "append", f"{folder}/s{count}", events]
+        alone = [calls, path, events, "2", *places]
+        best = [float("inf")] * 2
+        for _ in range(100):
+            for i, words in enumerate((alone, append)):
+                # (the next append needs the store as it was; only its front and its end change)
+                with open(path, "r+b") as file:
+                    file.write(data[: 4 * 4096])
+                    file.truncate(len(data))
+                    os.fsync(file.fileno())
+                best[i] = min(best[i], seconds(words, null))
+        appends.append(f"| {count:,} | {best[0] * 1e6:.0f} | {best[1] * 1e6:.0f} | {best[1] / best[0]:.2f} |")
+    os.close(null)
+    return proofs, appends
+
+
 def main():
     program = os.path.realpath(sys.argv[1] if len(sys.argv) > 1 else TOP / "crates/timeweave/out/timeweave")
     least = reference.Timeline("a", [[b""]])
@@ -151,6 +196,21 @@ def main():
             f"| command | best of {RUNS:,} runs, in microseconds | ratio |",
             "|---|---|---|",
             *rows,
+        ]
+        proofs, appends = service_rows(program, folder)
+        text += [
+            "",
+            "`prove DIR event STEP 0`, on stores of steps of one event each; pages read are those of the opening too, four of them:",
+            "",
+            "| steps | step | pages read | best of 3,000 runs, in microseconds | ratio to `/bin/true` |",
+            "|---|---|---|---|---|",
+            *proofs,
+            "",
+            "`append` of one event, beside a program in C that makes the same system calls (`append_calls.c`):",
+            "",
+            "| steps before | the calls alone, best of 100, in microseconds | `append`, the same | ratio |",
+            "|---|---|---|---|",
+            *appends,
         ]
         times, counts = shown_rows(program, folder)
         text += [
