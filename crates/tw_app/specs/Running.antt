@@ -41,11 +41,12 @@ Makes told found (Init dir name) thread = MakesService found name thread
 Makes told found (Append dir file) thread = OfEvents told file (λ events. AddsStep found events thread)
 Makes told found _ thread = ⊥
 
--- it asks for an event that isn't there, for a service where there is a store, or for a step beyond the limits
+-- a service isn't made where there is a store
 abbrev pub RefusesInit : (found : Option Image) → Refusal → Type 0
 RefusesInit found Taken = HasStore found
 RefusesInit found _ = ⊥
 
+-- it asks for an event that isn't there, for a service where there is a store, or for a step beyond the limits
 abbrev pub Refuses : (told : Option Files) (found : Option Image) → Command → Refusal → Type 0
 Refuses told found (Show history step index) refusal = OfHistory told history (RefusesToShow step index refusal)
 Refuses told found (Init dir name) refusal = RefusesInit found refusal
