@@ -10,7 +10,7 @@ pub returns-clause-table : goal.returns-clause-table
 returns-clause-table c =
     let step : Step = record { content = Received c.args.thread; fresh = 1; root = c.saturating_add.result } in
     let node : Node = record { left = c.args.left; entry = c.len.result + 1; right = 0 } in
-    let small : c.len.result + 1 < 2 ^ 40 = omega (arith, c.len.ensures, c.requires.few) in
+    let small : c.len.result + 1 < 2 ^ 64 = omega (arith, c.len.ensures, c.requires.few) in
     subst (λ ss. IsTable ss c.push.new.self) (sym c.in_ok-push-2.ensures.ok)
     (subst (IsTable (c.args.steps.now ++ step ∷ [])) (sym c.in_ok-push.ensures.ok)
     (IsTable-push c.args.steps.now c.args.nodes.now step (node ∷ []) c.requires.table refl c.requires.few c.requires.range (small, tt)))
