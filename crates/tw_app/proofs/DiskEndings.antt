@@ -15,19 +15,25 @@ use Rattle.tw_chain.specs.declared.verdict.Verdict.TheVariants.{Yes, No}
 use Rattle.tw_app.specs.declared.outcome.Outcome.{Outcome}
 use Rattle.tw_app.specs.declared.outcome.Outcome.TheVariants.{Judged, Shown, Made, Refused, Unserved, Unreadable, BadWords, InputFault, DiskFault, NoMemory}
 use Rattle.tw_app.specs.Commands.{IsAppend, IsInit, IsProve, UsesDisk}
-use Rattle.tw_app.specs.Disks.{IsLeft, Keeps, MayBegin}
+use Rattle.tw_app.specs.Disks.{IsLeft, IsUnwritten, Keeps, MayBegin}
 use Rattle.tw_app.specs.DiskStatuses.{AddsAtMost, IsAppendedRun, IsCrashSafe, IsDiskFaultRun, IsMadeRun, IsProvedRun, IsUnservedRun}
 use Rattle.tw_app.specs.Leaving.{AppendLeaves, CommandLeaves, InitLeaves, Leaves}
 use Rattle.tw_app.specs.Outcomes.{status_of}
-use Rattle.tw_app.specs.Running.{ComesTo, Ends, EndsWith, HasOutcome, HaveNoForm}
+use Rattle.tw_app.specs.Running.{ComesTo, Ends, EndsWith, HasOutcome, HaveNoForm, ReachesDisk}
 use Rattle.tw_app.specs.Statuses.{AskForDisk, AskForProof, AskForService, AskForStep}
-use Rattle.tw_app.proofs.AtRest.{left_keeps, no_call_left}
+use Rattle.tw_app.proofs.AtRest.{left_keeps, left_unwritten, no_call_left, same_unwritten, unwritten_keeps}
 use Rattle.tw_app.proofs.Endings.{Ended, judging_is_verify, making_is, not_show_make, not_verify_make, not_verify_show, of_command, of_option, of_words, outcome_is, showing_is}
 
 -- the command, by what it is
 is_init : (c : Command) → IsInit c → (dir : List ℕ) × (name : List ℕ) × (c ≡ Init dir name)
 is_init (Init dir name) is = (dir, name, refl)
 is_init _ is = absurd is
+
+reaches_disk : (told : Option Files) (c : Command) → ReachesDisk told c → UsesDisk c
+reaches_disk told (Init dir name) is = tt
+reaches_disk told (Append dir file) is = tt
+reaches_disk told (ProveEvent dir step index top) is = tt
+reaches_disk told _ is = absurd is
 
 is_append : (c : Command) → IsAppend c → (dir : List ℕ) × (file : List ℕ) × (c ≡ Append dir file)
 is_append (Append dir file) is = (dir, file, refl)
@@ -193,13 +199,13 @@ module _ {D : Type 0} (content : D → Option Image) (may_leave : D → Image �
   not_verdict (Yes report) n one zeroth is = zeroth (sym is)
   not_verdict (No reason) n one zeroth is = one (sym is)
 
-  pub disk_fault : EndsNow → status ≡ 5 → IsDiskFaultRun disk_before disk_after words taken taken_after
+  pub disk_fault : EndsNow → status ≡ 5 → IsDiskFaultRun told disk_before disk_after words taken taken_after
   disk_fault e is = by e.outcome e.has (ended_by 5 (λ four. omega arith) is e.outcome e.ends)
     where
-      by : (outcome : Outcome) → Has outcome → EndedBy 5 outcome → IsDiskFaultRun disk_before disk_after words taken taken_after
+      by : (outcome : Outcome) → Has outcome → EndedBy 5 outcome → IsDiskFaultRun told disk_before disk_after words taken taken_after
       by DiskFault has ended =
           let of = command_by DiskFault (λ none. none) has in
-          record { asked = of_option UsesDisk words of.0 of.1 of.2.0; failed = of.2.1; written = ended.1 }
+          record { command = of.0; is_command = of.1; asked = of_option UsesDisk words of.0 of.1 (reaches_disk told of.0 of.2.0); reached = of.2.0; failed = of.2.1; written = ended.1 }
       by (Judged verdict) has ended = absurd (not_verdict verdict 5 (λ n. omega arith) (λ n. omega arith) ended.0)
       by (Shown proof) has ended = absurd (omega (arith, ended.0))
       by (Made thread) has ended = absurd (omega (arith, ended.0))
@@ -210,10 +216,10 @@ module _ {D : Type 0} (content : D → Option Image) (may_leave : D → Image �
       by InputFault has ended = absurd (omega (arith, ended.0))
       by NoMemory has ended = absurd (omega (arith, ended.0))
 
-  pub unserved : EndsNow → status ≡ 8 → IsUnservedRun (content old) words taken taken_after
+  pub unserved : EndsNow → status ≡ 8 → IsUnservedRun told (content old) words taken taken_after
   unserved e is = by e.outcome e.has (ended_by 8 (λ four. omega arith) is e.outcome e.ends)
     where
-      by : (outcome : Outcome) → Has outcome → EndedBy 8 outcome → IsUnservedRun (content old) words taken taken_after
+      by : (outcome : Outcome) → Has outcome → EndedBy 8 outcome → IsUnservedRun told (content old) words taken taken_after
       by (Unserved cause) has ended =
           let of = command_by (Unserved cause) (λ none. none) has in
           record { command = of.0; cause = cause; is_command = of.1; cant = of.2; written = ended.1 }
@@ -247,28 +253,28 @@ module _ {D : Type 0} (content : D → Option Image) (may_leave : D → Image �
       by InputFault left = wider left
       by NoMemory left = wider left
 
-  append_safe : (file : List ℕ) (outcome : Outcome) → AppendLeaves content may_leave moment left_since old new told file outcome
-      → AddsAtMost content may_leave moment left_since old new told file
-  append_safe file (Made thread) left = λ h stands. inr (left.0, left.1, (left.2.1 h stands).0)
-  append_safe file DiskFault left = λ h stands. inr (left.0, left.1, left.2 h stands)
-  append_safe file (Judged verdict) left = λ h stands. inl (left h stands).0
-  append_safe file (Shown proof) left = λ h stands. inl (left h stands).0
-  append_safe file (Refused refusal) left = λ h stands. inl (left h stands).0
-  append_safe file (Unserved cause) left = λ h stands. inl (left h stands).0
-  append_safe file (Unreadable bad) left = λ h stands. inl (left h stands).0
-  append_safe file (BadWords number) left = λ h stands. inl (left h stands).0
-  append_safe file InputFault left = λ h stands. inl (left h stands).0
-  append_safe file NoMemory left = λ h stands. inl (left h stands).0
-
   same_keeps : new ≡ old → Keeps content may_leave moment left_since old new
   same_keeps is =
       subst (λ (d : D). Keeps content may_leave moment left_since old d) (sym is)
       (left_keeps content may_leave moment left_since old old (no_call_left content may_leave moment left_since old (only_now old)))
 
+  append_safe : (file : List ℕ) (outcome : Outcome) → AppendLeaves content may_leave moment left_since old new told file outcome
+      → AddsAtMost content may_leave moment left_since old new told file
+  append_safe file (Made thread) left = λ h stands. inr (left.0, left.1, (left.2.1 h stands).0)
+  append_safe file DiskFault left = λ h stands. inr (left.0, left.1, left.2 h stands)
+  append_safe file (Judged verdict) left = λ h stands. inl (unwritten_keeps content may_leave moment left_since old new left h stands).0
+  append_safe file (Shown proof) left = λ h stands. inl (unwritten_keeps content may_leave moment left_since old new left h stands).0
+  append_safe file (Refused refusal) left = λ h stands. inl (unwritten_keeps content may_leave moment left_since old new left h stands).0
+  append_safe file (Unserved cause) left = λ h stands. inl (unwritten_keeps content may_leave moment left_since old new left h stands).0
+  append_safe file (Unreadable bad) left = λ h stands. inl (same_keeps left h stands).0
+  append_safe file (BadWords number) left = λ h stands. inl (unwritten_keeps content may_leave moment left_since old new left h stands).0
+  append_safe file InputFault left = λ h stands. inl (same_keeps left h stands).0
+  append_safe file NoMemory left = λ h stands. inl (unwritten_keeps content may_leave moment left_since old new left h stands).0
+
   safe_by : (c : Command) (outcome : Outcome) → CommandLeft c outcome → IsCrashSafe content may_leave moment left_since old new told c
   safe_by (Init dir name) outcome left = begin_safe name outcome left
   safe_by (Append dir file) outcome left = append_safe file outcome left
-  safe_by (ProveEvent dir step index top) outcome left = left
+  safe_by (ProveEvent dir step index top) outcome left = unwritten_keeps content may_leave moment left_since old new left
   safe_by _ outcome left = same_keeps left
 
   pub crash : EndsNow → (c : Command) → command_of words ≡ Some c → IsCrashSafe content may_leave moment left_since old new told c
@@ -286,42 +292,53 @@ module _ {D : Type 0} (content : D → Option Image) (may_leave : D → Image �
   nothing_made zeroth fourth fifth DiskFault (inl ends) = fifth ends.0
   nothing_made zeroth fourth fifth _ (inl ends) = tt
 
-  kept_by : (c : Command) (outcome : Outcome) → MakesNothing outcome → UsesDisk c → CommandLeft c outcome → Keeps content may_leave moment left_since old new
-  kept_by (Init dir name) outcome nothing uses left = by outcome nothing left
+  unwritten_by : (c : Command) (outcome : Outcome) → MakesNothing outcome → UsesDisk c → CommandLeft c outcome → IsUnwritten content may_leave moment left_since old new
+  unwritten_by (Init dir name) outcome nothing uses left = by outcome nothing left
     where
-      by : (outcome : Outcome) → MakesNothing outcome → InitLeaves content may_leave moment left_since old new name outcome → Keeps content may_leave moment left_since old new
+      by : (outcome : Outcome) → MakesNothing outcome → InitLeaves content may_leave moment left_since old new name outcome → IsUnwritten content may_leave moment left_since old new
       by (Made thread) nothing left = absurd nothing
       by DiskFault nothing left = absurd nothing
-      by (Judged verdict) nothing left = left_keeps content may_leave moment left_since old new left
-      by (Shown proof) nothing left = left_keeps content may_leave moment left_since old new left
-      by (Refused refusal) nothing left = left_keeps content may_leave moment left_since old new left
-      by (Unserved cause) nothing left = left_keeps content may_leave moment left_since old new left
-      by (Unreadable bad) nothing left = left_keeps content may_leave moment left_since old new left
-      by (BadWords number) nothing left = left_keeps content may_leave moment left_since old new left
-      by InputFault nothing left = left_keeps content may_leave moment left_since old new left
-      by NoMemory nothing left = left_keeps content may_leave moment left_since old new left
-  kept_by (Append dir file) outcome nothing uses left = by outcome nothing left
+      by (Judged verdict) nothing left = left_unwritten content may_leave moment left_since old new left
+      by (Shown proof) nothing left = left_unwritten content may_leave moment left_since old new left
+      by (Refused refusal) nothing left = left_unwritten content may_leave moment left_since old new left
+      by (Unserved cause) nothing left = left_unwritten content may_leave moment left_since old new left
+      by (Unreadable bad) nothing left = left_unwritten content may_leave moment left_since old new left
+      by (BadWords number) nothing left = left_unwritten content may_leave moment left_since old new left
+      by InputFault nothing left = left_unwritten content may_leave moment left_since old new left
+      by NoMemory nothing left = left_unwritten content may_leave moment left_since old new left
+  unwritten_by (Append dir file) outcome nothing uses left = by outcome nothing left
     where
-      by : (outcome : Outcome) → MakesNothing outcome → AppendLeaves content may_leave moment left_since old new told file outcome → Keeps content may_leave moment left_since old new
+      by : (outcome : Outcome) → MakesNothing outcome → AppendLeaves content may_leave moment left_since old new told file outcome → IsUnwritten content may_leave moment left_since old new
       by (Made thread) nothing left = absurd nothing
       by DiskFault nothing left = absurd nothing
       by (Judged verdict) nothing left = left
       by (Shown proof) nothing left = left
       by (Refused refusal) nothing left = left
       by (Unserved cause) nothing left = left
-      by (Unreadable bad) nothing left = left
+      by (Unreadable bad) nothing left = same_unwritten content may_leave moment left_since old new only_now left
       by (BadWords number) nothing left = left
-      by InputFault nothing left = left
+      by InputFault nothing left = same_unwritten content may_leave moment left_since old new only_now left
       by NoMemory nothing left = left
-  kept_by (ProveEvent dir step index top) outcome nothing uses left = left
-  kept_by _ outcome nothing uses left = absurd uses
+  unwritten_by (ProveEvent dir step index top) outcome nothing uses left = left
+  unwritten_by _ outcome nothing uses left = absurd uses
+
+  pub unwritten : EndsNow → (status ≡ 0 → ⊥) → (status ≡ 4 → ⊥) → (status ≡ 5 → ⊥) → AskForDisk words → IsUnwritten content may_leave moment left_since old new
+  unwritten e zeroth fourth fifth asks = by (command_of words) refl asks
+    where
+      by : (o : Option Command) → command_of words ≡ o → MatchOption o ⊥ UsesDisk → IsUnwritten content may_leave moment left_since old new
+      by None is asks = absurd asks
+      by (Some c) is asks = unwritten_by c e.outcome (nothing_made zeroth fourth fifth e.outcome e.ends) asks (left_by c e.outcome is e.leaves)
 
   pub kept : EndsNow → (status ≡ 0 → ⊥) → (status ≡ 4 → ⊥) → (status ≡ 5 → ⊥) → AskForDisk words → Keeps content may_leave moment left_since old new
-  kept e zeroth fourth fifth asks = by (command_of words) refl asks
+  kept e zeroth fourth fifth asks = unwritten_keeps content may_leave moment left_since old new (unwritten e zeroth fourth fifth asks)
+
+  pub proving : EndsNow → AskForProof words → IsUnwritten content may_leave moment left_since old new
+  proving e asks = by (command_of words) refl asks
     where
-      by : (o : Option Command) → command_of words ≡ o → MatchOption o ⊥ UsesDisk → Keeps content may_leave moment left_since old new
+      by : (o : Option Command) → command_of words ≡ o → MatchOption o ⊥ IsProve → IsUnwritten content may_leave moment left_since old new
       by None is asks = absurd asks
-      by (Some c) is asks = kept_by c e.outcome (nothing_made zeroth fourth fifth e.outcome e.ends) asks (left_by c e.outcome is e.leaves)
+      by (Some c) is asks =
+          let of = is_prove c asks in left_by (ProveEvent of.dir of.step of.index of.top) e.outcome (is ∙ ap (λ (d : Command). Some d) of.is) e.leaves
 
   untouched_by : (c : Command) (outcome : Outcome) → (UsesDisk c → ⊥) → CommandLeft c outcome → new ≡ old
   untouched_by (Init dir name) outcome other left = absurd (other tt)

@@ -13,6 +13,7 @@ use Rattle.tw_chain.specs.Accepting.{Accepts}
 use Rattle.tw_chain.specs.Making.{MakesExistence}
 use Rattle.tw_disk.specs.Image.{Image}
 use Rattle.tw_outside.specs.Faults.{Rose}
+use Rattle.tw_skiplist.specs.declared.head.Head.{Head}
 use Rattle.tw_service.specs.declared.refusal.Refusal.{Refusal}
 use Rattle.tw_service.specs.declared.refusal.Refusal.TheVariants as service
 use Rattle.tw_service.specs.Faults.{IsBadPage, IsFault, IsNoEvent}
@@ -21,7 +22,7 @@ use Rattle.tw_service.specs.Machine.{Answers, IsStepOf, Reply}
 use Rattle.tw_service.specs.Machine.Call.{ProveEvent}
 use Rattle.tw_service.specs.Machine.Reply.{OfProof, Refused}
 use Rattle.tw_app.specs.declared.outcome.Outcome.{Outcome}
-use Rattle.tw_app.specs.Disks.{ReadsAs}
+use Rattle.tw_app.specs.Disks.{OpensAsService, ReadsAs}
 use Rattle.tw_app.specs.Proving.{Proves, ProvesUnder, top_of}
 use Rattle.tw_app.specs.ServiceFaults.{outcome_of_refusal}
 use Rattle.tw_app.specs.Stepping.{ComesToProof}
@@ -53,6 +54,21 @@ is_refusal : (table : Option Refusal) (r : Refusal) → Table table (Err r) → 
 is_refusal None r is not_fault not_event = absurd (⊎_elim not_fault not_event is)
 is_refusal (Some s) r is not_fault not_event = ap (λ (t : Refusal). Some t) (same_err r s is)
 
+abbrev answer : List ℕ → Result (List ℕ) Refusal
+answer bytes = Ok bytes
+
+no_refusal : (table : Option Refusal) (bytes : List ℕ) → Table table (Ok bytes) → table ≡ None
+no_refusal None bytes is = refl
+no_refusal (Some r) bytes is = let other : answer bytes ≡ refusal r = is in cc
+
+-- where a page is told to have no such event, the steps are in their order
+in_order : (last step top count : ℕ) → Table (order_refusal false last step top) (Err (service.NoEvent count)) → order_refusal false last step top ≡ None
+in_order last step top count table = by (order_refusal false last step top) refl table
+  where
+    by : (t : Option Refusal) → order_refusal false last step top ≡ t → Table t (Err (service.NoEvent count)) → t ≡ None
+    by None is table = refl
+    by (Some r) is table = absurd (subst (IsOfOrder last) (same_err (service.NoEvent count) r table) (order_of_order last step top r is))
+
 -- ---- an index of more than 32 bits
 
 least-lt : (index n : ℕ) → n ≤ 1024 → nat_lt (min index 4294967295) n ≡ nat_lt index n
@@ -83,10 +99,10 @@ module _ (h : History) (step index top : ℕ) (sound : IsSound h) where
 
 -- ---- what the service's answer comes to
 
-module _ (found : Option Image) (before after : ℕ) (step index at : ℕ) (asked : Option ℕ) (top : ℕ) (is_broken : Bool) (last : ℕ) (whole : is_broken ≡ false)
-    (at_is : at ≡ min index 4294967295) (top_is : top ≡ top_of asked last)
+module _ (found : Option Image) (before after : ℕ) (step index at : ℕ) (asked : Option ℕ) (top : ℕ) (is_broken : Bool) (name : List ℕ) (head : Head) (opens : OpensAsService found name head) (whole : is_broken ≡ false)
+    (at_is : at ≡ min index 4294967295) (top_is : top ≡ top_of asked head.step)
     (OldServes NewServes : History → Type 0) (serves : (h : History) → ReadsAs found h → OldServes h)
-    (ends_at : (h : History) → OldServes h → last ≡ length h.steps) where
+    (ends_at : (h : History) → OldServes h → head.step ≡ length h.steps) where
   the_top : (h : History) → ReadsAs found h → top ≡ top_of asked (length h.steps)
   the_top h reads = top_is ∙ ap (top_of asked) (ends_at h (serves h reads))
 
@@ -96,11 +112,19 @@ module _ (found : Option Image) (before after : ℕ) (step index at : ℕ) (aske
       subst (λ (t : ℕ). IsStepOf sha256 h (ProveEvent step index t) reply h) (the_top h reads)
       (step_at_index h step index top reads.stands.sound reply next (subst (λ (i : ℕ). IsStepOf sha256 h (ProveEvent step i top) reply next) at_is is))
 
-  pub proof_done : (bytes : List ℕ) → ((h : History) → OldServes h → MakesExistence sha256 h step at top bytes)
+  pub proof_done : (bytes : List ℕ) → Table (order_refusal is_broken head.step step top) (Ok bytes) → ((h : History) → OldServes h → MakesExistence sha256 h step at top bytes)
       → ((h : History) → OldServes h → (anchors : List Thread) (anchor : Thread) → anchor_of anchors h.name top ≡ Some anchor → anchor.auth ≡ auth sha256 h top → Accepts sha256 anchors bytes)
       → (is_broken ≡ false → (h : History) → OldServes h → Answers sha256 h (ProveEvent step at top) (λ b. OfProof b) (Ok bytes) NewServes)
       → Proves found step index asked bytes
-  proof_done bytes made accepted machine = λ h reads. subst (λ (t : ℕ). ProvesUnder step index t bytes h) (the_top h reads) (under h reads)
+  proof_done bytes table made accepted machine = record {
+    name = name;
+    head = head;
+    opens = opens;
+    allowed =
+        subst (λ (t : ℕ). order_refusal false head.step step t ≡ None) top_is
+        (no_refusal (order_refusal false head.step step top) bytes (subst (λ b. Table (order_refusal b head.step step top) (Ok bytes)) whole table));
+    proves = λ h reads. subst (λ (t : ℕ). ProvesUnder step index t bytes h) (the_top h reads) (under h reads);
+  }
     where
       under : (h : History) → ReadsAs found h → ProvesUnder step index top bytes h
       under h reads =
@@ -111,38 +135,45 @@ module _ (found : Option Image) (before after : ℕ) (step index at : ℕ) (aske
             accepted = accepted h (serves h reads);
           }
 
-  pub proof_refused : (r : Refusal) (came : Outcome) → came ≡ outcome_of_refusal r → Table (order_refusal is_broken last step top) (Err r)
+  pub proof_refused : (r : Refusal) (came : Outcome) → came ≡ outcome_of_refusal r → Table (order_refusal is_broken head.step step top) (Err r)
       → (is_broken ≡ false → (h : History) → OldServes h → Answers sha256 h (ProveEvent step at top) (λ b. OfProof b) (Err r) NewServes)
       → (refusal r ≡ Err service.DiskFault → Rose before after) → (IsBadPage r → (h : History) → OldServes h → ⊥)
       → ComesToProof found before after step index asked came
   proof_refused r came is table_then machine fault bad = subst (ComesToProof found before after step index asked) (sym is) (by r table_then machine fault bad)
     where
-      table_of : (r : Refusal) → Table (order_refusal is_broken last step top) (Err r) → (IsFault r → ⊥) → (IsNoEvent r → ⊥) → order_refusal false last step top ≡ Some r
+      table_of : (r : Refusal) → Table (order_refusal is_broken head.step step top) (Err r) → (IsFault r → ⊥) → (IsNoEvent r → ⊥) → order_refusal false head.step step top ≡ Some r
       table_of r table not_fault not_event =
-          is_refusal (order_refusal false last step top) r (subst (λ b. Table (order_refusal b last step top) (Err r)) whole table) not_fault not_event
+          is_refusal (order_refusal false head.step step top) r (subst (λ b. Table (order_refusal b head.step step top) (Err r)) whole table) not_fault not_event
 
-      never : (r : Refusal) → Table (order_refusal is_broken last step top) (Err r) → (IsFault r → ⊥) → (IsNoEvent r → ⊥) → (IsOfOrder last r → ⊥) → ⊥
-      never r table not_fault not_event other = other (order_of_order last step top r (table_of r table not_fault not_event))
+      never : (r : Refusal) → Table (order_refusal is_broken head.step step top) (Err r) → (IsFault r → ⊥) → (IsNoEvent r → ⊥) → (IsOfOrder head.step r → ⊥) → ⊥
+      never r table not_fault not_event other = other (order_of_order head.step step top r (table_of r table not_fault not_event))
 
-      no_step : (told : ℕ) → Table (order_refusal is_broken last step top) (Err (service.NoStep told))
-          → order_refusal false told step (top_of asked told) ≡ Some (service.NoStep told)
+      last_told : (told : ℕ) → Table (order_refusal is_broken head.step step top) (Err (service.NoStep told)) → told ≡ head.step
+      last_told told table = order_of_order head.step step top (service.NoStep told) (table_of (service.NoStep told) table (λ no. no) (λ no. no))
+
+      no_step : (told : ℕ) → Table (order_refusal is_broken head.step step top) (Err (service.NoStep told))
+          → order_refusal false head.step step (top_of asked head.step) ≡ Some (service.NoStep told)
       no_step told table =
-          let is_so = table_of (service.NoStep told) table (λ no. no) (λ no. no) in
-          let same : told ≡ last = order_of_order last step top (service.NoStep told) is_so in
-          subst (λ (l : ℕ). order_refusal false l step (top_of asked l) ≡ Some (service.NoStep told)) (sym same)
-          (subst (λ (t : ℕ). order_refusal false last step t ≡ Some (service.NoStep told)) top_is is_so)
+          subst (λ (t : ℕ). order_refusal false head.step step t ≡ Some (service.NoStep told)) top_is (table_of (service.NoStep told) table (λ no. no) (λ no. no))
 
-      by : (r : Refusal) → Table (order_refusal is_broken last step top) (Err r)
+      no_event : (count : ℕ) → Table (order_refusal is_broken head.step step top) (Err (service.NoEvent count))
+          → order_refusal false head.step step (top_of asked head.step) ≡ None
+      no_event count table =
+          subst (λ (t : ℕ). order_refusal false head.step step t ≡ None) top_is
+          (in_order head.step step top count (subst (λ b. Table (order_refusal b head.step step top) (Err (service.NoEvent count))) whole table))
+
+      by : (r : Refusal) → Table (order_refusal is_broken head.step step top) (Err r)
           → (is_broken ≡ false → (h : History) → OldServes h → Answers sha256 h (ProveEvent step at top) (λ b. OfProof b) (Err r) NewServes)
           → (refusal r ≡ Err service.DiskFault → Rose before after) → (IsBadPage r → (h : History) → OldServes h → ⊥)
           → ComesToProof found before after step index asked (outcome_of_refusal r)
       by (service.NoStep told) table machine fault bad =
-          (no_step told table, λ h reads. machine_at (Refused (service.NoStep told)) h h reads (machine whole h (serves h reads)).0)
-      by (service.NoEvent count) table machine fault bad = λ h reads. machine_at (Refused (service.NoEvent count)) h h reads (machine whole h (serves h reads)).0
+          (record { name = name; head = head; opens = opens; table = no_step told table; machine = λ h reads. machine_at (Refused (service.NoStep told)) h h reads (machine whole h (serves h reads)).0 }, last_told told table)
+      by (service.NoEvent count) table machine fault bad =
+          record { name = name; head = head; opens = opens; table = no_event count table; machine = λ h reads. machine_at (Refused (service.NoEvent count)) h h reads (machine whole h (serves h reads)).0 }
       by service.Full table machine fault bad = absurd (never service.Full table (λ no. no) (λ no. no) (λ no. no))
       by (service.TooMany count) table machine fault bad = absurd (never (service.TooMany count) table (λ no. no) (λ no. no) (λ no. no))
       by (service.TooLong bytes) table machine fault bad = absurd (never (service.TooLong bytes) table (λ no. no) (λ no. no) (λ no. no))
       by service.Reopen table machine fault bad = absurd (never service.Reopen table (λ no. no) (λ no. no) (λ no. no))
-      by (service.BadPage page) table machine fault bad = λ image told h stands. bad tt h (serves h (record { image = image; told = told; stands = stands }))
+      by (service.BadPage page) table machine fault bad = λ image told. ((name, head, opens image told), λ h stands. bad tt h (serves h (record { image = image; told = told; stands = stands })))
       by service.DiskFault table machine fault bad = fault refl
       by service.NoMemory table machine fault bad = tt

@@ -19,13 +19,13 @@ use Rattle.tw_app.specs.declared.outcome.Outcome.{Outcome}
 use Rattle.tw_app.specs.declared.outcome.Outcome.TheVariants.{Judged, Shown, Made, Refused, Unserved, Unreadable, BadWords, InputFault, DiskFault, NoMemory}
 use Rattle.tw_app.specs.Appending.{AreEventsOf}
 use Rattle.tw_app.specs.Commands.{UsesDisk}
-use Rattle.tw_app.specs.Disks.{IsLeft, IsOf, Keeps, MayBegin, Stands}
+use Rattle.tw_app.specs.Disks.{IsLeft, IsOf, IsUnwritten, MayBegin, Stands}
 use Rattle.tw_app.specs.Leaving.{AppendLeaves, CommandLeaves, InitLeaves, Leaves}
 use Rattle.tw_app.specs.Outcomes.{TakesMemory}
 use Rattle.tw_app.specs.Running.{ComesTo}
 use Rattle.tw_app.specs.ServiceFaults.{outcome_of_store}
-use Rattle.tw_app.specs.Stepping.{ComesToProof, ComesToStep, IsStop, LeavesStep}
-use Rattle.tw_app.proofs.AtRest.{left_keeps, no_call_left}
+use Rattle.tw_app.specs.Stepping.{ComesToProof, ComesToStep, IsStop, LeavesStep, WritesNothing}
+use Rattle.tw_app.proofs.AtRest.{left_unwritten, no_call_left, same_unwritten}
 
 -- ---- a disk that isn't opened
 
@@ -63,8 +63,8 @@ module _ (told : Option Files) (before after : ℕ) (found : Option Image) (disk
       → ComesTo told before after found disk_before disk_after (Append dir file) came
   comes_of_step file events (Made thread) are comes = (events, are, comes)
   comes_of_step file events (Refused refusal) are comes = (events, are, comes)
-  comes_of_step file events (Unserved cause) are comes = comes
-  comes_of_step file events DiskFault are comes = (tt, comes)
+  comes_of_step file events (Unserved cause) are comes = ((events, are), comes)
+  comes_of_step file events DiskFault are comes = ((events, are), comes)
   comes_of_step file events NoMemory are comes = tt
   comes_of_step file events _ are comes = absurd comes
 
@@ -105,13 +105,14 @@ module _ {D : Type 0} (content : D → Option Image) (may_leave : D → Image �
     pub leaves_of_step : (told : Option Files) (before after : ℕ) (dir file : List ℕ) (events : List (List ℕ)) (came : Outcome) → AreEventsOf told file events
         → ComesToStep (content old) before after events came
         → ((h : History) → Stands content may_leave moment left_since old h → LeavesStep content may_leave moment left_since old new events h came)
+        → (WritesNothing came → IsUnwritten content may_leave moment left_since old new)
         → CommandLeaves content may_leave moment left_since old new told (Append dir file) came
-    leaves_of_step told before after dir file events (Made thread) are comes leaves = (events, are, (comes, leaves))
-    leaves_of_step told before after dir file events DiskFault are comes leaves = (events, are, leaves)
-    leaves_of_step told before after dir file events (Refused refusal) are comes leaves = leaves
-    leaves_of_step told before after dir file events (Unserved cause) are comes leaves = leaves
-    leaves_of_step told before after dir file events NoMemory are comes leaves = leaves
-    leaves_of_step told before after dir file events _ are comes leaves = absurd comes
+    leaves_of_step told before after dir file events (Made thread) are comes leaves nothing = (events, are, (comes, leaves))
+    leaves_of_step told before after dir file events DiskFault are comes leaves nothing = (events, are, leaves)
+    leaves_of_step told before after dir file events (Refused refusal) are comes leaves nothing = nothing tt
+    leaves_of_step told before after dir file events (Unserved cause) are comes leaves nothing = nothing tt
+    leaves_of_step told before after dir file events NoMemory are comes leaves nothing = nothing tt
+    leaves_of_step told before after dir file events _ are comes leaves nothing = absurd comes
 
     pub unmade_leaves : (name : List ℕ) (f : StoreFault) (came : Outcome) → came ≡ outcome_of_store f → (f ≡ store.Taken) ⊎ (f ≡ store.DiskFault)
         → (f ≡ store.Taken → (content new ≡ content old) × LeavesOnly moment may_leave left_since old new (may_leave old))
@@ -122,9 +123,9 @@ module _ {D : Type 0} (content : D → Option Image) (may_leave : D → Image �
         subst (InitLeaves content may_leave moment left_since old new name) (sym (is ∙ ap outcome_of_store failed)) begins
 
     -- where there was no memory for the text, what is left is as right for that
-    memory_leaves_of : (told : Option Files) (c : Command) (came : Outcome) → TakesMemory came → CommandLeaves content may_leave moment left_since old new told c came
+    memory_leaves_of : ((d : D) (image : Image) → left_since d (moment d) image → may_leave d image) → (told : Option Files) (c : Command) (came : Outcome) → TakesMemory came → CommandLeaves content may_leave moment left_since old new told c came
         → CommandLeaves content may_leave moment left_since old new told c NoMemory
-    memory_leaves_of told (Init dir name) came takes leaves = by came takes leaves
+    memory_leaves_of only_now told (Init dir name) came takes leaves = by came takes leaves
       where
         by : (came : Outcome) → TakesMemory came → InitLeaves content may_leave moment left_since old new name came → IsLeft content may_leave moment left_since old new
         by (Judged verdict) takes leaves = leaves
@@ -133,42 +134,42 @@ module _ {D : Type 0} (content : D → Option Image) (may_leave : D → Image �
         by (Unreadable bad) takes leaves = leaves
         by (BadWords number) takes leaves = leaves
         by _ takes leaves = absurd takes
-    memory_leaves_of told (Append dir file) came takes leaves = by came takes leaves
+    memory_leaves_of only_now told (Append dir file) came takes leaves = by came takes leaves
       where
-        by : (came : Outcome) → TakesMemory came → AppendLeaves content may_leave moment left_since old new told file came → Keeps content may_leave moment left_since old new
+        by : (came : Outcome) → TakesMemory came → AppendLeaves content may_leave moment left_since old new told file came → IsUnwritten content may_leave moment left_since old new
         by (Judged verdict) takes leaves = leaves
         by (Refused refusal) takes leaves = leaves
         by (Unserved cause) takes leaves = leaves
-        by (Unreadable bad) takes leaves = leaves
+        by (Unreadable bad) takes leaves = same_unwritten content may_leave moment left_since old new only_now leaves
         by (BadWords number) takes leaves = leaves
         by _ takes leaves = absurd takes
-    memory_leaves_of told _ came takes leaves = leaves
+    memory_leaves_of only_now told _ came takes leaves = leaves
 
-    pub memory_leaves : (told : Option Files) (words : List (List ℕ)) (came : Outcome) → Leaves content may_leave moment left_since old new told words came → TakesMemory came
+    pub memory_leaves : ((d : D) (image : Image) → left_since d (moment d) image → may_leave d image) → (told : Option Files) (words : List (List ℕ)) (came : Outcome) → Leaves content may_leave moment left_since old new told words came → TakesMemory came
         → Leaves content may_leave moment left_since old new told words NoMemory
-    memory_leaves told words came leaves takes = by (command_of words) leaves
+    memory_leaves only_now told words came leaves takes = by (command_of words) leaves
       where
         by : (o : Option Command) → MatchOption o (new ≡ old) (λ c. CommandLeaves content may_leave moment left_since old new told c came)
             → MatchOption o (new ≡ old) (λ c. CommandLeaves content may_leave moment left_since old new told c NoMemory)
         by None leaves = leaves
-        by (Some c) leaves = memory_leaves_of told c came takes leaves
+        by (Some c) leaves = memory_leaves_of only_now told c came takes leaves
 
   -- ---- a disk that wasn't touched
 
   module _ (only_now : (d : D) (image : Image) → left_since d (moment d) image → may_leave d image) (disk : D) where
-    abbrev keeps_here : Keeps content may_leave moment left_since disk disk
-    keeps_here = left_keeps content may_leave moment left_since disk disk (no_call_left content may_leave moment left_since disk (only_now disk))
+    abbrev unwritten_here : IsUnwritten content may_leave moment left_since disk disk
+    unwritten_here = left_unwritten content may_leave moment left_since disk disk (no_call_left content may_leave moment left_since disk (only_now disk))
 
     pub stop_leaves : (told : Option Files) (dir file : List ℕ) (came : Outcome) → IsStop came → CommandLeaves content may_leave moment left_since disk disk told (Append dir file) came
-    stop_leaves told dir file (Unreadable bad) stop = keeps_here
-    stop_leaves told dir file InputFault stop = keeps_here
-    stop_leaves told dir file NoMemory stop = keeps_here
+    stop_leaves told dir file (Unreadable bad) stop = refl
+    stop_leaves told dir file InputFault stop = refl
+    stop_leaves told dir file NoMemory stop = unwritten_here
     stop_leaves told dir file _ stop = absurd stop
 
     no_memory_leaves_of : (told : Option Files) (c : Command) → CommandLeaves content may_leave moment left_since disk disk told c NoMemory
     no_memory_leaves_of told (Init dir name) = no_call_left content may_leave moment left_since disk (only_now disk)
-    no_memory_leaves_of told (Append dir file) = keeps_here
-    no_memory_leaves_of told (ProveEvent dir step index top) = keeps_here
+    no_memory_leaves_of told (Append dir file) = unwritten_here
+    no_memory_leaves_of told (ProveEvent dir step index top) = unwritten_here
     no_memory_leaves_of told _ = refl
 
     pub no_memory_leaves : (told : Option Files) (words : List (List ℕ)) → Leaves content may_leave moment left_since disk disk told words NoMemory

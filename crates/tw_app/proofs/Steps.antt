@@ -1,5 +1,5 @@
 -- From what a service answers to the adding of a step to what the command comes to.
-use Rattle.std.proofs.Common.{◌≡◌, ◌∙◌, ℕ, ◌^◌, ◌-◌, List, length, Bool, true, false, refl, ap, sym, subst, inl, inr, ◌⊎◌}
+use Rattle.std.proofs.Common.{◌≡◌, ◌∙◌, ℕ, ◌+◌, ◌^◌, ◌-◌, List, length, Bool, true, false, refl, ap, sym, subst, inl, inr, ◌⊎◌}
 use Rattle.std.specs.Prelude.{Option, Some, None, Result, Ok, Err, IfErr, MatchOption, nat_le, nat_lt, if◌then◌else◌}
 use Rattle.sha2.specs.Sha256.{sha256}
 use Rattle.tw_base.specs.declared.thread.Thread.{Thread}
@@ -7,6 +7,7 @@ use Rattle.tw_base.specs.History.{History, plus}
 use Rattle.tw_disk.specs.Disk.{LeavesOnly}
 use Rattle.tw_disk.specs.Image.{Image}
 use Rattle.tw_outside.specs.Faults.{Rose}
+use Rattle.tw_skiplist.specs.declared.head.Head.{Head}
 use Rattle.tw_skiplist.specs.Keeping.{event_step}
 use Rattle.tw_service.specs.declared.refusal.Refusal.{Refusal}
 use Rattle.tw_service.specs.declared.refusal.Refusal.TheVariants as service
@@ -18,9 +19,9 @@ use Rattle.tw_service.specs.Machine.Reply.{OfThread, Refused}
 use Rattle.tw_service.specs.Stands.{StandsForOneOf}
 use Rattle.tw_app.specs.declared.outcome.Outcome.{Outcome}
 use Rattle.tw_app.specs.Appending.{AddsStep}
-use Rattle.tw_app.specs.Disks.{IsOf, ReadsAs, Stands}
+use Rattle.tw_app.specs.Disks.{IsLeft, IsOf, OpensAsService, ReadsAs, Stands}
 use Rattle.tw_app.specs.ServiceFaults.{outcome_of_refusal}
-use Rattle.tw_app.specs.Stepping.{ComesToStep, LeavesStep}
+use Rattle.tw_app.specs.Stepping.{ComesToStep, LeavesStep, WritesNothing}
 
 -- ---- the table for a step
 
@@ -96,44 +97,49 @@ to_longer h next events thread is = to_longer_by (append_refusal false (length h
 
 -- ---- what the service's answer comes to
 
-module _ (found : Option Image) (before after : ℕ) (events : List (List ℕ)) (is_broken : Bool) (steps : ℕ) (whole : is_broken ≡ false)
+module _ (found : Option Image) (before after : ℕ) (events : List (List ℕ)) (is_broken : Bool) (name : List ℕ) (head : Head) (opens : OpensAsService found name head) (whole : is_broken ≡ false)
     (OldServes NewServes : History → Type 0) (serves : (h : History) → ReadsAs found h → OldServes h) where
-  pub step_done : (thread : Thread) → Table (append_refusal is_broken steps events) (Ok thread)
+  pub step_done : (thread : Thread) → Table (append_refusal is_broken head.step events) (Ok thread)
+      → (thread.from ≡ name) × (thread.step ≡ head.step + 1)
       → ((h : History) → OldServes h → NewServes (plus h (event_step events)) × (thread ≡ last_thread sha256 (plus h (event_step events))))
       → (is_broken ≡ false → (h : History) → OldServes h → Answers sha256 h (Append events) (λ t. OfThread t) (Ok thread) NewServes)
       → AddsStep found events thread
-  step_done thread table done machine = record {
-    steps = steps;
-    allowed = no_refusal (append_refusal false steps events) thread (subst (λ b. Table (append_refusal b steps events) (Ok thread)) whole table);
+  step_done thread table next done machine = record {
+    name = name;
+    head = head;
+    opens = opens;
+    from = next.0;
+    next = next.1;
+    allowed = no_refusal (append_refusal false head.step events) thread (subst (λ b. Table (append_refusal b head.step events) (Ok thread)) whole table);
     last = λ h reads. (done h (serves h reads)).1;
     machine = λ h reads. let step = machine whole h (serves h reads) in to_longer h step.0 events thread step.1;
   }
 
-  pub step_refused : (r : Refusal) (came : Outcome) → came ≡ outcome_of_refusal r → Table (append_refusal is_broken steps events) (Err r)
+  pub step_refused : (r : Refusal) (came : Outcome) → came ≡ outcome_of_refusal r → Table (append_refusal is_broken head.step events) (Err r)
       → (is_broken ≡ false → (h : History) → OldServes h → Answers sha256 h (Append events) (λ t. OfThread t) (Err r) NewServes)
       → (refusal r ≡ Err service.DiskFault → Rose before after) → (IsBadPage r → (h : History) → OldServes h → ⊥)
       → ComesToStep found before after events came
   step_refused r came is table_then machine fault bad = subst (ComesToStep found before after events) (sym is) (by r table_then machine fault bad)
     where
-      table_of : (r : Refusal) → Table (append_refusal is_broken steps events) (Err r) → (IsFault r → ⊥) → append_refusal false steps events ≡ Some r
-      table_of r table not_fault = is_refusal (append_refusal false steps events) r (subst (λ b. Table (append_refusal b steps events) (Err r)) whole table) not_fault
+      table_of : (r : Refusal) → Table (append_refusal is_broken head.step events) (Err r) → (IsFault r → ⊥) → append_refusal false head.step events ≡ Some r
+      table_of r table not_fault = is_refusal (append_refusal false head.step events) r (subst (λ b. Table (append_refusal b head.step events) (Err r)) whole table) not_fault
 
-      never : (r : Refusal) → Table (append_refusal is_broken steps events) (Err r) → (IsFault r → ⊥) → (IsOfStep r → ⊥) → ⊥
-      never r table not_fault other = other (append_of_step steps events r (table_of r table not_fault))
+      never : (r : Refusal) → Table (append_refusal is_broken head.step events) (Err r) → (IsFault r → ⊥) → (IsOfStep r → ⊥) → ⊥
+      never r table not_fault other = other (append_of_step head.step events r (table_of r table not_fault))
 
-      by : (r : Refusal) → Table (append_refusal is_broken steps events) (Err r)
+      by : (r : Refusal) → Table (append_refusal is_broken head.step events) (Err r)
           → (is_broken ≡ false → (h : History) → OldServes h → Answers sha256 h (Append events) (λ t. OfThread t) (Err r) NewServes)
           → (refusal r ≡ Err service.DiskFault → Rose before after) → (IsBadPage r → (h : History) → OldServes h → ⊥)
           → ComesToStep found before after events (outcome_of_refusal r)
-      by service.Full table machine fault bad = record { steps = steps; refused = table_of service.Full table (λ no. no); machine = λ h reads. (machine whole h (serves h reads)).0 }
+      by service.Full table machine fault bad = record { name = name; head = head; opens = opens; refused = table_of service.Full table (λ no. no); machine = λ h reads. (machine whole h (serves h reads)).0 }
       by (service.TooMany count) table machine fault bad =
-          record { steps = steps; refused = table_of (service.TooMany count) table (λ no. no); machine = λ h reads. (machine whole h (serves h reads)).0 }
+          record { name = name; head = head; opens = opens; refused = table_of (service.TooMany count) table (λ no. no); machine = λ h reads. (machine whole h (serves h reads)).0 }
       by (service.TooLong bytes) table machine fault bad =
-          record { steps = steps; refused = table_of (service.TooLong bytes) table (λ no. no); machine = λ h reads. (machine whole h (serves h reads)).0 }
+          record { name = name; head = head; opens = opens; refused = table_of (service.TooLong bytes) table (λ no. no); machine = λ h reads. (machine whole h (serves h reads)).0 }
       by (service.NoStep last) table machine fault bad = absurd (never (service.NoStep last) table (λ no. no) (λ no. no))
       by (service.NoEvent count) table machine fault bad = absurd (never (service.NoEvent count) table (λ no. no) (λ no. no))
       by service.Reopen table machine fault bad = absurd (never service.Reopen table (λ no. no) (λ no. no))
-      by (service.BadPage page) table machine fault bad = λ image told h stands. bad tt h (serves h (record { image = image; told = told; stands = stands }))
+      by (service.BadPage page) table machine fault bad = λ image told. ((name, head, opens image told), λ h stands. bad tt h (serves h (record { image = image; told = told; stands = stands })))
       by service.DiskFault table machine fault bad = fault refl
       by service.NoMemory table machine fault bad = tt
 
@@ -162,3 +168,10 @@ module _ {D : Type 0} (content : D → Option Image) (may_leave : D → Image �
       by (service.NoEvent count) kept = here (service.NoEvent count) (λ same. cc) kept
       by (service.BadPage page) kept = here (service.BadPage page) (λ same. cc) kept
       by service.NoMemory kept = here service.NoMemory (λ same. cc) kept
+
+module _ {D : Type 0} (content : D → Option Image) (may_leave : D → Image → Type 0) (moment : D → ℕ) (left_since : D → ℕ → Image → Type 0) (old new : D) where
+  -- what it wrote: nothing, but where there was a disk fault
+  pub step_unwritten : (r : Refusal) (came : Outcome) → came ≡ outcome_of_refusal r
+      → (r ≡ service.DiskFault) ⊎ IsLeft content may_leave moment left_since old new → WritesNothing came → IsLeft content may_leave moment left_since old new
+  step_unwritten r came is (inr left) nothing = left
+  step_unwritten r came is (inl fault) nothing = absurd (subst WritesNothing (is ∙ ap outcome_of_refusal fault) nothing)

@@ -1,5 +1,5 @@
 -- When a step of the events of a file is added, and when it isn't.
-use Rattle.std.specs.Prelude.{◌≡◌, ◌⊎◌, ℕ, ◌<◌, ◌≤◌, List, length, Option, Some, None, false}
+use Rattle.std.specs.Prelude.{◌≡◌, ◌⊎◌, ℕ, ◌+◌, ◌<◌, ◌≤◌, List, length, Option, Some, None, false}
 use Rattle.sha2.specs.Sha256.{sha256}
 use Rattle.tw_base.specs.declared.thread.Thread.{Thread}
 use Rattle.tw_base.specs.Formats.{IsPlace, Spells, SpellsNothing}
@@ -7,6 +7,7 @@ use Rattle.tw_base.specs.History.{History, plus}
 use Rattle.tw_disk.specs.Image.{Image}
 use Rattle.tw_msg.specs.EventsFile.{events_file}
 use Rattle.tw_outside.specs.Files.{Files, IsThere, Tells}
+use Rattle.tw_skiplist.specs.declared.head.Head.{Head}
 use Rattle.tw_skiplist.specs.Keeping.{event_step}
 use Rattle.tw_service.specs.declared.refusal.Refusal.{Refusal as ServiceRefusal}
 use Rattle.tw_service.specs.declared.refusal.Refusal.TheVariants as service
@@ -16,7 +17,7 @@ use Rattle.tw_service.specs.Machine.Call.{Append}
 use Rattle.tw_service.specs.Machine.Reply.{OfThread, Refused}
 use Rattle.tw_app.specs.declared.outcome.Refusal.{Refusal}
 use Rattle.tw_app.specs.declared.outcome.Refusal.TheVariants.{Full, TooMany, TooLong}
-use Rattle.tw_app.specs.Disks.{ReadsAs}
+use Rattle.tw_app.specs.Disks.{OpensAsService, ReadsAs}
 
 -- the most bytes of an events file
 abbrev pub most_events : ℕ
@@ -35,19 +36,30 @@ IsBadEventsByte bytes place =
     ((most_events < length bytes) × (place ≡ most_events))
     ⊎ ((length bytes ≤ most_events) × SpellsNothing events_file bytes × IsPlace events_file bytes place)
 
--- the service had so many steps, and refuses nothing; where the disk reads as a history, this is a step of the machine to the
--- longer one, whose last thread is told
+-- the disk opened as a service of this name and head, which refuses nothing, and the thread told is of its name and of the next
+-- step; where the disk reads as a history, this is a step of the machine to the longer one, whose last thread is told
 pub record AddsStep (found : Option Image) (events : List (List ℕ)) (thread : Thread) : Type 0 where
-  pub steps : ℕ
-  pub allowed : append_refusal false steps events ≡ None
+  pub name : List ℕ
+  pub head : Head
+  pub opens : OpensAsService found name head
+  pub allowed : append_refusal false head.step events ≡ None
+  pub from : thread.from ≡ name
+  pub next : thread.step ≡ head.step + 1
   pub last : (h : History) → ReadsAs found h → thread ≡ last_thread sha256 (plus h (event_step events))
   pub machine : (h : History) → ReadsAs found h → IsStepOf sha256 h (Append events) (OfThread thread) (plus h (event_step events))
 
--- the service had so many steps, and refuses the events; where the disk reads as a history, so does the machine
+-- the disk opened as a service of this name and head, which refuses the events; where the disk reads as a history, so does the
+-- machine
 pub record RefusesEvents (found : Option Image) (events : List (List ℕ)) (refusal : ServiceRefusal) : Type 0 where
-  pub steps : ℕ
-  pub refused : append_refusal false steps events ≡ Some refusal
+  pub name : List ℕ
+  pub head : Head
+  pub opens : OpensAsService found name head
+  pub refused : append_refusal false head.step events ≡ Some refusal
   pub machine : (h : History) → ReadsAs found h → IsStepOf sha256 h (Append events) (Refused refusal) h
+
+-- the file was judged: it is the events file of some events
+abbrev pub HasEvents : (told : Option Files) (file : List ℕ) → Type 0
+HasEvents told file = (events : List (List ℕ)) × AreEventsOf told file events
 
 -- P holds of the events of the file
 abbrev pub OfEvents : (told : Option Files) (file : List ℕ) → (List (List ℕ) → Type 0) → Type 0

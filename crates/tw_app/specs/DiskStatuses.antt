@@ -19,7 +19,7 @@ use Rattle.tw_app.specs.Disks.{Adds, Begins, IsOf, Keeps, MayBegin, Stands}
 use Rattle.tw_app.specs.Making.{MakesService}
 use Rattle.tw_app.specs.Outcomes.{store_text}
 use Rattle.tw_app.specs.Proving.{Proves}
-use Rattle.tw_app.specs.Running.{CantServe}
+use Rattle.tw_app.specs.Running.{CantServe, ReachesDisk}
 use Rattle.tw_app.specs.Statuses.{AskForDisk}
 
 -- status 0 of words that ask to prove an event: what was written are the bytes of its proof
@@ -33,18 +33,21 @@ pub record IsProvedRun (found : Option Image) (words : List (List ℕ)) (taken_b
   pub proves : Proves found step index top proof
   pub written : Appends taken_before taken_after proof
 
--- status 5: the words ask for work on a disk, the disk failed, and the line that says so was written whole
-pub record IsDiskFaultRun (faults_before faults_after : ℕ) (words : List (List ℕ)) (taken_before taken_after : Option (List ℕ)) : Type 0 where
+-- status 5: the words ask for work on a disk, to which the command came, the disk failed, and the line that says so was written whole
+pub record IsDiskFaultRun (told : Option Files) (faults_before faults_after : ℕ) (words : List (List ℕ)) (taken_before taken_after : Option (List ℕ)) : Type 0 where
+  pub command : Command
+  pub is_command : command_of words ≡ Some command
   pub asked : AskForDisk words
+  pub reached : ReachesDisk told command
   pub failed : Rose faults_before faults_after
   pub written : Appends taken_before taken_after fault_disk_text
 
 -- status 8: the command wants a service that the disk can't serve, and the line that says why was written whole
-pub record IsUnservedRun (found : Option Image) (words : List (List ℕ)) (taken_before taken_after : Option (List ℕ)) : Type 0 where
+pub record IsUnservedRun (told : Option Files) (found : Option Image) (words : List (List ℕ)) (taken_before taken_after : Option (List ℕ)) : Type 0 where
   pub command : Command
   pub cause : StoreCause
   pub is_command : command_of words ≡ Some command
-  pub cant : CantServe found command cause
+  pub cant : CantServe told found command cause
   pub written : Appends taken_before taken_after (store_text cause)
 
 module _ {D : Type 0} (content : D → Option Image) (may_leave : D → Image → Type 0) (moment : D → ℕ) (left_since : D → ℕ → Image → Type 0) (old new : D) where

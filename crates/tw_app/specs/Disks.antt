@@ -5,8 +5,9 @@ use Rattle.tw_base.specs.History.{History, plus}
 use Rattle.tw_disk.specs.Disk.{IsAtRest, LeavesOnly}
 use Rattle.tw_disk.specs.Image.{Image}
 use Rattle.tw_pages.specs.declared.open.StoreFault.TheVariants as fault
+use Rattle.tw_skiplist.specs.declared.head.Head.{Head}
 use Rattle.tw_skiplist.specs.Keeping.{event_step}
-use Rattle.tw_service.specs.Stands.{IsBlankOrNew, IsNotOpenedFor, StandsFor, StandsForOneOf, no_history}
+use Rattle.tw_service.specs.Stands.{IsBlankOrNew, IsNotOpenedFor, OpensFor, StandsFor, StandsForOneOf, no_history}
 use Rattle.tw_app.specs.declared.outcome.StoreCause.{StoreCause}
 use Rattle.tw_app.specs.declared.outcome.StoreCause.TheVariants.{Blank, NotAStore, BadPage}
 
@@ -20,15 +21,23 @@ pub record ReadsAs (found : Option Image) (h : History) : Type 0 where
   pub told : found ≡ Some image
   pub stands : IsOf h image
 
--- why an image can't be served: it opens as no service, or it stands for no history
+-- the image opens as a store with the root record of a service
+abbrev pub IsService : Image → Type 0
+IsService image = (name : List ℕ) × (head : Head) × OpensFor sha256 image name head
+
+-- why an image can't be served: it opens as no service, or it opens as one and stands for no history
 abbrev pub IsCause : Image → StoreCause → Type 0
 IsCause image Blank = IsNotOpenedFor sha256 image fault.Blank
 IsCause image (NotAStore slot) = IsNotOpenedFor sha256 image (fault.NotAStore slot)
-IsCause image (BadPage page) = (h : History) → IsOf h image → ⊥
+IsCause image (BadPage page) = IsService image × ((h : History) → IsOf h image → ⊥)
 
 -- the same of what the disk reads as, where it is told
 abbrev pub IsUnserved : (found : Option Image) → StoreCause → Type 0
 IsUnserved found cause = (image : Image) → found ≡ Some image → IsCause image cause
+
+-- where what the disk reads as is told, it opens as a service of this name and head
+abbrev pub OpensAsService : (found : Option Image) → (name : List ℕ) → Head → Type 0
+OpensAsService found name head = (image : Image) → found ≡ Some image → OpensFor sha256 image name head
 
 module _ {D : Type 0} (content : D → Option Image) (may_leave : D → Image → Type 0) (moment : D → ℕ) (left_since : D → ℕ → Image → Type 0) where
   -- the disk stands for the history for good: its content is told and stands for it, and a crash leaves nothing else
@@ -61,3 +70,8 @@ module _ {D : Type 0} (content : D → Option Image) (may_leave : D → Image �
   -- it reads as before, and a crash leaves nothing else than before
   abbrev pub IsLeft : (old new : D) → Type 0
   IsLeft old new = (content new ≡ content old) × LeavesOnly moment may_leave left_since old new (may_leave old)
+
+  -- the same, where what it reads as is told
+  abbrev pub IsUnwritten : (old new : D) → Type 0
+  IsUnwritten old new =
+      ((image : Image) → content old ≡ Some image → content new ≡ Some image) × LeavesOnly moment may_leave left_since old new (may_leave old)

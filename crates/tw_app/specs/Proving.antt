@@ -8,6 +8,7 @@ use Rattle.tw_base.specs.History.{History}
 use Rattle.tw_chain.specs.Accepting.{Accepts}
 use Rattle.tw_chain.specs.Making.{MakesExistence}
 use Rattle.tw_disk.specs.Image.{Image}
+use Rattle.tw_skiplist.specs.declared.head.Head.{Head}
 use Rattle.tw_service.specs.declared.refusal.Refusal.{Refusal as ServiceRefusal}
 use Rattle.tw_service.specs.declared.refusal.Refusal.TheVariants as service
 use Rattle.tw_service.specs.Limits.{order_refusal}
@@ -16,7 +17,7 @@ use Rattle.tw_service.specs.Machine.Call.{ProveEvent}
 use Rattle.tw_service.specs.Machine.Reply.{OfProof, Refused}
 use Rattle.tw_app.specs.declared.outcome.Refusal.{Refusal}
 use Rattle.tw_app.specs.declared.outcome.Refusal.TheVariants.{NoStep, NoEvent}
-use Rattle.tw_app.specs.Disks.{ReadsAs}
+use Rattle.tw_app.specs.Disks.{OpensAsService, ReadsAs}
 
 -- the top that the words give, or the last step where they give none
 abbrev pub top_of : (top : Option ℕ) → (last : ℕ) → ℕ
@@ -31,18 +32,32 @@ pub record ProvesUnder (step index top : ℕ) (proof : List ℕ) (h : History) :
   pub accepted : (anchors : List Thread) (anchor : Thread) → anchor_of anchors h.name top ≡ Some anchor
       → anchor.auth ≡ auth sha256 h top → Accepts sha256 anchors proof
 
--- where the disk reads as a history, it is the history's proof
-abbrev pub Proves : (found : Option Image) → (step index : ℕ) (top : Option ℕ) → (proof : List ℕ) → Type 0
-Proves found step index top proof = (h : History) → ReadsAs found h → ProvesUnder step index (top_of top (length h.steps)) proof h
+-- the disk opened as a service of this name and head, of which the steps are in their order; where the disk reads as a history, it
+-- is the history's proof
+pub record Proves (found : Option Image) (step index : ℕ) (top : Option ℕ) (proof : List ℕ) : Type 0 where
+  pub name : List ℕ
+  pub head : Head
+  pub opens : OpensAsService found name head
+  pub allowed : order_refusal false head.step step (top_of top head.step) ≡ None
+  pub proves : (h : History) → ReadsAs found h → ProvesUnder step index (top_of top (length h.steps)) proof h
 
 -- where the disk reads as a history, the machine refuses the proof
 abbrev pub MachineRefuses : (found : Option Image) → (step index : ℕ) (top : Option ℕ) → ServiceRefusal → Type 0
 MachineRefuses found step index top refusal =
     (h : History) → ReadsAs found h → IsStepOf sha256 h (ProveEvent step index (top_of top (length h.steps))) (Refused refusal) h
 
--- the service has this last step, and the steps aren't in their order; or the step has so many events
+-- the disk opened as a service of this name and head, whose table for the order of steps comes to this; where the disk reads as a
+-- history, the machine refuses the proof
+pub record RefusesAtHead (found : Option Image) (step index : ℕ) (top : Option ℕ) (order : Option ServiceRefusal) (refusal : ServiceRefusal) : Type 0 where
+  pub name : List ℕ
+  pub head : Head
+  pub opens : OpensAsService found name head
+  pub table : order_refusal false head.step step (top_of top head.step) ≡ order
+  pub machine : MachineRefuses found step index top refusal
+
+-- the steps aren't in their order, and the last step is told; or they are, and the step has so many events
 abbrev pub RefusesProof : (found : Option Image) → (step index : ℕ) (top : Option ℕ) → Refusal → Type 0
 RefusesProof found step index top (NoStep last) =
-    (order_refusal false last step (top_of top last) ≡ Some (service.NoStep last)) × MachineRefuses found step index top (service.NoStep last)
-RefusesProof found step index top (NoEvent count) = MachineRefuses found step index top (service.NoEvent count)
+    (refuses : RefusesAtHead found step index top (Some (service.NoStep last)) (service.NoStep last)) × (last ≡ refuses.head.step)
+RefusesProof found step index top (NoEvent count) = RefusesAtHead found step index top None (service.NoEvent count)
 RefusesProof found step index top _ = ⊥

@@ -16,8 +16,8 @@ use Rattle.tw_app.specs.declared.outcome.Refusal.TheVariants.{Taken}
 use Rattle.tw_app.specs.declared.outcome.StoreCause.{StoreCause}
 use Rattle.tw_app.specs.declared.outcome.BadInput.{BadInput}
 use Rattle.tw_app.specs.declared.outcome.BadInput.TheVariants.{BadByte, BadLine, Unsound}
-use Rattle.tw_app.specs.Appending.{AddsStep, IsBadEventsByte, OfEvents, RefusesStep}
-use Rattle.tw_app.specs.Commands.{IsBuilt, UsesDisk}
+use Rattle.tw_app.specs.Appending.{AddsStep, HasEvents, IsBadEventsByte, OfEvents, RefusesStep}
+use Rattle.tw_app.specs.Commands.{IsBuilt}
 use Rattle.tw_app.specs.Disks.{IsUnserved}
 use Rattle.tw_app.specs.Making.{HasStore, MakesService}
 use Rattle.tw_app.specs.Outcomes.{status_of, text_of}
@@ -54,11 +54,18 @@ Refuses told found (Append dir file) refusal = RefusesStep told found file refus
 Refuses told found (ProveEvent dir step index top) refusal = RefusesProof found step index top refusal
 Refuses told found _ refusal = ⊥
 
--- it wants a service, and the disk has none that can serve it
-abbrev pub CantServe : (found : Option Image) → Command → StoreCause → Type 0
-CantServe found (Append dir file) cause = IsUnserved found cause
-CantServe found (ProveEvent dir step index top) cause = IsUnserved found cause
-CantServe found _ cause = ⊥
+-- it works on a disk, and comes to it: a file that it reads was judged before
+abbrev pub ReachesDisk : (told : Option Files) → Command → Type 0
+ReachesDisk told (Init dir name) = Unit {0}
+ReachesDisk told (Append dir file) = HasEvents told file
+ReachesDisk told (ProveEvent dir step index top) = Unit {0}
+ReachesDisk told _ = ⊥
+
+-- it wants a service, and the disk, to which it comes, has none that can serve it
+abbrev pub CantServe : (told : Option Files) (found : Option Image) → Command → StoreCause → Type 0
+CantServe told found (Append dir file) cause = HasEvents told file × IsUnserved found cause
+CantServe told found (ProveEvent dir step index top) cause = IsUnserved found cause
+CantServe told found _ cause = ⊥
 
 -- one of its files isn't what it reads: it is named by the command's word, and is there
 abbrev pub CantRead : Option Files → Command → BadInput → Type 0
@@ -77,11 +84,11 @@ ComesTo told before after found disk_before disk_after command (Judged verdict) 
 ComesTo told before after found disk_before disk_after command (Shown proof) = Shows told found command proof
 ComesTo told before after found disk_before disk_after command (Made thread) = Makes told found command thread
 ComesTo told before after found disk_before disk_after command (Refused refusal) = Refuses told found command refusal
-ComesTo told before after found disk_before disk_after command (Unserved cause) = CantServe found command cause
+ComesTo told before after found disk_before disk_after command (Unserved cause) = CantServe told found command cause
 ComesTo told before after found disk_before disk_after command (Unreadable bad) = CantRead told command bad
 ComesTo told before after found disk_before disk_after command (BadWords number) = (number ≡ 0) × (IsBuilt command → ⊥)
 ComesTo told before after found disk_before disk_after command InputFault = IsBuilt command × Rose before after
-ComesTo told before after found disk_before disk_after command DiskFault = UsesDisk command × Rose disk_before disk_after
+ComesTo told before after found disk_before disk_after command DiskFault = ReachesDisk told command × Rose disk_before disk_after
 ComesTo told before after found disk_before disk_after command NoMemory = Unit {0}
 
 -- what a command comes to over whatever disk

@@ -38,6 +38,12 @@ ComesToProof found before after step index top DiskFault = Rose before after
 ComesToProof found before after step index top NoMemory = Unit {0}
 ComesToProof found before after step index top _ = ⊥
 
+-- the outcomes of an adding that wrote nothing
+abbrev pub WritesNothing : Outcome → Type 0
+WritesNothing (Made thread) = ⊥
+WritesNothing DiskFault = ⊥
+WritesNothing _ = Unit {0}
+
 module _ {D : Type 0} (content : D → Option Image) (may_leave : D → Image → Type 0) (moment : D → ℕ) (left_since : D → ℕ → Image → Type 0) (old new : D) where
   -- what it leaves of a disk that stood for this history
   abbrev pub LeavesStep : (events : List (List ℕ)) → History → Outcome → Type 0

@@ -4,13 +4,13 @@ ghost use Rattle.std.specs.Prelude.{◌≡◌, ◌≤◌, ℕ, List, Option, IfE
 ghost use Rattle.sha2.specs.Sha256.{sha256};
 ghost use Rattle.tw_base.specs.History.{History};
 ghost use Rattle.tw_disk.specs.Image.{Image};
-ghost use Rattle.tw_service.specs.Serves.{Serves, disk_of, has_failed};
+ghost use Rattle.tw_service.specs.Serves.{Serves, disk_of, has_failed, head_of, name_of};
 ghost use Rattle.tw_text.specs.declared.command.Command.TheVariants.{Append};
 ghost use Rattle.tw_app.specs.Appending.{AreEventsOf};
-ghost use Rattle.tw_app.specs.Disks.{ReadsAs, Stands};
+ghost use Rattle.tw_app.specs.Disks.{IsLeft, IsUnwritten, OpensAsService, ReadsAs, Stands};
 ghost use Rattle.tw_app.specs.Leaving.{CommandLeaves};
 ghost use Rattle.tw_app.specs.Running.{ComesTo, ComesOfFiles};
-ghost use Rattle.tw_app.specs.Stepping.{IsStop, LeavesStep, ComesToStep};
+ghost use Rattle.tw_app.specs.Stepping.{ComesToStep, IsStop, LeavesStep, WritesNothing};
 
 use crate::bad_input::refuse_byte;
 use crate::outcome::{Outcome, Worked};
@@ -74,6 +74,7 @@ fn append_events<D: Disk>(alloc: Global, disk: D, events: &EventList) -> Worked<
     ensures comes { ComesToStep (D.content disk) (D.faults disk) (D.faults result.disk) events.now result.outcome }
     ensures leaves { (h : History) → Stands D.content D.may_leave D.moment D.left_since disk h
         → LeavesStep D.content D.may_leave D.moment D.left_since disk result.disk events.now h result.outcome }
+    ensures unwritten { WritesNothing result.outcome → IsUnwritten D.content D.may_leave D.moment D.left_since disk result.disk }
 {
     match Service::<D, Sha>::open(alloc, disk) {
         Ok(service) => append_to(service, events),
@@ -87,10 +88,12 @@ fn append_events<D: Disk>(alloc: Global, disk: D, events: &EventList) -> Worked<
 /// Adds a step of these events to the service, and gives its disk back.
 fn append_to<D: Disk>(service: Service<D, Sha>, events: &EventList) -> Worked<D>
     requires { has_failed service ≡ false }
-    ensures comes { (found : Option Image) (before : ℕ) → ((h : History) → ReadsAs found h → Serves sha256 D.content D.may_leave service h) → before ≤ D.faults (disk_of service)
+    ensures comes { (found : Option Image) (before : ℕ) → OpensAsService found (name_of service) (head_of service)
+        → ((h : History) → ReadsAs found h → Serves sha256 D.content D.may_leave service h) → before ≤ D.faults (disk_of service)
         → ComesToStep found before (D.faults result.disk) events.now result.outcome }
     ensures leaves { (h : History) → Serves sha256 D.content D.may_leave service h
         → LeavesStep D.content D.may_leave D.moment D.left_since (disk_of service) result.disk events.now h result.outcome }
+    ensures unwritten { WritesNothing result.outcome → IsLeft D.content D.may_leave D.moment D.left_since (disk_of service) result.disk }
 {
     let mut service = service;
     match service.append(events) {

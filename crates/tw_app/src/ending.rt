@@ -10,7 +10,7 @@ ghost use Rattle.tw_text.specs.Lines.{anchor_text, no_memory_text};
 ghost use Rattle.tw_app.specs.declared.outcome.Outcome.TheVariants.{NoMemory as NoMemoryOutcome};
 ghost use Rattle.tw_app.specs.Commands.{files_of};
 ghost use Rattle.tw_app.specs.Outcomes.{TakesMemory, status_of as status_of_outcome};
-ghost use Rattle.tw_app.specs.Disks.{Keeps};
+ghost use Rattle.tw_app.specs.Disks.{IsUnwritten, Keeps};
 ghost use Rattle.tw_app.specs.DiskStatuses.{IsAppendedRun, IsCrashSafe, IsDiskFaultRun, IsMadeRun, IsProvedRun, IsUnservedRun};
 ghost use Rattle.tw_app.specs.Leaving.{Leaves};
 ghost use Rattle.tw_app.specs.Running.{Ends, EndsWith};
@@ -161,10 +161,10 @@ pub fn run<D: Disk, I: Inputs, S: Sink>(
     ensures usage { result.status ≡ 2 → IsUsageRun (map string_bytes words.now) (S.taken out.old) (S.taken out.new) }
     ensures input_fault { result.status ≡ 3 → IsFaultRun (I.faults inputs.old) (I.faults inputs.new) (map string_bytes words.now) (S.taken out.old) (S.taken out.new) }
     ensures output_fault { result.status ≡ 4 → Rose (S.faults out.old) (S.faults out.new) }
-    ensures disk_fault { result.status ≡ 5 → IsDiskFaultRun (D.faults disk) (D.faults result.disk) (map string_bytes words.now) (S.taken out.old) (S.taken out.new) }
+    ensures disk_fault { result.status ≡ 5 → IsDiskFaultRun (I.told inputs.old) (D.faults disk) (D.faults result.disk) (map string_bytes words.now) (S.taken out.old) (S.taken out.new) }
     ensures no_memory { result.status ≡ 6 → Appends (S.taken out.old) (S.taken out.new) no_memory_text }
     ensures refused { result.status ≡ 7 → IsRefusedRun (I.told inputs.old) (D.content disk) (map string_bytes words.now) (S.taken out.old) (S.taken out.new) }
-    ensures store { result.status ≡ 8 → IsUnservedRun (D.content disk) (map string_bytes words.now) (S.taken out.old) (S.taken out.new) }
+    ensures store { result.status ≡ 8 → IsUnservedRun (I.told inputs.old) (D.content disk) (map string_bytes words.now) (S.taken out.old) (S.taken out.new) }
     ensures unreadable { result.status ≡ 9 → IsUnreadableRun (I.told inputs.old) (map string_bytes words.now) (S.taken out.old) (S.taken out.new) }
     ensures statuses { IsStatus result.status }
 
@@ -174,6 +174,9 @@ pub fn run<D: Disk, I: Inputs, S: Sink>(
         → IsCrashSafe D.content D.may_leave D.moment D.left_since disk result.disk (I.told inputs.old) command }
     ensures kept { (result.status ≡ 0 → ⊥) → (result.status ≡ 4 → ⊥) → (result.status ≡ 5 → ⊥)
         → AskForDisk (map string_bytes words.now) → Keeps D.content D.may_leave D.moment D.left_since disk result.disk }
+    ensures unwritten { (result.status ≡ 0 → ⊥) → (result.status ≡ 4 → ⊥) → (result.status ≡ 5 → ⊥)
+        → AskForDisk (map string_bytes words.now) → IsUnwritten D.content D.may_leave D.moment D.left_since disk result.disk }
+    ensures proving { AskForProof (map string_bytes words.now) → IsUnwritten D.content D.may_leave D.moment D.left_since disk result.disk }
     ensures untouched { (AskForDisk (map string_bytes words.now) → ⊥) → result.disk ≡ disk }
 {
     run_to_the_end(alloc, words, disk, inputs, out)

@@ -3,12 +3,11 @@
 ghost use Rattle.std.specs.Prelude.{◌≡◌, ◌≤◌, ℕ, List, Option, false};
 ghost use Rattle.sha2.specs.Sha256.{sha256};
 ghost use Rattle.tw_base.specs.History.{History};
-ghost use Rattle.tw_disk.specs.Disk.{LeavesOnly};
 ghost use Rattle.tw_disk.specs.Image.{Image};
 ghost use Rattle.tw_outside.specs.Files.{Files};
-ghost use Rattle.tw_service.specs.Serves.{Serves, disk_of, has_failed};
+ghost use Rattle.tw_service.specs.Serves.{Serves, disk_of, has_failed, head_of, name_of};
 ghost use Rattle.tw_text.specs.declared.command.Command.TheVariants.{ProveEvent};
-ghost use Rattle.tw_app.specs.Disks.{IsOf, Keeps, ReadsAs, Stands};
+ghost use Rattle.tw_app.specs.Disks.{IsLeft, IsUnwritten, OpensAsService, ReadsAs};
 ghost use Rattle.tw_app.specs.Proving.{top_of};
 ghost use Rattle.tw_app.specs.Running.{ComesTo};
 ghost use Rattle.tw_app.specs.Stepping.{ComesToProof};
@@ -31,7 +30,7 @@ pub(crate) fn prove<D: Disk>(
 ) -> Worked<D>
     ensures comes { (told : Option Files) (before after : ℕ) (dir : List ℕ)
         → ComesTo told before after (D.content disk) (D.faults disk) (D.faults result.disk) (ProveEvent dir step index top) result.outcome }
-    ensures leaves { Keeps D.content D.may_leave D.moment D.left_since disk result.disk }
+    ensures leaves { IsUnwritten D.content D.may_leave D.moment D.left_since disk result.disk }
 {
     match Service::<D, Sha>::open(alloc, disk) {
         Ok(service) => prove_by(service, step, index, top),
@@ -46,10 +45,10 @@ pub(crate) fn prove<D: Disk>(
 /// 2^32 - 1, so such an index is refused as that one is.
 fn prove_by<D: Disk>(service: Service<D, Sha>, step: u64, index: u64, top: Option<u64>) -> Worked<D>
     requires { has_failed service ≡ false }
-    ensures comes { (found : Option Image) (before : ℕ) → ((h : History) → ReadsAs found h → Serves sha256 D.content D.may_leave service h) → before ≤ D.faults (disk_of service)
+    ensures comes { (found : Option Image) (before : ℕ) → OpensAsService found (name_of service) (head_of service)
+        → ((h : History) → ReadsAs found h → Serves sha256 D.content D.may_leave service h) → before ≤ D.faults (disk_of service)
         → ComesToProof found before (D.faults result.disk) step index top result.outcome }
-    ensures leaves { (h : History) → Serves sha256 D.content D.may_leave service h
-        → LeavesOnly D.moment D.may_leave D.left_since (disk_of service) result.disk (IsOf h) × Stands D.content D.may_leave D.moment D.left_since result.disk h }
+    ensures leaves { IsLeft D.content D.may_leave D.moment D.left_since (disk_of service) result.disk }
 {
     let mut service = service;
     let top = top_for(top, service.steps());

@@ -15,7 +15,7 @@ use Rattle.tw_skiplist.specs.declared.head.Head.{Head}
 use Rattle.tw_skiplist.specs.Keeping.{Keeps}
 use Rattle.tw_service.specs.Keeps.{KeepsHistory}
 use Rattle.tw_service.specs.Roots.{IsAllowed, root_bytes}
-use Rattle.tw_service.specs.Stands.{HasRoot, IsNotOpenedFor, StandsFor}
+use Rattle.tw_service.specs.Stands.{HasRoot, IsNotOpenedFor, OpensFor, StandsFor}
 use Rattle.tw_service.proofs.RootReading.{root_once}
 
 pub opens_kept : (b : Bool) (o : Opening) (c : Image) → IsAbove b o c → OpensAs o c
@@ -60,6 +60,9 @@ module _ {D : Type 0} {g : _} (content : D → Option Image) (may_leave : D → 
   module _ (name : List ℕ) (head : Head) (is : root ≡ root_bytes dig name head) (allowed : IsAllowed used generation name head) where
     has_root : HasRoot dig here name head
     has_root = record { bytes = sym root_is ∙ is; allowed = subst (λ n. IsAllowed n store.generation name head) counted (subst (λ n. IsAllowed used n name head) generation_is allowed) }
+
+    pub opens_for : OpensFor dig c name head
+    opens_for = (here, opens, has_root)
 
     pub never_refused : (fault : StoreFault) → IsNotOpenedFor dig c fault → ⊥
     never_refused fault why = ⊎_elim (not_refused here c opens fault)

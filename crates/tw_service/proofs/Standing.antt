@@ -10,7 +10,7 @@ use Rattle.tw_skiplist.specs.declared.head.Head.{Head}
 use Rattle.tw_skiplist.specs.Keeping.{Keeps}
 use Rattle.tw_skiplist.proofs.Once.{keeps_one}
 use Rattle.tw_service.specs.EventSteps.{HasEventsOnly}
-use Rattle.tw_service.specs.Stands.{HasRoot, IsNotOpenedFor, StandsFor}
+use Rattle.tw_service.specs.Stands.{HasRoot, IsNotOpenedFor, OpensFor, StandsFor}
 use Rattle.tw_service.proofs.RootReading.{root_once}
 
 module _ (dig : List ℕ → List ℕ) where
@@ -24,6 +24,10 @@ module _ (dig : List ℕ → List ℕ) where
 
   pub stands_events : (image : Image) (name : List ℕ) (h : History) → StandsFor dig image name h → HasEventsOnly h
   stands_events image name h s = λ k within. (s.keeps.keeps.steps k within).events_only
+
+  pub opens_never_refused : (image : Image) (name : List ℕ) (head : Head) (fault : StoreFault) → OpensFor dig image name head → IsNotOpenedFor dig image fault → ⊥
+  opens_never_refused image name head fault opens why = ⊎_elim (not_refused opens.0 image opens.1 fault)
+      (λ other. other.2 name head (subst (λ (o : Opening). HasRoot dig o name head) (opens_once opens.0 other.0 image opens.1 other.1) opens.2)) why
 
   pub stands_opened : (image : Image) (name : List ℕ) (h : History) (fault : StoreFault) → StandsFor dig image name h → IsNotOpenedFor dig image fault → ⊥
   stands_opened image name h fault s why = ⊎_elim (not_refused s.opening image s.opens fault)

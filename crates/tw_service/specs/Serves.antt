@@ -6,6 +6,7 @@ use Rattle.tw_disk.specs.Image.{Image}
 use Rattle.tw_disk.specs.Disk.{IsAtRest}
 use Rattle.tw_pages.specs.Kept.{disk_of as disk_below}
 use Rattle.tw_pages.specs.Same.{IsSame}
+use Rattle.tw_skiplist.specs.declared.head.Head.{Head}
 use Rattle.tw_service.specs.declared.service.Service.{Service}
 use Rattle.tw_service.specs.Keeps.{KeepsHistory}
 
@@ -13,9 +14,12 @@ use Rattle.tw_service.specs.Keeps.{KeepsHistory}
 abbrev pub disk_of : {D H : Type 0} {g : _} {k : _} → Service D H g k → D
 disk_of service = disk_below service.store
 
--- its name, the number of its steps, and the thread of its last step
+-- its name, its head, the number of its steps, and the thread of its last step
 abbrev pub name_of : {D H : Type 0} {g : _} {k : _} → Service D H g k → List ℕ
 name_of service = service.name
+
+abbrev pub head_of : {D H : Type 0} {g : _} {k : _} → Service D H g k → Head
+head_of service = service.head
 
 abbrev pub steps_of : {D H : Type 0} {g : _} {k : _} → Service D H g k → ℕ
 steps_of service = service.head.step

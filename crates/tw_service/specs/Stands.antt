@@ -21,6 +21,10 @@ module _ (dig : List ℕ → List ℕ) where
     pub bytes : o.root ≡ root_bytes dig name head
     pub allowed : IsAllowed (used_of o) o.generation name head
 
+  -- the image opens as a store whose root record is that of this name and head
+  abbrev pub OpensFor : Image → (name : List ℕ) → Head → Type 0
+  OpensFor image name head = (o : Opening) × OpensAs o image × HasRoot o name head
+
   -- the image opens as a store that keeps this history of this name
   pub record StandsFor (image : Image) (name : List ℕ) (h : History) : Type 0 where
     pub sound : IsSound h

@@ -48,8 +48,8 @@ impl<D: Disk, H: Hasher> Service<D, H> {
     ghost use Rattle.tw_service.specs.Machine.{Answers, last_thread};
     ghost use Rattle.tw_service.specs.Machine.Call.{Append, ProveEvent};
     ghost use Rattle.tw_service.specs.Machine.Reply.{OfProof, OfThread};
-    ghost use Rattle.tw_service.specs.Serves.{HasSameDisk, Serves, disk_of, has_failed, name_of, steps_of, thread_of};
-    ghost use Rattle.tw_service.specs.Stands.{IsBlankOrNew, IsNotOpenedFor, StandsFor, StandsForOneOf, no_history};
+    ghost use Rattle.tw_service.specs.Serves.{HasSameDisk, Serves, disk_of, has_failed, head_of, name_of, steps_of, thread_of};
+    ghost use Rattle.tw_service.specs.Stands.{IsBlankOrNew, IsNotOpenedFor, OpensFor, StandsFor, StandsForOneOf, no_history};
 
     /// Makes a service of this name, without a step, on a disk that has no store. It takes no memory.
     ///
@@ -112,6 +112,9 @@ impl<D: Disk, H: Hasher> Service<D, H> {
         ensures stable { IfOk result (λ s. (c : Image) → D.content disk ≡ Some c
             → IsAtRest D.content D.may_leave (disk_of s) (λ i. i ≡ c)) }
         ensures whole { IfOk result (λ s. has_failed s ≡ false) }
+
+        // Whatever is opened has the root record of a service, whose name and head are the value's.
+        ensures opened { IfOk result (λ s. (c : Image) → D.content disk ≡ Some c → OpensFor H.dig c (name_of s) (head_of s)) }
 
         // Each refusal exactly where its reason stands, a disk fault excepted.
         ensures refused { IfErr result (λ e. (c : Image) → D.content disk ≡ Some c
@@ -208,6 +211,7 @@ impl<D: Disk, H: Hasher> Service<D, H> {
             → Serves H.dig D.content D.may_leave self.new (plus h (event_step events.now))
             × (thread ≡ last_thread H.dig (plus h (event_step events.now)))) }
         ensures thread { IfOk result (λ thread. thread ≡ thread_of self.new) }
+        ensures next { IfOk result (λ thread. (thread.from ≡ name_of self.old) × (thread.step ≡ steps_of self.old + 1)) }
 
         // Each image that a crash since the start may leave stands for the history before or for the longer one.
         ensures any_moment { (h : History) → Serves H.dig D.content D.may_leave self.old h

@@ -11,7 +11,7 @@ returns-in-Ok-clause-leaves g c = λ dir.
     let d = g.D.Disk in
     leaves_of_step d.content d.may_leave d.moment d.left_since c.args.disk c.append_events.result.disk (g.I.Inputs.told c.args.inputs.now)
     (d.faults c.args.disk) (d.faults c.append_events.result.disk) dir
-    c.args.file.now c.in-Ok.events c.append_events.result.outcome c.in-Ok.ensures.read c.append_events.ensures.comes c.append_events.ensures.leaves
+    c.args.file.now c.in-Ok.events c.append_events.result.outcome c.in-Ok.ensures.read c.append_events.ensures.comes c.append_events.ensures.leaves c.append_events.ensures.unwritten
 
 pub returns-in-Err-clause-comes : goal.returns-in-Err-clause-comes
 returns-in-Err-clause-comes g c = λ dir. c.in-Err.ensures.stopped dir (g.D.Disk.content c.args.disk) (g.D.Disk.faults c.args.disk) (g.D.Disk.faults c.args.disk)

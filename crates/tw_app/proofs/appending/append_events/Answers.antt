@@ -1,14 +1,14 @@
 use Rattle.tw_disk.specs.Moments.{leaves_weaker}
 use Rattle.tw_app.specs.Disks.{IsOf}
 use Rattle.tw_service.specs.Serves.{disk_of}
-use Rattle.tw_app.proofs.AtRest.{leaves_from, rest_leaves, still_keeps}
+use Rattle.tw_app.proofs.AtRest.{leaves_from, rest_leaves, stable_unwritten, still_keeps, unwritten_on}
 use Rattle.tw_app.proofs.Landings.{unopened_leaves, unopened_step}
 use Rattle.tw_app.proofs.appending.append_events.Goals as goal
 
 pub returns-in-Ok-clause-comes : goal.returns-in-Ok-clause-comes
 returns-in-Ok-clause-comes g c =
     c.append_to.ensures.comes (g.D.Disk.content c.args.disk) (g.D.Disk.faults c.args.disk)
-    (λ h reads. c.in-Ok.ensures.served reads.image h.name h reads.told reads.stands) c.in-Ok.ensures.later
+    c.in-Ok.ensures.opened (λ h reads. c.in-Ok.ensures.served reads.image h.name h reads.told reads.stands) c.in-Ok.ensures.later
 
 pub returns-in-Ok-clause-leaves : goal.returns-in-Ok-clause-leaves
 returns-in-Ok-clause-leaves g c = λ h stands.
@@ -29,3 +29,14 @@ returns-in-Err-clause-leaves g c = λ h stands.
     let d = g.D.Disk in
     unopened_leaves d.content d.may_leave d.moment d.left_since c.args.disk c.in-Err.disk c.args.events.now h c.in-Err.fault c.outcome_of_store.result c.outcome_of_store.ensures
     (still_keeps d.content d.may_leave d.moment d.left_since c.args.disk c.in-Err.disk c.in-Err.ensures.unchanged c.in-Err.ensures.any_moment_err h stands)
+
+pub returns-in-Ok-clause-unwritten : goal.returns-in-Ok-clause-unwritten
+returns-in-Ok-clause-unwritten g c = λ nothing.
+    let d = g.D.Disk in
+    let mid = disk_of c.in-Ok.service in
+    unwritten_on d.content d.may_leave d.moment d.left_since c.args.disk mid c.append_to.result.disk
+    (stable_unwritten d.content d.may_leave d.moment d.left_since c.args.disk mid c.in-Ok.ensures.stable c.in-Ok.ensures.any_moment)
+    (c.append_to.ensures.unwritten nothing)
+
+pub returns-in-Err-clause-unwritten : goal.returns-in-Err-clause-unwritten
+returns-in-Err-clause-unwritten g c = λ nothing. (c.in-Err.ensures.unchanged, c.in-Err.ensures.any_moment_err)

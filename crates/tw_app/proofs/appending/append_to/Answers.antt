@@ -7,18 +7,18 @@ use Rattle.tw_outside.specs.Faults.{Rose}
 use Rattle.tw_service.specs.Serves.{Serves, disk_of}
 use Rattle.tw_service.specs.Stands.{StandsFor, StandsForOneOf}
 use Rattle.tw_app.specs.declared.outcome.Outcome.TheVariants.{Made}
-use Rattle.tw_app.specs.Disks.{IsOf}
+use Rattle.tw_app.specs.Disks.{IsLeft, IsOf}
 use Rattle.tw_app.specs.Stepping.{LeavesStep}
-use Rattle.tw_app.proofs.AtRest.{own_name, own_names, rose_since, serves_stands}
-use Rattle.tw_app.proofs.Steps.{step_done, step_leaves, step_refused}
+use Rattle.tw_app.proofs.AtRest.{own_name, own_names, rose_since, same_left, serves_stands}
+use Rattle.tw_app.proofs.Steps.{step_done, step_leaves, step_refused, step_unwritten}
 use Rattle.tw_app.proofs.appending.append_to.Goals as goal
 
 pub returns-in-Ok-clause-comes : goal.returns-in-Ok-clause-comes
-returns-in-Ok-clause-comes g c = λ found before serves le.
+returns-in-Ok-clause-comes g c = λ found before opens serves le.
     let d = g.D.Disk in
-    step_done found before 0 c.args.events.now c.args.service.is_broken c.args.service.head.step c.requires
+    step_done found before 0 c.args.events.now c.args.service.is_broken c.args.service.name c.args.service.head opens c.requires
     (Serves sha256 d.content d.may_leave c.args.service) (Serves sha256 d.content d.may_leave c.append.new.self) serves
-    c.in-Ok.thread c.in-Ok.ensures.table c.in-Ok.ensures.done c.in-Ok.ensures.machine
+    c.in-Ok.thread c.in-Ok.ensures.table c.in-Ok.ensures.next c.in-Ok.ensures.done c.in-Ok.ensures.machine
 
 pub returns-in-Ok-clause-leaves : goal.returns-in-Ok-clause-leaves
 returns-in-Ok-clause-leaves g c = λ h served.
@@ -34,9 +34,9 @@ returns-in-Ok-clause-leaves g c = λ h served.
     )
 
 pub returns-in-Err-clause-comes : goal.returns-in-Err-clause-comes
-returns-in-Err-clause-comes g c = λ found before serves le.
+returns-in-Err-clause-comes g c = λ found before opens serves le.
     let d = g.D.Disk in
-    step_refused found before (d.faults c.close-in-Err.result) c.args.events.now c.args.service.is_broken c.args.service.head.step c.requires
+    step_refused found before (d.faults c.close-in-Err.result) c.args.events.now c.args.service.is_broken c.args.service.name c.args.service.head opens c.requires
     (Serves sha256 d.content d.may_leave c.args.service) (Serves sha256 d.content d.may_leave c.append.new.self) serves
     c.in-Err.refusal c.outcome_of_refusal.result c.outcome_of_refusal.ensures c.in-Err.ensures.table c.in-Err.ensures.machine
     (λ is. rose_since before (d.faults (disk_of c.args.service)) (d.faults c.close-in-Err.result) le
@@ -58,3 +58,12 @@ returns-in-Err-clause-leaves g c = λ h served.
           (λ i stands. own_name old.name h i stands) (keeps h served).1,
       serves_stands d.content d.may_leave d.moment d.left_since g.met.D.Disk.only_now new h (keeps h served).0,
     )) c.in-Err.ensures.refused))
+
+pub returns-in-Err-clause-unwritten : goal.returns-in-Err-clause-unwritten
+returns-in-Err-clause-unwritten g c = λ nothing.
+    let d = g.D.Disk in
+    let old = c.args.service in
+    let new = c.append.new.self in
+    subst (λ disk. IsLeft d.content d.may_leave d.moment d.left_since (disk_of old) disk) (sym c.close-in-Err.ensures.disk)
+    (step_unwritten d.content d.may_leave d.moment d.left_since (disk_of old) (disk_of new) c.in-Err.refusal c.outcome_of_refusal.result c.outcome_of_refusal.ensures
+    (⊎_elim (λ is. inl is) (λ same. inr (same_left d.content d.may_leave d.moment d.left_since g.met.D.Disk.only_now old new same)) c.in-Err.ensures.unwritten) nothing)

@@ -1,5 +1,5 @@
 use Rattle.tw_app.specs.Leaving.{Leaves}
-use Rattle.tw_app.proofs.DiskEndings.{appended, crash, disk_fault, kept, made, proved, unserved, untouched}
+use Rattle.tw_app.proofs.DiskEndings.{appended, crash, disk_fault, kept, made, proved, proving, unserved, untouched, unwritten}
 use Rattle.tw_app.proofs.Endings.{accepted, built, input_fault, refused, rejected, shown, unreadable, usage}
 use Rattle.tw_app.proofs.ending.run.Goals as goal
 
@@ -122,6 +122,22 @@ returns-clause-kept g c = λ zeroth fourth fifth asks.
     (g.D.Disk.faults c.args.disk) (g.D.Disk.faults c.run_to_the_end.result.disk) _
     (g.S.Sink.taken c.args.out.now) (g.S.Sink.taken c.run_to_the_end.new.out) (g.S.Sink.faults c.args.out.now) (g.S.Sink.faults c.run_to_the_end.new.out)
     c.run_to_the_end.result.status c.run_to_the_end.ensures zeroth fourth fifth asks
+
+pub returns-clause-unwritten : goal.returns-clause-unwritten
+returns-clause-unwritten g c = λ zeroth fourth fifth asks.
+    unwritten g.D.Disk.content g.D.Disk.may_leave g.D.Disk.moment g.D.Disk.left_since g.met.D.Disk.only_now c.args.disk c.run_to_the_end.result.disk
+    (g.I.Inputs.told c.args.inputs.now) (g.I.Inputs.faults c.args.inputs.now) (g.I.Inputs.faults c.run_to_the_end.new.inputs)
+    (g.D.Disk.faults c.args.disk) (g.D.Disk.faults c.run_to_the_end.result.disk) _
+    (g.S.Sink.taken c.args.out.now) (g.S.Sink.taken c.run_to_the_end.new.out) (g.S.Sink.faults c.args.out.now) (g.S.Sink.faults c.run_to_the_end.new.out)
+    c.run_to_the_end.result.status c.run_to_the_end.ensures zeroth fourth fifth asks
+
+pub returns-clause-proving : goal.returns-clause-proving
+returns-clause-proving g c = λ asks.
+    proving g.D.Disk.content g.D.Disk.may_leave g.D.Disk.moment g.D.Disk.left_since g.met.D.Disk.only_now c.args.disk c.run_to_the_end.result.disk
+    (g.I.Inputs.told c.args.inputs.now) (g.I.Inputs.faults c.args.inputs.now) (g.I.Inputs.faults c.run_to_the_end.new.inputs)
+    (g.D.Disk.faults c.args.disk) (g.D.Disk.faults c.run_to_the_end.result.disk) _
+    (g.S.Sink.taken c.args.out.now) (g.S.Sink.taken c.run_to_the_end.new.out) (g.S.Sink.faults c.args.out.now) (g.S.Sink.faults c.run_to_the_end.new.out)
+    c.run_to_the_end.result.status c.run_to_the_end.ensures asks
 
 pub returns-clause-untouched : goal.returns-clause-untouched
 returns-clause-untouched g c = λ other.

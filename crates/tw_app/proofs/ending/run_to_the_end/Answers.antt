@@ -11,5 +11,5 @@ returns g c =
     ends_by told _ _ (d.content c.args.disk) _ _ _ (g.S.Sink.taken c.args.out.now) (g.S.Sink.taken c.conclude-status.new.out) _ _
     (Leaves d.content d.may_leave d.moment d.left_since c.args.disk disk told _) c.conclude-status.result
     c.follow_words-outcome.result.outcome c.follow_words-outcome.ensures.comes c.follow_words-outcome.ensures.leaves
-    (memory_leaves d.content d.may_leave d.moment d.left_since c.args.disk disk told _ c.follow_words-outcome.result.outcome c.follow_words-outcome.ensures.leaves)
+    (memory_leaves d.content d.may_leave d.moment d.left_since c.args.disk disk g.met.D.Disk.only_now told _ c.follow_words-outcome.result.outcome c.follow_words-outcome.ensures.leaves)
     c.conclude-status.ensures
