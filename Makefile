@@ -40,6 +40,8 @@ $(PROGRAM):
 bench: | $(PROGRAM)
 	python3 bench/measure.py $(PROGRAM)
 
+# Copies the built program, its manual page and the completion of its words in bash.
 install: | $(PROGRAM)
 	install -D -m 755 $(PROGRAM) $(DESTDIR)$(PREFIX)/bin/timeweave
 	install -D -m 644 docs/timeweave.1 $(DESTDIR)$(PREFIX)/share/man/man1/timeweave.1
+	install -D -m 644 tools/completion.bash $(DESTDIR)$(PREFIX)/share/bash-completion/completions/timeweave

@@ -2,8 +2,8 @@
 
     python3 tests/acceptance/run.py [PROGRAM]      `make check` calls it so
 
-The cases stand in cases/*.json, those that are counted off in generated.py, those of services
-in steps.py; documents.py checks the documents. A case has
+The cases stand in cases/*.json, those that are counted off in generated.py, those of services in steps.py; documents.py
+checks the documents, and installed.py what `make install` copies. A case has
 
     name       what it shows
     words      the program's arguments; $AUTH is the authenticator of step 1 of the least proof
@@ -32,6 +32,7 @@ from pathlib import Path
 
 import documents
 import generated
+import installed
 import reference
 import steps
 
@@ -137,6 +138,7 @@ def all_cases():
     yield from generated.cases()
     yield from steps.cases()
     yield from documents.cases()
+    yield from installed.cases()
 
 
 def main():

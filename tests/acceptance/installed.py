@@ -1,0 +1,112 @@
+"""What `make install` copies works: the program, its manual page, and the completion of its words in bash."""
+
+import json
+import os
+import re
+import subprocess
+import tempfile
+from pathlib import Path
+
+HERE = Path(__file__).resolve().parent
+TOP = HERE.parent.parent
+COMPLETION = "share/bash-completion/completions/timeweave"
+COPIED = ("bin/timeweave", "share/man/man1/timeweave.1", COMPLETION)
+
+# The words of a command line for each form whose command isn't built.
+UNBUILT = {tuple(case["words"]) for case in json.loads((HERE / "cases/unbuilt.json").read_text())}
+
+
+def forms():
+    """The forms of the program's own table: each as its words, with None for what isn't a fixed word."""
+    source = (TOP / "crates/tw_text/src/form.rt").read_text()
+    table = source[source.index("pub fn form_named") :]
+    for parts in re.findall(r"&\[(.*?)\]", table, re.S):
+        yield [word or None for word in re.findall(r'Fixed\("(\w+)"\)|\w+', parts) if word != "Fixed"]
+
+
+def is_built(form):
+    """Whether no case of the forms that answer `usage 0` has this form's fixed words."""
+    return not any(
+        len(words) >= len(form) and all(part in (None, word) for part, word in zip(form, words)) for words in UNBUILT
+    )
+
+
+def wanted():
+    """What is to be offered: for the words before, the words that may stand next."""
+    found = {}
+    for form in filter(is_built, forms()):
+        for place, part in enumerate(form):
+            if part:
+                found.setdefault(tuple(word or "x" for word in form[:place]), set()).add(part)
+    return found
+
+
+def offered(script, before, folder):
+    """What the completion offers behind these words, in a folder that has a file `file` and a folder `folder`."""
+    words = ["timeweave", *before, ""]
+    text = 'source "$0"; COMP_WORDS=("$@"); COMP_CWORD=$(($# - 1)); _timeweave; printf "%s\\n" "${COMPREPLY[@]}"'
+    done = subprocess.run(["bash", "-c", text, script, *words], cwd=folder, capture_output=True, text=True, timeout=60)
+    return set(done.stdout.split()), done.stderr
+
+
+def completion(program):
+    """The words before which the completion offers others than the forms of the built commands have."""
+    wrong = []
+    with tempfile.TemporaryDirectory() as folder:
+        (Path(folder) / "file").touch()
+        (Path(folder) / "folder").mkdir()
+        expected = {before: words for before, words in wanted().items()}
+        expected |= {("append",): {"folder"}, ("append", "x"): {"file", "folder"}, ("verify",): {"file", "folder"}, ("frob",): set()}
+        for before, words in expected.items():
+            found, errors = offered(TOP / "tools/completion.bash", before, folder)
+            if (found, errors) != (words, ""):
+                wrong.append(f"  behind `timeweave {' '.join(before)}` wanted {sorted(words)}\n  got {sorted(found)} {errors}")
+    return "\n".join(wrong) or None
+
+
+def named_forms():
+    """The forms as the docstrings of the commands name them, by whether their commands are built."""
+    source = (TOP / "crates/tw_text/src/command.rt").read_text()
+    found = {True: set(), False: set()}
+    for form in re.findall(r"/// `(.*?)`:", source):
+        words = [word for word in re.sub(r"\[.*\]", "", form).split() if word != ".."]
+        found[is_built([word if word.islower() else None for word in words])].add(form)
+    return found
+
+
+def manual(program):
+    """The forms and statuses that the manual page lacks, and those that it has at the wrong place."""
+    text = (TOP / "docs/timeweave.1").read_text()
+    section = {part.split("\n")[0]: part for part in text.split("\n.SH ")}
+    synopsis = re.sub(r"^\.br$", "\0", section["SYNOPSIS"].partition("\n")[2], flags=re.M)
+    plain = re.sub(r"^\.[BRI]+ |\btimeweave\b", "", synopsis, flags=re.M)
+    named = {" ".join(form.split()).replace("[ ", "[").replace(" ]", "]") for form in plain.split("\0")}
+    forms = named_forms()
+    wrong = [f"  the synopsis differs in `{form}`" for form in sorted(named ^ forms[True])]
+    coming = set(section["FORMS TO COME"].split(".nf\n")[1].split("\n.fi")[0].split("\n"))
+    wrong += [f"  the forms to come differ in `{form}`" for form in sorted(coming ^ forms[False])]
+    statuses = set(re.findall(r"^\.TP\n\.B (\d)$", section["EXIT STATUS"], re.M))
+    wrong += [f"  status {status} isn't told" for status in sorted(set("0123456789") - statuses)]
+    return "\n".join(wrong) or None
+
+
+def install(program):
+    """Installs into a folder of its own, and tries what is there."""
+    with tempfile.TemporaryDirectory() as prefix:
+        command = ["make", "-s", "install", f"PREFIX={prefix}", f"PROGRAM={program}"]
+        environment = {name: value for name, value in os.environ.items() if not name.startswith(("MAKE", "MFLAGS", "DESTDIR"))}
+        done = subprocess.run(command, cwd=TOP, env=environment, capture_output=True, text=True, timeout=60)
+        files = sorted(str(path.relative_to(prefix)) for path in Path(prefix).rglob("*") if path.is_file())
+        if done.returncode or files != sorted(COPIED):
+            return f"  {' '.join(command)}\n  status {done.returncode}, files {files}\n{done.stdout}{done.stderr}"
+        ran = subprocess.run([f"{prefix}/bin/timeweave", "frob"], capture_output=True, timeout=60)
+        if (ran.returncode, ran.stdout, ran.stderr) != (2, b"usage 1\n", b""):
+            return f"  {prefix}/bin/timeweave frob\n  wanted 2 b'usage 1\\n'\n  got    {ran}"
+        found, errors = offered(f"{prefix}/{COMPLETION}", [], prefix)
+        return None if found == wanted()[()] else f"  the installed completion offers {sorted(found)} {errors}"
+
+
+def cases():
+    yield {"name": "installed: completion", "check": completion}
+    yield {"name": "installed: manual page", "check": manual}
+    yield {"name": "installed: install", "check": install}

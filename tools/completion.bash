@@ -1,0 +1,44 @@
+# Completion of the words of `timeweave` in bash. `make install` copies it to share/bash-completion/completions/timeweave;
+# `source tools/completion.bash` is enough to try it.
+#
+# The forms of the commands that are built, a line each: a word in small letters stands for itself, DIR for a folder, FILE for a
+# file, and whatever else is in capitals is typed by hand.
+_timeweave_forms=(
+    "init DIR NAME"
+    "append DIR FILE"
+    "prove DIR event STEP INDEX TOP"
+    "show FILE STEP INDEX"
+    "verify FILE FILE"
+    "verify FILE NAME POS HEX"
+)
+
+# Whether the words before the one that is completed are those of the form that is given part by part.
+_timeweave_goes_on() {
+    local parts=(timeweave "$@") i
+    ((COMP_CWORD < ${#parts[@]})) || return 1
+    for ((i = 1; i < COMP_CWORD; i++)); do
+        [[ ${parts[i]} != [[:lower:]]* || ${parts[i]} == "${COMP_WORDS[i]}" ]] || return 1
+    done
+}
+
+# Offers what may stand next in any form that goes on.
+_timeweave() {
+    local word=${COMP_WORDS[COMP_CWORD]} form parts part tried=" " offered
+    COMPREPLY=()
+    for form in "${_timeweave_forms[@]}"; do
+        read -ra parts <<< "$form"
+        _timeweave_goes_on "${parts[@]}" || continue
+        part=${parts[COMP_CWORD - 1]}
+        [[ $tried == *" $part "* ]] && continue
+        tried+="$part "
+        offered=()
+        case $part in
+            DIR) compopt -o filenames 2> /dev/null; mapfile -t offered < <(compgen -d -- "$word") ;;
+            FILE) compopt -o filenames 2> /dev/null; mapfile -t offered < <(compgen -f -- "$word") ;;
+            [[:lower:]]*) mapfile -t offered < <(compgen -W "$part" -- "$word") ;;
+        esac
+        COMPREPLY+=("${offered[@]}")
+    done
+}
+
+complete -F _timeweave timeweave
