@@ -2,8 +2,8 @@
 
     python3 tests/acceptance/run.py [PROGRAM]      `make check` calls it so
 
-The cases stand in cases/*.json, those that are counted off in generated.py, those of services in steps.py; documents.py
-checks the documents, and installed.py what `make install` copies. A case has
+The cases stand in cases/*.json, those that are counted off in generated.py, those of services in steps.py
+and failing.py; documents.py checks the documents, and installed.py what `make install` copies. A case has
 
     name       what it shows
     words      the program's arguments; $AUTH is the authenticator of step 1 of the least proof
@@ -31,9 +31,11 @@ from concurrent.futures import ThreadPoolExecutor
 from pathlib import Path
 
 import documents
+import failing
 import generated
 import installed
 import reference
+import seen
 import steps
 
 HERE = Path(__file__).resolve().parent
@@ -124,6 +126,7 @@ def difference(program, case):
             status, out, err = ran(program, words, case, room)
         except subprocess.TimeoutExpired:
             return "  it ran for longer than a minute"
+    seen.note(status, out)
     wanted = made(case["bytes"]) if "bytes" in case else case.get("stdout", "").encode()
     if (status, out, err) == (case["status"], wanted, b""):
         return None
@@ -137,6 +140,7 @@ def all_cases():
             yield {**case, "name": f"{path.stem}: {case['name']}"}
     yield from generated.cases()
     yield from steps.cases()
+    yield from failing.cases()
     yield from documents.cases()
     yield from installed.cases()
 
@@ -154,6 +158,8 @@ def main():
     cases = list(all_cases())
     with ThreadPoolExecutor(os.cpu_count()) as pool:
         found = list(pool.map(lambda case: difference(program, case), cases))
+    cases.append({"name": "each status and text that the README names is among the answers"})
+    found.append("\n".join(seen.missing()) or None)
     failed = 0
     for case, wrong in zip(cases, found):
         if wrong:

@@ -1,20 +1,17 @@
 """Acceptance cases of services over real folders: `init`, `append` and `prove DIR event` one after another, each with its output
 and the bytes of its store, which stores.py makes."""
 
-import os
 import random
-import resource
-import signal
 import subprocess
 import tempfile
 import time
 from pathlib import Path
 
 import reference
+import seen
 from stores import PAGE, Store, events_file
 
 LIMIT = 1048576
-ROOM = 8 * PAGE
 
 
 class Wrong(Exception):
@@ -39,6 +36,7 @@ class Room:
             [self.program, *words], cwd=self.folder, stdout=to, stderr=subprocess.PIPE, stdin=subprocess.DEVNULL,
             preexec_fn=limit, timeout=60,
         )
+        seen.note(done.returncode, done.stdout or b"")
         return done.returncode, done.stdout or b"", done.stderr
 
     def expect(self, words, status, output, **settings):
@@ -63,7 +61,7 @@ class Room:
         return store
 
 
-def case(work):
+def case(work, group="steps"):
     """The case of this work, which raises Wrong where the program does something else."""
 
     def check(program):
@@ -76,7 +74,7 @@ def case(work):
                 return "  it ran for longer than a minute"
         return None
 
-    return {"name": f"steps: {(work.__doc__ or work.__name__).splitlines()[0]}", "check": check}
+    return {"name": f"{group}: {(work.__doc__ or work.__name__).splitlines()[0]}", "check": check}
 
 
 def some_steps(seed, count):
@@ -253,82 +251,45 @@ def begun_again(room):
         room.expect_store(fresh)
 
 
-def failing_disks(room):
-    """a folder that isn't there, a folder in the place of the file, and a file that can't grow"""
-    room.put("e", events_file([bytes(1024)] * 60))
-    for words in ("init d a", "append d e", "prove d event 1 0"):
-        room.expect(words, 5, b"fault disk\n")
-    (room.folder / "g/timeline.tw").mkdir(parents=True)
-    for words in ("init g a", "append g e", "prove g event 1 0"):
-        room.expect(words, 5, b"fault disk\n")
-    store = room.made("room", [[b"x"]])
-
-    def limit():
-        signal.signal(signal.SIGXFSZ, signal.SIG_IGN)
-        resource.setrlimit(resource.RLIMIT_FSIZE, (ROOM, ROOM))
-
-    room.put("e", events_file([bytes(1024)] * 60))
-    room.expect("append d e", 5, b"fault disk\n", limit=limit)
-    room.expect("prove d event 1 0", 0, reference.proof_bytes(store.line, 1, 0, 1))
-    longer = Store("room", [[b"x"], [bytes(1024)] * 60])
-    room.expect("append d e", 0, longer.anchor(2))
-    room.expect_store(longer.file())
-    if os.geteuid() != 0:
-        (room.folder / "d/timeline.tw").chmod(0o444)
-        room.expect("append d e", 5, b"fault disk\n")
-
-
-def failing_outputs(room):
-    """output that can't be written: status 4, and the step stands"""
-    room.made("out", [[b"x"]])
-
-    def closed():
-        os.close(1)
-
-    for step in range(2, 5):
-        longer = Store("out", [[b"x"]] * step)
-        if step == 2:
-            found = room.run("append", "d", "e", limit=closed, to=None)
-        else:
-            with open("/dev/full", "wb") as full:
-                found = room.run("append", "d", "e", to=full)
-        if found != (4, b"", b""):
-            raise Wrong(f"  append d e, with no output: {found}")
-        room.expect_store(longer.file())
+def killed_amid(room, rand):
+    """One append, of which two of three are killed at a moment by chance; the line that it wrote."""
+    words = [room.program, "append", "d", "e"]
+    running = subprocess.Popen(words, cwd=room.folder, stdout=subprocess.PIPE, stdin=subprocess.DEVNULL)
+    if rand.randrange(3):
+        time.sleep(rand.random() * 0.004)
+        running.kill()
+    line, _ = running.communicate()
+    seen.note(running.returncode, line)
+    return line
 
 
 def stopped(room):
-    """a run that is killed amid 200 appends: each step that was told is there"""
+    """200 appends, many of which are killed amid (kill -9): each step that was told is there"""
     rand = random.Random("stopped")
     (room.folder / "d").mkdir()
     steps = [[rand.randbytes(rand.randrange(1025)) for _ in range(20)] for _ in range(201)]
     store = Store("stop", steps)
     room.expect("init d stop", 0, store.anchor(0))
-    told = 0
+    there = 0
     for _ in range(200):
-        room.put("e", events_file(steps[told]))
-        running = subprocess.Popen([room.program, "append", "d", "e"], cwd=room.folder, stdout=subprocess.PIPE, stdin=subprocess.DEVNULL)
-        if rand.randrange(3):
-            time.sleep(rand.random() * 0.004)
-            running.kill()
-        line, _ = running.communicate()
-        if line and line != store.anchor(told + 1):
-            raise Wrong(f"  step {told + 1} was told as {line!r}")
-        # (a step may stand that wasn't told; the next event of it tells)
-        status, proof, _ = room.run("prove", "d", "event", str(told + 1), "0")
-        if status == 0 and proof == reference.proof_bytes(reference.Timeline("stop", steps[: told + 1]), told + 1, 0, told + 1):
-            told += 1
+        room.put("e", events_file(steps[there]))
+        line = killed_amid(room, rand)
+        if line and line != store.anchor(there + 1):
+            raise Wrong(f"  timeweave append d e, killed amid\n  wanted {store.anchor(there + 1)!r} or nothing\n  got    {line!r}")
+        # (a step may stand that wasn't told; its proof tells)
+        status, proof, _ = room.run("prove", "d", "event", str(there + 1), "0")
+        if status == 0 and proof == reference.proof_bytes(store.line, there + 1, 0, there + 1):
+            there += 1
         elif status != 7 or line:
-            raise Wrong(f"  after step {told} a proof of the next gives {status} {proof[:60]!r}, and the line was {line!r}")
-        if told and rand.randrange(10) == 0:
-            step = rand.randrange(1, told + 1)
-            line_now = reference.Timeline("stop", steps[:told])
-            room.expect(f"prove d event {step} 19", 0, reference.proof_bytes(line_now, step, 19, told))
+            raise Wrong(f"  timeweave prove d event {there + 1} 0, after an append that wrote {line!r}\n  got    {status} {proof[:60]!r}")
+    for step in range(1, there + 1):
+        for index in (0, 19):
+            room.expect(f"prove d event {step} {index}", 0, reference.proof_bytes(store.line, step, index, there))
 
 
 def cases():
     works = (
         each_store, accepted_by_verify, full_steps, two_services, refusals, bad_events_files, longest_events_files, no_stores,
-        begun_again, failing_disks, failing_outputs, stopped,
+        begun_again, stopped,
     )
     return [case(work) for work in works]
