@@ -1,9 +1,11 @@
 """The documents say what is so: each link leads to a file and a heading, the README's tutorial gives the output that it shows,
-and each clause that the README cites stands in the contract of the function beside it."""
+each clause that the README cites stands in the contract of the function beside it, pictures are those of their data, and tables
+name each crate."""
 
 import os
 import re
 import subprocess
+import sys
 from pathlib import Path
 
 TOP = Path(__file__).resolve().parent.parent.parent
@@ -92,7 +94,29 @@ def claims(program):
     return "\n".join(wrong) or None
 
 
+def pictures(program):
+    """The documents whose pictures aren't those of their data."""
+    ran = subprocess.run([sys.executable, TOP / "tools/pictures.py", "--check"], capture_output=True, text=True, timeout=60)
+    return f"  python3 tools/pictures.py --check\n{ran.stdout}{ran.stderr}" if ran.returncode else None
+
+
+def tables(program):
+    """The crates that a table or the picture of the crates leaves out, or has beyond crates.txt."""
+    known = set(re.findall(r"^(\w+)[\w ]*:", (TOP / "crates.txt").read_text(), re.M))
+    readme = (TOP / "README.md").read_text().split("\n## The crates\n")[1].split("\n## ")[0]
+    picture, table = (TOP / "docs/architecture.md").read_text().split("\n## The crates\n")[1].split("\n## ")[0].split("\n| crate |")
+    found = {
+        "the README's table": set(re.findall(r"^\| `(\w+)` \|", readme, re.M)),
+        "the table of docs/architecture.md": set(re.findall(r"^\| `(\w+)` \|", table, re.M)),
+        "the picture of docs/architecture.md": set(re.findall(r"\btw_\w+|\btimeweave\b", picture)),
+    }
+    wrong = [f"  {place} differs in {', '.join(sorted(names ^ known))}" for place, names in found.items() if names != known]
+    return "\n".join(wrong) or None
+
+
 def cases():
     yield {"name": "documents: links", "check": links}
     yield {"name": "documents: tutorial", "check": tutorial}
     yield {"name": "documents: claims", "check": claims}
+    yield {"name": "documents: pictures", "check": pictures}
+    yield {"name": "documents: tables of crates", "check": tables}

@@ -1,0 +1,193 @@
+"""Draws the pictures of the documents that show data, from crates.txt and from the reference of the acceptance run.
+
+    python3 tools/pictures.py           writes them anew into docs/*.md
+    python3 tools/pictures.py --check   tells those that differ, and writes nothing
+
+Each stands between the lines `<!-- picture NAME, by tools/pictures.py -->` and `<!-- end of picture -->`.
+"""
+
+import re
+import sys
+from pathlib import Path
+
+TOP = Path(__file__).resolve().parent.parent
+sys.path.insert(0, str(TOP / "tests/acceptance"))
+
+import reference  # noqa: E402
+from stores import PAGE, Store  # noqa: E402
+
+# The history that the tutorial shows: thirteen steps of three events each.
+SHOP = reference.Timeline("shop", [[f"order {step}.{k}".encode() for k in range(3)] for step in range(1, 14)])
+
+
+def short(digest):
+    """The first four bytes of a digest."""
+    return digest[:4].hex()
+
+
+# ---- the crates
+
+
+def crates():
+    """Each crate with those of this repository that it stands on."""
+    lines = [line.split(":") for line in (TOP / "crates.txt").read_text().splitlines() if not line.startswith("#")]
+    names = {name.split()[0] for name, _ in lines}
+    return {name.split()[0]: [below for below in uses.split() if below in names] for name, uses in lines}
+
+
+def height(name, known):
+    """How many crates the longest chain down from a crate has."""
+    return 1 + max((height(below, known) for below in known[name]), default=0)
+
+
+def below_all(name, known):
+    """The crates that a crate reaches."""
+    return {reached for below in known[name] for reached in {below} | below_all(below, known)}
+
+
+def heights():
+    """The crates by their height, each beside those right below it: the ones that none of the others reaches."""
+    known = crates()
+    by_height = {}
+    for name in known:
+        by_height.setdefault(height(name, known), []).append(name)
+    lines = []
+    for level in sorted(by_height, reverse=True):
+        for place, name in enumerate(sorted(by_height[level])):
+            right_below = [x for x in known[name] if not any(x in below_all(y, known) for y in known[name])]
+            label = f"{level:2}" if place == 0 else "  "
+            lines.append(f"{label}  {name:<13} {'──> ' + ', '.join(sorted(right_below)) if right_below else ''}".rstrip())
+    return lines
+
+
+# ---- a step, the links, a tree of events
+
+
+def step():
+    """What the authenticator of step 12 is made of."""
+    root, datum, labels = reference.event_root(SHOP.events(12)), SHOP.datum(12), SHOP.labels(12)
+    links = [f"link 12 -> {12 - 2**level:2}, level {level}: {short(label)}" for level, label in enumerate(labels)]
+    return [
+        f" three events ──> event root {short(root)} ─┐                   ┌─> {links[0]} ─┐",
+        f" no archive ────> its label  {short(reference.EMPTY_TREE)} ─┼─> datum {short(datum)} ─┼─> {links[1]} ─┼─> authenticator {short(SHOP.auths[12])}",
+        f" their count, 3 ───────────────────────┘                   └─> {links[2]} ─┘",
+        "",
+        *[f" and the link to step {12 - 2**level:2} is over its authenticator, {short(SHOP.auths[12 - 2**level])}" for level in range(3)],
+    ]
+
+
+def links():
+    """Each step with the steps that its links lead to, and its authenticator."""
+    lines = ["step   links of level 0, 1, 2, ..  lead to     authenticator"]
+    for number in range(14):
+        levels = range(reference.top_level(number) + 1) if number else ()
+        leads = "".join(f"{number - 2**level:4}" for level in levels)
+        lines.append(f"{number:4}   {leads:<40}{short(SHOP.auths[number])}")
+    return lines
+
+
+def tree():
+    """The tree of five events, with the labels' first bytes, and the audit paths of two of them."""
+    events = [f"event {k}".encode() for k in range(5)]
+    leaf = [short(reference.event_root([event])) for event in events]
+    node = [short(reference.event_root(events[a:b])) for a, b in ((0, 2), (2, 4), (0, 4), (0, 5))]
+    paths = [", ".join(short(label) for label in reference.event_path(events, k)) for k in (2, 4)]
+    return [
+        f"                         {node[3]}                      the event root",
+        "                        /         \\",
+        f"             {node[2]}             {leaf[4]}        a node: the digest of 01, left label, right label",
+        "            /        \\",
+        f"     {node[0]}          {node[1]}",
+        "      /    \\            /    \\",
+        f"{leaf[0]} {leaf[1]}  {leaf[2]} {leaf[3]}              a leaf: the digest of 00, event",
+        "",
+        f"the path of event 2: {paths[0]}; of event 4: {paths[1]}",
+    ]
+
+
+# ---- bytes
+
+
+def shown(part):
+    """The bytes of a field: of a long one the first eight, of a long one of equal bytes the first."""
+    if len(part) <= 8:
+        return part.hex(" ")
+    return (part[:1] if len(set(part)) == 1 else part[:8]).hex(" ") + " .."
+
+
+def dumped(data, fields):
+    """The bytes of the fields, each (size, what it is): place, bytes, size and meaning; and how many bytes they have."""
+    lines, at = [], 0
+    for size, meaning in fields:
+        lines.append(f"{at:4}  {shown(data[at : at + size]):<27}{size:4}  {meaning}")
+        at += size
+    return lines, at
+
+
+def proof():
+    """The least proof, byte by byte."""
+    data = (TOP / "crates/timeweave/data/p").read_bytes()
+    lines, at = dumped(data, [
+        (4, "TWP1"), (1, "kind 1"), (16, "the service a"), (8, "step 1"), (8, "top 1; the path from 1 to 1 has no bytes"),
+        (32, "opening: event root"), (32, "archive label, of the empty archive"), (4, "count of events"),
+        (32, "authenticator of step 0; no labels, since 1 is odd"), (4, "event part: index 0"),
+        (4, "size 0; no bytes of the event, and no path"),
+    ])
+    assert at == len(data)
+    return lines
+
+
+def pages():
+    """The event page and the step page of a step 2, byte by byte."""
+    store = Store("shop", [[b"first"], [b"bread", b"milk"]])
+    first = store.step_pages[2] - 1
+    lines = [f"page {first}, the event page of step 2"]
+    more, _ = dumped(store.pages[first - 4], [
+        (1, "2, an event page"), (8, "step 2"), (2, "its page 0"), (4, "the stream: a length"), (5, "bread"), (4, "a length"), (4, "milk"),
+        (PAGE - 28, "zeros"),
+    ])
+    lines += more + ["", f"page {first + 1}, the step page of step 2"]
+    more, at = dumped(store.pages[first - 3], [
+        (1, "1, a step page"), (8, "step 2"), (1, "1, a step of events"), (4, "two events"), (4, "their stream has 17 bytes"),
+        (8, f"first event page, {first}"), (32, "event root"), (32, "archive label"), (64, "zeros"), (32, "authenticator of step 2"),
+        (1, "two links"), (8, f"level 0: step 1, page {store.step_pages[1]}"), (32, "its authenticator"), (8, "level 1: step 0, which has no page"),
+        (32, "its authenticator"), (PAGE - 267, "zeros"),
+    ])
+    assert at == PAGE
+    return lines + more
+
+
+PICTURES = {"heights": heights, "step": step, "links": links, "tree": tree, "proof": proof, "pages": pages}
+
+
+def drawn(text):
+    """The document with its pictures drawn anew."""
+
+    def picture(match):
+        return f"{match[1]}```\n{chr(10).join(PICTURES[match[2]]())}\n```\n{match[3]}"
+
+    return re.sub(r"(<!-- picture (\w+), by tools/pictures.py -->\n).*?(<!-- end of picture -->)", picture, text, flags=re.S)
+
+
+def differing():
+    """The documents of which a picture isn't as it is drawn, and the pictures that stand in none."""
+    wrong, left = [], set(PICTURES)
+    for path in sorted((TOP / "docs").glob("*.md")):
+        text = path.read_text()
+        left -= set(re.findall(r"<!-- picture (\w+),", text))
+        if drawn(text) != text:
+            wrong.append(f"docs/{path.name}")
+    return wrong + [f"no document has the picture {name}" for name in sorted(left)]
+
+
+def main():
+    if sys.argv[1:] == ["--check"]:
+        print("\n".join(differing()))
+        return 1 if differing() else 0
+    for path in sorted((TOP / "docs").glob("*.md")):
+        path.write_text(drawn(path.read_text()))
+    return 0
+
+
+if __name__ == "__main__":
+    sys.exit(main())
