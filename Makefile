@@ -36,7 +36,7 @@ check: | $(PROGRAM)
 $(PROGRAM):
 	$(MAKE) build
 
-# Measures the built program, and writes bench/RESULTS.md.
+# Measures the built program beside other programs, prints what it found, and writes bench/RESULTS.md and its picture.
 bench: | $(PROGRAM)
 	python3 bench/measure.py $(PROGRAM)
 

@@ -1,97 +1,170 @@
-"""Measures the built program, and writes bench/RESULTS.md.
+"""Measures the built program, prints what it found, and writes bench/RESULTS.md and bench/RESULTS.svg.
 
-    python3 bench/measure.py [PROGRAM]      `make bench` calls it so
+    python3 bench/measure.py [PROGRAM]                  `make bench` calls it so
+    python3 bench/measure.py PROGRAM --try FOLDER       a few runs on small stores, to try the script; writes into the folder
 
-Times are of whole commands, each the best of many runs that take turns with those of /bin/true; only their ratio is worth
-anything on another machine. Instructions are counted by valgrind's callgrind, where it is installed.
+Times are of whole commands, each the best of many runs that take turns in one go; only their ratio is worth anything on another
+machine. What isn't installed is left out, and the page says so: sqlite3, git, openssl, strace, valgrind and a C compiler.
 """
 
 import os
 import platform
-import re
 import shutil
-import subprocess
 import sys
 import tempfile
-import time
 from pathlib import Path
 
-TOP = Path(__file__).resolve().parent.parent
+HERE = Path(__file__).resolve().parent
+TOP = HERE.parent
 sys.path.insert(0, str(TOP / "tests/acceptance"))
 
+import calls  # noqa: E402
 import reference  # noqa: E402
+from instructions import counted  # noqa: E402
+from picture import bars  # noqa: E402
+from rivals import all_rivals  # noqa: E402
 from stores import Store, events_file  # noqa: E402
+from timing import best_times  # noqa: E402
 
-RUNS = 3000
-COMPRESS = "sha2::block256::compress"
-
-
-def seconds(words, null):
-    """One run of a command, its output thrown away."""
-    begun = time.perf_counter()
-    child = os.posix_spawn(words[0], words, os.environ, file_actions=[(os.POSIX_SPAWN_DUP2, null, 1)])
-    _, status = os.waitpid(child, 0)
-    took = time.perf_counter() - begun
-    if status:
-        sys.exit(f"{' '.join(words)} ended with status {os.waitstatus_to_exitcode(status)}")
-    return took
+FRONT = 4 * 4096
+TRUE = "/bin/true"
+STEP, INDEX, TOP_STEP = 1, 777, 2**21 - 1
+DEEP_EVENTS = [reference.be(k, 2) for k in range(1024)]
 
 
-def best_times(*commands):
-    """The best time of each command, of runs that take turns."""
-    null = os.open("/dev/null", os.O_WRONLY)
-    best = [float("inf")] * len(commands)
-    for _ in range(RUNS):
-        for i, words in enumerate(commands):
-            best[i] = min(best[i], seconds(words, null))
-    os.close(null)
-    return best
+class Plan:
+    """How much is measured."""
+
+    def __init__(self, is_trial):
+        self.runs = 3 if is_trial else 1000
+        self.appends = 3 if is_trial else 100
+        self.shows = 1 if is_trial else 5
+        self.stores = (1_000,) if is_trial else (1_000, 10_000, 65_535, 100_000)
+        self.compared = 1_000 if is_trial else 10_000
+        self.histories = (1,) if is_trial else (1, 4, 16, 64)
+        self.counted = self.histories[-1] if is_trial else 16
 
 
-def counted(words, folder):
-    """The instructions of a run: of all, of the program's own code without the loader and the C library, inside the
-    compression function of SHA-256, and how often that was called."""
-    out = f"{folder}/callgrind"
-    subprocess.run(
-        ["valgrind", "--tool=callgrind", "--compress-strings=no", "--compress-pos=no", f"--callgrind-out-file={out}", *words],
-        check=True, capture_output=True,
-    )
-    total = own = inside = calls = 0
-    function = called = object_ = ""
-    is_call_cost = False
-    for line in Path(out).read_text().splitlines():
-        key, _, value = line.partition("=")
-        if key == "fn":
-            function = value
-        elif key == "ob":
-            object_ = value
-        elif key == "cfn":
-            called = value
-        elif key == "calls":
-            calls += int(value.split()[0]) if COMPRESS in called else 0
-            is_call_cost = True
-        elif re.match(r"\+?\d+ \d+$|0x[0-9a-f]+ \d+$", line):
-            cost = int(line.split()[1])
-            # (the line after `calls` is what the called function and all below it cost)
-            if not is_call_cost:
-                total += cost
-                own += cost if object_ == os.path.realpath(words[0]) else 0
-                inside += cost if COMPRESS in function else 0
-            is_call_cost = False
-    return total, own, inside, calls
+class Kept:
+    """A store of so many steps of one event each, in a folder of its own, that is put back as it was before each append."""
+
+    def __init__(self, folder, count):
+        self.count = count
+        self.folder = f"{folder}/s{count}"
+        self.path = f"{self.folder}/timeline.tw"
+        self.data = Store("bench", [[reference.be(step, 8)] for step in range(1, count + 1)]).file()
+        os.makedirs(self.folder, exist_ok=True)
+        Path(self.path).write_bytes(self.data)
+
+    def put_back(self):
+        """Only its front and its end change with an append."""
+        with open(self.path, "r+b") as file:
+            file.write(self.data[:FRONT])
+            file.truncate(len(self.data))
+            os.fsync(file.fileno())
 
 
-def blocks(sizes):
-    """How many blocks of 64 bytes SHA-256 has for texts of these sizes."""
-    return sum((size + 9 + 63) // 64 for size in sizes)
+class Bench:
+    """The program, the folder that it is measured in, and the files there."""
+
+    def __init__(self, program, folder, plan):
+        self.program, self.folder, self.plan = program, folder, plan
+        can_trace = shutil.which("strace") and shutil.which("cc")
+        self.calls = calls.built(folder) if can_trace else None
+        self.events = f"{folder}/events"
+        Path(self.events).write_bytes(events_file([b"bench"]))
+        least = reference.Timeline("a", [[b""]])
+        deep, auth = reference.deep_proof("deep", STEP, INDEX, TOP_STEP, DEEP_EVENTS, b"bench")
+        self.least = self.verify("least", reference.proof_bytes(least, 1, 0, 1), "a", 1, least.auths[1])
+        self.deep = self.verify("deep", deep, "deep", TOP_STEP, auth)
+
+    def verify(self, name, data, service, top, auth):
+        path = f"{self.folder}/{name}"
+        Path(path).write_bytes(data)
+        return [self.program, "verify", path, service, str(top), auth.hex()]
+
+    def prove(self, store, step):
+        return [self.program, "prove", store.folder, "event", str(step), "0"]
+
+    def append(self, store):
+        return [self.program, "append", store.folder, self.events]
+
+    def same_calls(self, label, words, store=None):
+        """The row of the same calls in C, where they can be traced."""
+        if not self.calls:
+            return []
+        row = (label, calls.same_calls(self.calls, words, self.folder), "calls")
+        if store:
+            store.put_back()
+        return [row]
+
+    def pages(self, words):
+        return calls.pages_read(words, self.folder) if self.calls else "?"
 
 
-def text_sizes(step, index, top, events):
-    """The sizes of the texts that checking the proof hashes, each once."""
-    levels = [reference.top_level(start) for start in reference.greedy_steps(top, step)[:-1]]
-    links = [size for level in levels for size in (74, 10 + 32 * (level + 1))]
-    opening = [69, 74, 10 + 32 * (reference.top_level(step) + 1)]
-    return opening + links + [1 + len(events[index])] + [65] * reference.path_length(len(events), index)
+def microseconds(time):
+    return f"{time * 1e6:,.0f}"
+
+
+def size_of(words):
+    return f"{os.path.getsize(words[2]):,} bytes"
+
+
+def compared(bench, title, rows, runs, before=lambda: None):
+    """The rows of label, command and kind as lines of a table, and as a group of the picture."""
+    rows = [(f"`{TRUE}`", [TRUE], "nothing"), *rows]
+    best = best_times([words for _, words, _ in rows], runs, before)
+    lines = [f"| {label} | {microseconds(time)} | {time / best[0]:.2f} |" for (label, _, _), time in zip(rows, best)]
+    text = ["", f"**{title}**", "", f"| command | best of {runs:,} runs, in microseconds | ratio to `{TRUE}` |", "|---|---|---|", *lines]
+    return text, (title, [(label.replace("`", ""), time / best[0], kind) for (label, _, kind), time in zip(rows, best)])
+
+
+def comparisons(bench):
+    """`verify`, `prove` and `append` beside nothing, beside the same calls in C, and beside other programs."""
+    plan, store = bench.plan, Kept(bench.folder, bench.plan.compared)
+    rivals, missing = all_rivals(bench.folder, plan.compared)
+    beside = {kind: [(label, words, "other") for label, words in rows] for kind, rows in rivals.items()}
+    prove, append = bench.prove(store, 1), bench.append(store)
+    wanted = [
+        ("verify", [
+            *bench.same_calls(f"the calls of `verify`, {size_of(bench.deep)}", bench.deep),
+            (f"`timeweave verify`, {size_of(bench.least)}", bench.least, "own"),
+            (f"`timeweave verify`, {size_of(bench.deep)}", bench.deep, "own"),
+        ], plan.runs, lambda: None),
+        ("prove", [*bench.same_calls("the calls of `prove`", prove), ("`timeweave prove`, step 1", prove, "own")], plan.runs, lambda: None),
+        ("append", [*bench.same_calls("the calls of `append`", append, store), ("`timeweave append`", append, "own")], plan.appends, store.put_back),
+    ]
+    text, groups = [], []
+    for title, rows, runs, before in wanted:
+        lines, group = compared(bench, title, rows + beside[title], runs, before)
+        text += lines
+        groups.append(group)
+    missing += [name for name in ("strace", "cc") if not shutil.which(name)]
+    if missing:
+        text += ["", f"Not installed, so that what needs them isn't measured: {', '.join(missing)}."]
+    return text, groups
+
+
+def store_tables(bench):
+    """What `prove` and `append` cost on stores of several sizes."""
+    proofs, appends = [], []
+    for count in bench.plan.stores:
+        store = Kept(bench.folder, count)
+        for step in (1, count):
+            prove = bench.prove(store, step)
+            nothing, took = best_times([[TRUE], prove], bench.plan.runs)
+            proofs.append(f"| {count:,} | {step:,} | {bench.pages(prove)} | {microseconds(took)} | {took / nothing:.2f} |")
+        rows = [*bench.same_calls("", bench.append(store), store), ("", bench.append(store), "")]
+        *alone, took = best_times([words for _, words, _ in rows], bench.plan.appends, store.put_back)
+        ratios = f"{microseconds(alone[0])} | {microseconds(took)} | {took / alone[0]:.2f}" if alone else f"? | {microseconds(took)} | ?"
+        appends.append(f"| {count:,} | {ratios} |")
+    return [
+        "", "`prove DIR event STEP 0`, on stores of steps of one event each; pages read are those of the opening too, four of them:", "",
+        f"| steps | step | pages read | best of {bench.plan.runs:,} runs, in microseconds | ratio to `{TRUE}` |", "|---|---|---|---|---|", *proofs,
+        "", "`append` of one event, beside a program in C that makes the same calls on files (`same_calls.c`):", "",
+        f"| steps before | the calls alone, best of {bench.plan.appends}, in microseconds | `append`, the same | ratio |", "|---|---|---|---|",
+        *appends,
+    ]
 
 
 def history_file(path, size, per_step):
@@ -105,149 +178,84 @@ def history_file(path, size, per_step):
     return count
 
 
-def shown_rows(program, folder):
-    """How long `show` takes on histories of 1 to 64 MiB, and its instructions beside those of the hashes."""
-    null = os.open("/dev/null", os.O_WRONLY)
-    times, counts = [], []
+def shown_tables(bench):
+    """How long `show` takes on histories of several sizes, and its instructions beside those of the hashes."""
+    times, counts, path = [], [], f"{bench.folder}/history"
+    words = [bench.program, "show", path, "1", "0"]
     for per_step in (300, 1):
-        for size in (1, 4, 16, 64):
-            path = f"{folder}/history"
+        for size in bench.plan.histories:
             steps = history_file(path, size * 2**20, per_step)
-            words = [program, "show", path, "1", "0"]
-            took = min(seconds(words, null) for _ in range(5))
+            took, = best_times([words], bench.plan.shows)
             times.append(f"| {size} | {per_step} | {steps:,} | {took * 1e3:.1f} | {took * 1e3 / size:.2f} |")
-            if size == 16 and shutil.which("valgrind"):
-                total, own, inside, calls = counted(words, folder)
-                counts.append(
-                    f"| {per_step} | {calls:,} | {inside:,} | {own:,} | {own / inside:.2f} | {total:,} | {total / inside:.2f} |"
-                )
-    os.close(null)
-    return times, counts
+            if size == bench.plan.counted and shutil.which("valgrind"):
+                total, own, inside, blocks = counted(words, bench.folder)
+                ratios = [f"{part / inside:.2f}" if inside else "?" for part in (own, total)]
+                counts.append(f"| {per_step} | {blocks:,} | {inside:,} | {own:,} | {ratios[0]} | {total:,} | {ratios[1]} |")
+    text = [
+        "", "`show HISTORY 1 0` on histories of events of 200 bytes:", "",
+        f"| MiB | events a step | steps | best of {bench.plan.shows} runs, in milliseconds | a MiB |", "|---|---|---|---|---|", *times,
+    ]
+    if counts:
+        text += [
+            "", f"The same on {bench.plan.counted} MiB, in instructions:", "",
+            "| events a step | blocks hashed | inside the compression function | the program's own code | ratio | in all | ratio |",
+            "|---|---|---|---|---|---|---|", *counts,
+        ]
+    return text
 
 
-def counted_reads(words):
-    """How many pages the command reads of the store, as strace sees them; the store is the only file read by whole pages."""
-    traced = subprocess.run(["strace", "-e", "trace=read", *words], capture_output=True, check=True).stderr
-    return len(re.findall(rb"= 4096$", traced, re.M))
+def text_sizes(step, index, top, events):
+    """The sizes of the texts that checking the proof hashes, each once."""
+    levels = [reference.top_level(start) for start in reference.greedy_steps(top, step)[:-1]]
+    links = [size for level in levels for size in (74, 10 + 32 * (level + 1))]
+    opening = [69, 74, 10 + 32 * (reference.top_level(step) + 1)]
+    return opening + links + [1 + len(events[index])] + [65] * reference.path_length(len(events), index)
 
 
-def service_rows(program, folder):
-    """What `prove` and `append` cost on stores of 1,000 to 100,000 steps of one event each."""
-    null = os.open("/dev/null", os.O_WRONLY)
-    calls = f"{folder}/append_calls"
-    subprocess.run(["cc", "-O2", "-o", calls, TOP / "bench/append_calls.c"], check=True)
-    events = f"{folder}/events"
-    Path(events).write_bytes(events_file([b"bench"]))
-    proofs, appends = [], []
-    for count in (1_000, 10_000, 65_535, 100_000):
-        steps = [[reference.be(step, 8)] for step in range(1, count + 1)]
-        store = Store("bench", steps)
-        data = store.file()
-        os.makedirs(f"{folder}/s{count}", exist_ok=True)
-        path = f"{folder}/s{count}/timeline.tw"
-        Path(path).write_bytes(data)
-        for step in (1, count):
-            prove = [program, "prove", f"{folder}/s{count}", "event", str(step), "0"]
-            nothing, took = best_times(["/bin/true"], prove)
-            pages = counted_reads(prove) if shutil.which("strace") else "?"
-            proofs.append(f"| {count:,} | {step:,} | {pages} | {took * 1e6:.0f} | {took / nothing:.2f} |")
-        # (the link at a level from 1 on is found in the page of the step half as far below)
-        places = [str(store.step_pages[count + 1 - 2**level]) for level in range(reference.top_level(count + 1))]
-        append = [program, "append", f"{folder}/s{count}", events]
-        alone = [calls, path, events, "2", *places]
-        best = [float("inf")] * 2
-        for _ in range(100):
-            for i, words in enumerate((alone, append)):
-                # (the next append needs the store as it was; only its front and its end change)
-                with open(path, "r+b") as file:
-                    file.write(data[: 4 * 4096])
-                    file.truncate(len(data))
-                    os.fsync(file.fileno())
-                best[i] = min(best[i], seconds(words, null))
-        appends.append(f"| {count:,} | {best[0] * 1e6:.0f} | {best[1] * 1e6:.0f} | {best[1] / best[0]:.2f} |")
-    os.close(null)
-    return proofs, appends
+def instruction_table(bench):
+    """The instructions of `verify` on the deep proof, beside those inside the hashes."""
+    if not shutil.which("valgrind"):
+        return ["", "Instructions weren't counted: valgrind isn't installed."]
+    total, own, inside, blocks = counted(bench.deep, bench.folder)
+    # (SHA-256 hashes blocks of 64 bytes, of which the last has a byte and the length beside the text)
+    wanted = sum((size + 9 + 63) // 64 for size in text_sizes(STEP, INDEX, TOP_STEP, DEEP_EVENTS))
+    ratios = [f"{part / inside:.2f}" if inside else "?" for part in (own, total)]
+    return [
+        "", "| `verify` of the deep proof | instructions | ratio to the hashes |", "|---|---|---|",
+        f"| inside the compression function of SHA-256, {blocks:,} blocks | {inside:,} | 1.00 |",
+        f"| in the program's own code | {own:,} | {ratios[0]} |",
+        f"| in all, with the loader and the C library | {total:,} | {ratios[1]} |",
+        "",
+        "The hashes alone are what callgrind counts inside the compression function during that very run; no other program",
+        f"is measured for it. The texts that checking this proof hashes, each once, have {wanted:,} blocks.",
+    ]
+
+
+def introduction(plan):
+    return [
+        "# Measured", "",
+        f"By `make bench`, on {platform.machine()} with {os.cpu_count()} processors, {platform.system()}. Each command's best time of many",
+        "runs that took turns; ratios are to `/bin/true`, which is what starting a program takes.",
+        f"The longer proof has a path of 40 links, from step {TOP_STEP:,} to step {STEP}, and is of one of 1,024 events. The store of `prove` and",
+        f"`append` has {plan.compared:,} steps of one event each; the table and the repository beside it have as many rows and commits. What",
+        "these and a time stamp give is not what a proof gives (`rivals.py` says what each does); they tell how long commands take that are",
+        "known. The same calls in C are those on files that `strace` sees, made by `same_calls.c`.", "",
+        "![each command's time as a ratio to /bin/true](RESULTS.svg)",
+    ]
 
 
 def main():
+    is_trial = "--try" in sys.argv
     program = os.path.realpath(sys.argv[1] if len(sys.argv) > 1 else TOP / "crates/timeweave/out/timeweave")
-    least = reference.Timeline("a", [[b""]])
-    events = [reference.be(k, 2) for k in range(1024)]
-    step, index, top = 1, 777, 2**21 - 1
-    proof, auth = reference.deep_proof("deep", step, index, top, events, b"bench")
+    target = Path(sys.argv[3]) if is_trial else HERE
+    plan = Plan(is_trial)
     with tempfile.TemporaryDirectory() as folder:
-        small, deep = f"{folder}/least", f"{folder}/deep"
-        Path(small).write_bytes(reference.proof_bytes(least, 1, 0, 1))
-        Path(deep).write_bytes(proof)
-        verify_least = [program, "verify", small, "a", "1", least.auths[1].hex()]
-        verify_deep = [program, "verify", deep, "deep", str(top), auth.hex()]
-        nothing, little, much = best_times(["/bin/true"], verify_least, verify_deep)
-        rows = [
-            f"| `/bin/true` | {nothing * 1e6:.0f} | 1.00 |",
-            f"| `verify` of the least proof, {os.path.getsize(small)} bytes | {little * 1e6:.0f} | {little / nothing:.2f} |",
-            f"| `verify` of the deep proof, {os.path.getsize(deep):,} bytes | {much * 1e6:.0f} | {much / nothing:.2f} |",
-        ]
-        text = [
-            "# Measured",
-            "",
-            f"By `make bench`, on {platform.machine()} with {os.cpu_count()} processors, {platform.system()}.",
-            "The deep proof has a path of 40 links, from step 2,097,151 to step 1, and is of one of 1,024 events.",
-            "",
-            f"| command | best of {RUNS:,} runs, in microseconds | ratio |",
-            "|---|---|---|",
-            *rows,
-        ]
-        proofs, appends = service_rows(program, folder)
-        text += [
-            "",
-            "`prove DIR event STEP 0`, on stores of steps of one event each; pages read are those of the opening too, four of them:",
-            "",
-            "| steps | step | pages read | best of 3,000 runs, in microseconds | ratio to `/bin/true` |",
-            "|---|---|---|---|---|",
-            *proofs,
-            "",
-            "`append` of one event, beside a program in C that makes the same system calls (`append_calls.c`):",
-            "",
-            "| steps before | the calls alone, best of 100, in microseconds | `append`, the same | ratio |",
-            "|---|---|---|---|",
-            *appends,
-        ]
-        times, counts = shown_rows(program, folder)
-        text += [
-            "",
-            "`show HISTORY 1 0` on histories of events of 200 bytes:",
-            "",
-            "| MiB | events a step | steps | best of 5 runs, in milliseconds | a MiB |",
-            "|---|---|---|---|---|",
-            *times,
-        ]
-        if counts:
-            text += [
-                "",
-                "The same on 16 MiB, in instructions:",
-                "",
-                "| events a step | blocks hashed | inside the compression function | the program's own code | ratio | in all | ratio |",
-                "|---|---|---|---|---|---|---|",
-                *counts,
-            ]
-        if shutil.which("valgrind"):
-            total, own, inside, calls = counted(verify_deep, folder)
-            wanted = blocks(text_sizes(step, index, top, events))
-            text += [
-                "",
-                "| `verify` of the deep proof | instructions | ratio to the hashes |",
-                "|---|---|---|",
-                f"| inside the compression function of SHA-256, {calls:,} blocks | {inside:,} | 1.00 |",
-                f"| in the program's own code | {own:,} | {own / inside:.2f} |",
-                f"| in all, with the loader and the C library | {total:,} | {total / inside:.2f} |",
-                "",
-                "The hashes alone are what callgrind counts inside the compression function during that very run; no other program",
-                f"is measured for it. The texts that checking this proof hashes, each once, have {wanted:,} blocks.",
-            ]
-        else:
-            text += ["", "Instructions weren't counted: valgrind isn't installed."]
+        bench = Bench(program, folder, plan)
+        text, groups = comparisons(bench)
+        text = introduction(plan) + text + store_tables(bench) + shown_tables(bench) + instruction_table(bench)
     result = "\n".join(text) + "\n"
-    (TOP / "bench/RESULTS.md").write_text(result)
+    (target / "RESULTS.md").write_text(result)
+    (target / "RESULTS.svg").write_text(bars(groups))
     print(result, end="")
 
 
