@@ -3,7 +3,8 @@
     python3 tests/acceptance/run.py [PROGRAM]      `make check` calls it so
 
 The cases stand in cases/*.json, those that are counted off in generated.py, those of services in steps.py
-and failing.py; documents.py checks the documents, and installed.py what `make install` copies. A case has
+and failing.py; documents.py checks the documents, installed.py what `make install` copies, and sources.py the sources. A case
+has
 
     name       what it shows
     words      the program's arguments; $AUTH is the authenticator of step 1 of the least proof
@@ -36,6 +37,7 @@ import generated
 import installed
 import reference
 import seen
+import sources
 import steps
 
 HERE = Path(__file__).resolve().parent
@@ -143,6 +145,7 @@ def all_cases():
     yield from failing.cases()
     yield from documents.cases()
     yield from installed.cases()
+    yield from sources.cases()
 
 
 def main():

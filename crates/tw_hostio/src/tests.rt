@@ -6,8 +6,12 @@ use tw_base::Failed;
 use tw_disk::Disk;
 use tw_outside::{Inputs, Sink};
 
-// A folder of the tests' own, made anew.
-const FOLDER: &str = "tw_hostio_test";
+// Makes this folder of a test's own anew.
+fn make_folder<R: Files + Alloc>(rt: &R, folder: &str) -> Result<(), Fail> {
+    let _ = fs::remove_dir_all(rt, folder);
+    fs::create_dir(rt, folder)?;
+    Ok(())
+}
 
 // Writes a page full of this byte, and tells whether that went well.
 fn put<D: Disk>(disk: &mut D, page: u64, byte: u8) -> Result<(), Failed> {
@@ -39,9 +43,8 @@ fn size_of<R: Files>(rt: &R, path: &str) -> Option<u64> {
 
 #[test]
 fn a_disk_lies_in_its_file(rt: HostRuntime) -> Result<(), Fail> {
-    let _ = fs::remove_dir_all(&rt, FOLDER);
-    fs::create_dir(&rt, FOLDER)?;
     let path = "tw_hostio_test/disk";
+    make_folder(&rt, "tw_hostio_test")?;
 
     // made by the first call, and not before
     let mut disk = FileDisk::new(&rt, path);
@@ -59,7 +62,24 @@ fn a_disk_lies_in_its_file(rt: HostRuntime) -> Result<(), Fail> {
     assert_eq!(rt; bytes_at(&mut disk, 3)?, None);
     assert_eq!(rt; size_of(&rt, path), Some(3 * 4096));
 
-    // opened again it is the same; the bytes of half a page at its end are no page, and are written over
+    // no folder, no file
+    let mut nowhere = FileDisk::new(&rt, "tw_hostio_test/nowhere/disk");
+    assert_eq!(rt; nowhere.pages(), Err(Failed));
+    assert_eq!(rt; nowhere.barrier(), Err(Failed));
+    fs::remove_dir_all(&rt, "tw_hostio_test")?;
+    Ok(())
+}
+
+#[test]
+fn a_file_that_changed_is_opened_again(rt: HostRuntime) -> Result<(), Fail> {
+    let path = "tw_hostio_test_again/disk";
+    make_folder(&rt, "tw_hostio_test_again")?;
+    let mut disk = FileDisk::new(&rt, path);
+    put(&mut disk, 0, 5)?;
+    put(&mut disk, 1, 6)?;
+    put(&mut disk, 2, 7)?;
+
+    // the bytes of half a page at its end are no page, and are written over
     fs::write(&rt, path, [9; 4096 + 100].as_slice())?;
     let mut again = FileDisk::new(&rt, path);
     assert_eq!(rt; again.pages()?, 1);
@@ -72,23 +92,26 @@ fn a_disk_lies_in_its_file(rt: HostRuntime) -> Result<(), Fail> {
     assert_eq!(rt; disk.pages()?, 3);
     assert_eq!(rt; bytes_at(&mut disk, 1)?, Some((4, 4)));
     assert_eq!(rt; bytes_at(&mut disk, 2), Err(Failed));
+    fs::remove_dir_all(&rt, "tw_hostio_test_again")?;
+    Ok(())
+}
 
-    // no folder, no file
-    let mut nowhere = FileDisk::new(&rt, "tw_hostio_test/nowhere/disk");
-    assert_eq!(rt; nowhere.pages(), Err(Failed));
-    assert_eq!(rt; nowhere.barrier(), Err(Failed));
-
+#[test]
+fn files_are_inputs(rt: HostRuntime) -> Result<(), Fail> {
+    let path = "tw_hostio_test_inputs/file";
+    make_folder(&rt, "tw_hostio_test_inputs")?;
+    fs::write(&rt, path, [4; 2 * 4096].as_slice())?;
     let mut inputs = HostInputs::new(&rt);
     let mut into = [0; 100];
     assert_eq!(rt; inputs.read(path, 2 * 4096 - 10, &mut into)?, 10);
     assert_eq!(rt; into[9], 4);
     assert_eq!(rt; inputs.read(path, 2 * 4096, &mut into)?, 0);
     assert_eq!(rt;
-        inputs.read("tw_hostio_test/other", 0, &mut into),
+        inputs.read("tw_hostio_test_inputs/other", 0, &mut into),
         Err(Failed)
     );
     assert_eq!(rt; HostSink::new(&rt).write(b"")?, 0);
-    fs::remove_dir_all(&rt, FOLDER)?;
+    fs::remove_dir_all(&rt, "tw_hostio_test_inputs")?;
     Ok(())
 }
 
