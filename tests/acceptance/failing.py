@@ -19,7 +19,8 @@ LAST_STEP = 2**40 - 1
 def plain_rights():
     """Takes from the program what root may do and others may not: to pass over the modes of files and folders."""
     for right in PASS_OVER_MODES:
-        LIBC.prctl(DROP_FROM_BOUNDS, right, 0, 0, 0)
+        if LIBC.prctl(DROP_FROM_BOUNDS, right, 0, 0, 0) and os.geteuid() == 0:
+            raise OSError("root's rights can't be taken away here")
 
 
 def growing_to(pages):

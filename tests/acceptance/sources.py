@@ -2,6 +2,7 @@
 what a reader of the repository can't look up."""
 
 import re
+import shutil
 import subprocess
 from pathlib import Path
 
@@ -14,8 +15,10 @@ FOREIGN = re.compile(r"\bT[1-5]\b|\b[DRW]\d+\b|\b[Dd]ocument 0[1-4]|\b[Rr]ow \d+
 
 def files(pattern):
     """The files of the repository: where it is a checkout, those that git keeps."""
-    listed = subprocess.run(["git", "ls-files", "-z"], cwd=TOP, capture_output=True, text=True, check=False)
-    names = listed.stdout.split("\0") if listed.returncode == 0 else [str(path.relative_to(TOP)) for path in TOP.rglob("*")]
+    git = shutil.which("git")
+    listed = subprocess.run([git, "ls-files", "-z"], cwd=TOP, capture_output=True, text=True, check=False) if git else None
+    is_checkout = listed and listed.returncode == 0
+    names = listed.stdout.split("\0") if is_checkout else [str(path.relative_to(TOP)) for path in TOP.rglob("*")]
     paths = (TOP / name for name in names if name and "/out/" not in name and Path(name).match(pattern))
     return [path for path in paths if path.is_file()]
 

@@ -72,6 +72,8 @@ def case(work, group="steps"):
                 return str(wrong)
             except subprocess.TimeoutExpired:
                 return "  it ran for longer than a minute"
+            except subprocess.SubprocessError as failure:
+                return f"  it couldn't be run: {failure}"
         return None
 
     return {"name": f"{group}: {(work.__doc__ or work.__name__).splitlines()[0]}", "check": check}
