@@ -7,6 +7,8 @@ import subprocess
 import tempfile
 from pathlib import Path
 
+import seen
+
 HERE = Path(__file__).resolve().parent
 TOP = HERE.parent.parent
 COMPLETION = "share/bash-completion/completions/timeweave"
@@ -75,7 +77,7 @@ def named_forms():
 
 
 def manual(program):
-    """The forms and statuses that the manual page lacks, and those that it has at the wrong place."""
+    """The forms, statuses and texts that the manual page lacks, and the forms that it has at the wrong place."""
     text = (TOP / "docs/timeweave.1").read_text()
     section = {part.split("\n")[0]: part for part in text.split("\n.SH ")}
     synopsis = re.sub(r"^\.br$", "\0", section["SYNOPSIS"].partition("\n")[2], flags=re.M)
@@ -87,6 +89,8 @@ def manual(program):
     wrong += [f"  the forms to come differ in `{form}`" for form in sorted(coming ^ forms[False])]
     statuses = set(re.findall(r"^\.TP\n\.B (\d)$", section["EXIT STATUS"], re.M))
     wrong += [f"  status {status} isn't told" for status in sorted(set("0123456789") - statuses)]
+    told = " ".join(re.sub(r"^\.[BIR]+ |\"", "", text, flags=re.M).split())
+    wrong += [f"  the text `{line}` isn't told" for _, line in seen.named() if line.removeprefix("rejected ") not in told]
     return "\n".join(wrong) or None
 
 
