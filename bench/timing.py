@@ -1,6 +1,7 @@
 """How long commands take: the best time of many runs that take turns."""
 
 import os
+import shutil
 import sys
 import time
 
@@ -9,7 +10,7 @@ def seconds(words, null):
     """One run of a command, its output and its errors thrown away."""
     actions = [(os.POSIX_SPAWN_DUP2, null, 0), (os.POSIX_SPAWN_DUP2, null, 1), (os.POSIX_SPAWN_DUP2, null, 2)]
     begun = time.perf_counter()
-    child = os.posix_spawnp(words[0], words, os.environ, file_actions=actions)
+    child = os.posix_spawn(words[0], words, os.environ, file_actions=actions)
     _, status = os.waitpid(child, 0)
     took = time.perf_counter() - begun
     if status:
@@ -20,6 +21,8 @@ def seconds(words, null):
 def best_times(commands, runs, before=lambda: None):
     """The best time of each command, in seconds; what is done before each run isn't timed."""
     null = os.open("/dev/null", os.O_RDWR)
+    # (so that no run looks for its program)
+    commands = [[shutil.which(words[0]) or words[0], *words[1:]] for words in commands]
     best = [float("inf")] * len(commands)
     for _ in range(runs):
         for i, words in enumerate(commands):
