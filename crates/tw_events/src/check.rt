@@ -19,8 +19,9 @@ fn node_above<H: Hasher>(side: Side, label: &Digest, reached: &Digest) -> Digest
     }
 }
 
-/// The root that a leaf's label and the labels of a path lead to, whose sides are popped.
-fn root_over<H: Hasher>(sides: ArrayVec<Side, 10>, path: &[Digest], leaf: Digest) -> Digest
+/// The root that a leaf's label and the labels of its audit path lead to (RFC 6962, section 2.1.1).
+/// The sides are those on which the path's labels stand, from the root down.
+pub fn root_above_leaf<H: Hasher>(sides: ArrayVec<Side, 10>, path: &[Digest], leaf: Digest) -> Digest
     requires { length path.now ≤ length sides.items }
     ensures { result ≡ root_above H.dig (reverse sides.items) path.now leaf }
 {
@@ -57,7 +58,7 @@ fn is_shown<H: Hasher>(root: &Digest, count: u32, index: u32, event: &[u8], path
         return false;
     }
     let leaf = event_leaf::<H>(event);
-    let reached = root_over::<H>(sides, path, leaf);
+    let reached = root_above_leaf::<H>(sides, path, leaf);
     is_same(&reached, root)
 }
 

@@ -5,7 +5,7 @@ mod check;
 mod path;
 mod root;
 
-pub use check::check_event;
+pub use check::{check_event, root_above_leaf};
 pub use path::event_path;
 pub use root::event_root;
 

@@ -1,14 +1,12 @@
 // An event of a step, and its path among the step's events.
 
-ghost use Rattle.std.specs.Prelude.{◌≡◌, ◌<◌, ◌≤◌, length, reverse, Some, slice_get, IfOk};
-ghost use Rattle.tw_base.specs.AuditPath.{node_text_beside, root_above};
+ghost use Rattle.std.specs.Prelude.{◌≡◌, ◌<◌, ◌≤◌, length, Some, slice_get, IfOk};
 ghost use Rattle.tw_base.specs.EventTree.{audit_path, event_root as event_root_of};
 ghost use Rattle.tw_base.specs.Lists.{Each};
 
-use arrayvec::ArrayVec;
 use std::alloc::Global;
-use tw_base::{Bytes, Digest, EventList, Hasher, NoMemory, Side, event_leaf, event_node, sides_of};
-use tw_events::event_path;
+use tw_base::{Bytes, Digest, EventList, Hasher, NoMemory, event_leaf, sides_of};
+use tw_events::{event_path, root_above_leaf};
 use tw_skipproof::EventPart;
 
 /// The bytes once more.
@@ -37,34 +35,6 @@ pub(crate) fn event_part<H: Hasher>(
     let path = event_path::<H>(alloc, events, index)?;
     let event = copied(alloc, &events.as_slice()[index as usize])?;
     Ok(EventPart { index, event, path })
-}
-
-/// The label of the event node over a label of the path, which stands on that side, and the label
-/// reached so far.
-fn node_above<H: Hasher>(side: Side, label: &Digest, reached: &Digest) -> Digest
-    ensures { result ≡ H.dig (node_text_beside side label.now reached.now) }
-{
-    match side {
-        Side::Left => event_node::<H>(label, reached),
-        Side::Right => event_node::<H>(reached, label),
-    }
-}
-
-/// The root that a leaf's label and the labels of a path lead to, whose sides are popped.
-fn root_above_leaf<H: Hasher>(sides: ArrayVec<Side, 10>, path: &[Digest], leaf: Digest) -> Digest
-    requires { length path.now ≤ length sides.items }
-    ensures { result ≡ root_above H.dig (reverse sides.items) path.now leaf }
-{
-    let mut sides = sides;
-    let mut reached = leaf;
-    for label in path {
-        let Some(side) = sides.pop() else {
-            unreachable!();
-        };
-        let above = node_above::<H>(side, label, &reached);
-        reached = above;
-    }
-    reached
 }
 
 /// The root of the events, over the event and its path, so that nothing that the path was computed

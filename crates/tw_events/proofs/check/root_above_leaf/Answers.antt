@@ -1,7 +1,7 @@
 use Rattle.std.proofs.Common.{◌+◌, arith, ap, sym, ◌∙◌, drop, reverse}
 use Rattle.tw_base.specs.AuditPath.{root_above}
 use Rattle.tw_events.proofs.Steps.{root_above-end, root_above-step}
-use Rattle.tw_history.proofs.event_part.root_above_leaf.Goals as goal
+use Rattle.tw_events.proofs.check.root_above_leaf.Goals as goal
 
 pub loop-label-preserved : goal.loop-label-preserved
 loop-label-preserved g c =

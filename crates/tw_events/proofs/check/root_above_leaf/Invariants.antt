@@ -1,6 +1,6 @@
 use Rattle.std.proofs.Common.{◌≡◌, ◌+◌, length, drop, reverse}
 use Rattle.tw_base.specs.AuditPath.{root_above}
-use Rattle.tw_history.proofs.event_part.root_above_leaf.Given as goal
+use Rattle.tw_events.proofs.check.root_above_leaf.Given as goal
 
 abbrev pub invariant-loop-label : goal.invariant-loop-label
 invariant-loop-label g l = record {
