@@ -1,7 +1,7 @@
 //! Disks by pages of 4,096 bytes, what a crash may leave of one, and the pages that a store shows to the crates above it.
 //!
 //! [`Disk`] is the device with the disk model: what a write, a barrier and a crash may do. [`Pages`] is a list of pages that only grows.
-//! [`MemDisk`] and [`MemPages`] are both in memory, with calls that fail where a test plans it.
+//! [`MemDisk`] and [`MemPages`] are both in memory, with calls that fail where a test plans it. [`word_at`] reads a number in a page.
 #![tactic(auto)]
 
 mod call;
@@ -15,9 +15,11 @@ mod pages;
 mod tests;
 #[cfg(test)]
 mod untold;
+mod words;
 
 pub use disk::Disk;
 pub use memory_disk::MemDisk;
 pub use memory_pages::MemPages;
 pub use pages::Pages;
 pub use tw_base::{Failed, NoMemory};
+pub use words::word_at;

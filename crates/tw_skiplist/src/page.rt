@@ -12,6 +12,7 @@ use crate::fields::{StepFields, StreamRef};
 use crate::head::StepRef;
 use arrayvec::ArrayVec;
 use tw_base::{Digest, top_level};
+use tw_disk::word_at;
 
 // ---- writing
 
@@ -107,15 +108,6 @@ pub(crate) fn event_page(step: u64, number: u16, piece: &[u8]) -> [u8; 4096]
 pub(crate) struct StepPage {
     pub fields: StepFields,
     pub links: ArrayVec<StepRef, 40>,
-}
-
-fn word_at(page: &[u8; 4096], at: usize) -> u64
-    requires { at + 8 ≤ 4096 }
-    ensures { result ≡ from_be_bytes w64 (take 8 (drop at page.now)) }
-{
-    let mut word = [0; 8];
-    word.copy_from_slice(&page[at..at + 8]);
-    u64::from_be_bytes(word)
 }
 
 fn short_word_at(page: &[u8; 4096], at: usize) -> u32
