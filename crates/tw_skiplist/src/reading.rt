@@ -1,6 +1,6 @@
 // Reading steps.
 
-ghost use Rattle.std.specs.Prelude.{◌≡◌, ℕ, ◌+◌, ◌<◌, ◌≤◌, ◌^◌, ◌⊎◌, List, Some, IfOk};
+ghost use Rattle.std.specs.Prelude.{◌≡◌, ℕ, ◌+◌, ◌<◌, ◌≤◌, ◌^◌, ◌⊎◌, List, length, Some, IfOk};
 ghost use Rattle.tw_disk.specs.Image.{Image};
 ghost use Rattle.tw_disk.specs.Pages.{OnlyReads};
 ghost use Rattle.tw_base.specs.History.{History, events_at};
@@ -11,7 +11,7 @@ ghost use Rattle.tw_skiplist.specs.Events.{FindsEvents, FindsNoEvents};
 ghost use Rattle.tw_skiplist.specs.Infos.{IsInfoOf};
 ghost use Rattle.tw_base.specs.Texts.{empty_tree_text};
 ghost use Rattle.tw_skiplist.specs.declared.head.StepRef.{StepRef};
-ghost use Rattle.tw_skiplist.specs.Keeping.{Keeps};
+ghost use Rattle.tw_skiplist.specs.Keeping.{IsWithinLimits, Keeps};
 ghost use Rattle.tw_skiplist.specs.Reading.{WalksVia};
 ghost use Rattle.tw_skiplist.specs.Records.{FindsBadPage, FindsBadPageVia, FindsInfo, FindsProof, head_ref};
 
@@ -145,6 +145,7 @@ pub fn prove<P: Pages, H: Hasher>(
 }
 
 /// The events of a step that `step` or `prove` told of the same pages, from its event pages alone.
+/// Over any pages they are within the limits of a step, and as many as the info counts.
 ///
 /// BadPage never comes where the info is of a step that the pages keep, and NoStep never comes.
 pub fn events_of<P: Pages>(
@@ -154,6 +155,7 @@ pub fn events_of<P: Pages>(
 ) -> Result<EventList, ListFault>
     ensures events { IfOk result (λ events. (dig : List ℕ → List ℕ) (ps : Image) (h : History) (i : ℕ) → P.list pages.old ≡ Some ps →
         IsInfoOf dig ps h i info.now → events ≡ events_at h i) }
+    ensures counted { IfOk result (λ events. IsWithinLimits events × (length events ≡ info.now.count)) }
     ensures found { IfOk result (λ events. (ps : Image) → P.list pages.old ≡ Some ps → FindsEvents ps info.now events) }
     ensures bad { IfBadPage result (λ p. (ps : Image) → P.list pages.old ≡ Some ps → FindsNoEvents ps info.now p) }
     ensures good { IfBadPage result (λ _. (dig : List ℕ → List ℕ) (ps : Image) (h : History) (i : ℕ) → P.list pages.old ≡ Some ps →
