@@ -1,6 +1,6 @@
 // Steps in pages in memory: the bytes of pages, what is read back, and pages that aren't of their kind.
 
-ghost use Rattle.std.specs.Prelude.{◌*◌, ◌≤◌, ◌≡◌, List, IfOk, length};
+ghost use Rattle.std.specs.Prelude.{◌+◌, ◌*◌, ◌≤◌, ◌≡◌, List, IfOk, length};
 ghost use Rattle.tw_skiplist.specs.Keeping.{IsWithinLimits};
 
 use super::*;
@@ -251,6 +251,107 @@ fn the_step_of_another_number_is_no_page_of_it(rt: HostRuntime) -> Result<(), Fa
         fault_at(rt.alloc(), &mut pages, &head, 1),
         Some(ListFault::BadPage { page: 24 })
     );
+    Ok(())
+}
+
+/// Stages a page once more, with another number of eight bytes at a place of it.
+fn with_number(pages: &mut MemPages, page: u64, at: usize, number: u64) -> Result<u64, Fail>
+    requires { at + 8 ≤ 4096 }
+{
+    if page < 4 || page >= pages.used() || pages.used() >= 1 << 47 {
+        return Err("no such page")?;
+    }
+    let mut bytes = [0; 4096];
+    pages.read(page, &mut bytes)?;
+    bytes[at..at + 8].copy_from_slice(&number.to_be_bytes());
+    Ok(pages.stage(&bytes)?)
+}
+
+/// Why the events of the step aren't told.
+fn events_fault_at(alloc: Global, pages: &mut MemPages, head: &Head, i: u64) -> Option<ListFault> {
+    if head.step >= 1 << 40 {
+        return None;
+    }
+    match events::<MemPages, Sha>(alloc, pages, head, i) {
+        Ok(_) => None,
+        Err(fault) => Some(fault),
+    }
+}
+
+// Step 4 has its links from place 187 on, of 40 bytes each: to step 3, to step 2, and to step 0.
+#[test]
+fn a_link_names_page_0_exactly_for_step_0(rt: HostRuntime) -> Result<(), Fail> {
+    let mut pages = MemPages::new(rt.alloc())?;
+    let mut head = four_steps(rt.alloc(), &mut pages)?;
+    let last = head.page;
+    for at in [187, 227] {
+        head.page = with_number(&mut pages, last, at, 0)?;
+        for i in [4, 1] {
+            assert_eq!(rt;
+                fault_at(rt.alloc(), &mut pages, &head, i),
+                Some(ListFault::BadPage { page: head.page }),
+                "place {at}, step {i}"
+            );
+        }
+    }
+    for number in [1, 3, 5] {
+        head.page = with_number(&mut pages, last, 267, number)?;
+        assert_eq!(rt;
+            fault_at(rt.alloc(), &mut pages, &head, 4),
+            Some(ListFault::BadPage { page: head.page }),
+            "page {number}"
+        );
+    }
+    Ok(())
+}
+
+#[test]
+fn a_link_to_page_1_to_3_is_met_there(rt: HostRuntime) -> Result<(), Fail> {
+    let mut pages = MemPages::new(rt.alloc())?;
+    let mut head = four_steps(rt.alloc(), &mut pages)?;
+    let last = head.page;
+    for number in [1, 2, 3] {
+        head.page = with_number(&mut pages, last, 187, number)?;
+        assert_eq!(rt; fault_at(rt.alloc(), &mut pages, &head, 4), None);
+        assert_eq!(rt; fault_at(rt.alloc(), &mut pages, &head, 2), None);
+        assert_eq!(rt;
+            fault_at(rt.alloc(), &mut pages, &head, 3),
+            Some(ListFault::BadPage { page: number })
+        );
+    }
+    Ok(())
+}
+
+// The first event page stands at place 18. Step 4 has events, step 3 has none.
+#[test]
+fn a_first_event_page_is_0_exactly_for_no_bytes(rt: HostRuntime) -> Result<(), Fail> {
+    let mut pages = MemPages::new(rt.alloc())?;
+    let mut head = four_steps(rt.alloc(), &mut pages)?;
+    let last = head.page;
+    head.page = with_number(&mut pages, last, 18, 0)?;
+    assert_eq!(rt;
+        events_fault_at(rt.alloc(), &mut pages, &head, 4),
+        Some(ListFault::BadPage { page: head.page })
+    );
+    for number in [1, 2, 3] {
+        head.page = with_number(&mut pages, last, 18, number)?;
+        assert_eq!(rt; fault_at(rt.alloc(), &mut pages, &head, 4), None);
+        assert_eq!(rt;
+            events_fault_at(rt.alloc(), &mut pages, &head, 4),
+            Some(ListFault::BadPage { page: number })
+        );
+    }
+    head.step = 3;
+    head.page = 24;
+    assert_eq!(rt; events_fault_at(rt.alloc(), &mut pages, &head, 3), None);
+    for number in [1, 4, 23] {
+        head.page = with_number(&mut pages, 24, 18, number)?;
+        assert_eq!(rt;
+            events_fault_at(rt.alloc(), &mut pages, &head, 3),
+            Some(ListFault::BadPage { page: head.page }),
+            "page {number}"
+        );
+    }
     Ok(())
 }
 
