@@ -9,6 +9,7 @@ pub mod Once
 pub mod Padded
 pub mod Plus
 pub mod Recording
+pub mod Shapes
 pub mod Sounding
 pub mod Spelling
 pub mod Streams

@@ -1,6 +1,6 @@
 // Reading steps.
 
-ghost use Rattle.std.specs.Prelude.{◌≡◌, ℕ, ◌+◌, ◌<◌, ◌≤◌, ◌^◌, ◌⊎◌, List, length, Some, IfOk};
+ghost use Rattle.std.specs.Prelude.{◌≡◌, ℕ, ◌+◌, ◌*◌, ◌<◌, ◌≤◌, ◌^◌, ◌⊎◌, List, length, Some, IfOk};
 ghost use Rattle.tw_disk.specs.Image.{Image};
 ghost use Rattle.tw_disk.specs.Pages.{OnlyReads};
 ghost use Rattle.tw_base.specs.History.{History, events_at};
@@ -69,7 +69,8 @@ pub fn step<P: Pages, H: Hasher>(
 }
 
 /// The path from the step n down to the step i, of the history whose head is given (a step below
-/// 2^40). It is reached by the links of the greedy path, and each page is read once.
+/// 2^40). It is reached by the links of the greedy path, and each page is read once. Over any pages
+/// it has at most twice as many links as n has binary digits.
 ///
 /// NoStep exactly where i <= n <= the head's step doesn't hold; i may be 0. BadPage never comes
 /// where the pages keep a history under the head.
@@ -83,6 +84,7 @@ pub fn path<P: Pages, H: Hasher>(
     requires { head.now.step < 2 ^ 40 }
     ensures path { IfOk result (λ path. (ps : Image) (h : History) → P.list pages.old ≡ Some ps → Keeps H.dig ps h head.now →
         IsPathOf H.dig h path.links n i) }
+    ensures bound { IfOk result (λ path. (digits : ℕ) → n < 2 ^ digits → length path.links ≤ 2 * digits) }
     ensures found { IfOk result (λ _. (ps : Image) → P.list pages.old ≡ Some ps →
         (last : StepRef) × WalksVia (H.dig empty_tree_text) ps (head_ref head.now) head.now.step n i last) }
     ensures bad { IfBadPage result (λ p. (ps : Image) → P.list pages.old ≡ Some ps → FindsBadPageVia H.dig ps head.now n i p) }
@@ -107,7 +109,8 @@ pub fn path<P: Pages, H: Hasher>(
 
 /// What a proof of the step i under the top needs: the path from the top to the step, and the step.
 /// Each page is read once: those of the way from the head (a step below 2^40) to the top, and those
-/// of the path down to the step.
+/// of the path down to the step. Over any pages the path has at most twice as many links as the top
+/// has binary digits.
 ///
 /// NoStep exactly where 1 <= i <= top <= the head's step doesn't hold. BadPage never comes where the
 /// pages keep a history under the head.
@@ -121,6 +124,7 @@ pub fn prove<P: Pages, H: Hasher>(
     requires { head.now.step < 2 ^ 40 }
     ensures path { IfOk result (λ proof. (ps : Image) (h : History) → P.list pages.old ≡ Some ps → Keeps H.dig ps h head.now →
         IsPathOf H.dig h proof.path.links top i) }
+    ensures bound { IfOk result (λ proof. (digits : ℕ) → top < 2 ^ digits → length proof.path.links ≤ 2 * digits) }
     ensures info { IfOk result (λ proof. (ps : Image) (h : History) → P.list pages.old ≡ Some ps → Keeps H.dig ps h head.now →
         IsInfoOf H.dig ps h i proof.info) }
     ensures found { IfOk result (λ proof. (ps : Image) → P.list pages.old ≡ Some ps → FindsProof H.dig ps head.now top i proof.info) }

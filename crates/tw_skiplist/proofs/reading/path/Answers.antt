@@ -1,5 +1,6 @@
 use Rattle.std.proofs.Common.{◌≡◌, ◌≤◌, ◌∙◌, ℕ, List, Some, arith, subst}
 use Rattle.tw_disk.specs.Image.{Image}
+use Rattle.tw_skipproof.proofs.Greedy.{few_links}
 use Rattle.tw_base.specs.History.{History}
 use Rattle.tw_skiplist.specs.declared.head.StepRef.{StepRef}
 use Rattle.tw_skiplist.specs.Keeping.{Keeps}
@@ -56,3 +57,8 @@ returns-in-Ok-collect-clause-found g c = λ ps told.
       subst (λ (e : List ℕ). WalksVia e ps (head_ref head) head.step c.args.n c.args.i last) c.empty_tree-empty.ensures
           (subst (λ (f : StepRef). WalksVia c.empty_tree-empty.result ps f head.step c.args.n c.args.i last) c.link_to_head.ensures both),
     )
+
+pub returns-in-Ok-collect-clause-bound : goal.returns-in-Ok-collect-clause-bound
+returns-in-Ok-collect-clause-bound g c = λ digits under.
+    let below : c.args.n ≤ c.args.head.now.step = omega (arith, c.if-n-last.false) in
+    few_links c.in-Ok-collect.field-0.links c.args.n c.args.i digits (omega (arith, below, c.requires)) under c.in-Ok-collect.ensures.shape

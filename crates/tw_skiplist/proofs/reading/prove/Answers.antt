@@ -1,5 +1,6 @@
 use Rattle.std.proofs.Common.{◌≡◌, ◌<◌, ◌≤◌, ◌∙◌, Some, arith}
 use Rattle.tw_disk.specs.Image.{Image}
+use Rattle.tw_skipproof.proofs.Greedy.{few_links}
 use Rattle.tw_base.specs.History.{History}
 use Rattle.tw_skiplist.specs.Keeping.{Keeps}
 use Rattle.tw_skiplist.specs.Reading.{MeetsBadPage}
@@ -52,3 +53,8 @@ returns-in-Ok-collect_proof-clause-info g c = λ ps h told keeps.
     let found = c.in-Ok-collect_proof.ensures.info ps (c.in-Ok.ensures.kept.list_kept ∙ told) in
     tells_info_further g.H.Hasher.dig g.met.H.Hasher.size ps h head keeps c.empty_tree-empty.result c.link_to_head.result c.empty_tree-empty.ensures c.link_to_head.ensures
     c.args.top c.in-Ok.link below (c.in-Ok.ensures.walks ps told) c.args.i found.0 c.in-Ok-collect_proof.proof.info some lower found.1 found.2
+
+pub returns-in-Ok-collect_proof-clause-bound : goal.returns-in-Ok-collect_proof-clause-bound
+returns-in-Ok-collect_proof-clause-bound g c = λ digits under.
+    let below : c.args.top ≤ c.args.head.now.step = omega (arith, c.if-top-last.false) in
+    few_links c.in-Ok-collect_proof.proof.path.links c.args.top c.args.i digits (omega (arith, below, c.requires)) under c.in-Ok-collect_proof.ensures.shape
