@@ -12,7 +12,7 @@ ghost use Rattle.tw_skiplist.specs.declared.head.StepRef.{StepRef};
 ghost use Rattle.tw_skiplist.specs.Answers.{FaultsRise, IfBadPage, NeverNoStep, NotDiskFault};
 ghost use Rattle.tw_skiplist.specs.Keeping.{KeepsSteps, Place, link_to};
 ghost use Rattle.tw_skiplist.specs.Reading.{IsNoStepAt, MeetsBadPage, Walks};
-ghost use Rattle.tw_skiplist.specs.Records.{HasHop, TellsInfo};
+ghost use Rattle.tw_skiplist.specs.Records.{HasHop, TellsInfo, WalksAlong};
 
 use crate::fault::ListFault;
 use crate::head::StepRef;
@@ -82,6 +82,7 @@ pub(crate) fn collect<P: Pages, H: Hasher>(
     requires step { from < 2 ^ 40 }
     requires empty { empty.now ≡ H.dig empty_tree_text }
     ensures shape { IfOk result (λ c. HasShape c.links from to) }
+    ensures along { IfOk result (λ c. (ps : Image) → P.list pages.old ≡ Some ps → WalksAlong H.dig empty.now ps first.now from to c.links c.last to) }
     ensures walks { IfOk result (λ c. (ps : Image) → P.list pages.old ≡ Some ps → Walks empty.now ps first.now from to c.last to) }
     ensures path { IfOk result (λ c. (ps : Image) (h : History) (places : List Place) → P.list pages.old ≡ Some ps → KeepsSteps H.dig ps h places →
         from ≤ length h.steps → first.now ≡ link_to H.dig h places from → IsPathOf H.dig h c.links from to) }
@@ -177,6 +178,8 @@ pub(crate) fn collect_proof<P: Pages, H: Hasher>(
     ensures path { IfOk result (λ proof. (ps : Image) (h : History) (places : List Place) → P.list pages.old ≡ Some ps → KeepsSteps H.dig ps h places →
         from ≤ length h.steps → first.now ≡ link_to H.dig h places from → IsPathOf H.dig h proof.path.links from to) }
     ensures shape { IfOk result (λ proof. HasShape proof.path.links from to) }
+    ensures along { IfOk result (λ proof. (ps : Image) → P.list pages.old ≡ Some ps →
+        (last : StepRef) × WalksAlong H.dig empty.now ps first.now from to proof.path.links last to) }
     ensures info { IfOk result (λ proof. (ps : Image) → P.list pages.old ≡ Some ps →
         (link : StepRef) × Walks empty.now ps first.now from to link to × TellsInfo H.dig empty.now ps link.page to proof.info) }
     ensures bad { IfBadPage result (λ p. (ps : Image) → P.list pages.old ≡ Some ps → MeetsBadPage empty.now ps first.now from to p) }

@@ -13,7 +13,7 @@ ghost use Rattle.tw_base.specs.Texts.{empty_tree_text};
 ghost use Rattle.tw_skiplist.specs.declared.head.StepRef.{StepRef};
 ghost use Rattle.tw_skiplist.specs.Keeping.{IsWithinLimits, Keeps};
 ghost use Rattle.tw_skiplist.specs.Reading.{WalksVia};
-ghost use Rattle.tw_skiplist.specs.Records.{FindsBadPage, FindsBadPageVia, FindsInfo, FindsProof, head_ref};
+ghost use Rattle.tw_skiplist.specs.Records.{FindsBadPage, FindsBadPageVia, FindsInfo, FindsPath, FindsProof, head_ref};
 
 use crate::collecting::{Collected, collect, collect_proof, find_info};
 use crate::event_pages::{StreamRead, read_events, read_stream};
@@ -87,6 +87,7 @@ pub fn path<P: Pages, H: Hasher>(
     ensures bound { IfOk result (λ path. (digits : ℕ) → n < 2 ^ digits → length path.links ≤ 2 * digits) }
     ensures found { IfOk result (λ _. (ps : Image) → P.list pages.old ≡ Some ps →
         (last : StepRef) × WalksVia (H.dig empty_tree_text) ps (head_ref head.now) head.now.step n i last) }
+    ensures recorded { IfOk result (λ path. (ps : Image) → P.list pages.old ≡ Some ps → FindsPath H.dig ps head.now n i path.links) }
     ensures bad { IfBadPage result (λ p. (ps : Image) → P.list pages.old ≡ Some ps → FindsBadPageVia H.dig ps head.now n i p) }
     ensures good { IfBadPage result (λ _. (ps : Image) (h : History) → P.list pages.old ≡ Some ps → Keeps H.dig ps h head.now → ⊥) }
     ensures no_step { NoStepUnless result head.now.step ((i ≤ n) × (n ≤ head.now.step)) }
@@ -128,6 +129,7 @@ pub fn prove<P: Pages, H: Hasher>(
     ensures info { IfOk result (λ proof. (ps : Image) (h : History) → P.list pages.old ≡ Some ps → Keeps H.dig ps h head.now →
         IsInfoOf H.dig ps h i proof.info) }
     ensures found { IfOk result (λ proof. (ps : Image) → P.list pages.old ≡ Some ps → FindsProof H.dig ps head.now top i proof.info) }
+    ensures recorded { IfOk result (λ proof. (ps : Image) → P.list pages.old ≡ Some ps → FindsPath H.dig ps head.now top i proof.path.links) }
     ensures bad { IfBadPage result (λ p. (ps : Image) → P.list pages.old ≡ Some ps → FindsBadPageVia H.dig ps head.now top i p) }
     ensures good { IfBadPage result (λ _. (ps : Image) (h : History) → P.list pages.old ≡ Some ps → Keeps H.dig ps h head.now → ⊥) }
     ensures no_step { NoStepUnless result head.now.step ((1 ≤ i) × (i ≤ top) × (top ≤ head.now.step)) }

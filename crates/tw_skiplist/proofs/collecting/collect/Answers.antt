@@ -11,7 +11,8 @@ use Rattle.tw_skipproof.proofs.Making.{LeadsTo, leads-end, leads-further}
 use Rattle.tw_skiplist.specs.declared.head.StepRef.{StepRef}
 use Rattle.tw_skiplist.specs.Reading.{Walks}
 use Rattle.tw_skiplist.specs.Reading.Walks.{here, on}
-use Rattle.tw_skiplist.specs.Records.{HasHop}
+use Rattle.tw_skiplist.specs.Records.{HasHop, WalksAlong}
+use Rattle.tw_skiplist.specs.Records.WalksAlong.{here as no_link, on as one_more}
 use Rattle.tw_skiplist.proofs.Kept.{walk_leads}
 use Rattle.tw_skiplist.proofs.Recording.{hop_link, record_of}
 use Rattle.tw_skiplist.proofs.Shapes.{ShapesTo, shapes-end, shapes-further}
@@ -20,6 +21,8 @@ use Rattle.tw_skiplist.proofs.collecting.collect.Goals as goal
 pub loop-at-init : goal.loop-at-init
 loop-at-init g c = record {
   walks = λ ps told. here;
+  along = λ ps told.
+      subst (λ (ls : List Link). WalksAlong g.H.Hasher.dig c.args.empty.now ps c.args.first.now c.args.from c.args.to ls c.args.first.now c.args.from) (sym c.new-links.ensures) no_link;
   leads = λ ps h places told kept within first_is rest is. subst (λ (ls : List Link). IsPathOf g.H.Hasher.dig h (ls ++ rest) c.args.from c.args.to) (sym c.new-links.ensures) is;
   shapes = λ rest shape. subst (λ (ls : List Link). HasShape (ls ++ rest) c.args.from c.args.to) (sym c.new-links.ensures) shape;
   low = c.requires.below;
@@ -58,6 +61,10 @@ loop-at-preserved g c =
       walks = λ ps told.
           subst (λ (p : ℕ). Walks c.args.empty.now ps first from to next (at - p)) (sym power)
           (on c.loop-at.last at next (inv.walks ps told) under (hop_link dig c.args.empty.now ps c.loop-at.last.page at (hop_level at to) link next (hops ps told)));
+      along = λ ps told.
+          subst (λ (p : ℕ). WalksAlong dig c.args.empty.now ps first from to c.push.new.self next (at - p)) (sym power)
+          (subst (λ (ls : List Link). WalksAlong dig c.args.empty.now ps first from to ls next (hop at to)) (sym c.in-Ok-push.ensures.ok)
+          (one_more c.loop-at.links c.loop-at.last at link next (inv.along ps told) under (hops ps told)));
       leads = λ ps h places told kept within first_is.
           let walks = subst (λ (e : List ℕ). Walks e ps first from to c.loop-at.last at) c.requires.empty (inv.walks ps told) in
           let leads = walk_leads dig g.met.H.Hasher.size h places ps kept first from to c.loop-at.last at c.requires.below within first_is walks in
