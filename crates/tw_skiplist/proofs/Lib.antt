@@ -1,3 +1,4 @@
+pub mod Appending
 pub mod BadPages
 pub mod Decode
 pub mod Finding
