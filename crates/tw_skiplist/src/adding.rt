@@ -161,12 +161,15 @@ fn put_step<P: Pages, H: Hasher>(
 }
 
 /// Adds a step of these events to the history whose head is given, and answers the new head. It
-/// stages the event pages and then the step page, at most 19 pages in all.
+/// stages the event pages and then the step page, at most 19 pages in all. Where the pages are told,
+/// the step's links are those that they themselves lead to from the head, and its authenticator is
+/// that of the links' labels.
 ///
 /// Conditions: the head's step is below 2^40 - 1, fewer than 2^47 pages are used, and the events are
 /// within the limits of a step: at most 1,024, each at most 1,024 bytes, together at most 65,536.
-/// After a refusal pages of the call may stay staged, behind those that were there. BadPage never
-/// comes where the pages keep a history under the head, and NoStep never comes.
+/// After a refusal pages of the call may stay staged, behind those that were there. Where the pages
+/// are told, BadPage tells the page of a link that isn't the page of its step; it never comes where
+/// they keep a history under the head. NoStep never comes.
 pub fn append<P: Pages, H: Hasher>(
     alloc: Global,
     pages: &mut P,

@@ -37,10 +37,11 @@ fn link_to_head(head: &Head) -> StepRef
 }
 
 /// The step i of the history whose head is given (a step below 2^40). It is reached by the links of
-/// the greedy path, and each page is read once.
+/// the greedy path; a test shows that each page is read once.
 ///
-/// NoStep exactly where i isn't within 1 and the head's step. BadPage never comes where the pages
-/// keep a history under the head.
+/// NoStep exactly where i isn't within 1 and the head's step. Where the pages are told, BadPage tells
+/// the first page of the way that isn't the page of its step; it never comes where they keep
+/// a history under the head.
 pub fn step<P: Pages, H: Hasher>(
     alloc: Global,
     pages: &mut P,
@@ -69,11 +70,13 @@ pub fn step<P: Pages, H: Hasher>(
 }
 
 /// The path from the step n down to the step i, of the history whose head is given (a step below
-/// 2^40). It is reached by the links of the greedy path, and each page is read once. Over any pages
-/// it has at most twice as many links as n has binary digits.
+/// 2^40). It is reached by the links of the greedy path; a test shows that each page is read once.
+/// Over any pages it has at most twice as many links as n has binary digits, and where the pages are
+/// told its links are the records of those that the way from n to i follows.
 ///
-/// NoStep exactly where i <= n <= the head's step doesn't hold; i may be 0. BadPage never comes
-/// where the pages keep a history under the head.
+/// NoStep exactly where i <= n <= the head's step doesn't hold; i may be 0. Where the pages are told,
+/// BadPage tells the first page of the way that isn't the page of its step; it never comes where they
+/// keep a history under the head.
 pub fn path<P: Pages, H: Hasher>(
     alloc: Global,
     pages: &mut P,
@@ -109,12 +112,12 @@ pub fn path<P: Pages, H: Hasher>(
 }
 
 /// What a proof of the step i under the top needs: the path from the top to the step, and the step.
-/// Each page is read once: those of the way from the head (a step below 2^40) to the top, and those
-/// of the path down to the step. Over any pages the path has at most twice as many links as the top
-/// has binary digits.
+/// They are reached by the links of the greedy path from the head (a step below 2^40) to the top, and
+/// from there on; a test shows that each page is read once. Of the path the same holds as of `path`.
 ///
-/// NoStep exactly where 1 <= i <= top <= the head's step doesn't hold. BadPage never comes where the
-/// pages keep a history under the head.
+/// NoStep exactly where 1 <= i <= top <= the head's step doesn't hold. Where the pages are told,
+/// BadPage tells the first page of the way that isn't the page of its step; it never comes where they
+/// keep a history under the head.
 pub fn prove<P: Pages, H: Hasher>(
     alloc: Global,
     pages: &mut P,
@@ -153,7 +156,10 @@ pub fn prove<P: Pages, H: Hasher>(
 /// The events of a step that `step` or `prove` told of the same pages, from its event pages alone.
 /// Over any pages they are within the limits of a step, and as many as the info counts.
 ///
-/// BadPage never comes where the info is of a step that the pages keep, and NoStep never comes.
+/// Where the pages are told, BadPage tells the step's page if the info has a stream longer than any
+/// step's, else the first event page that isn't of its kind, or, if their stream spells no such
+/// events, the last of them (the step's page if there is none). It never comes where the info is of
+/// a step that the pages keep, and NoStep never comes.
 pub fn events_of<P: Pages>(
     alloc: Global,
     pages: &mut P,
@@ -183,11 +189,11 @@ pub fn events_of<P: Pages>(
     }
 }
 
-/// The events of the step i of the history whose head is given (a step below 2^40). Each page is
-/// read once.
+/// The events of the step i of the history whose head is given (a step below 2^40), found as by
+/// `step` and then `events_of`; a test shows that each page is read once.
 ///
-/// NoStep exactly where i isn't within 1 and the head's step. BadPage never comes where the pages
-/// keep a history under the head.
+/// NoStep exactly where i isn't within 1 and the head's step. BadPage comes as of these two, and
+/// never where the pages keep a history under the head.
 pub fn events<P: Pages, H: Hasher>(
     alloc: Global,
     pages: &mut P,

@@ -89,6 +89,16 @@ fn four_steps(alloc: Global, pages: &mut MemPages) -> Result<Head, Fail> {
     add(alloc, pages, &third, 3, 5)
 }
 
+/// Appends so many steps of no event.
+fn add_many(alloc: Global, pages: &mut MemPages, head: &Head, count: u32) -> Result<Head, Fail> {
+    let mut last = *head;
+    for _ in 0..count {
+        let next = add(alloc, pages, &last, 0, 0)?;
+        last = next;
+    }
+    Ok(last)
+}
+
 /// All pages from number 4 on.
 fn bytes_of(alloc: Global, pages: &mut MemPages) -> Result<Bytes, Fail> {
     let mut bytes = Bytes::new(alloc);
@@ -185,15 +195,8 @@ fn events_are_read_back(rt: HostRuntime) -> Result<(), Fail> {
 #[test]
 fn a_proof_reads_each_page_once(rt: HostRuntime) -> Result<(), Fail> {
     let mut pages = MemPages::new(rt.alloc())?;
-    let mut head = no_step()?;
-    let mut first = head;
-    for index in 0..1023 {
-        let next = add(rt.alloc(), &mut pages, &head, 0, 0)?;
-        head = next;
-        if index == 0 {
-            first = next;
-        }
-    }
+    let first = add(rt.alloc(), &mut pages, &no_step()?, 0, 0)?;
+    let head = add_many(rt.alloc(), &mut pages, &first, 1022)?;
     if head.step >= 1 << 40 {
         return Err("too many steps")?;
     }
@@ -216,6 +219,54 @@ fn a_proof_reads_each_page_once(rt: HostRuntime) -> Result<(), Fail> {
     let before = pages.reads();
     add(rt.alloc(), &mut pages, &head, 0, 0)?;
     assert_eq!(rt; pages.reads().saturating_sub(before), 10);
+    Ok(())
+}
+
+/// How many links the path from the step n down to the step i has.
+fn path_length(
+    alloc: Global,
+    pages: &mut MemPages,
+    head: &Head,
+    n: u64,
+    i: u64,
+) -> Result<usize, Fail> {
+    if head.step >= 1 << 40 {
+        return Err("too many steps")?;
+    }
+    match path::<MemPages, Sha>(alloc, pages, head, n, i) {
+        Ok(path) => Ok(path.links.as_slice().len()),
+        Err(_) => Err("no path")?,
+    }
+}
+
+// From step 1023 to step 1000 the greedy path has 5 links, from there to step 1 it has 14, and from step 1023 to step 1 18.
+#[test]
+fn a_walk_reads_each_page_once(rt: HostRuntime) -> Result<(), Fail> {
+    let mut pages = MemPages::new(rt.alloc())?;
+    let head = add_many(rt.alloc(), &mut pages, &no_step()?, 1023)?;
+    let before = pages.reads();
+    assert_eq!(rt; fault_at(rt.alloc(), &mut pages, &head, 1), None);
+    assert_eq!(rt; pages.reads().saturating_sub(before), 19);
+    let before = pages.reads();
+    assert_eq!(rt; path_length(rt.alloc(), &mut pages, &head, 1000, 1)?, 14);
+    assert_eq!(rt; pages.reads().saturating_sub(before), 19);
+    let before = pages.reads();
+    if head.step >= 1 << 40 {
+        return Err("too many steps")?;
+    }
+    assert!(rt; prove::<MemPages, Sha>(rt.alloc(), &mut pages, &head, 1000, 1).is_ok());
+    assert_eq!(rt; pages.reads().saturating_sub(before), 20);
+    Ok(())
+}
+
+// From step 4 to step 2 the greedy path has one link, and step 2 has 17 event pages.
+#[test]
+fn events_read_each_page_once(rt: HostRuntime) -> Result<(), Fail> {
+    let mut pages = MemPages::new(rt.alloc())?;
+    let head = four_steps(rt.alloc(), &mut pages)?;
+    let before = pages.reads();
+    assert_eq!(rt; events_fault_at(rt.alloc(), &mut pages, &head, 2), None);
+    assert_eq!(rt; pages.reads().saturating_sub(before), 19);
     Ok(())
 }
 
