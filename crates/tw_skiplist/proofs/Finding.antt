@@ -4,13 +4,14 @@ use Rattle.tw_disk.specs.Image.{Image}
 use Rattle.tw_base.specs.Texts.{empty_tree_text}
 use Rattle.tw_base.specs.History.{History}
 use Rattle.tw_base.specs.Auth.{auth}
+use Rattle.tw_skipproof.specs.declared.path.Link.{Link}
 use Rattle.tw_skiplist.specs.declared.head.Head.{Head}
 use Rattle.tw_skiplist.specs.declared.head.StepRef.{StepRef}
 use Rattle.tw_skiplist.specs.declared.info.StepInfo.{StepInfo}
 use Rattle.tw_skiplist.specs.Infos.{IsInfoOf}
 use Rattle.tw_skiplist.specs.Keeping.{Keeps, link_to, place_of}
 use Rattle.tw_skiplist.specs.Reading.{MeetsBadPage, Walks}
-use Rattle.tw_skiplist.specs.Records.{TellsInfo, head_ref}
+use Rattle.tw_skiplist.specs.Records.{FindsPath, TellsInfo, WalksAlong, head_ref}
 use Rattle.tw_skiplist.proofs.Kept.{no_bad_page, walk_leads}
 use Rattle.tw_skiplist.proofs.Recording.{info_of}
 
@@ -57,3 +58,13 @@ module _ (dig : List ℕ → List ℕ) (size : (text : List ℕ) → length (dig
         let at = walk_leads dig size h keeps.places ps keeps.keeps middle top i link i lower top_within middle_is (subst (λ (e : List ℕ). Walks e ps middle top i link i) empty_is walks) in
         info_of dig size h keeps.places ps keeps.keeps link.page i info some (omega (arith, lower, top_within)) (ap (λ (x : StepRef). x.page) at.link_is)
         (subst (λ (e : List ℕ). TellsInfo dig e ps link.page i info) empty_is tells)
+
+-- a path that was found, over pages that keep no history perhaps
+pub found_path : (dig : List ℕ → List ℕ) (ps : Image) (head : Head) (top i : ℕ) (empty : List ℕ) (first : StepRef) → empty ≡ dig empty_tree_text → first ≡ head_ref head
+    → (middle : StepRef) → Walks empty ps first head.step top middle top → (links : List Link) (last : StepRef) → WalksAlong dig empty ps middle top i links last i → FindsPath dig ps head top i links
+found_path dig ps head top i empty first empty_is first_is middle down links last along = record {
+  middle = middle;
+  last = last;
+  down = subst (λ (e : List ℕ). Walks e ps (head_ref head) head.step top middle top) empty_is (subst (λ (f : StepRef). Walks empty ps f head.step top middle top) first_is down);
+  along = subst (λ (e : List ℕ). WalksAlong dig e ps middle top i links last i) empty_is along;
+}

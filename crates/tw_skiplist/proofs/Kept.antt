@@ -101,15 +101,34 @@ module _ (dig : List ℕ → List ℕ) (size : (text : List ℕ) → length (dig
           | inr none ↦ (let zero_first = s.stream.none (omega (arith, none)) in omega (arith, zero_first, s.low))
         ]
 
+    -- a step whose first event page is 0 has no bytes
+    no_bytes : (k : ℕ) → (s : KeepsStep dig ps h places k) → (place_of places (suc k)).first ≡ 0 → length (stream (events_at h (suc k))) ≡ 0
+    no_bytes k s none =
+        elim (cases_lt 0 (length (stream (events_at h (suc k))))) [
+          | inl some ↦ (let low = s.stream.low some in absurd (omega (arith, low, none)))
+          | inr few ↦ omega (arith, few)
+        ]
+
+    -- only step 0 has page 0
+    no_page : (i : ℕ) → i ≤ length h.steps → page i ≡ 0 → i ≡ 0
+    no_page zero l none = refl
+    no_page (suc k) l none = absurd (omega (arith, (kept.steps k (omega (arith, l))).low, none))
+
     link_rules : (k level : ℕ) → k < length h.steps → level < suc (top_level (suc k)) → LiesBelow (page (suc k)) (suc k) level (link_of (links_at dig h places (suc k)) level)
     link_rules k level l within =
         let at = get_or-links_to no_ref (suc k) (suc (top_level (suc k))) level within in
         let some = pow_pos level in
         record {
           below = omega (arith, ap (λ (x : StepRef). x.page) at, rises (suc k - 2 ^ level) (suc k) (omega (arith, some)) (omega (arith, l)));
-          genesis = λ same.
-              let none : suc k - 2 ^ level ≡ 0 = omega (arith, same) in
-              ap (λ (x : StepRef). x.page) at ∙ ap (λ (i : ℕ). page i) none ∙ ap (λ (p : Place). p.page) kept.nowhere;
+          genesis = (
+            λ same.
+                let none : suc k - 2 ^ level ≡ 0 = omega (arith, same) in
+                ap (λ (x : StepRef). x.page) at ∙ ap (λ (i : ℕ). page i) none ∙ ap (λ (p : Place). p.page) kept.nowhere,
+            λ none.
+                let first : suc k - 2 ^ level ≡ 0 = no_page (suc k - 2 ^ level) (omega (arith, l)) (sym (ap (λ (x : StepRef). x.page) at) ∙ none) in
+                let within_step = power-le (suc k) level (omega arith) (omega (arith, l, kept.short)) (omega (arith, within)) in
+                omega (arith, first, within_step),
+          );
         }
 
     kept_next : (k : ℕ) → k < length h.steps → IsStepAt (dig empty_tree_text) ps (page (suc k)) (suc k) (fields_at dig h places (suc k)) (links_at dig h places (suc k))
@@ -130,7 +149,7 @@ module _ (dig : List ℕ → List ℕ) (size : (text : List ℕ) → length (dig
             field_rules = record {
               count = s.limits.count;
               size = omega (arith, length-stream (events_at h (suc k)), s.limits.count, s.limits.bytes);
-              none = s.stream.none;
+              none = (s.stream.none, no_bytes k s);
               first = first_below k s;
               archive = refl;
             };

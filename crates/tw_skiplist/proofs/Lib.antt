@@ -1,3 +1,4 @@
+pub mod Appending
 pub mod BadPages
 pub mod Decode
 pub mod Finding
@@ -9,6 +10,7 @@ pub mod Once
 pub mod Padded
 pub mod Plus
 pub mod Recording
+pub mod Shapes
 pub mod Sounding
 pub mod Spelling
 pub mod Streams

@@ -4,7 +4,7 @@ use Rattle.std.specs.Prelude.{map, remove, ◌==◌, if◌then◌else◌}
 use Rattle.std.proofs.lemmas.Bool.{cases_lt}
 use Rattle.std.proofs.lemmas.Bool.Decides.{eqb_tells}
 use Rattle.std.proofs.lemmas.List.{length_push, map_push}
-use Rattle.std.proofs.lemmas.List.Edits.{remove-append_left}
+use Rattle.std.proofs.lemmas.List.Edits.{length-remove, remove-append_left}
 use Rattle.std.proofs.lemmas.Nat.{pow_pos}
 use Rattle.tw_disk.specs.Image.{Image}
 use Rattle.tw_base.specs.Texts.{datum_text, empty_tree_text, link_text}
@@ -23,7 +23,7 @@ use Rattle.tw_skiplist.specs.declared.info.StepInfo.{StepInfo}
 use Rattle.tw_skiplist.specs.Infos.{IsInfoOf}
 use Rattle.tw_skiplist.specs.Keeping.{KeepsSteps, Place, fields_at, links_at, place_of}
 use Rattle.tw_skiplist.specs.Reading.{HasLink, IsStepAt, link_of, no_ref}
-use Rattle.tw_skiplist.specs.Records.{HasHop, TellsInfo, info_record, link_record, page_datum, page_labels}
+use Rattle.tw_skiplist.specs.Records.{HasHop, TellsInfo, info_record, link_record, other_labels, page_datum, page_labels}
 use Rattle.tw_skiplist.proofs.Kept.{fields_are, get_or-links_to, length-links_to, links_are}
 
 -- ---- a list without one of its elements
@@ -71,6 +71,12 @@ module _ (dig : List ℕ → List ℕ) where
   unfolding page_labels
   length-page_labels step datum links zero = refl
   length-page_labels step datum links (suc level) = length_push (page_labels dig step datum links level) _ ∙ omega (arith, length-page_labels step datum links level)
+
+  -- all labels but one
+  pub length-other_labels : (step : ℕ) (datum : List ℕ) (links : List StepRef) (level n : ℕ) → length links ≡ suc n → level ≤ n → length (other_labels dig step datum links level) ≡ n
+  length-other_labels step datum links level n count l =
+      let all = length-page_labels step datum links (length links) in
+      omega (arith, count, all, length-remove (page_labels dig step datum links (length links)) level (omega (arith, l, count, all)))
 
   pub page_labels-more : (step : ℕ) (datum : List ℕ) (links : List StepRef) (level without : ℕ)
       → (if level == without then remove (page_labels dig step datum links level) without else remove (page_labels dig step datum links level) without ++ dig (link_text step level datum (link_of links level).auth) ∷ [])

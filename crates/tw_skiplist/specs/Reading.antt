@@ -1,5 +1,5 @@
 -- Which pages are step pages, and in which order a walk reads them.
-use Rattle.std.specs.Prelude.{◌≡◌, ℕ, suc, zero, ◌+◌, ◌-◌, ◌*◌, ◌^◌, ◌<◌, ◌≤◌, ◌⊎◌, List, [], ◌∷◌, ◌++◌, length, take, drop, slice_index_or}
+use Rattle.std.specs.Prelude.{◌≡◌, ℕ, suc, zero, ◌+◌, ◌-◌, ◌*◌, ◌^◌, ◌<◌, ◌≤◌, ◌⊎◌, ◌↔◌, List, [], ◌∷◌, ◌++◌, length, take, drop, slice_index_or}
 use Rattle.std.specs.Int.{from_be_bytes, w32, w64}
 use Rattle.tw_disk.specs.Image.{Image, page_at}
 use Rattle.tw_base.specs.Levels.{top_level}
@@ -36,19 +36,19 @@ no_ref = record { page = 0; auth = [] }
 abbrev pub link_of : List StepRef → (level : ℕ) → StepRef
 link_of links level = slice_index_or links level no_ref
 
--- the numbers are within their ranges, and the archive is the empty one; a step without a stream has no event page, and
--- the first event page of any other lies below the page
+-- the numbers are within their ranges, and the archive is the empty one; the first event page lies below the page, and is 0
+-- exactly where the stream has no bytes
 pub record KeepsFieldRules (empty : List ℕ) (page : ℕ) (f : StepFields) : Type 0 where
   pub count : f.count ≤ 1024
   pub size : f.stream.size ≤ 69632
-  pub none : f.stream.size ≡ 0 → f.stream.page ≡ 0
+  pub none : f.stream.size ≡ 0 ↔ f.stream.page ≡ 0
   pub first : f.stream.page < page
   pub archive : f.archive ≡ empty
 
--- a link at this level leads to a page below the page; one to step 0 has page 0
+-- a link at this level leads to a page below the page, which is 0 exactly where the link leads to step 0
 pub record LiesBelow (page step level : ℕ) (link : StepRef) : Type 0 where
   pub below : link.page < page
-  pub genesis : step ≡ 2 ^ level → link.page ≡ 0
+  pub genesis : step ≡ 2 ^ level ↔ link.page ≡ 0
 
 abbrev pub KeepsLinkRules : (page step : ℕ) → List StepRef → Type 0
 KeepsLinkRules page step links = (level : ℕ) → level < length links → LiesBelow page step level (link_of links level)

@@ -1,9 +1,10 @@
 -- What the fields and links of a step's page make of a path and of an opening.
-use Rattle.std.specs.Prelude.{◌≡◌, ℕ, suc, zero, List, [], ◌∷◌, ◌++◌, length, remove}
+use Rattle.std.specs.Prelude.{◌≡◌, ℕ, suc, zero, ◌<◌, List, [], ◌∷◌, ◌++◌, length, remove}
 use Rattle.tw_disk.specs.Image.{Image}
 use Rattle.tw_base.specs.Texts.{datum_text, empty_tree_text, link_text}
 use Rattle.tw_skipproof.specs.declared.opening.Opening.{Opening}
 use Rattle.tw_skipproof.specs.declared.path.Link.{Link}
+use Rattle.tw_skipproof.specs.Paths.{hop, hop_level}
 use Rattle.tw_skiplist.specs.declared.head.Head.{Head}
 use Rattle.tw_skiplist.specs.declared.head.StepRef.{StepRef}
 use Rattle.tw_skiplist.specs.declared.fields.StepFields.{StepFields}
@@ -62,6 +63,13 @@ module _ (dig : List ℕ → List ℕ) where
     pub is : IsStepAt empty pages page step fields links
     pub info_is : info ≡ info_record page step fields links
 
+-- The walk of `Walks`, with the records of the links that it follows, in its order: it comes to this link, which leads to
+-- step `at`.
+pub data WalksAlong (dig : List ℕ → List ℕ) (empty : List ℕ) (pages : Image) (first : StepRef) (from to : ℕ) : List Link → StepRef → ℕ → Type 0 where
+  here : WalksAlong dig empty pages first from to [] first from
+  on : (so_far : List Link) (link : StepRef) (at : ℕ) (of_link : Link) (next : StepRef) → WalksAlong dig empty pages first from to so_far link at → to < at
+      → HasHop dig empty pages link.page at (hop_level at to) of_link next → WalksAlong dig empty pages first from to (so_far ++ of_link ∷ []) next (hop at to)
+
 -- the link that a head is
 abbrev pub head_ref : Head → StepRef
 head_ref head = record { page = head.page; auth = head.auth }
@@ -88,3 +96,11 @@ module _ (dig : List ℕ → List ℕ) (pages : Image) (head : Head) where
 
   abbrev pub FindsBadPageVia : (top i page : ℕ) → Type 0
   FindsBadPageVia top i page = MeetsBadPageVia empty_label pages (head_ref head) head.step top i page
+
+  -- the walk from the head comes to the top, and the walk from there on down to the step follows links that have exactly these
+  -- records
+  pub record FindsPath (top i : ℕ) (links : List Link) : Type 0 where
+    pub middle : StepRef
+    pub last : StepRef
+    pub down : Walks empty_label pages (head_ref head) head.step top middle top
+    pub along : WalksAlong dig empty_label pages middle top i links last i

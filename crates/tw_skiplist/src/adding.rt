@@ -1,6 +1,6 @@
 // One more step.
 
-ghost use Rattle.std.specs.Prelude.{◌≡◌, ℕ, suc, ◌+◌, ◌<◌, ◌≤◌, ◌^◌, ◌++◌, ◌∷◌, [], List, length, Some, IfOk};
+ghost use Rattle.std.specs.Prelude.{◌≡◌, ℕ, suc, ◌+◌, ◌<◌, ◌≤◌, ◌^◌, ◌++◌, ◌∷◌, [], List, length, Some, IfOk, OnErr};
 ghost use Rattle.tw_disk.specs.Image.{Image};
 ghost use Rattle.tw_disk.specs.Pages.{OnlyReads};
 ghost use Rattle.tw_base.specs.History.{History, plus};
@@ -9,10 +9,10 @@ ghost use Rattle.tw_base.specs.Texts.{authenticator_text, empty_tree_text, link_
 ghost use Rattle.tw_skiplist.specs.Answers.{FaultsRise, IfBadPage, NeverNoStep, NotDiskFault};
 ghost use Rattle.tw_skiplist.specs.Infos.{Added};
 ghost use Rattle.tw_skiplist.specs.Keeping.{IsWithinLimits, Keeps, event_step};
-ghost use Rattle.tw_skiplist.specs.Reading.{Gathers, GathersBadPage};
-ghost use Rattle.tw_skiplist.specs.Records.{head_ref};
+ghost use Rattle.tw_skiplist.specs.Reading.{Gathers, GathersBadPage, link_of};
+ghost use Rattle.tw_skiplist.specs.Records.{head_ref, page_labels};
 ghost use Rattle.tw_skiplist.specs.declared.head.StepRef.{StepRef};
-ghost use Rattle.tw_skiplist.specs.Links.{HasLinks, IsPut, LeadsNowhere};
+ghost use Rattle.tw_skiplist.specs.Links.{Extends, HasLinks, IsAppended, IsPut, LeadsNowhere};
 
 use crate::fault::ListFault;
 use crate::fields::{StepFields, StreamRef};
@@ -74,6 +74,10 @@ fn gather<P: Pages, H: Hasher>(
     requires empty { empty.now ≡ H.dig empty_tree_text }
     ensures links { IfOk result (λ l. (ps : Image) → P.list pages.old ≡ Some ps →
         HasLinks H.dig ps first.now from datum.now l.links.items l.labels.items (suc (top_level_of (from + 1)))) }
+    ensures count { IfOk result (λ l. length l.links.items ≡ suc (top_level_of (from + 1))) }
+    ensures labels { IfOk result (λ l. l.labels.items ≡ page_labels H.dig (from + 1) datum.now l.links.items (length l.links.items)) }
+    ensures gathered { IfOk result (λ l. (ps : Image) → P.list pages.old ≡ Some ps → (level : ℕ) → level < length l.links.items →
+        Gathers empty.now ps first.now from level (link_of l.links.items level)) }
     ensures sizes { IfOk result (λ l. (length l.links.items ≤ 40) × (length l.labels.items ≤ 40)) }
     ensures found { IfOk result (λ _. (ps : Image) → P.list pages.old ≡ Some ps →
         (last : StepRef) × Gathers empty.now ps first.now from (top_level_of (from + 1)) last) }
@@ -128,6 +132,7 @@ fn put_step<P: Pages, H: Hasher>(
     requires labels { length links.now.labels.items ≤ 40 }
     ensures put { IfOk result (λ new. (ps : Image) → P.list pages.old ≡ Some ps →
         IsPut ps step content.now.stream content.now.count content.now.event_root content.now.archive links.now.links.items (P.list pages.new) new) }
+    ensures left { OnErr result ((ps : Image) → P.list pages.old ≡ Some ps → Extends ps (P.list pages.new)) }
     ensures auth { IfOk result (λ new. new.auth ≡ H.dig (authenticator_text step links.now.labels.items)) }
     ensures step { IfOk result (λ new. new.step ≡ step) }
     ensures page { IfOk result (λ new. P.used_count pages.new ≡ new.page + 1) }
@@ -156,12 +161,15 @@ fn put_step<P: Pages, H: Hasher>(
 }
 
 /// Adds a step of these events to the history whose head is given, and answers the new head. It
-/// stages the event pages and then the step page, at most 19 pages in all.
+/// stages the event pages and then the step page, at most 19 pages in all. Where the pages are told,
+/// the step's links are those that they themselves lead to from the head, and its authenticator is
+/// that of the links' labels.
 ///
 /// Conditions: the head's step is below 2^40 - 1, fewer than 2^47 pages are used, and the events are
 /// within the limits of a step: at most 1,024, each at most 1,024 bytes, together at most 65,536.
-/// After a refusal pages of the call may stay staged. BadPage never comes where the pages keep
-/// a history under the head, and NoStep never comes.
+/// After a refusal pages of the call may stay staged, behind those that were there. Where the pages
+/// are told, BadPage tells the page of a link that isn't the page of its step; it never comes where
+/// they keep a history under the head. NoStep never comes.
 pub fn append<P: Pages, H: Hasher>(
     alloc: Global,
     pages: &mut P,
@@ -173,6 +181,8 @@ pub fn append<P: Pages, H: Hasher>(
     requires limits { IsWithinLimits events.now }
     ensures added { IfOk result (λ new. (ps : Image) (h : History) → P.list pages.old ≡ Some ps → Keeps H.dig ps h head.now →
         Added H.dig ps (plus h (event_step events.now)) (P.list pages.new) new) }
+    ensures put { IfOk result (λ new. (ps : Image) → P.list pages.old ≡ Some ps → IsAppended H.dig ps head.now events.now (P.list pages.new) new) }
+    ensures left { OnErr result ((ps : Image) → P.list pages.old ≡ Some ps → Extends ps (P.list pages.new)) }
     ensures step { IfOk result (λ new. new.step ≡ head.now.step + 1) }
     ensures page { IfOk result (λ new. P.used_count pages.new ≡ new.page + 1) }
     ensures used { P.used_count pages.old ≤ P.used_count pages.new }

@@ -7,11 +7,12 @@ ghost use Rattle.tw_base.specs.History.{History};
 ghost use Rattle.tw_base.specs.Levels.{top_level};
 ghost use Rattle.tw_base.specs.Texts.{empty_tree_text};
 ghost use Rattle.tw_skipproof.specs.Making.{IsPathOf};
+ghost use Rattle.tw_skipproof.specs.Paths.{HasShape};
 ghost use Rattle.tw_skiplist.specs.declared.head.StepRef.{StepRef};
 ghost use Rattle.tw_skiplist.specs.Answers.{FaultsRise, IfBadPage, NeverNoStep, NotDiskFault};
 ghost use Rattle.tw_skiplist.specs.Keeping.{KeepsSteps, Place, link_to};
 ghost use Rattle.tw_skiplist.specs.Reading.{IsNoStepAt, MeetsBadPage, Walks};
-ghost use Rattle.tw_skiplist.specs.Records.{HasHop, TellsInfo};
+ghost use Rattle.tw_skiplist.specs.Records.{HasHop, TellsInfo, WalksAlong};
 
 use crate::fault::ListFault;
 use crate::head::StepRef;
@@ -43,6 +44,7 @@ fn hop_at<P: Pages, H: Hasher>(
     requires step { at < 2 ^ 40 }
     requires level { level ≤ top_level at }
     ensures hop { IfOk result (λ hop. (ps : Image) → P.list pages.old ≡ Some ps → HasHop H.dig empty.now ps link.now.page at level hop.link hop.next) }
+    ensures others { IfOk result (λ hop. length hop.link.others ≡ top_level at) }
     ensures bad { IfBadPage result (λ p. (p ≡ link.now.page) × ((ps : Image) → P.list pages.old ≡ Some ps → IsNoStepAt empty.now ps link.now.page at)) }
     ensures no_step { NeverNoStep result }
     ensures kept { OnlyReads P.used_count P.list P.same P.unbroken pages.old pages.new (NotDiskFault result) }
@@ -79,6 +81,8 @@ pub(crate) fn collect<P: Pages, H: Hasher>(
     requires below { to ≤ from }
     requires step { from < 2 ^ 40 }
     requires empty { empty.now ≡ H.dig empty_tree_text }
+    ensures shape { IfOk result (λ c. HasShape c.links from to) }
+    ensures along { IfOk result (λ c. (ps : Image) → P.list pages.old ≡ Some ps → WalksAlong H.dig empty.now ps first.now from to c.links c.last to) }
     ensures walks { IfOk result (λ c. (ps : Image) → P.list pages.old ≡ Some ps → Walks empty.now ps first.now from to c.last to) }
     ensures path { IfOk result (λ c. (ps : Image) (h : History) (places : List Place) → P.list pages.old ≡ Some ps → KeepsSteps H.dig ps h places →
         from ≤ length h.steps → first.now ≡ link_to H.dig h places from → IsPathOf H.dig h c.links from to) }
@@ -173,6 +177,9 @@ pub(crate) fn collect_proof<P: Pages, H: Hasher>(
     requires empty { empty.now ≡ H.dig empty_tree_text }
     ensures path { IfOk result (λ proof. (ps : Image) (h : History) (places : List Place) → P.list pages.old ≡ Some ps → KeepsSteps H.dig ps h places →
         from ≤ length h.steps → first.now ≡ link_to H.dig h places from → IsPathOf H.dig h proof.path.links from to) }
+    ensures shape { IfOk result (λ proof. HasShape proof.path.links from to) }
+    ensures along { IfOk result (λ proof. (ps : Image) → P.list pages.old ≡ Some ps →
+        (last : StepRef) × WalksAlong H.dig empty.now ps first.now from to proof.path.links last to) }
     ensures info { IfOk result (λ proof. (ps : Image) → P.list pages.old ≡ Some ps →
         (link : StepRef) × Walks empty.now ps first.now from to link to × TellsInfo H.dig empty.now ps link.page to proof.info) }
     ensures bad { IfBadPage result (λ p. (ps : Image) → P.list pages.old ≡ Some ps → MeetsBadPage empty.now ps first.now from to p) }

@@ -5,7 +5,9 @@
 pub enum ListFault {
     /// The step asked for isn't there; the last step is told.
     NoStep { last: u64 },
-    /// The page of this number isn't of its kind. It never comes over pages that keep a history.
+    /// The page of this number isn't what it is named as: it is none of the pages, or not of its kind,
+    /// or of another step. Or the event pages of a step are, but spell no such events, and it is the
+    /// page that was read last. It never comes over pages that keep a history under the head.
     BadPage { page: u64 },
     /// A read failed; the count of faults of the pages rose in this call.
     DiskFault,

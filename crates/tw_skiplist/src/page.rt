@@ -187,7 +187,7 @@ fn keeps_field_rules(empty: &Digest, page: u64, fields: &StepFields) -> bool
 {
     fields.count <= 1024
         && fields.stream.size <= 69632
-        && (fields.stream.size != 0 || fields.stream.page == 0)
+        && (fields.stream.size == 0) == (fields.stream.page == 0)
         && fields.stream.page < page
         && fields.archive == *empty
 }
@@ -196,7 +196,7 @@ fn lies_below(page: u64, step: u64, level: u8, link: &StepRef) -> bool
     requires { level < 40 }
     ensures { IsTrue result ↔ LiesBelow page step level link.now }
 {
-    link.page < page && (step != power(level) || link.page == 0)
+    link.page < page && (step == power(level)) == (link.page == 0)
 }
 
 fn keeps_link_rules(page: u64, step: u64, links: &[StepRef]) -> bool

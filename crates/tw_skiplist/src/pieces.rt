@@ -1,12 +1,13 @@
 // The stream of a step's events, and its pieces.
 
-ghost use Rattle.std.specs.Prelude.{◌≡◌, ℕ, ◌+◌, ◌*◌, ◌<◌, ◌≤◌, ◌^◌, ◌++◌, List, length, IfOk, OnOk, OnErr};
+ghost use Rattle.std.specs.Prelude.{◌≡◌, ℕ, ◌+◌, ◌*◌, ◌<◌, ◌≤◌, ◌^◌, ◌++◌, List, length, Some, IfOk, OnOk, OnErr};
 ghost use Rattle.std.specs.Int.{to_be_bytes, w32};
 ghost use Rattle.std.specs.Option.{option_map};
 ghost use Rattle.tw_base.specs.Lists.{Each};
+ghost use Rattle.tw_disk.specs.Image.{Image};
 ghost use Rattle.tw_skiplist.specs.Bytes.{event_bytes, event_pages, piece, stream};
 ghost use Rattle.tw_skiplist.specs.Keeping.{IsWithinLimits};
-ghost use Rattle.tw_skiplist.specs.Links.{IsPieceCount};
+ghost use Rattle.tw_skiplist.specs.Links.{Extends, IsPieceCount};
 
 use crate::page::event_page;
 use std::alloc::Global;
@@ -64,6 +65,7 @@ pub(crate) fn stage_pieces<P: Pages>(
     requires used { P.used_count pages.old < 2 ^ 47 }
     requires size { length stream.now ≤ 69632 }
     ensures list { IfOk result (λ count. P.list pages.new ≡ option_map (λ ps. ps ++ event_pages step stream.now count) (P.list pages.old)) }
+    ensures left { OnErr result ((ps : Image) → P.list pages.old ≡ Some ps → Extends ps (P.list pages.new)) }
     ensures count { IfOk result (λ count. IsPieceCount (length stream.now) count) }
     ensures used { IfOk result (λ count. P.used_count pages.new ≡ P.used_count pages.old + count) }
     ensures few { P.used_count pages.new ≤ P.used_count pages.old + 18 }

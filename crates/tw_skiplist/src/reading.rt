@@ -1,6 +1,6 @@
 // Reading steps.
 
-ghost use Rattle.std.specs.Prelude.{◌≡◌, ℕ, ◌+◌, ◌<◌, ◌≤◌, ◌^◌, ◌⊎◌, List, Some, IfOk};
+ghost use Rattle.std.specs.Prelude.{◌≡◌, ℕ, ◌+◌, ◌*◌, ◌<◌, ◌≤◌, ◌^◌, ◌⊎◌, List, length, Some, IfOk};
 ghost use Rattle.tw_disk.specs.Image.{Image};
 ghost use Rattle.tw_disk.specs.Pages.{OnlyReads};
 ghost use Rattle.tw_base.specs.History.{History, events_at};
@@ -11,9 +11,9 @@ ghost use Rattle.tw_skiplist.specs.Events.{FindsEvents, FindsNoEvents};
 ghost use Rattle.tw_skiplist.specs.Infos.{IsInfoOf};
 ghost use Rattle.tw_base.specs.Texts.{empty_tree_text};
 ghost use Rattle.tw_skiplist.specs.declared.head.StepRef.{StepRef};
-ghost use Rattle.tw_skiplist.specs.Keeping.{Keeps};
+ghost use Rattle.tw_skiplist.specs.Keeping.{IsWithinLimits, Keeps};
 ghost use Rattle.tw_skiplist.specs.Reading.{WalksVia};
-ghost use Rattle.tw_skiplist.specs.Records.{FindsBadPage, FindsBadPageVia, FindsInfo, FindsProof, head_ref};
+ghost use Rattle.tw_skiplist.specs.Records.{FindsBadPage, FindsBadPageVia, FindsInfo, FindsPath, FindsProof, head_ref};
 
 use crate::collecting::{Collected, collect, collect_proof, find_info};
 use crate::event_pages::{StreamRead, read_events, read_stream};
@@ -37,10 +37,11 @@ fn link_to_head(head: &Head) -> StepRef
 }
 
 /// The step i of the history whose head is given (a step below 2^40). It is reached by the links of
-/// the greedy path, and each page is read once.
+/// the greedy path; a test shows that each page is read once.
 ///
-/// NoStep exactly where i isn't within 1 and the head's step. BadPage never comes where the pages
-/// keep a history under the head.
+/// NoStep exactly where i isn't within 1 and the head's step. Where the pages are told, BadPage tells
+/// the first page of the way that isn't the page of its step; it never comes where they keep
+/// a history under the head.
 pub fn step<P: Pages, H: Hasher>(
     alloc: Global,
     pages: &mut P,
@@ -69,10 +70,13 @@ pub fn step<P: Pages, H: Hasher>(
 }
 
 /// The path from the step n down to the step i, of the history whose head is given (a step below
-/// 2^40). It is reached by the links of the greedy path, and each page is read once.
+/// 2^40). It is reached by the links of the greedy path; a test shows that each page is read once.
+/// Over any pages it has at most twice as many links as n has binary digits, and where the pages are
+/// told its links are the records of those that the way from n to i follows.
 ///
-/// NoStep exactly where i <= n <= the head's step doesn't hold; i may be 0. BadPage never comes
-/// where the pages keep a history under the head.
+/// NoStep exactly where i <= n <= the head's step doesn't hold; i may be 0. Where the pages are told,
+/// BadPage tells the first page of the way that isn't the page of its step; it never comes where they
+/// keep a history under the head.
 pub fn path<P: Pages, H: Hasher>(
     alloc: Global,
     pages: &mut P,
@@ -83,8 +87,10 @@ pub fn path<P: Pages, H: Hasher>(
     requires { head.now.step < 2 ^ 40 }
     ensures path { IfOk result (λ path. (ps : Image) (h : History) → P.list pages.old ≡ Some ps → Keeps H.dig ps h head.now →
         IsPathOf H.dig h path.links n i) }
+    ensures bound { IfOk result (λ path. (digits : ℕ) → n < 2 ^ digits → length path.links ≤ 2 * digits) }
     ensures found { IfOk result (λ _. (ps : Image) → P.list pages.old ≡ Some ps →
         (last : StepRef) × WalksVia (H.dig empty_tree_text) ps (head_ref head.now) head.now.step n i last) }
+    ensures recorded { IfOk result (λ path. (ps : Image) → P.list pages.old ≡ Some ps → FindsPath H.dig ps head.now n i path.links) }
     ensures bad { IfBadPage result (λ p. (ps : Image) → P.list pages.old ≡ Some ps → FindsBadPageVia H.dig ps head.now n i p) }
     ensures good { IfBadPage result (λ _. (ps : Image) (h : History) → P.list pages.old ≡ Some ps → Keeps H.dig ps h head.now → ⊥) }
     ensures no_step { NoStepUnless result head.now.step ((i ≤ n) × (n ≤ head.now.step)) }
@@ -106,11 +112,12 @@ pub fn path<P: Pages, H: Hasher>(
 }
 
 /// What a proof of the step i under the top needs: the path from the top to the step, and the step.
-/// Each page is read once: those of the way from the head (a step below 2^40) to the top, and those
-/// of the path down to the step.
+/// They are reached by the links of the greedy path from the head (a step below 2^40) to the top, and
+/// from there on; a test shows that each page is read once. Of the path the same holds as of `path`.
 ///
-/// NoStep exactly where 1 <= i <= top <= the head's step doesn't hold. BadPage never comes where the
-/// pages keep a history under the head.
+/// NoStep exactly where 1 <= i <= top <= the head's step doesn't hold. Where the pages are told,
+/// BadPage tells the first page of the way that isn't the page of its step; it never comes where they
+/// keep a history under the head.
 pub fn prove<P: Pages, H: Hasher>(
     alloc: Global,
     pages: &mut P,
@@ -121,9 +128,11 @@ pub fn prove<P: Pages, H: Hasher>(
     requires { head.now.step < 2 ^ 40 }
     ensures path { IfOk result (λ proof. (ps : Image) (h : History) → P.list pages.old ≡ Some ps → Keeps H.dig ps h head.now →
         IsPathOf H.dig h proof.path.links top i) }
+    ensures bound { IfOk result (λ proof. (digits : ℕ) → top < 2 ^ digits → length proof.path.links ≤ 2 * digits) }
     ensures info { IfOk result (λ proof. (ps : Image) (h : History) → P.list pages.old ≡ Some ps → Keeps H.dig ps h head.now →
         IsInfoOf H.dig ps h i proof.info) }
     ensures found { IfOk result (λ proof. (ps : Image) → P.list pages.old ≡ Some ps → FindsProof H.dig ps head.now top i proof.info) }
+    ensures recorded { IfOk result (λ proof. (ps : Image) → P.list pages.old ≡ Some ps → FindsPath H.dig ps head.now top i proof.path.links) }
     ensures bad { IfBadPage result (λ p. (ps : Image) → P.list pages.old ≡ Some ps → FindsBadPageVia H.dig ps head.now top i p) }
     ensures good { IfBadPage result (λ _. (ps : Image) (h : History) → P.list pages.old ≡ Some ps → Keeps H.dig ps h head.now → ⊥) }
     ensures no_step { NoStepUnless result head.now.step ((1 ≤ i) × (i ≤ top) × (top ≤ head.now.step)) }
@@ -145,8 +154,12 @@ pub fn prove<P: Pages, H: Hasher>(
 }
 
 /// The events of a step that `step` or `prove` told of the same pages, from its event pages alone.
+/// Over any pages they are within the limits of a step, and as many as the info counts.
 ///
-/// BadPage never comes where the info is of a step that the pages keep, and NoStep never comes.
+/// Where the pages are told, BadPage tells the step's page if the info has a stream longer than any
+/// step's, else the first event page that isn't of its kind, or, if their stream spells no such
+/// events, the last of them (the step's page if there is none). It never comes where the info is of
+/// a step that the pages keep, and NoStep never comes.
 pub fn events_of<P: Pages>(
     alloc: Global,
     pages: &mut P,
@@ -154,6 +167,7 @@ pub fn events_of<P: Pages>(
 ) -> Result<EventList, ListFault>
     ensures events { IfOk result (λ events. (dig : List ℕ → List ℕ) (ps : Image) (h : History) (i : ℕ) → P.list pages.old ≡ Some ps →
         IsInfoOf dig ps h i info.now → events ≡ events_at h i) }
+    ensures counted { IfOk result (λ events. IsWithinLimits events × (length events ≡ info.now.count)) }
     ensures found { IfOk result (λ events. (ps : Image) → P.list pages.old ≡ Some ps → FindsEvents ps info.now events) }
     ensures bad { IfBadPage result (λ p. (ps : Image) → P.list pages.old ≡ Some ps → FindsNoEvents ps info.now p) }
     ensures good { IfBadPage result (λ _. (dig : List ℕ → List ℕ) (ps : Image) (h : History) (i : ℕ) → P.list pages.old ≡ Some ps →
@@ -175,11 +189,11 @@ pub fn events_of<P: Pages>(
     }
 }
 
-/// The events of the step i of the history whose head is given (a step below 2^40). Each page is
-/// read once.
+/// The events of the step i of the history whose head is given (a step below 2^40), found as by
+/// `step` and then `events_of`; a test shows that each page is read once.
 ///
-/// NoStep exactly where i isn't within 1 and the head's step. BadPage never comes where the pages
-/// keep a history under the head.
+/// NoStep exactly where i isn't within 1 and the head's step. BadPage comes as of these two, and
+/// never where the pages keep a history under the head.
 pub fn events<P: Pages, H: Hasher>(
     alloc: Global,
     pages: &mut P,

@@ -1,6 +1,6 @@
 // Steps in pages in memory: the bytes of pages, what is read back, and pages that aren't of their kind.
 
-ghost use Rattle.std.specs.Prelude.{◌*◌, ◌≤◌, ◌≡◌, List, IfOk, length};
+ghost use Rattle.std.specs.Prelude.{◌+◌, ◌*◌, ◌≤◌, ◌≡◌, List, IfOk, length};
 ghost use Rattle.tw_skiplist.specs.Keeping.{IsWithinLimits};
 
 use super::*;
@@ -87,6 +87,16 @@ fn four_steps(alloc: Global, pages: &mut MemPages) -> Result<Head, Fail> {
     let second = add(alloc, pages, &first, 64, 1024)?;
     let third = add(alloc, pages, &second, 0, 0)?;
     add(alloc, pages, &third, 3, 5)
+}
+
+/// Appends so many steps of no event.
+fn add_many(alloc: Global, pages: &mut MemPages, head: &Head, count: u32) -> Result<Head, Fail> {
+    let mut last = *head;
+    for _ in 0..count {
+        let next = add(alloc, pages, &last, 0, 0)?;
+        last = next;
+    }
+    Ok(last)
 }
 
 /// All pages from number 4 on.
@@ -185,15 +195,8 @@ fn events_are_read_back(rt: HostRuntime) -> Result<(), Fail> {
 #[test]
 fn a_proof_reads_each_page_once(rt: HostRuntime) -> Result<(), Fail> {
     let mut pages = MemPages::new(rt.alloc())?;
-    let mut head = no_step()?;
-    let mut first = head;
-    for index in 0..1023 {
-        let next = add(rt.alloc(), &mut pages, &head, 0, 0)?;
-        head = next;
-        if index == 0 {
-            first = next;
-        }
-    }
+    let first = add(rt.alloc(), &mut pages, &no_step()?, 0, 0)?;
+    let head = add_many(rt.alloc(), &mut pages, &first, 1022)?;
     if head.step >= 1 << 40 {
         return Err("too many steps")?;
     }
@@ -216,6 +219,54 @@ fn a_proof_reads_each_page_once(rt: HostRuntime) -> Result<(), Fail> {
     let before = pages.reads();
     add(rt.alloc(), &mut pages, &head, 0, 0)?;
     assert_eq!(rt; pages.reads().saturating_sub(before), 10);
+    Ok(())
+}
+
+/// How many links the path from the step n down to the step i has.
+fn path_length(
+    alloc: Global,
+    pages: &mut MemPages,
+    head: &Head,
+    n: u64,
+    i: u64,
+) -> Result<usize, Fail> {
+    if head.step >= 1 << 40 {
+        return Err("too many steps")?;
+    }
+    match path::<MemPages, Sha>(alloc, pages, head, n, i) {
+        Ok(path) => Ok(path.links.as_slice().len()),
+        Err(_) => Err("no path")?,
+    }
+}
+
+// From step 1023 to step 1000 the greedy path has 5 links, from there to step 1 it has 14, and from step 1023 to step 1 18.
+#[test]
+fn a_walk_reads_each_page_once(rt: HostRuntime) -> Result<(), Fail> {
+    let mut pages = MemPages::new(rt.alloc())?;
+    let head = add_many(rt.alloc(), &mut pages, &no_step()?, 1023)?;
+    let before = pages.reads();
+    assert_eq!(rt; fault_at(rt.alloc(), &mut pages, &head, 1), None);
+    assert_eq!(rt; pages.reads().saturating_sub(before), 19);
+    let before = pages.reads();
+    assert_eq!(rt; path_length(rt.alloc(), &mut pages, &head, 1000, 1)?, 14);
+    assert_eq!(rt; pages.reads().saturating_sub(before), 19);
+    let before = pages.reads();
+    if head.step >= 1 << 40 {
+        return Err("too many steps")?;
+    }
+    assert!(rt; prove::<MemPages, Sha>(rt.alloc(), &mut pages, &head, 1000, 1).is_ok());
+    assert_eq!(rt; pages.reads().saturating_sub(before), 20);
+    Ok(())
+}
+
+// From step 4 to step 2 the greedy path has one link, and step 2 has 17 event pages.
+#[test]
+fn events_read_each_page_once(rt: HostRuntime) -> Result<(), Fail> {
+    let mut pages = MemPages::new(rt.alloc())?;
+    let head = four_steps(rt.alloc(), &mut pages)?;
+    let before = pages.reads();
+    assert_eq!(rt; events_fault_at(rt.alloc(), &mut pages, &head, 2), None);
+    assert_eq!(rt; pages.reads().saturating_sub(before), 19);
     Ok(())
 }
 
@@ -251,6 +302,107 @@ fn the_step_of_another_number_is_no_page_of_it(rt: HostRuntime) -> Result<(), Fa
         fault_at(rt.alloc(), &mut pages, &head, 1),
         Some(ListFault::BadPage { page: 24 })
     );
+    Ok(())
+}
+
+/// Stages a page once more, with another number of eight bytes at a place of it.
+fn with_number(pages: &mut MemPages, page: u64, at: usize, number: u64) -> Result<u64, Fail>
+    requires { at + 8 ≤ 4096 }
+{
+    if page < 4 || page >= pages.used() || pages.used() >= 1 << 47 {
+        return Err("no such page")?;
+    }
+    let mut bytes = [0; 4096];
+    pages.read(page, &mut bytes)?;
+    bytes[at..at + 8].copy_from_slice(&number.to_be_bytes());
+    Ok(pages.stage(&bytes)?)
+}
+
+/// Why the events of the step aren't told.
+fn events_fault_at(alloc: Global, pages: &mut MemPages, head: &Head, i: u64) -> Option<ListFault> {
+    if head.step >= 1 << 40 {
+        return None;
+    }
+    match events::<MemPages, Sha>(alloc, pages, head, i) {
+        Ok(_) => None,
+        Err(fault) => Some(fault),
+    }
+}
+
+// Step 4 has its links from place 187 on, of 40 bytes each: to step 3, to step 2, and to step 0.
+#[test]
+fn a_link_names_page_0_exactly_for_step_0(rt: HostRuntime) -> Result<(), Fail> {
+    let mut pages = MemPages::new(rt.alloc())?;
+    let mut head = four_steps(rt.alloc(), &mut pages)?;
+    let last = head.page;
+    for at in [187, 227] {
+        head.page = with_number(&mut pages, last, at, 0)?;
+        for i in [4, 1] {
+            assert_eq!(rt;
+                fault_at(rt.alloc(), &mut pages, &head, i),
+                Some(ListFault::BadPage { page: head.page }),
+                "place {at}, step {i}"
+            );
+        }
+    }
+    for number in [1, 3, 5] {
+        head.page = with_number(&mut pages, last, 267, number)?;
+        assert_eq!(rt;
+            fault_at(rt.alloc(), &mut pages, &head, 4),
+            Some(ListFault::BadPage { page: head.page }),
+            "page {number}"
+        );
+    }
+    Ok(())
+}
+
+#[test]
+fn a_link_to_page_1_to_3_is_met_there(rt: HostRuntime) -> Result<(), Fail> {
+    let mut pages = MemPages::new(rt.alloc())?;
+    let mut head = four_steps(rt.alloc(), &mut pages)?;
+    let last = head.page;
+    for number in [1, 2, 3] {
+        head.page = with_number(&mut pages, last, 187, number)?;
+        assert_eq!(rt; fault_at(rt.alloc(), &mut pages, &head, 4), None);
+        assert_eq!(rt; fault_at(rt.alloc(), &mut pages, &head, 2), None);
+        assert_eq!(rt;
+            fault_at(rt.alloc(), &mut pages, &head, 3),
+            Some(ListFault::BadPage { page: number })
+        );
+    }
+    Ok(())
+}
+
+// The first event page stands at place 18. Step 4 has events, step 3 has none.
+#[test]
+fn a_first_event_page_is_0_exactly_for_no_bytes(rt: HostRuntime) -> Result<(), Fail> {
+    let mut pages = MemPages::new(rt.alloc())?;
+    let mut head = four_steps(rt.alloc(), &mut pages)?;
+    let last = head.page;
+    head.page = with_number(&mut pages, last, 18, 0)?;
+    assert_eq!(rt;
+        events_fault_at(rt.alloc(), &mut pages, &head, 4),
+        Some(ListFault::BadPage { page: head.page })
+    );
+    for number in [1, 2, 3] {
+        head.page = with_number(&mut pages, last, 18, number)?;
+        assert_eq!(rt; fault_at(rt.alloc(), &mut pages, &head, 4), None);
+        assert_eq!(rt;
+            events_fault_at(rt.alloc(), &mut pages, &head, 4),
+            Some(ListFault::BadPage { page: number })
+        );
+    }
+    head.step = 3;
+    head.page = 24;
+    assert_eq!(rt; events_fault_at(rt.alloc(), &mut pages, &head, 3), None);
+    for number in [1, 4, 23] {
+        head.page = with_number(&mut pages, 24, 18, number)?;
+        assert_eq!(rt;
+            events_fault_at(rt.alloc(), &mut pages, &head, 3),
+            Some(ListFault::BadPage { page: head.page }),
+            "page {number}"
+        );
+    }
     Ok(())
 }
 

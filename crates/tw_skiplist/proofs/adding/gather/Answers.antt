@@ -6,7 +6,10 @@ use Rattle.tw_base.specs.History.{History}
 use Rattle.tw_skiplist.specs.Keeping.{KeepsSteps, Place, link_to}
 use Rattle.tw_skiplist.specs.Links.{HasLinks, LeadsNowhere}
 use Rattle.tw_skiplist.specs.Reading.Gathers.{next, start}
-use Rattle.tw_skiplist.specs.Reading.{Gathers, GathersBadPage, HasLink, IsNoStepAt}
+use Rattle.tw_skiplist.specs.Reading.{Gathers, GathersBadPage, HasLink, IsNoStepAt, link_of}
+use Rattle.tw_skiplist.specs.Records.{page_labels}
+use Rattle.tw_skiplist.specs.declared.head.StepRef.{StepRef}
+use Rattle.tw_skiplist.proofs.Appending.{each_push, labels_on, page_labels-first}
 use Rattle.tw_skiplist.proofs.BadPages.{bad_page_on}
 use Rattle.tw_skiplist.proofs.Kept.{power-le}
 use Rattle.tw_skiplist.proofs.Gathering.{HasLinks-more, HasLinks-none, bad_link, level_fits, next_link}
@@ -17,6 +20,8 @@ loop-level-init g c = record {
   link = λ ps told h places kept last first_is. first_is ∙ ap (λ (i : ℕ). link_to g.H.Hasher.dig h places i) (let e : c.args.from ≡ c.args.from + 1 - 1 = omega arith in e);
   links = λ ps told. HasLinks-none g.H.Hasher.dig ps c.args.first.now c.args.from c.args.datum.now c.none-links.result.links.items c.none-links.result.labels.items c.none-links.ensures.links c.none-links.ensures.labels;
   gathers = λ ps told. start;
+  gathered = λ ps told k l. absurd (omega arith);
+  labels = c.none-links.ensures.labels ∙ sym (page_labels-first g.H.Hasher.dig (c.args.from + 1) c.args.datum.now c.none-links.result.links.items);
   link_count = ap length c.none-links.ensures.links;
   label_count = ap length c.none-links.ensures.labels;
   kept = only_reads_itself g.P.Pages.used_count g.P.Pages.list g.P.Pages.same g.P.Pages.unbroken _ _ (g.met.P.Pages.same_itself _);
@@ -52,6 +57,11 @@ loop-level-preserved g c =
           let has = subst (λ (p : ℕ). HasLink c.args.empty.now ps c.loop-level.link.page (from + 1 - p) level c.in-Ok.next) c.power.ensures (c.in-Ok.ensures.next ps (inv.kept.list_kept ∙ told)) in
           let e : suc level ≡ level + 1 = omega arith in
           subst (λ (n : ℕ). Gathers c.args.empty.now ps c.args.first.now from n c.in-Ok.next) e (next level c.loop-level.link c.in-Ok.next (inv.gathers ps told) has);
+      gathered = λ ps told.
+          subst (λ (ls : List StepRef). (k : ℕ) → k < level + 1 → Gathers c.args.empty.now ps c.args.first.now from k (link_of ls k)) (sym c.add.ensures.links)
+          (each_push c.loop-level.links.links.items c.loop-level.link level inv.link_count (λ k l. Gathers c.args.empty.now ps c.args.first.now from k l) (inv.gathered ps told) (inv.gathers ps told));
+      labels = labels_on dig (from + 1) c.args.datum.now c.loop-level.links.links.items c.add.new.self.links.items c.loop-level.links.labels.items c.add.new.self.labels.items c.loop-level.link level
+          inv.link_count inv.labels c.add.ensures.links c.add.ensures.labels;
       link_count = omega (arith, c.add.ensures.link_count, inv.link_count);
       label_count = omega (arith, c.add.ensures.label_count, inv.label_count);
       kept = only_reads_on g.P.Pages.used_count g.P.Pages.list g.P.Pages.same g.P.Pages.unbroken _ _ _ _ _ _ g.met.P.Pages.same_on (λ good. tt) (λ good. tt) inv.kept c.in-Ok.ensures.kept;
@@ -115,3 +125,28 @@ returns-clause-found g c = λ ps told.
     let from = c.args.from in
     let end : c.loop-level.level ≡ top_level_of (from + 1) = omega (arith, c.loop-level-test.false, c.loop-level.auto.level-end, c.top_level-top.ensures.value) in
     (c.loop-level.link, subst (λ (l : ℕ). Gathers c.args.empty.now ps c.args.first.now from l c.loop-level.link) end (c.loop-level.invariant.gathers ps told))
+
+pub returns-clause-count : goal.returns-clause-count
+returns-clause-count g c =
+    let end : c.loop-level.level ≡ c.top_level-top.result = omega (arith, c.loop-level-test.false, c.loop-level.auto.level-end) in
+    omega (arith, c.add-2.ensures.link_count, c.loop-level.invariant.link_count, end, c.top_level-top.ensures.value)
+
+pub returns-clause-labels : goal.returns-clause-labels
+returns-clause-labels g c =
+    let inv = c.loop-level.invariant in
+    let dig = g.H.Hasher.dig in
+    let top = c.top_level-top.result in
+    let end : c.loop-level.level ≡ top = omega (arith, c.loop-level-test.false, c.loop-level.auto.level-end) in
+    let whole : top + 1 ≡ length c.add-2.new.self.links.items = omega (arith, c.add-2.ensures.link_count, inv.link_count, end) in
+    labels_on dig (c.args.from + 1) c.args.datum.now c.loop-level.links.links.items c.add-2.new.self.links.items c.loop-level.links.labels.items c.add-2.new.self.labels.items c.loop-level.link top
+    (omega (arith, inv.link_count, end)) (inv.labels ∙ ap (λ (n : ℕ). page_labels dig (c.args.from + 1) c.args.datum.now c.loop-level.links.links.items n) end) c.add-2.ensures.links c.add-2.ensures.labels
+    ∙ ap (λ (n : ℕ). page_labels dig (c.args.from + 1) c.args.datum.now c.add-2.new.self.links.items n) whole
+
+pub returns-clause-gathered : goal.returns-clause-gathered
+returns-clause-gathered g c = λ ps told k l.
+    let inv = c.loop-level.invariant in
+    let from = c.args.from in
+    let level = c.loop-level.level in
+    let under : k < level + 1 = omega (arith, l, c.add-2.ensures.link_count, inv.link_count) in
+    subst (λ (ls : List StepRef). Gathers c.args.empty.now ps c.args.first.now from k (link_of ls k)) (sym c.add-2.ensures.links)
+    (each_push c.loop-level.links.links.items c.loop-level.link level inv.link_count (λ k l. Gathers c.args.empty.now ps c.args.first.now from k l) (inv.gathered ps told) (inv.gathers ps told) k under)

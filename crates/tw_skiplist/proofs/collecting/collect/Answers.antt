@@ -1,24 +1,30 @@
-use Rattle.std.proofs.Common.{◌≡◌, ◌<◌, ◌-◌, ◌^◌, ◌++◌, ◌∷◌, [], ℕ, List, ap, sym, ◌∙◌, subst, arith, Some}
+use Rattle.std.proofs.Common.{◌≡◌, ◌<◌, ◌-◌, ◌^◌, ◌++◌, ◌∷◌, [], ℕ, List, length, ap, sym, ◌∙◌, subst, arith, Some}
 use Rattle.tw_disk.specs.Image.{Image}
 use Rattle.tw_disk.specs.Pages.{only_reads_itself, only_reads_on}
+use Rattle.tw_base.specs.Levels.{top_level}
 use Rattle.tw_base.proofs.Levels.{top_level-below}
 use Rattle.tw_skipproof.specs.Making.{IsPathOf}
-use Rattle.tw_skipproof.specs.Paths.{hop, hop_level}
+use Rattle.tw_skipproof.specs.Paths.{HasShape, hop, hop_level}
 use Rattle.tw_skipproof.specs.declared.path.Link.{Link}
 use Rattle.tw_skipproof.proofs.Hops.{hop_level-le, hop_level-short}
 use Rattle.tw_skipproof.proofs.Making.{LeadsTo, leads-end, leads-further}
 use Rattle.tw_skiplist.specs.declared.head.StepRef.{StepRef}
 use Rattle.tw_skiplist.specs.Reading.{Walks}
 use Rattle.tw_skiplist.specs.Reading.Walks.{here, on}
-use Rattle.tw_skiplist.specs.Records.{HasHop}
+use Rattle.tw_skiplist.specs.Records.{HasHop, WalksAlong}
+use Rattle.tw_skiplist.specs.Records.WalksAlong.{here as no_link, on as one_more}
 use Rattle.tw_skiplist.proofs.Kept.{walk_leads}
 use Rattle.tw_skiplist.proofs.Recording.{hop_link, record_of}
+use Rattle.tw_skiplist.proofs.Shapes.{ShapesTo, shapes-end, shapes-further}
 use Rattle.tw_skiplist.proofs.collecting.collect.Goals as goal
 
 pub loop-at-init : goal.loop-at-init
 loop-at-init g c = record {
   walks = λ ps told. here;
+  along = λ ps told.
+      subst (λ (ls : List Link). WalksAlong g.H.Hasher.dig c.args.empty.now ps c.args.first.now c.args.from c.args.to ls c.args.first.now c.args.from) (sym c.new-links.ensures) no_link;
   leads = λ ps h places told kept within first_is rest is. subst (λ (ls : List Link). IsPathOf g.H.Hasher.dig h (ls ++ rest) c.args.from c.args.to) (sym c.new-links.ensures) is;
+  shapes = λ rest shape. subst (λ (ls : List Link). HasShape (ls ++ rest) c.args.from c.args.to) (sym c.new-links.ensures) shape;
   low = c.requires.below;
   high = omega arith;
   kept = only_reads_itself g.P.Pages.used_count g.P.Pages.list g.P.Pages.same g.P.Pages.unbroken _ _ (g.met.P.Pages.same_itself _);
@@ -55,6 +61,10 @@ loop-at-preserved g c =
       walks = λ ps told.
           subst (λ (p : ℕ). Walks c.args.empty.now ps first from to next (at - p)) (sym power)
           (on c.loop-at.last at next (inv.walks ps told) under (hop_link dig c.args.empty.now ps c.loop-at.last.page at (hop_level at to) link next (hops ps told)));
+      along = λ ps told.
+          subst (λ (p : ℕ). WalksAlong dig c.args.empty.now ps first from to c.push.new.self next (at - p)) (sym power)
+          (subst (λ (ls : List Link). WalksAlong dig c.args.empty.now ps first from to ls next (hop at to)) (sym c.in-Ok-push.ensures.ok)
+          (one_more c.loop-at.links c.loop-at.last at link next (inv.along ps told) under (hops ps told)));
       leads = λ ps h places told kept within first_is.
           let walks = subst (λ (e : List ℕ). Walks e ps first from to c.loop-at.last at) c.requires.empty (inv.walks ps told) in
           let leads = walk_leads dig g.met.H.Hasher.size h places ps kept first from to c.loop-at.last at c.requires.below within first_is walks in
@@ -66,6 +76,10 @@ loop-at-preserved g c =
           leads-further dig h c.loop-at.links link from at to under record_is.0 record_is.1 so_far in
           subst (λ (p : ℕ). LeadsTo dig h c.push.new.self from (at - p) to) (sym power)
           (subst (λ (ls : List Link). LeadsTo dig h ls from (hop at to) to) (sym c.in-Ok-push.ensures.ok) further);
+      shapes =
+          let others : length link.others ≡ top_level at = c.in-Ok.ensures.others in
+          subst (λ (p : ℕ). ShapesTo c.push.new.self from (at - p) to) (sym power)
+          (subst (λ (ls : List Link). ShapesTo ls from (hop at to) to) (sym c.in-Ok-push.ensures.ok) (shapes-further c.loop-at.links link from at to under others inv.shapes));
       low = omega (arith, short, power, under);
       high = omega (arith, inv.high);
       kept = only_reads_on g.P.Pages.used_count g.P.Pages.list g.P.Pages.same g.P.Pages.unbroken _ _ _ _ _ _ g.met.P.Pages.same_on (λ good. tt) (λ good. tt) inv.kept c.in-Ok.ensures.kept;
@@ -75,3 +89,6 @@ loop-at-preserved g c =
 pub returns-clause-path : goal.returns-clause-path
 returns-clause-path g c = λ ps h places told kept within first_is.
     leads-end g.H.Hasher.dig h c.loop-at.links c.args.from c.loop-at.at c.args.to (omega (arith, c.loop-at-test.false)) (c.loop-at.invariant.leads ps h places told kept within first_is)
+
+pub returns-clause-shape : goal.returns-clause-shape
+returns-clause-shape g c = shapes-end c.loop-at.links c.args.from c.loop-at.at c.args.to (omega (arith, c.loop-at-test.false)) c.loop-at.invariant.shapes

@@ -56,3 +56,6 @@ returns-clause-events g c = λ dig ps h i told is.
       has = has.0;
       spells = subst (λ (b : List ℕ). SpellsEvents b info.count c.in-Ok-Some.events) c.as_slice.ensures (match_some c.in-Ok-Some.field-0 c.in-Ok-Some.events _ _ c.in-Ok-Some.field-0-is c.in-Ok-Some.ensures);
     })
+
+pub returns-clause-counted : goal.returns-clause-counted
+returns-clause-counted g c = let spelt = match_some c.in-Ok-Some.field-0 c.in-Ok-Some.events _ _ c.in-Ok-Some.field-0-is c.in-Ok-Some.ensures in (spelt.limits, spelt.count_is)

@@ -1,12 +1,13 @@
 use Rattle.std.proofs.Common.{◌≡◌, ◌≤◌, ◌∙◌, ℕ, List, Some, arith, subst}
 use Rattle.tw_disk.specs.Image.{Image}
+use Rattle.tw_skipproof.proofs.Greedy.{few_links}
 use Rattle.tw_base.specs.History.{History}
 use Rattle.tw_skiplist.specs.declared.head.StepRef.{StepRef}
 use Rattle.tw_skiplist.specs.Keeping.{Keeps}
 use Rattle.tw_skiplist.specs.Reading.{MeetsBadPage, WalksVia}
 use Rattle.tw_skiplist.specs.Records.{head_ref}
 use Rattle.tw_skiplist.proofs.BadPages.{bad_page_on}
-use Rattle.tw_skiplist.proofs.Finding.{meets_none, meets_none_further, middle_is, top_within}
+use Rattle.tw_skiplist.proofs.Finding.{found_path, meets_none, meets_none_further, middle_is, top_within}
 use Rattle.tw_skiplist.proofs.reading.path.Goals as goal
 
 pub returns-in-Err-clause-good : goal.returns-in-Err-clause-good
@@ -56,3 +57,14 @@ returns-in-Ok-collect-clause-found g c = λ ps told.
       subst (λ (e : List ℕ). WalksVia e ps (head_ref head) head.step c.args.n c.args.i last) c.empty_tree-empty.ensures
           (subst (λ (f : StepRef). WalksVia c.empty_tree-empty.result ps f head.step c.args.n c.args.i last) c.link_to_head.ensures both),
     )
+
+pub returns-in-Ok-collect-clause-bound : goal.returns-in-Ok-collect-clause-bound
+returns-in-Ok-collect-clause-bound g c = λ digits under.
+    let below : c.args.n ≤ c.args.head.now.step = omega (arith, c.if-n-last.false) in
+    few_links c.in-Ok-collect.field-0.links c.args.n c.args.i digits (omega (arith, below, c.requires)) under c.in-Ok-collect.ensures.shape
+
+pub returns-in-Ok-collect-clause-recorded : goal.returns-in-Ok-collect-clause-recorded
+returns-in-Ok-collect-clause-recorded g c = λ ps told.
+    found_path g.H.Hasher.dig ps c.args.head.now c.args.n c.args.i c.empty_tree-empty.result c.link_to_head.result c.empty_tree-empty.ensures c.link_to_head.ensures
+    c.in-Ok.link (c.in-Ok.ensures.walks ps told) c.in-Ok-collect.field-0.links c.in-Ok-collect.field-0.last
+    (c.in-Ok-collect.ensures.along ps (c.in-Ok.ensures.kept.list_kept ∙ told))

@@ -1,10 +1,11 @@
 use Rattle.std.proofs.Common.{◌≡◌, ◌<◌, ◌≤◌, ◌∙◌, Some, arith}
 use Rattle.tw_disk.specs.Image.{Image}
+use Rattle.tw_skipproof.proofs.Greedy.{few_links}
 use Rattle.tw_base.specs.History.{History}
 use Rattle.tw_skiplist.specs.Keeping.{Keeps}
 use Rattle.tw_skiplist.specs.Reading.{MeetsBadPage}
 use Rattle.tw_skiplist.proofs.BadPages.{bad_page_on}
-use Rattle.tw_skiplist.proofs.Finding.{meets_none, meets_none_further, middle_is, tells_info_further, top_within}
+use Rattle.tw_skiplist.proofs.Finding.{found_path, meets_none, meets_none_further, middle_is, tells_info_further, top_within}
 use Rattle.tw_skiplist.proofs.reading.prove.Goals as goal
 
 pub returns-in-Err-clause-good : goal.returns-in-Err-clause-good
@@ -52,3 +53,14 @@ returns-in-Ok-collect_proof-clause-info g c = λ ps h told keeps.
     let found = c.in-Ok-collect_proof.ensures.info ps (c.in-Ok.ensures.kept.list_kept ∙ told) in
     tells_info_further g.H.Hasher.dig g.met.H.Hasher.size ps h head keeps c.empty_tree-empty.result c.link_to_head.result c.empty_tree-empty.ensures c.link_to_head.ensures
     c.args.top c.in-Ok.link below (c.in-Ok.ensures.walks ps told) c.args.i found.0 c.in-Ok-collect_proof.proof.info some lower found.1 found.2
+
+pub returns-in-Ok-collect_proof-clause-bound : goal.returns-in-Ok-collect_proof-clause-bound
+returns-in-Ok-collect_proof-clause-bound g c = λ digits under.
+    let below : c.args.top ≤ c.args.head.now.step = omega (arith, c.if-top-last.false) in
+    few_links c.in-Ok-collect_proof.proof.path.links c.args.top c.args.i digits (omega (arith, below, c.requires)) under c.in-Ok-collect_proof.ensures.shape
+
+pub returns-in-Ok-collect_proof-clause-recorded : goal.returns-in-Ok-collect_proof-clause-recorded
+returns-in-Ok-collect_proof-clause-recorded g c = λ ps told.
+    let along = c.in-Ok-collect_proof.ensures.along ps (c.in-Ok.ensures.kept.list_kept ∙ told) in
+    found_path g.H.Hasher.dig ps c.args.head.now c.args.top c.args.i c.empty_tree-empty.result c.link_to_head.result c.empty_tree-empty.ensures c.link_to_head.ensures
+    c.in-Ok.link (c.in-Ok.ensures.walks ps told) c.in-Ok-collect_proof.proof.path.links along.0 along.1
