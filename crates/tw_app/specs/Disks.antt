@@ -70,8 +70,3 @@ module _ {D : Type 0} (content : D → Option Image) (may_leave : D → Image �
   -- it reads as before, and a crash leaves nothing else than before
   abbrev pub IsLeft : (old new : D) → Type 0
   IsLeft old new = (content new ≡ content old) × LeavesOnly moment may_leave left_since old new (may_leave old)
-
-  -- the same, where what it reads as is told
-  abbrev pub IsUnwritten : (old new : D) → Type 0
-  IsUnwritten old new =
-      ((image : Image) → content old ≡ Some image → content new ≡ Some image) × LeavesOnly moment may_leave left_since old new (may_leave old)
