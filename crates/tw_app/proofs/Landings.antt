@@ -19,7 +19,7 @@ use Rattle.tw_app.specs.declared.outcome.Outcome.{Outcome}
 use Rattle.tw_app.specs.declared.outcome.Outcome.TheVariants.{Judged, Shown, Made, Refused, Unserved, Unreadable, BadWords, InputFault, DiskFault, NoMemory}
 use Rattle.tw_app.specs.Appending.{AreEventsOf}
 use Rattle.tw_app.specs.Commands.{UsesDisk}
-use Rattle.tw_app.specs.Disks.{IsLeft, IsOf, MayBegin, Stands}
+use Rattle.tw_app.specs.Disks.{IsLeft, IsOf, Keeps, MayBegin, Stands}
 use Rattle.tw_app.specs.Leaving.{AppendLeaves, CommandLeaves, InitLeaves, Leaves}
 use Rattle.tw_app.specs.Outcomes.{TakesMemory}
 use Rattle.tw_app.specs.Running.{ComesTo}
@@ -90,17 +90,12 @@ module _ (told : Option Files) (before after : ℕ) (found : Option Image) (disk
 
 module _ {D : Type 0} (content : D → Option Image) (may_leave : D → Image → Type 0) (moment : D → ℕ) (left_since : D → ℕ → Image → Type 0) where
   module _ (old new : D) where
-    pub unopened_leaves : (events : List (List ℕ)) (h : History) (f : StoreFault) (came : Outcome) → came ≡ outcome_of_store f
-        → LeavesOnly moment may_leave left_since old new (IsOf h) × Stands content may_leave moment left_since new h
-        → LeavesStep content may_leave moment left_since old new events h came
-    unopened_leaves events h f came is left = subst (LeavesStep content may_leave moment left_since old new events h) (sym is) (by f)
-      where
-        by : (f : StoreFault) → LeavesStep content may_leave moment left_since old new events h (outcome_of_store f)
-        by store.Taken = left
-        by store.Blank = left
-        by (store.NotAStore slot) = left
-        by store.DiskFault = leaves_weaker moment may_leave left_since old new (IsOf h) (StandsForOneOf sha256 h.name h events) (λ image is. inl is) left.0
-        by store.NoMemory = left
+    -- a disk that stands for a history isn't opened only where it failed
+    pub unopened_leaves : (events : List (List ℕ)) (h : History) (f : StoreFault) (came : Outcome) → came ≡ outcome_of_store f → f ≡ store.DiskFault
+        → LeavesOnly moment may_leave left_since old new (IsOf h) → LeavesStep content may_leave moment left_since old new events h came
+    unopened_leaves events h f came is fault left =
+        subst (LeavesStep content may_leave moment left_since old new events h) (sym (is ∙ ap outcome_of_store fault))
+        (leaves_weaker moment may_leave left_since old new (IsOf h) (StandsForOneOf sha256 h.name h events) (λ image stands. inl stands) left)
 
     pub leaves_of_step : (told : Option Files) (before after : ℕ) (dir file : List ℕ) (events : List (List ℕ)) (came : Outcome) → AreEventsOf told file events
         → ComesToStep (content old) before after events came
@@ -116,11 +111,12 @@ module _ {D : Type 0} (content : D → Option Image) (may_leave : D → Image �
 
     pub unmade_leaves : (name : List ℕ) (f : StoreFault) (came : Outcome) → came ≡ outcome_of_store f → (f ≡ store.Taken) ⊎ (f ≡ store.DiskFault)
         → (f ≡ store.Taken → (content new ≡ content old) × LeavesOnly moment may_leave left_since old new (may_leave old))
-        → MayBegin content may_leave moment left_since name old new → InitLeaves content may_leave moment left_since old new name came
-    unmade_leaves name f came is (inl taken) left begins =
+        → MayBegin content may_leave moment left_since name old new → Keeps content may_leave moment left_since old new
+        → InitLeaves content may_leave moment left_since old new name came
+    unmade_leaves name f came is (inl taken) left begins keeps =
         subst (InitLeaves content may_leave moment left_since old new name) (sym (is ∙ ap outcome_of_store taken)) (left taken)
-    unmade_leaves name f came is (inr failed) left begins =
-        subst (InitLeaves content may_leave moment left_since old new name) (sym (is ∙ ap outcome_of_store failed)) begins
+    unmade_leaves name f came is (inr failed) left begins keeps =
+        subst (InitLeaves content may_leave moment left_since old new name) (sym (is ∙ ap outcome_of_store failed)) (begins, keeps)
 
     -- where there was no memory for the text, what is left is as right for that
     memory_leaves_of : ((d : D) (image : Image) → left_since d (moment d) image → may_leave d image) → (told : Option Files) (c : Command) (came : Outcome) → TakesMemory came → CommandLeaves content may_leave moment left_since old new told c came

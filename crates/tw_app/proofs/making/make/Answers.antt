@@ -1,7 +1,7 @@
 use Rattle.std.proofs.Common.{sym, subst}
 use Rattle.tw_service.specs.Stands.{no_history}
 use Rattle.tw_app.specs.Disks.{MayBegin}
-use Rattle.tw_app.proofs.AtRest.{own_rest}
+use Rattle.tw_app.proofs.AtRest.{held_keeps, own_rest}
 use Rattle.tw_app.proofs.Landings.{unmade, unmade_leaves}
 use Rattle.tw_app.proofs.making.make.Goals as goal
 
@@ -29,3 +29,4 @@ returns-in-Err-clause-leaves g c = λ told dir.
     let d = g.D.Disk in
     unmade_leaves d.content d.may_leave d.moment d.left_since c.args.disk c.in-Err.disk c.args.name c.in-Err.fault
     c.outcome_of_store.result c.outcome_of_store.ensures c.in-Err.ensures.answers c.in-Err.ensures.unchanged c.in-Err.ensures.any_moment_err
+    (held_keeps d.content d.may_leave d.moment d.left_since g.met.D.Disk.as_it_reads c.args.disk c.in-Err.disk c.in-Err.ensures.held)
