@@ -1,5 +1,6 @@
 -- Disks that stand for a history, and runs of calls that keep it.
-use Rattle.std.proofs.Common.{◌≡◌, ◌∙◌, ◌≤◌, ℕ, List, ap, arith, refl, sym, subst, inl}
+use Rattle.std.proofs.Common.{◌≡◌, ◌∙◌, ◌≤◌, ◌<◌, ℕ, List, ap, arith, refl, sym, subst, inl, inr}
+use Rattle.std.proofs.lemmas.Bool.{cases_eq}
 use Rattle.std.specs.Prelude.{Option, Some}
 use Rattle.sha2.specs.Sha256.{sha256}
 use Rattle.tw_base.specs.History.{History}
@@ -7,15 +8,13 @@ use Rattle.tw_disk.specs.Disk.{IsAtRest, LeavesOnly}
 use Rattle.tw_disk.specs.Image.{Image}
 use Rattle.tw_disk.specs.Moments.{goes_on, leaves_weaker, no_call}
 use Rattle.tw_outside.specs.Faults.{Rose}
-use Rattle.tw_pages.specs.Kept.{opening_of}
+use Rattle.tw_pages.specs.Slots.{IsOpen, IsTaken}
 use Rattle.tw_service.specs.declared.service.Service.{Service}
-use Rattle.tw_service.specs.Serves.{HasSameDisk, Serves, disk_of}
+use Rattle.tw_service.specs.Serves.{HasSameDisk, disk_of}
 use Rattle.tw_service.specs.Stands.{StandsFor, StandsForOneOf}
-use Rattle.tw_service.proofs.Opened.{opens_kept}
-use Rattle.tw_service.proofs.Serving.{keeps_stands}
 use Rattle.tw_app.specs.declared.outcome.Outcome.{Outcome}
 use Rattle.tw_app.specs.declared.outcome.Outcome.TheVariants.{Judged, Shown, Made, Refused, Unserved, Unreadable, BadWords, InputFault, DiskFault, NoMemory}
-use Rattle.tw_app.specs.Disks.{IsLeft, IsOf, IsUnwritten, Keeps, Stands}
+use Rattle.tw_app.specs.Disks.{IsLeft, IsOf, Keeps, Rests, Stands}
 use Rattle.tw_app.specs.Stepping.{LeavesStep}
 
 -- a history that an image stands for has its own name
@@ -25,42 +24,67 @@ own_name name h image stands = subst (λ (n : List ℕ). StandsFor sha256 image 
 pub own_names : (name : List ℕ) (h : History) (events : List (List ℕ)) (image : Image) → h.name ≡ name → StandsForOneOf sha256 name h events image → StandsForOneOf sha256 h.name h events image
 own_names name h events image named stands = subst (λ (n : List ℕ). StandsForOneOf sha256 n h events image) (sym named) stands
 
+-- an image that stands for a history has four pages and an open gate
+pub stands_taken : (h : History) (image : Image) → IsOf h image → IsTaken image
+stands_taken h image is =
+    let opens = is.opens.stands in
+    let low : is.opening.slot < 2 = opens.which in (
+      omega (arith, opens.room),
+      elim (cases_eq is.opening.slot 0) [
+        | inl first ↦ inl (subst (λ (slot : ℕ). IsOpen slot image) first opens.gate)
+        | inr other ↦ let second : is.opening.slot ≡ 1 = omega arith in inr (subst (λ (slot : ℕ). IsOpen slot image) second opens.gate)
+      ],
+    )
+
 -- a count that rose since a later moment rose since an earlier one
 pub rose_since : (before mid after : ℕ) → before ≤ mid → Rose mid after → Rose before after
 rose_since before mid after le rose = omega (arith, le, rose)
 
 module _ {D : Type 0} (content : D → Option Image) (may_leave : D → Image → Type 0) (moment : D → ℕ) (left_since : D → ℕ → Image → Type 0) where
-  pub rest_leaves : (d : D) (P : Image → Type 0) → IsAtRest content may_leave d P → (image : Image) → may_leave d image → P image
-  rest_leaves d P rest image left = subst P (sym (rest.only image left)) rest.has
-
   -- a run that leaves nothing new, over a disk that reads the same at its end, keeps the history
-  pub still_keeps : (old new : D) → ((image : Image) → content old ≡ Some image → content new ≡ Some image)
-      → LeavesOnly moment may_leave left_since old new (may_leave old) → Keeps content may_leave moment left_since old new
-  still_keeps old new reads run = λ h stands. (
-    leaves_weaker moment may_leave left_since old new (may_leave old) (IsOf h) (rest_leaves old (IsOf h) stands) run,
-    record { image = stands.image; told = reads stands.image stands.told; only = λ image left. stands.only image (run.now image left); has = stands.has },
+  pub kept_where : (old new : D) → ((h : History) → Stands content may_leave moment left_since old h → IsLeft content may_leave moment left_since old new)
+      → Keeps content may_leave moment left_since old new
+  kept_where old new leaves = λ h. (
+    λ stands. (
+      leaves_weaker moment may_leave left_since old new (may_leave old) (IsOf h) stands.each (leaves h stands).1,
+      still h stands,
+    ),
+    λ rests. record { stands = still h rests.stands; only = λ image left. rests.only image ((leaves h rests.stands).1.now image left) },
   )
+    where
+      still : (h : History) → Stands content may_leave moment left_since old h → Stands content may_leave moment left_since new h
+      still h stands = record {
+        image = stands.image;
+        told = (leaves h stands).0 ∙ stands.told;
+        each = λ image left. stands.each image ((leaves h stands).1.now image left);
+      }
 
   pub left_keeps : (old new : D) → IsLeft content may_leave moment left_since old new → Keeps content may_leave moment left_since old new
-  left_keeps old new left = still_keeps old new (λ image told. left.0 ∙ told) left.1
+  left_keeps old new left = kept_where old new (λ h stands. left)
 
-  -- a run that wrote nothing keeps the history
-  pub unwritten_keeps : (old new : D) → IsUnwritten content may_leave moment left_since old new → Keeps content may_leave moment left_since old new
-  unwritten_keeps old new left = still_keeps old new left.0 left.1
+  -- the content of a disk that stands for a history stands for it, and so has a store
+  module _ (as_it_reads : (d : D) (image : Image) → content d ≡ Some image → may_leave d image) where
+    pub content_stands : (d : D) (h : History) (stands : Stands content may_leave moment left_since d h) → IsOf h stands.image
+    content_stands d h stands = stands.each stands.image (as_it_reads d stands.image stands.told)
 
-  pub left_unwritten : (old new : D) → IsLeft content may_leave moment left_since old new → IsUnwritten content may_leave moment left_since old new
-  left_unwritten old new left = (λ image told. left.0 ∙ told, left.1)
+    pub has_store : (d : D) (h : History) (stands : Stands content may_leave moment left_since d h) → IsTaken stands.image
+    has_store d h stands = stands_taken h stands.image (content_stands d h stands)
 
-  -- a run that makes the disk stable and writes nothing
-  pub stable_unwritten : (old new : D) → ((image : Image) → content old ≡ Some image → IsAtRest content may_leave new (λ i. i ≡ image))
-      → LeavesOnly moment may_leave left_since old new (may_leave old) → IsUnwritten content may_leave moment left_since old new
-  stable_unwritten old new stable run = (λ image told. let rest = stable image told in rest.told ∙ ap (λ (i : Image). Some i) rest.has, run)
+    -- a run that keeps a store that is there keeps its history
+    pub held_keeps : (old new : D)
+        → ((image : Image) → content old ≡ Some image → IsTaken image → (content new ≡ Some image) × LeavesOnly moment may_leave left_since old new (may_leave old))
+        → Keeps content may_leave moment left_since old new
+    held_keeps old new held = kept_where old new (λ h stands.
+        let left = held stands.image stands.told (has_store old h stands) in (left.0 ∙ sym stands.told, left.1))
+
+    pub free_keeps : (old new : D) → ((image : Image) → content old ≡ Some image → IsTaken image → ⊥) → Keeps content may_leave moment left_since old new
+    free_keeps old new free = kept_where old new (λ h stands. absurd (free stands.image stands.told (has_store old h stands)))
 
   -- one run after another
-  pub unwritten_on : (old mid new : D) → IsUnwritten content may_leave moment left_since old mid → IsLeft content may_leave moment left_since mid new
-      → IsUnwritten content may_leave moment left_since old new
-  unwritten_on old mid new first second = (
-    λ image told. second.0 ∙ first.0 image told,
+  pub left_on : (old mid new : D) → IsLeft content may_leave moment left_since old mid → IsLeft content may_leave moment left_since mid new
+      → IsLeft content may_leave moment left_since old new
+  left_on old mid new first second = (
+    second.0 ∙ first.0,
     goes_on moment may_leave left_since old mid new (may_leave old) first.1
         (leaves_weaker moment may_leave left_since mid new (may_leave mid) (may_leave old) (λ image left. first.1.now image left) second.1),
   )
@@ -69,9 +93,19 @@ module _ {D : Type 0} (content : D → Option Image) (may_leave : D → Image �
   pub no_call_left : (d : D) → ((image : Image) → left_since d (moment d) image → may_leave d image) → IsLeft content may_leave moment left_since d d
   no_call_left d only_now = (refl, no_call moment may_leave left_since d (may_leave d) only_now (λ image left. left))
 
-  pub same_unwritten : (old new : D) → ((d : D) (image : Image) → left_since d (moment d) image → may_leave d image) → new ≡ old → IsUnwritten content may_leave moment left_since old new
-  same_unwritten old new only_now is =
-      subst (λ (d : D). IsUnwritten content may_leave moment left_since old d) (sym is) (left_unwritten old old (no_call_left old (only_now old)))
+  pub untouched_left : (old new : D) → ((d : D) (image : Image) → left_since d (moment d) image → may_leave d image) → new ≡ old → IsLeft content may_leave moment left_since old new
+  untouched_left old new only_now is = subst (λ (d : D). IsLeft content may_leave moment left_since old d) (sym is) (no_call_left old (only_now old))
+
+  -- a disk at rest that stands for a history under some name
+  pub own_rest : (d : D) (name : List ℕ) (h : History) → IsAtRest content may_leave d (λ i. StandsFor sha256 i name h) → Rests content may_leave moment left_since d h
+  own_rest d name h rest = record {
+    stands = record {
+      image = rest.image;
+      told = rest.told;
+      each = λ image left. subst (IsOf h) (sym (rest.only image left)) (own_name name h rest.image rest.has);
+    };
+    only = rest.only;
+  }
 
   -- a run before it that left nothing but the history
   pub leaves_from : (old mid new : D) (events : List (List ℕ)) (h : History) (outcome : Outcome) → LeavesOnly moment may_leave left_since old mid (IsOf h)
@@ -81,8 +115,8 @@ module _ {D : Type 0} (content : D → Option Image) (may_leave : D → Image �
       first : LeavesOnly moment may_leave left_since old mid (StandsForOneOf sha256 h.name h events)
       first = leaves_weaker moment may_leave left_since old mid (IsOf h) (StandsForOneOf sha256 h.name h events) (λ image is. inl is) run
 
-      joined : LeavesOnly moment may_leave left_since mid new (IsOf h) × Stands content may_leave moment left_since new h
-          → LeavesOnly moment may_leave left_since old new (IsOf h) × Stands content may_leave moment left_since new h
+      joined : LeavesOnly moment may_leave left_since mid new (IsOf h) × Rests content may_leave moment left_since new h
+          → LeavesOnly moment may_leave left_since old new (IsOf h) × Rests content may_leave moment left_since new h
       joined left = (goes_on moment may_leave left_since old mid new (IsOf h) run left.0, left.1)
 
       by : (outcome : Outcome) → LeavesStep content may_leave moment left_since mid new events h outcome → LeavesStep content may_leave moment left_since old new events h outcome
@@ -98,18 +132,6 @@ module _ {D : Type 0} (content : D → Option Image) (may_leave : D → Image �
       by NoMemory left = joined left
 
 module _ {D H : Type 0} {g : _} {k : _} (content : D → Option Image) (may_leave : D → Image → Type 0) (moment : D → ℕ) (left_since : D → ℕ → Image → Type 0) where
-  -- the disk of a service that serves a history stands for it
-  pub serves_stands : (only_now : (d : D) (image : Image) → left_since d (moment d) image → may_leave d image) (service : Service D H g k) (h : History)
-      → Serves sha256 content may_leave service h → Stands content may_leave moment left_since (disk_of service) h
-  serves_stands only_now service h rest = record {
-    image = rest.image;
-    told = rest.told;
-    only = rest.only;
-    has = own_name service.name h rest.image
-        (keeps_stands content may_leave moment left_since only_now sha256 service.store service.name service.head h rest.image rest.image rest.has
-        (opens_kept service.store.is_spare_open (opening_of service.store rest.image) rest.image rest.has.kept));
-  }
-
   -- a service's call after which its disk holds and may leave the same
   pub same_left : (only_now : (d : D) (image : Image) → left_since d (moment d) image → may_leave d image) (old new : Service D H g k)
       → HasSameDisk content may_leave moment left_since old new → IsLeft content may_leave moment left_since (disk_of old) (disk_of new)

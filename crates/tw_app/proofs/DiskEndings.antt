@@ -15,13 +15,13 @@ use Rattle.tw_chain.specs.declared.verdict.Verdict.TheVariants.{Yes, No}
 use Rattle.tw_app.specs.declared.outcome.Outcome.{Outcome}
 use Rattle.tw_app.specs.declared.outcome.Outcome.TheVariants.{Judged, Shown, Made, Refused, Unserved, Unreadable, BadWords, InputFault, DiskFault, NoMemory}
 use Rattle.tw_app.specs.Commands.{IsAppend, IsInit, IsProve, UsesDisk}
-use Rattle.tw_app.specs.Disks.{IsLeft, IsUnwritten, Keeps, MayBegin}
+use Rattle.tw_app.specs.Disks.{IsLeft, Keeps, MayBegin}
 use Rattle.tw_app.specs.DiskStatuses.{AddsAtMost, IsAppendedRun, IsCrashSafe, IsDiskFaultRun, IsMadeRun, IsProvedRun, IsUnservedRun}
 use Rattle.tw_app.specs.Leaving.{AppendLeaves, CommandLeaves, InitLeaves, Leaves}
 use Rattle.tw_app.specs.Outcomes.{status_of}
 use Rattle.tw_app.specs.Running.{ComesTo, Ends, EndsWith, HasOutcome, HaveNoForm, ReachesDisk}
 use Rattle.tw_app.specs.Statuses.{AskForDisk, AskForProof, AskForService, AskForStep}
-use Rattle.tw_app.proofs.AtRest.{left_keeps, left_unwritten, no_call_left, same_unwritten, unwritten_keeps}
+use Rattle.tw_app.proofs.AtRest.{free_keeps, left_keeps, no_call_left, untouched_left}
 use Rattle.tw_app.proofs.Endings.{Ended, judging_is_verify, making_is, not_show_make, not_verify_make, not_verify_show, of_command, of_option, of_words, outcome_is, showing_is}
 
 -- the command, by what it is
@@ -51,7 +51,8 @@ is_prove (ProveEvent dir step index top) is = record { dir = dir; step = step; i
 is_prove _ is = absurd is
 
 module _ {D : Type 0} (content : D → Option Image) (may_leave : D → Image → Type 0) (moment : D → ℕ) (left_since : D → ℕ → Image → Type 0)
-    (only_now : (d : D) (image : Image) → left_since d (moment d) image → may_leave d image) (old new : D)
+    (only_now : (d : D) (image : Image) → left_since d (moment d) image → may_leave d image)
+    (as_it_reads : (d : D) (image : Image) → content d ≡ Some image → may_leave d image) (old new : D)
     (told : Option Files) (before after disk_before disk_after : ℕ) (words : List (List ℕ)) (taken taken_after : Option (List ℕ)) (faults faults_after : ℕ) (status : ℕ) where
   abbrev Left : Outcome → Type 0
   Left outcome = Leaves content may_leave moment left_since old new told words outcome
@@ -235,23 +236,28 @@ module _ {D : Type 0} (content : D → Option Image) (may_leave : D → Image �
 
   -- ---- the disk
 
-  begin_safe : (name : List ℕ) (outcome : Outcome) → InitLeaves content may_leave moment left_since old new name outcome → MayBegin content may_leave moment left_since name old new
-  begin_safe name outcome left = by outcome left
+  begin_safe : (dir name : List ℕ) (outcome : Outcome) → ComesToNow (Init dir name) outcome → InitLeaves content may_leave moment left_since old new name outcome
+      → MayBegin content may_leave moment left_since name old new × Keeps content may_leave moment left_since old new
+  begin_safe dir name outcome comes left = by outcome comes left
     where
-      wider : IsLeft content may_leave moment left_since old new → MayBegin content may_leave moment left_since name old new
-      wider left = λ image told_image. leaves_weaker moment may_leave left_since old new (may_leave old) (λ i. may_leave old i ⊎ IsBlankOrNew sha256 name i) (λ i was. inl was) left.1
+      wider : IsLeft content may_leave moment left_since old new → MayBegin content may_leave moment left_since name old new × Keeps content may_leave moment left_since old new
+      wider left = (
+        λ image told_image. leaves_weaker moment may_leave left_since old new (may_leave old) (λ i. may_leave old i ⊎ IsBlankOrNew sha256 name i) (λ i was. inl was) left.1,
+        left_keeps content may_leave moment left_since old new left,
+      )
 
-      by : (outcome : Outcome) → InitLeaves content may_leave moment left_since old new name outcome → MayBegin content may_leave moment left_since name old new
-      by (Made thread) left = left.0
-      by DiskFault left = left
-      by (Judged verdict) left = wider left
-      by (Shown proof) left = wider left
-      by (Refused refusal) left = wider left
-      by (Unserved cause) left = wider left
-      by (Unreadable bad) left = wider left
-      by (BadWords number) left = wider left
-      by InputFault left = wider left
-      by NoMemory left = wider left
+      by : (outcome : Outcome) → ComesToNow (Init dir name) outcome → InitLeaves content may_leave moment left_since old new name outcome
+          → MayBegin content may_leave moment left_since name old new × Keeps content may_leave moment left_since old new
+      by (Made thread) comes left = (left.0, free_keeps content may_leave moment left_since as_it_reads old new comes.free)
+      by DiskFault comes left = left
+      by (Judged verdict) comes left = wider left
+      by (Shown proof) comes left = wider left
+      by (Refused refusal) comes left = wider left
+      by (Unserved cause) comes left = wider left
+      by (Unreadable bad) comes left = wider left
+      by (BadWords number) comes left = wider left
+      by InputFault comes left = wider left
+      by NoMemory comes left = wider left
 
   same_keeps : new ≡ old → Keeps content may_leave moment left_since old new
   same_keeps is =
@@ -262,23 +268,26 @@ module _ {D : Type 0} (content : D → Option Image) (may_leave : D → Image �
       → AddsAtMost content may_leave moment left_since old new told file
   append_safe file (Made thread) left = λ h stands. inr (left.0, left.1, (left.2.1 h stands).0)
   append_safe file DiskFault left = λ h stands. inr (left.0, left.1, left.2 h stands)
-  append_safe file (Judged verdict) left = λ h stands. inl (unwritten_keeps content may_leave moment left_since old new left h stands).0
-  append_safe file (Shown proof) left = λ h stands. inl (unwritten_keeps content may_leave moment left_since old new left h stands).0
-  append_safe file (Refused refusal) left = λ h stands. inl (unwritten_keeps content may_leave moment left_since old new left h stands).0
-  append_safe file (Unserved cause) left = λ h stands. inl (unwritten_keeps content may_leave moment left_since old new left h stands).0
-  append_safe file (Unreadable bad) left = λ h stands. inl (same_keeps left h stands).0
-  append_safe file (BadWords number) left = λ h stands. inl (unwritten_keeps content may_leave moment left_since old new left h stands).0
-  append_safe file InputFault left = λ h stands. inl (same_keeps left h stands).0
-  append_safe file NoMemory left = λ h stands. inl (unwritten_keeps content may_leave moment left_since old new left h stands).0
+  append_safe file (Judged verdict) left = λ h stands. inl ((left_keeps content may_leave moment left_since old new left h).0 stands).0
+  append_safe file (Shown proof) left = λ h stands. inl ((left_keeps content may_leave moment left_since old new left h).0 stands).0
+  append_safe file (Refused refusal) left = λ h stands. inl ((left_keeps content may_leave moment left_since old new left h).0 stands).0
+  append_safe file (Unserved cause) left = λ h stands. inl ((left_keeps content may_leave moment left_since old new left h).0 stands).0
+  append_safe file (Unreadable bad) left = λ h stands. inl ((same_keeps left h).0 stands).0
+  append_safe file (BadWords number) left = λ h stands. inl ((left_keeps content may_leave moment left_since old new left h).0 stands).0
+  append_safe file InputFault left = λ h stands. inl ((same_keeps left h).0 stands).0
+  append_safe file NoMemory left = λ h stands. inl ((left_keeps content may_leave moment left_since old new left h).0 stands).0
 
-  safe_by : (c : Command) (outcome : Outcome) → CommandLeft c outcome → IsCrashSafe content may_leave moment left_since old new told c
-  safe_by (Init dir name) outcome left = begin_safe name outcome left
-  safe_by (Append dir file) outcome left = append_safe file outcome left
-  safe_by (ProveEvent dir step index top) outcome left = unwritten_keeps content may_leave moment left_since old new left
-  safe_by _ outcome left = same_keeps left
+  safe_by : (c : Command) (outcome : Outcome) → ComesToNow c outcome → CommandLeft c outcome → IsCrashSafe content may_leave moment left_since old new told c
+  safe_by (Init dir name) outcome comes left = begin_safe dir name outcome comes left
+  safe_by (Append dir file) outcome comes left = append_safe file outcome left
+  safe_by (ProveEvent dir step index top) outcome comes left = left_keeps content may_leave moment left_since old new left
+  safe_by _ outcome comes left = same_keeps left
+
+  comes_by : (c : Command) (outcome : Outcome) → command_of words ≡ Some c → Has outcome → ComesToNow c outcome
+  comes_by c outcome is has = subst (λ (o : Option Command). MatchOption o (HaveNoForm words outcome) (λ d. ComesToNow d outcome)) is has
 
   pub crash : EndsNow → (c : Command) → command_of words ≡ Some c → IsCrashSafe content may_leave moment left_since old new told c
-  crash e c is = safe_by c e.outcome (left_by c e.outcome is e.leaves)
+  crash e c is = safe_by c e.outcome (comes_by c e.outcome is e.has) (left_by c e.outcome is e.leaves)
 
   -- the statuses of outcomes that make nothing, and after which no disk failed
   abbrev MakesNothing : Outcome → Type 0
@@ -292,50 +301,50 @@ module _ {D : Type 0} (content : D → Option Image) (may_leave : D → Image �
   nothing_made zeroth fourth fifth DiskFault (inl ends) = fifth ends.0
   nothing_made zeroth fourth fifth _ (inl ends) = tt
 
-  unwritten_by : (c : Command) (outcome : Outcome) → MakesNothing outcome → UsesDisk c → CommandLeft c outcome → IsUnwritten content may_leave moment left_since old new
+  unwritten_by : (c : Command) (outcome : Outcome) → MakesNothing outcome → UsesDisk c → CommandLeft c outcome → IsLeft content may_leave moment left_since old new
   unwritten_by (Init dir name) outcome nothing uses left = by outcome nothing left
     where
-      by : (outcome : Outcome) → MakesNothing outcome → InitLeaves content may_leave moment left_since old new name outcome → IsUnwritten content may_leave moment left_since old new
-      by (Made thread) nothing left = absurd nothing
-      by DiskFault nothing left = absurd nothing
-      by (Judged verdict) nothing left = left_unwritten content may_leave moment left_since old new left
-      by (Shown proof) nothing left = left_unwritten content may_leave moment left_since old new left
-      by (Refused refusal) nothing left = left_unwritten content may_leave moment left_since old new left
-      by (Unserved cause) nothing left = left_unwritten content may_leave moment left_since old new left
-      by (Unreadable bad) nothing left = left_unwritten content may_leave moment left_since old new left
-      by (BadWords number) nothing left = left_unwritten content may_leave moment left_since old new left
-      by InputFault nothing left = left_unwritten content may_leave moment left_since old new left
-      by NoMemory nothing left = left_unwritten content may_leave moment left_since old new left
-  unwritten_by (Append dir file) outcome nothing uses left = by outcome nothing left
-    where
-      by : (outcome : Outcome) → MakesNothing outcome → AppendLeaves content may_leave moment left_since old new told file outcome → IsUnwritten content may_leave moment left_since old new
+      by : (outcome : Outcome) → MakesNothing outcome → InitLeaves content may_leave moment left_since old new name outcome → IsLeft content may_leave moment left_since old new
       by (Made thread) nothing left = absurd nothing
       by DiskFault nothing left = absurd nothing
       by (Judged verdict) nothing left = left
       by (Shown proof) nothing left = left
       by (Refused refusal) nothing left = left
       by (Unserved cause) nothing left = left
-      by (Unreadable bad) nothing left = same_unwritten content may_leave moment left_since old new only_now left
+      by (Unreadable bad) nothing left = left
       by (BadWords number) nothing left = left
-      by InputFault nothing left = same_unwritten content may_leave moment left_since old new only_now left
+      by InputFault nothing left = left
+      by NoMemory nothing left = left
+  unwritten_by (Append dir file) outcome nothing uses left = by outcome nothing left
+    where
+      by : (outcome : Outcome) → MakesNothing outcome → AppendLeaves content may_leave moment left_since old new told file outcome → IsLeft content may_leave moment left_since old new
+      by (Made thread) nothing left = absurd nothing
+      by DiskFault nothing left = absurd nothing
+      by (Judged verdict) nothing left = left
+      by (Shown proof) nothing left = left
+      by (Refused refusal) nothing left = left
+      by (Unserved cause) nothing left = left
+      by (Unreadable bad) nothing left = untouched_left content may_leave moment left_since old new only_now left
+      by (BadWords number) nothing left = left
+      by InputFault nothing left = untouched_left content may_leave moment left_since old new only_now left
       by NoMemory nothing left = left
   unwritten_by (ProveEvent dir step index top) outcome nothing uses left = left
   unwritten_by _ outcome nothing uses left = absurd uses
 
-  pub unwritten : EndsNow → (status ≡ 0 → ⊥) → (status ≡ 4 → ⊥) → (status ≡ 5 → ⊥) → AskForDisk words → IsUnwritten content may_leave moment left_since old new
+  pub unwritten : EndsNow → (status ≡ 0 → ⊥) → (status ≡ 4 → ⊥) → (status ≡ 5 → ⊥) → AskForDisk words → IsLeft content may_leave moment left_since old new
   unwritten e zeroth fourth fifth asks = by (command_of words) refl asks
     where
-      by : (o : Option Command) → command_of words ≡ o → MatchOption o ⊥ UsesDisk → IsUnwritten content may_leave moment left_since old new
+      by : (o : Option Command) → command_of words ≡ o → MatchOption o ⊥ UsesDisk → IsLeft content may_leave moment left_since old new
       by None is asks = absurd asks
       by (Some c) is asks = unwritten_by c e.outcome (nothing_made zeroth fourth fifth e.outcome e.ends) asks (left_by c e.outcome is e.leaves)
 
   pub kept : EndsNow → (status ≡ 0 → ⊥) → (status ≡ 4 → ⊥) → (status ≡ 5 → ⊥) → AskForDisk words → Keeps content may_leave moment left_since old new
-  kept e zeroth fourth fifth asks = unwritten_keeps content may_leave moment left_since old new (unwritten e zeroth fourth fifth asks)
+  kept e zeroth fourth fifth asks = left_keeps content may_leave moment left_since old new (unwritten e zeroth fourth fifth asks)
 
-  pub proving : EndsNow → AskForProof words → IsUnwritten content may_leave moment left_since old new
+  pub proving : EndsNow → AskForProof words → IsLeft content may_leave moment left_since old new
   proving e asks = by (command_of words) refl asks
     where
-      by : (o : Option Command) → command_of words ≡ o → MatchOption o ⊥ IsProve → IsUnwritten content may_leave moment left_since old new
+      by : (o : Option Command) → command_of words ≡ o → MatchOption o ⊥ IsProve → IsLeft content may_leave moment left_since old new
       by None is asks = absurd asks
       by (Some c) is asks =
           let of = is_prove c asks in left_by (ProveEvent of.dir of.step of.index of.top) e.outcome (is ∙ ap (λ (d : Command). Some d) of.is) e.leaves

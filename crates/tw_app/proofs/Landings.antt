@@ -19,13 +19,13 @@ use Rattle.tw_app.specs.declared.outcome.Outcome.{Outcome}
 use Rattle.tw_app.specs.declared.outcome.Outcome.TheVariants.{Judged, Shown, Made, Refused, Unserved, Unreadable, BadWords, InputFault, DiskFault, NoMemory}
 use Rattle.tw_app.specs.Appending.{AreEventsOf}
 use Rattle.tw_app.specs.Commands.{UsesDisk}
-use Rattle.tw_app.specs.Disks.{IsLeft, IsOf, IsUnwritten, MayBegin, Stands}
+use Rattle.tw_app.specs.Disks.{IsLeft, IsOf, Keeps, MayBegin, Stands}
 use Rattle.tw_app.specs.Leaving.{AppendLeaves, CommandLeaves, InitLeaves, Leaves}
 use Rattle.tw_app.specs.Outcomes.{TakesMemory}
 use Rattle.tw_app.specs.Running.{ComesTo}
 use Rattle.tw_app.specs.ServiceFaults.{outcome_of_store}
 use Rattle.tw_app.specs.Stepping.{ComesToProof, ComesToStep, IsStop, LeavesStep, WritesNothing}
-use Rattle.tw_app.proofs.AtRest.{left_unwritten, no_call_left, same_unwritten}
+use Rattle.tw_app.proofs.AtRest.{no_call_left, untouched_left}
 
 -- ---- a disk that isn't opened
 
@@ -90,22 +90,17 @@ module _ (told : Option Files) (before after : ℕ) (found : Option Image) (disk
 
 module _ {D : Type 0} (content : D → Option Image) (may_leave : D → Image → Type 0) (moment : D → ℕ) (left_since : D → ℕ → Image → Type 0) where
   module _ (old new : D) where
-    pub unopened_leaves : (events : List (List ℕ)) (h : History) (f : StoreFault) (came : Outcome) → came ≡ outcome_of_store f
-        → LeavesOnly moment may_leave left_since old new (IsOf h) × Stands content may_leave moment left_since new h
-        → LeavesStep content may_leave moment left_since old new events h came
-    unopened_leaves events h f came is left = subst (LeavesStep content may_leave moment left_since old new events h) (sym is) (by f)
-      where
-        by : (f : StoreFault) → LeavesStep content may_leave moment left_since old new events h (outcome_of_store f)
-        by store.Taken = left
-        by store.Blank = left
-        by (store.NotAStore slot) = left
-        by store.DiskFault = leaves_weaker moment may_leave left_since old new (IsOf h) (StandsForOneOf sha256 h.name h events) (λ image is. inl is) left.0
-        by store.NoMemory = left
+    -- a disk that stands for a history isn't opened only where it failed
+    pub unopened_leaves : (events : List (List ℕ)) (h : History) (f : StoreFault) (came : Outcome) → came ≡ outcome_of_store f → f ≡ store.DiskFault
+        → LeavesOnly moment may_leave left_since old new (IsOf h) → LeavesStep content may_leave moment left_since old new events h came
+    unopened_leaves events h f came is fault left =
+        subst (LeavesStep content may_leave moment left_since old new events h) (sym (is ∙ ap outcome_of_store fault))
+        (leaves_weaker moment may_leave left_since old new (IsOf h) (StandsForOneOf sha256 h.name h events) (λ image stands. inl stands) left)
 
     pub leaves_of_step : (told : Option Files) (before after : ℕ) (dir file : List ℕ) (events : List (List ℕ)) (came : Outcome) → AreEventsOf told file events
         → ComesToStep (content old) before after events came
         → ((h : History) → Stands content may_leave moment left_since old h → LeavesStep content may_leave moment left_since old new events h came)
-        → (WritesNothing came → IsUnwritten content may_leave moment left_since old new)
+        → (WritesNothing came → IsLeft content may_leave moment left_since old new)
         → CommandLeaves content may_leave moment left_since old new told (Append dir file) came
     leaves_of_step told before after dir file events (Made thread) are comes leaves nothing = (events, are, (comes, leaves))
     leaves_of_step told before after dir file events DiskFault are comes leaves nothing = (events, are, leaves)
@@ -116,11 +111,12 @@ module _ {D : Type 0} (content : D → Option Image) (may_leave : D → Image �
 
     pub unmade_leaves : (name : List ℕ) (f : StoreFault) (came : Outcome) → came ≡ outcome_of_store f → (f ≡ store.Taken) ⊎ (f ≡ store.DiskFault)
         → (f ≡ store.Taken → (content new ≡ content old) × LeavesOnly moment may_leave left_since old new (may_leave old))
-        → MayBegin content may_leave moment left_since name old new → InitLeaves content may_leave moment left_since old new name came
-    unmade_leaves name f came is (inl taken) left begins =
+        → MayBegin content may_leave moment left_since name old new → Keeps content may_leave moment left_since old new
+        → InitLeaves content may_leave moment left_since old new name came
+    unmade_leaves name f came is (inl taken) left begins keeps =
         subst (InitLeaves content may_leave moment left_since old new name) (sym (is ∙ ap outcome_of_store taken)) (left taken)
-    unmade_leaves name f came is (inr failed) left begins =
-        subst (InitLeaves content may_leave moment left_since old new name) (sym (is ∙ ap outcome_of_store failed)) begins
+    unmade_leaves name f came is (inr failed) left begins keeps =
+        subst (InitLeaves content may_leave moment left_since old new name) (sym (is ∙ ap outcome_of_store failed)) (begins, keeps)
 
     -- where there was no memory for the text, what is left is as right for that
     memory_leaves_of : ((d : D) (image : Image) → left_since d (moment d) image → may_leave d image) → (told : Option Files) (c : Command) (came : Outcome) → TakesMemory came → CommandLeaves content may_leave moment left_since old new told c came
@@ -136,11 +132,11 @@ module _ {D : Type 0} (content : D → Option Image) (may_leave : D → Image �
         by _ takes leaves = absurd takes
     memory_leaves_of only_now told (Append dir file) came takes leaves = by came takes leaves
       where
-        by : (came : Outcome) → TakesMemory came → AppendLeaves content may_leave moment left_since old new told file came → IsUnwritten content may_leave moment left_since old new
+        by : (came : Outcome) → TakesMemory came → AppendLeaves content may_leave moment left_since old new told file came → IsLeft content may_leave moment left_since old new
         by (Judged verdict) takes leaves = leaves
         by (Refused refusal) takes leaves = leaves
         by (Unserved cause) takes leaves = leaves
-        by (Unreadable bad) takes leaves = same_unwritten content may_leave moment left_since old new only_now leaves
+        by (Unreadable bad) takes leaves = untouched_left content may_leave moment left_since old new only_now leaves
         by (BadWords number) takes leaves = leaves
         by _ takes leaves = absurd takes
     memory_leaves_of only_now told _ came takes leaves = leaves
@@ -157,19 +153,19 @@ module _ {D : Type 0} (content : D → Option Image) (may_leave : D → Image �
   -- ---- a disk that wasn't touched
 
   module _ (only_now : (d : D) (image : Image) → left_since d (moment d) image → may_leave d image) (disk : D) where
-    abbrev unwritten_here : IsUnwritten content may_leave moment left_since disk disk
-    unwritten_here = left_unwritten content may_leave moment left_since disk disk (no_call_left content may_leave moment left_since disk (only_now disk))
+    abbrev left_here : IsLeft content may_leave moment left_since disk disk
+    left_here = no_call_left content may_leave moment left_since disk (only_now disk)
 
     pub stop_leaves : (told : Option Files) (dir file : List ℕ) (came : Outcome) → IsStop came → CommandLeaves content may_leave moment left_since disk disk told (Append dir file) came
     stop_leaves told dir file (Unreadable bad) stop = refl
     stop_leaves told dir file InputFault stop = refl
-    stop_leaves told dir file NoMemory stop = unwritten_here
+    stop_leaves told dir file NoMemory stop = left_here
     stop_leaves told dir file _ stop = absurd stop
 
     no_memory_leaves_of : (told : Option Files) (c : Command) → CommandLeaves content may_leave moment left_since disk disk told c NoMemory
-    no_memory_leaves_of told (Init dir name) = no_call_left content may_leave moment left_since disk (only_now disk)
-    no_memory_leaves_of told (Append dir file) = unwritten_here
-    no_memory_leaves_of told (ProveEvent dir step index top) = unwritten_here
+    no_memory_leaves_of told (Init dir name) = left_here
+    no_memory_leaves_of told (Append dir file) = left_here
+    no_memory_leaves_of told (ProveEvent dir step index top) = left_here
     no_memory_leaves_of told _ = refl
 
     pub no_memory_leaves : (told : Option Files) (words : List (List ℕ)) → Leaves content may_leave moment left_since disk disk told words NoMemory

@@ -19,7 +19,7 @@ use Rattle.tw_service.specs.Machine.Reply.{OfThread, Refused}
 use Rattle.tw_service.specs.Stands.{StandsForOneOf}
 use Rattle.tw_app.specs.declared.outcome.Outcome.{Outcome}
 use Rattle.tw_app.specs.Appending.{AddsStep}
-use Rattle.tw_app.specs.Disks.{IsLeft, IsOf, OpensAsService, ReadsAs, Stands}
+use Rattle.tw_app.specs.Disks.{IsLeft, IsOf, OpensAsService, ReadsAs, Rests}
 use Rattle.tw_app.specs.ServiceFaults.{outcome_of_refusal}
 use Rattle.tw_app.specs.Stepping.{ComesToStep, LeavesStep, WritesNothing}
 
@@ -148,7 +148,7 @@ module _ (found : Option Image) (before after : ℕ) (events : List (List ℕ)) 
 module _ {D : Type 0} (content : D → Option Image) (may_leave : D → Image → Type 0) (moment : D → ℕ) (left_since : D → ℕ → Image → Type 0)
     (old new : D) (events : List (List ℕ)) (h : History) where
   abbrev Kept : Type 0
-  Kept = LeavesOnly moment may_leave left_since old new (IsOf h) × Stands content may_leave moment left_since new h
+  Kept = LeavesOnly moment may_leave left_since old new (IsOf h) × Rests content may_leave moment left_since new h
 
   pub step_leaves : (r : Refusal) (came : Outcome) → came ≡ outcome_of_refusal r → LeavesOnly moment may_leave left_since old new (StandsForOneOf sha256 h.name h events)
       → (r ≡ service.DiskFault) ⊎ Kept → LeavesStep content may_leave moment left_since old new events h came

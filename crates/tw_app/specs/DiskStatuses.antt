@@ -81,9 +81,9 @@ module _ {D : Type 0} (content : D → Option Image) (may_leave : D → Image �
       LeavesOnly moment may_leave left_since old new (IsOf h)
       ⊎ OfEvents told file (λ events. LeavesOnly moment may_leave left_since old new (StandsForOneOf sha256 h.name h events))
 
-  -- whatever the status: `init` leaves no image but such that there might have been, blank ones and the empty history; `append` at
-  -- most adds the step; every other command keeps the history in each image
+  -- whatever the status: `init` leaves no image but such that there might have been, blank ones and the empty history, and keeps a
+  -- history that is there; `append` at most adds the step; every other command keeps the history in each image
   abbrev pub IsCrashSafe : (told : Option Files) → Command → Type 0
-  IsCrashSafe told (Init dir name) = MayBegin content may_leave moment left_since name old new
+  IsCrashSafe told (Init dir name) = MayBegin content may_leave moment left_since name old new × Keeps content may_leave moment left_since old new
   IsCrashSafe told (Append dir file) = AddsAtMost told file
   IsCrashSafe told _ = Keeps content may_leave moment left_since old new

@@ -2,7 +2,7 @@
 use Rattle.std.specs.Prelude.{◌≡◌, ◌⊎◌, ℕ, List, Option, Some}
 use Rattle.sha2.specs.Sha256.{sha256}
 use Rattle.tw_base.specs.History.{History, plus}
-use Rattle.tw_disk.specs.Disk.{IsAtRest, LeavesOnly}
+use Rattle.tw_disk.specs.Disk.{LeavesOnly, Only}
 use Rattle.tw_disk.specs.Image.{Image}
 use Rattle.tw_pages.specs.declared.open.StoreFault.TheVariants as fault
 use Rattle.tw_skiplist.specs.declared.head.Head.{Head}
@@ -40,22 +40,32 @@ abbrev pub OpensAsService : (found : Option Image) → (name : List ℕ) → Hea
 OpensAsService found name head = (image : Image) → found ≡ Some image → OpensFor sha256 image name head
 
 module _ {D : Type 0} (content : D → Option Image) (may_leave : D → Image → Type 0) (moment : D → ℕ) (left_since : D → ℕ → Image → Type 0) where
-  -- the disk stands for the history for good: its content is told and stands for it, and a crash leaves nothing else
-  abbrev pub Stands : D → History → Type 0
-  Stands disk h = IsAtRest content may_leave disk (IsOf h)
+  -- the disk stands for the history for good: its content is told, and each image that a crash now may leave, of which the content is
+  -- one, stands for it
+  pub record Stands (disk : D) (h : History) : Type 0 where
+    pub image : Image
+    pub told : content disk ≡ Some image
+    pub each : (i : Image) → may_leave disk i → IsOf h i
 
-  -- the history that the disk stood for stands in each image that a crash since the start may leave, and now for good
+  -- the same, and a crash now leaves nothing but the content
+  pub record Rests (disk : D) (h : History) : Type 0 where
+    pub stands : Stands disk h
+    pub only : Only stands.image (may_leave disk)
+
+  -- the history that the disk stood for stands in each image that a crash since the start may leave, and now for good, at rest where
+  -- it was at rest
   abbrev pub Keeps : (old new : D) → Type 0
-  Keeps old new = (h : History) → Stands old h → LeavesOnly moment may_leave left_since old new (IsOf h) × Stands new h
+  Keeps old new =
+      (h : History) → (Stands old h → LeavesOnly moment may_leave left_since old new (IsOf h) × Stands new h) × (Rests old h → Rests new h)
 
   -- each image since stands for that history or for the longer one
   abbrev pub KeepsOrAdds : (events : List (List ℕ)) → (old new : D) → Type 0
   KeepsOrAdds events old new = (h : History) → Stands old h → LeavesOnly moment may_leave left_since old new (StandsForOneOf sha256 h.name h events)
 
-  -- the same, and now it stands for the longer one for good
+  -- the same, and now it stands for the longer one for good, at rest
   abbrev pub Adds : (events : List (List ℕ)) → (old new : D) → Type 0
   Adds events old new =
-      (h : History) → Stands old h → LeavesOnly moment may_leave left_since old new (StandsForOneOf sha256 h.name h events) × Stands new (plus h (event_step events))
+      (h : History) → Stands old h → LeavesOnly moment may_leave left_since old new (StandsForOneOf sha256 h.name h events) × Rests new (plus h (event_step events))
 
   -- where the content is told, each image since is one that a crash might have left before, or is blank, or stands for the history
   -- of this name that has no step
@@ -63,15 +73,10 @@ module _ {D : Type 0} (content : D → Option Image) (may_leave : D → Image �
   MayBegin name old new =
       (image : Image) → content old ≡ Some image → LeavesOnly moment may_leave left_since old new (λ i. may_leave old i ⊎ IsBlankOrNew sha256 name i)
 
-  -- the same, and now it stands for that history for good
+  -- the same, and now it stands for that history for good, at rest
   abbrev pub Begins : (name : List ℕ) → (old new : D) → Type 0
-  Begins name old new = MayBegin name old new × ((image : Image) → content old ≡ Some image → Stands new (no_history name))
+  Begins name old new = MayBegin name old new × ((image : Image) → content old ≡ Some image → Rests new (no_history name))
 
   -- it reads as before, and a crash leaves nothing else than before
   abbrev pub IsLeft : (old new : D) → Type 0
   IsLeft old new = (content new ≡ content old) × LeavesOnly moment may_leave left_since old new (may_leave old)
-
-  -- the same, where what it reads as is told
-  abbrev pub IsUnwritten : (old new : D) → Type 0
-  IsUnwritten old new =
-      ((image : Image) → content old ≡ Some image → content new ≡ Some image) × LeavesOnly moment may_leave left_since old new (may_leave old)

@@ -10,7 +10,7 @@ use Rattle.tw_service.specs.Stands.{StandsForOneOf}
 use Rattle.tw_app.specs.declared.outcome.Outcome.{Outcome}
 use Rattle.tw_app.specs.declared.outcome.Outcome.TheVariants.{Made, Shown, Refused, Unserved, Unreadable, InputFault, DiskFault, NoMemory}
 use Rattle.tw_app.specs.Appending.{AddsStep, RefusesAs}
-use Rattle.tw_app.specs.Disks.{IsOf, IsUnserved, Stands}
+use Rattle.tw_app.specs.Disks.{IsOf, IsUnserved, Rests}
 use Rattle.tw_app.specs.Proving.{Proves, RefusesProof}
 
 -- a command stops before the disk is touched
@@ -45,9 +45,9 @@ WritesNothing DiskFault = ⊥
 WritesNothing _ = Unit {0}
 
 module _ {D : Type 0} (content : D → Option Image) (may_leave : D → Image → Type 0) (moment : D → ℕ) (left_since : D → ℕ → Image → Type 0) (old new : D) where
-  -- what it leaves of a disk that stood for this history
+  -- what it leaves of a disk that stood for this history, for good
   abbrev pub LeavesStep : (events : List (List ℕ)) → History → Outcome → Type 0
   LeavesStep events h (Made thread) =
-      LeavesOnly moment may_leave left_since old new (StandsForOneOf sha256 h.name h events) × Stands content may_leave moment left_since new (plus h (event_step events))
+      LeavesOnly moment may_leave left_since old new (StandsForOneOf sha256 h.name h events) × Rests content may_leave moment left_since new (plus h (event_step events))
   LeavesStep events h DiskFault = LeavesOnly moment may_leave left_since old new (StandsForOneOf sha256 h.name h events)
-  LeavesStep events h _ = LeavesOnly moment may_leave left_since old new (IsOf h) × Stands content may_leave moment left_since new h
+  LeavesStep events h _ = LeavesOnly moment may_leave left_since old new (IsOf h) × Rests content may_leave moment left_since new h

@@ -10,7 +10,7 @@ ghost use Rattle.tw_text.specs.Lines.{anchor_text, no_memory_text};
 ghost use Rattle.tw_app.specs.declared.outcome.Outcome.TheVariants.{NoMemory as NoMemoryOutcome};
 ghost use Rattle.tw_app.specs.Commands.{files_of};
 ghost use Rattle.tw_app.specs.Outcomes.{TakesMemory, status_of as status_of_outcome};
-ghost use Rattle.tw_app.specs.Disks.{IsUnwritten, Keeps};
+ghost use Rattle.tw_app.specs.Disks.{IsLeft, Keeps};
 ghost use Rattle.tw_app.specs.DiskStatuses.{IsAppendedRun, IsCrashSafe, IsDiskFaultRun, IsMadeRun, IsProvedRun, IsUnservedRun};
 ghost use Rattle.tw_app.specs.Leaving.{Leaves};
 ghost use Rattle.tw_app.specs.Running.{Ends, EndsWith};
@@ -175,8 +175,8 @@ pub fn run<D: Disk, I: Inputs, S: Sink>(
     ensures kept { (result.status ≡ 0 → ⊥) → (result.status ≡ 4 → ⊥) → (result.status ≡ 5 → ⊥)
         → AskForDisk (map string_bytes words.now) → Keeps D.content D.may_leave D.moment D.left_since disk result.disk }
     ensures unwritten { (result.status ≡ 0 → ⊥) → (result.status ≡ 4 → ⊥) → (result.status ≡ 5 → ⊥)
-        → AskForDisk (map string_bytes words.now) → IsUnwritten D.content D.may_leave D.moment D.left_since disk result.disk }
-    ensures proving { AskForProof (map string_bytes words.now) → IsUnwritten D.content D.may_leave D.moment D.left_since disk result.disk }
+        → AskForDisk (map string_bytes words.now) → IsLeft D.content D.may_leave D.moment D.left_since disk result.disk }
+    ensures proving { AskForProof (map string_bytes words.now) → IsLeft D.content D.may_leave D.moment D.left_since disk result.disk }
     ensures untouched { (AskForDisk (map string_bytes words.now) → ⊥) → result.disk ≡ disk }
 {
     run_to_the_end(alloc, words, disk, inputs, out)

@@ -7,7 +7,7 @@ ghost use Rattle.tw_disk.specs.Image.{Image};
 ghost use Rattle.tw_outside.specs.Files.{Files};
 ghost use Rattle.tw_service.specs.Serves.{Serves, disk_of, has_failed, head_of, name_of};
 ghost use Rattle.tw_text.specs.declared.command.Command.TheVariants.{ProveEvent};
-ghost use Rattle.tw_app.specs.Disks.{IsLeft, IsUnwritten, OpensAsService, ReadsAs};
+ghost use Rattle.tw_app.specs.Disks.{IsLeft, OpensAsService, ReadsAs};
 ghost use Rattle.tw_app.specs.Proving.{top_of};
 ghost use Rattle.tw_app.specs.Running.{ComesTo};
 ghost use Rattle.tw_app.specs.Stepping.{ComesToProof};
@@ -30,7 +30,7 @@ pub(crate) fn prove<D: Disk>(
 ) -> Worked<D>
     ensures comes { (told : Option Files) (before after : ℕ) (dir : List ℕ)
         → ComesTo told before after (D.content disk) (D.faults disk) (D.faults result.disk) (ProveEvent dir step index top) result.outcome }
-    ensures leaves { IsUnwritten D.content D.may_leave D.moment D.left_since disk result.disk }
+    ensures leaves { IsLeft D.content D.may_leave D.moment D.left_since disk result.disk }
 {
     match Service::<D, Sha>::open(alloc, disk) {
         Ok(service) => prove_by(service, step, index, top),

@@ -40,9 +40,6 @@ module _ {D : Type 0} {g : _} (content : D → Option Image) (may_leave : D → 
   pub stable : IsAtRest content may_leave (disk_of store) (λ i. i ≡ c)
   stable = record { image = at.image; told = at.told; only = at.only; has = at.has.0 }
 
-  pub told_still : content (disk_of store) ≡ Some c
-  told_still = at.told ∙ ap (λ (i : Image). Some i) at.has.0
-
   -- ---- the root record is none
 
   module _ (none : (name : List ℕ) (head : Head) → root ≡ root_bytes dig name head → IsAllowed used generation name head → ⊥) where

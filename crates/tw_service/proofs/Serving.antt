@@ -62,6 +62,14 @@ module _ {D : Type 0} {g : _} (content : D → Option Image) (may_leave : D → 
       subst (λ (i : Image). StandsFor dig i name h) (sym (rest.only c left))
       (keeps_stands store name head h rest.image rest.image rest.has (opens_kept store.is_spare_open (opening_of store rest.image) rest.image rest.has.kept))
 
+  pub rest_for_good : (store : Store D g) (name : List ℕ) (head : Head) (h : History) → IsAtRest content may_leave (disk_of store) (KeepsHistory dig store name head h) → IsAtRest content may_leave (disk_of store) (λ i. StandsFor dig i name h)
+  rest_for_good store name head h rest = record {
+    image = rest.image;
+    told = rest.told;
+    only = rest.only;
+    has = keeps_stands store name head h rest.image rest.image rest.has (opens_kept store.is_spare_open (opening_of store rest.image) rest.image rest.has.kept);
+  }
+
   -- the same store keeps the same history
   pub still_keeps : (old mid : Store D g) (name : List ℕ) (head : Head) (h : History) → IsSame content may_leave moment left_since old mid → staged_of mid ≡ []
       → IsAtRest content may_leave (disk_of old) (KeepsHistory dig old name head h) → IsAtRest content may_leave (disk_of mid) (KeepsHistory dig mid name head h)

@@ -47,6 +47,7 @@ pub(crate) fn add_step<D: Disk, H: Hasher>(
     ensures clean { staged_of store.new ≡ [] }
     ensures good { IfErr result (λ refusal. IsBadPage refusal → (h : History) → IsAtRest D.content D.may_leave (disk_of store.old) (KeepsHistory H.dig store.old name.now head.now h) → ⊥) }
     ensures fault { result ≡ Err Refusal.DiskFault → Rose (D.faults (disk_of store.old)) (D.faults (disk_of store.new)) }
+    ensures later { D.faults (disk_of store.old) ≤ D.faults (disk_of store.new) }
 {
     let added = append::<Store<D>, H>(alloc, store, head, events);
     match added {

@@ -121,6 +121,7 @@ pub(crate) fn make_proof<P: Pages, H: Hasher>(
     ensures answers { IfErr result (λ refusal. IsFault refusal ⊎ IsNoEvent refusal) }
     ensures kept { OnlyReads P.used_count P.list P.same P.unbroken pages.old pages.new (result ≡ Err Refusal.DiskFault → ⊥) }
     ensures fault { result ≡ Err Refusal.DiskFault → Rose (P.faults pages.old) (P.faults pages.new) }
+    ensures later { P.faults pages.old ≤ P.faults pages.new }
 {
     match prove::<P, H>(alloc, pages, head, top, step) {
         Err(fault) => Err(Refusal::from(fault)),

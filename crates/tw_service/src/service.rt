@@ -45,17 +45,18 @@ impl<D: Disk, H: Hasher> Service<D, H> {
     ghost use Rattle.tw_skiplist.specs.Keeping.{event_step};
     ghost use Rattle.tw_service.specs.Faults.{IsBadPage, IsFault, IsNoEvent};
     ghost use Rattle.tw_service.specs.Limits.{append_refusal as append_refusal_of, order_refusal as order_refusal_of, proof_refusal};
-    ghost use Rattle.tw_service.specs.Machine.{Answers, last_thread};
-    ghost use Rattle.tw_service.specs.Machine.Call.{Append, ProveEvent};
-    ghost use Rattle.tw_service.specs.Machine.Reply.{OfProof, OfThread};
+    ghost use Rattle.tw_service.specs.Machine.{Answers, IsStepOf, last_thread};
+    ghost use Rattle.tw_service.specs.Machine.Call.{Append, CountSteps, ProveEvent, TellHead, TellName};
+    ghost use Rattle.tw_service.specs.Machine.Reply.{OfName, OfNumber, OfProof, OfThread};
     ghost use Rattle.tw_service.specs.Serves.{HasSameDisk, Serves, disk_of, has_failed, head_of, name_of, steps_of, thread_of};
     ghost use Rattle.tw_service.specs.Stands.{IsBlankOrNew, IsNotOpenedFor, OpensFor, StandsFor, StandsForOneOf, no_history};
 
-    /// Makes a service of this name, without a step, on a disk that has no store. It takes no memory.
+    /// Makes a service of this name, without a step, on a disk that has no store.
     ///
     /// `Taken` exactly where the disk has at least four pages and a gate reads open, and then nothing
-    /// is changed; else only `DiskFault`. Where a crash stops it, the disk is blank or stands for the
-    /// empty history of the name, or is what a crash might have left before.
+    /// is changed; else only `DiskFault`, never `NoMemory`. Over a disk with four pages and an open
+    /// gate it doesn't come to a write, whatever it answers. Where a crash stops it, the disk is blank
+    /// or stands for the empty history of the name, or is what a crash might have left before.
     pub fn init(alloc: Global, disk: D, name: Name) -> Result<Service<D, H>, (D, StoreFault)>
         // The empty history of the name, for good.
         ensures served { IfOk result (λ s. (c : Image) → D.content disk ≡ Some c
@@ -71,6 +72,12 @@ impl<D: Disk, H: Hasher> Service<D, H> {
             × LeavesOnly D.moment D.may_leave D.left_since disk e.0 (D.may_leave disk)) }
         ensures answers { IfErr result (λ e. (e.1 ≡ StoreFault.Taken) ⊎ (e.1 ≡ StoreFault.DiskFault)) }
         ensures fault { IfErr result (λ e. e.1 ≡ StoreFault.DiskFault → Rose (D.faults disk) (D.faults e.0)) }
+        ensures later { MatchResult result (λ s. D.faults disk ≤ D.faults (disk_of s)) (λ e. D.faults disk ≤ D.faults e.0) }
+
+        // Where there is something, nothing is written, a disk fault or not.
+        ensures held { (c : Image) → D.content disk ≡ Some c → IsTaken c
+            → IfErr result (λ e. (D.content e.0 ≡ Some c)
+            × LeavesOnly D.moment D.may_leave D.left_since disk e.0 (D.may_leave disk)) }
 
         // Each image that a crash since the start may leave is one that it might have left before, or blank, or stands for the empty history.
         ensures any_moment { IfOk result (λ s. (c : Image) → D.content disk ≡ Some c
@@ -100,11 +107,12 @@ impl<D: Disk, H: Hasher> Service<D, H> {
         }
     }
 
-    /// Opens the service that a disk holds, after a barrier that makes it stable. It takes no memory.
+    /// Opens the service that a disk holds, after a barrier that makes it stable.
     ///
     /// `Blank` and `NotAStore` exactly where the store answers them; `NotAStore` with the slot that
-    /// counts, too, exactly where the root record is none of a service. Else only `DiskFault`. A disk
-    /// that stands for a history is never refused.
+    /// counts, too, exactly where the root record is none of a service. Else only `DiskFault`, never
+    /// `NoMemory`. A disk that stands for a history is never refused. Whatever it answers, the disk reads
+    /// as before.
     pub fn open(alloc: Global, disk: D) -> Result<Service<D, H>, (D, StoreFault)>
         // A disk that reads as one that stands for a history is opened as it, for good.
         ensures served { (c : Image) (of : List ℕ) (h : History) → D.content disk ≡ Some c → StandsFor H.dig c of h
@@ -121,10 +129,10 @@ impl<D: Disk, H: Hasher> Service<D, H> {
             → (e.1 ≡ StoreFault.DiskFault) ⊎ IsNotOpenedFor H.dig c e.1) }
         ensures exact { (c : Image) (fault : Fault) → D.content disk ≡ Some c → IsNotOpenedFor H.dig c fault
             → IsErrAnd result (λ e. (e.1 ≡ fault) ⊎ (e.1 ≡ StoreFault.DiskFault)) }
-        ensures unchanged { IfErr result (λ e. (c : Image) → D.content disk ≡ Some c → D.content e.0 ≡ Some c) }
+        ensures unchanged { MatchResult result (λ s. D.content (disk_of s) ≡ D.content disk) (λ e. D.content e.0 ≡ D.content disk) }
         ensures answers { IfErr result (λ e. (e.1 ≢ StoreFault.Taken) × (e.1 ≢ StoreFault.NoMemory)) }
         ensures fault { IfErr result (λ e. e.1 ≡ StoreFault.DiskFault → Rose (D.faults disk) (D.faults e.0)) }
-        ensures later { IfOk result (λ s. D.faults disk ≤ D.faults (disk_of s)) }
+        ensures later { MatchResult result (λ s. D.faults disk ≤ D.faults (disk_of s)) (λ e. D.faults disk ≤ D.faults e.0) }
 
         // It writes nothing.
         ensures any_moment { IfOk result (λ s. LeavesOnly D.moment D.may_leave D.left_since disk (disk_of s) (D.may_leave disk)) }
@@ -153,6 +161,7 @@ impl<D: Disk, H: Hasher> Service<D, H> {
     pub fn steps(&self) -> u64
         ensures value { result ≡ steps_of self.now }
         ensures served { (h : History) → Serves H.dig D.content D.may_leave self.now h → result ≡ length h.steps }
+        ensures machine { (h : History) → Serves H.dig D.content D.may_leave self.now h → IsStepOf H.dig h CountSteps (OfNumber result) h }
     {
         self.head.step
     }
@@ -161,6 +170,7 @@ impl<D: Disk, H: Hasher> Service<D, H> {
     pub fn head(&self) -> Thread
         ensures value { result ≡ thread_of self.now }
         ensures served { (h : History) → Serves H.dig D.content D.may_leave self.now h → result ≡ last_thread H.dig h }
+        ensures machine { (h : History) → Serves H.dig D.content D.may_leave self.now h → IsStepOf H.dig h TellHead (OfThread result) h }
     {
         Thread {
             from: self.name,
@@ -173,13 +183,16 @@ impl<D: Disk, H: Hasher> Service<D, H> {
     pub fn name(&self) -> Name
         ensures value { result ≡ name_of self.now }
         ensures served { (h : History) → Serves H.dig D.content D.may_leave self.now h → result ≡ h.name }
+        ensures machine { (h : History) → Serves H.dig D.content D.may_leave self.now h → IsStepOf H.dig h TellName (OfName result) h }
     {
         self.name
     }
 
-    /// Gives the disk back.
+    /// Gives the disk back, which stands for the history that was served, for good.
     pub fn close(self) -> D
         ensures disk { result ≡ disk_of self }
+        ensures stands { (h : History) → Serves H.dig D.content D.may_leave self h
+            → IsAtRest D.content D.may_leave result (λ i. StandsFor H.dig i (name_of self) h) }
     {
         let Service {
             alloc: _,
@@ -229,6 +242,7 @@ impl<D: Disk, H: Hasher> Service<D, H> {
         ensures kept { OnErr result (thread_of self.new ≡ thread_of self.old) }
         ensures broken { IsTrue (has_failed self.new) ↔ (IsTrue (has_failed self.old) ⊎ (result ≡ Err Refusal.DiskFault)) }
         ensures fault { result ≡ Err Refusal.DiskFault → Rose (D.faults (disk_of self.old)) (D.faults (disk_of self.new)) }
+        ensures later { D.faults (disk_of self.old) ≤ D.faults (disk_of self.new) }
         ensures good { IfErr result (λ refusal. IsBadPage refusal → (h : History) → Serves H.dig D.content D.may_leave self.old h → ⊥) }
 
         // The call is a step of the machine.
@@ -277,6 +291,7 @@ impl<D: Disk, H: Hasher> Service<D, H> {
         ensures kept { thread_of self.new ≡ thread_of self.old }
         ensures broken { IsTrue (has_failed self.new) ↔ (IsTrue (has_failed self.old) ⊎ (result ≡ Err Refusal.DiskFault)) }
         ensures fault { result ≡ Err Refusal.DiskFault → Rose (D.faults (disk_of self.old)) (D.faults (disk_of self.new)) }
+        ensures later { D.faults (disk_of self.old) ≤ D.faults (disk_of self.new) }
         ensures good { IfErr result (λ refusal. IsBadPage refusal → (h : History) → Serves H.dig D.content D.may_leave self.old h → ⊥) }
     {
         if let Some(refusal) = order_refusal(self.is_broken, self.head.step, step, top) {

@@ -1,7 +1,7 @@
 use Rattle.tw_disk.specs.Moments.{leaves_weaker}
 use Rattle.tw_app.specs.Disks.{IsOf}
 use Rattle.tw_service.specs.Serves.{disk_of}
-use Rattle.tw_app.proofs.AtRest.{leaves_from, rest_leaves, stable_unwritten, still_keeps, unwritten_on}
+use Rattle.tw_app.proofs.AtRest.{content_stands, leaves_from, left_on}
 use Rattle.tw_app.proofs.Landings.{unopened_leaves, unopened_step}
 use Rattle.tw_app.proofs.appending.append_events.Goals as goal
 
@@ -15,9 +15,9 @@ returns-in-Ok-clause-leaves g c = λ h stands.
     let d = g.D.Disk in
     let mid = disk_of c.in-Ok.service in
     leaves_from d.content d.may_leave d.moment d.left_since c.args.disk mid c.append_to.result.disk c.args.events.now h c.append_to.result.outcome
-    (leaves_weaker d.moment d.may_leave d.left_since c.args.disk mid (d.may_leave c.args.disk) (IsOf h)
-    (rest_leaves d.content d.may_leave d.moment d.left_since c.args.disk (IsOf h) stands) c.in-Ok.ensures.any_moment)
-    (c.append_to.ensures.leaves h (c.in-Ok.ensures.served stands.image h.name h stands.told stands.has))
+    (leaves_weaker d.moment d.may_leave d.left_since c.args.disk mid (d.may_leave c.args.disk) (IsOf h) stands.each c.in-Ok.ensures.any_moment)
+    (c.append_to.ensures.leaves h (c.in-Ok.ensures.served stands.image h.name h stands.told
+    (content_stands d.content d.may_leave d.moment d.left_since g.met.D.Disk.as_it_reads c.args.disk h stands)))
 
 pub returns-in-Err-clause-comes : goal.returns-in-Err-clause-comes
 returns-in-Err-clause-comes g c =
@@ -28,14 +28,15 @@ pub returns-in-Err-clause-leaves : goal.returns-in-Err-clause-leaves
 returns-in-Err-clause-leaves g c = λ h stands.
     let d = g.D.Disk in
     unopened_leaves d.content d.may_leave d.moment d.left_since c.args.disk c.in-Err.disk c.args.events.now h c.in-Err.fault c.outcome_of_store.result c.outcome_of_store.ensures
-    (still_keeps d.content d.may_leave d.moment d.left_since c.args.disk c.in-Err.disk c.in-Err.ensures.unchanged c.in-Err.ensures.any_moment_err h stands)
+    (c.in-Err.ensures.served stands.image h.name h stands.told (content_stands d.content d.may_leave d.moment d.left_since g.met.D.Disk.as_it_reads c.args.disk h stands))
+    (leaves_weaker d.moment d.may_leave d.left_since c.args.disk c.in-Err.disk (d.may_leave c.args.disk) (IsOf h) stands.each c.in-Err.ensures.any_moment_err)
 
 pub returns-in-Ok-clause-unwritten : goal.returns-in-Ok-clause-unwritten
 returns-in-Ok-clause-unwritten g c = λ nothing.
     let d = g.D.Disk in
     let mid = disk_of c.in-Ok.service in
-    unwritten_on d.content d.may_leave d.moment d.left_since c.args.disk mid c.append_to.result.disk
-    (stable_unwritten d.content d.may_leave d.moment d.left_since c.args.disk mid c.in-Ok.ensures.stable c.in-Ok.ensures.any_moment)
+    left_on d.content d.may_leave d.moment d.left_since c.args.disk mid c.append_to.result.disk
+    (c.in-Ok.ensures.unchanged, c.in-Ok.ensures.any_moment)
     (c.append_to.ensures.unwritten nothing)
 
 pub returns-in-Err-clause-unwritten : goal.returns-in-Err-clause-unwritten

@@ -29,7 +29,7 @@ returns-clause-shown g c = λ is asks.
 
 pub returns-clause-initialised : goal.returns-clause-initialised
 returns-clause-initialised g c = λ is asks.
-    made g.D.Disk.content g.D.Disk.may_leave g.D.Disk.moment g.D.Disk.left_since g.met.D.Disk.only_now c.args.disk c.run_to_the_end.result.disk
+    made g.D.Disk.content g.D.Disk.may_leave g.D.Disk.moment g.D.Disk.left_since g.met.D.Disk.only_now g.met.D.Disk.as_it_reads c.args.disk c.run_to_the_end.result.disk
     (g.I.Inputs.told c.args.inputs.now) (g.I.Inputs.faults c.args.inputs.now) (g.I.Inputs.faults c.run_to_the_end.new.inputs)
     (g.D.Disk.faults c.args.disk) (g.D.Disk.faults c.run_to_the_end.result.disk) _
     (g.S.Sink.taken c.args.out.now) (g.S.Sink.taken c.run_to_the_end.new.out) (g.S.Sink.faults c.args.out.now) (g.S.Sink.faults c.run_to_the_end.new.out)
@@ -37,7 +37,7 @@ returns-clause-initialised g c = λ is asks.
 
 pub returns-clause-appended : goal.returns-clause-appended
 returns-clause-appended g c = λ is asks.
-    appended g.D.Disk.content g.D.Disk.may_leave g.D.Disk.moment g.D.Disk.left_since g.met.D.Disk.only_now c.args.disk c.run_to_the_end.result.disk
+    appended g.D.Disk.content g.D.Disk.may_leave g.D.Disk.moment g.D.Disk.left_since g.met.D.Disk.only_now g.met.D.Disk.as_it_reads c.args.disk c.run_to_the_end.result.disk
     (g.I.Inputs.told c.args.inputs.now) (g.I.Inputs.faults c.args.inputs.now) (g.I.Inputs.faults c.run_to_the_end.new.inputs)
     (g.D.Disk.faults c.args.disk) (g.D.Disk.faults c.run_to_the_end.result.disk) _
     (g.S.Sink.taken c.args.out.now) (g.S.Sink.taken c.run_to_the_end.new.out) (g.S.Sink.faults c.args.out.now) (g.S.Sink.faults c.run_to_the_end.new.out)
@@ -45,7 +45,7 @@ returns-clause-appended g c = λ is asks.
 
 pub returns-clause-proved : goal.returns-clause-proved
 returns-clause-proved g c = λ is asks.
-    proved g.D.Disk.content g.D.Disk.may_leave g.D.Disk.moment g.D.Disk.left_since g.met.D.Disk.only_now c.args.disk c.run_to_the_end.result.disk
+    proved g.D.Disk.content g.D.Disk.may_leave g.D.Disk.moment g.D.Disk.left_since g.met.D.Disk.only_now g.met.D.Disk.as_it_reads c.args.disk c.run_to_the_end.result.disk
     (g.I.Inputs.told c.args.inputs.now) (g.I.Inputs.faults c.args.inputs.now) (g.I.Inputs.faults c.run_to_the_end.new.inputs)
     (g.D.Disk.faults c.args.disk) (g.D.Disk.faults c.run_to_the_end.result.disk) _
     (g.S.Sink.taken c.args.out.now) (g.S.Sink.taken c.run_to_the_end.new.out) (g.S.Sink.faults c.args.out.now) (g.S.Sink.faults c.run_to_the_end.new.out)
@@ -77,7 +77,7 @@ returns-clause-input_fault g c = λ is.
 
 pub returns-clause-disk_fault : goal.returns-clause-disk_fault
 returns-clause-disk_fault g c = λ is.
-    disk_fault g.D.Disk.content g.D.Disk.may_leave g.D.Disk.moment g.D.Disk.left_since g.met.D.Disk.only_now c.args.disk c.run_to_the_end.result.disk
+    disk_fault g.D.Disk.content g.D.Disk.may_leave g.D.Disk.moment g.D.Disk.left_since g.met.D.Disk.only_now g.met.D.Disk.as_it_reads c.args.disk c.run_to_the_end.result.disk
     (g.I.Inputs.told c.args.inputs.now) (g.I.Inputs.faults c.args.inputs.now) (g.I.Inputs.faults c.run_to_the_end.new.inputs)
     (g.D.Disk.faults c.args.disk) (g.D.Disk.faults c.run_to_the_end.result.disk) _
     (g.S.Sink.taken c.args.out.now) (g.S.Sink.taken c.run_to_the_end.new.out) (g.S.Sink.faults c.args.out.now) (g.S.Sink.faults c.run_to_the_end.new.out)
@@ -93,7 +93,7 @@ returns-clause-refused g c = λ is.
 
 pub returns-clause-store : goal.returns-clause-store
 returns-clause-store g c = λ is.
-    unserved g.D.Disk.content g.D.Disk.may_leave g.D.Disk.moment g.D.Disk.left_since g.met.D.Disk.only_now c.args.disk c.run_to_the_end.result.disk
+    unserved g.D.Disk.content g.D.Disk.may_leave g.D.Disk.moment g.D.Disk.left_since g.met.D.Disk.only_now g.met.D.Disk.as_it_reads c.args.disk c.run_to_the_end.result.disk
     (g.I.Inputs.told c.args.inputs.now) (g.I.Inputs.faults c.args.inputs.now) (g.I.Inputs.faults c.run_to_the_end.new.inputs)
     (g.D.Disk.faults c.args.disk) (g.D.Disk.faults c.run_to_the_end.result.disk) _
     (g.S.Sink.taken c.args.out.now) (g.S.Sink.taken c.run_to_the_end.new.out) (g.S.Sink.faults c.args.out.now) (g.S.Sink.faults c.run_to_the_end.new.out)
@@ -109,7 +109,7 @@ returns-clause-unreadable g c = λ is.
 
 pub returns-clause-crash : goal.returns-clause-crash
 returns-clause-crash g c = λ command is.
-    crash g.D.Disk.content g.D.Disk.may_leave g.D.Disk.moment g.D.Disk.left_since g.met.D.Disk.only_now c.args.disk c.run_to_the_end.result.disk
+    crash g.D.Disk.content g.D.Disk.may_leave g.D.Disk.moment g.D.Disk.left_since g.met.D.Disk.only_now g.met.D.Disk.as_it_reads c.args.disk c.run_to_the_end.result.disk
     (g.I.Inputs.told c.args.inputs.now) (g.I.Inputs.faults c.args.inputs.now) (g.I.Inputs.faults c.run_to_the_end.new.inputs)
     (g.D.Disk.faults c.args.disk) (g.D.Disk.faults c.run_to_the_end.result.disk) _
     (g.S.Sink.taken c.args.out.now) (g.S.Sink.taken c.run_to_the_end.new.out) (g.S.Sink.faults c.args.out.now) (g.S.Sink.faults c.run_to_the_end.new.out)
@@ -117,7 +117,7 @@ returns-clause-crash g c = λ command is.
 
 pub returns-clause-kept : goal.returns-clause-kept
 returns-clause-kept g c = λ zeroth fourth fifth asks.
-    kept g.D.Disk.content g.D.Disk.may_leave g.D.Disk.moment g.D.Disk.left_since g.met.D.Disk.only_now c.args.disk c.run_to_the_end.result.disk
+    kept g.D.Disk.content g.D.Disk.may_leave g.D.Disk.moment g.D.Disk.left_since g.met.D.Disk.only_now g.met.D.Disk.as_it_reads c.args.disk c.run_to_the_end.result.disk
     (g.I.Inputs.told c.args.inputs.now) (g.I.Inputs.faults c.args.inputs.now) (g.I.Inputs.faults c.run_to_the_end.new.inputs)
     (g.D.Disk.faults c.args.disk) (g.D.Disk.faults c.run_to_the_end.result.disk) _
     (g.S.Sink.taken c.args.out.now) (g.S.Sink.taken c.run_to_the_end.new.out) (g.S.Sink.faults c.args.out.now) (g.S.Sink.faults c.run_to_the_end.new.out)
@@ -125,7 +125,7 @@ returns-clause-kept g c = λ zeroth fourth fifth asks.
 
 pub returns-clause-unwritten : goal.returns-clause-unwritten
 returns-clause-unwritten g c = λ zeroth fourth fifth asks.
-    unwritten g.D.Disk.content g.D.Disk.may_leave g.D.Disk.moment g.D.Disk.left_since g.met.D.Disk.only_now c.args.disk c.run_to_the_end.result.disk
+    unwritten g.D.Disk.content g.D.Disk.may_leave g.D.Disk.moment g.D.Disk.left_since g.met.D.Disk.only_now g.met.D.Disk.as_it_reads c.args.disk c.run_to_the_end.result.disk
     (g.I.Inputs.told c.args.inputs.now) (g.I.Inputs.faults c.args.inputs.now) (g.I.Inputs.faults c.run_to_the_end.new.inputs)
     (g.D.Disk.faults c.args.disk) (g.D.Disk.faults c.run_to_the_end.result.disk) _
     (g.S.Sink.taken c.args.out.now) (g.S.Sink.taken c.run_to_the_end.new.out) (g.S.Sink.faults c.args.out.now) (g.S.Sink.faults c.run_to_the_end.new.out)
@@ -133,7 +133,7 @@ returns-clause-unwritten g c = λ zeroth fourth fifth asks.
 
 pub returns-clause-proving : goal.returns-clause-proving
 returns-clause-proving g c = λ asks.
-    proving g.D.Disk.content g.D.Disk.may_leave g.D.Disk.moment g.D.Disk.left_since g.met.D.Disk.only_now c.args.disk c.run_to_the_end.result.disk
+    proving g.D.Disk.content g.D.Disk.may_leave g.D.Disk.moment g.D.Disk.left_since g.met.D.Disk.only_now g.met.D.Disk.as_it_reads c.args.disk c.run_to_the_end.result.disk
     (g.I.Inputs.told c.args.inputs.now) (g.I.Inputs.faults c.args.inputs.now) (g.I.Inputs.faults c.run_to_the_end.new.inputs)
     (g.D.Disk.faults c.args.disk) (g.D.Disk.faults c.run_to_the_end.result.disk) _
     (g.S.Sink.taken c.args.out.now) (g.S.Sink.taken c.run_to_the_end.new.out) (g.S.Sink.faults c.args.out.now) (g.S.Sink.faults c.run_to_the_end.new.out)
@@ -141,7 +141,7 @@ returns-clause-proving g c = λ asks.
 
 pub returns-clause-untouched : goal.returns-clause-untouched
 returns-clause-untouched g c = λ other.
-    untouched g.D.Disk.content g.D.Disk.may_leave g.D.Disk.moment g.D.Disk.left_since g.met.D.Disk.only_now c.args.disk c.run_to_the_end.result.disk
+    untouched g.D.Disk.content g.D.Disk.may_leave g.D.Disk.moment g.D.Disk.left_since g.met.D.Disk.only_now g.met.D.Disk.as_it_reads c.args.disk c.run_to_the_end.result.disk
     (g.I.Inputs.told c.args.inputs.now) (g.I.Inputs.faults c.args.inputs.now) (g.I.Inputs.faults c.run_to_the_end.new.inputs)
     (g.D.Disk.faults c.args.disk) (g.D.Disk.faults c.run_to_the_end.result.disk) _
     (g.S.Sink.taken c.args.out.now) (g.S.Sink.taken c.run_to_the_end.new.out) (g.S.Sink.faults c.args.out.now) (g.S.Sink.faults c.run_to_the_end.new.out)

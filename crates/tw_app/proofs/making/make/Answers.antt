@@ -1,8 +1,7 @@
 use Rattle.std.proofs.Common.{sym, subst}
-use Rattle.tw_app.specs.declared.outcome.Outcome.TheVariants.{Made}
 use Rattle.tw_service.specs.Stands.{no_history}
-use Rattle.tw_app.specs.Leaving.{InitLeaves}
-use Rattle.tw_app.proofs.AtRest.{serves_stands}
+use Rattle.tw_app.specs.Disks.{MayBegin}
+use Rattle.tw_app.proofs.AtRest.{held_keeps, own_rest}
 use Rattle.tw_app.proofs.Landings.{unmade, unmade_leaves}
 use Rattle.tw_app.proofs.making.make.Goals as goal
 
@@ -15,10 +14,9 @@ returns-in-Ok-clause-comes g c = λ told before after dir. record {
 pub returns-in-Ok-clause-leaves : goal.returns-in-Ok-clause-leaves
 returns-in-Ok-clause-leaves g c = λ told dir.
     let d = g.D.Disk in
-    subst (λ disk. InitLeaves d.content d.may_leave d.moment d.left_since c.args.disk disk c.args.name (Made c.first_thread.result)) (sym c.close.ensures.disk) (
-      c.in-Ok.ensures.any_moment,
-      λ image told_image.
-          serves_stands d.content d.may_leave d.moment d.left_since g.met.D.Disk.only_now c.in-Ok.service (no_history c.args.name) (c.in-Ok.ensures.served image told_image),
+    let first = no_history c.args.name in (
+      subst (λ disk. MayBegin d.content d.may_leave d.moment d.left_since c.args.name c.args.disk disk) (sym c.close.ensures.disk) c.in-Ok.ensures.any_moment,
+      λ image told_image. own_rest d.content d.may_leave d.moment d.left_since c.close.result c.in-Ok.service.name first (c.close.ensures.stands first (c.in-Ok.ensures.served image told_image)),
     )
 
 pub returns-in-Err-clause-comes : goal.returns-in-Err-clause-comes
@@ -31,3 +29,4 @@ returns-in-Err-clause-leaves g c = λ told dir.
     let d = g.D.Disk in
     unmade_leaves d.content d.may_leave d.moment d.left_since c.args.disk c.in-Err.disk c.args.name c.in-Err.fault
     c.outcome_of_store.result c.outcome_of_store.ensures c.in-Err.ensures.answers c.in-Err.ensures.unchanged c.in-Err.ensures.any_moment_err
+    (held_keeps d.content d.may_leave d.moment d.left_since g.met.D.Disk.as_it_reads c.args.disk c.in-Err.disk c.in-Err.ensures.held)

@@ -1,6 +1,6 @@
 use Rattle.std.proofs.Common.{[]}
 use Rattle.tw_service.specs.Serves.{disk_of}
-use Rattle.tw_app.proofs.AtRest.{stable_unwritten, unwritten_on}
+use Rattle.tw_app.proofs.AtRest.{left_on}
 use Rattle.tw_app.proofs.Landings.{comes_of_proof, unopened_proof}
 use Rattle.tw_app.proofs.proving.prove.Goals as goal
 
@@ -15,8 +15,8 @@ pub returns-in-Ok-clause-leaves : goal.returns-in-Ok-clause-leaves
 returns-in-Ok-clause-leaves g c =
     let d = g.D.Disk in
     let mid = disk_of c.in-Ok.service in
-    unwritten_on d.content d.may_leave d.moment d.left_since c.args.disk mid c.prove_by.result.disk
-    (stable_unwritten d.content d.may_leave d.moment d.left_since c.args.disk mid c.in-Ok.ensures.stable c.in-Ok.ensures.any_moment)
+    left_on d.content d.may_leave d.moment d.left_since c.args.disk mid c.prove_by.result.disk
+    (c.in-Ok.ensures.unchanged, c.in-Ok.ensures.any_moment)
     c.prove_by.ensures.leaves
 
 pub returns-in-Err-clause-comes : goal.returns-in-Err-clause-comes

@@ -1,10 +1,10 @@
-use Rattle.std.proofs.Common.{◌∙◌, ℕ, ap, inr, subst, sym}
+use Rattle.std.proofs.Common.{◌∙◌, ◌≤◌, ℕ, ap, inr, subst, sym}
 use Rattle.std.specs.Prelude.{Some}
 use Rattle.tw_disk.specs.Image.{Image}
 use Rattle.tw_pages.specs.declared.open.StoreFault.TheVariants.{NotAStore}
 use Rattle.tw_service.specs.Stands.{IsNotOpenedFor}
 use Rattle.tw_service.proofs.Counted.{counted}
-use Rattle.tw_service.proofs.Opened.{never_refused, opens_for, refused, served, stable, stands_for_none, told_still}
+use Rattle.tw_service.proofs.Opened.{never_refused, opens_for, refused, served, stable, stands_for_none}
 use Rattle.tw_service.proofs.service.Service.open.Goals as goal
 
 pub returns-in-None-clause-served : goal.returns-in-None-clause-served
@@ -22,11 +22,10 @@ returns-in-None-clause-refused g c = λ i told.
     inr (subst (λ (slot : ℕ). IsNotOpenedFor g.H.Hasher.dig i (NotAStore slot)) (sym c.slot-slot.ensures) (refused g.D.Disk.content g.D.Disk.may_leave g.H.Hasher.dig g.met.H.Hasher.size c.in-Ok.store i at _ c.root.ensures _ used _ c.generation.ensures c.in-None.ensures))
 
 pub returns-in-None-clause-unchanged : goal.returns-in-None-clause-unchanged
-returns-in-None-clause-unchanged g c = λ i told.
-    let at = c.in-Ok.ensures.opened i told in
-    let told_now = at.told ∙ ap (λ (j : Image). Some j) at.has.0 in
-    let used = c.used.ensures ∙ counted g.D.Disk.content g.D.Disk.may_leave g.D.Disk.moment g.D.Disk.left_since c.in-Ok.store _ i (λ j is. g.met.D.Disk.count_is_told _ j is) c.in-Ok.store.room told_now c.in-Ok.ensures.clean.0 in
-    ap g.D.Disk.content c.close.ensures ∙ told_still g.D.Disk.content g.D.Disk.may_leave g.H.Hasher.dig g.met.H.Hasher.size c.in-Ok.store i at _ c.root.ensures _ used _ c.generation.ensures
+returns-in-None-clause-unchanged g c = ap g.D.Disk.content c.close.ensures ∙ c.in-Ok.ensures.unchanged
+
+pub returns-in-None-clause-later : goal.returns-in-None-clause-later
+returns-in-None-clause-later g c = subst (λ disk. g.D.Disk.faults c.args.disk ≤ g.D.Disk.faults disk) (sym c.close.ensures) c.in-Ok.ensures.later
 
 pub returns-in-Some-clause-served : goal.returns-in-Some-clause-served
 returns-in-Some-clause-served g c = λ i of h told stands.

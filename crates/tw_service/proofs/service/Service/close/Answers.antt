@@ -1,0 +1,12 @@
+use Rattle.std.proofs.Common.{subst, sym}
+use Rattle.tw_disk.specs.Disk.{IsAtRest}
+use Rattle.tw_service.specs.Stands.{StandsFor}
+use Rattle.tw_service.proofs.Serving.{rest_for_good}
+use Rattle.tw_service.proofs.service.Service.close.Goals as goal
+
+pub returns-clause-stands : goal.returns-clause-stands
+returns-clause-stands g c = λ h served.
+    let d = g.D.Disk in
+    let s = c.args.self in
+    subst (λ disk. IsAtRest d.content d.may_leave disk (λ i. StandsFor g.H.Hasher.dig i s.name h)) (sym c.close.ensures)
+    (rest_for_good d.content d.may_leave d.moment d.left_since g.met.D.Disk.only_now g.H.Hasher.dig s.store s.name s.head h served)
