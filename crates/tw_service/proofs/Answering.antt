@@ -1,6 +1,6 @@
 -- From the answers of a call to steps of the machine.
 use Rattle.std.proofs.Common.{◌≡◌, ◌⊎◌, ℕ, ◌-◌, ◌^◌, ◌<◌, List, length, refl, ap, sym, ◌∙◌, subst, inl, inr, Bool, true, false}
-use Rattle.std.specs.Prelude.{IfErr, IfOk, Ok, Option, Some, None, Result, Err, MatchOption, if◌then◌else◌, nat_le, nat_lt}
+use Rattle.std.specs.Prelude.{IfOk, Ok, Option, Some, None, Result, Err, MatchOption, if◌then◌else◌, nat_le, nat_lt}
 use Rattle.std.proofs.lemmas.Bool.{lt-ltb}
 use Rattle.tw_base.specs.History.{History, events_at, plus}
 use Rattle.tw_chain.specs.Making.{MakesExistence}
@@ -173,7 +173,3 @@ event_told count index = of_if IsNoEvent (nat_lt index count) None (Some (NoEven
 pub if_ok : {T E : Type 0} (r : Result T E) (P Q : T → Type 0) → ((x : T) → P x → Q x) → IfOk r P → IfOk r Q
 if_ok (Ok x) P Q step is = step x is
 if_ok (Err e) P Q step is = tt
-
-pub if_err : {T E : Type 0} (r : Result T E) (P Q : E → Type 0) → ((e : E) → P e → Q e) → IfErr r P → IfErr r Q
-if_err (Ok x) P Q step is = tt
-if_err (Err e) P Q step is = step e is
