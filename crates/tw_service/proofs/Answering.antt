@@ -6,7 +6,7 @@ use Rattle.tw_base.specs.History.{History, events_at, plus}
 use Rattle.tw_chain.specs.Making.{MakesExistence}
 use Rattle.tw_base.specs.declared.thread.Thread.{Thread}
 use Rattle.tw_skiplist.specs.Keeping.{event_step}
-use Rattle.tw_service.specs.Faults.{IsBadPage, IsFault, IsNoEvent}
+use Rattle.tw_service.specs.Faults.{IsBadPage, IsFault, IsNoEvent, OfNoEvent}
 use Rattle.tw_service.specs.Limits.{append_refusal, bytes_of, event_refusal, first_long, is_in_order, length_refusal, limits_refusal, or_else, order_refusal, proof_refusal}
 use Rattle.tw_service.specs.Machine.{Answers, Call, IsStepOf, Reply, last_thread}
 use Rattle.tw_service.specs.Machine.Call.{Append, ProveEvent}
@@ -69,6 +69,12 @@ pub order_no_fault : (broken : Bool) (last step top : ℕ) → Of NoFault (order
 unfolding order_refusal
 order_no_fault true last step top = λ is. is
 order_no_fault false last step top = of_weaker IsTold NoFault (λ r is. is.0) _ (order_told last step top)
+
+-- the table for the order of steps tells no number of events
+pub order_counts : (P : ℕ → Type 0) (broken : Bool) (last step top : ℕ) → Of (λ r. OfNoEvent r P) (order_refusal broken last step top)
+unfolding order_refusal
+order_counts P true last step top = tt
+order_counts P false last step top = of_if (λ r. OfNoEvent r P) (is_in_order last step top) None (Some (NoStep last)) tt tt
 
 -- ---- a bad page and a disk fault are faults
 

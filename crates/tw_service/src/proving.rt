@@ -10,7 +10,8 @@ ghost use Rattle.tw_disk.specs.Pages.{OnlyReads};
 ghost use Rattle.tw_skiplist.specs.Infos.{IsInfoOf};
 ghost use Rattle.tw_skiplist.specs.Keeping.{IsWithinLimits, Keeps};
 ghost use Rattle.tw_skipproof.specs.Making.{IsPathOf};
-ghost use Rattle.tw_service.specs.Faults.{IsBadPage, IsFault, IsNoEvent};
+ghost use Rattle.tw_service.specs.Faults.{IsBadPage, IsFault, IsNoEvent, OfBadPage, OfNoEvent};
+ghost use Rattle.tw_service.specs.Finds.{FindsCount, FindsEvent, LacksProof};
 ghost use Rattle.tw_service.specs.Limits.{event_refusal as event_refusal_of};
 ghost use Rattle.tw_service.specs.Made.{made_of};
 
@@ -97,6 +98,9 @@ pub(crate) fn make_proof<P: Pages, H: Hasher>(
     ensures no_event { (ps : Image) (h : History) → P.list pages.old ≡ Some ps → Keeps H.dig ps h head.now →
         IfErr result (λ refusal. IsNoEvent refusal → event_refusal_of (length (events_at h step)) index ≡ Some refusal) }
     ensures event { IfOk result (λ _. (ps : Image) (h : History) → P.list pages.old ≡ Some ps → Keeps H.dig ps h head.now → index < length (events_at h step)) }
+    ensures found { IfOk result (λ _. (ps : Image) → P.list pages.old ≡ Some ps → FindsEvent H.dig ps head.now step index top) }
+    ensures count { IfErr result (λ refusal. OfNoEvent refusal (λ count. (ps : Image) → P.list pages.old ≡ Some ps → FindsCount H.dig ps head.now step index top count)) }
+    ensures bad { IfErr result (λ refusal. OfBadPage refusal (λ page. (ps : Image) → P.list pages.old ≡ Some ps → LacksProof H.dig ps head.now step index top page)) }
     ensures good { IfErr result (λ refusal. IsBadPage refusal → (ps : Image) (h : History) → P.list pages.old ≡ Some ps → Keeps H.dig ps h head.now → ⊥) }
     ensures answers { IfErr result (λ refusal. IsFault refusal ⊎ IsNoEvent refusal) }
     ensures kept { OnlyReads P.used_count P.list P.same P.unbroken pages.old pages.new (result ≡ Err Refusal.DiskFault → ⊥) }
