@@ -1,12 +1,12 @@
 -- From the answers of a call to steps of the machine.
 use Rattle.std.proofs.Common.{◌≡◌, ◌⊎◌, ℕ, ◌-◌, ◌^◌, ◌<◌, List, length, refl, ap, sym, ◌∙◌, subst, inl, inr, Bool, true, false}
-use Rattle.std.specs.Prelude.{IfErr, IfOk, Ok, Option, Some, None, Result, Err, MatchOption, if◌then◌else◌, nat_le, nat_lt}
+use Rattle.std.specs.Prelude.{IfOk, Ok, Option, Some, None, Result, Err, MatchOption, if◌then◌else◌, nat_le, nat_lt}
 use Rattle.std.proofs.lemmas.Bool.{lt-ltb}
 use Rattle.tw_base.specs.History.{History, events_at, plus}
 use Rattle.tw_chain.specs.Making.{MakesExistence}
 use Rattle.tw_base.specs.declared.thread.Thread.{Thread}
 use Rattle.tw_skiplist.specs.Keeping.{event_step}
-use Rattle.tw_service.specs.Faults.{IsBadPage, IsFault, IsNoEvent}
+use Rattle.tw_service.specs.Faults.{IsBadPage, IsFault, IsNoEvent, OfNoEvent}
 use Rattle.tw_service.specs.Limits.{append_refusal, bytes_of, event_refusal, first_long, is_in_order, length_refusal, limits_refusal, or_else, order_refusal, proof_refusal}
 use Rattle.tw_service.specs.Machine.{Answers, Call, IsStepOf, Reply, last_thread}
 use Rattle.tw_service.specs.Machine.Call.{Append, ProveEvent}
@@ -69,6 +69,12 @@ pub order_no_fault : (broken : Bool) (last step top : ℕ) → Of NoFault (order
 unfolding order_refusal
 order_no_fault true last step top = λ is. is
 order_no_fault false last step top = of_weaker IsTold NoFault (λ r is. is.0) _ (order_told last step top)
+
+-- the table for the order of steps tells no number of events
+pub order_counts : (P : ℕ → Type 0) (broken : Bool) (last step top : ℕ) → Of (λ r. OfNoEvent r P) (order_refusal broken last step top)
+unfolding order_refusal
+order_counts P true last step top = tt
+order_counts P false last step top = of_if (λ r. OfNoEvent r P) (is_in_order last step top) None (Some (NoStep last)) tt tt
 
 -- ---- a bad page and a disk fault are faults
 
@@ -173,7 +179,3 @@ event_told count index = of_if IsNoEvent (nat_lt index count) None (Some (NoEven
 pub if_ok : {T E : Type 0} (r : Result T E) (P Q : T → Type 0) → ((x : T) → P x → Q x) → IfOk r P → IfOk r Q
 if_ok (Ok x) P Q step is = step x is
 if_ok (Err e) P Q step is = tt
-
-pub if_err : {T E : Type 0} (r : Result T E) (P Q : E → Type 0) → ((e : E) → P e → Q e) → IfErr r P → IfErr r Q
-if_err (Ok x) P Q step is = tt
-if_err (Err e) P Q step is = step e is

@@ -1,16 +1,14 @@
 -- Events within the limits of a step.
-use Rattle.std.proofs.Common.{◌≡◌, ℕ, ◌*◌, ◌≤◌, List, [], ◌∷◌, length, refl, ap, sym, ◌∙◌, arith, lit≤, Bool, true, false, subst}
-use Rattle.std.specs.Prelude.{Option, Some, None, nat_lt, if◌then◌else◌, slice_get, IsNone, IsTrue, is_some, not}
+use Rattle.std.proofs.Common.{◌≡◌, ℕ, ◌*◌, ◌≤◌, List, [], ◌∷◌, length, refl, sym, ◌∙◌, arith, lit≤, Bool, true, false, subst}
+use Rattle.std.specs.Prelude.{Option, Some, None, nat_lt, if◌then◌else◌, slice_get}
 use Rattle.std.specs.Option.{option_map}
-use Rattle.std.proofs.lemmas.Bool.{le-ltb, ltb-false}
+use Rattle.std.proofs.lemmas.Bool.{ltb-false}
 use Rattle.std.proofs.lemmas.List.Sums.{sum_by-cons}
 use Rattle.std.proofs.lemmas.Option.{get_or_from_slice_get}
 use Rattle.tw_base.specs.Lists.{Each}
 use Rattle.tw_base.proofs.ListLemmas.{Each-get_or}
 use Rattle.tw_skiplist.specs.Keeping.{IsWithinLimits}
-use Rattle.tw_service.specs.declared.refusal.Refusal.{Refusal}
-use Rattle.tw_service.specs.declared.refusal.Refusal.TheVariants.{TooLong, TooMany}
-use Rattle.tw_service.specs.Limits.{bytes_of, first_long, length_refusal, limits_refusal}
+use Rattle.tw_service.specs.Limits.{bytes_of, first_long}
 
 -- where no event is longer than 1,024 bytes, each is at most so long
 pub none_long : (events : List (List ℕ)) → first_long events ≡ None → Each (λ event. length event ≤ 1024) events
@@ -32,24 +30,7 @@ no_first (Some event) none = cc
 pub short_events : (events : List (List ℕ)) (o : Option ℕ) → o ≡ option_map (λ event. length event) (first_long events) → o ≡ None → Each (λ event. length event ≤ 1024) events
 short_events events o is none = none_long events (no_first (first_long events) (sym is ∙ none))
 
-no_long : (events : List (List ℕ)) → Each (λ event. length event ≤ 1024) events → first_long events ≡ None
-no_long [] short = refl
-no_long (event ∷ events) short =
-    ap (λ (b : Bool). if b then Some event else first_long events) (le-ltb 1024 (length event) short.0) ∙ no_long events short.1
-
--- events within the limits have no refusal
-pub limits_none : (events : List (List ℕ)) → IsWithinLimits events → limits_refusal events ≡ None
-unfolding limits_refusal
-limits_none events limits =
-    ap (λ (b : Bool). if b then Some (TooMany (length events)) else length_refusal (first_long events) (bytes_of events)) (le-ltb 1024 (length events) limits.count)
-    ∙ ap (λ (o : Option (List ℕ)). length_refusal o (bytes_of events)) (no_long events limits.sizes)
-    ∙ ap (λ (b : Bool). if b then Some (TooLong (bytes_of events)) else None) (le-ltb 65536 (bytes_of events) limits.bytes)
-
 -- an event among events within the limits
 pub event_short : (events : List (List ℕ)) (index : ℕ) (event : List ℕ) → IsWithinLimits events → slice_get events index ≡ Some event → length event ≤ 1024
 event_short events index event limits there =
     subst (λ e. length e ≤ 1024) (get_or_from_slice_get events index event [] there) (Each-get_or (λ e. length e ≤ 1024) events index [] (lit≤ tt) limits.sizes)
-
-pub none_is : (o : Option Refusal) (b : Bool) → is_some o ≡ not b → (IsTrue b → IsNone o) × (IsNone o → IsTrue b)
-none_is o true e = (λ _. e, λ _. refl)
-none_is o false e = (λ is. cc, λ none. cc)

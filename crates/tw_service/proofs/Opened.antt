@@ -1,10 +1,13 @@
 -- What is opened of an image.
-use Rattle.std.proofs.Common.{◌≡◌, ℕ, ◌^◌, ◌<◌, List, [], length, refl, ap, sym, ◌∙◌, subst, inl, inr, ⊎_elim, Bool, true, false}
+use Rattle.std.proofs.Common.{◌≡◌, ℕ, ◌^◌, ◌<◌, List, [], ◌++◌, length, refl, ap, sym, ◌∙◌, subst, inl, inr, ⊎_elim, Bool, true, false}
+use Rattle.std.proofs.lemmas.List.{append-nil}
+use Rattle.std.specs.Option.{option_map}
 use Rattle.std.specs.Prelude.{Option, Some}
 use Rattle.tw_disk.specs.Image.{Image}
 use Rattle.tw_disk.specs.Disk.{IsAtRest}
 use Rattle.tw_base.specs.History.{History}
 use Rattle.tw_pages.specs.Kept.{IsKept, disk_of, opening_of, root_of, slot_of, staged_of}
+use Rattle.tw_pages.specs.Same.{list_of, pages_of}
 use Rattle.tw_pages.specs.Store.{IsAbove, Opening, OpensAs, used_of}
 use Rattle.tw_pages.specs.declared.open.StoreFault.{StoreFault}
 use Rattle.tw_pages.specs.declared.open.StoreFault.TheVariants.{NotAStore}
@@ -15,7 +18,7 @@ use Rattle.tw_skiplist.specs.declared.head.Head.{Head}
 use Rattle.tw_skiplist.specs.Keeping.{Keeps}
 use Rattle.tw_service.specs.Keeps.{KeepsHistory}
 use Rattle.tw_service.specs.Roots.{IsAllowed, root_bytes}
-use Rattle.tw_service.specs.Stands.{HasRoot, IsNotOpenedFor, OpensFor, StandsFor}
+use Rattle.tw_service.specs.Stands.{HasRoot, IsNotOpenedFor, OpensWith, StandsFor}
 use Rattle.tw_service.proofs.RootReading.{root_once}
 
 pub opens_kept : (b : Bool) (o : Opening) (c : Image) → IsAbove b o c → OpensAs o c
@@ -58,8 +61,16 @@ module _ {D : Type 0} {g : _} (content : D → Option Image) (may_leave : D → 
     has_root : HasRoot dig here name head
     has_root = record { bytes = sym root_is ∙ is; allowed = subst (λ n. IsAllowed n store.generation name head) counted (subst (λ n. IsAllowed used n name head) generation_is allowed) }
 
-    pub opens_for : OpensFor dig c name head
-    opens_for = (here, opens, has_root)
+    -- the pages that the store tells are those of the opening
+    pub opens_with : staged_of store ≡ [] → OpensWith dig c name head (λ pages. list_of content store ≡ Some pages)
+    opens_with clean = (
+      here,
+      opens,
+      has_root,
+      ap (λ (o : Option Image). option_map (pages_of store) o) told_still
+      ∙ ap (λ (staged : Image). Some (here.pages ++ staged)) clean
+      ∙ ap (λ (pages : Image). Some pages) (append-nil here.pages),
+    )
 
     pub never_refused : (fault : StoreFault) → IsNotOpenedFor dig c fault → ⊥
     never_refused fault why = ⊎_elim (not_refused here c opens fault)

@@ -1,4 +1,5 @@
 -- What kinds of refusals there are, and which one a fault of the list of steps becomes.
+use Rattle.std.specs.Prelude.{ℕ}
 use Rattle.tw_skiplist.specs.declared.fault.ListFault.{ListFault}
 use Rattle.tw_skiplist.specs.declared.fault.ListFault.TheVariants as list
 use Rattle.tw_service.specs.declared.refusal.Refusal.{Refusal}
@@ -35,7 +36,7 @@ IsNoEvent (TooLong _) = ⊥
 IsNoEvent Full = ⊥
 IsNoEvent Reopen = ⊥
 
--- that a page isn't of its kind
+-- that a page isn't of its kind, or that the page read last doesn't fit the others
 abbrev pub IsBadPage : Refusal → Type 0
 IsBadPage (BadPage _) = Unit {0}
 IsBadPage (NoEvent _) = ⊥
@@ -46,3 +47,13 @@ IsBadPage (TooMany _) = ⊥
 IsBadPage (TooLong _) = ⊥
 IsBadPage Full = ⊥
 IsBadPage Reopen = ⊥
+
+-- what holds of the page of a bad page
+abbrev pub OfBadPage : Refusal → (ℕ → Type 0) → Type 0
+OfBadPage (BadPage page) P = P page
+OfBadPage _ P = Unit {0}
+
+-- what holds of the number of events where there is no such event
+abbrev pub OfNoEvent : Refusal → (ℕ → Type 0) → Type 0
+OfNoEvent (NoEvent count) P = P count
+OfNoEvent _ P = Unit {0}

@@ -2,6 +2,7 @@ pub mod EventSteps
 pub mod Roots
 pub mod Stands
 pub mod Faults
+pub mod Finds
 pub mod Limits
 pub mod Machine
 pub mod Made

@@ -5,7 +5,7 @@ use Rattle.tw_base.specs.History.{History}
 use Rattle.tw_disk.specs.Image.{Image}
 use Rattle.tw_disk.specs.Disk.{IsAtRest}
 use Rattle.tw_pages.specs.Kept.{disk_of as disk_below}
-use Rattle.tw_pages.specs.Same.{IsSame}
+use Rattle.tw_pages.specs.Same.{IsSame, list_of}
 use Rattle.tw_skiplist.specs.declared.head.Head.{Head}
 use Rattle.tw_service.specs.declared.service.Service.{Service}
 use Rattle.tw_service.specs.Keeps.{KeepsHistory}
@@ -26,6 +26,10 @@ steps_of service = service.head.step
 
 abbrev pub thread_of : {D H : Type 0} {g : _} {k : _} → Service D H g k → Thread
 thread_of service = record { from = service.name; step = service.head.step; auth = service.head.auth }
+
+-- its pages, from number 4 on, where its disk tells its content: those of the last commit, since nothing is staged between calls
+abbrev pub pages_of : {D H : Type 0} {g : _} {k : _} → (content : D → Option Image) → Service D H g k → Option Image
+pages_of content service = list_of content service.store
 
 -- an earlier call on this value met a disk fault
 abbrev pub has_failed : {D H : Type 0} {g : _} {k : _} → Service D H g k → Bool

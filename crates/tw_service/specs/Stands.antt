@@ -25,6 +25,10 @@ module _ (dig : List ℕ → List ℕ) where
   abbrev pub OpensFor : Image → (name : List ℕ) → Head → Type 0
   OpensFor image name head = (o : Opening) × OpensAs o image × HasRoot o name head
 
+  -- the same, and P holds of the store's pages
+  abbrev pub OpensWith : Image → (name : List ℕ) → Head → (Image → Type 0) → Type 0
+  OpensWith image name head P = (o : Opening) × OpensAs o image × HasRoot o name head × P o.pages
+
   -- the image opens as a store that keeps this history of this name
   pub record StandsFor (image : Image) (name : List ℕ) (h : History) : Type 0 where
     pub sound : IsSound h

@@ -1,12 +1,14 @@
 // One more step of the history that a store keeps.
 
-ghost use Rattle.std.specs.Prelude.{◌≡◌, ◌⊎◌, ℕ, ◌+◌, ◌*◌, ◌<◌, ◌≤◌, ◌^◌, [], IfOk, IfErr, false, Err};
+ghost use Rattle.std.specs.Prelude.{◌≡◌, ◌⊎◌, ℕ, ◌+◌, ◌*◌, ◌<◌, ◌≤◌, ◌^◌, [], IfOk, IfErr, false, Some, Err};
 ghost use Rattle.tw_base.specs.History.{History, plus};
 ghost use Rattle.tw_disk.specs.Disk.{IsAtRest, LeavesOnly, Rose};
+ghost use Rattle.tw_disk.specs.Image.{Image};
 ghost use Rattle.tw_pages.specs.Kept.{disk_of, generation_of, is_broken, staged_of};
-ghost use Rattle.tw_pages.specs.Same.{IsSame, count_of};
+ghost use Rattle.tw_pages.specs.Same.{IsSame, count_of, list_of};
 ghost use Rattle.tw_skiplist.specs.Keeping.{IsWithinLimits, event_step};
-ghost use Rattle.tw_service.specs.Faults.{IsBadPage, IsFault};
+ghost use Rattle.tw_service.specs.Faults.{IsBadPage, IsFault, OfBadPage};
+ghost use Rattle.tw_service.specs.Finds.{FindsLinks, LacksLinks};
 ghost use Rattle.tw_service.specs.Keeps.{KeepsHistory};
 ghost use Rattle.tw_service.specs.Stands.{StandsFor, StandsForOneOf};
 
@@ -45,6 +47,8 @@ pub(crate) fn add_step<D: Disk, H: Hasher>(
         → LeavesOnly D.moment D.may_leave D.left_since (disk_of store.old) (disk_of store.new) (StandsForOneOf H.dig name.now h events.now) }
     ensures same { IfErr result (λ refusal. (refusal ≡ Refusal.DiskFault) ⊎ IsSame D.content D.may_leave D.moment D.left_since store.old store.new) }
     ensures clean { staged_of store.new ≡ [] }
+    ensures found { IfOk result (λ _. (ps : Image) → list_of D.content store.old ≡ Some ps → FindsLinks H.dig ps head.now) }
+    ensures bad { IfErr result (λ refusal. OfBadPage refusal (λ page. (ps : Image) → list_of D.content store.old ≡ Some ps → LacksLinks H.dig ps head.now page)) }
     ensures good { IfErr result (λ refusal. IsBadPage refusal → (h : History) → IsAtRest D.content D.may_leave (disk_of store.old) (KeepsHistory H.dig store.old name.now head.now h) → ⊥) }
     ensures fault { result ≡ Err Refusal.DiskFault → Rose (D.faults (disk_of store.old)) (D.faults (disk_of store.new)) }
     ensures later { D.faults (disk_of store.old) ≤ D.faults (disk_of store.new) }

@@ -1,6 +1,6 @@
 // The existence proof of an event of a history that pages keep.
 
-ghost use Rattle.std.specs.Prelude.{◌≡◌, ◌↔◌, ◌⊎◌, ℕ, ◌<◌, ◌≤◌, ◌^◌, length, slice_get, IfOk, IfErr, IsTrue, Some, Err};
+ghost use Rattle.std.specs.Prelude.{◌≡◌, ◌⊎◌, ℕ, ◌<◌, ◌≤◌, ◌^◌, length, slice_get, IfOk, IfErr, Some, Err};
 ghost use Rattle.tw_base.specs.History.{History, events_at};
 ghost use Rattle.tw_base.specs.Sound.{IsSound};
 ghost use Rattle.tw_chain.specs.Making.{MakesExistence};
@@ -10,11 +10,12 @@ ghost use Rattle.tw_disk.specs.Pages.{OnlyReads};
 ghost use Rattle.tw_skiplist.specs.Infos.{IsInfoOf};
 ghost use Rattle.tw_skiplist.specs.Keeping.{IsWithinLimits, Keeps};
 ghost use Rattle.tw_skipproof.specs.Making.{IsPathOf};
-ghost use Rattle.tw_service.specs.Faults.{IsBadPage, IsFault, IsNoEvent};
+ghost use Rattle.tw_service.specs.Faults.{IsBadPage, IsFault, IsNoEvent, OfBadPage, OfNoEvent};
+ghost use Rattle.tw_service.specs.Finds.{FindsCount, FindsEvent, LacksProof};
 ghost use Rattle.tw_service.specs.Limits.{event_refusal as event_refusal_of};
 ghost use Rattle.tw_service.specs.Made.{made_of};
 
-use crate::limits::{event_refusal, limits_refusal};
+use crate::limits::event_refusal;
 use crate::refusal::Refusal;
 use std::alloc::Global;
 use tw_base::{Bytes, EventList, Hasher, Labels, Name, NoMemory};
@@ -56,15 +57,8 @@ fn existence_of(
     }
 }
 
-/// Whether the events are as many as the step has, and within the limits of a step.
-fn are_of_step(events: &EventList, count: u32) -> bool
-    ensures { IsTrue result ↔ ((length events.now ≡ count) × IsWithinLimits events.now) }
-{
-    events.len() == count as usize && limits_refusal(events).is_none()
-}
-
-/// The bytes of the proof of the event at that index among the events of the step. Events that
-/// aren't the step's make its page a bad one.
+/// The bytes of the proof of the event at that index among the events of the step, which are as many
+/// as it has, and within the limits of a step.
 fn write_proof<H: Hasher>(
     alloc: Global,
     name: &Name,
@@ -72,33 +66,20 @@ fn write_proof<H: Hasher>(
     index: u32,
     proof: StepProof,
     events: EventList,
-) -> Result<Bytes, Refusal>
-    requires { index < proof.info.count }
+) -> Result<Bytes, NoMemory>
+    requires index { index < proof.info.count }
+    requires count { length events ≡ proof.info.count }
+    requires limits { IsWithinLimits events }
     ensures made { IfOk result (λ bytes. (ps : Image) (h : History) (step : ℕ) → IsSound h → h.name ≡ name.now → step ≤ top → top ≤ length h.steps →
         IsPathOf H.dig h proof.path.links top step → IsInfoOf H.dig ps h step proof.info → events ≡ events_at h step → MakesExistence H.dig h step index top bytes) }
-    ensures good { IfErr result (λ refusal. IsBadPage refusal → (ps : Image) (h : History) (step : ℕ) → IsInfoOf H.dig ps h step proof.info → events ≡ events_at h step → ⊥) }
-    ensures answers { IfErr result (λ refusal. IsBadPage refusal ⊎ (refusal ≡ Refusal.NoMemory)) }
 {
-    if !are_of_step(&events, proof.info.count) {
-        return Err(Refusal::BadPage {
-            page: proof.info.page,
-        });
-    }
-    match event_path::<H>(alloc, &events, index) {
-        Err(_) => Err(Refusal::NoMemory),
-        Ok(path) => {
-            let event = take_event(events, index);
-            let made = existence_of(name, top, index, proof, event, path);
-            match write_existence(alloc, &made) {
-                Err(_) => Err(Refusal::NoMemory),
-                Ok(bytes) => Ok(bytes),
-            }
-        }
-    }
+    let path = event_path::<H>(alloc, &events, index)?;
+    let event = take_event(events, index);
+    let made = existence_of(name, top, index, proof, event, path);
+    write_existence(alloc, &made)
 }
 
-/// The proof of the event at that index of a step, under that top. A page that doesn't give the
-/// step's events is a bad one.
+/// The proof of the event at that index of a step, under that top.
 pub(crate) fn make_proof<P: Pages, H: Hasher>(
     alloc: Global,
     pages: &mut P,
@@ -117,6 +98,9 @@ pub(crate) fn make_proof<P: Pages, H: Hasher>(
     ensures no_event { (ps : Image) (h : History) → P.list pages.old ≡ Some ps → Keeps H.dig ps h head.now →
         IfErr result (λ refusal. IsNoEvent refusal → event_refusal_of (length (events_at h step)) index ≡ Some refusal) }
     ensures event { IfOk result (λ _. (ps : Image) (h : History) → P.list pages.old ≡ Some ps → Keeps H.dig ps h head.now → index < length (events_at h step)) }
+    ensures found { IfOk result (λ _. (ps : Image) → P.list pages.old ≡ Some ps → FindsEvent H.dig ps head.now step index top) }
+    ensures count { IfErr result (λ refusal. OfNoEvent refusal (λ count. (ps : Image) → P.list pages.old ≡ Some ps → FindsCount H.dig ps head.now step index top count)) }
+    ensures bad { IfErr result (λ refusal. OfBadPage refusal (λ page. (ps : Image) → P.list pages.old ≡ Some ps → LacksProof H.dig ps head.now step index top page)) }
     ensures good { IfErr result (λ refusal. IsBadPage refusal → (ps : Image) (h : History) → P.list pages.old ≡ Some ps → Keeps H.dig ps h head.now → ⊥) }
     ensures answers { IfErr result (λ refusal. IsFault refusal ⊎ IsNoEvent refusal) }
     ensures kept { OnlyReads P.used_count P.list P.same P.unbroken pages.old pages.new (result ≡ Err Refusal.DiskFault → ⊥) }
@@ -129,7 +113,10 @@ pub(crate) fn make_proof<P: Pages, H: Hasher>(
             Some(refusal) => Err(refusal),
             None => match events_of(alloc, pages, &proof.info) {
                 Err(fault) => Err(Refusal::from(fault)),
-                Ok(events) => write_proof::<H>(alloc, name, top, index, proof, events),
+                Ok(events) => match write_proof::<H>(alloc, name, top, index, proof, events) {
+                    Err(_) => Err(Refusal::NoMemory),
+                    Ok(bytes) => Ok(bytes),
+                },
             },
         },
     }

@@ -20,7 +20,8 @@ pub enum Refusal {
     TooLong { bytes: u64 },
     /// The service has 2^40 - 1 steps.
     Full,
-    /// The page of this number isn't of its kind. It never comes over a disk that stands for a
+    /// The page of this number, the first one met that isn't of its kind; or the one read last, where
+    /// the event pages of a step don't spell its events. It never comes over a disk that stands for a
     /// history.
     BadPage { page: u64 },
     /// A device call failed; the disk's count of faults rose in this call.

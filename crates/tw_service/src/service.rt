@@ -1,6 +1,6 @@
 // Services.
-ghost use Rattle.std.specs.Prelude.{◌≡◌, ◌<◌, ◌≤◌, ◌+◌, ◌*◌, ◌^◌, ◌⊎◌, true, false};
-ghost use Rattle.tw_pages.specs.Kept.{generation_of, is_broken as store_is_broken};
+ghost use Rattle.std.specs.Prelude.{◌≡◌, ◌<◌, ◌≤◌, ◌+◌, ◌*◌, ◌^◌, ◌⊎◌, [], true, false};
+ghost use Rattle.tw_pages.specs.Kept.{generation_of, is_broken as store_is_broken, staged_of};
 ghost use Rattle.tw_pages.specs.Same.{count_of};
 
 use crate::adding::add_step;
@@ -27,6 +27,7 @@ pub struct Service<D: Disk, H: Hasher> {
     ghost short: { head.step < 2 ^ 40 },
     ghost few_pages: { count_of store ≤ 4 + 64 * head.step },
     ghost few_commits: { generation_of store ≤ head.step + 1 },
+    ghost clean: { staged_of store ≡ [] },
     ghost tells_faults: { is_broken ≡ false → store_is_broken store ≡ false },
 }
 
@@ -43,13 +44,14 @@ impl<D: Disk, H: Hasher> Service<D, H> {
     ghost use Rattle.tw_pages.specs.Slots.{IsTaken};
     ghost use Rattle.tw_pages.specs.declared.open.StoreFault.{StoreFault as Fault};
     ghost use Rattle.tw_skiplist.specs.Keeping.{event_step};
-    ghost use Rattle.tw_service.specs.Faults.{IsBadPage, IsFault, IsNoEvent};
+    ghost use Rattle.tw_service.specs.Faults.{IsBadPage, IsFault, IsNoEvent, OfBadPage, OfNoEvent};
+    ghost use Rattle.tw_service.specs.Finds.{FindsCount, FindsEvent, FindsLinks, LacksLinks, LacksProof};
     ghost use Rattle.tw_service.specs.Limits.{append_refusal as append_refusal_of, order_refusal as order_refusal_of, proof_refusal};
     ghost use Rattle.tw_service.specs.Machine.{Answers, IsStepOf, last_thread};
     ghost use Rattle.tw_service.specs.Machine.Call.{Append, CountSteps, ProveEvent, TellHead, TellName};
     ghost use Rattle.tw_service.specs.Machine.Reply.{OfName, OfNumber, OfProof, OfThread};
-    ghost use Rattle.tw_service.specs.Serves.{HasSameDisk, Serves, disk_of, has_failed, head_of, name_of, steps_of, thread_of};
-    ghost use Rattle.tw_service.specs.Stands.{IsBlankOrNew, IsNotOpenedFor, OpensFor, StandsFor, StandsForOneOf, no_history};
+    ghost use Rattle.tw_service.specs.Serves.{HasSameDisk, Serves, disk_of, has_failed, head_of, name_of, pages_of, steps_of, thread_of};
+    ghost use Rattle.tw_service.specs.Stands.{IsBlankOrNew, IsNotOpenedFor, OpensWith, StandsFor, StandsForOneOf, no_history};
 
     /// Makes a service of this name, without a step, on a disk that has no store.
     ///
@@ -121,8 +123,9 @@ impl<D: Disk, H: Hasher> Service<D, H> {
             → IsAtRest D.content D.may_leave (disk_of s) (λ i. i ≡ c)) }
         ensures whole { IfOk result (λ s. has_failed s ≡ false) }
 
-        // Whatever is opened has the root record of a service, whose name and head are the value's.
-        ensures opened { IfOk result (λ s. (c : Image) → D.content disk ≡ Some c → OpensFor H.dig c (name_of s) (head_of s)) }
+        // Whatever is opened has the root record of a service, whose name and head are the value's, and the value's pages.
+        ensures opened { IfOk result (λ s. (c : Image) → D.content disk ≡ Some c
+            → OpensWith H.dig c (name_of s) (head_of s) (λ ps. pages_of D.content s ≡ Some ps)) }
 
         // Each refusal exactly where its reason stands, a disk fault excepted.
         ensures refused { IfErr result (λ e. (c : Image) → D.content disk ≡ Some c
@@ -243,6 +246,11 @@ impl<D: Disk, H: Hasher> Service<D, H> {
         ensures broken { IsTrue (has_failed self.new) ↔ (IsTrue (has_failed self.old) ⊎ (result ≡ Err Refusal.DiskFault)) }
         ensures fault { result ≡ Err Refusal.DiskFault → Rose (D.faults (disk_of self.old)) (D.faults (disk_of self.new)) }
         ensures later { D.faults (disk_of self.old) ≤ D.faults (disk_of self.new) }
+        // Whatever the pages are: after Ok they have each link of the new step, and BadPage tells the first page met that isn't its
+        // step's; where they keep a history it never comes.
+        ensures found { IfOk result (λ _. (ps : Image) → pages_of D.content self.old ≡ Some ps → FindsLinks H.dig ps (head_of self.old)) }
+        ensures bad { IfErr result (λ refusal. OfBadPage refusal (λ page. (ps : Image) → pages_of D.content self.old ≡ Some ps
+            → LacksLinks H.dig ps (head_of self.old) page)) }
         ensures good { IfErr result (λ refusal. IsBadPage refusal → (h : History) → Serves H.dig D.content D.may_leave self.old h → ⊥) }
 
         // The call is a step of the machine.
@@ -292,6 +300,15 @@ impl<D: Disk, H: Hasher> Service<D, H> {
         ensures broken { IsTrue (has_failed self.new) ↔ (IsTrue (has_failed self.old) ⊎ (result ≡ Err Refusal.DiskFault)) }
         ensures fault { result ≡ Err Refusal.DiskFault → Rose (D.faults (disk_of self.old)) (D.faults (disk_of self.new)) }
         ensures later { D.faults (disk_of self.old) ≤ D.faults (disk_of self.new) }
+        // Whatever the pages are: after Ok they have the step, with an event at the index; NoEvent tells how many the step's page
+        // counts, and BadPage the first page met that isn't of its kind, or the last one read where the event pages don't spell the
+        // step's events; where they keep a history it never comes.
+        ensures found { IfOk result (λ _. (ps : Image) → pages_of D.content self.old ≡ Some ps
+            → FindsEvent H.dig ps (head_of self.old) step index top) }
+        ensures count { IfErr result (λ refusal. OfNoEvent refusal (λ count. (ps : Image) → pages_of D.content self.old ≡ Some ps
+            → FindsCount H.dig ps (head_of self.old) step index top count)) }
+        ensures bad { IfErr result (λ refusal. OfBadPage refusal (λ page. (ps : Image) → pages_of D.content self.old ≡ Some ps
+            → LacksProof H.dig ps (head_of self.old) step index top page)) }
         ensures good { IfErr result (λ refusal. IsBadPage refusal → (h : History) → Serves H.dig D.content D.may_leave self.old h → ⊥) }
     {
         if let Some(refusal) = order_refusal(self.is_broken, self.head.step, step, top) {

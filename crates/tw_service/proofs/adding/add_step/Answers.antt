@@ -3,7 +3,7 @@ use Rattle.tw_disk.specs.Disk.{LeavesOnly}
 use Rattle.tw_pages.specs.Same.{count_of, is_same_on, told_pages}
 use Rattle.tw_skiplist.specs.declared.head.Head.{Head}
 use Rattle.tw_service.specs.Stands.{StandsForOneOf}
-use Rattle.tw_service.proofs.BadPages.{bad_page}
+use Rattle.tw_service.proofs.BadPages.{bad_page, bad_told}
 use Rattle.tw_service.proofs.Serving.{commit_keeps, commit_leaves, rest_stands, same_leaves, told_list}
 use Rattle.tw_service.proofs.adding.add_step.Goals as goal
 
@@ -20,6 +20,9 @@ returns-in-Err-clause-good g c = λ bad h rest.
     let d = g.D.Disk in
     let list = told_list d.content d.may_leave d.moment d.left_since g.met.D.Disk.only_now g.H.Hasher.dig c.args.store.now c.args.name.now c.args.head.now h rest in
     bad_page Head _ c.in-Err.fault c.from.result c.from.ensures c.in-Err.ensures.good bad _ h list rest.has.keeps
+
+pub returns-in-Err-clause-bad : goal.returns-in-Err-clause-bad
+returns-in-Err-clause-bad g c = bad_told Head _ _ c.in-Err.fault c.from.result c.from.ensures (λ page met. met) c.in-Err.ensures.bad
 
 pub returns-in-Ok-commit-clause-done : goal.returns-in-Ok-commit-clause-done
 returns-in-Ok-commit-clause-done g c = λ h rest.

@@ -12,6 +12,7 @@ use Rattle.tw_service.specs.Machine.Call.{Append}
 use Rattle.tw_service.specs.Machine.Reply.{OfThread}
 use Rattle.tw_service.specs.Serves.{Serves}
 use Rattle.tw_service.proofs.Answering.{IsTold, NoFault, answers_fault, answers_refusal, append_done, append_no_fault, append_refused, append_told, is_bad_fault, is_disk_fault, of_some}
+use Rattle.tw_service.proofs.BadPages.{no_bad_page}
 use Rattle.tw_service.proofs.Serving.{rest_stands, same_leaves, still_keeps}
 use Rattle.tw_service.proofs.service.Service.append.Goals as goal
 
@@ -38,6 +39,10 @@ pub returns-in-Some-clause-good : goal.returns-in-Some-clause-good
 returns-in-Some-clause-good g c =
     let no_fault = of_some NoFault _ c.in-Some.refusal (sym c.in-Some.is ∙ c.append_refusal.ensures.answer) (append_no_fault c.args.self.now.is_broken c.args.self.now.head.step c.args.events.now) in
     λ bad h served. no_fault (is_bad_fault c.in-Some.refusal bad)
+
+pub returns-in-Some-clause-bad : goal.returns-in-Some-clause-bad
+returns-in-Some-clause-bad g c =
+    no_bad_page _ c.in-Some.refusal (of_some NoFault _ c.in-Some.refusal (sym c.in-Some.is ∙ c.append_refusal.ensures.answer) (append_no_fault c.args.self.now.is_broken c.args.self.now.head.step c.args.events.now))
 
 pub returns-in-Some-clause-machine : goal.returns-in-Some-clause-machine
 returns-in-Some-clause-machine g c = λ whole h served.

@@ -4,7 +4,7 @@ use Rattle.tw_disk.specs.Image.{Image}
 use Rattle.tw_pages.specs.declared.open.StoreFault.TheVariants.{NotAStore}
 use Rattle.tw_service.specs.Stands.{IsNotOpenedFor}
 use Rattle.tw_service.proofs.Counted.{counted}
-use Rattle.tw_service.proofs.Opened.{never_refused, opens_for, refused, served, stable, stands_for_none}
+use Rattle.tw_service.proofs.Opened.{never_refused, opens_with, refused, served, stable, stands_for_none}
 use Rattle.tw_service.proofs.service.Service.open.Goals as goal
 
 pub returns-in-None-clause-served : goal.returns-in-None-clause-served
@@ -53,4 +53,4 @@ returns-in-Some-clause-opened g c = λ i told.
     let at = c.in-Ok.ensures.opened i told in
     let told_now = at.told ∙ ap (λ (j : Image). Some j) at.has.0 in
     let used = c.used.ensures ∙ counted g.D.Disk.content g.D.Disk.may_leave g.D.Disk.moment g.D.Disk.left_since c.in-Ok.store _ i (λ j is. g.met.D.Disk.count_is_told _ j is) c.in-Ok.store.room told_now c.in-Ok.ensures.clean.0 in
-    opens_for g.D.Disk.content g.D.Disk.may_leave g.H.Hasher.dig g.met.H.Hasher.size c.in-Ok.store i at _ c.root.ensures _ used _ c.generation.ensures c.in-Some.root.name c.in-Some.root.head c.in-Some.ensures.0 c.in-Some.ensures.1
+    opens_with g.D.Disk.content g.D.Disk.may_leave g.H.Hasher.dig g.met.H.Hasher.size c.in-Ok.store i at _ c.root.ensures _ used _ c.generation.ensures c.in-Some.root.name c.in-Some.root.head c.in-Some.ensures.0 c.in-Some.ensures.1 c.in-Ok.ensures.clean.0

@@ -5,11 +5,13 @@ use Rattle.tw_chain.proofs.Completeness.{Accepts-made}
 use Rattle.tw_disk.specs.Disk.{IsAtRest}
 use Rattle.tw_pages.specs.Kept.{disk_of}
 use Rattle.tw_pages.specs.Same.{is_same_itself}
+use Rattle.tw_service.specs.Faults.{OfNoEvent}
 use Rattle.tw_service.specs.Keeps.{KeepsHistory}
 use Rattle.tw_service.specs.Limits.{order_refusal}
 use Rattle.tw_service.specs.Machine.Call.{ProveEvent}
 use Rattle.tw_service.specs.Machine.Reply.{OfProof}
-use Rattle.tw_service.proofs.Answering.{IsTold, NoFault, answers_fault, answers_refusal, is_bad_fault, is_disk_fault, no_event_told, of_some, order_no_fault, order_told, proof_disordered, proof_made, proof_without_event}
+use Rattle.tw_service.proofs.Answering.{IsTold, NoFault, answers_fault, answers_refusal, is_bad_fault, is_disk_fault, no_event_told, of_some, order_counts, order_no_fault, order_told, proof_disordered, proof_made, proof_without_event}
+use Rattle.tw_service.proofs.BadPages.{no_bad_page}
 use Rattle.tw_service.proofs.Serving.{read_keeps, read_leaves, told_list}
 use Rattle.tw_service.proofs.service.Service.prove_event.Goals as goal
 
@@ -47,6 +49,16 @@ returns-in-Some-clause-good g c =
     let s = c.args.self.now in
     let no_fault = of_some NoFault _ c.in-Some.refusal (sym c.in-Some.is ∙ c.order_refusal.ensures.answer) (order_no_fault s.is_broken s.head.step c.args.step c.args.top) in
     λ bad h served. no_fault (is_bad_fault c.in-Some.refusal bad)
+
+pub returns-in-Some-clause-bad : goal.returns-in-Some-clause-bad
+returns-in-Some-clause-bad g c =
+    let s = c.args.self.now in
+    no_bad_page _ c.in-Some.refusal (of_some NoFault _ c.in-Some.refusal (sym c.in-Some.is ∙ c.order_refusal.ensures.answer) (order_no_fault s.is_broken s.head.step c.args.step c.args.top))
+
+pub returns-in-Some-clause-count : goal.returns-in-Some-clause-count
+returns-in-Some-clause-count g c =
+    let s = c.args.self.now in
+    of_some (λ r. OfNoEvent r _) _ c.in-Some.refusal (sym c.in-Some.is ∙ c.order_refusal.ensures.answer) (order_counts _ s.is_broken s.head.step c.args.step c.args.top)
 
 pub returns-in-Ok-clause-made : goal.returns-in-Ok-clause-made
 returns-in-Ok-clause-made g c = λ h served.
