@@ -40,6 +40,9 @@ module _ {D : Type 0} {g : _} (content : D → Option Image) (may_leave : D → 
   used_fits : used_of here < 2 ^ 48
   used_fits = opens.stands.body.used_fits
 
+  told_still : content (disk_of store) ≡ Some c
+  told_still = at.told ∙ ap (λ (i : Image). Some i) at.has.0
+
   pub stable : IsAtRest content may_leave (disk_of store) (λ i. i ≡ c)
   stable = record { image = at.image; told = at.told; only = at.only; has = at.has.0 }
 
