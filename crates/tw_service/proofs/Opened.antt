@@ -1,6 +1,6 @@
 -- What is opened of an image.
-use Rattle.std.proofs.Common.{◌≡◌, ℕ, ◌^◌, ◌<◌, List, [], length, refl, ap, sym, ◌∙◌, subst, inl, inr, ⊎_elim, Bool, true, false}
-use Rattle.std.specs.Prelude.{Option, Some}
+use Rattle.std.proofs.Common.{◌≡◌, ℕ, ◌^◌, ◌<◌, List, [], length, refl, sym, ◌∙◌, subst, inl, inr, ⊎_elim, Bool, true, false}
+use Rattle.std.specs.Prelude.{Option}
 use Rattle.tw_disk.specs.Image.{Image}
 use Rattle.tw_disk.specs.Disk.{IsAtRest}
 use Rattle.tw_base.specs.History.{History}
