@@ -110,6 +110,17 @@ fn a_service_is_made_once(rt: HostRuntime) {
 }
 
 #[test]
+fn a_disk_fault_of_init_leaves_the_service_that_is_there(rt: HostRuntime) {
+    let alloc = rt.alloc();
+    for call in 1u64..3 {
+        let mut disk = made(&rt, alloc);
+        disk.fail_read(call).expect(&rt, "memory");
+        let disk = expect(&rt, alloc, disk, &["init", "d", "b"], 5, b"fault disk\n");
+        drop(expect(&rt, alloc, disk, &["append", "d", "e"], 0, LINE.as_bytes()));
+    }
+}
+
+#[test]
 fn what_a_service_does_not_have_is_refused(rt: HostRuntime) {
     let alloc = rt.alloc();
     let disk = with_step(&rt, alloc);

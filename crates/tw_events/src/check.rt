@@ -21,7 +21,11 @@ fn node_above<H: Hasher>(side: Side, label: &Digest, reached: &Digest) -> Digest
 
 /// The root that a leaf's label and the labels of its audit path lead to (RFC 6962, section 2.1.1).
 /// The sides are those on which the path's labels stand, from the root down.
-pub fn root_above_leaf<H: Hasher>(sides: ArrayVec<Side, 10>, path: &[Digest], leaf: Digest) -> Digest
+pub fn root_above_leaf<H: Hasher>(
+    sides: ArrayVec<Side, 10>,
+    path: &[Digest],
+    leaf: Digest,
+) -> Digest
     requires { length path.now ≤ length sides.items }
     ensures { result ≡ root_above H.dig (reverse sides.items) path.now leaf }
 {

@@ -57,18 +57,17 @@ module _ {D : Type 0} {g : _} (content : D → Option Image) (may_leave : D → 
     keeps = s.keeps;
   }
 
-  pub rest_stands : (store : Store D g) (name : List ℕ) (head : Head) (h : History) → IsAtRest content may_leave (disk_of store) (KeepsHistory dig store name head h) → (c : Image) → may_leave (disk_of store) c → StandsFor dig c name h
-  rest_stands store name head h rest c left =
-      subst (λ (i : Image). StandsFor dig i name h) (sym (rest.only c left))
-      (keeps_stands store name head h rest.image rest.image rest.has (opens_kept store.is_spare_open (opening_of store rest.image) rest.image rest.has.kept))
+  -- and so does the content of its disk, where that is at rest, and each image that a crash leaves
+  content_stands : (store : Store D g) (name : List ℕ) (head : Head) (h : History) → (rest : IsAtRest content may_leave (disk_of store) (KeepsHistory dig store name head h)) → StandsFor dig rest.image name h
+  content_stands store name head h rest =
+      keeps_stands store name head h rest.image rest.image rest.has (opens_kept store.is_spare_open (opening_of store rest.image) rest.image rest.has.kept)
 
-  pub rest_for_good : (store : Store D g) (name : List ℕ) (head : Head) (h : History) → IsAtRest content may_leave (disk_of store) (KeepsHistory dig store name head h) → IsAtRest content may_leave (disk_of store) (λ i. StandsFor dig i name h)
-  rest_for_good store name head h rest = record {
-    image = rest.image;
-    told = rest.told;
-    only = rest.only;
-    has = keeps_stands store name head h rest.image rest.image rest.has (opens_kept store.is_spare_open (opening_of store rest.image) rest.image rest.has.kept);
-  }
+  pub rest_stands : (store : Store D g) (name : List ℕ) (head : Head) (h : History) → IsAtRest content may_leave (disk_of store) (KeepsHistory dig store name head h) → (c : Image) → may_leave (disk_of store) c → StandsFor dig c name h
+  rest_stands store name head h rest c left = subst (λ (i : Image). StandsFor dig i name h) (sym (rest.only c left)) (content_stands store name head h rest)
+
+  pub rest_for_good : (store : Store D g) (name : List ℕ) (head : Head) (h : History) → IsAtRest content may_leave (disk_of store) (KeepsHistory dig store name head h)
+      → IsAtRest content may_leave (disk_of store) (λ i. StandsFor dig i name h)
+  rest_for_good store name head h rest = record { image = rest.image; told = rest.told; only = rest.only; has = content_stands store name head h rest }
 
   -- the same store keeps the same history
   pub still_keeps : (old mid : Store D g) (name : List ℕ) (head : Head) (h : History) → IsSame content may_leave moment left_since old mid → staged_of mid ≡ []

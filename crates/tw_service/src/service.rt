@@ -56,9 +56,10 @@ impl<D: Disk, H: Hasher> Service<D, H> {
     /// Makes a service of this name, without a step, on a disk that has no store.
     ///
     /// `Taken` exactly where the disk has at least four pages and a gate reads open, and then nothing
-    /// is changed; else only `DiskFault`, never `NoMemory`. Over a disk with four pages and an open
-    /// gate it doesn't come to a write, whatever it answers. Where a crash stops it, the disk is blank
-    /// or stands for the empty history of the name, or is what a crash might have left before.
+    /// is changed; else only `DiskFault`, never `NoMemory`. A disk with four pages and an open gate reads
+    /// as before, and a crash leaves nothing else than before, whatever the answer. Where a crash stops
+    /// it, the disk is blank or stands for the empty history of the name, or is what a crash might have
+    /// left before.
     pub fn init(alloc: Global, disk: D, name: Name) -> Result<Service<D, H>, (D, StoreFault)>
         // The empty history of the name, for good.
         ensures served { IfOk result (λ s. (c : Image) → D.content disk ≡ Some c
@@ -76,7 +77,7 @@ impl<D: Disk, H: Hasher> Service<D, H> {
         ensures fault { IfErr result (λ e. e.1 ≡ StoreFault.DiskFault → Rose (D.faults disk) (D.faults e.0)) }
         ensures later { MatchResult result (λ s. D.faults disk ≤ D.faults (disk_of s)) (λ e. D.faults disk ≤ D.faults e.0) }
 
-        // Where there is something, nothing is written, a disk fault or not.
+        // Where there is something, nothing changes, a disk fault or not.
         ensures held { (c : Image) → D.content disk ≡ Some c → IsTaken c
             → IfErr result (λ e. (D.content e.0 ≡ Some c)
             × LeavesOnly D.moment D.may_leave D.left_since disk e.0 (D.may_leave disk)) }
@@ -191,7 +192,7 @@ impl<D: Disk, H: Hasher> Service<D, H> {
         self.name
     }
 
-    /// Gives the disk back, which stands for the history that was served, for good.
+    /// Gives the disk back. Where a history was served, the disk stands for it, for good.
     pub fn close(self) -> D
         ensures disk { result ≡ disk_of self }
         ensures stands { (h : History) → Serves H.dig D.content D.may_leave self h

@@ -51,7 +51,7 @@ returns-in-Err-clause-leaves g c = λ h served.
     let new = c.append.new.self in
     let events = c.args.events.now in
     let closed = λ (P : Image → Type 0) (run : LeavesOnly d.moment d.may_leave d.left_since (disk_of old) (disk_of new) P).
-        subst (λ disk. LeavesOnly d.moment d.may_leave d.left_since (disk_of old) disk P) (sym c.close-in-Err.ensures.disk) run in
+    subst (λ disk. LeavesOnly d.moment d.may_leave d.left_since (disk_of old) disk P) (sym c.close-in-Err.ensures.disk) run in
     step_leaves d.content d.may_leave d.moment d.left_since (disk_of old) c.close-in-Err.result events h c.in-Err.refusal c.outcome_of_refusal.result c.outcome_of_refusal.ensures
     (closed (StandsForOneOf sha256 h.name h events)
     (leaves_weaker d.moment d.may_leave d.left_since (disk_of old) (disk_of new) (StandsForOneOf sha256 old.name h events) (StandsForOneOf sha256 h.name h events)
