@@ -71,8 +71,8 @@ module _ {D : Type 0} {g : _} (content : D → Option Image) (may_leave : D → 
       opens,
       has_root,
       ap (λ (o : Option Image). option_map (pages_of store) o) told_still
-      ∙ ap (λ (staged : Image). Some (here.pages ++ staged)) clean
-      ∙ ap (λ (pages : Image). Some pages) (append-nil here.pages),
+          ∙ ap (λ (staged : Image). Some (here.pages ++ staged)) clean
+          ∙ ap (λ (pages : Image). Some pages) (append-nil here.pages),
     )
 
     pub never_refused : (fault : StoreFault) → IsNotOpenedFor dig c fault → ⊥
