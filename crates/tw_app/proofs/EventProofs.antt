@@ -1,5 +1,5 @@
 -- From what a service answers to the asking for a proof to what the command comes to.
-use Rattle.std.proofs.Common.{◌≡◌, ◌∙◌, ℕ, ◌≤◌, List, length, min, Bool, true, false, refl, ap, sym, subst, arith, inl, inr, ◌⊎◌, ⊎_elim}
+use Rattle.std.proofs.Common.{◌≡◌, ◌∙◌, ℕ, ◌<◌, ◌≤◌, List, length, min, Bool, true, false, refl, ap, sym, subst, arith, inl, inr, ◌⊎◌, ⊎_elim}
 use Rattle.std.specs.Prelude.{Option, Some, None, Result, Ok, Err, IfErr, MatchOption, nat_lt, if◌then◌else◌}
 use Rattle.std.proofs.lemmas.Bool.{cases_lt}
 use Rattle.std.proofs.lemmas.Bool.Decides.{nat_tests}
@@ -14,19 +14,23 @@ use Rattle.tw_chain.specs.Making.{MakesExistence}
 use Rattle.tw_disk.specs.Image.{Image}
 use Rattle.tw_outside.specs.Faults.{Rose}
 use Rattle.tw_skiplist.specs.declared.head.Head.{Head}
+use Rattle.tw_skiplist.specs.declared.info.StepInfo.{StepInfo}
+use Rattle.tw_skiplist.specs.Records.{FindsProof}
 use Rattle.tw_service.specs.declared.refusal.Refusal.{Refusal}
 use Rattle.tw_service.specs.declared.refusal.Refusal.TheVariants as service
-use Rattle.tw_service.specs.Faults.{IsBadPage, IsFault, IsNoEvent}
+use Rattle.tw_service.specs.Faults.{IsBadPage, IsFault, IsNoEvent, OfBadPage, OfNoEvent}
+use Rattle.tw_service.specs.Finds.{FindsCount, FindsEvent, LacksProof}
 use Rattle.tw_service.specs.Limits.{event_refusal, is_in_order, or_else, order_refusal, proof_refusal}
 use Rattle.tw_service.specs.Machine.{Answers, IsStepOf, Reply}
 use Rattle.tw_service.specs.Machine.Call.{ProveEvent}
 use Rattle.tw_service.specs.Machine.Reply.{OfProof, Refused}
 use Rattle.tw_app.specs.declared.outcome.Outcome.{Outcome}
-use Rattle.tw_app.specs.Disks.{OpensAsService, ReadsAs}
-use Rattle.tw_app.specs.Proving.{Proves, ProvesUnder, top_of}
+use Rattle.tw_app.specs.Disks.{OpensAsService, OpensAsServiceWith, ReadsAs}
+use Rattle.tw_app.specs.Proving.{MeetsBadPage, Proves, ProvesUnder, top_of}
 use Rattle.tw_app.specs.ServiceFaults.{outcome_of_refusal}
 use Rattle.tw_app.specs.Stepping.{ComesToProof}
 use Rattle.tw_app.proofs.Histories.{few_events, makes_at}
+use Rattle.tw_app.proofs.Openings.{only_opens, opens_with}
 
 -- ---- the table for the order of steps
 
@@ -61,13 +65,13 @@ no_refusal : (table : Option Refusal) (bytes : List ℕ) → Table table (Ok byt
 no_refusal None bytes is = refl
 no_refusal (Some r) bytes is = let other : answer bytes ≡ refusal r = is in cc
 
--- where a page is told to have no such event, the steps are in their order
-in_order : (last step top count : ℕ) → Table (order_refusal false last step top) (Err (service.NoEvent count)) → order_refusal false last step top ≡ None
-in_order last step top count table = by (order_refusal false last step top) refl table
+-- where a refusal came that isn't of the table for their order, the steps are in their order
+in_order : (last step top : ℕ) (q : Refusal) → (IsOfOrder last q → ⊥) → Table (order_refusal false last step top) (Err q) → order_refusal false last step top ≡ None
+in_order last step top q other table = by (order_refusal false last step top) refl table
   where
-    by : (t : Option Refusal) → order_refusal false last step top ≡ t → Table t (Err (service.NoEvent count)) → t ≡ None
+    by : (t : Option Refusal) → order_refusal false last step top ≡ t → Table t (Err q) → t ≡ None
     by None is table = refl
-    by (Some r) is table = absurd (subst (IsOfOrder last) (same_err (service.NoEvent count) r table) (order_of_order last step top r is))
+    by (Some r) is table = absurd (other (subst (IsOfOrder last) (same_err q r table) (order_of_order last step top r is)))
 
 -- ---- an index of more than 32 bits
 
@@ -97,9 +101,39 @@ module _ (h : History) (step index top : ℕ) (sound : IsSound h) where
   step_at_index reply next is =
       (refl, to_index reply (proof_refusal false h step index top) (subst (At (min index 4294967295) reply) (same_table h step index top sound) is.1))
 
+-- ---- what the pages have of an event of an index of more than 32 bits
+
+few_told : (pages : Image) (head : Head) (top step : ℕ) (info : StepInfo) → FindsProof sha256 pages head top step info → info.count ≤ 1024
+few_told pages head top step info finds = omega (arith, ap (λ (i : StepInfo). i.count) finds.tells.info_is, finds.tells.is.is.field_rules.count)
+
+below_least : (index count : ℕ) → count ≤ 1024 → min index 4294967295 < count → index < count
+below_least index count few below = omega (arith, few, below)
+
+module _ (pages : Image) (head : Head) (step index top : ℕ) where
+  event_at_index : FindsEvent sha256 pages head step (min index 4294967295) top → FindsEvent sha256 pages head step index top
+  event_at_index e = record {
+    info = e.info;
+    finds = e.finds;
+    below = below_least index e.info.count (few_told pages head top step e.info e.finds) e.below;
+    events = e.events;
+    spelled = e.spelled;
+  }
+
+  count_at_index : (count : ℕ) → FindsCount sha256 pages head step (min index 4294967295) top count → FindsCount sha256 pages head step index top count
+  count_at_index count f = record { info = f.info; finds = f.finds; count_is = f.count_is; beyond = omega (arith, f.beyond) }
+
+  lacks_at_index : (page : ℕ) → LacksProof sha256 pages head step (min index 4294967295) top page → LacksProof sha256 pages head step index top page
+  lacks_at_index page (inl met) = inl met
+  lacks_at_index page (inr lacks) = inr (record {
+    info = lacks.info;
+    finds = lacks.finds;
+    below = below_least index lacks.info.count (few_told pages head top step lacks.info lacks.finds) lacks.below;
+    nothing = lacks.nothing;
+  })
+
 -- ---- what the service's answer comes to
 
-module _ (found : Option Image) (before after : ℕ) (step index at : ℕ) (asked : Option ℕ) (top : ℕ) (is_broken : Bool) (name : List ℕ) (head : Head) (opens : OpensAsService found name head) (whole : is_broken ≡ false)
+module _ (found : Option Image) (before after : ℕ) (step index at : ℕ) (asked : Option ℕ) (top : ℕ) (is_broken : Bool) (name : List ℕ) (head : Head) (told : Option Image) (opens : OpensAsServiceWith found name head (λ pages. told ≡ Some pages)) (whole : is_broken ≡ false)
     (at_is : at ≡ min index 4294967295) (top_is : top ≡ top_of asked head.step)
     (OldServes NewServes : History → Type 0) (serves : (h : History) → ReadsAs found h → OldServes h)
     (ends_at : (h : History) → OldServes h → head.step ≡ length h.steps) where
@@ -112,14 +146,30 @@ module _ (found : Option Image) (before after : ℕ) (step index at : ℕ) (aske
       subst (λ (t : ℕ). IsStepOf sha256 h (ProveEvent step index t) reply h) (the_top h reads)
       (step_at_index h step index top reads.stands.sound reply next (subst (λ (i : ℕ). IsStepOf sha256 h (ProveEvent step i top) reply next) at_is is))
 
+  event_here : (pages : Image) → FindsEvent sha256 pages head step at top → FindsEvent sha256 pages head step index (top_of asked head.step)
+  event_here pages e =
+      subst (λ (t : ℕ). FindsEvent sha256 pages head step index t) top_is
+      (event_at_index pages head step index top (subst (λ (i : ℕ). FindsEvent sha256 pages head step i top) at_is e))
+
+  count_here : (pages : Image) (count : ℕ) → FindsCount sha256 pages head step at top count → FindsCount sha256 pages head step index (top_of asked head.step) count
+  count_here pages count f =
+      subst (λ (t : ℕ). FindsCount sha256 pages head step index t count) top_is
+      (count_at_index pages head step index top count (subst (λ (i : ℕ). FindsCount sha256 pages head step i top count) at_is f))
+
+  lacks_here : (pages : Image) (page : ℕ) → LacksProof sha256 pages head step at top page → LacksProof sha256 pages head step index (top_of asked head.step) page
+  lacks_here pages page lacks =
+      subst (λ (t : ℕ). LacksProof sha256 pages head step index t page) top_is
+      (lacks_at_index pages head step index top page (subst (λ (i : ℕ). LacksProof sha256 pages head step i top page) at_is lacks))
+
   pub proof_done : (bytes : List ℕ) → Table (order_refusal is_broken head.step step top) (Ok bytes) → ((h : History) → OldServes h → MakesExistence sha256 h step at top bytes)
       → ((h : History) → OldServes h → (anchors : List Thread) (anchor : Thread) → anchor_of anchors h.name top ≡ Some anchor → anchor.auth ≡ auth sha256 h top → Accepts sha256 anchors bytes)
       → (is_broken ≡ false → (h : History) → OldServes h → Answers sha256 h (ProveEvent step at top) (λ b. OfProof b) (Ok bytes) NewServes)
+      → ((pages : Image) → told ≡ Some pages → FindsEvent sha256 pages head step at top)
       → Proves found step index asked bytes
-  proof_done bytes table made accepted machine = record {
+  proof_done bytes table made accepted machine finds = record {
     name = name;
     head = head;
-    opens = opens;
+    opens = opens_with found name head (λ pages. told ≡ Some pages) (λ pages. FindsEvent sha256 pages head step index (top_of asked head.step)) (λ pages is. event_here pages (finds pages is)) opens;
     allowed =
         subst (λ (t : ℕ). order_refusal false head.step step t ≡ None) top_is
         (no_refusal (order_refusal false head.step step top) bytes (subst (λ b. Table (order_refusal b head.step step top) (Ok bytes)) whole table));
@@ -138,9 +188,15 @@ module _ (found : Option Image) (before after : ℕ) (step index at : ℕ) (aske
   pub proof_refused : (r : Refusal) (came : Outcome) → came ≡ outcome_of_refusal r → Table (order_refusal is_broken head.step step top) (Err r)
       → (is_broken ≡ false → (h : History) → OldServes h → Answers sha256 h (ProveEvent step at top) (λ b. OfProof b) (Err r) NewServes)
       → (refusal r ≡ Err service.DiskFault → Rose before after) → (IsBadPage r → (h : History) → OldServes h → ⊥)
+      → OfBadPage r (λ page. (pages : Image) → told ≡ Some pages → LacksProof sha256 pages head step at top page)
+      → OfNoEvent r (λ count. (pages : Image) → told ≡ Some pages → FindsCount sha256 pages head step at top count)
       → ComesToProof found before after step index asked came
-  proof_refused r came is table_then machine fault bad = subst (ComesToProof found before after step index asked) (sym is) (by r table_then machine fault bad)
+  proof_refused r came is table_then machine fault bad met counts =
+      subst (ComesToProof found before after step index asked) (sym is) (by r table_then machine fault bad met counts)
     where
+      only : OpensAsService found name head
+      only = only_opens found name head (λ pages. told ≡ Some pages) opens
+
       table_of : (r : Refusal) → Table (order_refusal is_broken head.step step top) (Err r) → (IsFault r → ⊥) → (IsNoEvent r → ⊥) → order_refusal false head.step step top ≡ Some r
       table_of r table not_fault not_event =
           is_refusal (order_refusal false head.step step top) r (subst (λ b. Table (order_refusal b head.step step top) (Err r)) whole table) not_fault not_event
@@ -156,24 +212,36 @@ module _ (found : Option Image) (before after : ℕ) (step index at : ℕ) (aske
       no_step told table =
           subst (λ (t : ℕ). order_refusal false head.step step t ≡ Some (service.NoStep told)) top_is (table_of (service.NoStep told) table (λ no. no) (λ no. no))
 
-      no_event : (count : ℕ) → Table (order_refusal is_broken head.step step top) (Err (service.NoEvent count))
+      allowed : (q : Refusal) → (IsOfOrder head.step q → ⊥) → Table (order_refusal is_broken head.step step top) (Err q)
           → order_refusal false head.step step (top_of asked head.step) ≡ None
-      no_event count table =
+      allowed q other table =
           subst (λ (t : ℕ). order_refusal false head.step step t ≡ None) top_is
-          (in_order head.step step top count (subst (λ b. Table (order_refusal b head.step step top) (Err (service.NoEvent count))) whole table))
+          (in_order head.step step top q other (subst (λ b. Table (order_refusal b head.step step top) (Err q)) whole table))
 
       by : (r : Refusal) → Table (order_refusal is_broken head.step step top) (Err r)
           → (is_broken ≡ false → (h : History) → OldServes h → Answers sha256 h (ProveEvent step at top) (λ b. OfProof b) (Err r) NewServes)
           → (refusal r ≡ Err service.DiskFault → Rose before after) → (IsBadPage r → (h : History) → OldServes h → ⊥)
+          → OfBadPage r (λ page. (pages : Image) → told ≡ Some pages → LacksProof sha256 pages head step at top page)
+          → OfNoEvent r (λ count. (pages : Image) → told ≡ Some pages → FindsCount sha256 pages head step at top count)
           → ComesToProof found before after step index asked (outcome_of_refusal r)
-      by (service.NoStep told) table machine fault bad =
-          (record { name = name; head = head; opens = opens; table = no_step told table; machine = λ h reads. machine_at (Refused (service.NoStep told)) h h reads (machine whole h (serves h reads)).0 }, last_told told table)
-      by (service.NoEvent count) table machine fault bad =
-          record { name = name; head = head; opens = opens; table = no_event count table; machine = λ h reads. machine_at (Refused (service.NoEvent count)) h h reads (machine whole h (serves h reads)).0 }
-      by service.Full table machine fault bad = absurd (never service.Full table (λ no. no) (λ no. no) (λ no. no))
-      by (service.TooMany count) table machine fault bad = absurd (never (service.TooMany count) table (λ no. no) (λ no. no) (λ no. no))
-      by (service.TooLong bytes) table machine fault bad = absurd (never (service.TooLong bytes) table (λ no. no) (λ no. no) (λ no. no))
-      by service.Reopen table machine fault bad = absurd (never service.Reopen table (λ no. no) (λ no. no) (λ no. no))
-      by (service.BadPage page) table machine fault bad = λ image told. ((name, head, opens image told), λ h stands. bad tt h (serves h (record { image = image; told = told; stands = stands })))
-      by service.DiskFault table machine fault bad = fault refl
-      by service.NoMemory table machine fault bad = tt
+      by (service.NoStep told) table machine fault bad met counts =
+          (record { name = name; head = head; opens = only; table = no_step told table; machine = λ h reads. machine_at (Refused (service.NoStep told)) h h reads (machine whole h (serves h reads)).0 }, last_told told table)
+      by (service.NoEvent count) table machine fault bad met counts = (
+        record { name = name; head = head; opens = only; table = allowed (service.NoEvent count) (λ no. no) table; machine = λ h reads. machine_at (Refused (service.NoEvent count)) h h reads (machine whole h (serves h reads)).0 },
+        opens_with found name head (λ pages. told ≡ Some pages) (λ pages. FindsCount sha256 pages head step index (top_of asked head.step) count) (λ pages is. count_here pages count (counts pages is)) opens,
+      )
+      by service.Full table machine fault bad met counts = absurd (never service.Full table (λ no. no) (λ no. no) (λ no. no))
+      by (service.TooMany count) table machine fault bad met counts = absurd (never (service.TooMany count) table (λ no. no) (λ no. no) (λ no. no))
+      by (service.TooLong bytes) table machine fault bad met counts = absurd (never (service.TooLong bytes) table (λ no. no) (λ no. no) (λ no. no))
+      by service.Reopen table machine fault bad met counts = absurd (never service.Reopen table (λ no. no) (λ no. no) (λ no. no))
+      by (service.BadPage page) table machine fault bad met counts = λ image reads. (
+        (
+          name,
+          head,
+          opens_with found name head (λ pages. told ≡ Some pages) (λ pages. MeetsBadPage step index asked pages head page)
+              (λ pages is. (allowed (service.BadPage page) (λ no. no) table, lacks_here pages page (met pages is))) opens image reads,
+        ),
+        λ h stands. bad tt h (serves h (record { image = image; told = reads; stands = stands })),
+      )
+      by service.DiskFault table machine fault bad met counts = fault refl
+      by service.NoMemory table machine fault bad met counts = tt

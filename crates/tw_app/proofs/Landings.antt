@@ -63,7 +63,7 @@ module _ (told : Option Files) (before after : ℕ) (found : Option Image) (disk
       → ComesTo told before after found disk_before disk_after (Append dir file) came
   comes_of_step file events (Made thread) are comes = (events, are, comes)
   comes_of_step file events (Refused refusal) are comes = (events, are, comes)
-  comes_of_step file events (Unserved cause) are comes = ((events, are), comes)
+  comes_of_step file events (Unserved cause) are comes = (events, are, comes)
   comes_of_step file events DiskFault are comes = ((events, are), comes)
   comes_of_step file events NoMemory are comes = tt
   comes_of_step file events _ are comes = absurd comes

@@ -4,6 +4,7 @@ pub mod Outcomes
 pub mod Histories
 pub mod EventFiles
 pub mod AtRest
+pub mod Openings
 pub mod Steps
 pub mod EventProofs
 pub mod Landings

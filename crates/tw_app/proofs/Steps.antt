@@ -11,15 +11,17 @@ use Rattle.tw_skiplist.specs.declared.head.Head.{Head}
 use Rattle.tw_skiplist.specs.Keeping.{event_step}
 use Rattle.tw_service.specs.declared.refusal.Refusal.{Refusal}
 use Rattle.tw_service.specs.declared.refusal.Refusal.TheVariants as service
-use Rattle.tw_service.specs.Faults.{IsBadPage, IsFault}
+use Rattle.tw_service.specs.Faults.{IsBadPage, IsFault, OfBadPage}
+use Rattle.tw_service.specs.Finds.{FindsLinks, LacksLinks}
 use Rattle.tw_service.specs.Limits.{append_refusal, first_long, bytes_of, length_refusal, limits_refusal}
 use Rattle.tw_service.specs.Machine.{Answers, IsStepOf, last_thread}
 use Rattle.tw_service.specs.Machine.Call.{Append}
 use Rattle.tw_service.specs.Machine.Reply.{OfThread, Refused}
 use Rattle.tw_service.specs.Stands.{StandsForOneOf}
 use Rattle.tw_app.specs.declared.outcome.Outcome.{Outcome}
-use Rattle.tw_app.specs.Appending.{AddsStep}
-use Rattle.tw_app.specs.Disks.{IsLeft, IsOf, OpensAsService, ReadsAs, Rests}
+use Rattle.tw_app.specs.Appending.{AddsStep, MeetsBadLink}
+use Rattle.tw_app.proofs.Openings.{only_opens, opens_with}
+use Rattle.tw_app.specs.Disks.{IsLeft, IsOf, OpensAsService, OpensAsServiceWith, ReadsAs, Rests}
 use Rattle.tw_app.specs.ServiceFaults.{outcome_of_refusal}
 use Rattle.tw_app.specs.Stepping.{ComesToStep, LeavesStep, WritesNothing}
 
@@ -79,6 +81,14 @@ is_refusal : (table : Option Refusal) (r : Refusal) → Table table (Err r) → 
 is_refusal None r is not_fault = absurd (not_fault is)
 is_refusal (Some s) r is not_fault = ap (λ (t : Refusal). Some t) (same_err r s is)
 
+-- where a refusal that isn't of the table came, the table has none
+no_such_refusal : (steps : ℕ) (events : List (List ℕ)) (r : Refusal) → (IsOfStep r → ⊥) → Table (append_refusal false steps events) (Err r) → append_refusal false steps events ≡ None
+no_such_refusal steps events r other table = by (append_refusal false steps events) refl table
+  where
+    by : (t : Option Refusal) → append_refusal false steps events ≡ t → Table t (Err r) → t ≡ None
+    by None is table = refl
+    by (Some s) is table = absurd (other (subst IsOfStep (same_err r s table) (append_of_step steps events s is)))
+
 -- ---- a step of the machine
 
 is_thread : (t u : Thread) → OfThread t ≡ OfThread u → t ≡ u
@@ -97,17 +107,17 @@ to_longer h next events thread is = to_longer_by (append_refusal false (length h
 
 -- ---- what the service's answer comes to
 
-module _ (found : Option Image) (before after : ℕ) (events : List (List ℕ)) (is_broken : Bool) (name : List ℕ) (head : Head) (opens : OpensAsService found name head) (whole : is_broken ≡ false)
+module _ (found : Option Image) (before after : ℕ) (events : List (List ℕ)) (is_broken : Bool) (name : List ℕ) (head : Head) (told : Option Image) (opens : OpensAsServiceWith found name head (λ pages. told ≡ Some pages)) (whole : is_broken ≡ false)
     (OldServes NewServes : History → Type 0) (serves : (h : History) → ReadsAs found h → OldServes h) where
   pub step_done : (thread : Thread) → Table (append_refusal is_broken head.step events) (Ok thread)
       → (thread.from ≡ name) × (thread.step ≡ head.step + 1)
       → ((h : History) → OldServes h → NewServes (plus h (event_step events)) × (thread ≡ last_thread sha256 (plus h (event_step events))))
       → (is_broken ≡ false → (h : History) → OldServes h → Answers sha256 h (Append events) (λ t. OfThread t) (Ok thread) NewServes)
-      → AddsStep found events thread
-  step_done thread table next done machine = record {
+      → ((pages : Image) → told ≡ Some pages → FindsLinks sha256 pages head) → AddsStep found events thread
+  step_done thread table next done machine links = record {
     name = name;
     head = head;
-    opens = opens;
+    opens = opens_with found name head (λ pages. told ≡ Some pages) (λ pages. FindsLinks sha256 pages head) links opens;
     from = next.0;
     next = next.1;
     allowed = no_refusal (append_refusal false head.step events) thread (subst (λ b. Table (append_refusal b head.step events) (Ok thread)) whole table);
@@ -118,9 +128,17 @@ module _ (found : Option Image) (before after : ℕ) (events : List (List ℕ)) 
   pub step_refused : (r : Refusal) (came : Outcome) → came ≡ outcome_of_refusal r → Table (append_refusal is_broken head.step events) (Err r)
       → (is_broken ≡ false → (h : History) → OldServes h → Answers sha256 h (Append events) (λ t. OfThread t) (Err r) NewServes)
       → (refusal r ≡ Err service.DiskFault → Rose before after) → (IsBadPage r → (h : History) → OldServes h → ⊥)
+      → OfBadPage r (λ page. (pages : Image) → told ≡ Some pages → LacksLinks sha256 pages head page)
       → ComesToStep found before after events came
-  step_refused r came is table_then machine fault bad = subst (ComesToStep found before after events) (sym is) (by r table_then machine fault bad)
+  step_refused r came is table_then machine fault bad met = subst (ComesToStep found before after events) (sym is) (by r table_then machine fault bad met)
     where
+      only : OpensAsService found name head
+      only = only_opens found name head (λ pages. told ≡ Some pages) opens
+
+      allowed : (page : ℕ) → Table (append_refusal is_broken head.step events) (Err (service.BadPage page)) → append_refusal false head.step events ≡ None
+      allowed page table =
+          no_such_refusal head.step events (service.BadPage page) (λ no. no) (subst (λ b. Table (append_refusal b head.step events) (Err (service.BadPage page))) whole table)
+
       table_of : (r : Refusal) → Table (append_refusal is_broken head.step events) (Err r) → (IsFault r → ⊥) → append_refusal false head.step events ≡ Some r
       table_of r table not_fault = is_refusal (append_refusal false head.step events) r (subst (λ b. Table (append_refusal b head.step events) (Err r)) whole table) not_fault
 
@@ -130,18 +148,22 @@ module _ (found : Option Image) (before after : ℕ) (events : List (List ℕ)) 
       by : (r : Refusal) → Table (append_refusal is_broken head.step events) (Err r)
           → (is_broken ≡ false → (h : History) → OldServes h → Answers sha256 h (Append events) (λ t. OfThread t) (Err r) NewServes)
           → (refusal r ≡ Err service.DiskFault → Rose before after) → (IsBadPage r → (h : History) → OldServes h → ⊥)
+          → OfBadPage r (λ page. (pages : Image) → told ≡ Some pages → LacksLinks sha256 pages head page)
           → ComesToStep found before after events (outcome_of_refusal r)
-      by service.Full table machine fault bad = record { name = name; head = head; opens = opens; refused = table_of service.Full table (λ no. no); machine = λ h reads. (machine whole h (serves h reads)).0 }
-      by (service.TooMany count) table machine fault bad =
-          record { name = name; head = head; opens = opens; refused = table_of (service.TooMany count) table (λ no. no); machine = λ h reads. (machine whole h (serves h reads)).0 }
-      by (service.TooLong bytes) table machine fault bad =
-          record { name = name; head = head; opens = opens; refused = table_of (service.TooLong bytes) table (λ no. no); machine = λ h reads. (machine whole h (serves h reads)).0 }
-      by (service.NoStep last) table machine fault bad = absurd (never (service.NoStep last) table (λ no. no) (λ no. no))
-      by (service.NoEvent count) table machine fault bad = absurd (never (service.NoEvent count) table (λ no. no) (λ no. no))
-      by service.Reopen table machine fault bad = absurd (never service.Reopen table (λ no. no) (λ no. no))
-      by (service.BadPage page) table machine fault bad = λ image told. ((name, head, opens image told), λ h stands. bad tt h (serves h (record { image = image; told = told; stands = stands })))
-      by service.DiskFault table machine fault bad = fault refl
-      by service.NoMemory table machine fault bad = tt
+      by service.Full table machine fault bad met = record { name = name; head = head; opens = only; refused = table_of service.Full table (λ no. no); machine = λ h reads. (machine whole h (serves h reads)).0 }
+      by (service.TooMany count) table machine fault bad met =
+          record { name = name; head = head; opens = only; refused = table_of (service.TooMany count) table (λ no. no); machine = λ h reads. (machine whole h (serves h reads)).0 }
+      by (service.TooLong bytes) table machine fault bad met =
+          record { name = name; head = head; opens = only; refused = table_of (service.TooLong bytes) table (λ no. no); machine = λ h reads. (machine whole h (serves h reads)).0 }
+      by (service.NoStep last) table machine fault bad met = absurd (never (service.NoStep last) table (λ no. no) (λ no. no))
+      by (service.NoEvent count) table machine fault bad met = absurd (never (service.NoEvent count) table (λ no. no) (λ no. no))
+      by service.Reopen table machine fault bad met = absurd (never service.Reopen table (λ no. no) (λ no. no))
+      by (service.BadPage page) table machine fault bad met = λ image reads. (
+        (name, head, opens_with found name head (λ pages. told ≡ Some pages) (λ pages. MeetsBadLink events pages head page) (λ pages is. (allowed page table, met pages is)) opens image reads),
+        λ h stands. bad tt h (serves h (record { image = image; told = reads; stands = stands })),
+      )
+      by service.DiskFault table machine fault bad met = fault refl
+      by service.NoMemory table machine fault bad met = tt
 
 -- ---- what it leaves
 

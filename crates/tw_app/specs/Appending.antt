@@ -11,13 +11,14 @@ use Rattle.tw_skiplist.specs.declared.head.Head.{Head}
 use Rattle.tw_skiplist.specs.Keeping.{event_step}
 use Rattle.tw_service.specs.declared.refusal.Refusal.{Refusal as ServiceRefusal}
 use Rattle.tw_service.specs.declared.refusal.Refusal.TheVariants as service
+use Rattle.tw_service.specs.Finds.{FindsLinks, LacksLinks}
 use Rattle.tw_service.specs.Limits.{append_refusal}
 use Rattle.tw_service.specs.Machine.{IsStepOf, last_thread}
 use Rattle.tw_service.specs.Machine.Call.{Append}
 use Rattle.tw_service.specs.Machine.Reply.{OfThread, Refused}
 use Rattle.tw_app.specs.declared.outcome.Refusal.{Refusal}
 use Rattle.tw_app.specs.declared.outcome.Refusal.TheVariants.{Full, TooMany, TooLong}
-use Rattle.tw_app.specs.Disks.{OpensAsService, ReadsAs}
+use Rattle.tw_app.specs.Disks.{OpensAsService, OpensAsServiceWith, ReadsAs}
 
 -- the most bytes of an events file
 abbrev pub most_events : ℕ
@@ -36,12 +37,13 @@ IsBadEventsByte bytes place =
     ((most_events < length bytes) × (place ≡ most_events))
     ⊎ ((length bytes ≤ most_events) × SpellsNothing events_file bytes × IsPlace events_file bytes place)
 
--- the disk opened as a service of this name and head, which refuses nothing, and the thread told is of its name and of the next
--- step; where the disk reads as a history, this is a step of the machine to the longer one, whose last thread is told
+-- the disk opened as a service of this name and head, whose pages have each link of the next step and which refuses nothing, and
+-- the thread told is of its name and of the next step; where the disk reads as a history, this is a step of the machine to the
+-- longer one, whose last thread is told
 pub record AddsStep (found : Option Image) (events : List (List ℕ)) (thread : Thread) : Type 0 where
   pub name : List ℕ
   pub head : Head
-  pub opens : OpensAsService found name head
+  pub opens : OpensAsServiceWith found name head (λ pages. FindsLinks sha256 pages head)
   pub allowed : append_refusal false head.step events ≡ None
   pub from : thread.from ≡ name
   pub next : thread.step ≡ head.step + 1
@@ -56,6 +58,11 @@ pub record RefusesEvents (found : Option Image) (events : List (List ℕ)) (refu
   pub opens : OpensAsService found name head
   pub refused : append_refusal false head.step events ≡ Some refusal
   pub machine : (h : History) → ReadsAs found h → IsStepOf sha256 h (Append events) (Refused refusal) h
+
+-- a service with these pages and this head refuses nothing, and the walk for the links of the next step meets this page first that
+-- isn't the page of its step
+abbrev pub MeetsBadLink : (events : List (List ℕ)) → (pages : Image) → Head → (page : ℕ) → Type 0
+MeetsBadLink events pages head page = (append_refusal false head.step events ≡ None) × LacksLinks sha256 pages head page
 
 -- the file was judged: it is the events file of some events
 abbrev pub HasEvents : (told : Option Files) (file : List ℕ) → Type 0

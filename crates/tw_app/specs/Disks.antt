@@ -7,7 +7,7 @@ use Rattle.tw_disk.specs.Image.{Image}
 use Rattle.tw_pages.specs.declared.open.StoreFault.TheVariants as fault
 use Rattle.tw_skiplist.specs.declared.head.Head.{Head}
 use Rattle.tw_skiplist.specs.Keeping.{event_step}
-use Rattle.tw_service.specs.Stands.{IsBlankOrNew, IsNotOpenedFor, OpensFor, StandsFor, StandsForOneOf, no_history}
+use Rattle.tw_service.specs.Stands.{IsBlankOrNew, IsNotOpenedFor, OpensFor, OpensWith, StandsFor, StandsForOneOf, no_history}
 use Rattle.tw_app.specs.declared.outcome.StoreCause.{StoreCause}
 use Rattle.tw_app.specs.declared.outcome.StoreCause.TheVariants.{Blank, NotAStore, BadPage}
 
@@ -21,23 +21,28 @@ pub record ReadsAs (found : Option Image) (h : History) : Type 0 where
   pub told : found ≡ Some image
   pub stands : IsOf h image
 
--- the image opens as a store with the root record of a service
-abbrev pub IsService : Image → Type 0
-IsService image = (name : List ℕ) × (head : Head) × OpensFor sha256 image name head
+-- the image opens as a service of some name and head, and the command meets this page in its pages
+abbrev pub HasBadPage : (Meets : (pages : Image) → Head → (page : ℕ) → Type 0) → Image → (page : ℕ) → Type 0
+HasBadPage Meets image page = (name : List ℕ) × (head : Head) × OpensWith sha256 image name head (λ pages. Meets pages head page)
 
--- why an image can't be served: it opens as no service, or it opens as one and stands for no history
-abbrev pub IsCause : Image → StoreCause → Type 0
-IsCause image Blank = IsNotOpenedFor sha256 image fault.Blank
-IsCause image (NotAStore slot) = IsNotOpenedFor sha256 image (fault.NotAStore slot)
-IsCause image (BadPage page) = IsService image × ((h : History) → IsOf h image → ⊥)
+-- why an image can't be served to a command that meets such pages: it opens as no service; or it opens as one, has such a page, and
+-- stands for no history
+abbrev pub IsCause : (Meets : (pages : Image) → Head → (page : ℕ) → Type 0) → Image → StoreCause → Type 0
+IsCause Meets image Blank = IsNotOpenedFor sha256 image fault.Blank
+IsCause Meets image (NotAStore slot) = IsNotOpenedFor sha256 image (fault.NotAStore slot)
+IsCause Meets image (BadPage page) = HasBadPage Meets image page × ((h : History) → IsOf h image → ⊥)
 
 -- the same of what the disk reads as, where it is told
-abbrev pub IsUnserved : (found : Option Image) → StoreCause → Type 0
-IsUnserved found cause = (image : Image) → found ≡ Some image → IsCause image cause
+abbrev pub IsUnserved : (Meets : (pages : Image) → Head → (page : ℕ) → Type 0) → (found : Option Image) → StoreCause → Type 0
+IsUnserved Meets found cause = (image : Image) → found ≡ Some image → IsCause Meets image cause
 
 -- where what the disk reads as is told, it opens as a service of this name and head
 abbrev pub OpensAsService : (found : Option Image) → (name : List ℕ) → Head → Type 0
 OpensAsService found name head = (image : Image) → found ≡ Some image → OpensFor sha256 image name head
+
+-- the same, and P holds of the service's pages
+abbrev pub OpensAsServiceWith : (found : Option Image) → (name : List ℕ) → Head → (Image → Type 0) → Type 0
+OpensAsServiceWith found name head P = (image : Image) → found ≡ Some image → OpensWith sha256 image name head P
 
 module _ {D : Type 0} (content : D → Option Image) (may_leave : D → Image → Type 0) (moment : D → ℕ) (left_since : D → ℕ → Image → Type 0) where
   -- the disk stands for the history for good: its content is told, and each image that a crash now may leave, of which the content is

@@ -16,12 +16,12 @@ use Rattle.tw_app.specs.declared.outcome.Refusal.TheVariants.{Taken}
 use Rattle.tw_app.specs.declared.outcome.StoreCause.{StoreCause}
 use Rattle.tw_app.specs.declared.outcome.BadInput.{BadInput}
 use Rattle.tw_app.specs.declared.outcome.BadInput.TheVariants.{BadByte, BadLine, Unsound}
-use Rattle.tw_app.specs.Appending.{AddsStep, HasEvents, IsBadEventsByte, OfEvents, RefusesStep}
+use Rattle.tw_app.specs.Appending.{AddsStep, HasEvents, IsBadEventsByte, MeetsBadLink, OfEvents, RefusesStep}
 use Rattle.tw_app.specs.Commands.{IsBuilt}
 use Rattle.tw_app.specs.Disks.{IsUnserved}
 use Rattle.tw_app.specs.Making.{HasStore, MakesService}
 use Rattle.tw_app.specs.Outcomes.{status_of, text_of}
-use Rattle.tw_app.specs.Proving.{Proves, RefusesProof}
+use Rattle.tw_app.specs.Proving.{MeetsBadPage, Proves, RefusesProof}
 use Rattle.tw_app.specs.Showing.{BreaksRule, IsBadByte, OfHistory, RefusesToShow, ProvesEvent}
 use Rattle.tw_app.specs.Verifying.{HasBadLine, Judges}
 
@@ -61,10 +61,10 @@ ReachesDisk told (Append dir file) = HasEvents told file
 ReachesDisk told (ProveEvent dir step index top) = Unit {0}
 ReachesDisk told _ = ⊥
 
--- it wants a service, and the disk, to which it comes, has none that can serve it
+-- it wants a service, and the disk, to which it comes, has none that can serve it: none at all, or one with a page that it meets
 abbrev pub CantServe : (told : Option Files) (found : Option Image) → Command → StoreCause → Type 0
-CantServe told found (Append dir file) cause = HasEvents told file × IsUnserved found cause
-CantServe told found (ProveEvent dir step index top) cause = IsUnserved found cause
+CantServe told found (Append dir file) cause = OfEvents told file (λ events. IsUnserved (MeetsBadLink events) found cause)
+CantServe told found (ProveEvent dir step index top) cause = IsUnserved (MeetsBadPage step index top) found cause
 CantServe told found _ cause = ⊥
 
 -- one of its files isn't what it reads: it is named by the command's word, and is there

@@ -9,9 +9,9 @@ use Rattle.tw_skiplist.specs.Keeping.{event_step}
 use Rattle.tw_service.specs.Stands.{StandsForOneOf}
 use Rattle.tw_app.specs.declared.outcome.Outcome.{Outcome}
 use Rattle.tw_app.specs.declared.outcome.Outcome.TheVariants.{Made, Shown, Refused, Unserved, Unreadable, InputFault, DiskFault, NoMemory}
-use Rattle.tw_app.specs.Appending.{AddsStep, RefusesAs}
+use Rattle.tw_app.specs.Appending.{AddsStep, MeetsBadLink, RefusesAs}
 use Rattle.tw_app.specs.Disks.{IsOf, IsUnserved, Rests}
-use Rattle.tw_app.specs.Proving.{Proves, RefusesProof}
+use Rattle.tw_app.specs.Proving.{MeetsBadPage, Proves, RefusesProof}
 
 -- a command stops before the disk is touched
 abbrev pub IsStop : Outcome → Type 0
@@ -24,7 +24,7 @@ IsStop _ = ⊥
 abbrev pub ComesToStep : (found : Option Image) (before after : ℕ) (events : List (List ℕ)) → Outcome → Type 0
 ComesToStep found before after events (Made thread) = AddsStep found events thread
 ComesToStep found before after events (Refused refusal) = RefusesAs found events refusal
-ComesToStep found before after events (Unserved cause) = IsUnserved found cause
+ComesToStep found before after events (Unserved cause) = IsUnserved (MeetsBadLink events) found cause
 ComesToStep found before after events DiskFault = Rose before after
 ComesToStep found before after events NoMemory = Unit {0}
 ComesToStep found before after events _ = ⊥
@@ -33,7 +33,7 @@ ComesToStep found before after events _ = ⊥
 abbrev pub ComesToProof : (found : Option Image) (before after : ℕ) (step index : ℕ) (top : Option ℕ) → Outcome → Type 0
 ComesToProof found before after step index top (Shown proof) = Proves found step index top proof
 ComesToProof found before after step index top (Refused refusal) = RefusesProof found step index top refusal
-ComesToProof found before after step index top (Unserved cause) = IsUnserved found cause
+ComesToProof found before after step index top (Unserved cause) = IsUnserved (MeetsBadPage step index top) found cause
 ComesToProof found before after step index top DiskFault = Rose before after
 ComesToProof found before after step index top NoMemory = Unit {0}
 ComesToProof found before after step index top _ = ⊥

@@ -1,13 +1,13 @@
 // The command that adds a step.
 
-ghost use Rattle.std.specs.Prelude.{◌≡◌, ◌≤◌, ℕ, List, Option, IfErr, IfOk, false};
+ghost use Rattle.std.specs.Prelude.{◌≡◌, ◌≤◌, ℕ, List, Option, Some, IfErr, IfOk, false};
 ghost use Rattle.sha2.specs.Sha256.{sha256};
 ghost use Rattle.tw_base.specs.History.{History};
 ghost use Rattle.tw_disk.specs.Image.{Image};
-ghost use Rattle.tw_service.specs.Serves.{Serves, disk_of, has_failed, head_of, name_of};
+ghost use Rattle.tw_service.specs.Serves.{Serves, disk_of, has_failed, head_of, name_of, pages_of};
 ghost use Rattle.tw_text.specs.declared.command.Command.TheVariants.{Append};
 ghost use Rattle.tw_app.specs.Appending.{AreEventsOf};
-ghost use Rattle.tw_app.specs.Disks.{IsLeft, OpensAsService, ReadsAs, Stands};
+ghost use Rattle.tw_app.specs.Disks.{IsLeft, OpensAsServiceWith, ReadsAs, Stands};
 ghost use Rattle.tw_app.specs.Leaving.{CommandLeaves};
 ghost use Rattle.tw_app.specs.Running.{ComesTo, ComesOfFiles};
 ghost use Rattle.tw_app.specs.Stepping.{ComesToStep, IsStop, LeavesStep, WritesNothing};
@@ -88,7 +88,7 @@ fn append_events<D: Disk>(alloc: Global, disk: D, events: &EventList) -> Worked<
 /// Adds a step of these events to the service, and gives its disk back.
 fn append_to<D: Disk>(service: Service<D, Sha>, events: &EventList) -> Worked<D>
     requires { has_failed service ≡ false }
-    ensures comes { (found : Option Image) (before : ℕ) → OpensAsService found (name_of service) (head_of service)
+    ensures comes { (found : Option Image) (before : ℕ) → OpensAsServiceWith found (name_of service) (head_of service) (λ ps. pages_of D.content service ≡ Some ps)
         → ((h : History) → ReadsAs found h → Serves sha256 D.content D.may_leave service h) → before ≤ D.faults (disk_of service)
         → ComesToStep found before (D.faults result.disk) events.now result.outcome }
     ensures leaves { (h : History) → Serves sha256 D.content D.may_leave service h

@@ -55,7 +55,8 @@ pub enum StoreCause {
     Blank,
     /// The pages are no store, or that of no service; the slot, 0 or 1, is the one that fails.
     NotAStore { slot: u8 },
-    /// The page of this number isn't of its kind.
+    /// The page of this number, the first one met that isn't of its kind; or the one read last, where
+    /// the event pages of a step don't spell its events.
     BadPage { page: u64 },
 }
 

@@ -1,13 +1,13 @@
 // The command that proves an event of a service.
 
-ghost use Rattle.std.specs.Prelude.{◌≡◌, ◌≤◌, ℕ, List, Option, false};
+ghost use Rattle.std.specs.Prelude.{◌≡◌, ◌≤◌, ℕ, List, Option, Some, false};
 ghost use Rattle.sha2.specs.Sha256.{sha256};
 ghost use Rattle.tw_base.specs.History.{History};
 ghost use Rattle.tw_disk.specs.Image.{Image};
 ghost use Rattle.tw_outside.specs.Files.{Files};
-ghost use Rattle.tw_service.specs.Serves.{Serves, disk_of, has_failed, head_of, name_of};
+ghost use Rattle.tw_service.specs.Serves.{Serves, disk_of, has_failed, head_of, name_of, pages_of};
 ghost use Rattle.tw_text.specs.declared.command.Command.TheVariants.{ProveEvent};
-ghost use Rattle.tw_app.specs.Disks.{IsLeft, OpensAsService, ReadsAs};
+ghost use Rattle.tw_app.specs.Disks.{IsLeft, OpensAsServiceWith, ReadsAs};
 ghost use Rattle.tw_app.specs.Proving.{top_of};
 ghost use Rattle.tw_app.specs.Running.{ComesTo};
 ghost use Rattle.tw_app.specs.Stepping.{ComesToProof};
@@ -45,7 +45,7 @@ pub(crate) fn prove<D: Disk>(
 /// 2^32 - 1, so such an index is refused as that one is.
 fn prove_by<D: Disk>(service: Service<D, Sha>, step: u64, index: u64, top: Option<u64>) -> Worked<D>
     requires { has_failed service ≡ false }
-    ensures comes { (found : Option Image) (before : ℕ) → OpensAsService found (name_of service) (head_of service)
+    ensures comes { (found : Option Image) (before : ℕ) → OpensAsServiceWith found (name_of service) (head_of service) (λ ps. pages_of D.content service ≡ Some ps)
         → ((h : History) → ReadsAs found h → Serves sha256 D.content D.may_leave service h) → before ≤ D.faults (disk_of service)
         → ComesToProof found before (D.faults result.disk) step index top result.outcome }
     ensures leaves { IsLeft D.content D.may_leave D.moment D.left_since (disk_of service) result.disk }

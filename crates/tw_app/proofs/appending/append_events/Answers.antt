@@ -8,7 +8,7 @@ use Rattle.tw_app.proofs.appending.append_events.Goals as goal
 pub returns-in-Ok-clause-comes : goal.returns-in-Ok-clause-comes
 returns-in-Ok-clause-comes g c =
     c.append_to.ensures.comes (g.D.Disk.content c.args.disk) (g.D.Disk.faults c.args.disk)
-    (λ image told. let o = c.in-Ok.ensures.opened image told in (o.0, o.1, o.2)) (λ h reads. c.in-Ok.ensures.served reads.image h.name h reads.told reads.stands) c.in-Ok.ensures.later
+    c.in-Ok.ensures.opened (λ h reads. c.in-Ok.ensures.served reads.image h.name h reads.told reads.stands) c.in-Ok.ensures.later
 
 pub returns-in-Ok-clause-leaves : goal.returns-in-Ok-clause-leaves
 returns-in-Ok-clause-leaves g c = λ h stands.

@@ -6,7 +6,7 @@ use Rattle.tw_disk.specs.Image.{Image}
 use Rattle.tw_disk.specs.Moments.{leaves_weaker}
 use Rattle.tw_skiplist.specs.Keeping.{event_step}
 use Rattle.tw_outside.specs.Faults.{Rose}
-use Rattle.tw_service.specs.Serves.{Serves, disk_of}
+use Rattle.tw_service.specs.Serves.{Serves, disk_of, pages_of}
 use Rattle.tw_service.specs.Stands.{StandsFor, StandsForOneOf}
 use Rattle.tw_app.specs.Disks.{IsLeft, IsOf}
 use Rattle.tw_app.proofs.AtRest.{own_name, own_names, own_rest, rose_since, same_left}
@@ -16,9 +16,9 @@ use Rattle.tw_app.proofs.appending.append_to.Goals as goal
 pub returns-in-Ok-clause-comes : goal.returns-in-Ok-clause-comes
 returns-in-Ok-clause-comes g c = λ found before opens serves le.
     let d = g.D.Disk in
-    step_done found before 0 c.args.events.now c.args.service.is_broken c.args.service.name c.args.service.head opens c.requires
+    step_done found before 0 c.args.events.now c.args.service.is_broken c.args.service.name c.args.service.head (pages_of d.content c.args.service) opens c.requires
     (Serves sha256 d.content d.may_leave c.args.service) (Serves sha256 d.content d.may_leave c.append.new.self) serves
-    c.in-Ok.thread c.in-Ok.ensures.table c.in-Ok.ensures.next c.in-Ok.ensures.done c.in-Ok.ensures.machine
+    c.in-Ok.thread c.in-Ok.ensures.table c.in-Ok.ensures.next c.in-Ok.ensures.done c.in-Ok.ensures.machine c.in-Ok.ensures.found
 
 pub returns-in-Ok-clause-leaves : goal.returns-in-Ok-clause-leaves
 returns-in-Ok-clause-leaves g c = λ h served.
@@ -37,12 +37,12 @@ returns-in-Ok-clause-leaves g c = λ h served.
 pub returns-in-Err-clause-comes : goal.returns-in-Err-clause-comes
 returns-in-Err-clause-comes g c = λ found before opens serves le.
     let d = g.D.Disk in
-    step_refused found before (d.faults c.close-in-Err.result) c.args.events.now c.args.service.is_broken c.args.service.name c.args.service.head opens c.requires
+    step_refused found before (d.faults c.close-in-Err.result) c.args.events.now c.args.service.is_broken c.args.service.name c.args.service.head (pages_of d.content c.args.service) opens c.requires
     (Serves sha256 d.content d.may_leave c.args.service) (Serves sha256 d.content d.may_leave c.append.new.self) serves
     c.in-Err.refusal c.outcome_of_refusal.result c.outcome_of_refusal.ensures c.in-Err.ensures.table c.in-Err.ensures.machine
     (λ is. rose_since before (d.faults (disk_of c.args.service)) (d.faults c.close-in-Err.result) le
     (subst (λ disk. Rose (d.faults (disk_of c.args.service)) (d.faults disk)) (sym c.close-in-Err.ensures.disk) (c.in-Err.ensures.fault is)))
-    c.in-Err.ensures.good
+    c.in-Err.ensures.good c.in-Err.ensures.bad
 
 pub returns-in-Err-clause-leaves : goal.returns-in-Err-clause-leaves
 returns-in-Err-clause-leaves g c = λ h served.

@@ -9,7 +9,7 @@ returns-in-Ok-clause-comes g c = λ told before after dir.
     comes_of_proof told before after (g.D.Disk.content c.args.disk) (g.D.Disk.faults c.args.disk) (g.D.Disk.faults c.prove_by.result.disk) dir
     c.args.step c.args.index c.args.top c.prove_by.result.outcome
     (c.prove_by.ensures.comes (g.D.Disk.content c.args.disk) (g.D.Disk.faults c.args.disk)
-    (λ image told. let o = c.in-Ok.ensures.opened image told in (o.0, o.1, o.2)) (λ h reads. c.in-Ok.ensures.served reads.image h.name h reads.told reads.stands) c.in-Ok.ensures.later)
+    c.in-Ok.ensures.opened (λ h reads. c.in-Ok.ensures.served reads.image h.name h reads.told reads.stands) c.in-Ok.ensures.later)
 
 pub returns-in-Ok-clause-leaves : goal.returns-in-Ok-clause-leaves
 returns-in-Ok-clause-leaves g c =

@@ -1,7 +1,7 @@
 use Rattle.std.proofs.Common.{◌∙◌, ap, sym, subst}
 use Rattle.sha2.specs.Sha256.{sha256}
 use Rattle.tw_outside.specs.Faults.{Rose}
-use Rattle.tw_service.specs.Serves.{Serves, disk_of}
+use Rattle.tw_service.specs.Serves.{Serves, disk_of, pages_of}
 use Rattle.tw_app.specs.Disks.{IsLeft}
 use Rattle.tw_app.specs.Proving.{top_of}
 use Rattle.tw_app.proofs.AtRest.{rose_since, same_left}
@@ -11,9 +11,9 @@ use Rattle.tw_app.proofs.proving.prove_by.Goals as goal
 pub returns-in-Ok-clause-comes : goal.returns-in-Ok-clause-comes
 returns-in-Ok-clause-comes g c = λ found before opens serves le.
     let d = g.D.Disk in
-    proof_done found before 0 c.args.step c.args.index c.min.result c.args.top c.top_for-top.result c.args.service.is_broken c.args.service.name c.args.service.head opens c.requires
+    proof_done found before 0 c.args.step c.args.index c.min.result c.args.top c.top_for-top.result c.args.service.is_broken c.args.service.name c.args.service.head (pages_of d.content c.args.service) opens c.requires
     c.min.ensures (c.top_for-top.ensures ∙ ap (top_of c.args.top) c.steps.ensures.value) (Serves sha256 d.content d.may_leave c.args.service) (Serves sha256 d.content d.may_leave c.prove_event.new.self) serves (λ h served. sym c.steps.ensures.value ∙ c.steps.ensures.served h served)
-    c.in-Ok.proof c.in-Ok.ensures.table c.in-Ok.ensures.made c.in-Ok.ensures.accepted c.in-Ok.ensures.machine
+    c.in-Ok.proof c.in-Ok.ensures.table c.in-Ok.ensures.made c.in-Ok.ensures.accepted c.in-Ok.ensures.machine c.in-Ok.ensures.found
 
 pub returns-in-Ok-clause-leaves : goal.returns-in-Ok-clause-leaves
 returns-in-Ok-clause-leaves g c =
@@ -25,14 +25,14 @@ returns-in-Ok-clause-leaves g c =
 pub returns-in-Err-clause-comes : goal.returns-in-Err-clause-comes
 returns-in-Err-clause-comes g c = λ found before opens serves le.
     let d = g.D.Disk in
-    proof_refused found before (d.faults c.close-in-Err.result) c.args.step c.args.index c.min.result c.args.top c.top_for-top.result c.args.service.is_broken c.args.service.name c.args.service.head opens c.requires
+    proof_refused found before (d.faults c.close-in-Err.result) c.args.step c.args.index c.min.result c.args.top c.top_for-top.result c.args.service.is_broken c.args.service.name c.args.service.head (pages_of d.content c.args.service) opens c.requires
     c.min.ensures (c.top_for-top.ensures ∙ ap (top_of c.args.top) c.steps.ensures.value) (Serves sha256 d.content d.may_leave c.args.service) (Serves sha256 d.content d.may_leave c.prove_event.new.self) serves (λ h served. sym c.steps.ensures.value ∙ c.steps.ensures.served h served)
     c.in-Err.refusal c.outcome_of_refusal.result c.outcome_of_refusal.ensures
     c.in-Err.ensures.table
     c.in-Err.ensures.machine
     (λ is. rose_since before (d.faults (disk_of c.args.service)) (d.faults c.close-in-Err.result) le
     (subst (λ disk. Rose (d.faults (disk_of c.args.service)) (d.faults disk)) (sym c.close-in-Err.ensures.disk) (c.in-Err.ensures.fault is)))
-    c.in-Err.ensures.good
+    c.in-Err.ensures.good c.in-Err.ensures.bad c.in-Err.ensures.count
 
 pub returns-in-Err-clause-leaves : goal.returns-in-Err-clause-leaves
 returns-in-Err-clause-leaves g c =
