@@ -4,6 +4,7 @@ ghost use Rattle.std.specs.Option.{IsSomeAnd};
 ghost use Rattle.tw_disk.specs.Image.{Image};
 ghost use Rattle.tw_disk.specs.Disk.{HasCause, KeepsRoom, LeavesOnly, IsAtRest};
 ghost use Rattle.tw_pages.specs.Store.{Opening, OpensAs, OpensAlone, OpensAboveOlder, OpensAsEither, IsReady, IsAbove, IsCommit, spare_of};
+ghost use Rattle.tw_pages.specs.Told.{StaysTold};
 
 use crate::phases::{close_spare_gate, open_spare_gate, write_spare_body};
 use crate::staged::write_staged;
@@ -20,6 +21,7 @@ pub fn see_spare_gate_closed<D: Disk>(disk: &mut D, spare: u64, is_open: bool) -
         → IsAtRest D.content D.may_leave disk.old (IsAbove is_open o)
         → LeavesOnly D.moment D.may_leave D.left_since disk.old disk.new (OpensAs o) }
     ensures room { KeepsRoom (D.count disk.old) (D.count disk.new) }
+    ensures told { StaysTold (D.content disk.old) (D.content disk.new) }
     ensures cause { HasCause (D.faults disk.old) (D.faults disk.new) result }
 {
     if is_open {
@@ -53,6 +55,7 @@ pub fn prepare<D: Disk>(
         → LeavesOnly D.moment D.may_leave D.left_since disk.old disk.new (OpensAs old) }
     ensures grown { OnOk result (IsSomeAnd (D.count disk.new) (λ n. used + length staged.now ≤ n)) }
     ensures room { KeepsRoom (D.count disk.old) (D.count disk.new) }
+    ensures told { StaysTold (D.content disk.old) (D.content disk.new) }
     ensures cause { HasCause (D.faults disk.old) (D.faults disk.new) result }
 {
     see_spare_gate_closed(disk, spare, is_open)?;
@@ -92,6 +95,7 @@ pub fn commit_to<D: Disk>(
         → LeavesOnly D.moment D.may_leave D.left_since disk.old disk.new (OpensAsEither old new) }
     ensures room { KeepsRoom (D.count disk.old) (D.count disk.new) }
     ensures grown { OnOk result (IsSomeAnd (D.count disk.new) (λ n. used + length staged.now ≤ n)) }
+    ensures told { StaysTold (D.content disk.old) (D.content disk.new) }
     ensures cause { HasCause (D.faults disk.old) (D.faults disk.new) result }
 {
     prepare(disk, spare, is_open, used, generation, staged, root)?;

@@ -6,6 +6,7 @@ ghost use Rattle.tw_disk.specs.Disk.{HasCause, LeavesOnly, IsAtRest, Rose};
 ghost use Rattle.tw_pages.specs.Store.{OpensAboveOlder};
 ghost use Rattle.tw_pages.specs.Init.{BothClosed, HasBodies, IsUnmade, first_opening, IsBlankOrNew};
 ghost use Rattle.tw_pages.specs.Slots.{IsBlank, IsOpen, IsTaken};
+ghost use Rattle.tw_pages.specs.Told.{StaysTold};
 
 use crate::durable::write_pair_durably;
 use crate::layout::{body, closed_gate, open_gate};
@@ -20,6 +21,7 @@ pub fn write_closed_gates<D: Disk>(disk: &mut D) -> Result<(), Failed>
     ensures images { IsAtRest D.content D.may_leave disk.old (λ c. length c < 4)
         → LeavesOnly D.moment D.may_leave D.left_since disk.old disk.new (λ c. length c < 4) }
     ensures grown { OnOk result (IsSomeAnd (D.count disk.new) (λ n. 2 ≤ n)) }
+    ensures told { StaysTold (D.content disk.old) (D.content disk.new) }
     ensures cause { HasCause (D.faults disk.old) (D.faults disk.new) result }
 {
     write_pair_durably(disk, 0, &closed_gate(), 1, &closed_gate())?;
@@ -35,6 +37,7 @@ pub fn write_bodies<D: Disk>(disk: &mut D, root: &[u8]) -> Result<(), Failed>
     ensures images { IsAtRest D.content D.may_leave disk.old BothClosed
         → LeavesOnly D.moment D.may_leave D.left_since disk.old disk.new BothClosed }
     ensures grown { OnOk result (IsSomeAnd (D.count disk.new) (λ n. 4 ≤ n)) }
+    ensures told { StaysTold (D.content disk.old) (D.content disk.new) }
     ensures cause { HasCause (D.faults disk.old) (D.faults disk.new) result }
 {
     write_pair_durably(disk, 2, &body(1, 4, root), 3, &body(0, 4, root))?;
@@ -51,6 +54,7 @@ pub fn write_open_gates<D: Disk>(disk: &mut D) -> Result<(), Failed>
     ensures images { (root : List ℕ) → IsAtRest D.content D.may_leave disk.old (λ c. BothClosed c
         × HasBodies root c)
         → LeavesOnly D.moment D.may_leave D.left_since disk.old disk.new (IsBlankOrNew root) }
+    ensures told { StaysTold (D.content disk.old) (D.content disk.new) }
     ensures cause { HasCause (D.faults disk.old) (D.faults disk.new) result }
 {
     write_pair_durably(disk, 0, &open_gate(), 1, &open_gate())?;
@@ -106,6 +110,7 @@ pub fn see_gates_closed<D: Disk>(disk: &mut D, short: bool) -> Result<(), Failed
     ensures images { IsAtRest D.content D.may_leave disk.old (IsUnmade short)
         → LeavesOnly D.moment D.may_leave D.left_since disk.old disk.new IsBlank }
     ensures room { OnOk result (IsSomeAnd (D.count disk.new) (λ n. 2 ≤ n)) }
+    ensures told { StaysTold (D.content disk.old) (D.content disk.new) }
     ensures cause { HasCause (D.faults disk.old) (D.faults disk.new) result }
 {
     if short {
@@ -123,6 +128,7 @@ pub fn make<D: Disk>(disk: &mut D, short: bool, root: &[u8]) -> Result<(), Faile
     ensures images { IsAtRest D.content D.may_leave disk.old (IsUnmade short)
         → LeavesOnly D.moment D.may_leave D.left_since disk.old disk.new (IsBlankOrNew root.now) }
     ensures room { OnOk result (IsSomeAnd (D.count disk.new) (λ n. 4 ≤ n)) }
+    ensures told { StaysTold (D.content disk.old) (D.content disk.new) }
     ensures cause { HasCause (D.faults disk.old) (D.faults disk.new) result }
 {
     see_gates_closed(disk, short)?;
