@@ -2,7 +2,7 @@
 use Rattle.std.proofs.Common.{◌≡◌, ℕ, ◌≤◌, List, [], length, refl, ap, ◌∙◌, arith, lit≤, inl, inr, ⊎_elim, ◌⊎◌}
 use Rattle.std.specs.Prelude.{Option}
 use Rattle.tw_disk.specs.Image.{Image}
-use Rattle.tw_disk.specs.Disk.{IsAtRest, LeavesOnly}
+use Rattle.tw_disk.specs.Disk.{IsAtRest, LeavesOnly, Reads}
 use Rattle.tw_disk.specs.Moments.{leaves_weaker}
 use Rattle.tw_base.specs.Auth.{auth, auths}
 use Rattle.tw_base.specs.Names.{IsName}
@@ -81,9 +81,17 @@ module _ (dig : List ℕ → List ℕ) (size : (text : List ℕ) → length (dig
         };
       }
 
+  -- what is left of a store in the making
+  begun : (root : List ℕ) → root ≡ root_bytes dig name head → (i : Image) → IsBlankOrNewStore root i → IsBlankOrNew dig name i
+  begun root is i made = ⊎_elim (λ blank. inl blank) (λ opens. inr (⊎_elim
+      (λ one. new_stands root is (first_opening root) i refl refl (lit≤ tt) one) (λ two. new_stands root is (second_opening root) i refl refl (lit≤ tt) two) opens)) made
+
   pub leaves_none : {D : Type 0} (moment : D → ℕ) (may_leave : D → Image → Type 0) (left_since : D → ℕ → Image → Type 0) (old new : D) (root : List ℕ) → root ≡ root_bytes dig name head
       → LeavesOnly moment may_leave left_since old new (λ i. may_leave old i ⊎ IsBlankOrNewStore root i)
       → LeavesOnly moment may_leave left_since old new (λ i. may_leave old i ⊎ IsBlankOrNew dig name i)
   leaves_none moment may_leave left_since old new root is run = leaves_weaker moment may_leave left_since old new (λ i. may_leave old i ⊎ IsBlankOrNewStore root i) (λ i. may_leave old i ⊎ IsBlankOrNew dig name i)
-      (λ i either. ⊎_elim (λ was. inl was) (λ made. inr (⊎_elim (λ blank. inl blank) (λ opens. inr (⊎_elim
-      (λ one. new_stands root is (first_opening root) i refl refl (lit≤ tt) one) (λ two. new_stands root is (second_opening root) i refl refl (lit≤ tt) two) opens)) made)) either) run
+      (λ i either. ⊎_elim (λ was. inl was) (λ made. inr (begun root is i made)) either) run
+
+  pub tells_none : {D : Type 0} (content : D → Option Image) (may_leave : D → Image → Type 0) (old new : D) (root : List ℕ) → root ≡ root_bytes dig name head
+      → Reads content new (λ i. may_leave old i ⊎ IsBlankOrNewStore root i) → Reads content new (λ i. may_leave old i ⊎ IsBlankOrNew dig name i)
+  tells_none content may_leave old new root is tells = record { image = tells.image; told = tells.told; has = ⊎_elim (λ was. inl was) (λ made. inr (begun root is tells.image made)) tells.has }

@@ -4,7 +4,7 @@ use Rattle.std.specs.Prelude.{Option, Some}
 use Rattle.std.specs.Option.{option_map}
 use Rattle.std.proofs.lemmas.List.{append-nil}
 use Rattle.tw_disk.specs.Image.{Image}
-use Rattle.tw_disk.specs.Disk.{IsAtRest, LeavesOnly}
+use Rattle.tw_disk.specs.Disk.{IsAtRest, LeavesOnly, Reads}
 use Rattle.tw_disk.specs.Moments.{goes_on, leaves_weaker}
 use Rattle.tw_base.specs.History.{History, plus}
 use Rattle.tw_base.specs.Names.{IsName}
@@ -68,6 +68,11 @@ module _ {D : Type 0} {g : _} (content : D → Option Image) (may_leave : D → 
   pub rest_for_good : (store : Store D g) (name : List ℕ) (head : Head) (h : History) → IsAtRest content may_leave (disk_of store) (KeepsHistory dig store name head h)
       → IsAtRest content may_leave (disk_of store) (λ i. StandsFor dig i name h)
   rest_for_good store name head h rest = record { image = rest.image; told = rest.told; only = rest.only; has = content_stands store name head h rest }
+
+  -- a store that was only read and staged on tells what it told
+  pub same_tells : (old mid : Store D g) (name : List ℕ) (head : Head) (h : History) (events : List (List ℕ)) → IsSame content may_leave moment left_since old mid
+      → IsAtRest content may_leave (disk_of old) (KeepsHistory dig old name head h) → Reads content (disk_of mid) (StandsForOneOf dig name h events)
+  same_tells old mid name head h events same rest = record { image = rest.image; told = same.content_same ∙ rest.told; has = inl (content_stands old name head h rest) }
 
   -- the same store keeps the same history
   pub still_keeps : (old mid : Store D g) (name : List ℕ) (head : Head) (h : History) → IsSame content may_leave moment left_since old mid → staged_of mid ≡ []
@@ -187,6 +192,11 @@ module _ {D : Type 0} {g : _} (content : D → Option Image) (may_leave : D → 
     commit_leaves new run = goes_on moment may_leave left_since (disk_of old) (disk_of mid) (disk_of new) (StandsForOneOf dig name h events)
         (same_leaves old mid (StandsForOneOf dig name h events) same (λ c left. inl (rest_stands old name head h rest c left)))
         (leaves_weaker moment may_leave left_since (disk_of mid) (disk_of new) _ (StandsForOneOf dig name h events) either (run mid_rest))
+
+    pub commit_tells : (new : Store D g) → ((r : IsAtRest content may_leave (disk_of mid) (IsKept mid)) → Reads content (disk_of new) (OpensAsEither (opening_of mid r.image) (next_opening mid root r.image)))
+        → Reads content (disk_of new) (StandsForOneOf dig name h events)
+    unfolding mid_rest
+    commit_tells new tells = let there = tells mid_rest in record { image = there.image; told = there.told; has = either there.image there.has }
 
     pub commit_keeps : (new : Store D g) → ((r : IsAtRest content may_leave (disk_of mid) (IsKept mid)) → IsAtRest content may_leave (disk_of new) (λ c. IsKept new c × (opening_of new c ≡ next_opening mid root r.image))) → staged_of new ≡ []
         → IsAtRest content may_leave (disk_of new) (KeepsHistory dig new name new_head longer)

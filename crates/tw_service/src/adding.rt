@@ -2,7 +2,7 @@
 
 ghost use Rattle.std.specs.Prelude.{◌≡◌, ◌⊎◌, ℕ, ◌+◌, ◌*◌, ◌<◌, ◌≤◌, ◌^◌, [], IfOk, IfErr, false, Some, Err};
 ghost use Rattle.tw_base.specs.History.{History, plus};
-ghost use Rattle.tw_disk.specs.Disk.{IsAtRest, LeavesOnly, Rose};
+ghost use Rattle.tw_disk.specs.Disk.{IsAtRest, LeavesOnly, Reads, Rose};
 ghost use Rattle.tw_disk.specs.Image.{Image};
 ghost use Rattle.tw_pages.specs.Kept.{disk_of, generation_of, is_broken, staged_of};
 ghost use Rattle.tw_pages.specs.Same.{IsSame, count_of, list_of};
@@ -45,6 +45,8 @@ pub(crate) fn add_step<D: Disk, H: Hasher>(
         → IsAtRest D.content D.may_leave (disk_of store.new) (KeepsHistory H.dig store.new name.now new (plus h (event_step events.now)))) }
     ensures any_moment { (h : History) → IsAtRest D.content D.may_leave (disk_of store.old) (KeepsHistory H.dig store.old name.now head.now h)
         → LeavesOnly D.moment D.may_leave D.left_since (disk_of store.old) (disk_of store.new) (StandsForOneOf H.dig name.now h events.now) }
+    ensures told { (h : History) → IsAtRest D.content D.may_leave (disk_of store.old) (KeepsHistory H.dig store.old name.now head.now h)
+        → Reads D.content (disk_of store.new) (StandsForOneOf H.dig name.now h events.now) }
     ensures same { IfErr result (λ refusal. (refusal ≡ Refusal.DiskFault) ⊎ IsSame D.content D.may_leave D.moment D.left_since store.old store.new) }
     ensures clean { staged_of store.new ≡ [] }
     ensures found { IfOk result (λ _. (ps : Image) → list_of D.content store.old ≡ Some ps → FindsLinks H.dig ps head.now) }

@@ -39,7 +39,7 @@ impl<D: Disk, H: Hasher> Service<D, H> {
     ghost use Rattle.tw_base.specs.declared.thread.Thread.{Thread as ThreadOf};
     ghost use Rattle.tw_chain.specs.Accepting.{Accepts};
     ghost use Rattle.tw_chain.specs.Making.{MakesExistence};
-    ghost use Rattle.tw_disk.specs.Disk.{IsAtRest, LeavesOnly, Rose};
+    ghost use Rattle.tw_disk.specs.Disk.{IsAtRest, LeavesOnly, Reads, Rose};
     ghost use Rattle.tw_disk.specs.Image.{Image};
     ghost use Rattle.tw_pages.specs.Slots.{IsTaken};
     ghost use Rattle.tw_pages.specs.declared.open.StoreFault.{StoreFault as Fault};
@@ -59,7 +59,7 @@ impl<D: Disk, H: Hasher> Service<D, H> {
     /// is changed; else only `DiskFault`, never `NoMemory`. A disk with four pages and an open gate reads
     /// as before, and a crash leaves nothing else than before, whatever the answer. Where a crash stops
     /// it, the disk is blank or stands for the empty history of the name, or is what a crash might have
-    /// left before.
+    /// left before; and so reads a disk that told its content and is given back.
     pub fn init(alloc: Global, disk: D, name: Name) -> Result<Service<D, H>, (D, StoreFault)>
         // The empty history of the name, for good.
         ensures served { IfOk result (λ s. (c : Image) → D.content disk ≡ Some c
@@ -89,6 +89,10 @@ impl<D: Disk, H: Hasher> Service<D, H> {
         ensures any_moment_err { IfErr result (λ e. (c : Image) → D.content disk ≡ Some c
             → LeavesOnly D.moment D.may_leave D.left_since disk e.0 (λ i. D.may_leave disk i
             ⊎ IsBlankOrNew H.dig name i)) }
+
+        // A disk that is given back tells its content still, which is one of these images.
+        ensures told { IfErr result (λ e. (c : Image) → D.content disk ≡ Some c
+            → Reads D.content e.0 (λ i. D.may_leave disk i ⊎ IsBlankOrNew H.dig name i)) }
     {
         let auth = genesis::<H>(&name);
         let head = Head {
@@ -215,9 +219,10 @@ impl<D: Disk, H: Hasher> Service<D, H> {
     /// `DiskFault`; `Full` where there are 2^40 - 1 steps; `TooMany` where there are more than 1,024
     /// events; `TooLong` where one is longer than 1,024 bytes, with the length of the first such one,
     /// or where together they are longer than 65,536 bytes, with that length. All memory is taken
-    /// before the first write, so after `NoMemory` the disk is as before. After `DiskFault` the disk
-    /// stands for the history before the call or with the new step, and this value has to be given
-    /// up.
+    /// before the first write, so after `NoMemory` the disk is as before. After `DiskFault` this value
+    /// has to be given up; where a history was served, the disk tells its content still, which stands
+    /// for the history before the call or with the new step; `open` then serves that one, or meets a
+    /// disk fault.
     pub fn append(&mut self, events: &EventList) -> Result<Thread, Refusal>
         // The refusals of the table, in its order, and no others where none of it stands.
         ensures table { MatchOption (append_refusal_of (has_failed self.old) (steps_of self.old) events.now)
@@ -234,6 +239,10 @@ impl<D: Disk, H: Hasher> Service<D, H> {
         ensures any_moment { (h : History) → Serves H.dig D.content D.may_leave self.old h
             → LeavesOnly D.moment D.may_leave D.left_since (disk_of self.old) (disk_of self.new)
             (StandsForOneOf H.dig (name_of self.old) h events.now) }
+
+        // Whatever the answer, the disk tells its content still, which stands for one of the two.
+        ensures told { (h : History) → Serves H.dig D.content D.may_leave self.old h
+            → Reads D.content (disk_of self.new) (StandsForOneOf H.dig (name_of self.old) h events.now) }
 
         // After a refusal but DiskFault the history is served as before, and nothing was written.
         ensures refused { IfErr result (λ refusal. (refusal ≡ Refusal.DiskFault)

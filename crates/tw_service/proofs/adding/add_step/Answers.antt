@@ -1,10 +1,10 @@
 use Rattle.std.proofs.Common.{◌∙◌, inl, subst, sym, arith}
-use Rattle.tw_disk.specs.Disk.{LeavesOnly}
+use Rattle.tw_disk.specs.Disk.{LeavesOnly, Reads}
 use Rattle.tw_pages.specs.Same.{count_of, is_same_on, told_pages}
 use Rattle.tw_skiplist.specs.declared.head.Head.{Head}
 use Rattle.tw_service.specs.Stands.{StandsForOneOf}
 use Rattle.tw_service.proofs.BadPages.{bad_page, bad_told}
-use Rattle.tw_service.proofs.Serving.{commit_keeps, commit_leaves, rest_stands, same_leaves, told_list}
+use Rattle.tw_service.proofs.Serving.{commit_keeps, commit_leaves, commit_tells, rest_stands, same_tells, same_leaves, told_list}
 use Rattle.tw_service.proofs.adding.add_step.Goals as goal
 
 pub returns-in-Err-clause-any_moment : goal.returns-in-Err-clause-any_moment
@@ -57,3 +57,33 @@ returns-in-Err-commit-clause-any_moment g c = λ h rest.
     (count_of mid) (omega (arith, c.in-Ok.ensures.few, c.requires.pages, c.in-Ok.ensures.step))
     (λ ps list. told_pages d.content d.may_leave d.moment d.left_since mid (d.count mid.disk) (d.content mid.disk) ps (λ i told. g.met.D.Disk.count_is_told mid.disk i told) mid.room mid.used_from list)
     (omega (arith, c.in-Ok.ensures.same.generation, c.requires.commits)) c.commit.new.self c.in-Err-commit.ensures.any_moment)
+
+pub returns-in-Err-clause-told : goal.returns-in-Err-clause-told
+returns-in-Err-clause-told g c = λ h rest.
+    let d = g.D.Disk in
+    let store = c.args.store.now in
+    same_tells d.content d.may_leave d.moment d.left_since g.met.D.Disk.only_now g.H.Hasher.dig store c.discard.new.self c.args.name.now c.args.head.now h c.args.events.now
+    (is_same_on d.content d.may_leave d.moment d.left_since store c.append-added.new.pages c.discard.new.self c.in-Err.ensures.same c.discard.ensures.same) rest
+
+pub returns-in-Ok-commit-clause-told : goal.returns-in-Ok-commit-clause-told
+returns-in-Ok-commit-clause-told g c = λ h rest.
+    let d = g.D.Disk in
+    let store = c.args.store.now in
+    let mid = c.append-added.new.pages in
+    commit_tells d.content d.may_leave d.moment d.left_since g.met.D.Disk.only_now g.H.Hasher.dig store mid c.args.name.now c.args.head.now c.in-Ok.new h c.args.events.now
+    c.as_slice.result.now (c.as_slice.ensures.value ∙ c.root_record-root.ensures.bytes) g.met.H.Hasher.size c.in-Ok.ensures.same rest c.in-Ok.ensures.added c.in-Ok.ensures.step c.requires.step
+    (count_of mid) (omega (arith, c.in-Ok.ensures.few, c.requires.pages, c.in-Ok.ensures.step))
+    (λ ps list. told_pages d.content d.may_leave d.moment d.left_since mid (d.count mid.disk) (d.content mid.disk) ps (λ i told. g.met.D.Disk.count_is_told mid.disk i told) mid.room mid.used_from list)
+    (omega (arith, c.in-Ok.ensures.same.generation, c.requires.commits)) c.commit.new.self c.in-Ok-commit.ensures.told
+
+pub returns-in-Err-commit-clause-told : goal.returns-in-Err-commit-clause-told
+returns-in-Err-commit-clause-told g c = λ h rest.
+    let d = g.D.Disk in
+    let store = c.args.store.now in
+    let mid = c.append-added.new.pages in
+    subst (λ disk. Reads d.content disk (StandsForOneOf g.H.Hasher.dig c.args.name.now h c.args.events.now)) (sym c.discard-in-Err-commit.ensures.disk)
+    (commit_tells d.content d.may_leave d.moment d.left_since g.met.D.Disk.only_now g.H.Hasher.dig store mid c.args.name.now c.args.head.now c.in-Ok.new h c.args.events.now
+    c.as_slice.result.now (c.as_slice.ensures.value ∙ c.root_record-root.ensures.bytes) g.met.H.Hasher.size c.in-Ok.ensures.same rest c.in-Ok.ensures.added c.in-Ok.ensures.step c.requires.step
+    (count_of mid) (omega (arith, c.in-Ok.ensures.few, c.requires.pages, c.in-Ok.ensures.step))
+    (λ ps list. told_pages d.content d.may_leave d.moment d.left_since mid (d.count mid.disk) (d.content mid.disk) ps (λ i told. g.met.D.Disk.count_is_told mid.disk i told) mid.room mid.used_from list)
+    (omega (arith, c.in-Ok.ensures.same.generation, c.requires.commits)) c.commit.new.self c.in-Err-commit.ensures.told)

@@ -13,7 +13,7 @@ use Rattle.tw_service.specs.Machine.Reply.{OfThread}
 use Rattle.tw_service.specs.Serves.{Serves}
 use Rattle.tw_service.proofs.Answering.{IsTold, NoFault, answers_fault, answers_refusal, append_done, append_no_fault, append_refused, append_told, is_bad_fault, is_disk_fault, of_some}
 use Rattle.tw_service.proofs.BadPages.{no_bad_page}
-use Rattle.tw_service.proofs.Serving.{rest_stands, same_leaves, still_keeps}
+use Rattle.tw_service.proofs.Serving.{rest_stands, same_leaves, same_tells, still_keeps}
 use Rattle.tw_service.proofs.service.Service.append.Goals as goal
 
 pub returns-in-Some-clause-refused : goal.returns-in-Some-clause-refused
@@ -82,3 +82,15 @@ returns-in-Err-clause-machine g c = λ whole h served.
     let s = c.args.self.now in
     answers_fault g.H.Hasher.dig h (Append c.args.events.now) (λ (t : Thread). OfThread t) (λ k. IsAtRest d.content d.may_leave (disk_of c.add_step.new.store) (KeepsHistory g.H.Hasher.dig c.add_step.new.store s.name s.head k)) c.in-Err.refusal c.in-Err.ensures.answers (λ bad. c.in-Err.ensures.good bad h served)
     (⊎_elim (λ fault. inl fault) (λ same. inr (still_keeps d.content d.may_leave d.moment d.left_since g.met.D.Disk.only_now g.H.Hasher.dig s.store c.add_step.new.store s.name s.head h same c.in-Err.ensures.clean served)) c.in-Err.ensures.same)
+
+pub returns-in-Ok-clause-told : goal.returns-in-Ok-clause-told
+returns-in-Ok-clause-told g c = λ h served. c.in-Ok.ensures.told h served
+
+pub returns-in-Err-clause-told : goal.returns-in-Err-clause-told
+returns-in-Err-clause-told g c = λ h served. c.in-Err.ensures.told h served
+
+pub returns-in-Some-clause-told : goal.returns-in-Some-clause-told
+returns-in-Some-clause-told g c = λ h served.
+    let d = g.D.Disk in
+    let s = c.args.self.now in
+    same_tells d.content d.may_leave d.moment d.left_since g.met.D.Disk.only_now g.H.Hasher.dig s.store s.store s.name s.head h c.args.events.now (is_same_itself d.content d.may_leave d.moment d.left_since s.store) served

@@ -1,5 +1,5 @@
 use Rattle.std.proofs.Common.{refl, ◌∙◌}
-use Rattle.tw_service.proofs.Beginning.{leaves_none, serves_none}
+use Rattle.tw_service.proofs.Beginning.{leaves_none, serves_none, tells_none}
 use Rattle.tw_service.proofs.service.Service.init.Goals as goal
 
 pub returns-in-Ok-clause-served : goal.returns-in-Ok-clause-served
@@ -16,3 +16,8 @@ pub returns-in-Err-clause-any_moment_err : goal.returns-in-Err-clause-any_moment
 returns-in-Err-clause-any_moment_err g c = λ i told.
     leaves_none g.H.Hasher.dig g.met.H.Hasher.size c.args.name c.root_record-root.ensures.name _ refl refl c.genesis-auth.ensures g.D.Disk.moment g.D.Disk.may_leave g.D.Disk.left_since c.args.disk c.in-Err.disk c.as_slice.result.now
     (c.as_slice.ensures.value ∙ c.root_record-root.ensures.bytes) (c.in-Err.ensures.any_moment_err i told)
+
+pub returns-in-Err-clause-told : goal.returns-in-Err-clause-told
+returns-in-Err-clause-told g c = λ i told.
+    tells_none g.H.Hasher.dig g.met.H.Hasher.size c.args.name c.root_record-root.ensures.name _ refl refl c.genesis-auth.ensures g.D.Disk.content g.D.Disk.may_leave c.args.disk c.in-Err.disk c.as_slice.result.now
+    (c.as_slice.ensures.value ∙ c.root_record-root.ensures.bytes) (c.in-Err.ensures.told i told)
