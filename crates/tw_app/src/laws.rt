@@ -1,30 +1,17 @@
 // The laws of what commands come to over a disk that tells its content.
 
-ghost use Rattle.std.specs.Prelude.{◌≡◌, ℕ, List, Option, Some};
-ghost use Rattle.tw_base.specs.declared.thread.Thread.{Thread};
+ghost use Rattle.std.specs.Prelude.{ℕ, List, Option, Some};
 ghost use Rattle.tw_disk.specs.Image.{Image};
-ghost use Rattle.tw_app.specs.declared.outcome.Refusal.TheVariants.{NoEvent};
-ghost use Rattle.tw_app.specs.declared.outcome.StoreCause.TheVariants.{BadPage};
-ghost use Rattle.tw_app.specs.Appending.{AddsStep, MeetsBadLink};
-ghost use Rattle.tw_app.specs.Disks.{IsUnserved};
-ghost use Rattle.tw_app.specs.Proving.{MeetsBadPage, Proves, RefusesProof};
+ghost use Rattle.tw_app.specs.declared.outcome.Outcome.{Outcome};
+ghost use Rattle.tw_app.specs.Agreeing.{Agrees, TellsContent};
+ghost use Rattle.tw_app.specs.Stepping.{ComesToProof, ComesToStep};
 
-/// What a told disk allows `append` and `prove` to come to after pages were read, it allows alone: that
-/// the step is added, or one page of `BadPage`; that the event is proved, or one number of events that
-/// the step has, or one page of `BadPage`.
+/// What a disk that tells its content allows the adding of these events to come to, it allows alone:
+/// a step, one refusal, or one reason why nothing is served. So is it with the proof of an event. A
+/// fault of the disk and want of memory are excepted.
 pub fn told_laws()
-    ensures added { (image : Image) (events : List (List ℕ)) (thread : Thread) (page : ℕ) → AddsStep (Some image) events thread →
-        IsUnserved (MeetsBadLink events) (Some image) (BadPage page) → ⊥ }
-    ensures one_link { (image : Image) (events : List (List ℕ)) (page other : ℕ) → IsUnserved (MeetsBadLink events) (Some image) (BadPage page) →
-        IsUnserved (MeetsBadLink events) (Some image) (BadPage other) → page ≡ other }
-    ensures proved { (image : Image) (step index : ℕ) (top : Option ℕ) (proof : List ℕ) (page : ℕ) → Proves (Some image) step index top proof →
-        IsUnserved (MeetsBadPage step index top) (Some image) (BadPage page) → ⊥ }
-    ensures counted { (image : Image) (step index : ℕ) (top : Option ℕ) (n page : ℕ) → RefusesProof (Some image) step index top (NoEvent n) →
-        IsUnserved (MeetsBadPage step index top) (Some image) (BadPage page) → ⊥ }
-    ensures either { (image : Image) (step index : ℕ) (top : Option ℕ) (proof : List ℕ) (n : ℕ) → Proves (Some image) step index top proof →
-        RefusesProof (Some image) step index top (NoEvent n) → ⊥ }
-    ensures one_count { (image : Image) (step index : ℕ) (top : Option ℕ) (n m : ℕ) → RefusesProof (Some image) step index top (NoEvent n) →
-        RefusesProof (Some image) step index top (NoEvent m) → n ≡ m }
-    ensures one_page { (image : Image) (step index : ℕ) (top : Option ℕ) (page other : ℕ) → IsUnserved (MeetsBadPage step index top) (Some image) (BadPage page) →
-        IsUnserved (MeetsBadPage step index top) (Some image) (BadPage other) → page ≡ other }
+    ensures adding { (image : Image) (events : List (List ℕ)) (before after : ℕ) (one other : Outcome) → TellsContent one → TellsContent other →
+        ComesToStep (Some image) before after events one → ComesToStep (Some image) before after events other → Agrees one other }
+    ensures proving { (image : Image) (step index : ℕ) (top : Option ℕ) (before after : ℕ) (one other : Outcome) → TellsContent one → TellsContent other →
+        ComesToProof (Some image) before after step index top one → ComesToProof (Some image) before after step index top other → Agrees one other }
 {}
