@@ -10,3 +10,4 @@ pub mod EventProofs
 pub mod Landings
 pub mod Endings
 pub mod DiskEndings
+pub mod OneAnswer

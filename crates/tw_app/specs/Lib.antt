@@ -10,6 +10,7 @@ pub mod BadInputs
 pub mod ServiceFaults
 pub mod Running
 pub mod Stepping
+pub mod Agreeing
 pub mod Leaving
 pub mod Statuses
 pub mod DiskStatuses

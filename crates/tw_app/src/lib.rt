@@ -5,6 +5,7 @@ mod appending;
 mod bad_input;
 mod ending;
 mod following;
+mod laws;
 mod making;
 mod outcome;
 mod pair;
@@ -15,6 +16,7 @@ mod showing;
 mod verifying;
 
 pub use ending::{Ran, run};
+pub use laws::told_laws;
 pub use outcome::{BadInput, Outcome, Refusal, StoreCause};
 
 #[cfg(test)]

@@ -8,5 +8,8 @@ pub mod Beginning
 pub mod Counted
 pub mod Opened
 pub mod Serving
+pub mod EventExclusions
+pub mod Exclusions
+pub mod FindingLaws
 pub mod Existences
 pub mod Standing

@@ -1,6 +1,6 @@
 // The laws of what images stand for.
 
-ghost use Rattle.std.specs.Prelude.{◌≡◌, ℕ, ◌+◌, ◌^◌, ◌<◌, List, length};
+ghost use Rattle.std.specs.Prelude.{◌≡◌, ℕ, ◌+◌, ◌^◌, ◌<◌, ◌≤◌, List, length};
 ghost use Rattle.tw_base.specs.History.{History, plus};
 ghost use Rattle.tw_base.specs.Sound.{IsSound};
 ghost use Rattle.tw_disk.specs.Image.{Image};
@@ -8,7 +8,8 @@ ghost use Rattle.tw_pages.specs.declared.open.StoreFault.{StoreFault};
 ghost use Rattle.tw_skiplist.specs.declared.head.Head.{Head};
 ghost use Rattle.tw_skiplist.specs.Keeping.{IsWithinLimits, event_step};
 ghost use Rattle.tw_service.specs.EventSteps.{HasEventsOnly};
-ghost use Rattle.tw_service.specs.Stands.{IsNotOpenedFor, OpensFor, StandsFor};
+ghost use Rattle.tw_service.specs.Finds.{FindsCount, FindsEvent, FindsLinks, LacksLinks, LacksProof};
+ghost use Rattle.tw_service.specs.Stands.{IsNotOpenedFor, OpensFor, OpensWith, StandsFor};
 
 use tw_base::Hasher;
 
@@ -20,6 +21,27 @@ pub fn standing_laws<H: Hasher>()
     ensures sound { (image : Image) (name : List ℕ) (h : History) → StandsFor H.dig image name h → IsSound h × (h.name ≡ name) × HasEventsOnly h }
     ensures never_refused { (image : Image) (name : List ℕ) (h : History) (fault : StoreFault) → StandsFor H.dig image name h → IsNotOpenedFor H.dig image fault → ⊥ }
     ensures opened { (image : Image) (name : List ℕ) (head : Head) (fault : StoreFault) → OpensFor H.dig image name head → IsNotOpenedFor H.dig image fault → ⊥ }
+{}
+
+/// An image opens as one service at most, whose pages have numbers that fit; and what the calls find in
+/// such pages excludes what these lack. Where the links of a head's next step are there, no page of
+/// another kind is met for them; where a step's event is there, or its page counts too few, none for
+/// it; and each number that is told is the only one.
+pub fn finding_laws<H: Hasher>()
+    ensures one_service { (image : Image) (one other : List ℕ) (head last : Head) (ps qs : Image) → OpensWith H.dig image one head (λ x. x ≡ ps) →
+        OpensWith H.dig image other last (λ x. x ≡ qs) → (one ≡ other) × (head ≡ last) × (ps ≡ qs) × (4 + length ps ≤ 2 ^ 64) }
+    ensures links { (ps : Image) (head : Head) (page : ℕ) → 4 + length ps ≤ 2 ^ 64 → FindsLinks H.dig ps head → LacksLinks H.dig ps head page → ⊥ }
+    ensures one_link { (ps : Image) (head : Head) (page other : ℕ) → 4 + length ps ≤ 2 ^ 64 → LacksLinks H.dig ps head page → LacksLinks H.dig ps head other → page ≡ other }
+    ensures event { (ps : Image) (head : Head) (step index top page : ℕ) → 4 + length ps ≤ 2 ^ 64 →
+        FindsEvent H.dig ps head step index top → LacksProof H.dig ps head step index top page → ⊥ }
+    ensures count { (ps : Image) (head : Head) (step index top n page : ℕ) → 4 + length ps ≤ 2 ^ 64 →
+        FindsCount H.dig ps head step index top n → LacksProof H.dig ps head step index top page → ⊥ }
+    ensures either { (ps : Image) (head : Head) (step index top n : ℕ) → 4 + length ps ≤ 2 ^ 64 →
+        FindsEvent H.dig ps head step index top → FindsCount H.dig ps head step index top n → ⊥ }
+    ensures one_count { (ps : Image) (head : Head) (step index top n m : ℕ) → 4 + length ps ≤ 2 ^ 64 →
+        FindsCount H.dig ps head step index top n → FindsCount H.dig ps head step index top m → n ≡ m }
+    ensures one_page { (ps : Image) (head : Head) (step index top page other : ℕ) → 4 + length ps ≤ 2 ^ 64 →
+        LacksProof H.dig ps head step index top page → LacksProof H.dig ps head step index top other → page ≡ other }
 {}
 
 /// A sound history of steps of events with one more, within the limits of a step and of a history, is

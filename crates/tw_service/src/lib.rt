@@ -9,7 +9,7 @@ mod refusal;
 mod root;
 mod service;
 
-pub use laws::{event_laws, standing_laws};
+pub use laws::{event_laws, finding_laws, standing_laws};
 pub use refusal::Refusal;
 pub use service::Service;
 
