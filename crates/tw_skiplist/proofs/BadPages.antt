@@ -1,8 +1,14 @@
 -- What BadPage says, from one answer to another.
-use Rattle.std.proofs.Common.{ℕ, Err}
+use Rattle.std.proofs.Common.{◌≡◌, ℕ, List, Err, arith, inl, subst}
+use Rattle.tw_disk.specs.Image.{Image}
+use Rattle.tw_base.specs.Texts.{empty_tree_text}
 use Rattle.tw_skiplist.specs.declared.fault.ListFault.{ListFault}
 use Rattle.tw_skiplist.specs.declared.fault.ListFault.TheVariants.{NoStep, BadPage, DiskFault, NoMemory}
+use Rattle.tw_skiplist.specs.declared.head.Head.{Head}
+use Rattle.tw_skiplist.specs.declared.head.StepRef.{StepRef}
 use Rattle.tw_skiplist.specs.Answers.{IfBadPage, NeverNoStep, NoStepUnless}
+use Rattle.tw_skiplist.specs.Reading.{MeetsBadPage, MeetsBadPageAbove}
+use Rattle.tw_skiplist.specs.Records.{FindsBadPageVia, head_ref}
 
 -- the same fault of another call says what its page says
 pub bad_page_on : (fault : ListFault) (P Q : ℕ → Type 0) → ((page : ℕ) → P page → Q page) → IfBadPage {T = Unit {0}} (Err fault) P → IfBadPage {T = Unit {0}} (Err fault) Q
@@ -17,3 +23,21 @@ no_step_on (NoStep n) last P never there = elim never [ ]
 no_step_on (BadPage page) last P never there = there
 no_step_on DiskFault last P never there = there
 no_step_on NoMemory last P never there = there
+
+-- a walk that meets a bad page above its end meets it, with its end read or not
+pub met_above : (empty : List ℕ) (ps : Image) (first : StepRef) (from to page : ℕ) → MeetsBadPageAbove empty ps first from to page → MeetsBadPage empty ps first from to page
+met_above empty ps first from to page meets = record {
+  link = meets.link;
+  at = meets.at;
+  recorded = omega (arith, meets.above);
+  walks = meets.walks;
+  page_is = meets.page_is;
+  bad = meets.bad;
+}
+
+-- the walk down to the top is the first half of the way to a step
+pub met_on_the_way : (dig : List ℕ → List ℕ) (ps : Image) (head : Head) (top i : ℕ) (empty : List ℕ) (first : StepRef) → empty ≡ dig empty_tree_text → first ≡ head_ref head
+    → (page : ℕ) → MeetsBadPageAbove empty ps first head.step top page → FindsBadPageVia dig ps head top i page
+met_on_the_way dig ps head top i empty first empty_is first_is page meets =
+    let met = met_above empty ps first head.step top page meets in
+    inl (subst (λ (e : List ℕ). MeetsBadPage e ps (head_ref head) head.step top page) empty_is (subst (λ (f : StepRef). MeetsBadPage empty ps f head.step top page) first_is met))

@@ -97,7 +97,7 @@ pub data Walks (empty : List ℕ) (pages : Image) (first : StepRef) (from to : �
   on : (link : StepRef) (at : ℕ) (next : StepRef) → Walks empty pages first from to link at → to < at
       → HasLink empty pages link.page at (hop_level at to) next → Walks empty pages first from to next (hop at to)
 
--- the walk comes to a link whose page isn't the page of the step that it leads to
+-- the walk comes to a link, of its end or of a step above, whose page isn't the page of the step that it leads to
 pub record MeetsBadPage (empty : List ℕ) (pages : Image) (first : StepRef) (from to page : ℕ) : Type 0 where
   pub link : StepRef
   pub at : ℕ
@@ -106,10 +106,24 @@ pub record MeetsBadPage (empty : List ℕ) (pages : Image) (first : StepRef) (fr
   pub page_is : page ≡ link.page
   pub bad : IsNoStepAt empty pages link.page at
 
--- the same of a walk down to one step and another from there down to the next: the first meets the page, or the second
+-- the same where the walk doesn't read the page of its end: the link leads to a step above that
+pub record MeetsBadPageAbove (empty : List ℕ) (pages : Image) (first : StepRef) (from to page : ℕ) : Type 0 where
+  pub link : StepRef
+  pub at : ℕ
+  pub above : to < at
+  pub walks : Walks empty pages first from to link at
+  pub page_is : page ≡ link.page
+  pub bad : IsNoStepAt empty pages link.page at
+
+-- a walk down to one step and another from there down to the next: the first meets the page, or the second
 abbrev pub MeetsBadPageVia : List ℕ → Image → (first : StepRef) → (from via to page : ℕ) → Type 0
 MeetsBadPageVia empty pages first from via to page = MeetsBadPage empty pages first from via page
     ⊎ ((middle : StepRef) × Walks empty pages first from via middle via × MeetsBadPage empty pages middle via to page)
+
+-- the same where neither reads the page of its end
+abbrev pub MeetsBadPageAboveVia : List ℕ → Image → (first : StepRef) → (from via to page : ℕ) → Type 0
+MeetsBadPageAboveVia empty pages first from via to page = MeetsBadPageAbove empty pages first from via page
+    ⊎ ((middle : StepRef) × Walks empty pages first from via middle via × MeetsBadPageAbove empty pages middle via to page)
 
 -- both walks come to their ends
 pub record WalksVia (empty : List ℕ) (pages : Image) (first : StepRef) (from via to : ℕ) (last : StepRef) : Type 0 where

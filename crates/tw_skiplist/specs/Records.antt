@@ -9,7 +9,7 @@ use Rattle.tw_skiplist.specs.declared.head.Head.{Head}
 use Rattle.tw_skiplist.specs.declared.head.StepRef.{StepRef}
 use Rattle.tw_skiplist.specs.declared.fields.StepFields.{StepFields}
 use Rattle.tw_skiplist.specs.declared.info.StepInfo.{StepInfo}
-use Rattle.tw_skiplist.specs.Reading.{IsStepAt, MeetsBadPage, MeetsBadPageVia, Walks, WalksVia, link_of}
+use Rattle.tw_skiplist.specs.Reading.{IsStepAt, MeetsBadPage, MeetsBadPageAboveVia, MeetsBadPageVia, Walks, WalksVia, link_of}
 
 module _ (dig : List ℕ → List ℕ) where
   abbrev pub page_datum : StepFields → List ℕ
@@ -96,6 +96,10 @@ module _ (dig : List ℕ → List ℕ) (pages : Image) (head : Head) where
 
   abbrev pub FindsBadPageVia : (top i page : ℕ) → Type 0
   FindsBadPageVia top i page = MeetsBadPageVia empty_label pages (head_ref head) head.step top i page
+
+  -- the same of a path down to the step, whose page isn't read; nor is the page of n on the way from the head to n
+  abbrev pub FindsBadPageOfPath : (n i page : ℕ) → Type 0
+  FindsBadPageOfPath n i page = MeetsBadPageAboveVia empty_label pages (head_ref head) head.step n i page
 
   -- the walk from the head comes to the top, and the walk from there on down to the step follows links that have exactly these
   -- records

@@ -11,7 +11,7 @@ ghost use Rattle.tw_skipproof.specs.Paths.{HasShape};
 ghost use Rattle.tw_skiplist.specs.declared.head.StepRef.{StepRef};
 ghost use Rattle.tw_skiplist.specs.Answers.{FaultsRise, IfBadPage, NeverNoStep, NotDiskFault};
 ghost use Rattle.tw_skiplist.specs.Keeping.{KeepsSteps, Place, link_to};
-ghost use Rattle.tw_skiplist.specs.Reading.{IsNoStepAt, MeetsBadPage, Walks};
+ghost use Rattle.tw_skiplist.specs.Reading.{IsNoStepAt, MeetsBadPage, MeetsBadPageAbove, Walks};
 ghost use Rattle.tw_skiplist.specs.Records.{HasHop, TellsInfo, WalksAlong};
 
 use crate::fault::ListFault;
@@ -86,7 +86,7 @@ pub(crate) fn collect<P: Pages, H: Hasher>(
     ensures walks { IfOk result (λ c. (ps : Image) → P.list pages.old ≡ Some ps → Walks empty.now ps first.now from to c.last to) }
     ensures path { IfOk result (λ c. (ps : Image) (h : History) (places : List Place) → P.list pages.old ≡ Some ps → KeepsSteps H.dig ps h places →
         from ≤ length h.steps → first.now ≡ link_to H.dig h places from → IsPathOf H.dig h c.links from to) }
-    ensures bad { IfBadPage result (λ p. (ps : Image) → P.list pages.old ≡ Some ps → MeetsBadPage empty.now ps first.now from to p) }
+    ensures bad { IfBadPage result (λ p. (ps : Image) → P.list pages.old ≡ Some ps → MeetsBadPageAbove empty.now ps first.now from to p) }
     ensures no_step { NeverNoStep result }
     ensures kept { OnlyReads P.used_count P.list P.same P.unbroken pages.old pages.new (NotDiskFault result) }
     ensures faults { FaultsRise (P.faults pages.old) (P.faults pages.new) result }

@@ -13,7 +13,8 @@ use tw_base::Hasher;
 
 /// Pages keep a history of no step under the head with step 0, the authenticator of its name and
 /// page 0. They go on keeping a history when more pages follow them. The head's page is one of them,
-/// or 0 for step 0. Under one head they keep at most one history of a name, and it is sound.
+/// or 0 for step 0. Under one head they keep at most one history of a name, and it is sound where the
+/// name is one.
 pub fn keeping_laws<H: Hasher>()
     ensures first { (ps : Image) (h : History) (head : Head) → h.steps ≡ [] → head.step ≡ 0 → head.auth ≡ auth H.dig h 0 → head.page ≡ 0 → Keeps H.dig ps h head }
     ensures more { (ps more : Image) (h : History) (head : Head) → Keeps H.dig ps h head → Keeps H.dig (ps ++ more) h head }

@@ -13,7 +13,7 @@ ghost use Rattle.tw_base.specs.Texts.{empty_tree_text};
 ghost use Rattle.tw_skiplist.specs.declared.head.StepRef.{StepRef};
 ghost use Rattle.tw_skiplist.specs.Keeping.{IsWithinLimits, Keeps};
 ghost use Rattle.tw_skiplist.specs.Reading.{WalksVia};
-ghost use Rattle.tw_skiplist.specs.Records.{FindsBadPage, FindsBadPageVia, FindsInfo, FindsPath, FindsProof, head_ref};
+ghost use Rattle.tw_skiplist.specs.Records.{FindsBadPage, FindsBadPageOfPath, FindsBadPageVia, FindsInfo, FindsPath, FindsProof, head_ref};
 
 use crate::collecting::{Collected, collect, collect_proof, find_info};
 use crate::event_pages::{StreamRead, read_events, read_stream};
@@ -75,8 +75,9 @@ pub fn step<P: Pages, H: Hasher>(
 /// told its links are the records of those that the way from n to i follows.
 ///
 /// NoStep exactly where i <= n <= the head's step doesn't hold; i may be 0. Where the pages are told,
-/// BadPage tells the first page of the way that isn't the page of its step; it never comes where they
-/// keep a history under the head.
+/// BadPage tells the first page that isn't the page of its step, of the steps above n on the way from
+/// the head to n and of those above i from there on: the page of i isn't asked for. It never comes
+/// where the pages keep a history under the head.
 pub fn path<P: Pages, H: Hasher>(
     alloc: Global,
     pages: &mut P,
@@ -91,7 +92,7 @@ pub fn path<P: Pages, H: Hasher>(
     ensures found { IfOk result (λ _. (ps : Image) → P.list pages.old ≡ Some ps →
         (last : StepRef) × WalksVia (H.dig empty_tree_text) ps (head_ref head.now) head.now.step n i last) }
     ensures recorded { IfOk result (λ path. (ps : Image) → P.list pages.old ≡ Some ps → FindsPath H.dig ps head.now n i path.links) }
-    ensures bad { IfBadPage result (λ p. (ps : Image) → P.list pages.old ≡ Some ps → FindsBadPageVia H.dig ps head.now n i p) }
+    ensures bad { IfBadPage result (λ p. (ps : Image) → P.list pages.old ≡ Some ps → FindsBadPageOfPath H.dig ps head.now n i p) }
     ensures good { IfBadPage result (λ _. (ps : Image) (h : History) → P.list pages.old ≡ Some ps → Keeps H.dig ps h head.now → ⊥) }
     ensures no_step { NoStepUnless result head.now.step ((i ≤ n) × (n ≤ head.now.step)) }
     ensures kept { OnlyReads P.used_count P.list P.same P.unbroken pages.old pages.new (NotDiskFault result) }

@@ -373,6 +373,25 @@ fn a_link_to_page_1_to_3_is_met_there(rt: HostRuntime) -> Result<(), Fail> {
     Ok(())
 }
 
+// A path reads the pages of the steps above its lower one. Of step 4 the link at place 187 leads to step 3.
+#[test]
+fn a_path_does_not_read_its_lower_step(rt: HostRuntime) -> Result<(), Fail> {
+    let mut pages = MemPages::new(rt.alloc())?;
+    let mut head = four_steps(rt.alloc(), &mut pages)?;
+    let last = head.page;
+    head.page = with_number(&mut pages, last, 187, 1)?;
+    assert_eq!(rt; path_length(rt.alloc(), &mut pages, &head, 4, 3)?, 1);
+    assert_eq!(rt; path_length(rt.alloc(), &mut pages, &head, 3, 3)?, 0);
+    if head.step >= 1 << 40 {
+        return Err("too many steps")?;
+    }
+    match path::<MemPages, Sha>(rt.alloc(), &mut pages, &head, 3, 2) {
+        Ok(_) => return Err("a path")?,
+        Err(fault) => assert_eq!(rt; fault, ListFault::BadPage { page: 1 }),
+    }
+    Ok(())
+}
+
 // The first event page stands at place 18. Step 4 has events, step 3 has none.
 #[test]
 fn a_first_event_page_is_0_exactly_for_no_bytes(rt: HostRuntime) -> Result<(), Fail> {

@@ -5,7 +5,7 @@ ghost use Rattle.tw_disk.specs.Image.{Image};
 ghost use Rattle.tw_disk.specs.Pages.{OnlyReads};
 ghost use Rattle.tw_base.specs.Levels.{top_level};
 ghost use Rattle.tw_skiplist.specs.Answers.{FaultsRise, IfBadPage, NeverNoStep, NotDiskFault};
-ghost use Rattle.tw_skiplist.specs.Reading.{HasLink, IsNoStepAt, IsStepAt, MeetsBadPage, Walks, link_of};
+ghost use Rattle.tw_skiplist.specs.Reading.{HasLink, IsNoStepAt, IsStepAt, MeetsBadPageAbove, Walks, link_of};
 
 use crate::fault::ListFault;
 use crate::head::StepRef;
@@ -77,7 +77,7 @@ pub(crate) fn descend<P: Pages>(
     requires below { to ≤ from }
     requires step { from < 2 ^ 40 }
     ensures walks { IfOk result (λ link. (ps : Image) → P.list pages.old ≡ Some ps → Walks empty.now ps first.now from to link to) }
-    ensures bad { IfBadPage result (λ p. (ps : Image) → P.list pages.old ≡ Some ps → MeetsBadPage empty.now ps first.now from to p) }
+    ensures bad { IfBadPage result (λ p. (ps : Image) → P.list pages.old ≡ Some ps → MeetsBadPageAbove empty.now ps first.now from to p) }
     ensures no_step { NeverNoStep result }
     ensures kept { OnlyReads P.used_count P.list P.same P.unbroken pages.old pages.new (NotDiskFault result) }
     ensures faults { FaultsRise (P.faults pages.old) (P.faults pages.new) result }

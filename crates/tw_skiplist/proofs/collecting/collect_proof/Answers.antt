@@ -1,8 +1,17 @@
 use Rattle.std.proofs.Common.{◌≡◌, ◌∙◌, Some}
 use Rattle.tw_disk.specs.Image.{Image}
-use Rattle.tw_skiplist.specs.Reading.{IsNoStepAt, MeetsBadPage}
-use Rattle.tw_skiplist.proofs.BadPages.{bad_page_on}
+use Rattle.tw_skiplist.specs.Reading.{IsNoStepAt, MeetsBadPage, MeetsBadPageAbove}
+use Rattle.tw_skiplist.proofs.BadPages.{bad_page_on, met_above}
 use Rattle.tw_skiplist.proofs.collecting.collect_proof.Goals as goal
+
+pub returns-in-Err-clause-bad : goal.returns-in-Err-clause-bad
+returns-in-Err-clause-bad g c =
+    let list = g.P.Pages.list in
+    bad_page_on c.in-Err.fault
+    (λ p. (ps : Image) → list c.args.pages.now ≡ Some ps → MeetsBadPageAbove c.args.empty.now ps c.args.first.now c.args.from c.args.to p)
+    (λ p. (ps : Image) → list c.args.pages.now ≡ Some ps → MeetsBadPage c.args.empty.now ps c.args.first.now c.args.from c.args.to p)
+    (λ p met ps told. met_above c.args.empty.now ps c.args.first.now c.args.from c.args.to p (met ps told))
+    c.in-Err.ensures.bad
 
 pub returns-in-Err-read_info-clause-bad : goal.returns-in-Err-read_info-clause-bad
 returns-in-Err-read_info-clause-bad g c =

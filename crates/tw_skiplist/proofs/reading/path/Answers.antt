@@ -4,9 +4,9 @@ use Rattle.tw_skipproof.proofs.Greedy.{few_links}
 use Rattle.tw_base.specs.History.{History}
 use Rattle.tw_skiplist.specs.declared.head.StepRef.{StepRef}
 use Rattle.tw_skiplist.specs.Keeping.{Keeps}
-use Rattle.tw_skiplist.specs.Reading.{MeetsBadPage, WalksVia}
+use Rattle.tw_skiplist.specs.Reading.{MeetsBadPageAbove, WalksVia}
 use Rattle.tw_skiplist.specs.Records.{head_ref}
-use Rattle.tw_skiplist.proofs.BadPages.{bad_page_on}
+use Rattle.tw_skiplist.proofs.BadPages.{bad_page_on, met_above}
 use Rattle.tw_skiplist.proofs.Finding.{found_path, meets_none, meets_none_further, middle_is, top_within}
 use Rattle.tw_skiplist.proofs.reading.path.Goals as goal
 
@@ -16,10 +16,10 @@ returns-in-Err-clause-good g c =
     let head = c.args.head.now in
     let below : c.args.n ≤ head.step = omega (arith, c.if-n-last.false) in
     bad_page_on c.in-Err.fault
-    (λ p. (ps : Image) → list c.args.pages.now ≡ Some ps → MeetsBadPage c.empty_tree-empty.result ps c.link_to_head.result head.step c.args.n p)
+    (λ p. (ps : Image) → list c.args.pages.now ≡ Some ps → MeetsBadPageAbove c.empty_tree-empty.result ps c.link_to_head.result head.step c.args.n p)
     (λ _. (ps : Image) (h : History) → list c.args.pages.now ≡ Some ps → Keeps g.H.Hasher.dig ps h head → ⊥)
     (λ p at ps h told keeps. meets_none g.H.Hasher.dig g.met.H.Hasher.size ps h head keeps c.empty_tree-empty.result c.link_to_head.result c.empty_tree-empty.ensures c.link_to_head.ensures
-    c.args.n p below (at ps told))
+    c.args.n p below (met_above c.empty_tree-empty.result ps c.link_to_head.result head.step c.args.n p (at ps told)))
     c.in-Err.ensures.bad
 
 pub returns-in-Err-collect-clause-good : goal.returns-in-Err-collect-clause-good
@@ -29,10 +29,11 @@ returns-in-Err-collect-clause-good g c =
     let below : c.args.n ≤ head.step = omega (arith, c.if-n-last.false) in
     let lower : c.args.i ≤ c.args.n = omega (arith, c.if-i-n.false) in
     bad_page_on c.in-Err-collect.fault
-    (λ p. (ps : Image) → list c.descend.new.pages ≡ Some ps → MeetsBadPage c.empty_tree-empty.result ps c.in-Ok.link c.args.n c.args.i p)
+    (λ p. (ps : Image) → list c.descend.new.pages ≡ Some ps → MeetsBadPageAbove c.empty_tree-empty.result ps c.in-Ok.link c.args.n c.args.i p)
     (λ _. (ps : Image) (h : History) → list c.args.pages.now ≡ Some ps → Keeps g.H.Hasher.dig ps h head → ⊥)
     (λ p at ps h told keeps. meets_none_further g.H.Hasher.dig g.met.H.Hasher.size ps h head keeps c.empty_tree-empty.result c.link_to_head.result c.empty_tree-empty.ensures c.link_to_head.ensures
-    c.args.n c.in-Ok.link below (c.in-Ok.ensures.walks ps told) c.args.i p lower (at ps (c.in-Ok.ensures.kept.list_kept ∙ told)))
+    c.args.n c.in-Ok.link below (c.in-Ok.ensures.walks ps told) c.args.i p lower
+    (met_above c.empty_tree-empty.result ps c.in-Ok.link c.args.n c.args.i p (at ps (c.in-Ok.ensures.kept.list_kept ∙ told))))
     c.in-Err-collect.ensures.bad
 
 pub returns-in-Ok-collect-clause-path : goal.returns-in-Ok-collect-clause-path

@@ -3,8 +3,9 @@ use Rattle.tw_disk.specs.Image.{Image}
 use Rattle.tw_skipproof.proofs.Greedy.{few_links}
 use Rattle.tw_base.specs.History.{History}
 use Rattle.tw_skiplist.specs.Keeping.{Keeps}
-use Rattle.tw_skiplist.specs.Reading.{MeetsBadPage}
-use Rattle.tw_skiplist.proofs.BadPages.{bad_page_on}
+use Rattle.tw_skiplist.specs.Reading.{MeetsBadPage, MeetsBadPageAbove}
+use Rattle.tw_skiplist.specs.Records.{FindsBadPageVia}
+use Rattle.tw_skiplist.proofs.BadPages.{bad_page_on, met_above, met_on_the_way}
 use Rattle.tw_skiplist.proofs.Finding.{found_path, meets_none, meets_none_further, middle_is, tells_info_further, top_within}
 use Rattle.tw_skiplist.proofs.reading.prove.Goals as goal
 
@@ -14,10 +15,21 @@ returns-in-Err-clause-good g c =
     let head = c.args.head.now in
     let below : c.args.top ≤ head.step = omega (arith, c.if-top-last.false) in
     bad_page_on c.in-Err.fault
-    (λ p. (ps : Image) → list c.args.pages.now ≡ Some ps → MeetsBadPage c.empty_tree-empty.result ps c.link_to_head.result head.step c.args.top p)
+    (λ p. (ps : Image) → list c.args.pages.now ≡ Some ps → MeetsBadPageAbove c.empty_tree-empty.result ps c.link_to_head.result head.step c.args.top p)
     (λ _. (ps : Image) (h : History) → list c.args.pages.now ≡ Some ps → Keeps g.H.Hasher.dig ps h head → ⊥)
     (λ p at ps h told keeps. meets_none g.H.Hasher.dig g.met.H.Hasher.size ps h head keeps c.empty_tree-empty.result c.link_to_head.result c.empty_tree-empty.ensures c.link_to_head.ensures
-    c.args.top p below (at ps told))
+    c.args.top p below (met_above c.empty_tree-empty.result ps c.link_to_head.result head.step c.args.top p (at ps told)))
+    c.in-Err.ensures.bad
+
+pub returns-in-Err-clause-bad : goal.returns-in-Err-clause-bad
+returns-in-Err-clause-bad g c =
+    let list = g.P.Pages.list in
+    let dig = g.H.Hasher.dig in
+    let head = c.args.head.now in
+    bad_page_on c.in-Err.fault
+    (λ p. (ps : Image) → list c.args.pages.now ≡ Some ps → MeetsBadPageAbove c.empty_tree-empty.result ps c.link_to_head.result head.step c.args.top p)
+    (λ p. (ps : Image) → list c.args.pages.now ≡ Some ps → FindsBadPageVia dig ps head c.args.top c.args.i p)
+    (λ p met ps told. met_on_the_way dig ps head c.args.top c.args.i c.empty_tree-empty.result c.link_to_head.result c.empty_tree-empty.ensures c.link_to_head.ensures p (met ps told))
     c.in-Err.ensures.bad
 
 pub returns-in-Err-collect_proof-clause-good : goal.returns-in-Err-collect_proof-clause-good
