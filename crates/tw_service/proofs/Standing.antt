@@ -22,6 +22,11 @@ module _ (dig : List ℕ → List ℕ) where
       let keeps = subst (λ (hd : Head). Keeps dig t.opening.pages h hd) heads.1 (subst (λ (o : Opening). Keeps dig o.pages h s.head) same s.keeps) in
       keeps_one dig size t.opening.pages h g t.head keeps t.keeps (s.named ∙ heads.0 ∙ sym t.named)
 
+  pub opens_one_head : ((text : List ℕ) → length (dig text) ≡ 32) → (image : Image) (name other : List ℕ) (head g : Head) → OpensFor dig image name head → OpensFor dig image other g → (name ≡ other) × (head ≡ g)
+  opens_one_head size image name other head g one two =
+      let root = subst (λ (o : Opening). HasRoot dig o name head) (opens_once one.0 two.0 image one.1 two.1) one.2 in
+      root_once dig size (used_of two.0) two.0.generation two.1.stands.body.used_fits two.0.root name other head g root.bytes root.allowed two.2.bytes two.2.allowed
+
   pub stands_events : (image : Image) (name : List ℕ) (h : History) → StandsFor dig image name h → HasEventsOnly h
   stands_events image name h s = λ k within. (s.keeps.keeps.steps k within).events_only
 

@@ -13,10 +13,11 @@ ghost use Rattle.tw_service.specs.Stands.{IsNotOpenedFor, OpensFor, StandsFor};
 use tw_base::Hasher;
 
 /// An image stands for at most one history, which is sound and whose steps are all steps of events;
-/// and an image that stands for a history, or only opens as a store with the root record of a service,
-/// is never refused.
+/// it opens with the root record of one name and head at most; and an image that stands for a history,
+/// or only opens as a store with the root record of a service, is never refused.
 pub fn standing_laws<H: Hasher>()
     ensures once { (image : Image) (one other : List ℕ) (h g : History) → StandsFor H.dig image one h → StandsFor H.dig image other g → h ≡ g }
+    ensures one_head { (image : Image) (name other : List ℕ) (head g : Head) → OpensFor H.dig image name head → OpensFor H.dig image other g → (name ≡ other) × (head ≡ g) }
     ensures sound { (image : Image) (name : List ℕ) (h : History) → StandsFor H.dig image name h → IsSound h × (h.name ≡ name) × HasEventsOnly h }
     ensures never_refused { (image : Image) (name : List ℕ) (h : History) (fault : StoreFault) → StandsFor H.dig image name h → IsNotOpenedFor H.dig image fault → ⊥ }
     ensures opened { (image : Image) (name : List ℕ) (head : Head) (fault : StoreFault) → OpensFor H.dig image name head → IsNotOpenedFor H.dig image fault → ⊥ }

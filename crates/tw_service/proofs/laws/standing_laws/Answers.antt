@@ -1,8 +1,11 @@
-use Rattle.tw_service.proofs.Standing.{opens_never_refused, stands_events, stands_once, stands_opened}
+use Rattle.tw_service.proofs.Standing.{opens_never_refused, opens_one_head, stands_events, stands_once, stands_opened}
 use Rattle.tw_service.proofs.laws.standing_laws.Goals as goal
 
 pub returns-clause-once : goal.returns-clause-once
 returns-clause-once g c = stands_once g.H.Hasher.dig g.met.H.Hasher.size
+
+pub returns-clause-one_head : goal.returns-clause-one_head
+returns-clause-one_head g c = opens_one_head g.H.Hasher.dig g.met.H.Hasher.size
 
 pub returns-clause-sound : goal.returns-clause-sound
 returns-clause-sound g c = λ image name h s. (s.sound, s.named, stands_events g.H.Hasher.dig image name h s)
