@@ -1,4 +1,4 @@
-use Rattle.std.proofs.Common.{sym, subst}
+use Rattle.std.proofs.Common.{◌∙◌, sym, subst}
 use Rattle.tw_service.specs.Stands.{no_history}
 use Rattle.tw_app.specs.Disks.{MayBegin}
 use Rattle.tw_app.proofs.AtRest.{held_keeps, own_rest}
@@ -30,3 +30,4 @@ returns-in-Err-clause-leaves g c = λ told dir.
     unmade_leaves d.content d.may_leave d.moment d.left_since c.args.disk c.in-Err.disk c.args.name c.in-Err.fault
     c.outcome_of_store.result c.outcome_of_store.ensures c.in-Err.ensures.answers c.in-Err.ensures.unchanged c.in-Err.ensures.any_moment_err
     (held_keeps d.content d.may_leave d.moment d.left_since g.met.D.Disk.as_it_reads c.args.disk c.in-Err.disk c.in-Err.ensures.held)
+    (λ image told_image taken. let held = c.in-Err.ensures.held image told_image taken in (held.0 ∙ sym told_image, held.1))
