@@ -3,18 +3,19 @@ use Rattle.std.proofs.Common.{◌≡◌, ◌∙◌, ◌≤◌, ◌<◌, ℕ, Lis
 use Rattle.std.proofs.lemmas.Bool.{cases_eq}
 use Rattle.std.specs.Prelude.{Option, Some}
 use Rattle.sha2.specs.Sha256.{sha256}
-use Rattle.tw_base.specs.History.{History}
-use Rattle.tw_disk.specs.Disk.{IsAtRest, LeavesOnly}
+use Rattle.tw_base.specs.History.{History, plus}
+use Rattle.tw_disk.specs.Disk.{IsAtRest, LeavesOnly, Reads}
 use Rattle.tw_disk.specs.Image.{Image}
 use Rattle.tw_disk.specs.Moments.{goes_on, leaves_weaker, no_call}
 use Rattle.tw_outside.specs.Faults.{Rose}
 use Rattle.tw_pages.specs.Slots.{IsOpen, IsTaken}
+use Rattle.tw_skiplist.specs.Keeping.{event_step}
 use Rattle.tw_service.specs.declared.service.Service.{Service}
 use Rattle.tw_service.specs.Serves.{HasSameDisk, disk_of}
-use Rattle.tw_service.specs.Stands.{StandsFor, StandsForOneOf}
+use Rattle.tw_service.specs.Stands.{IsBlankOrNew, StandsFor, StandsForOneOf, no_history}
 use Rattle.tw_app.specs.declared.outcome.Outcome.{Outcome}
 use Rattle.tw_app.specs.declared.outcome.Outcome.TheVariants.{Judged, Shown, Made, Refused, Unserved, Unreadable, BadWords, InputFault, DiskFault, NoMemory}
-use Rattle.tw_app.specs.Disks.{IsLeft, IsOf, Keeps, LeavesOldOrOneOf, ReadsAs, Rests, Stands}
+use Rattle.tw_app.specs.Disks.{IsLeft, IsOf, IsOldOrBegun, Keeps, LeavesOldOrOneOf, MayBegin, ReadsAs, ReadsAsOneOf, Rests, Stands}
 use Rattle.tw_app.specs.Stepping.{LeavesStep}
 
 -- a history that an image stands for has its own name
@@ -70,6 +71,22 @@ module _ {D : Type 0} (content : D → Option Image) (may_leave : D → Image �
     pub reads_as : (d : D) (h : History) → Stands content may_leave moment left_since d h → ReadsAs (content d) h
     reads_as d h stands = record { image = stands.image; told = stands.told; stands = content_stands d h stands }
 
+    -- a disk that rests with the longer history, or with a new one, reads as it
+    pub rests_reads : (d : D) (events : List (List ℕ)) (h : History) → Rests content may_leave moment left_since d (plus h (event_step events))
+        → ReadsAsOneOf content may_leave moment left_since events d h
+    rests_reads d events h rests = record { image = rests.stands.image; told = rests.stands.told; has = inr (content_stands d (plus h (event_step events)) rests.stands) }
+
+    pub rests_begun : (old d : D) (name : List ℕ) → Rests content may_leave moment left_since d (no_history name)
+        → Reads content d (IsOldOrBegun content may_leave moment left_since name old)
+    rests_begun old d name rests = record { image = rests.stands.image; told = rests.stands.told; has = inr (inr (content_stands d (no_history name) rests.stands)) }
+
+    -- what is left as it was might have begun
+    pub left_begins : (old new : D) (name : List ℕ) → IsLeft content may_leave moment left_since old new → MayBegin content may_leave moment left_since name old new
+    left_begins old new name left = λ image told. (
+      leaves_weaker moment may_leave left_since old new (may_leave old) (IsOldOrBegun content may_leave moment left_since name old) (λ i was. inl was) left.1,
+      record { image = image; told = left.0 ∙ told; has = inl (as_it_reads old image told) },
+    )
+
     pub has_store : (d : D) (h : History) (stands : Stands content may_leave moment left_since d h) → IsTaken stands.image
     has_store d h stands = stands_taken h stands.image (content_stands d h stands)
 
@@ -124,6 +141,10 @@ module _ {D : Type 0} (content : D → Option Image) (may_leave : D → Image �
       leaves_weaker moment may_leave left_since old new (StandsForOneOf sha256 name h events) (OldOrOneOf old events h)
       (λ image one. inr (own_names name h events image named one)) left
 
+  pub named_reads : (d : D) (name : List ℕ) (events : List (List ℕ)) (h : History) → h.name ≡ name
+      → Reads content d (StandsForOneOf sha256 name h events) → ReadsAsOneOf content may_leave moment left_since events d h
+  named_reads d name events h named reads = record { image = reads.image; told = reads.told; has = own_names name h events reads.image named reads.has }
+
   -- of a disk that stood for the history for good, what was left before stands for it
   pub one_of : (old new : D) (events : List (List ℕ)) (h : History) → Stands content may_leave moment left_since old h
       → LeavesOldOrOneOf content may_leave moment left_since events old new h → LeavesOnly moment may_leave left_since old new (StandsForOneOf sha256 h.name h events)
@@ -144,7 +165,7 @@ module _ {D : Type 0} (content : D → Option Image) (may_leave : D → Image �
 
       by : (outcome : Outcome) → LeavesStep content may_leave moment left_since mid new events h outcome → LeavesStep content may_leave moment left_since old new events h outcome
       by (Made thread) left = (left.0, joined left.1)
-      by DiskFault left = joined left
+      by DiskFault left = (joined left.0, left.1)
       by (Judged verdict) left = left
       by (Shown proof) left = left
       by (Refused refusal) left = left

@@ -5,12 +5,10 @@ use Rattle.tw_base.specs.declared.thread.Thread.{Thread}
 use Rattle.tw_base.specs.History.{History}
 use Rattle.tw_disk.specs.Image.{Image}
 use Rattle.sha2.specs.Sha256.{sha256}
-use Rattle.tw_disk.specs.Moments.{leaves_weaker}
 use Rattle.tw_outside.specs.Files.{Files}
 use Rattle.tw_pages.specs.declared.open.StoreFault.TheVariants as fault
 use Rattle.tw_skiplist.specs.declared.head.Head.{Head}
 use Rattle.tw_service.proofs.Standing.{stands_opened}
-use Rattle.tw_service.specs.Stands.{IsBlankOrNew}
 use Rattle.tw_text.specs.CommandLine.{command_of}
 use Rattle.tw_text.specs.declared.command.Command.{Command}
 use Rattle.tw_text.specs.declared.command.Command.TheVariants.{Append, Init, ProveEvent}
@@ -29,7 +27,7 @@ use Rattle.tw_app.specs.Outcomes.{status_of}
 use Rattle.tw_app.specs.Running.{CantServe, ComesTo, Ends, EndsWith, HasOutcome, HaveNoForm, ReachesDisk}
 use Rattle.tw_app.specs.Proving.{MeetsBadPage}
 use Rattle.tw_app.specs.Statuses.{AskForDisk, AskForProof, AskForService, AskForStep}
-use Rattle.tw_app.proofs.AtRest.{free_keeps, left_keeps, untouched_left}
+use Rattle.tw_app.proofs.AtRest.{free_keeps, left_begins, left_keeps, rests_reads, untouched_left}
 use Rattle.tw_app.proofs.Landings.{proof_left}
 use Rattle.tw_app.proofs.Endings.{Ended, judging_is_verify, making_is, not_show_make, not_verify_make, not_verify_show, of_command, of_option, of_words, outcome_is, showing_is}
 
@@ -268,7 +266,7 @@ module _ {D : Type 0} (content : D → Option Image) (may_leave : D → Image �
     where
       wider : IsLeft content may_leave moment left_since old new → InitSafe name
       wider left = (
-        λ image told_image. leaves_weaker moment may_leave left_since old new (may_leave old) (λ i. may_leave old i ⊎ IsBlankOrNew sha256 name i) (λ i was. inl was) left.1,
+        left_begins content may_leave moment left_since as_it_reads old new name left,
         left_keeps content may_leave moment left_since old new left,
         λ image told_image taken. left,
       )
@@ -296,11 +294,14 @@ module _ {D : Type 0} (content : D → Option Image) (may_leave : D → Image �
   same_keeps is = left_keeps content may_leave moment left_since old new (same_left is)
 
   left_adds : (file : List ℕ) → IsLeft content may_leave moment left_since old new → AddsAtMost content may_leave moment left_since old new told file
-  left_adds file left = λ h. (λ reads. inl left.1, λ stands. inl ((left_keeps content may_leave moment left_since old new left h).0 stands).0)
+  left_adds file left = λ h. (λ reads. inl (left.1, record { image = reads.image; told = left.0 ∙ reads.told; stands = reads.stands }), λ stands. inl ((left_keeps content may_leave moment left_since old new left h).0 stands).0)
 
   append_safe : (file : List ℕ) (outcome : Outcome) → AppendLeaves content may_leave moment left_since old new told file outcome
       → AddsAtMost content may_leave moment left_since old new told file
-  append_safe file (Made thread) left = λ h. (λ reads. inr (left.0, left.1, ((left.2.1 h).0 reads).1), λ stands. inr (left.0, left.1, (left.2.1 h).1 stands))
+  append_safe file (Made thread) left = λ h. (
+    λ reads. let adds = (left.2.1 h).0 reads in inr (left.0, left.1, (adds.1, rests_reads content may_leave moment left_since as_it_reads new left.0 h adds.0)),
+    λ stands. inr (left.0, left.1, (left.2.1 h).1 stands),
+  )
   append_safe file DiskFault left = λ h. (λ reads. inr (left.0, left.1, (left.2 h).0 reads), λ stands. inr (left.0, left.1, (left.2 h).1 stands))
   append_safe file (Judged verdict) left = left_adds file left
   append_safe file (Shown proof) left = left_adds file left

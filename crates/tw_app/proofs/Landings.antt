@@ -90,11 +90,12 @@ module _ (told : Option Files) (before after : ℕ) (found : Option Image) (disk
 module _ {D : Type 0} (content : D → Option Image) (may_leave : D → Image → Type 0) (moment : D → ℕ) (left_since : D → ℕ → Image → Type 0) where
   module _ (old new : D) where
     -- a disk that reads as a history isn't opened only where it failed
-    pub unopened_leaves : (events : List (List ℕ)) (h : History) (f : StoreFault) (came : Outcome) → came ≡ outcome_of_store f → f ≡ store.DiskFault
+    pub unopened_leaves : (events : List (List ℕ)) (h : History) → ReadsAs (content old) h → content new ≡ content old
+        → (f : StoreFault) (came : Outcome) → came ≡ outcome_of_store f → f ≡ store.DiskFault
         → LeavesOnly moment may_leave left_since old new (may_leave old) → LeavesStep content may_leave moment left_since old new events h came
-    unopened_leaves events h f came is fault left =
+    unopened_leaves events h reads same f came is fault left =
         subst (LeavesStep content may_leave moment left_since old new events h) (sym (is ∙ ap outcome_of_store fault))
-        (old_or_one content may_leave moment left_since old new events h left)
+        (old_or_one content may_leave moment left_since old new events h left, record { image = reads.image; told = same ∙ reads.told; has = inl reads.stands })
 
     pub leaves_of_step : (as_it_reads : (d : D) (image : Image) → content d ≡ Some image → may_leave d image) → (told : Option Files) (before after : ℕ) (dir file : List ℕ) (events : List (List ℕ)) (came : Outcome) → AreEventsOf told file events
         → ComesToStep (content old) before after events came
@@ -107,7 +108,7 @@ module _ {D : Type 0} (content : D → Option Image) (may_leave : D → Image �
     )))
     leaves_of_step as_it_reads told before after dir file events DiskFault are comes leaves nothing = (events, are, λ h. (
       λ reads. leaves h reads,
-      λ stands. one_of content may_leave moment left_since old new events h stands (leaves h (reads_as content may_leave moment left_since as_it_reads old h stands)),
+      λ stands. one_of content may_leave moment left_since old new events h stands (leaves h (reads_as content may_leave moment left_since as_it_reads old h stands)).0,
     ))
     leaves_of_step as_it_reads told before after dir file events (Refused refusal) are comes leaves nothing = (nothing tt, λ h reads. leaves h reads)
     leaves_of_step as_it_reads told before after dir file events (Unserved cause) are comes leaves nothing = nothing tt

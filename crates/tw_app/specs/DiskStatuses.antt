@@ -15,7 +15,7 @@ use Rattle.tw_text.specs.declared.command.Command.{Command}
 use Rattle.tw_text.specs.declared.command.Command.TheVariants.{Init, Append, ProveEvent}
 use Rattle.tw_app.specs.declared.outcome.StoreCause.{StoreCause}
 use Rattle.tw_app.specs.Appending.{AddsStep, AreEventsOf, OfEvents}
-use Rattle.tw_app.specs.Disks.{Adds, Begins, IsOf, Keeps, LeavesOldOrOneOf, MayBegin, ReadsAs, SparesStore, Stands}
+use Rattle.tw_app.specs.Disks.{Adds, Begins, IsOf, Keeps, LeavesOldOrOneOf, MayBegin, ReadsAs, ReadsAsOneOf, SparesStore, Stands}
 use Rattle.tw_app.specs.Making.{MakesService}
 use Rattle.tw_app.specs.Outcomes.{store_text}
 use Rattle.tw_app.specs.Proving.{Proves}
@@ -76,11 +76,12 @@ module _ {D : Type 0} (content : D → Option Image) (may_leave : D → Image �
     pub written : Appends taken_before taken_after (anchor_text thread)
 
   -- of a history that the disk read as, each image since is one that a crash might have left before, or, where the file has events,
-  -- stands for it or for it with a step of them; of a history that it stood for for good, each stands for it, or for one of the two
+  -- stands for it or for it with a step of them; the content is told still, and stands for it, or for one of the two; of a history that
+  -- it stood for for good, each image stands for it, or for one of the two
   abbrev pub AddsAtMost : (told : Option Files) (file : List ℕ) → Type 0
   AddsAtMost told file = (h : History) →
-      (ReadsAs (content old) h → LeavesOnly moment may_leave left_since old new (may_leave old)
-      ⊎ OfEvents told file (λ events. LeavesOldOrOneOf content may_leave moment left_since events old new h))
+      (ReadsAs (content old) h → (LeavesOnly moment may_leave left_since old new (may_leave old) × ReadsAs (content new) h)
+      ⊎ OfEvents told file (λ events. LeavesOldOrOneOf content may_leave moment left_since events old new h × ReadsAsOneOf content may_leave moment left_since events new h))
       × (Stands content may_leave moment left_since old h → LeavesOnly moment may_leave left_since old new (IsOf h)
       ⊎ OfEvents told file (λ events. LeavesOnly moment may_leave left_since old new (StandsForOneOf sha256 h.name h events)))
 

@@ -7,7 +7,7 @@ use Rattle.tw_skiplist.specs.Keeping.{event_step}
 use Rattle.tw_app.specs.declared.outcome.Outcome.{Outcome}
 use Rattle.tw_app.specs.declared.outcome.Outcome.TheVariants.{Made, Shown, Refused, Unserved, Unreadable, InputFault, DiskFault, NoMemory}
 use Rattle.tw_app.specs.Appending.{AddsStep, MeetsBadLink, RefusesAs}
-use Rattle.tw_app.specs.Disks.{IsUnserved, LeavesOldOrOneOf, Rests}
+use Rattle.tw_app.specs.Disks.{IsUnserved, LeavesOldOrOneOf, ReadsAsOneOf, Rests}
 use Rattle.tw_app.specs.Proving.{MeetsBadPage, Proves, RefusesProof}
 
 -- a command stops before the disk is touched
@@ -46,5 +46,5 @@ module _ {D : Type 0} (content : D → Option Image) (may_leave : D → Image �
   abbrev pub LeavesStep : (events : List (List ℕ)) → History → Outcome → Type 0
   LeavesStep events h (Made thread) =
       Rests content may_leave moment left_since new (plus h (event_step events)) × LeavesOldOrOneOf content may_leave moment left_since events old new h
-  LeavesStep events h DiskFault = LeavesOldOrOneOf content may_leave moment left_since events old new h
+  LeavesStep events h DiskFault = LeavesOldOrOneOf content may_leave moment left_since events old new h × ReadsAsOneOf content may_leave moment left_since events new h
   LeavesStep events h _ = Rests content may_leave moment left_since new h

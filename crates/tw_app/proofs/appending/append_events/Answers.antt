@@ -23,7 +23,7 @@ returns-in-Err-clause-comes g c =
 pub returns-in-Err-clause-leaves : goal.returns-in-Err-clause-leaves
 returns-in-Err-clause-leaves g c = λ h reads.
     let d = g.D.Disk in
-    unopened_leaves d.content d.may_leave d.moment d.left_since c.args.disk c.in-Err.disk c.args.events.now h c.in-Err.fault c.outcome_of_store.result c.outcome_of_store.ensures
+    unopened_leaves d.content d.may_leave d.moment d.left_since c.args.disk c.in-Err.disk c.args.events.now h reads c.in-Err.ensures.unchanged c.in-Err.fault c.outcome_of_store.result c.outcome_of_store.ensures
     (c.in-Err.ensures.served reads.image h.name h reads.told reads.stands) c.in-Err.ensures.any_moment_err
 
 pub returns-in-Ok-clause-unwritten : goal.returns-in-Ok-clause-unwritten

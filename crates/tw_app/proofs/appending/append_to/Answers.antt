@@ -4,8 +4,8 @@ use Rattle.tw_base.specs.History.{plus}
 use Rattle.tw_skiplist.specs.Keeping.{event_step}
 use Rattle.tw_outside.specs.Faults.{Rose}
 use Rattle.tw_service.specs.Serves.{Serves, disk_of, pages_of}
-use Rattle.tw_app.specs.Disks.{IsLeft, LeavesOldOrOneOf}
-use Rattle.tw_app.proofs.AtRest.{named_one_of, own_rest, rose_since, same_left}
+use Rattle.tw_app.specs.Disks.{IsLeft, LeavesOldOrOneOf, ReadsAsOneOf}
+use Rattle.tw_app.proofs.AtRest.{named_one_of, named_reads, own_rest, rose_since, same_left}
 use Rattle.tw_app.proofs.Steps.{step_done, step_leaves, step_refused, step_unwritten}
 use Rattle.tw_app.proofs.appending.append_to.Goals as goal
 
@@ -46,8 +46,12 @@ returns-in-Err-clause-leaves g c = λ h served.
     let new = c.append.new.self in
     let events = c.args.events.now in
     step_leaves d.content d.may_leave d.moment d.left_since (disk_of old) c.close-in-Err.result events h c.in-Err.refusal c.outcome_of_refusal.result c.outcome_of_refusal.ensures
-    (subst (λ disk. LeavesOldOrOneOf d.content d.may_leave d.moment d.left_since events (disk_of old) disk h) (sym c.close-in-Err.ensures.disk)
-    (named_one_of d.content d.may_leave d.moment d.left_since (disk_of old) (disk_of new) old.name events h served.has.named (c.in-Err.ensures.any_moment h served)))
+    (subst
+    (λ disk. LeavesOldOrOneOf d.content d.may_leave d.moment d.left_since events (disk_of old) disk h × ReadsAsOneOf d.content d.may_leave d.moment d.left_since events disk h)
+    (sym c.close-in-Err.ensures.disk) (
+      named_one_of d.content d.may_leave d.moment d.left_since (disk_of old) (disk_of new) old.name events h served.has.named (c.in-Err.ensures.any_moment h served),
+      named_reads d.content d.may_leave d.moment d.left_since (disk_of new) old.name events h served.has.named (c.in-Err.ensures.told h served),
+    ))
     (⊎_elim (λ is. inl is)
     (λ keeps. inr (own_rest d.content d.may_leave d.moment d.left_since c.close-in-Err.result new.name h (c.close-in-Err.ensures.stands h (keeps h served).0)))
     c.in-Err.ensures.refused)
