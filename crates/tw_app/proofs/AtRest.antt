@@ -1,20 +1,21 @@
 -- Disks that stand for a history, and runs of calls that keep it.
-use Rattle.std.proofs.Common.{◌≡◌, ◌∙◌, ◌≤◌, ◌<◌, ℕ, List, arith, refl, sym, subst, inl, inr}
+use Rattle.std.proofs.Common.{◌≡◌, ◌∙◌, ◌≤◌, ◌<◌, ℕ, List, arith, refl, sym, subst, inl, inr, ◌⊎◌, ⊎_elim}
 use Rattle.std.proofs.lemmas.Bool.{cases_eq}
 use Rattle.std.specs.Prelude.{Option, Some}
 use Rattle.sha2.specs.Sha256.{sha256}
-use Rattle.tw_base.specs.History.{History}
-use Rattle.tw_disk.specs.Disk.{IsAtRest, LeavesOnly}
+use Rattle.tw_base.specs.History.{History, plus}
+use Rattle.tw_disk.specs.Disk.{IsAtRest, LeavesOnly, Reads}
 use Rattle.tw_disk.specs.Image.{Image}
 use Rattle.tw_disk.specs.Moments.{goes_on, leaves_weaker, no_call}
 use Rattle.tw_outside.specs.Faults.{Rose}
 use Rattle.tw_pages.specs.Slots.{IsOpen, IsTaken}
+use Rattle.tw_skiplist.specs.Keeping.{event_step}
 use Rattle.tw_service.specs.declared.service.Service.{Service}
 use Rattle.tw_service.specs.Serves.{HasSameDisk, disk_of}
-use Rattle.tw_service.specs.Stands.{StandsFor, StandsForOneOf}
+use Rattle.tw_service.specs.Stands.{IsBlankOrNew, StandsFor, StandsForOneOf, no_history}
 use Rattle.tw_app.specs.declared.outcome.Outcome.{Outcome}
 use Rattle.tw_app.specs.declared.outcome.Outcome.TheVariants.{Judged, Shown, Made, Refused, Unserved, Unreadable, BadWords, InputFault, DiskFault, NoMemory}
-use Rattle.tw_app.specs.Disks.{IsLeft, IsOf, Keeps, Rests, Stands}
+use Rattle.tw_app.specs.Disks.{IsLeft, IsOf, IsOldOrBegun, Keeps, LeavesOldOrOneOf, MayBegin, ReadsAs, ReadsAsOneOf, Rests, Stands}
 use Rattle.tw_app.specs.Stepping.{LeavesStep}
 
 -- a history that an image stands for has its own name
@@ -67,6 +68,25 @@ module _ {D : Type 0} (content : D → Option Image) (may_leave : D → Image �
     pub content_stands : (d : D) (h : History) (stands : Stands content may_leave moment left_since d h) → IsOf h stands.image
     content_stands d h stands = stands.each stands.image (as_it_reads d stands.image stands.told)
 
+    pub reads_as : (d : D) (h : History) → Stands content may_leave moment left_since d h → ReadsAs (content d) h
+    reads_as d h stands = record { image = stands.image; told = stands.told; stands = content_stands d h stands }
+
+    -- a disk that rests with the longer history, or with a new one, reads as it
+    pub rests_reads : (d : D) (events : List (List ℕ)) (h : History) → Rests content may_leave moment left_since d (plus h (event_step events))
+        → ReadsAsOneOf content may_leave moment left_since events d h
+    rests_reads d events h rests = record { image = rests.stands.image; told = rests.stands.told; has = inr (content_stands d (plus h (event_step events)) rests.stands) }
+
+    pub rests_begun : (old d : D) (name : List ℕ) → Rests content may_leave moment left_since d (no_history name)
+        → Reads content d (IsOldOrBegun content may_leave moment left_since name old)
+    rests_begun old d name rests = record { image = rests.stands.image; told = rests.stands.told; has = inr (inr (content_stands d (no_history name) rests.stands)) }
+
+    -- what is left as it was might have begun
+    pub left_begins : (old new : D) (name : List ℕ) → IsLeft content may_leave moment left_since old new → MayBegin content may_leave moment left_since name old new
+    left_begins old new name left = λ image told. (
+      leaves_weaker moment may_leave left_since old new (may_leave old) (IsOldOrBegun content may_leave moment left_since name old) (λ i was. inl was) left.1,
+      record { image = image; told = left.0 ∙ told; has = inl (as_it_reads old image told) },
+    )
+
     pub has_store : (d : D) (h : History) (stands : Stands content may_leave moment left_since d h) → IsTaken stands.image
     has_store d h stands = stands_taken h stands.image (content_stands d h stands)
 
@@ -107,29 +127,53 @@ module _ {D : Type 0} (content : D → Option Image) (may_leave : D → Image �
     only = rest.only;
   }
 
-  -- a run before it that left nothing but the history
-  pub leaves_from : (old mid new : D) (events : List (List ℕ)) (h : History) (outcome : Outcome) → LeavesOnly moment may_leave left_since old mid (IsOf h)
+  -- what was left before, or stands for one of two histories
+  abbrev OldOrOneOf : D → (events : List (List ℕ)) → History → Image → Type 0
+  OldOrOneOf old events h image = may_leave old image ⊎ StandsForOneOf sha256 h.name h events image
+
+  pub old_or_one : (old new : D) (events : List (List ℕ)) (h : History) → LeavesOnly moment may_leave left_since old new (may_leave old)
+      → LeavesOldOrOneOf content may_leave moment left_since events old new h
+  old_or_one old new events h left = leaves_weaker moment may_leave left_since old new (may_leave old) (OldOrOneOf old events h) (λ image was. inl was) left
+
+  pub named_one_of : (old new : D) (name : List ℕ) (events : List (List ℕ)) (h : History) → h.name ≡ name
+      → LeavesOnly moment may_leave left_since old new (StandsForOneOf sha256 name h events) → LeavesOldOrOneOf content may_leave moment left_since events old new h
+  named_one_of old new name events h named left =
+      leaves_weaker moment may_leave left_since old new (StandsForOneOf sha256 name h events) (OldOrOneOf old events h)
+      (λ image one. inr (own_names name h events image named one)) left
+
+  pub named_reads : (d : D) (name : List ℕ) (events : List (List ℕ)) (h : History) → h.name ≡ name
+      → Reads content d (StandsForOneOf sha256 name h events) → ReadsAsOneOf content may_leave moment left_since events d h
+  named_reads d name events h named reads = record { image = reads.image; told = reads.told; has = own_names name h events reads.image named reads.has }
+
+  -- of a disk that stood for the history for good, what was left before stands for it
+  pub one_of : (old new : D) (events : List (List ℕ)) (h : History) → Stands content may_leave moment left_since old h
+      → LeavesOldOrOneOf content may_leave moment left_since events old new h → LeavesOnly moment may_leave left_since old new (StandsForOneOf sha256 h.name h events)
+  one_of old new events h stands left =
+      leaves_weaker moment may_leave left_since old new (OldOrOneOf old events h) (StandsForOneOf sha256 h.name h events)
+      (λ image. ⊎_elim (λ was. inl (stands.each image was)) (λ one. one)) left
+
+  -- a run before it that left nothing new
+  pub leaves_from : (old mid new : D) (events : List (List ℕ)) (h : History) (outcome : Outcome) → LeavesOnly moment may_leave left_since old mid (may_leave old)
       → LeavesStep content may_leave moment left_since mid new events h outcome → LeavesStep content may_leave moment left_since old new events h outcome
   leaves_from old mid new events h outcome run = by outcome
     where
-      first : LeavesOnly moment may_leave left_since old mid (StandsForOneOf sha256 h.name h events)
-      first = leaves_weaker moment may_leave left_since old mid (IsOf h) (StandsForOneOf sha256 h.name h events) (λ image is. inl is) run
-
-      joined : LeavesOnly moment may_leave left_since mid new (IsOf h) × Rests content may_leave moment left_since new h
-          → LeavesOnly moment may_leave left_since old new (IsOf h) × Rests content may_leave moment left_since new h
-      joined left = (goes_on moment may_leave left_since old mid new (IsOf h) run left.0, left.1)
+      joined : LeavesOldOrOneOf content may_leave moment left_since events mid new h → LeavesOldOrOneOf content may_leave moment left_since events old new h
+      joined left =
+          goes_on moment may_leave left_since old mid new (OldOrOneOf old events h) (old_or_one old mid events h run)
+          (leaves_weaker moment may_leave left_since mid new (OldOrOneOf mid events h) (OldOrOneOf old events h)
+          (λ image. ⊎_elim (λ was. inl (run.now image was)) (λ one. inr one)) left)
 
       by : (outcome : Outcome) → LeavesStep content may_leave moment left_since mid new events h outcome → LeavesStep content may_leave moment left_since old new events h outcome
-      by (Made thread) left = (goes_on moment may_leave left_since old mid new (StandsForOneOf sha256 h.name h events) first left.0, left.1)
-      by DiskFault left = goes_on moment may_leave left_since old mid new (StandsForOneOf sha256 h.name h events) first left
-      by (Judged verdict) left = joined left
-      by (Shown proof) left = joined left
-      by (Refused refusal) left = joined left
-      by (Unserved cause) left = joined left
-      by (Unreadable bad) left = joined left
-      by (BadWords number) left = joined left
-      by InputFault left = joined left
-      by NoMemory left = joined left
+      by (Made thread) left = (left.0, joined left.1)
+      by DiskFault left = (joined left.0, left.1)
+      by (Judged verdict) left = left
+      by (Shown proof) left = left
+      by (Refused refusal) left = left
+      by (Unserved cause) left = left
+      by (Unreadable bad) left = left
+      by (BadWords number) left = left
+      by InputFault left = left
+      by NoMemory left = left
 
 module _ {D H : Type 0} {g : _} {k : _} (content : D → Option Image) (may_leave : D → Image → Type 0) (moment : D → ℕ) (left_since : D → ℕ → Image → Type 0) where
   -- a service's call after which its disk holds and may leave the same

@@ -1,12 +1,14 @@
 -- What a run's status says by itself of a command that works on a disk, and what the run leaves of the disk.
-use Rattle.std.proofs.Common.{◌≡◌, ◌∙◌, ℕ, List, ap, sym, subst, arith, inl, inr, ◌⊎◌, refl}
+use Rattle.std.proofs.Common.{◌≡◌, ◌∙◌, ℕ, List, ap, sym, subst, arith, inl, inr, ◌⊎◌, ⊎_elim, refl}
 use Rattle.std.specs.Prelude.{Option, Some, None, MatchOption}
 use Rattle.tw_base.specs.declared.thread.Thread.{Thread}
+use Rattle.tw_base.specs.History.{History}
 use Rattle.tw_disk.specs.Image.{Image}
 use Rattle.sha2.specs.Sha256.{sha256}
-use Rattle.tw_disk.specs.Moments.{leaves_weaker}
 use Rattle.tw_outside.specs.Files.{Files}
-use Rattle.tw_service.specs.Stands.{IsBlankOrNew}
+use Rattle.tw_pages.specs.declared.open.StoreFault.TheVariants as fault
+use Rattle.tw_skiplist.specs.declared.head.Head.{Head}
+use Rattle.tw_service.proofs.Standing.{stands_opened}
 use Rattle.tw_text.specs.CommandLine.{command_of}
 use Rattle.tw_text.specs.declared.command.Command.{Command}
 use Rattle.tw_text.specs.declared.command.Command.TheVariants.{Append, Init, ProveEvent}
@@ -15,13 +17,18 @@ use Rattle.tw_chain.specs.declared.verdict.Verdict.TheVariants.{Yes, No}
 use Rattle.tw_app.specs.declared.outcome.Outcome.{Outcome}
 use Rattle.tw_app.specs.declared.outcome.Outcome.TheVariants.{Judged, Shown, Made, Refused, Unserved, Unreadable, BadWords, InputFault, DiskFault, NoMemory}
 use Rattle.tw_app.specs.Commands.{IsAppend, IsInit, IsProve, UsesDisk}
-use Rattle.tw_app.specs.Disks.{IsLeft, Keeps, MayBegin}
+use Rattle.tw_app.specs.declared.outcome.StoreCause.{StoreCause}
+use Rattle.tw_app.specs.declared.outcome.StoreCause.TheVariants as store
+use Rattle.tw_app.specs.Appending.{MeetsBadLink}
+use Rattle.tw_app.specs.Disks.{IsCause, IsLeft, Keeps, MayBegin, ReadsAs, Settles, SparesStore}
 use Rattle.tw_app.specs.DiskStatuses.{AddsAtMost, IsAppendedRun, IsCrashSafe, IsDiskFaultRun, IsMadeRun, IsProvedRun, IsUnservedRun}
 use Rattle.tw_app.specs.Leaving.{AppendLeaves, CommandLeaves, InitLeaves, Leaves}
 use Rattle.tw_app.specs.Outcomes.{status_of}
-use Rattle.tw_app.specs.Running.{ComesTo, Ends, EndsWith, HasOutcome, HaveNoForm, ReachesDisk}
+use Rattle.tw_app.specs.Running.{CantServe, ComesTo, Ends, EndsWith, HasOutcome, HaveNoForm, ReachesDisk}
+use Rattle.tw_app.specs.Proving.{MeetsBadPage}
 use Rattle.tw_app.specs.Statuses.{AskForDisk, AskForProof, AskForService, AskForStep}
-use Rattle.tw_app.proofs.AtRest.{free_keeps, left_keeps, no_call_left, untouched_left}
+use Rattle.tw_app.proofs.AtRest.{free_keeps, left_begins, left_keeps, rests_reads, untouched_left}
+use Rattle.tw_app.proofs.Landings.{proof_left}
 use Rattle.tw_app.proofs.Endings.{Ended, judging_is_verify, making_is, not_show_make, not_verify_make, not_verify_show, of_command, of_option, of_words, outcome_is, showing_is}
 
 -- the command, by what it is
@@ -234,21 +241,42 @@ module _ {D : Type 0} (content : D → Option Image) (may_leave : D → Image �
       by DiskFault has ended = absurd (omega (arith, ended.0))
       by NoMemory has ended = absurd (omega (arith, ended.0))
 
+  -- a disk that reads as one that stands for a history can serve every command
+  served_cause : (Meets : (pages : Image) → Head → (page : ℕ) → Type 0) (h : History) → (reads : ReadsAs (content old) h) → (cause : StoreCause) → IsCause Meets reads.image cause → ⊥
+  served_cause Meets h reads store.Blank is = stands_opened sha256 reads.image h.name h fault.Blank reads.stands is
+  served_cause Meets h reads (store.NotAStore slot) is = stands_opened sha256 reads.image h.name h (fault.NotAStore slot) reads.stands is
+  served_cause Meets h reads (store.BadPage page) is = is.1 h reads.stands
+
+  served_command : (h : History) → ReadsAs (content old) h → (c : Command) (cause : StoreCause) → CantServe told (content old) c cause → ⊥
+  served_command h reads (Append dir file) cause cant = served_cause (MeetsBadLink cant.0) h reads cause (cant.2 reads.image reads.told)
+  served_command h reads (ProveEvent dir step index top) cause cant = served_cause (MeetsBadPage step index top) h reads cause (cant reads.image reads.told)
+  served_command h reads _ cause cant = cant
+
+  pub complete : EndsNow → (h : History) → ReadsAs (content old) h → status ≡ 8 → ⊥
+  complete e h reads is = let run = unserved e is in served_command h reads run.command run.cause run.cant
+
   -- ---- the disk
 
-  begin_safe : (dir name : List ℕ) (outcome : Outcome) → ComesToNow (Init dir name) outcome → InitLeaves content may_leave moment left_since old new name outcome
-      → MayBegin content may_leave moment left_since name old new × Keeps content may_leave moment left_since old new
+  abbrev InitSafe : (name : List ℕ) → Type 0
+  InitSafe name =
+      MayBegin content may_leave moment left_since name old new × Keeps content may_leave moment left_since old new × SparesStore content may_leave moment left_since old new
+
+  begin_safe : (dir name : List ℕ) (outcome : Outcome) → ComesToNow (Init dir name) outcome → InitLeaves content may_leave moment left_since old new name outcome → InitSafe name
   begin_safe dir name outcome comes left = by outcome comes left
     where
-      wider : IsLeft content may_leave moment left_since old new → MayBegin content may_leave moment left_since name old new × Keeps content may_leave moment left_since old new
+      wider : IsLeft content may_leave moment left_since old new → InitSafe name
       wider left = (
-        λ image told_image. leaves_weaker moment may_leave left_since old new (may_leave old) (λ i. may_leave old i ⊎ IsBlankOrNew sha256 name i) (λ i was. inl was) left.1,
+        left_begins content may_leave moment left_since as_it_reads old new name left,
         left_keeps content may_leave moment left_since old new left,
+        λ image told_image taken. left,
       )
 
-      by : (outcome : Outcome) → ComesToNow (Init dir name) outcome → InitLeaves content may_leave moment left_since old new name outcome
-          → MayBegin content may_leave moment left_since name old new × Keeps content may_leave moment left_since old new
-      by (Made thread) comes left = (left.0, free_keeps content may_leave moment left_since as_it_reads old new comes.free)
+      by : (outcome : Outcome) → ComesToNow (Init dir name) outcome → InitLeaves content may_leave moment left_since old new name outcome → InitSafe name
+      by (Made thread) comes left = (
+        left.0,
+        free_keeps content may_leave moment left_since as_it_reads old new comes.free,
+        λ image told_image taken. absurd (comes.free image told_image taken),
+      )
       by DiskFault comes left = left
       by (Judged verdict) comes left = wider left
       by (Shown proof) comes left = wider left
@@ -259,28 +287,35 @@ module _ {D : Type 0} (content : D → Option Image) (may_leave : D → Image �
       by InputFault comes left = wider left
       by NoMemory comes left = wider left
 
+  same_left : new ≡ old → IsLeft content may_leave moment left_since old new
+  same_left is = untouched_left content may_leave moment left_since old new only_now is
+
   same_keeps : new ≡ old → Keeps content may_leave moment left_since old new
-  same_keeps is =
-      subst (λ (d : D). Keeps content may_leave moment left_since old d) (sym is)
-      (left_keeps content may_leave moment left_since old old (no_call_left content may_leave moment left_since old (only_now old)))
+  same_keeps is = left_keeps content may_leave moment left_since old new (same_left is)
+
+  left_adds : (file : List ℕ) → IsLeft content may_leave moment left_since old new → AddsAtMost content may_leave moment left_since old new told file
+  left_adds file left = λ h. (λ reads. inl (left.1, record { image = reads.image; told = left.0 ∙ reads.told; stands = reads.stands }), λ stands. inl ((left_keeps content may_leave moment left_since old new left h).0 stands).0)
 
   append_safe : (file : List ℕ) (outcome : Outcome) → AppendLeaves content may_leave moment left_since old new told file outcome
       → AddsAtMost content may_leave moment left_since old new told file
-  append_safe file (Made thread) left = λ h stands. inr (left.0, left.1, (left.2.1 h stands).0)
-  append_safe file DiskFault left = λ h stands. inr (left.0, left.1, left.2 h stands)
-  append_safe file (Judged verdict) left = λ h stands. inl ((left_keeps content may_leave moment left_since old new left h).0 stands).0
-  append_safe file (Shown proof) left = λ h stands. inl ((left_keeps content may_leave moment left_since old new left h).0 stands).0
-  append_safe file (Refused refusal) left = λ h stands. inl ((left_keeps content may_leave moment left_since old new left h).0 stands).0
-  append_safe file (Unserved cause) left = λ h stands. inl ((left_keeps content may_leave moment left_since old new left h).0 stands).0
-  append_safe file (Unreadable bad) left = λ h stands. inl ((same_keeps left h).0 stands).0
-  append_safe file (BadWords number) left = λ h stands. inl ((left_keeps content may_leave moment left_since old new left h).0 stands).0
-  append_safe file InputFault left = λ h stands. inl ((same_keeps left h).0 stands).0
-  append_safe file NoMemory left = λ h stands. inl ((left_keeps content may_leave moment left_since old new left h).0 stands).0
+  append_safe file (Made thread) left = λ h. (
+    λ reads. let adds = (left.2.1 h).0 reads in inr (left.0, left.1, (adds.1, rests_reads content may_leave moment left_since as_it_reads new left.0 h adds.0)),
+    λ stands. inr (left.0, left.1, (left.2.1 h).1 stands),
+  )
+  append_safe file DiskFault left = λ h. (λ reads. inr (left.0, left.1, (left.2 h).0 reads), λ stands. inr (left.0, left.1, (left.2 h).1 stands))
+  append_safe file (Judged verdict) left = left_adds file left
+  append_safe file (Shown proof) left = left_adds file left
+  append_safe file (Refused refusal) left = left_adds file left.0
+  append_safe file (Unserved cause) left = left_adds file left
+  append_safe file (Unreadable bad) left = left_adds file (same_left left)
+  append_safe file (BadWords number) left = left_adds file left
+  append_safe file InputFault left = left_adds file (same_left left)
+  append_safe file NoMemory left = left_adds file left
 
   safe_by : (c : Command) (outcome : Outcome) → ComesToNow c outcome → CommandLeft c outcome → IsCrashSafe content may_leave moment left_since old new told c
   safe_by (Init dir name) outcome comes left = begin_safe dir name outcome comes left
   safe_by (Append dir file) outcome comes left = append_safe file outcome left
-  safe_by (ProveEvent dir step index top) outcome comes left = left_keeps content may_leave moment left_since old new left
+  safe_by (ProveEvent dir step index top) outcome comes left = left_keeps content may_leave moment left_since old new (proof_left content may_leave moment left_since old new outcome left)
   safe_by _ outcome comes left = same_keeps left
 
   comes_by : (c : Command) (outcome : Outcome) → command_of words ≡ Some c → Has outcome → ComesToNow c outcome
@@ -322,13 +357,13 @@ module _ {D : Type 0} (content : D → Option Image) (may_leave : D → Image �
       by DiskFault nothing left = absurd nothing
       by (Judged verdict) nothing left = left
       by (Shown proof) nothing left = left
-      by (Refused refusal) nothing left = left
+      by (Refused refusal) nothing left = left.0
       by (Unserved cause) nothing left = left
       by (Unreadable bad) nothing left = untouched_left content may_leave moment left_since old new only_now left
       by (BadWords number) nothing left = left
       by InputFault nothing left = untouched_left content may_leave moment left_since old new only_now left
       by NoMemory nothing left = left
-  unwritten_by (ProveEvent dir step index top) outcome nothing uses left = left
+  unwritten_by (ProveEvent dir step index top) outcome nothing uses left = proof_left content may_leave moment left_since old new outcome left
   unwritten_by _ outcome nothing uses left = absurd uses
 
   pub unwritten : EndsNow → (status ≡ 0 → ⊥) → (status ≡ 4 → ⊥) → (status ≡ 5 → ⊥) → AskForDisk words → IsLeft content may_leave moment left_since old new
@@ -347,7 +382,74 @@ module _ {D : Type 0} (content : D → Option Image) (may_leave : D → Image �
       by : (o : Option Command) → command_of words ≡ o → MatchOption o ⊥ IsProve → IsLeft content may_leave moment left_since old new
       by None is asks = absurd asks
       by (Some c) is asks =
-          let of = is_prove c asks in left_by (ProveEvent of.dir of.step of.index of.top) e.outcome (is ∙ ap (λ (d : Command). Some d) of.is) e.leaves
+          let of = is_prove c asks in
+          proof_left content may_leave moment left_since old new e.outcome (left_by (ProveEvent of.dir of.step of.index of.top) e.outcome (is ∙ ap (λ (d : Command). Some d) of.is) e.leaves)
+
+  -- a command that was answered over a disk that reads as a history made it stable
+  zero_or_seven : (n k : ℕ) → (n ≡ 0) ⊎ (n ≡ 7) → (k ≡ 0 → ⊥) → (k ≡ 7 → ⊥) → n ≡ k → ⊥
+  zero_or_seven n k (inl is) zeroth seventh same = zeroth (sym same ∙ is)
+  zero_or_seven n k (inr is) zeroth seventh same = seventh (sym same ∙ is)
+
+  settles_proof : (n : ℕ) → (n ≡ 0) ⊎ (n ≡ 7) → (c : Command) → IsProve c → (outcome : Outcome) → ComesToNow c outcome → CommandLeft c outcome → n ≡ status_of outcome
+      → Settles content may_leave moment left_since old new
+  settles_proof n which (ProveEvent dir step index top) prove outcome comes left same = by outcome comes left same
+    where
+      by : (outcome : Outcome) → ComesToNow (ProveEvent dir step index top) outcome → CommandLeft (ProveEvent dir step index top) outcome → n ≡ status_of outcome
+          → Settles content may_leave moment left_since old new
+      by (Shown proof) comes left same = left.1
+      by (Refused refusal) comes left same = left.1
+      by (Judged verdict) comes left same = absurd (judging_is_verify told (ProveEvent dir step index top) verdict comes)
+      by (Made thread) comes left same = absurd comes
+      by (Unserved cause) comes left same = absurd (zero_or_seven n 8 which (λ k. omega arith) (λ k. omega arith) same)
+      by (Unreadable bad) comes left same = absurd comes
+      by (BadWords number) comes left same = absurd (comes.1 tt)
+      by InputFault comes left same = absurd comes.1
+      by DiskFault comes left same = absurd (zero_or_seven n 5 which (λ k. omega arith) (λ k. omega arith) same)
+      by NoMemory comes left same = absurd (zero_or_seven n 6 which (λ k. omega arith) (λ k. omega arith) same)
+  settles_proof n which _ prove outcome comes left same = absurd prove
+
+  settles_step : (c : Command) → IsAppend c → (outcome : Outcome) → ComesToNow c outcome → CommandLeft c outcome → 7 ≡ status_of outcome
+      → Settles content may_leave moment left_since old new
+  settles_step (Append dir file) append outcome comes left same = by outcome comes left same
+    where
+      by : (outcome : Outcome) → ComesToNow (Append dir file) outcome → CommandLeft (Append dir file) outcome → 7 ≡ status_of outcome
+          → Settles content may_leave moment left_since old new
+      by (Refused refusal) comes left same = left.1
+      by (Shown proof) comes left same = absurd comes
+      by (Judged verdict) comes left same = absurd (judging_is_verify told (Append dir file) verdict comes)
+      by (Made thread) comes left same = absurd (omega (arith, same))
+      by (Unserved cause) comes left same = absurd (omega (arith, same))
+      by (Unreadable bad) comes left same = absurd (omega (arith, same))
+      by (BadWords number) comes left same = absurd (comes.1 tt)
+      by InputFault comes left same = absurd (omega (arith, same))
+      by DiskFault comes left same = absurd (omega (arith, same))
+      by NoMemory comes left same = absurd (omega (arith, same))
+  settles_step _ append outcome comes left same = absurd append
+
+  pub settled_proof : EndsNow → (n : ℕ) → (n ≡ 0) ⊎ (n ≡ 7) → status ≡ n → AskForProof words → Settles content may_leave moment left_since old new
+  settled_proof e n which is asks = by (command_of words) refl asks
+    where
+      by : (o : Option Command) → command_of words ≡ o → MatchOption o ⊥ IsProve → Settles content may_leave moment left_since old new
+      by None made asks = absurd asks
+      by (Some c) made asks =
+          settles_proof n which c asks e.outcome (comes_by c e.outcome made e.has) (left_by c e.outcome made e.leaves)
+          (ended_by n (λ four. zero_or_seven n 4 which (λ k. omega arith) (λ k. omega arith) four) is e.outcome e.ends).0
+
+  settled_step : EndsNow → status ≡ 7 → AskForStep words → Settles content may_leave moment left_since old new
+  settled_step e is asks = by (command_of words) refl asks
+    where
+      by : (o : Option Command) → command_of words ≡ o → MatchOption o ⊥ IsAppend → Settles content may_leave moment left_since old new
+      by None made asks = absurd asks
+      by (Some c) made asks =
+          settles_step c asks e.outcome (comes_by c e.outcome made e.has) (left_by c e.outcome made e.leaves)
+          (ended_by 7 (λ four. omega arith) is e.outcome e.ends).0
+
+  pub settled : EndsNow → (status ≡ 0 → AskForProof words → Settles content may_leave moment left_since old new)
+      × (status ≡ 7 → AskForStep words ⊎ AskForProof words → Settles content may_leave moment left_since old new)
+  settled e = (
+    λ is asks. settled_proof e 0 (inl refl) is asks,
+    λ is. ⊎_elim (λ asks. settled_step e is asks) (λ asks. settled_proof e 7 (inr refl) is asks),
+  )
 
   untouched_by : (c : Command) (outcome : Outcome) → (UsesDisk c → ⊥) → CommandLeft c outcome → new ≡ old
   untouched_by (Init dir name) outcome other left = absurd (other tt)

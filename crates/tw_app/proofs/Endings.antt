@@ -21,7 +21,7 @@ use Rattle.tw_chain.specs.declared.verdict.Verdict.TheVariants.{Yes, No}
 use Rattle.tw_chain.specs.Accepting.{Accepts, claim_of, proof_texts}
 use Rattle.tw_app.specs.declared.outcome.Outcome.{Outcome}
 use Rattle.tw_app.specs.declared.outcome.Outcome.TheVariants.{Judged, Shown, Made, Refused, Unserved, Unreadable, BadWords, InputFault, DiskFault, NoMemory}
-use Rattle.tw_app.specs.Commands.{IsAppend, IsBuilt, IsInit, IsProve, IsShow, IsVerify}
+use Rattle.tw_app.specs.Commands.{IsAppend, IsBuilt, IsInit, IsProve, IsShow, IsVerify, NamesFile}
 use Rattle.tw_app.specs.Outcomes.{TakesMemory, status_of, text_of}
 use Rattle.tw_app.specs.Running.{ComesTo, Ends, EndsWith, HasOutcome, HaveNoForm, Makes, Shows}
 use Rattle.tw_app.specs.Statuses.{AreBuilt, AreOf, AskForEvent, AskForVerdict, IsAcceptedRun, IsFaultRun, IsRefusedRun, IsRejectedRun, IsShownRun, IsUnreadableRun, IsUsage, IsUsageRun}
@@ -274,7 +274,7 @@ module _ (told : Option Files) (before after : ℕ) (found : Option Image) (disk
       by (BadWords number) has ended = absurd (omega (arith, ended.0))
       by InputFault has ended =
           let of = of_words InputFault (λ none. none) has in
-          record { built = of_option IsBuilt words of.0 of.1 of.2.0; failed = of.2.1; written = ended.1 }
+          record { built = of_option IsBuilt words of.0 of.1 of.2.0; named = of_option NamesFile words of.0 of.1 of.2.1; failed = of.2.2; written = ended.1 }
       by DiskFault has ended = absurd (omega (arith, ended.0))
       by NoMemory has ended = absurd (omega (arith, ended.0))
 

@@ -5,13 +5,12 @@ use Rattle.sha2.specs.Sha256.{sha256}
 use Rattle.tw_base.specs.History.{History}
 use Rattle.tw_disk.specs.Disk.{LeavesOnly}
 use Rattle.tw_disk.specs.Image.{Image}
-use Rattle.tw_disk.specs.Moments.{leaves_weaker}
 use Rattle.tw_outside.specs.Faults.{Rose}
 use Rattle.tw_outside.specs.Files.{Files}
 use Rattle.tw_pages.specs.Slots.{IsTaken}
 use Rattle.tw_pages.specs.declared.open.StoreFault.{StoreFault}
 use Rattle.tw_pages.specs.declared.open.StoreFault.TheVariants as store
-use Rattle.tw_service.specs.Stands.{IsNotOpenedFor, StandsForOneOf}
+use Rattle.tw_service.specs.Stands.{IsNotOpenedFor}
 use Rattle.tw_text.specs.CommandLine.{command_of}
 use Rattle.tw_text.specs.declared.command.Command.{Command}
 use Rattle.tw_text.specs.declared.command.Command.TheVariants.{Append, Init, ProveEvent}
@@ -19,13 +18,13 @@ use Rattle.tw_app.specs.declared.outcome.Outcome.{Outcome}
 use Rattle.tw_app.specs.declared.outcome.Outcome.TheVariants.{Judged, Shown, Made, Refused, Unserved, Unreadable, BadWords, InputFault, DiskFault, NoMemory}
 use Rattle.tw_app.specs.Appending.{AreEventsOf}
 use Rattle.tw_app.specs.Commands.{UsesDisk}
-use Rattle.tw_app.specs.Disks.{IsLeft, IsOf, Keeps, MayBegin, Stands}
-use Rattle.tw_app.specs.Leaving.{AppendLeaves, CommandLeaves, InitLeaves, Leaves}
+use Rattle.tw_app.specs.Disks.{IsLeft, Keeps, MayBegin, ReadsAs, Settles, SparesStore}
+use Rattle.tw_app.specs.Leaving.{AppendLeaves, CommandLeaves, InitLeaves, Leaves, ProofLeaves}
 use Rattle.tw_app.specs.Outcomes.{TakesMemory}
 use Rattle.tw_app.specs.Running.{ComesTo}
 use Rattle.tw_app.specs.ServiceFaults.{outcome_of_store}
 use Rattle.tw_app.specs.Stepping.{ComesToProof, ComesToStep, IsStop, LeavesStep, WritesNothing}
-use Rattle.tw_app.proofs.AtRest.{no_call_left, untouched_left}
+use Rattle.tw_app.proofs.AtRest.{no_call_left, old_or_one, one_of, reads_as, untouched_left}
 
 -- ---- a disk that isn't opened
 
@@ -90,33 +89,81 @@ module _ (told : Option Files) (before after : ℕ) (found : Option Image) (disk
 
 module _ {D : Type 0} (content : D → Option Image) (may_leave : D → Image → Type 0) (moment : D → ℕ) (left_since : D → ℕ → Image → Type 0) where
   module _ (old new : D) where
-    -- a disk that stands for a history isn't opened only where it failed
-    pub unopened_leaves : (events : List (List ℕ)) (h : History) (f : StoreFault) (came : Outcome) → came ≡ outcome_of_store f → f ≡ store.DiskFault
-        → LeavesOnly moment may_leave left_since old new (IsOf h) → LeavesStep content may_leave moment left_since old new events h came
-    unopened_leaves events h f came is fault left =
+    -- a disk that reads as a history isn't opened only where it failed
+    pub unopened_leaves : (events : List (List ℕ)) (h : History) → ReadsAs (content old) h → content new ≡ content old
+        → (f : StoreFault) (came : Outcome) → came ≡ outcome_of_store f → f ≡ store.DiskFault
+        → LeavesOnly moment may_leave left_since old new (may_leave old) → LeavesStep content may_leave moment left_since old new events h came
+    unopened_leaves events h reads same f came is fault left =
         subst (LeavesStep content may_leave moment left_since old new events h) (sym (is ∙ ap outcome_of_store fault))
-        (leaves_weaker moment may_leave left_since old new (IsOf h) (StandsForOneOf sha256 h.name h events) (λ image stands. inl stands) left)
+        (old_or_one content may_leave moment left_since old new events h left, record { image = reads.image; told = same ∙ reads.told; has = inl reads.stands })
 
-    pub leaves_of_step : (told : Option Files) (before after : ℕ) (dir file : List ℕ) (events : List (List ℕ)) (came : Outcome) → AreEventsOf told file events
+    pub leaves_of_step : (as_it_reads : (d : D) (image : Image) → content d ≡ Some image → may_leave d image) → (told : Option Files) (before after : ℕ) (dir file : List ℕ) (events : List (List ℕ)) (came : Outcome) → AreEventsOf told file events
         → ComesToStep (content old) before after events came
-        → ((h : History) → Stands content may_leave moment left_since old h → LeavesStep content may_leave moment left_since old new events h came)
+        → ((h : History) → ReadsAs (content old) h → LeavesStep content may_leave moment left_since old new events h came)
         → (WritesNothing came → IsLeft content may_leave moment left_since old new)
         → CommandLeaves content may_leave moment left_since old new told (Append dir file) came
-    leaves_of_step told before after dir file events (Made thread) are comes leaves nothing = (events, are, (comes, leaves))
-    leaves_of_step told before after dir file events DiskFault are comes leaves nothing = (events, are, leaves)
-    leaves_of_step told before after dir file events (Refused refusal) are comes leaves nothing = nothing tt
-    leaves_of_step told before after dir file events (Unserved cause) are comes leaves nothing = nothing tt
-    leaves_of_step told before after dir file events NoMemory are comes leaves nothing = nothing tt
-    leaves_of_step told before after dir file events _ are comes leaves nothing = absurd comes
+    leaves_of_step as_it_reads told before after dir file events (Made thread) are comes leaves nothing = (
+      events,
+      are,
+      (
+        comes,
+        λ h. (
+          λ reads. leaves h reads,
+          λ stands. one_of content may_leave moment left_since old new events h stands (leaves h (reads_as content may_leave moment left_since as_it_reads old h stands)).1,
+        ),
+      ),
+    )
+    leaves_of_step as_it_reads told before after dir file events DiskFault are comes leaves nothing = (
+      events,
+      are,
+      λ h. (
+        λ reads. leaves h reads,
+        λ stands. one_of content may_leave moment left_since old new events h stands (leaves h (reads_as content may_leave moment left_since as_it_reads old h stands)).0,
+      ),
+    )
+    leaves_of_step as_it_reads told before after dir file events (Refused refusal) are comes leaves nothing = (nothing tt, λ h reads. leaves h reads)
+    leaves_of_step as_it_reads told before after dir file events (Unserved cause) are comes leaves nothing = nothing tt
+    leaves_of_step as_it_reads told before after dir file events NoMemory are comes leaves nothing = nothing tt
+    leaves_of_step as_it_reads told before after dir file events _ are comes leaves nothing = absurd comes
+
+    -- a proof leaves a disk that settles, or that wasn't opened
+    pub leaves_of_proof : (came : Outcome) → IsLeft content may_leave moment left_since old new → Settles content may_leave moment left_since old new
+        → ProofLeaves content may_leave moment left_since old new came
+    leaves_of_proof (Shown proof) left settles = (left, settles)
+    leaves_of_proof (Refused refusal) left settles = (left, settles)
+    leaves_of_proof _ left settles = left
+
+    pub unopened_proof_leaves : (f : StoreFault) (came : Outcome) → came ≡ outcome_of_store f → f ≢ store.Taken → IsLeft content may_leave moment left_since old new
+        → ProofLeaves content may_leave moment left_since old new came
+    unopened_proof_leaves f came is not_taken left = subst (ProofLeaves content may_leave moment left_since old new) (sym is) (by f not_taken)
+      where
+        by : (g : StoreFault) → g ≢ store.Taken → ProofLeaves content may_leave moment left_since old new (outcome_of_store g)
+        by store.Taken not_taken = absurd (not_taken refl)
+        by store.Blank not_taken = left
+        by (store.NotAStore slot) not_taken = left
+        by store.DiskFault not_taken = left
+        by store.NoMemory not_taken = left
+
+    pub proof_left : (came : Outcome) → ProofLeaves content may_leave moment left_since old new came → IsLeft content may_leave moment left_since old new
+    proof_left (Shown proof) leaves = leaves.0
+    proof_left (Refused refusal) leaves = leaves.0
+    proof_left (Judged verdict) leaves = leaves
+    proof_left (Made thread) leaves = leaves
+    proof_left (Unserved cause) leaves = leaves
+    proof_left (Unreadable bad) leaves = leaves
+    proof_left (BadWords number) leaves = leaves
+    proof_left InputFault leaves = leaves
+    proof_left DiskFault leaves = leaves
+    proof_left NoMemory leaves = leaves
 
     pub unmade_leaves : (name : List ℕ) (f : StoreFault) (came : Outcome) → came ≡ outcome_of_store f → (f ≡ store.Taken) ⊎ (f ≡ store.DiskFault)
         → (f ≡ store.Taken → (content new ≡ content old) × LeavesOnly moment may_leave left_since old new (may_leave old))
         → MayBegin content may_leave moment left_since name old new → Keeps content may_leave moment left_since old new
-        → InitLeaves content may_leave moment left_since old new name came
-    unmade_leaves name f came is (inl taken) left begins keeps =
+        → SparesStore content may_leave moment left_since old new → InitLeaves content may_leave moment left_since old new name came
+    unmade_leaves name f came is (inl taken) left begins keeps spares =
         subst (InitLeaves content may_leave moment left_since old new name) (sym (is ∙ ap outcome_of_store taken)) (left taken)
-    unmade_leaves name f came is (inr failed) left begins keeps =
-        subst (InitLeaves content may_leave moment left_since old new name) (sym (is ∙ ap outcome_of_store failed)) (begins, keeps)
+    unmade_leaves name f came is (inr failed) left begins keeps spares =
+        subst (InitLeaves content may_leave moment left_since old new name) (sym (is ∙ ap outcome_of_store failed)) (begins, keeps, spares)
 
     -- where there was no memory for the text, what is left is as right for that
     memory_leaves_of : ((d : D) (image : Image) → left_since d (moment d) image → may_leave d image) → (told : Option Files) (c : Command) (came : Outcome) → TakesMemory came → CommandLeaves content may_leave moment left_since old new told c came
@@ -134,11 +181,12 @@ module _ {D : Type 0} (content : D → Option Image) (may_leave : D → Image �
       where
         by : (came : Outcome) → TakesMemory came → AppendLeaves content may_leave moment left_since old new told file came → IsLeft content may_leave moment left_since old new
         by (Judged verdict) takes leaves = leaves
-        by (Refused refusal) takes leaves = leaves
+        by (Refused refusal) takes leaves = leaves.0
         by (Unserved cause) takes leaves = leaves
         by (Unreadable bad) takes leaves = untouched_left content may_leave moment left_since old new only_now leaves
         by (BadWords number) takes leaves = leaves
         by _ takes leaves = absurd takes
+    memory_leaves_of only_now told (ProveEvent dir step index top) came takes leaves = proof_left came leaves
     memory_leaves_of only_now told _ came takes leaves = leaves
 
     pub memory_leaves : ((d : D) (image : Image) → left_since d (moment d) image → may_leave d image) → (told : Option Files) (words : List (List ℕ)) (came : Outcome) → Leaves content may_leave moment left_since old new told words came → TakesMemory came

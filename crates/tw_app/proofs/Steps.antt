@@ -21,7 +21,7 @@ use Rattle.tw_service.specs.Stands.{StandsForOneOf}
 use Rattle.tw_app.specs.declared.outcome.Outcome.{Outcome}
 use Rattle.tw_app.specs.Appending.{AddsStep, MeetsBadLink}
 use Rattle.tw_app.proofs.Openings.{only_opens, opens_with}
-use Rattle.tw_app.specs.Disks.{IsLeft, IsOf, OpensAsService, OpensAsServiceWith, ReadsAs, Rests}
+use Rattle.tw_app.specs.Disks.{IsLeft, LeavesOldOrOneOf, OpensAsService, OpensAsServiceWith, ReadsAs, ReadsAsOneOf, Rests}
 use Rattle.tw_app.specs.ServiceFaults.{outcome_of_refusal}
 use Rattle.tw_app.specs.Stepping.{ComesToStep, LeavesStep, WritesNothing}
 
@@ -170,9 +170,9 @@ module _ (found : Option Image) (before after : ℕ) (events : List (List ℕ)) 
 module _ {D : Type 0} (content : D → Option Image) (may_leave : D → Image → Type 0) (moment : D → ℕ) (left_since : D → ℕ → Image → Type 0)
     (old new : D) (events : List (List ℕ)) (h : History) where
   abbrev Kept : Type 0
-  Kept = LeavesOnly moment may_leave left_since old new (IsOf h) × Rests content may_leave moment left_since new h
+  Kept = Rests content may_leave moment left_since new h
 
-  pub step_leaves : (r : Refusal) (came : Outcome) → came ≡ outcome_of_refusal r → LeavesOnly moment may_leave left_since old new (StandsForOneOf sha256 h.name h events)
+  pub step_leaves : (r : Refusal) (came : Outcome) → came ≡ outcome_of_refusal r → LeavesOldOrOneOf content may_leave moment left_since events old new h × ReadsAsOneOf content may_leave moment left_since events new h
       → (r ≡ service.DiskFault) ⊎ Kept → LeavesStep content may_leave moment left_since old new events h came
   step_leaves r came is any kept = subst (LeavesStep content may_leave moment left_since old new events h) (sym is) (by r kept)
     where

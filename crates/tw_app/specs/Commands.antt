@@ -26,6 +26,15 @@ files_of (Audit proof anchors histories) = proof ∷ anchors ∷ histories
 files_of (Replay file) = file ∷ []
 files_of (Generate number steps) = []
 
+-- there is a file
+abbrev pub IsSomeFile : (files : List (List ℕ)) → Type 0
+IsSomeFile [] = ⊥
+IsSomeFile (file ∷ files) = Unit {0}
+
+-- the command's words name a file
+abbrev pub NamesFile : Command → Type 0
+NamesFile command = IsSomeFile (files_of command)
+
 -- the commands that judge a proof
 abbrev pub IsVerify : Command → Type 0
 IsVerify (VerifyFile proof anchors) = Unit {0}

@@ -15,7 +15,7 @@ use Rattle.tw_text.specs.declared.command.Command.{Command}
 use Rattle.tw_text.specs.declared.command.Command.TheVariants.{Init, Append, ProveEvent}
 use Rattle.tw_app.specs.declared.outcome.StoreCause.{StoreCause}
 use Rattle.tw_app.specs.Appending.{AddsStep, AreEventsOf, OfEvents}
-use Rattle.tw_app.specs.Disks.{Adds, Begins, IsOf, Keeps, MayBegin, Stands}
+use Rattle.tw_app.specs.Disks.{Adds, Begins, IsOf, Keeps, LeavesOldOrOneOf, MayBegin, ReadsAs, ReadsAsOneOf, SparesStore, Stands}
 use Rattle.tw_app.specs.Making.{MakesService}
 use Rattle.tw_app.specs.Outcomes.{store_text}
 use Rattle.tw_app.specs.Proving.{Proves}
@@ -62,8 +62,8 @@ module _ {D : Type 0} (content : D → Option Image) (may_leave : D → Image �
     pub begins : Begins content may_leave moment left_since name old new
     pub written : Appends taken_before taken_after (anchor_text thread)
 
-  -- status 0 of words that ask for a step: the anchor line of the new step was written whole, and the disk stands for the longer
-  -- history for good
+  -- status 0 of words that ask for a step: the anchor line of the new step was written whole, and a disk that read as a history, with
+  -- writes pending or not, stands for the longer one for good
   pub record IsAppendedRun (told : Option Files) (words : List (List ℕ)) (taken_before taken_after : Option (List ℕ)) : Type 0 where
     pub dir : List ℕ
     pub file : List ℕ
@@ -75,15 +75,20 @@ module _ {D : Type 0} (content : D → Option Image) (may_leave : D → Image �
     pub adds : Adds content may_leave moment left_since events old new
     pub written : Appends taken_before taken_after (anchor_text thread)
 
-  -- each image since stands for the history that the disk stood for, or for that with a step of the events of the file
+  -- of a history that the disk read as, each image since is one that a crash might have left before, or, where the file has events,
+  -- stands for it or for it with a step of them; the content is told still, and stands for it, or for one of the two; of a history that
+  -- it stood for for good, each image stands for it, or for one of the two
   abbrev pub AddsAtMost : (told : Option Files) (file : List ℕ) → Type 0
-  AddsAtMost told file = (h : History) → Stands content may_leave moment left_since old h →
-      LeavesOnly moment may_leave left_since old new (IsOf h)
-      ⊎ OfEvents told file (λ events. LeavesOnly moment may_leave left_since old new (StandsForOneOf sha256 h.name h events))
+  AddsAtMost told file = (h : History) →
+      (ReadsAs (content old) h → (LeavesOnly moment may_leave left_since old new (may_leave old) × ReadsAs (content new) h)
+      ⊎ OfEvents told file (λ events. LeavesOldOrOneOf content may_leave moment left_since events old new h × ReadsAsOneOf content may_leave moment left_since events new h))
+      × (Stands content may_leave moment left_since old h → LeavesOnly moment may_leave left_since old new (IsOf h)
+      ⊎ OfEvents told file (λ events. LeavesOnly moment may_leave left_since old new (StandsForOneOf sha256 h.name h events)))
 
-  -- whatever the status: `init` leaves no image but such that there might have been, blank ones and the empty history, and keeps a
-  -- history that is there; `append` at most adds the step; every other command keeps the history in each image
+  -- whatever the status: `init` leaves no image but such that there might have been, blank ones and the empty history, leaves a store
+  -- that is there, and keeps a history; `append` at most adds the step; every other command keeps the history in each image
   abbrev pub IsCrashSafe : (told : Option Files) → Command → Type 0
-  IsCrashSafe told (Init dir name) = MayBegin content may_leave moment left_since name old new × Keeps content may_leave moment left_since old new
+  IsCrashSafe told (Init dir name) =
+      MayBegin content may_leave moment left_since name old new × Keeps content may_leave moment left_since old new × SparesStore content may_leave moment left_since old new
   IsCrashSafe told (Append dir file) = AddsAtMost told file
   IsCrashSafe told _ = Keeps content may_leave moment left_since old new

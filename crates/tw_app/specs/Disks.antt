@@ -2,8 +2,9 @@
 use Rattle.std.specs.Prelude.{◌≡◌, ◌⊎◌, ℕ, List, Option, Some}
 use Rattle.sha2.specs.Sha256.{sha256}
 use Rattle.tw_base.specs.History.{History, plus}
-use Rattle.tw_disk.specs.Disk.{LeavesOnly, Only}
+use Rattle.tw_disk.specs.Disk.{LeavesOnly, Only, Reads}
 use Rattle.tw_disk.specs.Image.{Image}
+use Rattle.tw_pages.specs.Slots.{IsTaken}
 use Rattle.tw_pages.specs.declared.open.StoreFault.TheVariants as fault
 use Rattle.tw_skiplist.specs.declared.head.Head.{Head}
 use Rattle.tw_skiplist.specs.Keeping.{event_step}
@@ -63,20 +64,40 @@ module _ {D : Type 0} (content : D → Option Image) (may_leave : D → Image �
   Keeps old new =
       (h : History) → (Stands old h → LeavesOnly moment may_leave left_since old new (IsOf h) × Stands new h) × (Rests old h → Rests new h)
 
-  -- each image since stands for that history or for the longer one
-  abbrev pub KeepsOrAdds : (events : List (List ℕ)) → (old new : D) → Type 0
-  KeepsOrAdds events old new = (h : History) → Stands old h → LeavesOnly moment may_leave left_since old new (StandsForOneOf sha256 h.name h events)
+  -- the disk has become stable: the history that it read as stands now for good, at rest
+  abbrev pub Settles : (old new : D) → Type 0
+  Settles old new = (h : History) → ReadsAs (content old) h → Rests new h
 
-  -- the same, and now it stands for the longer one for good, at rest
+  -- each image since is one that a crash might have left before, or stands for that history or for the longer one
+  abbrev pub LeavesOldOrOneOf : (events : List (List ℕ)) → (old new : D) → History → Type 0
+  LeavesOldOrOneOf events old new h = LeavesOnly moment may_leave left_since old new (λ i. may_leave old i ⊎ StandsForOneOf sha256 h.name h events i)
+
+  -- the content is told, and stands for that history or for the longer one
+  abbrev pub ReadsAsOneOf : (events : List (List ℕ)) → (disk : D) → History → Type 0
+  ReadsAsOneOf events disk h = Reads content disk (StandsForOneOf sha256 h.name h events)
+
+  -- of a history that the disk read as, with writes pending or not, each image since is one that a crash might have left before, or
+  -- stands for it or for the longer one, and the content is told still and stands for one of the two; of a history that it stood for
+  -- for good, each image stands for one of the two
+  abbrev pub KeepsOrAdds : (events : List (List ℕ)) → (old new : D) → Type 0
+  KeepsOrAdds events old new =
+      (h : History) → (ReadsAs (content old) h → LeavesOldOrOneOf events old new h × ReadsAsOneOf events new h)
+      × (Stands old h → LeavesOnly moment may_leave left_since old new (StandsForOneOf sha256 h.name h events))
+
+  -- the same of the images, and where it read as the history, it now stands for the longer one for good, at rest
   abbrev pub Adds : (events : List (List ℕ)) → (old new : D) → Type 0
   Adds events old new =
-      (h : History) → Stands old h → LeavesOnly moment may_leave left_since old new (StandsForOneOf sha256 h.name h events) × Rests new (plus h (event_step events))
+      (h : History) → (ReadsAs (content old) h → Rests new (plus h (event_step events)) × LeavesOldOrOneOf events old new h)
+      × (Stands old h → LeavesOnly moment may_leave left_since old new (StandsForOneOf sha256 h.name h events))
 
-  -- where the content is told, each image since is one that a crash might have left before, or is blank, or stands for the history
-  -- of this name that has no step
+  -- an image that a crash might have left before, or a blank one, or one that stands for the history of this name that has no step
+  abbrev pub IsOldOrBegun : (name : List ℕ) → (old : D) → Image → Type 0
+  IsOldOrBegun name old image = may_leave old image ⊎ IsBlankOrNew sha256 name image
+
+  -- where the content is told, each image since is such a one, and the content is told still and is one
   abbrev pub MayBegin : (name : List ℕ) → (old new : D) → Type 0
   MayBegin name old new =
-      (image : Image) → content old ≡ Some image → LeavesOnly moment may_leave left_since old new (λ i. may_leave old i ⊎ IsBlankOrNew sha256 name i)
+      (image : Image) → content old ≡ Some image → LeavesOnly moment may_leave left_since old new (IsOldOrBegun name old) × Reads content new (IsOldOrBegun name old)
 
   -- the same, and now it stands for that history for good, at rest
   abbrev pub Begins : (name : List ℕ) → (old new : D) → Type 0
@@ -85,3 +106,7 @@ module _ {D : Type 0} (content : D → Option Image) (may_leave : D → Image �
   -- it reads as before, and a crash leaves nothing else than before
   abbrev pub IsLeft : (old new : D) → Type 0
   IsLeft old new = (content new ≡ content old) × LeavesOnly moment may_leave left_since old new (may_leave old)
+
+  -- a store that is there, that of a service or not, is left so, with writes pending or not
+  abbrev pub SparesStore : (old new : D) → Type 0
+  SparesStore old new = (image : Image) → content old ≡ Some image → IsTaken image → IsLeft old new

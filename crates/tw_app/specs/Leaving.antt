@@ -6,32 +6,40 @@ use Rattle.tw_text.specs.CommandLine.{command_of}
 use Rattle.tw_text.specs.declared.command.Command.{Command}
 use Rattle.tw_text.specs.declared.command.Command.TheVariants.{Init, Append, ProveEvent}
 use Rattle.tw_app.specs.declared.outcome.Outcome.{Outcome}
-use Rattle.tw_app.specs.declared.outcome.Outcome.TheVariants.{Made, Unreadable, InputFault, DiskFault}
+use Rattle.tw_app.specs.declared.outcome.Outcome.TheVariants.{Made, Shown, Refused, Unreadable, InputFault, DiskFault}
 use Rattle.tw_app.specs.Appending.{AddsStep, OfEvents}
-use Rattle.tw_app.specs.Disks.{Adds, Begins, IsLeft, Keeps, KeepsOrAdds, MayBegin}
+use Rattle.tw_app.specs.Disks.{Adds, Begins, IsLeft, Keeps, KeepsOrAdds, MayBegin, Settles, SparesStore}
 
 module _ {D : Type 0} (content : D → Option Image) (may_leave : D → Image → Type 0) (moment : D → ℕ) (left_since : D → ℕ → Image → Type 0) (old new : D) where
-  -- a service is made, or a disk fault came and it may be, but where there was a history, which is kept; at every other outcome the
-  -- disk is left as it was
+  -- a service is made, or a disk fault came and it may be, but where there was a store, which is left as it was, and a history, which
+  -- is kept; at every other outcome the disk is left as it was
   abbrev pub InitLeaves : (name : List ℕ) → Outcome → Type 0
   InitLeaves name (Made thread) = Begins content may_leave moment left_since name old new
-  InitLeaves name DiskFault = MayBegin content may_leave moment left_since name old new × Keeps content may_leave moment left_since old new
+  InitLeaves name DiskFault =
+      MayBegin content may_leave moment left_since name old new × Keeps content may_leave moment left_since old new × SparesStore content may_leave moment left_since old new
   InitLeaves name _ = IsLeft content may_leave moment left_since old new
 
-  -- the step is added, or a disk fault came and it may be; where the file wasn't read or is none, no device call was made; at every
-  -- other outcome nothing was written
+  -- the step is added, or a disk fault came and it may be; where it was refused, nothing was written and the disk became stable; where
+  -- the file wasn't read or is none, no device call was made; at every other outcome nothing was written
   abbrev pub AppendLeaves : (told : Option Files) (file : List ℕ) → Outcome → Type 0
   AppendLeaves told file (Made thread) = OfEvents told file (λ events. AddsStep (content old) events thread × Adds content may_leave moment left_since events old new)
   AppendLeaves told file DiskFault = OfEvents told file (λ events. KeepsOrAdds content may_leave moment left_since events old new)
+  AppendLeaves told file (Refused refusal) = IsLeft content may_leave moment left_since old new × Settles content may_leave moment left_since old new
   AppendLeaves told file (Unreadable bad) = new ≡ old
   AppendLeaves told file InputFault = new ≡ old
   AppendLeaves told file _ = IsLeft content may_leave moment left_since old new
 
-  -- a proof writes nothing, and a command without a directory makes no device call
+  -- a proof writes nothing, and where it was made or refused, the disk became stable
+  abbrev pub ProofLeaves : Outcome → Type 0
+  ProofLeaves (Shown proof) = IsLeft content may_leave moment left_since old new × Settles content may_leave moment left_since old new
+  ProofLeaves (Refused refusal) = IsLeft content may_leave moment left_since old new × Settles content may_leave moment left_since old new
+  ProofLeaves _ = IsLeft content may_leave moment left_since old new
+
+  -- a command without a directory makes no device call
   abbrev pub CommandLeaves : (told : Option Files) → Command → Outcome → Type 0
   CommandLeaves told (Init dir name) outcome = InitLeaves name outcome
   CommandLeaves told (Append dir file) outcome = AppendLeaves told file outcome
-  CommandLeaves told (ProveEvent dir step index top) outcome = IsLeft content may_leave moment left_since old new
+  CommandLeaves told (ProveEvent dir step index top) outcome = ProofLeaves outcome
   CommandLeaves told _ outcome = new ≡ old
 
   abbrev pub Leaves : (told : Option Files) (words : List (List ℕ)) → Outcome → Type 0

@@ -17,7 +17,7 @@ use Rattle.tw_app.specs.declared.outcome.StoreCause.{StoreCause}
 use Rattle.tw_app.specs.declared.outcome.BadInput.{BadInput}
 use Rattle.tw_app.specs.declared.outcome.BadInput.TheVariants.{BadByte, BadLine, Unsound}
 use Rattle.tw_app.specs.Appending.{AddsStep, HasEvents, IsBadEventsByte, MeetsBadLink, OfEvents, RefusesStep}
-use Rattle.tw_app.specs.Commands.{IsBuilt}
+use Rattle.tw_app.specs.Commands.{IsBuilt, NamesFile}
 use Rattle.tw_app.specs.Disks.{IsUnserved}
 use Rattle.tw_app.specs.Making.{HasStore, MakesService}
 use Rattle.tw_app.specs.Outcomes.{status_of, text_of}
@@ -87,7 +87,7 @@ ComesTo told before after found disk_before disk_after command (Refused refusal)
 ComesTo told before after found disk_before disk_after command (Unserved cause) = CantServe told found command cause
 ComesTo told before after found disk_before disk_after command (Unreadable bad) = CantRead told command bad
 ComesTo told before after found disk_before disk_after command (BadWords number) = (number ≡ 0) × (IsBuilt command → ⊥)
-ComesTo told before after found disk_before disk_after command InputFault = IsBuilt command × Rose before after
+ComesTo told before after found disk_before disk_after command InputFault = IsBuilt command × NamesFile command × Rose before after
 ComesTo told before after found disk_before disk_after command DiskFault = ReachesDisk told command × Rose disk_before disk_after
 ComesTo told before after found disk_before disk_after command NoMemory = Unit {0}
 

@@ -23,7 +23,7 @@ use Rattle.tw_chain.specs.Accepting.{Accepts, claim_of, held, proof_texts, repor
 use Rattle.tw_chain.specs.Reasons.{IsLowest}
 use Rattle.tw_app.specs.declared.outcome.Refusal.{Refusal}
 use Rattle.tw_app.specs.declared.outcome.BadInput.{BadInput}
-use Rattle.tw_app.specs.Commands.{IsAppend, IsBuilt, IsInit, IsProve, IsShow, IsVerify, UsesDisk}
+use Rattle.tw_app.specs.Commands.{IsAppend, IsBuilt, IsInit, IsProve, IsShow, IsVerify, NamesFile, UsesDisk}
 use Rattle.tw_app.specs.Outcomes.{bad_input_text, refused_text}
 use Rattle.tw_app.specs.Running.{CantRead, Refuses, Shows}
 use Rattle.tw_app.specs.Verifying.{GivesAnchors, proof_file}
@@ -109,9 +109,10 @@ pub record IsUsageRun (words : List (List ℕ)) (taken_before taken_after : Opti
   pub usage : IsUsage words number
   pub written : Appends taken_before taken_after (usage_text number)
 
--- status 3: the words are of a command that is built, the inputs failed, and the line that says so was written whole
+-- status 3: the words are of a command that is built and name a file, the inputs failed, and the line that says so was written whole
 pub record IsFaultRun (faults_before faults_after : ℕ) (words : List (List ℕ)) (taken_before taken_after : Option (List ℕ)) : Type 0 where
   pub built : AreBuilt words
+  pub named : AreOf NamesFile words
   pub failed : Rose faults_before faults_after
   pub written : Appends taken_before taken_after fault_input_text
 

@@ -1,16 +1,13 @@
 -- What the work on an opened disk comes to: adding a step once its events were read, and proving an event.
 use Rattle.std.specs.Prelude.{ℕ, List, Option}
 use Rattle.tw_base.specs.History.{History, plus}
-use Rattle.tw_disk.specs.Disk.{LeavesOnly}
-use Rattle.sha2.specs.Sha256.{sha256}
 use Rattle.tw_disk.specs.Image.{Image}
 use Rattle.tw_outside.specs.Faults.{Rose}
 use Rattle.tw_skiplist.specs.Keeping.{event_step}
-use Rattle.tw_service.specs.Stands.{StandsForOneOf}
 use Rattle.tw_app.specs.declared.outcome.Outcome.{Outcome}
 use Rattle.tw_app.specs.declared.outcome.Outcome.TheVariants.{Made, Shown, Refused, Unserved, Unreadable, InputFault, DiskFault, NoMemory}
 use Rattle.tw_app.specs.Appending.{AddsStep, MeetsBadLink, RefusesAs}
-use Rattle.tw_app.specs.Disks.{IsOf, IsUnserved, Rests}
+use Rattle.tw_app.specs.Disks.{IsUnserved, LeavesOldOrOneOf, ReadsAsOneOf, Rests}
 use Rattle.tw_app.specs.Proving.{MeetsBadPage, Proves, RefusesProof}
 
 -- a command stops before the disk is touched
@@ -45,9 +42,9 @@ WritesNothing DiskFault = ⊥
 WritesNothing _ = Unit {0}
 
 module _ {D : Type 0} (content : D → Option Image) (may_leave : D → Image → Type 0) (moment : D → ℕ) (left_since : D → ℕ → Image → Type 0) (old new : D) where
-  -- what it leaves of a disk that stood for this history, for good
+  -- what it leaves of a disk that read as one that stands for this history, with writes pending or not
   abbrev pub LeavesStep : (events : List (List ℕ)) → History → Outcome → Type 0
   LeavesStep events h (Made thread) =
-      LeavesOnly moment may_leave left_since old new (StandsForOneOf sha256 h.name h events) × Rests content may_leave moment left_since new (plus h (event_step events))
-  LeavesStep events h DiskFault = LeavesOnly moment may_leave left_since old new (StandsForOneOf sha256 h.name h events)
-  LeavesStep events h _ = LeavesOnly moment may_leave left_since old new (IsOf h) × Rests content may_leave moment left_since new h
+      Rests content may_leave moment left_since new (plus h (event_step events)) × LeavesOldOrOneOf content may_leave moment left_since events old new h
+  LeavesStep events h DiskFault = LeavesOldOrOneOf content may_leave moment left_since events old new h × ReadsAsOneOf content may_leave moment left_since events new h
+  LeavesStep events h _ = Rests content may_leave moment left_since new h

@@ -7,7 +7,7 @@ ghost use Rattle.tw_disk.specs.Image.{Image};
 ghost use Rattle.tw_service.specs.Serves.{Serves, disk_of, has_failed, head_of, name_of, pages_of};
 ghost use Rattle.tw_text.specs.declared.command.Command.TheVariants.{Append};
 ghost use Rattle.tw_app.specs.Appending.{AreEventsOf};
-ghost use Rattle.tw_app.specs.Disks.{IsLeft, OpensAsServiceWith, ReadsAs, Stands};
+ghost use Rattle.tw_app.specs.Disks.{IsLeft, OpensAsServiceWith, ReadsAs};
 ghost use Rattle.tw_app.specs.Leaving.{CommandLeaves};
 ghost use Rattle.tw_app.specs.Running.{ComesTo, ComesOfFiles};
 ghost use Rattle.tw_app.specs.Stepping.{ComesToStep, IsStop, LeavesStep, WritesNothing};
@@ -72,7 +72,7 @@ fn read_step<I: Inputs>(alloc: Global, inputs: &mut I, file: &str) -> Result<Eve
 /// Adds a step of these events to the service on the disk.
 fn append_events<D: Disk>(alloc: Global, disk: D, events: &EventList) -> Worked<D>
     ensures comes { ComesToStep (D.content disk) (D.faults disk) (D.faults result.disk) events.now result.outcome }
-    ensures leaves { (h : History) → Stands D.content D.may_leave D.moment D.left_since disk h
+    ensures leaves { (h : History) → ReadsAs (D.content disk) h
         → LeavesStep D.content D.may_leave D.moment D.left_since disk result.disk events.now h result.outcome }
     ensures unwritten { WritesNothing result.outcome → IsLeft D.content D.may_leave D.moment D.left_since disk result.disk }
 {

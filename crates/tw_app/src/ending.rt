@@ -1,6 +1,7 @@
 // How a run ends.
 
 ghost use Rattle.std.specs.Prelude.{◌≡◌, ◌⊎◌, ℕ, List, Some, map, string_bytes, IfSome};
+ghost use Rattle.tw_base.specs.History.{History};
 ghost use Rattle.tw_base.specs.Lists.{Each};
 ghost use Rattle.tw_outside.specs.Faults.{Rose};
 ghost use Rattle.tw_outside.specs.Taken.{Appends, AppendsPart};
@@ -10,7 +11,7 @@ ghost use Rattle.tw_text.specs.Lines.{anchor_text, no_memory_text};
 ghost use Rattle.tw_app.specs.declared.outcome.Outcome.TheVariants.{NoMemory as NoMemoryOutcome};
 ghost use Rattle.tw_app.specs.Commands.{files_of};
 ghost use Rattle.tw_app.specs.Outcomes.{TakesMemory, status_of as status_of_outcome};
-ghost use Rattle.tw_app.specs.Disks.{IsLeft, Keeps};
+ghost use Rattle.tw_app.specs.Disks.{IsLeft, Keeps, ReadsAs, Settles};
 ghost use Rattle.tw_app.specs.DiskStatuses.{IsAppendedRun, IsCrashSafe, IsDiskFaultRun, IsMadeRun, IsProvedRun, IsUnservedRun};
 ghost use Rattle.tw_app.specs.Leaving.{Leaves};
 ghost use Rattle.tw_app.specs.Running.{Ends, EndsWith};
@@ -165,6 +166,7 @@ pub fn run<D: Disk, I: Inputs, S: Sink>(
     ensures no_memory { result.status ≡ 6 → Appends (S.taken out.old) (S.taken out.new) no_memory_text }
     ensures refused { result.status ≡ 7 → IsRefusedRun (I.told inputs.old) (D.content disk) (map string_bytes words.now) (S.taken out.old) (S.taken out.new) }
     ensures store { result.status ≡ 8 → IsUnservedRun (I.told inputs.old) (D.content disk) (map string_bytes words.now) (S.taken out.old) (S.taken out.new) }
+    ensures complete { (h : History) → ReadsAs (D.content disk) h → result.status ≡ 8 → ⊥ }
     ensures unreadable { result.status ≡ 9 → IsUnreadableRun (I.told inputs.old) (map string_bytes words.now) (S.taken out.old) (S.taken out.new) }
     ensures statuses { IsStatus result.status }
 
@@ -177,6 +179,9 @@ pub fn run<D: Disk, I: Inputs, S: Sink>(
     ensures unwritten { (result.status ≡ 0 → ⊥) → (result.status ≡ 4 → ⊥) → (result.status ≡ 5 → ⊥)
         → AskForDisk (map string_bytes words.now) → IsLeft D.content D.may_leave D.moment D.left_since disk result.disk }
     ensures proving { AskForProof (map string_bytes words.now) → IsLeft D.content D.may_leave D.moment D.left_since disk result.disk }
+    ensures settled { (result.status ≡ 0 → AskForProof (map string_bytes words.now) → Settles D.content D.may_leave D.moment D.left_since disk result.disk)
+        × (result.status ≡ 7 → AskForStep (map string_bytes words.now) ⊎ AskForProof (map string_bytes words.now)
+        → Settles D.content D.may_leave D.moment D.left_since disk result.disk) }
     ensures untouched { (AskForDisk (map string_bytes words.now) → ⊥) → result.disk ≡ disk }
 {
     run_to_the_end(alloc, words, disk, inputs, out)

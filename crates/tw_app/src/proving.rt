@@ -7,7 +7,8 @@ ghost use Rattle.tw_disk.specs.Image.{Image};
 ghost use Rattle.tw_outside.specs.Files.{Files};
 ghost use Rattle.tw_service.specs.Serves.{Serves, disk_of, has_failed, head_of, name_of, pages_of};
 ghost use Rattle.tw_text.specs.declared.command.Command.TheVariants.{ProveEvent};
-ghost use Rattle.tw_app.specs.Disks.{IsLeft, OpensAsServiceWith, ReadsAs};
+ghost use Rattle.tw_app.specs.Disks.{IsLeft, OpensAsServiceWith, ReadsAs, Rests};
+ghost use Rattle.tw_app.specs.Leaving.{CommandLeaves};
 ghost use Rattle.tw_app.specs.Proving.{top_of};
 ghost use Rattle.tw_app.specs.Running.{ComesTo};
 ghost use Rattle.tw_app.specs.Stepping.{ComesToProof};
@@ -30,7 +31,8 @@ pub(crate) fn prove<D: Disk>(
 ) -> Worked<D>
     ensures comes { (told : Option Files) (before after : ℕ) (dir : List ℕ)
         → ComesTo told before after (D.content disk) (D.faults disk) (D.faults result.disk) (ProveEvent dir step index top) result.outcome }
-    ensures leaves { IsLeft D.content D.may_leave D.moment D.left_since disk result.disk }
+    ensures leaves { (told : Option Files) (dir : List ℕ)
+        → CommandLeaves D.content D.may_leave D.moment D.left_since disk result.disk told (ProveEvent dir step index top) result.outcome }
 {
     match Service::<D, Sha>::open(alloc, disk) {
         Ok(service) => prove_by(service, step, index, top),
@@ -49,6 +51,7 @@ fn prove_by<D: Disk>(service: Service<D, Sha>, step: u64, index: u64, top: Optio
         → ((h : History) → ReadsAs found h → Serves sha256 D.content D.may_leave service h) → before ≤ D.faults (disk_of service)
         → ComesToProof found before (D.faults result.disk) step index top result.outcome }
     ensures leaves { IsLeft D.content D.may_leave D.moment D.left_since (disk_of service) result.disk }
+    ensures rests { (h : History) → Serves sha256 D.content D.may_leave service h → Rests D.content D.may_leave D.moment D.left_since result.disk h }
 {
     let mut service = service;
     let top = top_for(top, service.steps());

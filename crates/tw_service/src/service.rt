@@ -252,7 +252,7 @@ impl<D: Disk, H: Hasher> Service<D, H> {
             ⊎ HasSameDisk D.content D.may_leave D.moment D.left_since self.old self.new) }
 
         // What the value tells of itself after a refusal is as before, but that a disk fault is remembered.
-        ensures kept { OnErr result (thread_of self.new ≡ thread_of self.old) }
+        ensures kept { OnErr result ((head_of self.new ≡ head_of self.old) × (name_of self.new ≡ name_of self.old)) }
         ensures broken { IsTrue (has_failed self.new) ↔ (IsTrue (has_failed self.old) ⊎ (result ≡ Err Refusal.DiskFault)) }
         ensures fault { result ≡ Err Refusal.DiskFault → Rose (D.faults (disk_of self.old)) (D.faults (disk_of self.new)) }
         ensures later { D.faults (disk_of self.old) ≤ D.faults (disk_of self.new) }
@@ -306,7 +306,7 @@ impl<D: Disk, H: Hasher> Service<D, H> {
         ensures same { (h : History) → Serves H.dig D.content D.may_leave self.old h → Serves H.dig D.content D.may_leave self.new h
             × LeavesOnly D.moment D.may_leave D.left_since (disk_of self.old) (disk_of self.new) (λ i. StandsFor H.dig i (name_of self.old) h) }
         ensures unwritten { HasSameDisk D.content D.may_leave D.moment D.left_since self.old self.new }
-        ensures kept { thread_of self.new ≡ thread_of self.old }
+        ensures kept { (head_of self.new ≡ head_of self.old) × (name_of self.new ≡ name_of self.old) }
         ensures broken { IsTrue (has_failed self.new) ↔ (IsTrue (has_failed self.old) ⊎ (result ≡ Err Refusal.DiskFault)) }
         ensures fault { result ≡ Err Refusal.DiskFault → Rose (D.faults (disk_of self.old)) (D.faults (disk_of self.new)) }
         ensures later { D.faults (disk_of self.old) ≤ D.faults (disk_of self.new) }

@@ -9,7 +9,7 @@ returns-in-Ok-clause-comes g c = λ dir.
 pub returns-in-Ok-clause-leaves : goal.returns-in-Ok-clause-leaves
 returns-in-Ok-clause-leaves g c = λ dir.
     let d = g.D.Disk in
-    leaves_of_step d.content d.may_leave d.moment d.left_since c.args.disk c.append_events.result.disk (g.I.Inputs.told c.args.inputs.now)
+    leaves_of_step d.content d.may_leave d.moment d.left_since c.args.disk c.append_events.result.disk g.met.D.Disk.as_it_reads (g.I.Inputs.told c.args.inputs.now)
     (d.faults c.args.disk) (d.faults c.append_events.result.disk) dir
     c.args.file.now c.in-Ok.events c.append_events.result.outcome c.in-Ok.ensures.read c.append_events.ensures.comes c.append_events.ensures.leaves c.append_events.ensures.unwritten
 

@@ -1,7 +1,5 @@
-use Rattle.tw_disk.specs.Moments.{leaves_weaker}
-use Rattle.tw_app.specs.Disks.{IsOf}
 use Rattle.tw_service.specs.Serves.{disk_of}
-use Rattle.tw_app.proofs.AtRest.{content_stands, leaves_from, left_on}
+use Rattle.tw_app.proofs.AtRest.{leaves_from, left_on}
 use Rattle.tw_app.proofs.Landings.{unopened_leaves, unopened_step}
 use Rattle.tw_app.proofs.appending.append_events.Goals as goal
 
@@ -11,13 +9,11 @@ returns-in-Ok-clause-comes g c =
     c.in-Ok.ensures.opened (λ h reads. c.in-Ok.ensures.served reads.image h.name h reads.told reads.stands) c.in-Ok.ensures.later
 
 pub returns-in-Ok-clause-leaves : goal.returns-in-Ok-clause-leaves
-returns-in-Ok-clause-leaves g c = λ h stands.
+returns-in-Ok-clause-leaves g c = λ h reads.
     let d = g.D.Disk in
     let mid = disk_of c.in-Ok.service in
     leaves_from d.content d.may_leave d.moment d.left_since c.args.disk mid c.append_to.result.disk c.args.events.now h c.append_to.result.outcome
-    (leaves_weaker d.moment d.may_leave d.left_since c.args.disk mid (d.may_leave c.args.disk) (IsOf h) stands.each c.in-Ok.ensures.any_moment)
-    (c.append_to.ensures.leaves h (c.in-Ok.ensures.served stands.image h.name h stands.told
-    (content_stands d.content d.may_leave d.moment d.left_since g.met.D.Disk.as_it_reads c.args.disk h stands)))
+    c.in-Ok.ensures.any_moment (c.append_to.ensures.leaves h (c.in-Ok.ensures.served reads.image h.name h reads.told reads.stands))
 
 pub returns-in-Err-clause-comes : goal.returns-in-Err-clause-comes
 returns-in-Err-clause-comes g c =
@@ -25,11 +21,10 @@ returns-in-Err-clause-comes g c =
     c.in-Err.ensures.refused c.in-Err.ensures.answers c.in-Err.ensures.fault c.outcome_of_store.result c.outcome_of_store.ensures
 
 pub returns-in-Err-clause-leaves : goal.returns-in-Err-clause-leaves
-returns-in-Err-clause-leaves g c = λ h stands.
+returns-in-Err-clause-leaves g c = λ h reads.
     let d = g.D.Disk in
-    unopened_leaves d.content d.may_leave d.moment d.left_since c.args.disk c.in-Err.disk c.args.events.now h c.in-Err.fault c.outcome_of_store.result c.outcome_of_store.ensures
-    (c.in-Err.ensures.served stands.image h.name h stands.told (content_stands d.content d.may_leave d.moment d.left_since g.met.D.Disk.as_it_reads c.args.disk h stands))
-    (leaves_weaker d.moment d.may_leave d.left_since c.args.disk c.in-Err.disk (d.may_leave c.args.disk) (IsOf h) stands.each c.in-Err.ensures.any_moment_err)
+    unopened_leaves d.content d.may_leave d.moment d.left_since c.args.disk c.in-Err.disk c.args.events.now h reads c.in-Err.ensures.unchanged c.in-Err.fault c.outcome_of_store.result c.outcome_of_store.ensures
+    (c.in-Err.ensures.served reads.image h.name h reads.told reads.stands) c.in-Err.ensures.any_moment_err
 
 pub returns-in-Ok-clause-unwritten : goal.returns-in-Ok-clause-unwritten
 returns-in-Ok-clause-unwritten g c = λ nothing.

@@ -1,15 +1,11 @@
 use Rattle.std.proofs.Common.{sym, subst, inl, inr, ⊎_elim}
 use Rattle.sha2.specs.Sha256.{sha256}
 use Rattle.tw_base.specs.History.{plus}
-use Rattle.tw_disk.specs.Disk.{LeavesOnly}
-use Rattle.tw_disk.specs.Image.{Image}
-use Rattle.tw_disk.specs.Moments.{leaves_weaker}
 use Rattle.tw_skiplist.specs.Keeping.{event_step}
 use Rattle.tw_outside.specs.Faults.{Rose}
 use Rattle.tw_service.specs.Serves.{Serves, disk_of, pages_of}
-use Rattle.tw_service.specs.Stands.{StandsFor, StandsForOneOf}
-use Rattle.tw_app.specs.Disks.{IsLeft, IsOf}
-use Rattle.tw_app.proofs.AtRest.{own_name, own_names, own_rest, rose_since, same_left}
+use Rattle.tw_app.specs.Disks.{IsLeft, LeavesOldOrOneOf, ReadsAsOneOf}
+use Rattle.tw_app.proofs.AtRest.{named_one_of, named_reads, own_rest, rose_since, same_left}
 use Rattle.tw_app.proofs.Steps.{step_done, step_leaves, step_refused, step_unwritten}
 use Rattle.tw_app.proofs.appending.append_to.Goals as goal
 
@@ -28,10 +24,9 @@ returns-in-Ok-clause-leaves g c = λ h served.
     let events = c.args.events.now in
     let done = c.in-Ok.ensures.done h served in
     let longer = plus h (event_step events) in (
-      subst (λ disk. LeavesOnly d.moment d.may_leave d.left_since (disk_of old) disk (StandsForOneOf sha256 h.name h events)) (sym c.close.ensures.disk)
-          (leaves_weaker d.moment d.may_leave d.left_since (disk_of old) (disk_of new) (StandsForOneOf sha256 old.name h events) (StandsForOneOf sha256 h.name h events)
-          (λ i stands. own_names old.name h events i served.has.named stands) (c.in-Ok.ensures.any_moment h served)),
       own_rest d.content d.may_leave d.moment d.left_since c.close.result new.name longer (c.close.ensures.stands longer done.0),
+      subst (λ disk. LeavesOldOrOneOf d.content d.may_leave d.moment d.left_since events (disk_of old) disk h) (sym c.close.ensures.disk)
+          (named_one_of d.content d.may_leave d.moment d.left_since (disk_of old) (disk_of new) old.name events h served.has.named (c.in-Ok.ensures.any_moment h served)),
     )
 
 pub returns-in-Err-clause-comes : goal.returns-in-Err-clause-comes
@@ -50,17 +45,16 @@ returns-in-Err-clause-leaves g c = λ h served.
     let old = c.args.service in
     let new = c.append.new.self in
     let events = c.args.events.now in
-    let closed = λ (P : Image → Type 0) (run : LeavesOnly d.moment d.may_leave d.left_since (disk_of old) (disk_of new) P).
-    subst (λ disk. LeavesOnly d.moment d.may_leave d.left_since (disk_of old) disk P) (sym c.close-in-Err.ensures.disk) run in
     step_leaves d.content d.may_leave d.moment d.left_since (disk_of old) c.close-in-Err.result events h c.in-Err.refusal c.outcome_of_refusal.result c.outcome_of_refusal.ensures
-    (closed (StandsForOneOf sha256 h.name h events)
-    (leaves_weaker d.moment d.may_leave d.left_since (disk_of old) (disk_of new) (StandsForOneOf sha256 old.name h events) (StandsForOneOf sha256 h.name h events)
-    (λ i stands. own_names old.name h events i served.has.named stands) (c.in-Err.ensures.any_moment h served)))
-    (⊎_elim (λ is. inl is) (λ keeps. inr (
-      closed (IsOf h) (leaves_weaker d.moment d.may_leave d.left_since (disk_of old) (disk_of new) (λ i. StandsFor sha256 i old.name h) (IsOf h)
-          (λ i stands. own_name old.name h i stands) (keeps h served).1),
-      own_rest d.content d.may_leave d.moment d.left_since c.close-in-Err.result new.name h (c.close-in-Err.ensures.stands h (keeps h served).0),
-    )) c.in-Err.ensures.refused)
+    (subst
+    (λ disk. LeavesOldOrOneOf d.content d.may_leave d.moment d.left_since events (disk_of old) disk h × ReadsAsOneOf d.content d.may_leave d.moment d.left_since events disk h)
+    (sym c.close-in-Err.ensures.disk) (
+      named_one_of d.content d.may_leave d.moment d.left_since (disk_of old) (disk_of new) old.name events h served.has.named (c.in-Err.ensures.any_moment h served),
+      named_reads d.content d.may_leave d.moment d.left_since (disk_of new) old.name events h served.has.named (c.in-Err.ensures.told h served),
+    ))
+    (⊎_elim (λ is. inl is)
+    (λ keeps. inr (own_rest d.content d.may_leave d.moment d.left_since c.close-in-Err.result new.name h (c.close-in-Err.ensures.stands h (keeps h served).0)))
+    c.in-Err.ensures.refused)
 
 pub returns-in-Err-clause-unwritten : goal.returns-in-Err-clause-unwritten
 returns-in-Err-clause-unwritten g c = λ nothing.

@@ -1,5 +1,5 @@
 use Rattle.tw_app.specs.Leaving.{Leaves}
-use Rattle.tw_app.proofs.DiskEndings.{appended, crash, disk_fault, kept, made, proved, proving, unserved, untouched, unwritten}
+use Rattle.tw_app.proofs.DiskEndings.{appended, complete, crash, disk_fault, kept, made, proved, proving, settled, unserved, untouched, unwritten}
 use Rattle.tw_app.proofs.Endings.{accepted, built, input_fault, refused, rejected, shown, unreadable, usage}
 use Rattle.tw_app.proofs.ending.run.Goals as goal
 
@@ -99,6 +99,14 @@ returns-clause-store g c = λ is.
     (g.S.Sink.taken c.args.out.now) (g.S.Sink.taken c.run_to_the_end.new.out) (g.S.Sink.faults c.args.out.now) (g.S.Sink.faults c.run_to_the_end.new.out)
     c.run_to_the_end.result.status c.run_to_the_end.ensures is
 
+pub returns-clause-complete : goal.returns-clause-complete
+returns-clause-complete g c = λ h reads is.
+    complete g.D.Disk.content g.D.Disk.may_leave g.D.Disk.moment g.D.Disk.left_since g.met.D.Disk.only_now g.met.D.Disk.as_it_reads c.args.disk c.run_to_the_end.result.disk
+    (g.I.Inputs.told c.args.inputs.now) (g.I.Inputs.faults c.args.inputs.now) (g.I.Inputs.faults c.run_to_the_end.new.inputs)
+    (g.D.Disk.faults c.args.disk) (g.D.Disk.faults c.run_to_the_end.result.disk) _
+    (g.S.Sink.taken c.args.out.now) (g.S.Sink.taken c.run_to_the_end.new.out) (g.S.Sink.faults c.args.out.now) (g.S.Sink.faults c.run_to_the_end.new.out)
+    c.run_to_the_end.result.status c.run_to_the_end.ensures h reads is
+
 pub returns-clause-unreadable : goal.returns-clause-unreadable
 returns-clause-unreadable g c = λ is.
     unreadable (g.I.Inputs.told c.args.inputs.now) (g.I.Inputs.faults c.args.inputs.now) (g.I.Inputs.faults c.run_to_the_end.new.inputs)
@@ -138,6 +146,14 @@ returns-clause-proving g c = λ asks.
     (g.D.Disk.faults c.args.disk) (g.D.Disk.faults c.run_to_the_end.result.disk) _
     (g.S.Sink.taken c.args.out.now) (g.S.Sink.taken c.run_to_the_end.new.out) (g.S.Sink.faults c.args.out.now) (g.S.Sink.faults c.run_to_the_end.new.out)
     c.run_to_the_end.result.status c.run_to_the_end.ensures asks
+
+pub returns-clause-settled : goal.returns-clause-settled
+returns-clause-settled g c =
+    settled g.D.Disk.content g.D.Disk.may_leave g.D.Disk.moment g.D.Disk.left_since g.met.D.Disk.only_now g.met.D.Disk.as_it_reads c.args.disk c.run_to_the_end.result.disk
+    (g.I.Inputs.told c.args.inputs.now) (g.I.Inputs.faults c.args.inputs.now) (g.I.Inputs.faults c.run_to_the_end.new.inputs)
+    (g.D.Disk.faults c.args.disk) (g.D.Disk.faults c.run_to_the_end.result.disk) _
+    (g.S.Sink.taken c.args.out.now) (g.S.Sink.taken c.run_to_the_end.new.out) (g.S.Sink.faults c.args.out.now) (g.S.Sink.faults c.run_to_the_end.new.out)
+    c.run_to_the_end.result.status c.run_to_the_end.ensures
 
 pub returns-clause-untouched : goal.returns-clause-untouched
 returns-clause-untouched g c = λ other.

@@ -49,6 +49,13 @@ returns-in-ProveEvent-clause-comes g c =
     subst (λ command. ComesTo told faults faults (d.content c.args.disk) (d.faults c.args.disk) (d.faults c.prove.result.disk) command c.prove.result.outcome) (sym c.in-ProveEvent.is)
     (c.prove.ensures.comes told faults faults c.in-ProveEvent.dir)
 
+pub returns-in-ProveEvent-clause-leaves : goal.returns-in-ProveEvent-clause-leaves
+returns-in-ProveEvent-clause-leaves g c =
+    let told = g.I.Inputs.told c.args.inputs.now in
+    let d = g.D.Disk in
+    subst (λ command. CommandLeaves d.content d.may_leave d.moment d.left_since c.args.disk c.prove.result.disk told command c.prove.result.outcome) (sym c.in-ProveEvent.is)
+    (c.prove.ensures.leaves told c.in-ProveEvent.dir)
+
 pub returns-in_default : goal.returns-in_default
 returns-in_default g c = record {
   comes = c.follow_files.ensures (g.D.Disk.content c.args.disk) (g.D.Disk.faults c.args.disk) (g.D.Disk.faults c.args.disk);

@@ -1,7 +1,10 @@
-use Rattle.std.proofs.Common.{sym, subst}
+use Rattle.std.proofs.Common.{◌≡◌, ◌∙◌, sym, subst}
+use Rattle.std.specs.Prelude.{Some}
 use Rattle.tw_service.specs.Stands.{no_history}
-use Rattle.tw_app.specs.Disks.{MayBegin}
-use Rattle.tw_app.proofs.AtRest.{held_keeps, own_rest}
+use Rattle.tw_disk.specs.Disk.{LeavesOnly}
+use Rattle.tw_disk.specs.Image.{Image}
+use Rattle.tw_app.specs.Disks.{IsOldOrBegun}
+use Rattle.tw_app.proofs.AtRest.{held_keeps, own_rest, rests_begun}
 use Rattle.tw_app.proofs.Landings.{unmade, unmade_leaves}
 use Rattle.tw_app.proofs.making.make.Goals as goal
 
@@ -14,9 +17,17 @@ returns-in-Ok-clause-comes g c = λ told before after dir. record {
 pub returns-in-Ok-clause-leaves : goal.returns-in-Ok-clause-leaves
 returns-in-Ok-clause-leaves g c = λ told dir.
     let d = g.D.Disk in
-    let first = no_history c.args.name in (
-      subst (λ disk. MayBegin d.content d.may_leave d.moment d.left_since c.args.name c.args.disk disk) (sym c.close.ensures.disk) c.in-Ok.ensures.any_moment,
-      λ image told_image. own_rest d.content d.may_leave d.moment d.left_since c.close.result c.in-Ok.service.name first (c.close.ensures.stands first (c.in-Ok.ensures.served image told_image)),
+    let name = c.args.name in
+    let disk = c.args.disk in
+    let first = no_history name in
+    let rests = λ (image : Image) (told_image : d.content disk ≡ Some image).
+    own_rest d.content d.may_leave d.moment d.left_since c.close.result c.in-Ok.service.name first (c.close.ensures.stands first (c.in-Ok.ensures.served image told_image)) in (
+      λ image told_image. (
+        subst (λ now. LeavesOnly d.moment d.may_leave d.left_since disk now (IsOldOrBegun d.content d.may_leave d.moment d.left_since name disk)) (sym c.close.ensures.disk)
+            (c.in-Ok.ensures.any_moment image told_image),
+        rests_begun d.content d.may_leave d.moment d.left_since g.met.D.Disk.as_it_reads disk c.close.result name (rests image told_image),
+      ),
+      rests,
     )
 
 pub returns-in-Err-clause-comes : goal.returns-in-Err-clause-comes
@@ -28,5 +39,7 @@ pub returns-in-Err-clause-leaves : goal.returns-in-Err-clause-leaves
 returns-in-Err-clause-leaves g c = λ told dir.
     let d = g.D.Disk in
     unmade_leaves d.content d.may_leave d.moment d.left_since c.args.disk c.in-Err.disk c.args.name c.in-Err.fault
-    c.outcome_of_store.result c.outcome_of_store.ensures c.in-Err.ensures.answers c.in-Err.ensures.unchanged c.in-Err.ensures.any_moment_err
+    c.outcome_of_store.result c.outcome_of_store.ensures c.in-Err.ensures.answers c.in-Err.ensures.unchanged
+    (λ image told_image. (c.in-Err.ensures.any_moment_err image told_image, c.in-Err.ensures.told image told_image))
     (held_keeps d.content d.may_leave d.moment d.left_since g.met.D.Disk.as_it_reads c.args.disk c.in-Err.disk c.in-Err.ensures.held)
+    (λ image told_image taken. let held = c.in-Err.ensures.held image told_image taken in (held.0 ∙ sym told_image, held.1))

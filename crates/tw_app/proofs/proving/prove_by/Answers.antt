@@ -4,7 +4,7 @@ use Rattle.tw_outside.specs.Faults.{Rose}
 use Rattle.tw_service.specs.Serves.{Serves, disk_of, pages_of}
 use Rattle.tw_app.specs.Disks.{IsLeft}
 use Rattle.tw_app.specs.Proving.{top_of}
-use Rattle.tw_app.proofs.AtRest.{rose_since, same_left}
+use Rattle.tw_app.proofs.AtRest.{own_rest, rose_since, same_left}
 use Rattle.tw_app.proofs.EventProofs.{proof_done, proof_refused}
 use Rattle.tw_app.proofs.proving.prove_by.Goals as goal
 
@@ -40,3 +40,13 @@ returns-in-Err-clause-leaves g c =
     let old = c.args.service in
     subst (λ disk. IsLeft d.content d.may_leave d.moment d.left_since (disk_of old) disk) (sym c.close-in-Err.ensures.disk)
     (same_left d.content d.may_leave d.moment d.left_since g.met.D.Disk.only_now old c.prove_event.new.self c.in-Err.ensures.unwritten)
+
+pub returns-in-Ok-clause-rests : goal.returns-in-Ok-clause-rests
+returns-in-Ok-clause-rests g c = λ h served.
+    let d = g.D.Disk in
+    own_rest d.content d.may_leave d.moment d.left_since c.close.result c.prove_event.new.self.name h (c.close.ensures.stands h (c.in-Ok.ensures.same h served).0)
+
+pub returns-in-Err-clause-rests : goal.returns-in-Err-clause-rests
+returns-in-Err-clause-rests g c = λ h served.
+    let d = g.D.Disk in
+    own_rest d.content d.may_leave d.moment d.left_since c.close-in-Err.result c.prove_event.new.self.name h (c.close-in-Err.ensures.stands h (c.in-Err.ensures.same h served).0)
