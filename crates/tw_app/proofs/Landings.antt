@@ -102,14 +102,25 @@ module _ {D : Type 0} (content : D → Option Image) (may_leave : D → Image �
         → ((h : History) → ReadsAs (content old) h → LeavesStep content may_leave moment left_since old new events h came)
         → (WritesNothing came → IsLeft content may_leave moment left_since old new)
         → CommandLeaves content may_leave moment left_since old new told (Append dir file) came
-    leaves_of_step as_it_reads told before after dir file events (Made thread) are comes leaves nothing = (events, are, (comes, λ h. (
-      λ reads. leaves h reads,
-      λ stands. one_of content may_leave moment left_since old new events h stands (leaves h (reads_as content may_leave moment left_since as_it_reads old h stands)).1,
-    )))
-    leaves_of_step as_it_reads told before after dir file events DiskFault are comes leaves nothing = (events, are, λ h. (
-      λ reads. leaves h reads,
-      λ stands. one_of content may_leave moment left_since old new events h stands (leaves h (reads_as content may_leave moment left_since as_it_reads old h stands)).0,
-    ))
+    leaves_of_step as_it_reads told before after dir file events (Made thread) are comes leaves nothing = (
+      events,
+      are,
+      (
+        comes,
+        λ h. (
+          λ reads. leaves h reads,
+          λ stands. one_of content may_leave moment left_since old new events h stands (leaves h (reads_as content may_leave moment left_since as_it_reads old h stands)).1,
+        ),
+      ),
+    )
+    leaves_of_step as_it_reads told before after dir file events DiskFault are comes leaves nothing = (
+      events,
+      are,
+      λ h. (
+        λ reads. leaves h reads,
+        λ stands. one_of content may_leave moment left_since old new events h stands (leaves h (reads_as content may_leave moment left_since as_it_reads old h stands)).0,
+      ),
+    )
     leaves_of_step as_it_reads told before after dir file events (Refused refusal) are comes leaves nothing = (nothing tt, λ h reads. leaves h reads)
     leaves_of_step as_it_reads told before after dir file events (Unserved cause) are comes leaves nothing = nothing tt
     leaves_of_step as_it_reads told before after dir file events NoMemory are comes leaves nothing = nothing tt
