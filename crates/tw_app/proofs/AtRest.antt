@@ -12,7 +12,7 @@ use Rattle.tw_pages.specs.Slots.{IsOpen, IsTaken}
 use Rattle.tw_skiplist.specs.Keeping.{event_step}
 use Rattle.tw_service.specs.declared.service.Service.{Service}
 use Rattle.tw_service.specs.Serves.{HasSameDisk, disk_of}
-use Rattle.tw_service.specs.Stands.{IsBlankOrNew, StandsFor, StandsForOneOf, no_history}
+use Rattle.tw_service.specs.Stands.{StandsFor, StandsForOneOf, no_history}
 use Rattle.tw_app.specs.declared.outcome.Outcome.{Outcome}
 use Rattle.tw_app.specs.declared.outcome.Outcome.TheVariants.{Judged, Shown, Made, Refused, Unserved, Unreadable, BadWords, InputFault, DiskFault, NoMemory}
 use Rattle.tw_app.specs.Disks.{IsLeft, IsOf, IsOldOrBegun, Keeps, LeavesOldOrOneOf, MayBegin, ReadsAs, ReadsAsOneOf, Rests, Stands}

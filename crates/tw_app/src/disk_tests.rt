@@ -242,3 +242,44 @@ fn a_crash_at_each_call_leaves_the_step_or_none(rt: HostRuntime) {
         }
     }
 }
+
+#[test]
+fn what_was_answered_after_a_disk_fault_stands_after_a_crash(rt: HostRuntime) {
+    let alloc = rt.alloc();
+    let prove = ["prove", "d", "event", "1", "0"];
+    for call in 1u64..9 {
+        for choice in 0u8..4 {
+            let mut disk = made(&rt, alloc);
+            disk.fail(call).expect(&rt, "memory");
+            let disk = expect(&rt, alloc, disk, &["append", "d", "e"], 5, b"fault disk\n");
+            let (status, mut disk) = status_of(&rt, alloc, disk, &prove);
+            disk.crash(choice);
+            let (again, disk) = status_of(&rt, alloc, disk, &prove);
+            assert_eq!(rt; again, status);
+            drop(disk);
+        }
+    }
+}
+
+#[test]
+fn a_step_made_after_a_disk_fault_stands_after_a_crash(rt: HostRuntime) {
+    let alloc = rt.alloc();
+    for call in 1u64..9 {
+        for choice in 0u8..4 {
+            let mut disk = made(&rt, alloc);
+            disk.fail(call).expect(&rt, "memory");
+            let disk = expect(&rt, alloc, disk, &["append", "d", "e"], 5, b"fault disk\n");
+            let (status, mut disk) = status_of(&rt, alloc, disk, &["append", "d", "e"]);
+            assert_eq!(rt; status, 0);
+            disk.crash(choice);
+            drop(expect(
+                &rt,
+                alloc,
+                disk,
+                &["prove", "d", "event", "1", "0", "1"],
+                0,
+                &LEAST,
+            ));
+        }
+    }
+}
