@@ -9,7 +9,7 @@ from pathlib import Path
 TOP = Path(__file__).resolve().parent.parent.parent
 LONGEST = 40
 
-# Numbers of papers, codes of demands, and paths of one machine.
+# Codes that a reader can't look up, and paths of one machine.
 FOREIGN = re.compile(r"\bT[1-5]\b|\b[DRW]\d+\b|\b[Dd]ocument 0[1-4]|\b[Rr]ow \d+\b|/" + r"work/|/" + r"root/")
 
 
@@ -50,7 +50,7 @@ def long_functions(program):
 
 
 def foreign_words(program):
-    """The places that speak of papers, demands or a machine."""
+    """The places that speak of what a reader can't look up."""
     wrong = []
     for path in files("*"):
         data = path.read_bytes()

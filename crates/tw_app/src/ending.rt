@@ -122,7 +122,7 @@ fn run_to_the_end<D: Disk, I: Inputs, S: Sink>(
 ///   where the words have a form whose work isn't built yet.
 /// - 3: the inputs failed; `fault input`.
 /// - 4: the sink failed; a part of the text was written. A step that was made stands.
-/// - 5: the disk failed; `fault disk`. Of `append` it may hold the step or not.
+/// - 5: the disk failed; `fault disk`. Of `append` it may hold the step or not, of `init` the service.
 /// - 6: there was no memory; `no memory`. No step was made.
 /// - 7: what was asked for isn't there or may not be made; `refused`, the refusal's name and its
 ///   fields.
@@ -130,8 +130,8 @@ fn run_to_the_end<D: Disk, I: Inputs, S: Sink>(
 /// - 9: a file isn't what the command reads; `unreadable` or `unsound`, the file and where.
 ///
 /// The words are judged first; then all files are read, anchors before a proof; then what the files
-/// hold is judged, that of a proof last; then comes the disk. A command whose words name no
-/// directory makes no device call.
+/// hold is judged, that of a proof last; then comes the disk. A command that works on no
+/// directory hands the disk back as it is.
 pub fn run<D: Disk, I: Inputs, S: Sink>(
     alloc: Global,
     words: &[String],

@@ -1,4 +1,4 @@
-// All that the program does, over any inputs and any sink.
+// All that the program does, over any disk, inputs and sink.
 #![tactic(auto)]
 
 mod appending;

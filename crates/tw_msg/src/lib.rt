@@ -1,4 +1,4 @@
-// Messages between services, and the small files that hold what a service or a verifier is given.
+// The small files that hold what a service or a verifier is given: anchors, and events.
 #![tactic(auto)]
 
 mod anchors;

@@ -15,7 +15,7 @@ use tw_disk::{Disk, Pages};
 use tw_pages::{Store, StoreFault};
 use tw_skiplist::Head;
 
-/// A service: one sound history on a disk.
+/// A service: one sound history on a disk, where its pages keep one.
 #[derive(Drop)]
 pub struct Service<D: Disk, H: Hasher> {
     alloc: Global,
@@ -55,11 +55,11 @@ impl<D: Disk, H: Hasher> Service<D, H> {
 
     /// Makes a service of this name, without a step, on a disk that has no store.
     ///
-    /// `Taken` exactly where the disk has at least four pages and a gate reads open, and then nothing
-    /// is changed; else only `DiskFault`, never `NoMemory`. A disk with four pages and an open gate reads
-    /// as before, and a crash leaves nothing else than before, whatever the answer. Where a crash stops
-    /// it, the disk is blank or stands for the empty history of the name, or is what a crash might have
-    /// left before; and so reads a disk that told its content and is given back.
+    /// A disk fault excepted, it answers `Taken` exactly where the disk has at least four pages and a gate
+    /// reads open, and then changes nothing; else only `DiskFault`, never `NoMemory`. A disk with four
+    /// pages and an open gate reads as before, and a crash leaves nothing else than before, whatever the
+    /// answer. Where a crash stops it, the disk is blank or stands for the empty history of the name, or is
+    /// what a crash might have left before; and so reads a disk that told its content and is given back.
     pub fn init(alloc: Global, disk: D, name: Name) -> Result<Service<D, H>, (D, StoreFault)>
         // The empty history of the name, for good.
         ensures served { IfOk result (λ s. (c : Image) → D.content disk ≡ Some c
@@ -218,11 +218,12 @@ impl<D: Disk, H: Hasher> Service<D, H> {
     /// Refusals, the first that stands: `Reopen` where an earlier call on this value answered
     /// `DiskFault`; `Full` where there are 2^40 - 1 steps; `TooMany` where there are more than 1,024
     /// events; `TooLong` where one is longer than 1,024 bytes, with the length of the first such one,
-    /// or where together they are longer than 65,536 bytes, with that length. All memory is taken
-    /// before the first write, so after `NoMemory` the disk is as before. After `DiskFault` this value
-    /// has to be given up; where a history was served, the disk tells its content still, which stands
-    /// for the history before the call or with the new step; `open` then serves that one, or meets a
-    /// disk fault.
+    /// or where together they are longer than 65,536 bytes, with that length. `BadPage` tells the
+    /// first page met for the new step's links that isn't the page of its step; it never comes where
+    /// a history is served. All memory is taken before the first write, so after `NoMemory` the disk is
+    /// as before. After `DiskFault` this value has to be given up; where a history was served, the disk
+    /// tells its content still, which stands for the history before the call or with the new step;
+    /// `open` then serves that one, or meets a disk fault.
     pub fn append(&mut self, events: &EventList) -> Result<Thread, Refusal>
         // The refusals of the table, in its order, and no others where none of it stands.
         ensures table { MatchOption (append_refusal_of (has_failed self.old) (steps_of self.old) events.now)
@@ -286,8 +287,9 @@ impl<D: Disk, H: Hasher> Service<D, H> {
     ///
     /// Refusals, the first that stands: `Reopen` where an earlier call on this value answered
     /// `DiskFault`; `NoStep` where 1 <= step <= top <= the last step doesn't hold, with the last step;
-    /// `NoEvent` where the index isn't below the step's count of events, with the count. It writes
-    /// nothing.
+    /// `NoEvent` where the index isn't below the step's count of events, with the count. `BadPage` tells
+    /// the first page met that isn't of its kind, or the one read last where the event pages don't spell
+    /// the step's events; it never comes where a history is served. It writes nothing.
     pub fn prove_event(&mut self, step: u64, index: u32, top: u64) -> Result<Bytes, Refusal>
         // The refusals of the table that need no page, in its order.
         ensures table { MatchOption (order_refusal_of (has_failed self.old) (steps_of self.old) step top)

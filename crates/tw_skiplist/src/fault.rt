@@ -3,7 +3,7 @@
 /// Why a call on a list of steps has no answer.
 #[derive(Clone, Copy, Debug, PartialEq, Eq, Drop)]
 pub enum ListFault {
-    /// The step asked for isn't there; the last step is told.
+    /// The steps asked for aren't there, or not in their order; the last step is told.
     NoStep { last: u64 },
     /// The page of this number isn't what it is named as: it is none of the pages, or not of its kind,
     /// or of another step. Or the event pages of a step are, but spell no such events, and it is the
