@@ -21,7 +21,7 @@ sys.path.insert(0, str(TOP / "tests/acceptance"))
 import calls  # noqa: E402
 import reference  # noqa: E402
 from instructions import counted  # noqa: E402
-from picture import bars  # noqa: E402
+from picture import drawn  # noqa: E402
 from rivals import all_rivals  # noqa: E402
 from stores import Store, events_file  # noqa: E402
 from timing import best_times  # noqa: E402
@@ -93,7 +93,7 @@ class Bench:
         """The row of the same calls in C, where they can be traced."""
         if not self.calls:
             return []
-        row = (label, calls.same_calls(self.calls, words, self.folder), "calls")
+        row = (label, calls.same_calls(self.calls, words, self.folder))
         if store:
             store.put_back()
         return [row]
@@ -110,39 +110,35 @@ def size_of(words):
     return f"{os.path.getsize(words[2]):,} bytes"
 
 
-def compared(bench, title, rows, runs, before=lambda: None):
-    """The rows of label, command and kind as lines of a table, and as a group of the picture."""
-    rows = [(f"`{TRUE}`", [TRUE], "nothing"), *rows]
-    best = best_times([words for _, words, _ in rows], runs, before)
-    lines = [f"| {label} | {microseconds(time)} | {time / best[0]:.2f} |" for (label, _, _), time in zip(rows, best)]
-    text = ["", f"**{title}**", "", f"| command | best of {runs:,} runs, in microseconds | ratio to `{TRUE}` |", "|---|---|---|", *lines]
-    return text, (title, [(label.replace("`", ""), time / best[0], kind) for (label, _, kind), time in zip(rows, best)])
+def compared(title, rows, runs, before=lambda: None):
+    """The rows of label and command as lines of a table, which the picture shows too."""
+    rows = [(f"`{TRUE}`", [TRUE]), *rows]
+    best = best_times([words for _, words in rows], runs, before)
+    lines = [f"| {label} | {microseconds(time)} | {time / best[0]:.2f} |" for (label, _), time in zip(rows, best)]
+    return ["", f"**{title}**", "", f"| command | best of {runs:,} runs, in microseconds | ratio to `{TRUE}` |", "|---|---|---|", *lines]
 
 
 def comparisons(bench):
     """`verify`, `prove` and `append` beside nothing, beside the same calls in C, and beside other programs."""
     plan, store = bench.plan, Kept(bench.folder, bench.plan.compared)
     rivals, missing = all_rivals(bench.folder, plan.compared)
-    beside = {kind: [(label, words, "other") for label, words in rows] for kind, rows in rivals.items()}
     prove, append = bench.prove(store, 1), bench.append(store)
     wanted = [
         ("verify", [
             *bench.same_calls(f"the calls of `verify`, {size_of(bench.deep)}", bench.deep),
-            (f"`timeweave verify`, {size_of(bench.least)}", bench.least, "own"),
-            (f"`timeweave verify`, {size_of(bench.deep)}", bench.deep, "own"),
+            (f"`timeweave verify`, {size_of(bench.least)}", bench.least),
+            (f"`timeweave verify`, {size_of(bench.deep)}", bench.deep),
         ], plan.runs, lambda: None),
-        ("prove", [*bench.same_calls("the calls of `prove`", prove), ("`timeweave prove`, step 1", prove, "own")], plan.runs, lambda: None),
-        ("append", [*bench.same_calls("the calls of `append`", append, store), ("`timeweave append`", append, "own")], plan.appends, store.put_back),
+        ("prove", [*bench.same_calls("the calls of `prove`", prove), ("`timeweave prove`, step 1", prove)], plan.runs, lambda: None),
+        ("append", [*bench.same_calls("the calls of `append`", append, store), ("`timeweave append`", append)], plan.appends, store.put_back),
     ]
-    text, groups = [], []
+    text = []
     for title, rows, runs, before in wanted:
-        lines, group = compared(bench, title, rows + beside[title], runs, before)
-        text += lines
-        groups.append(group)
+        text += compared(title, rows + rivals[title], runs, before)
     missing += [name for name in ("strace", "cc") if not shutil.which(name)]
     if missing:
         text += ["", f"Not installed, so that what needs them isn't measured: {', '.join(missing)}."]
-    return text, groups
+    return text
 
 
 def store_tables(bench):
@@ -154,8 +150,8 @@ def store_tables(bench):
             prove = bench.prove(store, step)
             nothing, took = best_times([[TRUE], prove], bench.plan.runs)
             proofs.append(f"| {count:,} | {step:,} | {bench.pages(prove)} | {microseconds(took)} | {took / nothing:.2f} |")
-        rows = [*bench.same_calls("", bench.append(store), store), ("", bench.append(store), "")]
-        *alone, took = best_times([words for _, words, _ in rows], bench.plan.appends, store.put_back)
+        rows = [*bench.same_calls("", bench.append(store), store), ("", bench.append(store))]
+        *alone, took = best_times([words for _, words in rows], bench.plan.appends, store.put_back)
         ratios = f"{microseconds(alone[0])} | {microseconds(took)} | {took / alone[0]:.2f}" if alone else f"? | {microseconds(took)} | ?"
         appends.append(f"| {count:,} | {ratios} |")
     return [
@@ -193,7 +189,7 @@ def shown_tables(bench):
                 counts.append(f"| {per_step} | {blocks:,} | {inside:,} | {own:,} | {ratios[0]} | {total:,} | {ratios[1]} |")
     text = [
         "", "`show HISTORY 1 0` on histories of events of 200 bytes:", "",
-        f"| MiB | events a step | steps | best of {bench.plan.shows} runs, in milliseconds | a MiB |", "|---|---|---|---|---|", *times,
+        f"| MiB | events a step | steps | best of {bench.plan.shows} runs, in milliseconds | milliseconds a MiB |", "|---|---|---|---|---|", *times,
     ]
     if counts:
         text += [
@@ -234,12 +230,12 @@ def instruction_table(bench):
 def introduction(plan):
     return [
         "# Measured", "",
-        f"By `make bench`, on {platform.machine()} with {os.cpu_count()} processors, {platform.system()}. Each command's best time of many",
-        "runs that took turns; ratios are to `/bin/true`, which is what starting a program takes.",
-        f"The longer proof has a path of 40 links, from step {TOP_STEP:,} to step {STEP}, and is of one of 1,024 events. The store of `prove` and",
-        f"`append` has {plan.compared:,} steps of one event each; the table and the repository beside it have as many rows and commits. What",
-        "these and a time stamp give is not what a proof gives (`rivals.py` says what each does); they tell how long commands take that are",
-        "known. The same calls in C are those on files that `strace` sees, made by `same_calls.c`.", "",
+        f"By `make bench`, on {platform.machine()} with {os.cpu_count()} processors, {platform.system()}. Each time is that of a whole command, the",
+        "best of many runs that took turns; ratios are to `/bin/true`, which is what starting a program takes.", "",
+        f"The longer proof of `verify` has a path of 40 links, from step {TOP_STEP:,} to step {STEP}, and is of one of 1,024 events. The store of",
+        f"`prove` and `append` has {plan.compared:,} steps of one event each; the table and the repository beside it have as many rows and commits.",
+        "The rows of the calls are of a program in C, `same_calls.c`, that makes the calls on files that `strace` sees the command make. The other",
+        "programs give something else than a proof gives (`rivals.py` says what each does): they tell how long commands take that are known.", "",
         "![each command's time as a ratio to /bin/true](RESULTS.svg)",
     ]
 
@@ -251,11 +247,10 @@ def main():
     plan = Plan(is_trial)
     with tempfile.TemporaryDirectory() as folder:
         bench = Bench(program, folder, plan)
-        text, groups = comparisons(bench)
-        text = introduction(plan) + text + store_tables(bench) + shown_tables(bench) + instruction_table(bench)
+        text = introduction(plan) + comparisons(bench) + store_tables(bench) + shown_tables(bench) + instruction_table(bench)
     result = "\n".join(text) + "\n"
     (target / "RESULTS.md").write_text(result)
-    (target / "RESULTS.svg").write_text(bars(groups))
+    (target / "RESULTS.svg").write_text(drawn(result))
     print(result, end="")
 
 
