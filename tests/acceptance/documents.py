@@ -1,6 +1,5 @@
 """The documents say what is so: each link leads to a file and a heading, the README's tutorial gives the output that it shows,
-each clause that the README cites stands in the contract of the function beside it, pictures are those of their data, and tables
-name each crate."""
+pictures are those of their data, and tables name each crate. What they name in the sources is checked by cited.py."""
 
 import os
 import re
@@ -57,53 +56,19 @@ def tutorial(program):
     return "\n".join(wrong + [ran.stderr] * bool(ran.stderr)) or None
 
 
-def contracts():
-    """The names of the clauses of each function, by its name; a name that several functions have stands for all of them."""
-    found = {}
-    for source in sorted((TOP / "crates").glob("*/src/**/*.rt")):
-        for match in re.finditer(r"^ *(?:pub )?fn (\w+)(.*?)(?:^ *\{|[{;]$)", source.read_text(), re.M | re.S):
-            found.setdefault(match[1], set()).update(re.findall(r"^ *ensures (\w+) \{", match[2], re.M))
-    return found
-
-
-def cited(text):
-    """The functions of each row of the tables of what is proved, with their clauses: `f`, `g`: `c`, `d`; `h`: `e`."""
-    section = text.split("\n## What is proved\n")[1].split("\n## ")[0]
-    for row in re.findall(r"^\|(.*)\|$", section, re.M):
-        cell = row.split("|")[1]
-        for group in cell.split(";"):
-            names, _, clauses = group.partition(": ")
-            if " as " not in names:
-                yield re.findall(r"`(?:\w+::)?(\w+)`", names), re.findall(r"`(\w+)`", clauses)
-
-
-def claims(program):
-    """The clauses that the README cites and that aren't there."""
-    known = contracts()
-    wrong = []
-    for names, clauses in cited((TOP / "README.md").read_text()):
-        # (the table of `run` names its clauses alone)
-        if not clauses and all(name in known["run"] for name in names):
-            continue
-        wrong += [f"  there is no function {name}" for name in names if name not in known]
-        wrong += [
-            f"  {' and '.join(names)} has no clause {clause}"
-            for clause in clauses
-            if not any(clause in known.get(name, ()) for name in names)
-        ]
-    return "\n".join(wrong) or None
-
-
 def pictures(program):
     """The documents whose pictures aren't those of their data."""
-    ran = subprocess.run([sys.executable, TOP / "tools/pictures.py", "--check"], capture_output=True, text=True, timeout=60)
-    return f"  python3 tools/pictures.py --check\n{ran.stdout}{ran.stderr}" if ran.returncode else None
+    wrong = []
+    for script in ("tools/pictures.py", "bench/picture.py"):
+        ran = subprocess.run([sys.executable, TOP / script, "--check"], capture_output=True, text=True, timeout=60)
+        wrong += [f"  python3 {script} --check\n{ran.stdout}{ran.stderr}"] * bool(ran.returncode)
+    return "\n".join(wrong) or None
 
 
 def tables(program):
     """The crates that a table or the picture of the crates leaves out, or has beyond crates.txt."""
     known = set(re.findall(r"^(\w+)[\w ]*:", (TOP / "crates.txt").read_text(), re.M))
-    readme = (TOP / "README.md").read_text().split("\n## The crates\n")[1].split("\n## ")[0]
+    readme = (TOP / "README.md").read_text().split("\n### The crates\n")[1]
     picture, table = (TOP / "docs/architecture.md").read_text().split("\n## The crates\n")[1].split("\n## ")[0].split("\n| crate |")
     found = {
         "the README's table": set(re.findall(r"^\| `(\w+)` \|", readme, re.M)),
@@ -114,9 +79,13 @@ def tables(program):
     return "\n".join(wrong) or None
 
 
-def cases():
+def without_program():
+    """The cases that need no built program."""
     yield {"name": "documents: links", "check": links}
-    yield {"name": "documents: tutorial", "check": tutorial}
-    yield {"name": "documents: claims", "check": claims}
     yield {"name": "documents: pictures", "check": pictures}
     yield {"name": "documents: tables of crates", "check": tables}
+
+
+def cases():
+    yield {"name": "documents: tutorial", "check": tutorial}
+    yield from without_program()

@@ -1,10 +1,11 @@
 """The acceptance run: each case runs the built program over real files, and compares its status and output.
 
     python3 tests/acceptance/run.py [PROGRAM]      `make check` calls it so
+    python3 tests/acceptance/run.py --texts        documents and sources alone, but for the tutorial; it needs no built program
 
 The cases stand in cases/*.json, those that are counted off in generated.py, those of services in steps.py
-and failing.py; documents.py checks the documents, installed.py what `make install` copies, and sources.py the sources. A case
-has
+and failing.py; documents.py and cited.py check the documents, installed.py what `make install` copies, and sources.py the sources.
+A case has
 
     name       what it shows
     words      the program's arguments; $AUTH is the authenticator of step 1 of the least proof
@@ -31,6 +32,7 @@ import tempfile
 from concurrent.futures import ThreadPoolExecutor
 from pathlib import Path
 
+import cited
 import documents
 import failing
 import generated
@@ -144,11 +146,24 @@ def all_cases():
     yield from steps.cases()
     yield from failing.cases()
     yield from documents.cases()
+    yield from cited.cases()
     yield from installed.cases()
     yield from sources.cases()
 
 
+def told(cases, found):
+    """Tells the cases that failed, and how many did; answers the status."""
+    failed = [(case, wrong) for case, wrong in zip(cases, found) if wrong]
+    for case, wrong in failed:
+        print(f"FAILED {case['name']}\n{wrong}")
+    print(f"{len(cases) - len(failed)} passed, {len(failed)} failed")
+    return 1 if failed else 0
+
+
 def main():
+    if sys.argv[1:] == ["--texts"]:
+        cases = [*documents.without_program(), *cited.cases(), *sources.cases()]
+        return told(cases, [difference(None, case) for case in cases])
     program = os.path.abspath(sys.argv[1] if len(sys.argv) > 1 else TOP / "crates/timeweave/out/timeweave")
     if not os.access(program, os.X_OK):
         print(f"{program} isn't there: `make build` builds it")
@@ -163,13 +178,7 @@ def main():
         found = list(pool.map(lambda case: difference(program, case), cases))
     cases.append({"name": "each status and text that the README names is among the answers"})
     found.append("\n".join(seen.missing()) or None)
-    failed = 0
-    for case, wrong in zip(cases, found):
-        if wrong:
-            failed += 1
-            print(f"FAILED {case['name']}\n{wrong}")
-    print(f"{len(cases) - failed} passed, {failed} failed")
-    return 1 if failed else 0
+    return told(cases, found)
 
 
 if __name__ == "__main__":

@@ -1,0 +1,159 @@
+"""What the documents name is there: each clause in the contract of the function beside it, each definition in its module, each path."""
+
+import re
+
+from declared import TOP, crates
+
+DOCUMENTS = [TOP / "README.md", *sorted((TOP / "docs").glob("*.md")), *sorted((TOP / "bench").glob("*.md"))]
+SOURCES = ("crates/*/src/**/*.rt", "crates/*/specs/*.antt", "crates/*/proofs/**/*.antt", "tests/acceptance/*.py", "tools/*.*", "bench/*.py")
+CRATE = re.compile(r"`(tw_\w+|timeweave)\b")
+NAMES = r"(?:`\w+`(?:,\s|\sand\s)?)+"
+PATH = re.compile(r"(?<![\w/.$])(?:crates|tests|tools|specs|docs|bench|examples|proofs|src|must-fail|cases|tw_\w+)/[\w.*/-]*\w")
+
+
+def sections(text, level):
+    """The parts of a document that begin with a heading of a level, without their pictures; what stands before is left out."""
+    return re.split(rf"^{level} ", re.sub(r"```.*?```", "", text, flags=re.S), flags=re.M)[1:]
+
+
+def inside(names):
+    """The names between backticks."""
+    return re.findall(r"`([\w:]+)`", names)
+
+
+def rows(text):
+    """The rows of the tables of what is proved: the crates that decide, the function whose clauses stand alone, and the cited cell.
+
+    The crates are those of the row's third cell, or else the first that the sentence above the table names."""
+    proved = next(part for part in sections(text, "##") if part.startswith("What is proved\n"))
+    above, alone = [], None
+    for line in proved.splitlines():
+        cells = line.strip("|").split("|")
+        if line.startswith("**"):
+            above, function = CRATE.findall(line)[:1], re.search(r"`(\w+)` in `tw_", line)
+        elif line.startswith("| in plain words"):
+            alone = function[1] if cells[1].strip() == "clause" else None
+        elif line.startswith("| "):
+            yield (CRATE.findall(cells[2]) if len(cells) > 2 else above), alone, cells[1]
+
+
+def groups(cell, alone):
+    """The functions of a cell with their clauses, as `f`, `g`: `c`, `d`; `h`: `e`. What is said of `T` as `U` is of a type's methods."""
+    for group in cell.split(";"):
+        names, _, clauses = group.partition(": ")
+        if alone:
+            yield [alone], inside(group)
+        elif " as " in names:
+            types, methods = inside(names.partition(" as ")[0]), inside(clauses)
+            yield [f"{name}::{method}" for name in types for method in methods], []
+        else:
+            yield inside(names), inside(clauses)
+
+
+def claims(program):
+    """The functions and clauses that the README cites and that their crates don't have; one of the row's crates has each function."""
+    wrong = []
+    for named, alone, cell in rows((TOP / "README.md").read_text()):
+        place = " and ".join(named)
+        for functions, clauses in groups(cell, alone):
+            for name in functions:
+                found = [crates()[crate].functions[name] for crate in named if name in crates()[crate].functions]
+                if len(found) != 1:
+                    wrong.append(f"  {len(found)} of {place} have a public function {name}")
+                else:
+                    wrong += [f"  {name} of {place} has no clause {clause}" for clause in clauses if clause not in found[0]]
+    return "\n".join(wrong) or None
+
+
+def members(owner):
+    """What stands under a name: of a crate or its specs, of a module, of a record, or of a function; None where nothing has members."""
+    crate, _, rest = owner.partition("/")
+    if crate in crates():
+        module = rest.removeprefix("specs/")
+        return crates()[crate].members(module) if module != rest else crates()[crate].names()
+    found = [crate.members(owner) for crate in crates().values() if crate.members(owner) is not None]
+    return set().union(*found) if found else None
+
+
+def of_owners(program):
+    """The members that a document names beside their owner and that aren't there: `owner`: `member`, `member`; `CRATE/specs/MODULE`
+    (`member`); `member` of or in `CRATE`."""
+    wrong = []
+    for document in DOCUMENTS:
+        text = document.read_text()
+        if document.name == "README.md":
+            # (its tables are those of `claims`)
+            text = re.sub(r"^\|.*\|$", "", text, flags=re.M)
+        found = re.findall(rf"`([\w/]+)`:\s({NAMES})", text) + re.findall(rf"`(\w+/specs/\w+)`\s\(({NAMES})\)", text)
+        found += [(crate, name) for name, crate in re.findall(r"(`\w+`)\s(?:of|in)\s`(tw_\w+)`", text)]
+        for owner, named in found:
+            known = members(owner)
+            wrong += [f"  {document.name}: {owner} has no {name}" for name in inside(named) if known is not None and name not in known]
+    return "\n".join(wrong) or None
+
+
+def in_sections(program):
+    """The code names in docs/definitions.md that no crate has which their section names; command words excepted."""
+    wrong, commands = [], set(re.findall(r'Fixed\("(\w+)"\)', (TOP / "crates/tw_text/src/form.rt").read_text()))
+    for part in sections((TOP / "docs/definitions.md").read_text(), "##"):
+        named = set(CRATE.findall(part))
+        known = commands.union(named, *(crates()[name].names() for name in named if name in crates()))
+        heading = part.partition("\n")[0]
+        unknown = [name for name in re.findall(r"`(\w*[a-z]\w*)`", part) if name not in known]
+        wrong += [f"  {heading}: none of {', '.join(sorted(named))} has {name}" for name in unknown]
+    return "\n".join(wrong) or None
+
+
+def in_modules(program):
+    """The definitions that a list of docs/definitions.md names in brackets, (`a`, `b`) or (`a` in `Module`), and that aren't in the modules
+    that the entry begins with, nor in the one beside them."""
+    wrong, text = [], (TOP / "docs/definitions.md").read_text()
+    for crate, listed in re.findall(r"In `(tw_\w+)/specs`:\n\n((?:(?:- |  +).*\n)+)", text):
+        for entry in re.split(r"^- ", listed, flags=re.M)[1:]:
+            heads = inside(re.match(NAMES, entry)[0])
+            for names, other in re.findall(rf"\(({NAMES})(?: in `(\w+)`)?\)", entry):
+                modules = [other] if other else heads
+                known = set().union(crates()[crate].functions, *(crates()[crate].members(module) or () for module in modules))
+                wrong += [f"  {crate}: {' and '.join(modules)} has no {name}" for name in inside(names) if name not in known]
+    return "\n".join(wrong) or None
+
+
+def code_names(program):
+    """The names with an underscore or a capital inside, between backticks in a document, that stand in no source."""
+    sources = [path for pattern in SOURCES for path in TOP.glob(pattern)]
+    known = set(crates()).union((path.stem for path in sources), *(re.findall(r"\w+", path.read_text()) for path in sources))
+    wrong = [
+        f"  {document.name}: {name}"
+        for document in DOCUMENTS
+        for name in re.findall(r"`(\w*[a-z](?:_|[A-Z])\w*)`", document.read_text())
+        if name not in known
+    ]
+    return "\n".join(wrong) or None
+
+
+def named_paths(text):
+    """The paths of a document, and those of the files that stand behind one by their names alone: `CRATE/proofs/A`, `B`; and so on: `C`."""
+    yield from PATH.findall(text)
+    for folder, more in re.findall(r"`(tw_\w+/(?:proofs|specs)/)\w+`((?:[,;]\s(?:[\w ]+: )?`\w+`)+)", text):
+        yield from (folder + name for name in inside(more))
+
+
+def paths(program):
+    """The paths that a document names and that lead to no file; words in capitals in them stand for any name."""
+    wrong = []
+    for document in DOCUMENTS:
+        for path in named_paths(document.read_text()):
+            pattern = re.sub(r"\b[A-Z]+\b", "*", path)
+            places = [pattern, f"crates/{pattern}", f"crates/*/{pattern}", f"tests/acceptance/{pattern}"]
+            if not any(next(TOP.glob(place + end), None) for place in places for end in ("", ".antt")):
+                wrong.append(f"  {document.name}: {path}")
+    return "\n".join(wrong) or None
+
+
+def cases():
+    yield {"name": "cited: clauses of functions", "check": claims}
+    yield {"name": "cited: members", "check": of_owners}
+    yield {"name": "cited: names of sections", "check": in_sections}
+    yield {"name": "cited: definitions of modules", "check": in_modules}
+    yield {"name": "cited: code names", "check": code_names}
+    yield {"name": "cited: paths", "check": paths}
