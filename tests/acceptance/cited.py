@@ -65,30 +65,33 @@ def claims(program):
     return "\n".join(wrong) or None
 
 
-def members(owner):
-    """What stands under a name: of a crate or its specs, of a module, of a record, or of a function; None where nothing has members."""
+def members(owner, named):
+    """What stands under a name in each crate that has it: of the crate or its specs, of a module, a record or a function."""
     crate, _, rest = owner.partition("/")
     if crate in crates():
         module = rest.removeprefix("specs/")
-        return crates()[crate].members(module) if module != rest else crates()[crate].names()
-    found = [crate.members(owner) for crate in crates().values() if crate.members(owner) is not None]
-    return set().union(*found) if found else None
+        return [crates()[crate].members(module) or set() if module != rest else crates()[crate].names()]
+    found = (crates()[crate].members(owner) for crate in ([named] if named else crates()))
+    return [known for known in found if known is not None]
 
 
 def of_owners(program):
-    """The members that a document names beside their owner and that aren't there: `owner`: `member`, `member`; `CRATE/specs/MODULE`
-    (`member`); `member` of or in `CRATE`."""
+    """The members that a document names beside their owner and that aren't there: `owner`: `member`, `member`, or `owner` of `CRATE`:
+    `member` where several crates have the owner; `CRATE/specs/MODULE` (`member`); `member` of or in `CRATE`."""
     wrong = []
     for document in DOCUMENTS:
         text = document.read_text()
         if document.name == "README.md":
             # (its tables are those of `claims`)
             text = re.sub(r"^\|.*\|$", "", text, flags=re.M)
-        found = re.findall(rf"`([\w/]+)`:\s({NAMES})", text) + re.findall(rf"`(\w+/specs/\w+)`\s\(({NAMES})\)", text)
-        found += [(crate, name) for name, crate in re.findall(r"(`\w+`)\s(?:of|in)\s`(tw_\w+)`", text)]
-        for owner, named in found:
-            known = members(owner)
-            wrong += [f"  {document.name}: {owner} has no {name}" for name in inside(named) if known is not None and name not in known]
+        found = re.findall(rf"`([\w/]+)`(?:\sof\s`(tw_\w+)`)?:\s({NAMES})", text)
+        found += re.findall(rf"`(\w+/specs/\w+)`()\s\(({NAMES})\)", text)
+        found += [(crate, "", name) for name, crate in re.findall(r"(`\w+`)\s(?:of|in)\s`(tw_\w+)`", text)]
+        for owner, crate, names in found:
+            known = members(owner, crate)
+            if len(known) > 1:
+                wrong.append(f"  {document.name}: {len(known)} crates have {owner}, and none is named beside it")
+            wrong += [f"  {document.name}: {owner} has no {name}" for name in inside(names) if len(known) == 1 and name not in known[0]]
     return "\n".join(wrong) or None
 
 
