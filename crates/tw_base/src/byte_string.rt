@@ -4,8 +4,8 @@ ghost use Rattle.std.specs.Prelude.{◌≡◌, ◌+◌, ◌≤◌, length, IfOk}
 ghost use Rattle.tw_base.specs.Fields.{bytes as any_bytes};
 ghost use Rattle.tw_base.specs.Formats.{GivesIfMemory, read_at};
 
-use crate::bytes::Bytes;
 use crate::failure::ReadFault;
+use crate::sequence::Bytes;
 use std::alloc::Global;
 
 /// The byte string at a place, of so many bytes.

@@ -3,10 +3,8 @@
 
 mod anchor;
 mod byte_string;
-mod bytes;
 mod digest;
 mod ending;
-mod event_list;
 mod event_tree;
 mod failure;
 mod fields;
@@ -20,16 +18,15 @@ mod name;
 mod path_sides;
 mod placing;
 mod report;
+mod sequence;
 mod side;
 mod thread;
 mod writers;
 
 pub use anchor::find_anchor;
 pub use byte_string::read_bytes;
-pub use bytes::Bytes;
 pub use digest::Digest;
 pub use ending::{whole, whole_to};
-pub use event_list::EventList;
 pub use event_tree::{audit_path_laws, event_root_laws};
 pub use failure::{Failed, NoMemory, ReadFault};
 pub use fields::{read_digest, read_labels, read_name, read_number, read_text};
@@ -46,6 +43,7 @@ pub use name::{Name, is_name_byte};
 pub use path_sides::{path_length, sides_of};
 pub use placing::malformed;
 pub use report::{Claim, Reason, Report, Seen};
+pub use sequence::{Bytes, EventList, Sequence};
 pub use side::Side;
 pub use thread::{Entry, Key, Place, Thread, compare_keys, entry_key};
 pub use writers::{put_bytes, put_digest, put_labels, put_name, put_number};

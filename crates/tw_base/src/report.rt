@@ -1,7 +1,7 @@
 // What a verifier answers: the claim of an accepted proof, or the reason against it.
 
-use crate::bytes::Bytes;
 use crate::name::Name;
+use crate::sequence::Bytes;
 use crate::thread::Place;
 
 /// An event that a proof shows at its place; no event has a time yet.

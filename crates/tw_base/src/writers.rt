@@ -6,11 +6,11 @@ ghost use Rattle.tw_base.specs.Fields.{bytes as any_bytes, digest as digest_form
 ghost use Rattle.tw_base.specs.Formats.{Spells};
 ghost use Rattle.tw_base.specs.Texts.{joined};
 
-use crate::bytes::Bytes;
 use crate::digest::Digest;
 use crate::failure::NoMemory;
 use crate::label_list::Labels;
 use crate::name::Name;
+use crate::sequence::Bytes;
 
 /// Appends a number that fits `width` bytes (at most 8).
 pub fn put_number(into: &mut Bytes, value: u64, width: u8) -> Result<(), NoMemory>

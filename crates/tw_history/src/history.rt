@@ -3,7 +3,7 @@
 ghost use Rattle.std.specs.Prelude.{◌≡◌};
 ghost use Rattle.tw_history.specs.Meaning.{IsTable, steps_of};
 
-use crate::table::{Nodes, Steps};
+use crate::step::{Nodes, Steps};
 use std::marker::Model;
 use tw_base::Name;
 

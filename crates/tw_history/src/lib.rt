@@ -19,7 +19,6 @@ mod sizes;
 mod soundness;
 mod step;
 mod step_digests;
-mod table;
 #[cfg(test)]
 mod tests;
 mod writing;
@@ -31,6 +30,5 @@ pub use laws::history_laws;
 pub use reading::read_history;
 pub use showing::show_event;
 pub use soundness::is_sound;
-pub use step::{Content, Node, Step};
-pub use table::{Nodes, Steps};
+pub use step::{Content, Node, Nodes, Step, Steps};
 pub use writing::write_history;

@@ -11,8 +11,7 @@ ghost use Rattle.tw_history.specs.Meaning.{IsInRange, IsTable, node_of, step_of,
 ghost use Rattle.tw_history.specs.Reading.{added, node_at as node_at_of, step_at as step_at_of};
 
 use crate::reading_content::content_at;
-use crate::step::{Node, Step};
-use crate::table::{Nodes, Steps};
+use crate::step::{Node, Nodes, Step, Steps};
 use std::alloc::Global;
 use tw_base::{ReadFault, malformed, read_number};
 

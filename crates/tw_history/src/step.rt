@@ -1,6 +1,6 @@
 // The steps of a history and the nodes of its archive, as a history file has them.
 
-use tw_base::{EventList, Thread};
+use tw_base::{EventList, Sequence, Thread};
 
 /// What a step records.
 #[derive(Drop, Debug)]
@@ -33,3 +33,9 @@ pub struct Node {
     /// The number of the root of the right side.
     pub right: u32,
 }
+
+/// The steps of a history, from step 1 on.
+pub type Steps = Sequence<Step>;
+
+/// The nodes of a history, from node 1 on.
+pub type Nodes = Sequence<Node>;

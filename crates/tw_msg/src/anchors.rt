@@ -7,9 +7,8 @@ ghost use Rattle.tw_text.specs.Words.{is_number_within, number_of};
 ghost use Rattle.tw_msg.specs.AnchorFaults.{TellsBadLine};
 
 use crate::split::split_at_first;
-use crate::thread_list::Threads;
 use std::alloc::Global;
-use tw_base::{Name, NoMemory, Thread};
+use tw_base::{Name, NoMemory, Sequence, Thread};
 use tw_text::{read_digest, read_number};
 
 /// The greatest step.
@@ -17,6 +16,9 @@ const LAST_STEP: u64 = 0xff_ffff_ffff;
 
 /// How many anchors a verifier holds at most.
 const MOST_ANCHORS: usize = 64;
+
+/// Threads, such as the anchors of a verifier.
+pub type Threads = Sequence<Thread>;
 
 /// Why a file is no anchors file.
 #[derive(Clone, Copy, PartialEq, Eq, Debug, Drop)]

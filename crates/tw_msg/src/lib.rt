@@ -6,8 +6,6 @@ mod events;
 mod split;
 #[cfg(test)]
 mod tests;
-mod thread_list;
 
-pub use anchors::{AnchorFault, read_anchors};
+pub use anchors::{AnchorFault, Threads, read_anchors};
 pub use events::{events_file_laws, read_events};
-pub use thread_list::Threads;

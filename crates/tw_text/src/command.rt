@@ -1,7 +1,6 @@
 // The commands of the program.
 
-use crate::bytes_list::BytesList;
-use tw_base::{Bytes, Digest, Name};
+use tw_base::{Bytes, Digest, Name, Sequence};
 
 /// A command: one variant for each form of the command line, with the form's words in their order,
 /// its fixed words left out. A directory or file is the path as it was given, of at least one byte.
@@ -83,7 +82,7 @@ pub enum Command {
     },
     /// `join FILE FILE ..`: joins proofs to one.
     Join {
-        files: BytesList,
+        files: Sequence<Bytes>,
     },
     /// `verify PROOF ANCHORS`: judges a proof under the anchors of a file.
     VerifyFile {
@@ -112,7 +111,7 @@ pub enum Command {
     Audit {
         proof: Bytes,
         anchors: Bytes,
-        histories: BytesList,
+        histories: Sequence<Bytes>,
     },
     /// `replay FILE`: runs a script.
     Replay {

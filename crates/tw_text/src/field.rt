@@ -1,10 +1,6 @@
 // The fields of a line.
 
-ghost use Rattle.std.specs.Prelude.{◌≡◌, [], ◌∷◌, ◌++◌, length, OnOk, OnErr};
-
-use std::alloc::Global;
-use std::marker::Model;
-use tw_base::{Bytes, Name, NoMemory};
+use tw_base::{Bytes, Name, Sequence};
 
 /// A field of a line.
 #[derive(Drop, Debug)]
@@ -19,46 +15,5 @@ pub enum Field {
     Hex(Bytes),
 }
 
-/// A list of fields on the heap, which contracts see as a list.
-#[derive(Drop, Debug)]
-pub struct FieldList {
-    items: Vec<Field>,
-}
-
-impl Model for FieldList {
-    ghost use Rattle.std.specs.Prelude.{List};
-    ghost use Rattle.tw_text.specs.declared.field.Field.{Field};
-
-    ghost Value = { List Field };
-
-    ghost view = { λ l. l.items.items };
-}
-
-impl FieldList {
-    /// No fields. Takes no memory.
-    pub fn new(alloc: Global) -> Self
-        ensures { result ≡ [] }
-    {
-        FieldList {
-            items: Vec::new(alloc),
-        }
-    }
-
-    /// The fields.
-    pub fn as_slice(&self) -> &[Field]
-        ensures { result.now ≡ self.now }
-    {
-        self.items.as_slice()
-    }
-
-    /// Appends the field; after want of memory the list is as before.
-    pub fn push(&mut self, field: Field) -> Result<(), NoMemory>
-        ensures ok { OnOk result (self.new ≡ self.old ++ field ∷ []) }
-        ensures err { OnErr result (self.new ≡ self.old) }
-    {
-        match self.items.push(field) {
-            Ok(()) => Ok(()),
-            Err(_) => Err(NoMemory),
-        }
-    }
-}
+/// The fields of a line.
+pub type FieldList = Sequence<Field>;

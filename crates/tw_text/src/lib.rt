@@ -2,7 +2,6 @@
 #![tactic(auto)]
 
 mod anchor;
-mod bytes_list;
 mod command;
 mod field;
 mod fixed;
@@ -17,7 +16,6 @@ mod tests;
 mod words;
 
 pub use anchor::{AnchorLine, anchor_line};
-pub use bytes_list::BytesList;
 pub use command::Command;
 pub use field::{Field, FieldList};
 pub use fixed::{fault_disk, fault_input, no_memory};

@@ -7,13 +7,12 @@ ghost use Rattle.tw_text.specs.Forms.{command_by, have_form};
 ghost use Rattle.tw_text.specs.Rows.{HasDigest, HasName, HasNumber};
 ghost use Rattle.tw_text.specs.Taken.{most_taken, taken_by};
 
-use crate::bytes_list::BytesList;
 use crate::command::Command;
 use crate::form::{FORMS, Form, FormName, form_named};
 use crate::number::{read_digest, read_number};
 use crate::taking::count_taken;
 use std::alloc::Global;
-use tw_base::{Bytes, Digest, Name, NoMemory};
+use tw_base::{Bytes, Digest, Name, NoMemory, Sequence};
 
 /// Why words are no command.
 #[derive(Clone, Copy, PartialEq, Eq, Debug, Drop)]
@@ -206,10 +205,10 @@ fn path(alloc: Global, words: &[String], i: usize) -> Result<Bytes, NoMemory>
 }
 
 /// The paths from a place on.
-fn paths(alloc: Global, words: &[String], first: usize) -> Result<BytesList, NoMemory>
+fn paths(alloc: Global, words: &[String], first: usize) -> Result<Sequence<Bytes>, NoMemory>
     ensures { IfOk result (λ paths. paths ≡ drop first (map string_bytes words.now)) }
 {
-    let mut paths = BytesList::new(alloc);
+    let mut paths = Sequence::new(alloc);
     for i in first..words.len() {
         paths.push(path(alloc, words, i)?)?;
     }

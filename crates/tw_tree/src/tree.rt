@@ -7,9 +7,8 @@ ghost use Rattle.tw_base.specs.Tree.{entries};
 ghost use Rattle.tw_base.specs.Tree.Tree.{Empty as NoEntry, Branch as RootedAt};
 ghost use Rattle.tw_tree.specs.Meaning.{tree_of};
 
-use crate::entry_list::Entries;
 use std::alloc::Global;
-use tw_base::{Digest, Entry, Hasher, NoMemory, empty_tree, tree_node};
+use tw_base::{Digest, Entry, Hasher, NoMemory, Sequence, empty_tree, tree_node};
 
 /// A binary tree of entries. The archive of a service is one whose entries rise by name and then
 /// step; nothing here needs that order.
@@ -27,6 +26,9 @@ pub enum Tree {
         right: Box<Tree>,
     },
 }
+
+/// Entries, such as those of an archive in their order.
+pub type Entries = Sequence<Entry>;
 
 impl Tree {
     /// The tree without entries. Takes no memory.

@@ -1,6 +1,4 @@
-use Rattle.std.proofs.Common.{◌∙◌, ℕ, ap, arith, inl, inr, refl, sym}
-use Rattle.tw_base.specs.declared.bytes.Bytes.{Bytes}
-use Rattle.tw_base.specs.declared.event_list.EventList.{EventList}
+use Rattle.std.proofs.Common.{◌∙◌, List, ℕ, ap, arith, inl, inr, refl, sym}
 use Rattle.tw_disk.specs.Pages.{only_reads_on}
 use Rattle.tw_skiplist.specs.declared.info.StepProof.{StepProof}
 use Rattle.tw_service.specs.Faults.{IsNoEvent}
@@ -29,12 +27,12 @@ returns-in-Some-clause-answers g c =
 pub returns-in-Some-clause-fault : goal.returns-in-Some-clause-fault
 returns-in-Some-clause-fault g c =
     let none = of_some IsNoEvent _ c.in-Some.refusal (sym c.in-Some.is ∙ c.event_refusal.ensures.answer) (event_told c.in-Ok.proof.info.count c.args.index) in
-    λ is. absurd ((no_event_told c.in-Some.refusal none).0 (is_disk_fault Bytes c.in-Some.refusal is))
+    λ is. absurd ((no_event_told c.in-Some.refusal none).0 (is_disk_fault (List ℕ) c.in-Some.refusal is))
 
 pub returns-in-Err-events_of-clause-good : goal.returns-in-Err-events_of-clause-good
 returns-in-Err-events_of-clause-good g c = λ bad ps h list keeps.
     let info = c.in-Ok.ensures.info ps h list keeps in
-    bad_page EventList _ c.in-Err-events_of.fault c.from-in-Err-events_of.result c.from-in-Err-events_of.ensures c.in-Err-events_of.ensures.good bad
+    bad_page (List (List ℕ)) _ c.in-Err-events_of.fault c.from-in-Err-events_of.result c.from-in-Err-events_of.ensures c.in-Err-events_of.ensures.good bad
     g.H.Hasher.dig ps h c.args.step (c.in-Ok.ensures.kept.list_kept ∙ list) info
 
 pub returns-in-Err-clause-bad : goal.returns-in-Err-clause-bad
@@ -56,7 +54,7 @@ returns-in-Some-clause-count g c =
 
 pub returns-in-Err-events_of-clause-bad : goal.returns-in-Err-events_of-clause-bad
 returns-in-Err-events_of-clause-bad g c =
-    bad_told EventList _ _ c.in-Err-events_of.fault c.from-in-Err-events_of.result c.from-in-Err-events_of.ensures
+    bad_told (List (List ℕ)) _ _ c.in-Err-events_of.fault c.from-in-Err-events_of.result c.from-in-Err-events_of.ensures
     (λ page met ps list. inr (record {
       info = c.in-Ok.proof.info;
       finds = c.in-Ok.ensures.found ps list;

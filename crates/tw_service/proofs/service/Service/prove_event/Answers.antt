@@ -1,6 +1,5 @@
 use Rattle.std.proofs.Common.{◌∙◌, List, ℕ, Bool, ap, inl, inr, length, ⊎_elim, sym}
 use Rattle.std.specs.Prelude.{false, is_some}
-use Rattle.tw_base.specs.declared.bytes.Bytes.{Bytes}
 use Rattle.tw_chain.proofs.Completeness.{Accepts-made}
 use Rattle.tw_disk.specs.Disk.{IsAtRest}
 use Rattle.tw_pages.specs.Kept.{disk_of}
@@ -34,14 +33,14 @@ returns-in-Some-clause-broken g c =
     let d = g.D.Disk in
     let s = c.args.self.now in
     let no_fault = of_some NoFault _ c.in-Some.refusal (sym c.in-Some.is ∙ c.order_refusal.ensures.answer) (order_no_fault s.is_broken s.head.step c.args.step c.args.top) in
-    (λ failed. inl failed, λ either. ⊎_elim (λ failed. failed) (λ is. absurd (no_fault (is_disk_fault Bytes c.in-Some.refusal is))) either)
+    (λ failed. inl failed, λ either. ⊎_elim (λ failed. failed) (λ is. absurd (no_fault (is_disk_fault (List ℕ) c.in-Some.refusal is))) either)
 
 pub returns-in-Some-clause-fault : goal.returns-in-Some-clause-fault
 returns-in-Some-clause-fault g c =
     let d = g.D.Disk in
     let s = c.args.self.now in
     let no_fault = of_some NoFault _ c.in-Some.refusal (sym c.in-Some.is ∙ c.order_refusal.ensures.answer) (order_no_fault s.is_broken s.head.step c.args.step c.args.top) in
-    λ is. absurd (no_fault (is_disk_fault Bytes c.in-Some.refusal is))
+    λ is. absurd (no_fault (is_disk_fault (List ℕ) c.in-Some.refusal is))
 
 pub returns-in-Some-clause-good : goal.returns-in-Some-clause-good
 returns-in-Some-clause-good g c =

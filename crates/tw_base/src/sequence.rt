@@ -1,0 +1,90 @@
+// Lists on the heap.
+
+ghost use Rattle.std.specs.Prelude.{◌≡◌, [], ◌∷◌, ◌++◌, length, OnOk, OnErr};
+
+use crate::failure::NoMemory;
+use std::alloc::Global;
+use std::marker::Model;
+
+/// A list on the heap. Contracts see it as the list of what its items are seen as.
+#[derive(Drop, Debug)]
+pub struct Sequence<T> {
+    items: Vec<T>,
+}
+
+/// A list of bytes.
+pub type Bytes = Sequence<u8>;
+
+/// The events of a step in their order, each a list of bytes.
+pub type EventList = Sequence<Bytes>;
+
+impl<T> Model for Sequence<T> {
+    ghost use Rattle.std.specs.Prelude.{List};
+
+    ghost Value = { List T };
+
+    ghost view = { λ s. s.items.items };
+}
+
+impl<T: Drop> Sequence<T> {
+    /// No items. Takes no memory.
+    pub fn new(alloc: Global) -> Self
+        ensures { result ≡ [] }
+    {
+        Sequence {
+            items: Vec::new(alloc),
+        }
+    }
+
+    /// The vector's items. Takes no memory.
+    pub fn from_vec(items: Vec<T>) -> Self
+        ensures { result ≡ items.items }
+    {
+        Sequence { items }
+    }
+
+    /// The items as a vector. Takes no memory.
+    pub fn into_vec(self) -> Vec<T>
+        ensures { result.items ≡ self }
+    {
+        self.items
+    }
+
+    /// The items.
+    pub fn as_slice(&self) -> &[T]
+        ensures { result.now ≡ self.now }
+    {
+        self.items.as_slice()
+    }
+
+    /// The number of items.
+    pub fn len(&self) -> usize
+        ensures { result ≡ length self.now }
+    {
+        self.items.len()
+    }
+
+    /// Appends the item; after want of memory the list is as before.
+    pub fn push(&mut self, item: T) -> Result<(), NoMemory>
+        ensures ok { OnOk result (self.new ≡ self.old ++ item ∷ []) }
+        ensures err { OnErr result (self.new ≡ self.old) }
+    {
+        match self.items.push(item) {
+            Ok(()) => Ok(()),
+            Err(_) => Err(NoMemory),
+        }
+    }
+}
+
+impl Sequence<u8> {
+    /// Appends the bytes; after want of memory the list is as before.
+    pub fn extend_from_slice(&mut self, more: &[u8]) -> Result<(), NoMemory>
+        ensures ok { OnOk result (self.new ≡ self.old ++ more.now) }
+        ensures err { OnErr result (self.new ≡ self.old) }
+    {
+        match self.items.extend_from_slice(more) {
+            Ok(()) => Ok(()),
+            Err(_) => Err(NoMemory),
+        }
+    }
+}
