@@ -1,11 +1,14 @@
 // Runs of the commands that work on a service, over a disk in memory.
 
+ghost use Rattle.std.specs.Prelude.{◌≤◌};
+
 use super::*;
-use crate::tests::{LEAST, LINE, words};
+use crate::tests::{LINE, words};
 use std::alloc::Global;
 use std::process::Abort;
 use tw_disk::MemDisk;
 use tw_outside::{MemInputs, MemSink};
+use tw_skipproof::LEAST_EXISTENCE;
 
 /// The line of step 0 of the service `a`.
 const FIRST: &str = "a 0 712a98165e96cb35d4ff3630786a060f8670f726c26cdb94247ec0f033a632af\n";
@@ -15,6 +18,15 @@ const SECOND: &str = "a 2 42ecf76a1a15b2b9d451f7de6e855c52d41acec95e38cf5fe3d693
 
 /// An events file of one empty event.
 const EVENT: [u8; 12] = [0x54, 0x57, 0x45, 0x31, 0, 0, 0, 1, 0, 0, 0, 0];
+
+/// The words that append a step of that event.
+const APPEND: [&str; 3] = ["append", "d", "e"];
+
+/// The words that prove the event of step 1.
+const PROVE: [&str; 5] = ["prove", "d", "event", "1", "0"];
+
+/// The same, with step 1 as its top.
+const UNDER_FIRST: [&str; 6] = ["prove", "d", "event", "1", "0", "1"];
 
 /// Inputs with the events file `e`.
 fn inputs(rt: &impl Abort, alloc: Global) -> MemInputs {
@@ -64,7 +76,16 @@ fn made<R: Abort>(rt: &R, alloc: Global) -> MemDisk {
 /// A disk with the service `a` and its step 1.
 fn with_step<R: Abort>(rt: &R, alloc: Global) -> MemDisk {
     let disk = made(rt, alloc);
-    expect(rt, alloc, disk, &["append", "d", "e"], 0, LINE.as_bytes())
+    expect(rt, alloc, disk, &APPEND, 0, LINE.as_bytes())
+}
+
+/// A disk with the service `a`, after an append during which this call of the disk failed.
+fn after_fault<R: Abort>(rt: &R, alloc: Global, call: u64) -> MemDisk
+    requires { 1 ≤ call }
+{
+    let mut disk = made(rt, alloc);
+    disk.fail(call).expect(rt, "memory");
+    expect(rt, alloc, disk, &APPEND, 5, b"fault disk\n")
 }
 
 /// The status of the words over the disk, and the disk.
@@ -80,24 +101,9 @@ fn status_of<R: Abort>(rt: &R, alloc: Global, disk: MemDisk, texts: &[&str]) -> 
 fn an_event_of_a_service_is_proved(rt: HostRuntime) {
     let alloc = rt.alloc();
     let disk = with_step(&rt, alloc);
-    let disk = expect(
-        &rt,
-        alloc,
-        disk,
-        &["prove", "d", "event", "1", "0"],
-        0,
-        &LEAST,
-    );
-    let disk = expect(
-        &rt,
-        alloc,
-        disk,
-        &["append", "d", "e"],
-        0,
-        SECOND.as_bytes(),
-    );
-    let under = ["prove", "d", "event", "1", "0", "1"];
-    drop(expect(&rt, alloc, disk, &under, 0, &LEAST));
+    let disk = expect(&rt, alloc, disk, &PROVE, 0, &LEAST_EXISTENCE);
+    let disk = expect(&rt, alloc, disk, &APPEND, 0, SECOND.as_bytes());
+    drop(expect(&rt, alloc, disk, &UNDER_FIRST, 0, &LEAST_EXISTENCE));
 }
 
 #[test]
@@ -106,7 +112,7 @@ fn a_service_is_made_once(rt: HostRuntime) {
     let disk = made(&rt, alloc);
     let again = ["init", "d", "b"];
     let disk = expect(&rt, alloc, disk, &again, 7, b"refused Taken\n");
-    drop(expect(&rt, alloc, disk, &["append", "d", "e"], 0, LINE.as_bytes()));
+    drop(expect(&rt, alloc, disk, &APPEND, 0, LINE.as_bytes()));
 }
 
 #[test]
@@ -116,50 +122,28 @@ fn a_disk_fault_of_init_leaves_the_service_that_is_there(rt: HostRuntime) {
         let mut disk = made(&rt, alloc);
         disk.fail_read(call).expect(&rt, "memory");
         let disk = expect(&rt, alloc, disk, &["init", "d", "b"], 5, b"fault disk\n");
-        drop(expect(&rt, alloc, disk, &["append", "d", "e"], 0, LINE.as_bytes()));
+        drop(expect(&rt, alloc, disk, &APPEND, 0, LINE.as_bytes()));
     }
 }
 
 #[test]
 fn what_a_service_does_not_have_is_refused(rt: HostRuntime) {
     let alloc = rt.alloc();
-    let disk = with_step(&rt, alloc);
-    let no_step = b"refused NoStep 1\n";
-    let disk = expect(
-        &rt,
-        alloc,
-        disk,
-        &["prove", "d", "event", "0", "0"],
-        7,
-        no_step,
-    );
-    let disk = expect(
-        &rt,
-        alloc,
-        disk,
-        &["prove", "d", "event", "2", "0"],
-        7,
-        no_step,
-    );
-    let disk = expect(
-        &rt,
-        alloc,
-        disk,
-        &["prove", "d", "event", "1", "0", "2"],
-        7,
-        no_step,
-    );
-    let no_event = b"refused NoEvent 1\n";
-    let disk = expect(
-        &rt,
-        alloc,
-        disk,
-        &["prove", "d", "event", "1", "1"],
-        7,
-        no_event,
-    );
-    let high = ["prove", "d", "event", "1", "4294967296"];
-    drop(expect(&rt, alloc, disk, &high, 7, no_event));
+    let no_step = b"refused NoStep 1\n".as_slice();
+    let no_event = b"refused NoEvent 1\n".as_slice();
+    let mut disk = with_step(&rt, alloc);
+    for (step, index, answer) in [
+        ("0", "0", no_step),
+        ("2", "0", no_step),
+        ("1", "1", no_event),
+        ("1", "4294967296", no_event),
+    ] {
+        let words = ["prove", "d", "event", step, index];
+        let next = expect(&rt, alloc, disk, &words, 7, answer);
+        disk = next;
+    }
+    let under = ["prove", "d", "event", "1", "0", "2"];
+    drop(expect(&rt, alloc, disk, &under, 7, no_step));
 }
 
 #[test]
@@ -167,15 +151,8 @@ fn a_blank_disk_has_no_service(rt: HostRuntime) {
     let alloc = rt.alloc();
     let blank = b"store Blank\n";
     let disk = MemDisk::new(alloc);
-    let disk = expect(&rt, alloc, disk, &["append", "d", "e"], 8, blank);
-    drop(expect(
-        &rt,
-        alloc,
-        disk,
-        &["prove", "d", "event", "1", "0"],
-        8,
-        blank,
-    ));
+    let disk = expect(&rt, alloc, disk, &APPEND, 8, blank);
+    drop(expect(&rt, alloc, disk, &PROVE, 8, blank));
 }
 
 #[test]
@@ -196,30 +173,21 @@ fn a_file_is_judged_before_the_disk_is_touched(rt: HostRuntime) {
 fn a_step_stands_that_could_not_be_told(rt: HostRuntime) {
     let alloc = rt.alloc();
     let disk = made(&rt, alloc);
-    let words = words(&rt, alloc, &["append", "d", "e"]);
+    let words = words(&rt, alloc, &APPEND);
     let mut inputs = inputs(&rt, alloc);
     let mut out = MemSink::new(alloc);
     out.fail(1).expect(&rt, "memory");
     let ran = run(alloc, words.as_slice(), disk, &mut inputs, &mut out);
     assert_eq!(rt; ran.status, 4);
-    drop(expect(
-        &rt,
-        alloc,
-        ran.disk,
-        &["prove", "d", "event", "1", "0"],
-        0,
-        &LEAST,
-    ));
+    drop(expect(&rt, alloc, ran.disk, &PROVE, 0, &LEAST_EXISTENCE));
 }
 
 #[test]
 fn a_disk_fault_at_each_call_leaves_the_step_or_none(rt: HostRuntime) {
     let alloc = rt.alloc();
     for call in 1u64..9 {
-        let mut disk = made(&rt, alloc);
-        disk.fail(call).expect(&rt, "memory");
-        let disk = expect(&rt, alloc, disk, &["append", "d", "e"], 5, b"fault disk\n");
-        let (status, disk) = status_of(&rt, alloc, disk, &["prove", "d", "event", "1", "0"]);
+        let disk = after_fault(&rt, alloc, call);
+        let (status, disk) = status_of(&rt, alloc, disk, &PROVE);
         assert!(rt; status == 0 || status == 7);
         drop(disk);
     }
@@ -232,11 +200,11 @@ fn a_crash_at_each_call_leaves_the_step_or_none(rt: HostRuntime) {
         for choice in 0u8..4 {
             let mut disk = made(&rt, alloc);
             disk.stop_at(call);
-            let mut disk = expect(&rt, alloc, disk, &["append", "d", "e"], 5, b"fault disk\n");
+            let mut disk = expect(&rt, alloc, disk, &APPEND, 5, b"fault disk\n");
             disk.crash(choice);
-            let (status, disk) = status_of(&rt, alloc, disk, &["prove", "d", "event", "1", "0"]);
+            let (status, disk) = status_of(&rt, alloc, disk, &PROVE);
             assert!(rt; status == 0 || status == 7);
-            let (status, disk) = status_of(&rt, alloc, disk, &["append", "d", "e"]);
+            let (status, disk) = status_of(&rt, alloc, disk, &APPEND);
             assert_eq!(rt; status, 0);
             drop(disk);
         }
@@ -246,15 +214,12 @@ fn a_crash_at_each_call_leaves_the_step_or_none(rt: HostRuntime) {
 #[test]
 fn what_was_answered_after_a_disk_fault_stands_after_a_crash(rt: HostRuntime) {
     let alloc = rt.alloc();
-    let prove = ["prove", "d", "event", "1", "0"];
     for call in 1u64..9 {
         for choice in 0u8..4 {
-            let mut disk = made(&rt, alloc);
-            disk.fail(call).expect(&rt, "memory");
-            let disk = expect(&rt, alloc, disk, &["append", "d", "e"], 5, b"fault disk\n");
-            let (status, mut disk) = status_of(&rt, alloc, disk, &prove);
+            let disk = after_fault(&rt, alloc, call);
+            let (status, mut disk) = status_of(&rt, alloc, disk, &PROVE);
             disk.crash(choice);
-            let (again, disk) = status_of(&rt, alloc, disk, &prove);
+            let (again, disk) = status_of(&rt, alloc, disk, &PROVE);
             assert_eq!(rt; again, status);
             drop(disk);
         }
@@ -266,20 +231,11 @@ fn a_step_made_after_a_disk_fault_stands_after_a_crash(rt: HostRuntime) {
     let alloc = rt.alloc();
     for call in 1u64..9 {
         for choice in 0u8..4 {
-            let mut disk = made(&rt, alloc);
-            disk.fail(call).expect(&rt, "memory");
-            let disk = expect(&rt, alloc, disk, &["append", "d", "e"], 5, b"fault disk\n");
-            let (status, mut disk) = status_of(&rt, alloc, disk, &["append", "d", "e"]);
+            let disk = after_fault(&rt, alloc, call);
+            let (status, mut disk) = status_of(&rt, alloc, disk, &APPEND);
             assert_eq!(rt; status, 0);
             disk.crash(choice);
-            drop(expect(
-                &rt,
-                alloc,
-                disk,
-                &["prove", "d", "event", "1", "0", "1"],
-                0,
-                &LEAST,
-            ));
+            drop(expect(&rt, alloc, disk, &UNDER_FIRST, 0, &LEAST_EXISTENCE));
         }
     }
 }

@@ -1,10 +1,11 @@
 // Runs that show events of history files.
 
 use super::*;
-use crate::tests::{LEAST, expect_over};
+use crate::tests::expect_over;
 use std::alloc::Global;
 use std::process::Abort;
 use tw_outside::MemInputs;
+use tw_skipproof::LEAST_EXISTENCE;
 
 /// The history of the service `a` without steps.
 fn no_steps() -> [u8; 28] {
@@ -62,7 +63,7 @@ fn expect_shown<R: Abort>(
 
 #[test]
 fn the_least_proof_is_shown(rt: HostRuntime) {
-    expect_shown(&rt, rt.alloc(), &one_event(), "1", "0", 0, &LEAST);
+    expect_shown(&rt, rt.alloc(), &one_event(), "1", "0", 0, &LEAST_EXISTENCE);
 }
 
 #[test]
@@ -83,7 +84,15 @@ fn files_that_are_no_history(rt: HostRuntime) {
     let file = one_event();
     let cut = file.get(..42).expect(&rt, "43 bytes");
     expect_shown(&rt, alloc, cut, "1", "0", 9, b"unreadable h byte 42\n");
-    expect_shown(&rt, alloc, &LEAST, "1", "0", 9, b"unreadable h byte 2\n");
+    expect_shown(
+        &rt,
+        alloc,
+        &LEAST_EXISTENCE,
+        "1",
+        "0",
+        9,
+        b"unreadable h byte 2\n",
+    );
     expect_shown(&rt, alloc, &[], "1", "0", 9, b"unreadable h byte 0\n");
 }
 

@@ -1,6 +1,6 @@
 // Authenticators and proofs of small histories.
 
-ghost use Rattle.std.specs.Prelude.{◌≡◌, ◌+◌, ◌^◌, ◌<◌, length, IfOk, OnOk};
+ghost use Rattle.std.specs.Prelude.{◌≡◌, ◌+◌, ◌^◌, ◌<◌, ◌∷◌, [], length, IfOk, OnOk};
 ghost use Rattle.tw_history.specs.Meaning.{IsInRange, IsTable};
 
 use super::*;
@@ -9,6 +9,7 @@ use std::process::Abort;
 use std::test::Fail;
 use tw_base::{Bytes, Digest, EventList, Hasher, Name, NoMemory, Sha, Thread, Weak};
 use tw_chain::{Verdict, verify};
+use tw_skipproof::LEAST_EXISTENCE;
 
 /// A digest of the weak hasher.
 fn short(first: u8) -> Digest {
@@ -21,28 +22,26 @@ fn name_of(rt: &impl Abort, text: &[u8]) -> Name {
     Name::read(text).expect(rt, "a name")
 }
 
+/// The event as the only one.
+fn one_event(alloc: Global, event: &[u8]) -> Result<EventList, NoMemory>
+    requires { length event.now < 1024 }
+    ensures only { IfOk result (λ events. events ≡ event.now ∷ []) }
+    ensures range { IfOk result (λ events. IsInRange (Content.Events events)) }
+{
+    let mut bytes = Bytes::new(alloc);
+    bytes.extend_from_slice(event)?;
+    let mut events = EventList::new(alloc);
+    events.push(bytes)?;
+    Ok(events)
+}
+
 /// An event of these bytes and one of none.
 fn two_events(alloc: Global, event: &[u8]) -> Result<EventList, NoMemory>
     requires { length event.now < 1024 }
     ensures { IfOk result (λ events. IsInRange (Content.Events events)) }
 {
-    let mut bytes = Bytes::new(alloc);
-    bytes.extend_from_slice(event)?;
-    let mut events = EventList::new(alloc);
-    events.push(bytes)?;
+    let mut events = one_event(alloc, event)?;
     events.push(Bytes::new(alloc))?;
-    Ok(events)
-}
-
-/// The event as the only one.
-fn one_event(alloc: Global, event: &[u8]) -> Result<EventList, NoMemory>
-    requires { length event.now < 1024 }
-    ensures { IfOk result (λ events. IsInRange (Content.Events events)) }
-{
-    let mut bytes = Bytes::new(alloc);
-    bytes.extend_from_slice(event)?;
-    let mut events = EventList::new(alloc);
-    events.push(bytes)?;
     Ok(events)
 }
 
@@ -174,26 +173,12 @@ fn authenticators_over_a_thread(rt: HostRuntime) -> Result<(), Fail> {
     Ok(())
 }
 
-/// The proof of the only event, which is empty, of step 1 of the service `a` under that step.
-const LEAST: [u8; 145] = [
-    0x54, 0x57, 0x50, 0x31, 0x01, 0x61, 0x00, 0x00, 0x00, 0x00, 0x00, 0x00, 0x00, 0x00, 0x00, 0x00,
-    0x00, 0x00, 0x00, 0x00, 0x00, 0x00, 0x00, 0x00, 0x00, 0x00, 0x00, 0x00, 0x01, 0x00, 0x00, 0x00,
-    0x00, 0x00, 0x00, 0x00, 0x01, 0x6e, 0x34, 0x0b, 0x9c, 0xff, 0xb3, 0x7a, 0x98, 0x9c, 0xa5, 0x44,
-    0xe6, 0xbb, 0x78, 0x0a, 0x2c, 0x78, 0x90, 0x1d, 0x3f, 0xb3, 0x37, 0x38, 0x76, 0x85, 0x11, 0xa3,
-    0x06, 0x17, 0xaf, 0xa0, 0x1d, 0x83, 0x89, 0x1d, 0x7f, 0xe8, 0x5c, 0x33, 0xe5, 0x2c, 0x8b, 0x4e,
-    0x58, 0x14, 0xc9, 0x2f, 0xb6, 0xa3, 0xb9, 0x46, 0x72, 0x99, 0x20, 0x05, 0x38, 0xa6, 0xba, 0xba,
-    0xa8, 0xb4, 0x52, 0xd8, 0x79, 0x00, 0x00, 0x00, 0x01, 0x71, 0x2a, 0x98, 0x16, 0x5e, 0x96, 0xcb,
-    0x35, 0xd4, 0xff, 0x36, 0x30, 0x78, 0x6a, 0x06, 0x0f, 0x86, 0x70, 0xf7, 0x26, 0xc2, 0x6c, 0xdb,
-    0x94, 0x24, 0x7e, 0xc0, 0xf0, 0x33, 0xa6, 0x32, 0xaf, 0x00, 0x00, 0x00, 0x00, 0x00, 0x00, 0x00,
-    0x00,
-];
-
 #[test]
 fn least_proof(rt: HostRuntime) -> Result<(), Fail> {
     let alloc = rt.alloc();
     let history = one_step(&rt, alloc)?;
     match show_event::<Sha>(alloc, &history, 1, 0) {
-        Ok(bytes) => assert_eq!(rt; bytes.as_slice(), LEAST.as_slice()),
+        Ok(bytes) => assert_eq!(rt; bytes.as_slice(), LEAST_EXISTENCE.as_slice()),
         Err(_) => panic!(rt; "refused"),
     }
     let history = two_steps(&rt, alloc)?;

@@ -1,6 +1,6 @@
 // Steps in pages in memory: the bytes of pages, what is read back, and pages that aren't of their kind.
 
-ghost use Rattle.std.specs.Prelude.{◌+◌, ◌*◌, ◌≤◌, ◌≡◌, List, IfOk, length};
+ghost use Rattle.std.specs.Prelude.{◌+◌, ◌*◌, ◌^◌, ◌<◌, ◌≤◌, ◌≡◌, List, IfOk, length};
 ghost use Rattle.tw_skiplist.specs.Keeping.{IsWithinLimits};
 
 use super::*;
@@ -70,6 +70,7 @@ fn add(
     requires count { count ≤ 1024 }
     requires size { size ≤ 1024 }
     requires all { count * size ≤ 65536 }
+    ensures { IfOk result (λ new. new.step < 2 ^ 40) }
 {
     let events = events_of_size(alloc, count, size)?;
     if head.step >= (1 << 40) - 1 || pages.used() >= 1 << 47 {
@@ -82,7 +83,9 @@ fn add(
 }
 
 /// The history whose pages have the digest.
-fn four_steps(alloc: Global, pages: &mut MemPages) -> Result<Head, Fail> {
+fn four_steps(alloc: Global, pages: &mut MemPages) -> Result<Head, Fail>
+    ensures { IfOk result (λ head. head.step < 2 ^ 40) }
+{
     let first = add(alloc, pages, &no_step()?, 1, 0)?;
     let second = add(alloc, pages, &first, 64, 1024)?;
     let third = add(alloc, pages, &second, 0, 0)?;
@@ -90,11 +93,16 @@ fn four_steps(alloc: Global, pages: &mut MemPages) -> Result<Head, Fail> {
 }
 
 /// Appends so many steps of no event.
-fn add_many(alloc: Global, pages: &mut MemPages, head: &Head, count: u32) -> Result<Head, Fail> {
+fn add_many(alloc: Global, pages: &mut MemPages, head: &Head, count: u32) -> Result<Head, Fail>
+    ensures { IfOk result (λ last. last.step < 2 ^ 40) }
+{
     let mut last = *head;
     for _ in 0..count {
         let next = add(alloc, pages, &last, 0, 0)?;
         last = next;
+    }
+    if last.step >= 1 << 40 {
+        return Err("too many steps")?;
     }
     Ok(last)
 }
@@ -118,10 +126,15 @@ fn fault_at(alloc: Global, pages: &mut MemPages, head: &Head, i: u64) -> Option<
     if head.step >= 1 << 40 {
         return None;
     }
-    match step::<MemPages, Sha>(alloc, pages, head, i) {
-        Ok(_) => None,
-        Err(fault) => Some(fault),
+    step::<MemPages, Sha>(alloc, pages, head, i).err()
+}
+
+/// Why the events of the step aren't told.
+fn events_fault_at(alloc: Global, pages: &mut MemPages, head: &Head, i: u64) -> Option<ListFault> {
+    if head.step >= 1 << 40 {
+        return None;
     }
+    events::<MemPages, Sha>(alloc, pages, head, i).err()
 }
 
 #[test]
@@ -142,21 +155,14 @@ fn the_least_history_has_two_pages(rt: HostRuntime) -> Result<(), Fail> {
     let mut pages = MemPages::new(rt.alloc())?;
     let head = add(rt.alloc(), &mut pages, &no_step()?, 1, 0)?;
     assert_eq!(rt; head.page, 5);
-    if head.step >= 1 << 40 {
-        return Err("too many steps")?;
-    }
-    match step::<MemPages, Sha>(rt.alloc(), &mut pages, &head, 1) {
-        Ok(info) => {
-            assert_eq!(rt; info.page, 5);
-            assert_eq!(rt; info.stream.page, 4);
-            assert_eq!(rt; info.stream.size, 4);
-            assert_eq!(rt; info.count, 1);
-            assert_eq!(rt; info.event_root, event_leaf::<Sha>(&[]));
-            assert_eq!(rt; info.auth, head.auth);
-            assert_eq!(rt; check_opening::<Sha>(&info.opening, 1), Some(head.auth));
-        }
-        Err(_) => return Err("no step")?,
-    }
+    let info = step::<MemPages, Sha>(rt.alloc(), &mut pages, &head, 1)?;
+    assert_eq!(rt; info.page, 5);
+    assert_eq!(rt; info.stream.page, 4);
+    assert_eq!(rt; info.stream.size, 4);
+    assert_eq!(rt; info.count, 1);
+    assert_eq!(rt; info.event_root, event_leaf::<Sha>(&[]));
+    assert_eq!(rt; info.auth, head.auth);
+    assert_eq!(rt; check_opening::<Sha>(&info.opening, 1), Some(head.auth));
     Ok(())
 }
 
@@ -173,20 +179,13 @@ fn a_step_of_no_event_has_one_page(rt: HostRuntime) -> Result<(), Fail> {
 fn events_are_read_back(rt: HostRuntime) -> Result<(), Fail> {
     let mut pages = MemPages::new(rt.alloc())?;
     let head = four_steps(rt.alloc(), &mut pages)?;
-    if head.step >= 1 << 40 {
-        return Err("too many steps")?;
-    }
     for (i, count) in [(1, 1), (2, 64), (3, 0), (4, 3)] {
-        match events::<MemPages, Sha>(rt.alloc(), &mut pages, &head, i) {
-            Ok(events) => {
-                assert_eq!(rt; events.len(), count, "step {i}");
-                for (index, event) in events.as_slice().iter().enumerate() {
-                    if i == 2 {
-                        assert_eq!(rt; event.as_slice(), [(index % 256) as u8; 1024].as_slice());
-                    }
-                }
+        let events = events::<MemPages, Sha>(rt.alloc(), &mut pages, &head, i)?;
+        assert_eq!(rt; events.len(), count, "step {i}");
+        for (index, event) in events.as_slice().iter().enumerate() {
+            if i == 2 {
+                assert_eq!(rt; event.as_slice(), [(index % 256) as u8; 1024].as_slice());
             }
-            Err(_) => return Err("no events")?,
         }
     }
     Ok(())
@@ -197,25 +196,18 @@ fn a_proof_reads_each_page_once(rt: HostRuntime) -> Result<(), Fail> {
     let mut pages = MemPages::new(rt.alloc())?;
     let first = add(rt.alloc(), &mut pages, &no_step()?, 0, 0)?;
     let head = add_many(rt.alloc(), &mut pages, &first, 1022)?;
-    if head.step >= 1 << 40 {
-        return Err("too many steps")?;
-    }
     let before = pages.reads();
-    match prove::<MemPages, Sha>(rt.alloc(), &mut pages, &head, 1023, 1) {
-        Ok(proof) => {
-            let links = proof.path.links.as_slice().len() as u64;
-            assert_eq!(rt; pages.reads().saturating_sub(before), links + 1);
-            assert_eq!(rt;
-                climb::<Sha>(&proof.path, 1023, 1, &first.auth),
-                Some(head.auth)
-            );
-            assert_eq!(rt;
-                check_opening::<Sha>(&proof.info.opening, 1),
-                Some(first.auth)
-            );
-        }
-        Err(_) => return Err("no proof")?,
-    }
+    let proof = prove::<MemPages, Sha>(rt.alloc(), &mut pages, &head, 1023, 1)?;
+    let links = proof.path.links.as_slice().len() as u64;
+    assert_eq!(rt; pages.reads().saturating_sub(before), links + 1);
+    assert_eq!(rt;
+        climb::<Sha>(&proof.path, 1023, 1, &first.auth),
+        Some(head.auth)
+    );
+    assert_eq!(rt;
+        check_opening::<Sha>(&proof.info.opening, 1),
+        Some(first.auth)
+    );
     let before = pages.reads();
     add(rt.alloc(), &mut pages, &head, 0, 0)?;
     assert_eq!(rt; pages.reads().saturating_sub(before), 10);
@@ -229,14 +221,11 @@ fn path_length(
     head: &Head,
     n: u64,
     i: u64,
-) -> Result<usize, Fail> {
-    if head.step >= 1 << 40 {
-        return Err("too many steps")?;
-    }
-    match path::<MemPages, Sha>(alloc, pages, head, n, i) {
-        Ok(path) => Ok(path.links.as_slice().len()),
-        Err(_) => Err("no path")?,
-    }
+) -> Result<usize, Fail>
+    requires { head.now.step < 2 ^ 40 }
+{
+    let path = path::<MemPages, Sha>(alloc, pages, head, n, i)?;
+    Ok(path.links.as_slice().len())
 }
 
 // From step 1023 to step 1000 the greedy path has 5 links, from there to step 1 it has 14, and from step 1023 to step 1 18.
@@ -251,9 +240,6 @@ fn a_walk_reads_each_page_once(rt: HostRuntime) -> Result<(), Fail> {
     assert_eq!(rt; path_length(rt.alloc(), &mut pages, &head, 1000, 1)?, 14);
     assert_eq!(rt; pages.reads().saturating_sub(before), 19);
     let before = pages.reads();
-    if head.step >= 1 << 40 {
-        return Err("too many steps")?;
-    }
     assert!(rt; prove::<MemPages, Sha>(rt.alloc(), &mut pages, &head, 1000, 1).is_ok());
     assert_eq!(rt; pages.reads().saturating_sub(before), 20);
     Ok(())
@@ -318,17 +304,6 @@ fn with_number(pages: &mut MemPages, page: u64, at: usize, number: u64) -> Resul
     Ok(pages.stage(&bytes)?)
 }
 
-/// Why the events of the step aren't told.
-fn events_fault_at(alloc: Global, pages: &mut MemPages, head: &Head, i: u64) -> Option<ListFault> {
-    if head.step >= 1 << 40 {
-        return None;
-    }
-    match events::<MemPages, Sha>(alloc, pages, head, i) {
-        Ok(_) => None,
-        Err(fault) => Some(fault),
-    }
-}
-
 // Step 4 has its links from place 187 on, of 40 bytes each: to step 3, to step 2, and to step 0.
 #[test]
 fn a_link_names_page_0_exactly_for_step_0(rt: HostRuntime) -> Result<(), Fail> {
@@ -382,9 +357,6 @@ fn a_path_does_not_read_its_lower_step(rt: HostRuntime) -> Result<(), Fail> {
     head.page = with_number(&mut pages, last, 187, 1)?;
     assert_eq!(rt; path_length(rt.alloc(), &mut pages, &head, 4, 3)?, 1);
     assert_eq!(rt; path_length(rt.alloc(), &mut pages, &head, 3, 3)?, 0);
-    if head.step >= 1 << 40 {
-        return Err("too many steps")?;
-    }
     match path::<MemPages, Sha>(rt.alloc(), &mut pages, &head, 3, 2) {
         Ok(_) => return Err("a path")?,
         Err(fault) => assert_eq!(rt; fault, ListFault::BadPage { page: 1 }),
@@ -438,9 +410,6 @@ fn a_step_that_is_not_there_is_refused(rt: HostRuntime) -> Result<(), Fail> {
         Some(ListFault::NoStep { last: 4 })
     );
     assert_eq!(rt; fault_at(rt.alloc(), &mut pages, &head, 4), None);
-    if head.step >= 1 << 40 {
-        return Err("too many steps")?;
-    }
     assert!(rt; path::<MemPages, Sha>(rt.alloc(), &mut pages, &head, 5, 0).is_err());
     assert!(rt; path::<MemPages, Sha>(rt.alloc(), &mut pages, &head, 2, 3).is_err());
     assert!(rt; path::<MemPages, Sha>(rt.alloc(), &mut pages, &head, 4, 0).is_ok());

@@ -1,43 +1,70 @@
 // Sound histories, and histories that break each of the rules.
 
-ghost use Rattle.std.specs.Prelude.{◌≡◌, ◌<◌, ◌≤◌, ◌^◌, length, IfOk};
+ghost use Rattle.std.specs.Prelude.{◌≡◌, ◌≤◌, length, IfOk};
 ghost use Rattle.tw_base.specs.Lists.{Each};
-ghost use Rattle.tw_history.specs.Meaning.{IsInRange};
 
-use crate::{Content, History, HistoryFault, Node, Nodes, Step, Steps, is_sound};
+use crate::reading::read_table;
+use crate::{Content, History, HistoryFault, Nodes, Step, Steps, is_sound};
 use std::alloc::Global;
 use std::process::Abort;
 use std::test::Fail;
-use tw_base::{Bytes, Digest, EventList, Name, NoMemory, Thread};
+use tw_base::{Bytes, EventList, Name, NoMemory};
 
 /// The name of this text.
 fn name(rt: &impl Abort, text: &[u8]) -> Name {
     Name::read(text).expect(rt, "a name")
 }
 
-/// A step that received the thread of a service's step.
-fn received(rt: &impl Abort, service: &[u8], step: u64, fresh: u16, root: u32) -> Step
-    requires { (0 < step) × (step < 2 ^ 40) }
-    ensures content { IsInRange result.content }
-    ensures fresh { result.fresh ≡ fresh }
-{
-    let thread = Thread {
-        from: name(rt, service),
+/// A step that received the thread of a service's step, as a history file has it.
+#[derive(Drop)]
+struct Receipt<'a> {
+    /// The service's only letter.
+    service: u8,
+    step: u64,
+    /// The nodes that the step adds: of each its left side, its entry and its right side.
+    nodes: &'a [(u32, u64, u32)],
+    /// The number of the archive's root after the step.
+    root: u32,
+}
+
+/// The receipt of these fields.
+fn received<'a>(service: u8, step: u64, nodes: &'a [(u32, u64, u32)], root: u32) -> Receipt<'a> {
+    Receipt {
+        service,
         step,
-        auth: Digest([7; 32]),
-    };
-    Step {
-        content: Content::Received(thread),
-        fresh,
+        nodes,
         root,
     }
 }
 
-/// The node of these sides and this entry.
-fn node(left: u32, entry: u64, right: u32) -> Node
-    ensures { result ≡ record { left = left; entry = entry; right = right } }
-{
-    Node { left, entry, right }
+/// Appends the receipt as a history file has it.
+fn add_receipt(file: &mut Bytes, receipt: &Receipt) -> Result<(), Fail> {
+    file.extend_from_slice(&[2, receipt.service])?;
+    file.extend_from_slice(&[0; 15])?;
+    file.extend_from_slice(&receipt.step.to_be_bytes())?;
+    file.extend_from_slice(&[7; 32])?;
+    let fresh = u16::try_from(receipt.nodes.len())?;
+    file.extend_from_slice(&fresh.to_be_bytes())?;
+    for (left, entry, right) in receipt.nodes {
+        file.extend_from_slice(&left.to_be_bytes())?;
+        file.extend_from_slice(&entry.to_be_bytes())?;
+        file.extend_from_slice(&right.to_be_bytes())?;
+    }
+    file.extend_from_slice(&receipt.root.to_be_bytes())?;
+    Ok(())
+}
+
+/// Whether the history of the service `a` with these steps is sound, read from its file.
+fn judge(alloc: Global, receipts: &[Receipt]) -> Result<Result<(), HistoryFault>, Fail> {
+    let mut file = Bytes::new(alloc);
+    file.extend_from_slice(b"TWH1a")?;
+    file.extend_from_slice(&[0; 15])?;
+    file.extend_from_slice(&(receipts.len() as u64).to_be_bytes())?;
+    for receipt in receipts {
+        add_receipt(&mut file, receipt)?;
+    }
+    let history = read_table(alloc, file.as_slice())?;
+    Ok(is_sound(alloc, &history))
 }
 
 /// The refusal of a step by a rule.
@@ -47,159 +74,104 @@ fn refused(step: u64, rule: u8) -> Result<(), HistoryFault> {
 
 #[test]
 fn a_node_whose_side_is_itself(rt: HostRuntime) -> Result<(), Fail> {
-    let alloc = rt.alloc();
-    let mut steps = Steps::new(alloc);
-    steps.push(received(&rt, b"b", 5, 1, 1))?;
-    let mut nodes = Nodes::new(alloc);
-    nodes.push(node(1, 1, 0))?;
-    let history = History::new(name(&rt, b"a"), steps, nodes);
-    assert_eq!(rt; is_sound(alloc, &history), refused(1, 1));
+    let steps = [received(b'b', 5, &[(1, 1, 0)], 1)];
+    assert_eq!(rt; judge(rt.alloc(), &steps)?, refused(1, 1));
     Ok(())
 }
 
 #[test]
 fn a_node_whose_right_side_is_a_later_one(rt: HostRuntime) -> Result<(), Fail> {
-    let alloc = rt.alloc();
-    let mut steps = Steps::new(alloc);
-    steps.push(received(&rt, b"b", 5, 2, 2))?;
-    let mut nodes = Nodes::new(alloc);
-    nodes.push(node(0, 1, 2))?;
-    nodes.push(node(0, 1, 0))?;
-    let history = History::new(name(&rt, b"a"), steps, nodes);
-    assert_eq!(rt; is_sound(alloc, &history), refused(1, 1));
+    let steps = [received(b'b', 5, &[(0, 1, 2), (0, 1, 0)], 2)];
+    assert_eq!(rt; judge(rt.alloc(), &steps)?, refused(1, 1));
     Ok(())
 }
 
 #[test]
 fn an_entry_of_a_later_step(rt: HostRuntime) -> Result<(), Fail> {
-    let alloc = rt.alloc();
-    let mut steps = Steps::new(alloc);
-    steps.push(received(&rt, b"b", 5, 1, 1))?;
-    steps.push(received(&rt, b"c", 5, 1, 2))?;
-    let mut nodes = Nodes::new(alloc);
-    nodes.push(node(0, 2, 0))?;
-    nodes.push(node(0, 2, 1))?;
-    let history = History::new(name(&rt, b"a"), steps, nodes);
-    assert_eq!(rt; is_sound(alloc, &history), refused(1, 1));
+    let steps = [
+        received(b'b', 5, &[(0, 2, 0)], 1),
+        received(b'c', 5, &[(0, 2, 1)], 2),
+    ];
+    assert_eq!(rt; judge(rt.alloc(), &steps)?, refused(1, 1));
     Ok(())
 }
 
 #[test]
 fn a_root_that_is_no_node_yet(rt: HostRuntime) -> Result<(), Fail> {
-    let alloc = rt.alloc();
-    let mut steps = Steps::new(alloc);
-    steps.push(received(&rt, b"b", 5, 0, 2))?;
-    let nodes = Nodes::new(alloc);
-    let history = History::new(name(&rt, b"a"), steps, nodes);
-    assert_eq!(rt; is_sound(alloc, &history), refused(1, 1));
+    let steps = [received(b'b', 5, &[], 2)];
+    assert_eq!(rt; judge(rt.alloc(), &steps)?, refused(1, 1));
     Ok(())
 }
 
 #[test]
 fn a_root_one_above_the_nodes(rt: HostRuntime) -> Result<(), Fail> {
-    let alloc = rt.alloc();
-    let mut steps = Steps::new(alloc);
-    steps.push(received(&rt, b"b", 5, 1, 2))?;
-    let mut nodes = Nodes::new(alloc);
-    nodes.push(node(0, 1, 0))?;
-    let history = History::new(name(&rt, b"a"), steps, nodes);
-    assert_eq!(rt; is_sound(alloc, &history), refused(1, 1));
+    let steps = [received(b'b', 5, &[(0, 1, 0)], 2)];
+    assert_eq!(rt; judge(rt.alloc(), &steps)?, refused(1, 1));
     Ok(())
 }
 
 #[test]
 fn a_tree_whose_keys_fall(rt: HostRuntime) -> Result<(), Fail> {
-    let alloc = rt.alloc();
-    let mut steps = Steps::new(alloc);
-    steps.push(received(&rt, b"b", 5, 1, 1))?;
-    steps.push(received(&rt, b"c", 1, 1, 2))?;
-    let mut nodes = Nodes::new(alloc);
-    nodes.push(node(0, 1, 0))?;
-    nodes.push(node(0, 2, 1))?;
-    let history = History::new(name(&rt, b"a"), steps, nodes);
-    assert_eq!(rt; is_sound(alloc, &history), refused(2, 2));
+    let steps = [
+        received(b'b', 5, &[(0, 1, 0)], 1),
+        received(b'c', 1, &[(0, 2, 1)], 2),
+    ];
+    assert_eq!(rt; judge(rt.alloc(), &steps)?, refused(2, 2));
     Ok(())
 }
 
 #[test]
 fn a_thread_that_no_tree_has(rt: HostRuntime) -> Result<(), Fail> {
-    let alloc = rt.alloc();
-    let mut steps = Steps::new(alloc);
-    steps.push(received(&rt, b"a", 5, 0, 0))?;
-    let nodes = Nodes::new(alloc);
-    let history = History::new(name(&rt, b"a"), steps, nodes);
-    assert_eq!(rt; is_sound(alloc, &history), refused(1, 3));
+    let steps = [received(b'a', 5, &[], 0)];
+    assert_eq!(rt; judge(rt.alloc(), &steps)?, refused(1, 3));
     Ok(())
 }
 
 #[test]
 fn a_root_left_at_the_older_tree(rt: HostRuntime) -> Result<(), Fail> {
-    let alloc = rt.alloc();
-    let mut steps = Steps::new(alloc);
-    steps.push(received(&rt, b"b", 5, 1, 1))?;
-    steps.push(received(&rt, b"c", 1, 1, 1))?;
-    let mut nodes = Nodes::new(alloc);
-    nodes.push(node(0, 1, 0))?;
-    nodes.push(node(1, 2, 0))?;
-    let history = History::new(name(&rt, b"a"), steps, nodes);
-    assert_eq!(rt; is_sound(alloc, &history), refused(2, 3));
+    let steps = [
+        received(b'b', 5, &[(0, 1, 0)], 1),
+        received(b'c', 1, &[(1, 2, 0)], 1),
+    ];
+    assert_eq!(rt; judge(rt.alloc(), &steps)?, refused(2, 3));
     Ok(())
 }
 
 #[test]
 fn a_thread_of_its_own(rt: HostRuntime) -> Result<(), Fail> {
-    let alloc = rt.alloc();
-    let mut steps = Steps::new(alloc);
-    steps.push(received(&rt, b"a", 5, 1, 1))?;
-    let mut nodes = Nodes::new(alloc);
-    nodes.push(node(0, 1, 0))?;
-    let history = History::new(name(&rt, b"a"), steps, nodes);
-    assert_eq!(rt; is_sound(alloc, &history), refused(1, 4));
+    let steps = [received(b'a', 5, &[(0, 1, 0)], 1)];
+    assert_eq!(rt; judge(rt.alloc(), &steps)?, refused(1, 4));
     Ok(())
 }
 
 #[test]
 fn a_step_below_an_earlier_one(rt: HostRuntime) -> Result<(), Fail> {
-    let alloc = rt.alloc();
-    let mut steps = Steps::new(alloc);
-    steps.push(received(&rt, b"b", 5, 1, 1))?;
-    steps.push(received(&rt, b"b", 4, 1, 2))?;
-    let mut nodes = Nodes::new(alloc);
-    nodes.push(node(0, 1, 0))?;
-    nodes.push(node(0, 2, 1))?;
-    let history = History::new(name(&rt, b"a"), steps, nodes);
-    assert_eq!(rt; is_sound(alloc, &history), refused(2, 5));
+    let steps = [
+        received(b'b', 5, &[(0, 1, 0)], 1),
+        received(b'b', 4, &[(0, 2, 1)], 2),
+    ];
+    assert_eq!(rt; judge(rt.alloc(), &steps)?, refused(2, 5));
     Ok(())
 }
 
 #[test]
 fn a_step_received_twice(rt: HostRuntime) -> Result<(), Fail> {
-    let alloc = rt.alloc();
-    let mut steps = Steps::new(alloc);
-    steps.push(received(&rt, b"b", 5, 1, 1))?;
-    steps.push(received(&rt, b"b", 5, 1, 2))?;
-    let mut nodes = Nodes::new(alloc);
-    nodes.push(node(0, 1, 0))?;
-    nodes.push(node(1, 2, 0))?;
-    let history = History::new(name(&rt, b"a"), steps, nodes);
-    assert_eq!(rt; is_sound(alloc, &history), refused(2, 2));
+    let steps = [
+        received(b'b', 5, &[(0, 1, 0)], 1),
+        received(b'b', 5, &[(1, 2, 0)], 2),
+    ];
+    assert_eq!(rt; judge(rt.alloc(), &steps)?, refused(2, 2));
     Ok(())
 }
 
 #[test]
 fn three_services_over_shared_sides(rt: HostRuntime) -> Result<(), Fail> {
-    let alloc = rt.alloc();
-    let mut steps = Steps::new(alloc);
-    steps.push(received(&rt, b"c", 5, 1, 1))?;
-    steps.push(received(&rt, b"b", 7, 1, 2))?;
-    steps.push(received(&rt, b"d", 1, 2, 4))?;
-    let mut nodes = Nodes::new(alloc);
-    nodes.push(node(0, 1, 0))?;
-    nodes.push(node(0, 2, 1))?;
-    nodes.push(node(0, 3, 0))?;
-    nodes.push(node(2, 3, 0))?;
-    let history = History::new(name(&rt, b"a"), steps, nodes);
-    assert_eq!(rt; is_sound(alloc, &history), Ok(()));
+    let steps = [
+        received(b'c', 5, &[(0, 1, 0)], 1),
+        received(b'b', 7, &[(0, 2, 1)], 2),
+        received(b'd', 1, &[(0, 3, 0), (2, 3, 0)], 4),
+    ];
+    assert_eq!(rt; judge(rt.alloc(), &steps)?, Ok(()));
     Ok(())
 }
 
