@@ -7,7 +7,7 @@ use Rattle.tw_base.specs.History.{History, plus}
 use Rattle.tw_disk.specs.Disk.{IsAtRest, LeavesOnly, Reads}
 use Rattle.tw_disk.specs.Image.{Image}
 use Rattle.tw_disk.specs.Moments.{goes_on, leaves_weaker, no_call}
-use Rattle.tw_outside.specs.Faults.{Rose}
+use Rattle.tw_base.specs.Faults.{Rose}
 use Rattle.tw_pages.specs.Slots.{IsOpen, IsTaken}
 use Rattle.tw_skiplist.specs.Keeping.{event_step}
 use Rattle.tw_service.specs.declared.service.Service.{Service}

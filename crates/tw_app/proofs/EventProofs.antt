@@ -12,7 +12,7 @@ use Rattle.tw_base.specs.Sound.{IsSound}
 use Rattle.tw_chain.specs.Accepting.{Accepts}
 use Rattle.tw_chain.specs.Making.{MakesExistence}
 use Rattle.tw_disk.specs.Image.{Image}
-use Rattle.tw_outside.specs.Faults.{Rose}
+use Rattle.tw_base.specs.Faults.{Rose}
 use Rattle.tw_skiplist.specs.declared.head.Head.{Head}
 use Rattle.tw_skiplist.specs.declared.info.StepInfo.{StepInfo}
 use Rattle.tw_skiplist.specs.Records.{FindsProof}

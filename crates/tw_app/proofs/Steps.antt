@@ -5,7 +5,7 @@ use Rattle.sha2.specs.Sha256.{sha256}
 use Rattle.tw_base.specs.declared.thread.Thread.{Thread}
 use Rattle.tw_base.specs.History.{History, plus}
 use Rattle.tw_disk.specs.Image.{Image}
-use Rattle.tw_outside.specs.Faults.{Rose}
+use Rattle.tw_base.specs.Faults.{Rose}
 use Rattle.tw_skiplist.specs.declared.head.Head.{Head}
 use Rattle.tw_skiplist.specs.Keeping.{event_step}
 use Rattle.tw_service.specs.declared.refusal.Refusal.{Refusal}

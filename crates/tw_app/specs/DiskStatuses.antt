@@ -5,7 +5,7 @@ use Rattle.tw_base.specs.History.{History}
 use Rattle.tw_disk.specs.Disk.{LeavesOnly}
 use Rattle.tw_disk.specs.Image.{Image}
 use Rattle.sha2.specs.Sha256.{sha256}
-use Rattle.tw_outside.specs.Faults.{Rose}
+use Rattle.tw_base.specs.Faults.{Rose}
 use Rattle.tw_outside.specs.Files.{Files}
 use Rattle.tw_outside.specs.Taken.{Appends}
 use Rattle.tw_service.specs.Stands.{StandsForOneOf}

@@ -2,7 +2,7 @@
 use Rattle.std.specs.Prelude.{◌≡◌, ◌⊎◌, ℕ, List, Option, MatchOption}
 use Rattle.tw_base.specs.declared.thread.Thread.{Thread}
 use Rattle.tw_disk.specs.Image.{Image}
-use Rattle.tw_outside.specs.Faults.{Rose}
+use Rattle.tw_base.specs.Faults.{Rose}
 use Rattle.tw_outside.specs.Files.{Files, IsThere, Tells}
 use Rattle.tw_outside.specs.Taken.{Appends, AppendsPart}
 use Rattle.tw_text.specs.CommandLine.{command_of, forms}

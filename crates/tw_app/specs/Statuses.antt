@@ -9,7 +9,7 @@ use Rattle.tw_base.specs.Formats.{Spells}
 use Rattle.tw_base.specs.History.{History}
 use Rattle.tw_base.specs.Lists.{In}
 use Rattle.tw_disk.specs.Image.{Image}
-use Rattle.tw_outside.specs.Faults.{Rose}
+use Rattle.tw_base.specs.Faults.{Rose}
 use Rattle.tw_outside.specs.Files.{Files, IsThere, Tells}
 use Rattle.tw_outside.specs.Taken.{Appends}
 use Rattle.tw_text.specs.CommandLine.{command_of, forms}

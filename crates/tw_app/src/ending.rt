@@ -3,7 +3,7 @@
 ghost use Rattle.std.specs.Prelude.{◌≡◌, ◌⊎◌, ℕ, List, Some, map, string_bytes, IfSome};
 ghost use Rattle.tw_base.specs.History.{History};
 ghost use Rattle.tw_base.specs.Lists.{Each};
-ghost use Rattle.tw_outside.specs.Faults.{Rose};
+ghost use Rattle.tw_base.specs.Faults.{Rose};
 ghost use Rattle.tw_outside.specs.Taken.{Appends, AppendsPart};
 ghost use Rattle.tw_text.specs.CommandLine.{command_of};
 ghost use Rattle.tw_text.specs.declared.command.Command.{Command};

@@ -1,7 +1,7 @@
 // Two files read one after the other.
 
 ghost use Rattle.std.specs.Prelude.{◌≡◌, ◌≤◌, ℕ, List, Err, IfOk, OnOk};
-ghost use Rattle.tw_outside.specs.Faults.{Rose};
+ghost use Rattle.tw_base.specs.Faults.{Rose};
 ghost use Rattle.tw_outside.specs.Files.{IsReadTo, IsThere};
 
 use std::alloc::Global;

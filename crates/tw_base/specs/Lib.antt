@@ -17,3 +17,4 @@ pub mod Family
 pub mod Formats
 pub mod Fields
 pub mod Anchors
+pub mod Faults

@@ -1,7 +1,7 @@
 // A disk in memory.
 ghost use Rattle.std.specs.Prelude.{◌≡◌, ◌⊎◌, ◌↔◌, ◌<◌, ◌≤◌, ◌+◌, ◌-◌, ◌^◌, ◌++◌, ◌∷◌, [], ℕ, min, length, Some, None, false, vec_len, OnOk, OnErr, IsOk, IsErr, IsTrue, Contains};
 ghost use Rattle.tw_disk.specs.Image.{put, page_at};
-ghost use Rattle.tw_disk.specs.Disk.{HasCause, Rose};
+ghost use Rattle.tw_base.specs.Faults.{HasCause, Rose};
 ghost use Rattle.tw_disk.specs.Model.{Write, Barrier, IsImage, Since};
 ghost use Rattle.tw_disk.specs.Kept.{earlier, calls_of, written_of, AllFit, all_fit-prop, Gains};
 

@@ -2,7 +2,7 @@
 ghost use Rattle.std.specs.Prelude.{◌≡◌, ◌<◌, ◌≤◌, ◌+◌, ◌-◌, ◌^◌, ◌++◌, ◌∷◌, [], ℕ, length, Option, Some, IfOk, IsOk, OnOk, OnErr};
 ghost use Rattle.std.specs.Option.{option_map};
 ghost use Rattle.tw_disk.specs.Image.{Image, page_at};
-ghost use Rattle.tw_disk.specs.Disk.{HasCause};
+ghost use Rattle.tw_base.specs.Faults.{HasCause};
 ghost use Rattle.tw_disk.specs.Pages.{OnlyReads};
 
 use tw_base::{Failed, NoMemory};

@@ -1,7 +1,7 @@
 // A disk over one file.
 
 ghost use Rattle.std.specs.Prelude.{◌≡◌, ◌<◌, ◌≤◌, ◌+◌, ◌-◌, ◌*◌, ◌^◌, ℕ, None, Some, IfOk, OnOk};
-ghost use Rattle.tw_disk.specs.Disk.{Rose};
+ghost use Rattle.tw_base.specs.Faults.{Rose};
 ghost use Rattle.tw_disk.specs.Untold.{no_content};
 
 use std::fs::{self, OpenFile as _, OpenOptions};

@@ -1,4 +1,3 @@
-pub mod Faults
 pub mod Files
 pub mod Taken
 pub mod Calls

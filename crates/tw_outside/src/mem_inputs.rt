@@ -2,7 +2,7 @@
 ghost use Rattle.std.specs.Prelude.{◌≡◌, ◌≤◌, ◌++◌, ◌∷◌, [], ◌⊎◌, ◌↔◌, ℕ, List, length, OnOk, OnErr, IfOk, IsErr, IsNone, IsTrue};
 ghost use Rattle.std.specs.FinMap as map_of;
 ghost use Rattle.tw_outside.specs.Calls.{fails_next, after_call};
-ghost use Rattle.tw_outside.specs.Faults.{HasCause};
+ghost use Rattle.tw_base.specs.Faults.{HasCause};
 ghost use Rattle.tw_outside.specs.Files.{Came};
 
 use crate::failing::FailingCalls;

@@ -1,7 +1,7 @@
 // A sink in memory.
 ghost use Rattle.std.specs.Prelude.{◌≡◌, ◌++◌, ◌∷◌, [], length, OnOk, OnErr, IfOk, IsErr, IsTrue};
 ghost use Rattle.tw_outside.specs.Calls.{fails_next, after_call};
-ghost use Rattle.tw_outside.specs.Faults.{HasCause};
+ghost use Rattle.tw_base.specs.Faults.{HasCause};
 
 use crate::failing::FailingCalls;
 use crate::sink::Sink;

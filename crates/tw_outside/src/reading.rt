@@ -1,6 +1,6 @@
 // Reading an input piece by piece.
 ghost use Rattle.std.specs.Prelude.{◌≡◌, ◌<◌, ◌≤◌, ◌↔◌, ◌+◌, ◌*◌, ◌/◌, ℕ, List, vec_len, Ok, Err, true, false, IfOk, OnOk, OnErr};
-ghost use Rattle.tw_outside.specs.Faults.{Rose};
+ghost use Rattle.tw_base.specs.Faults.{Rose};
 ghost use Rattle.tw_outside.specs.Files.{IsThere, IsFront, IsReadTo};
 
 use crate::inputs::Inputs;

@@ -1,6 +1,6 @@
 // Writing a text whole.
 ghost use Rattle.std.specs.Prelude.{OnOk, OnErr};
-ghost use Rattle.tw_outside.specs.Faults.{HasCause};
+ghost use Rattle.tw_base.specs.Faults.{HasCause};
 ghost use Rattle.tw_outside.specs.Taken.{Appends, AppendsPart};
 
 use crate::sink::Sink;

@@ -2,7 +2,8 @@
 ghost use Rattle.std.specs.Prelude.{◌≡◌, ◌⊎◌, ◌<◌, ◌≤◌, ◌+◌, ◌-◌, ◌^◌, ℕ, List, length, Some, OnOk, OnErr, IfSome};
 ghost use Rattle.std.specs.Option.{IsSomeAnd};
 ghost use Rattle.tw_disk.specs.Image.{Image};
-ghost use Rattle.tw_disk.specs.Disk.{HasCause, KeepsRoom, LeavesOnly, IsAtRest};
+ghost use Rattle.tw_base.specs.Faults.{HasCause};
+ghost use Rattle.tw_disk.specs.Disk.{KeepsRoom, LeavesOnly, IsAtRest};
 ghost use Rattle.tw_pages.specs.Store.{Opening, OpensAs, OpensAlone, OpensAboveOlder, OpensAsEither, IsReady, IsAbove, IsCommit, spare_of};
 ghost use Rattle.tw_pages.specs.Told.{StaysTold};
 

@@ -2,7 +2,8 @@
 ghost use Rattle.std.specs.Prelude.{◌≡◌, ◌⊎◌, ◌<◌, ◌≤◌, ◌+◌, ◌^◌, ◌↔◌, ℕ, List, length, Some, Err, OnOk, IfOk, IfErr, IsTrue, if◌then◌else◌};
 ghost use Rattle.std.specs.Option.{IsSomeAnd};
 ghost use Rattle.tw_disk.specs.Image.{Image};
-ghost use Rattle.tw_disk.specs.Disk.{HasCause, LeavesOnly, IsAtRest, Rose};
+ghost use Rattle.tw_base.specs.Faults.{HasCause, Rose};
+ghost use Rattle.tw_disk.specs.Disk.{LeavesOnly, IsAtRest};
 ghost use Rattle.tw_pages.specs.Store.{OpensAboveOlder};
 ghost use Rattle.tw_pages.specs.Init.{BothClosed, HasBodies, IsUnmade, first_opening, IsBlankOrNew};
 ghost use Rattle.tw_pages.specs.Slots.{IsBlank, IsOpen, IsTaken};

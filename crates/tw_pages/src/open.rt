@@ -2,7 +2,8 @@
 ghost use Rattle.std.specs.Prelude.{◌≡◌, ◌≢◌, ◌⊎◌, ◌<◌, ◌≤◌, ◌+◌, ◌-◌, ◌^◌, ℕ, List, length, take, Some, Err, IfOk, IfErr, OnOk, OnErr, IfSome, IsErrAnd, MatchResult};
 ghost use Rattle.std.specs.Option.{IsSomeAnd};
 ghost use Rattle.tw_disk.specs.Image.{Image, page_at};
-ghost use Rattle.tw_disk.specs.Disk.{HasCause, LeavesOnly, IsAtRest, Only, Rose};
+ghost use Rattle.tw_base.specs.Faults.{HasCause, Rose};
+ghost use Rattle.tw_disk.specs.Disk.{LeavesOnly, IsAtRest, Only};
 ghost use Rattle.tw_pages.specs.Slots.{HoldsSlot, IsFoundIn, IsRefusedFor, HasRoom};
 ghost use Rattle.tw_pages.specs.declared.open.StoreFault.TheVariants.{DiskFault};
 

@@ -2,7 +2,8 @@
 
 ghost use Rattle.std.specs.Prelude.{◌≡◌, ◌⊎◌, ℕ, ◌+◌, ◌*◌, ◌<◌, ◌≤◌, ◌^◌, [], IfOk, IfErr, false, Some, Err};
 ghost use Rattle.tw_base.specs.History.{History, plus};
-ghost use Rattle.tw_disk.specs.Disk.{IsAtRest, LeavesOnly, Reads, Rose};
+ghost use Rattle.tw_base.specs.Faults.{Rose};
+ghost use Rattle.tw_disk.specs.Disk.{IsAtRest, LeavesOnly, Reads};
 ghost use Rattle.tw_disk.specs.Image.{Image};
 ghost use Rattle.tw_pages.specs.Kept.{disk_of, generation_of, is_broken, staged_of};
 ghost use Rattle.tw_pages.specs.Same.{IsSame, count_of, list_of};

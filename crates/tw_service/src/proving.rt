@@ -4,7 +4,7 @@ ghost use Rattle.std.specs.Prelude.{◌≡◌, ◌⊎◌, ℕ, ◌<◌, ◌≤�
 ghost use Rattle.tw_base.specs.History.{History, events_at};
 ghost use Rattle.tw_base.specs.Sound.{IsSound};
 ghost use Rattle.tw_chain.specs.Making.{MakesExistence};
-ghost use Rattle.tw_disk.specs.Disk.{Rose};
+ghost use Rattle.tw_base.specs.Faults.{Rose};
 ghost use Rattle.tw_disk.specs.Image.{Image};
 ghost use Rattle.tw_disk.specs.Pages.{OnlyReads};
 ghost use Rattle.tw_skiplist.specs.Infos.{IsInfoOf};

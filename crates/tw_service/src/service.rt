@@ -39,7 +39,8 @@ impl<D: Disk, H: Hasher> Service<D, H> {
     ghost use Rattle.tw_base.specs.declared.thread.Thread.{Thread as ThreadOf};
     ghost use Rattle.tw_chain.specs.Accepting.{Accepts};
     ghost use Rattle.tw_chain.specs.Making.{MakesExistence};
-    ghost use Rattle.tw_disk.specs.Disk.{IsAtRest, LeavesOnly, Reads, Rose};
+    ghost use Rattle.tw_base.specs.Faults.{Rose};
+    ghost use Rattle.tw_disk.specs.Disk.{IsAtRest, LeavesOnly, Reads};
     ghost use Rattle.tw_disk.specs.Image.{Image};
     ghost use Rattle.tw_pages.specs.Slots.{IsTaken};
     ghost use Rattle.tw_pages.specs.declared.open.StoreFault.{StoreFault as Fault};

@@ -1,6 +1,6 @@
 -- When the calls answer which fault.
 use Rattle.std.specs.Prelude.{◌≡◌, ℕ, ◌≤◌, Result, Ok, Err}
-use Rattle.tw_disk.specs.Disk.{Rose}
+use Rattle.tw_base.specs.Faults.{Rose}
 use Rattle.tw_skiplist.specs.declared.fault.ListFault.{ListFault}
 use Rattle.tw_skiplist.specs.declared.fault.ListFault.TheVariants.{NoStep, BadPage, DiskFault, NoMemory}
 

@@ -2,7 +2,7 @@ use Rattle.std.proofs.Common.{sym, subst, inl, inr, ⊎_elim}
 use Rattle.sha2.specs.Sha256.{sha256}
 use Rattle.tw_base.specs.History.{plus}
 use Rattle.tw_skiplist.specs.Keeping.{event_step}
-use Rattle.tw_outside.specs.Faults.{Rose}
+use Rattle.tw_base.specs.Faults.{Rose}
 use Rattle.tw_service.specs.Serves.{Serves, disk_of, pages_of}
 use Rattle.tw_app.specs.Disks.{IsLeft, LeavesOldOrOneOf, ReadsAsOneOf}
 use Rattle.tw_app.proofs.AtRest.{named_one_of, named_reads, own_rest, rose_since, same_left}

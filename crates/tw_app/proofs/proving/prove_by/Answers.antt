@@ -1,6 +1,6 @@
 use Rattle.std.proofs.Common.{◌∙◌, ap, sym, subst}
 use Rattle.sha2.specs.Sha256.{sha256}
-use Rattle.tw_outside.specs.Faults.{Rose}
+use Rattle.tw_base.specs.Faults.{Rose}
 use Rattle.tw_service.specs.Serves.{Serves, disk_of, pages_of}
 use Rattle.tw_app.specs.Disks.{IsLeft}
 use Rattle.tw_app.specs.Proving.{top_of}
