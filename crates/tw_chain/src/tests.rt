@@ -4,7 +4,7 @@ use super::*;
 use std::alloc::Global;
 use std::process::Abort;
 use tw_base::{Claim, Digest, Hasher, Name, Reason, Sha, Thread, Weak};
-use tw_skipproof::{LEAST_AUTHENTICATOR, LEAST_EXISTENCE};
+use tw_skipproof::{LEAST_AUTHENTICATOR, LEAST_EXISTENCE, LEAST_MALFORMED};
 
 /// A thread of step 1 of a service.
 fn first_step(rt: &impl Abort, service: &[u8], auth: [u8; 32]) -> Thread {
@@ -99,32 +99,14 @@ fn padded_cut_and_empty(rt: HostRuntime) {
     );
 }
 
-/// A byte of the least proof that is changed, and the place where no proof goes on then.
-const CHANGED: [(usize, u8, u64); 10] = [
-    (0, 0x55, 0),
-    (4, 9, 4),
-    (5, 0x41, 5),
-    (7, 0x61, 7),
-    (21, 1, 21),
-    (28, 0, 28),
-    (28, 2, 145),
-    (104, 0, 104),
-    (104, 2, 145),
-    (140, 1, 140),
-];
-
 #[test]
 fn changed_proofs(rt: HostRuntime) {
-    for (at, byte, place) in CHANGED {
+    for (at, byte, place) in LEAST_MALFORMED {
         assert_eq!(rt;
             reason_with(&rt, rt.alloc(), at, byte),
             Some(Reason::Malformed { place })
         );
     }
-    assert_eq!(rt;
-        reason_with(&rt, rt.alloc(), 144, 1),
-        Some(Reason::Malformed { place: 145 })
-    );
     assert_eq!(rt;
         reason_with(&rt, rt.alloc(), 37, 0),
         Some(Reason::BadPath { part: 0 })

@@ -14,6 +14,15 @@ fn put(disk: &mut MemDisk, page: u64, bytes: &[u8; 4096]) -> Result<(), Failed> 
     disk.barrier()
 }
 
+// A disk of four pages of zeros.
+fn zero_disk(alloc: Global) -> Result<MemDisk, Failed> {
+    let mut disk = MemDisk::new(alloc);
+    for page in 0..4 {
+        put(&mut disk, page, &[0; 4096])?;
+    }
+    Ok(disk)
+}
+
 // Stages a page full of this byte.
 fn stage_byte(store: &mut Store<MemDisk>, byte: u8) -> Result<u64, NoMemory> {
     if store.used() >= (1 << 48) - 4 {
@@ -56,6 +65,14 @@ fn init_fault(alloc: Global, disk: MemDisk) -> Option<StoreFault> {
     }
 }
 
+// The store on this disk.
+fn open(rt: &impl Abort, alloc: Global, disk: MemDisk) -> Store<MemDisk> {
+    let Ok(store) = Store::open(alloc, disk) else {
+        panic!(rt; "not opened");
+    };
+    store
+}
+
 // What `open` answers on this disk.
 fn open_fault(alloc: Global, disk: MemDisk) -> Option<StoreFault> {
     match Store::open(alloc, disk) {
@@ -91,9 +108,7 @@ fn a_commit_of_two_pages_makes_eight_calls(rt: HostRuntime) -> Result<(), Fail> 
     assert_eq!(rt; init_fault(alloc, disk), Some(StoreFault::Taken));
     let disk = disk_of_two_pages(&rt, alloc);
     let reads = disk.reads();
-    let Ok(mut store) = Store::open(alloc, disk) else {
-        panic!(rt; "not opened");
-    };
+    let mut store = open(&rt, alloc, disk);
     assert_eq!(rt; store.root(), [2].as_slice());
     assert_eq!(rt; store.used(), 6);
     assert_eq!(rt; stage_byte(&mut store, 9)?, 6);
@@ -116,17 +131,12 @@ fn what_is_no_store_is_refused(rt: HostRuntime) -> Result<(), Fail> {
 
     let mut disk = disk_of_two_pages(&rt, alloc);
     put(&mut disk, 1, &[0; 4096])?;
-    let Ok(store) = Store::open(alloc, disk) else {
-        panic!(rt; "not opened");
-    };
+    let store = open(&rt, alloc, disk);
     assert_eq!(rt; store.generation(), 1);
     assert_eq!(rt; store.root(), [1].as_slice());
     drop(store.close());
 
-    let mut disk = MemDisk::new(alloc);
-    for page in 0..4 {
-        put(&mut disk, page, &[0; 4096])?;
-    }
+    let mut disk = zero_disk(alloc)?;
     disk.crash(1);
     let mut gate = [0; 4096];
     gate[0] = 1;
@@ -136,11 +146,10 @@ fn what_is_no_store_is_refused(rt: HostRuntime) -> Result<(), Fail> {
         Some(StoreFault::NotAStore { slot: 0 })
     );
 
-    let mut disk = MemDisk::new(alloc);
-    for page in 0..4 {
-        put(&mut disk, page, &[0; 4096])?;
-    }
-    assert_eq!(rt; open_fault(alloc, disk), Some(StoreFault::Blank));
+    assert_eq!(rt;
+        open_fault(alloc, zero_disk(alloc)?),
+        Some(StoreFault::Blank)
+    );
     Ok(())
 }
 
@@ -175,9 +184,7 @@ fn a_stopped_commit_reopens_as_old_or_new(rt: HostRuntime) -> Result<(), Fail> {
             let mut disk = disk_of_two_pages(&rt, alloc);
             disk.crash(0);
             disk.stop_at(1 + call);
-            let Ok(mut store) = Store::open(alloc, disk) else {
-                panic!(rt; "not opened");
-            };
+            let mut store = open(&rt, alloc, disk);
             assert_eq!(rt; stage_byte(&mut store, 9)?, 6);
             assert_eq!(rt; commit_byte(&mut store, 3), Err(CommitFault::DiskFault));
             assert_eq!(rt; commit_byte(&mut store, 3), Err(CommitFault::Reopen));
@@ -204,14 +211,10 @@ fn a_failed_read_is_a_disk_fault(rt: HostRuntime) -> Result<(), Fail> {
     let mut disk = disk_of_two_pages(&rt, alloc);
     disk.fail_read(1)?;
     assert_eq!(rt; open_fault(alloc, disk), Some(StoreFault::DiskFault));
-    let Ok(store) = Store::open(alloc, disk_of_two_pages(&rt, alloc)) else {
-        panic!(rt; "not opened");
-    };
+    let store = open(&rt, alloc, disk_of_two_pages(&rt, alloc));
     let mut disk = store.close();
     disk.fail_read(6)?;
-    let Ok(mut store) = Store::open(alloc, disk) else {
-        panic!(rt; "not opened");
-    };
+    let mut store = open(&rt, alloc, disk);
     assert_eq!(rt; byte_at(&mut store, 4), Err(Failed));
     assert_eq!(rt; byte_at(&mut store, 4)?, Some(7));
     assert_eq!(rt; commit_byte(&mut store, 3), Err(CommitFault::Reopen));

@@ -38,6 +38,11 @@ fn init(alloc: Global, disk: MemDisk, name: Name) -> Option<Service<MemDisk, Sha
     }
 }
 
+// The tests' service on a new disk.
+fn new_service(rt: &impl Abort, alloc: Global) -> Result<Service<MemDisk, Sha>, Fail> {
+    Ok(init(alloc, MemDisk::new(alloc), alpha(rt)).ok_or("no service")?)
+}
+
 // What `init` answers on this disk.
 fn init_fault(alloc: Global, disk: MemDisk, name: Name) -> Option<StoreFault> {
     match Service::<MemDisk, Sha>::init(alloc, disk, name) {
@@ -86,10 +91,7 @@ fn append_refusal(
     count: usize,
     size: usize,
 ) -> Option<Refusal> {
-    match append(alloc, service, count, size) {
-        Ok(_) => None,
-        Err(refusal) => Some(refusal),
-    }
+    append(alloc, service, count, size).err()
 }
 
 // The refusal of a proof.
@@ -99,10 +101,7 @@ fn proof_refusal(
     index: u32,
     top: u64,
 ) -> Option<Refusal> {
-    match service.prove_event(step, index, top) {
-        Ok(_) => None,
-        Err(refusal) => Some(refusal),
-    }
+    service.prove_event(step, index, top).err()
 }
 
 // Whether the proof of this event is accepted under this anchor.
@@ -160,7 +159,7 @@ fn init_makes_ten_calls_and_the_next_is_taken(rt: HostRuntime) -> Result<(), Fai
 #[test]
 fn an_append_makes_eight_calls(rt: HostRuntime) -> Result<(), Fail> {
     let alloc = rt.alloc();
-    let mut service = init(alloc, MemDisk::new(alloc), alpha(&rt)).ok_or("no service")?;
+    let mut service = new_service(&rt, alloc)?;
     let first = append(alloc, &mut service, 1, 0)?;
     assert_eq!(rt; first, service.head());
     assert_eq!(rt; first.step, 1);
@@ -171,18 +170,13 @@ fn an_append_makes_eight_calls(rt: HostRuntime) -> Result<(), Fail> {
 #[test]
 fn an_append_after_a_stop_makes_six_calls(rt: HostRuntime) -> Result<(), Fail> {
     let alloc = rt.alloc();
-    let service = init(alloc, MemDisk::new(alloc), alpha(&rt)).ok_or("no service")?;
+    let service = new_service(&rt, alloc)?;
     let mut disk = service.close();
     disk.stop_at(5);
     let mut service = open(alloc, disk).ok_or("not opened")?;
-    assert_eq!(rt;
-        append_refusal(alloc, &mut service, 1, 0),
-        Some(Refusal::DiskFault)
-    );
-    assert_eq!(rt;
-        append_refusal(alloc, &mut service, 1, 0),
-        Some(Refusal::Reopen)
-    );
+    for refusal in [Refusal::DiskFault, Refusal::Reopen] {
+        assert_eq!(rt; append_refusal(alloc, &mut service, 1, 0), Some(refusal));
+    }
     assert_eq!(rt; service.steps(), 0);
     let mut disk = service.close();
     disk.crash(0);
@@ -199,19 +193,14 @@ fn an_append_after_a_stop_makes_six_calls(rt: HostRuntime) -> Result<(), Fail> {
 #[test]
 fn a_failed_call_leaves_the_earlier_steps(rt: HostRuntime) -> Result<(), Fail> {
     let alloc = rt.alloc();
-    let mut service = init(alloc, MemDisk::new(alloc), alpha(&rt)).ok_or("no service")?;
+    let mut service = new_service(&rt, alloc)?;
     let first = append(alloc, &mut service, 1, 0)?;
     let mut disk = service.close();
     disk.fail(4)?;
     let mut service = open(alloc, disk).ok_or("not opened")?;
-    assert_eq!(rt;
-        append_refusal(alloc, &mut service, 1, 2),
-        Some(Refusal::DiskFault)
-    );
-    assert_eq!(rt;
-        append_refusal(alloc, &mut service, 1, 2),
-        Some(Refusal::Reopen)
-    );
+    for refusal in [Refusal::DiskFault, Refusal::Reopen] {
+        assert_eq!(rt; append_refusal(alloc, &mut service, 1, 2), Some(refusal));
+    }
     assert_eq!(rt; proof_refusal(&mut service, 1, 0, 1), Some(Refusal::Reopen));
     assert_eq!(rt; service.head(), first);
     let service = open(alloc, service.close()).ok_or("not opened again")?;
@@ -219,30 +208,26 @@ fn a_failed_call_leaves_the_earlier_steps(rt: HostRuntime) -> Result<(), Fail> {
     let mut disk = service.close();
     disk.fail_read(6)?;
     let mut service = open(alloc, disk).ok_or("not opened a third time")?;
-    assert_eq!(rt;
-        proof_refusal(&mut service, 1, 0, 1),
-        Some(Refusal::DiskFault)
-    );
-    assert_eq!(rt; proof_refusal(&mut service, 1, 0, 1), Some(Refusal::Reopen));
+    for refusal in [Refusal::DiskFault, Refusal::Reopen] {
+        assert_eq!(rt; proof_refusal(&mut service, 1, 0, 1), Some(refusal));
+    }
     Ok(())
 }
 
 #[test]
 fn events_have_limits(rt: HostRuntime) -> Result<(), Fail> {
     let alloc = rt.alloc();
-    let mut service = init(alloc, MemDisk::new(alloc), alpha(&rt)).ok_or("no service")?;
-    assert_eq!(rt;
-        append_refusal(alloc, &mut service, 1025, 0),
-        Some(Refusal::TooMany { count: 1025 })
-    );
-    assert_eq!(rt;
-        append_refusal(alloc, &mut service, 1, 1025),
-        Some(Refusal::TooLong { bytes: 1025 })
-    );
-    assert_eq!(rt;
-        append_refusal(alloc, &mut service, 65, 1024),
-        Some(Refusal::TooLong { bytes: 66560 })
-    );
+    let mut service = new_service(&rt, alloc)?;
+    for (count, size, refusal) in [
+        (1025, 0, Refusal::TooMany { count: 1025 }),
+        (1, 1025, Refusal::TooLong { bytes: 1025 }),
+        (65, 1024, Refusal::TooLong { bytes: 66560 }),
+    ] {
+        assert_eq!(rt;
+            append_refusal(alloc, &mut service, count, size),
+            Some(refusal)
+        );
+    }
     assert_eq!(rt; service.steps(), 0);
     let _ = append(alloc, &mut service, 64, 1024)?;
     let mut disk = service.close();
@@ -260,7 +245,7 @@ fn events_have_limits(rt: HostRuntime) -> Result<(), Fail> {
 #[test]
 fn what_is_missing_is_told(rt: HostRuntime) -> Result<(), Fail> {
     let alloc = rt.alloc();
-    let mut service = init(alloc, MemDisk::new(alloc), alpha(&rt)).ok_or("no service")?;
+    let mut service = new_service(&rt, alloc)?;
     assert_eq!(rt;
         proof_refusal(&mut service, 1, 0, 1),
         Some(Refusal::NoStep { last: 0 })
@@ -268,26 +253,19 @@ fn what_is_missing_is_told(rt: HostRuntime) -> Result<(), Fail> {
     for count in [0, 2, 1] {
         let _ = append(alloc, &mut service, count, 3)?;
     }
-    assert_eq!(rt;
-        proof_refusal(&mut service, 4, 0, 4),
-        Some(Refusal::NoStep { last: 3 })
-    );
-    assert_eq!(rt;
-        proof_refusal(&mut service, 3, 1, 3),
-        Some(Refusal::NoEvent { count: 1 })
-    );
-    assert_eq!(rt;
-        proof_refusal(&mut service, 3, 0, 2),
-        Some(Refusal::NoStep { last: 3 })
-    );
-    assert_eq!(rt;
-        proof_refusal(&mut service, 0, 0, 2),
-        Some(Refusal::NoStep { last: 3 })
-    );
-    assert_eq!(rt;
-        proof_refusal(&mut service, 1, 0, 3),
-        Some(Refusal::NoEvent { count: 0 })
-    );
+    for (step, index, top, refusal) in [
+        (4, 0, 4, Refusal::NoStep { last: 3 }),
+        (3, 1, 3, Refusal::NoEvent { count: 1 }),
+        (3, 0, 2, Refusal::NoStep { last: 3 }),
+        (0, 0, 2, Refusal::NoStep { last: 3 }),
+        (1, 0, 3, Refusal::NoEvent { count: 0 }),
+    ] {
+        assert_eq!(rt;
+            proof_refusal(&mut service, step, index, top),
+            Some(refusal),
+            "event {index} of step {step} under {top}"
+        );
+    }
     assert_eq!(rt; proof_refusal(&mut service, 3, 0, 3), None);
     Ok(())
 }
@@ -312,7 +290,7 @@ fn append_steps(
 #[test]
 fn each_proof_is_accepted(rt: HostRuntime) -> Result<(), Fail> {
     let alloc = rt.alloc();
-    let mut service = init(alloc, MemDisk::new(alloc), alpha(&rt)).ok_or("no service")?;
+    let mut service = new_service(&rt, alloc)?;
     let mut threads = Vec::new(alloc);
     append_steps(alloc, &mut service, 20, &mut threads)?;
     let mut service = open(alloc, service.close()).ok_or("not opened")?;
@@ -331,21 +309,18 @@ fn each_proof_is_accepted(rt: HostRuntime) -> Result<(), Fail> {
 #[test]
 fn what_is_no_service_is_refused(rt: HostRuntime) -> Result<(), Fail> {
     let alloc = rt.alloc();
-    let mut disk = MemDisk::new(alloc);
-    for page in 0..4 {
-        put(&mut disk, page, &[0; 4096])?;
+    for (byte, fault) in [
+        (0, StoreFault::Blank),
+        (1, StoreFault::NotAStore { slot: 0 }),
+    ] {
+        let mut disk = MemDisk::new(alloc);
+        for page in 0..4 {
+            put(&mut disk, page, &[byte; 4096])?;
+        }
+        assert_eq!(rt; open_fault(alloc, disk), Some(fault));
     }
-    assert_eq!(rt; open_fault(alloc, disk), Some(StoreFault::Blank));
-    let mut disk = MemDisk::new(alloc);
-    for page in 0..4 {
-        put(&mut disk, page, &[1; 4096])?;
-    }
-    assert_eq!(rt;
-        open_fault(alloc, disk),
-        Some(StoreFault::NotAStore { slot: 0 })
-    );
 
-    let mut service = init(alloc, MemDisk::new(alloc), alpha(&rt)).ok_or("no service")?;
+    let mut service = new_service(&rt, alloc)?;
     let _ = append(alloc, &mut service, 1, 0)?;
     let mut disk = service.close();
     put(&mut disk, 5, &[0; 4096])?;
@@ -397,23 +372,20 @@ fn a_full_service_refuses(rt: HostRuntime) -> Result<(), Fail> {
         append_refusal(alloc, &mut service, 2000, 0),
         Some(Refusal::Full)
     );
-    let disk = disk_of_steps(&rt, alloc, last + 1);
-    assert_eq!(rt;
-        open_fault(alloc, disk),
-        Some(StoreFault::NotAStore { slot: 1 })
-    );
-    let disk = disk_of_steps(&rt, alloc, 0);
-    assert_eq!(rt;
-        open_fault(alloc, disk),
-        Some(StoreFault::NotAStore { slot: 1 })
-    );
+    for steps in [0, last + 1] {
+        let disk = disk_of_steps(&rt, alloc, steps);
+        assert_eq!(rt;
+            open_fault(alloc, disk),
+            Some(StoreFault::NotAStore { slot: 1 })
+        );
+    }
     Ok(())
 }
 
 #[test]
 fn a_proof_reads_each_page_of_its_path_once(rt: HostRuntime) -> Result<(), Fail> {
     let alloc = rt.alloc();
-    let mut service = init(alloc, MemDisk::new(alloc), alpha(&rt)).ok_or("no service")?;
+    let mut service = new_service(&rt, alloc)?;
     let mut threads = Vec::new(alloc);
     append_steps(alloc, &mut service, 40, &mut threads)?;
     let disk = service.close();

@@ -284,20 +284,7 @@ fn least_proof(rt: HostRuntime) -> Result<(), Fail> {
 
 #[test]
 fn changed_least_proofs(rt: HostRuntime) -> Result<(), Fail> {
-    let changes = [
-        (0, 0x55, 0),
-        (4, 9, 4),
-        (5, 0x41, 5),
-        (7, 0x61, 7),
-        (21, 1, 21),
-        (28, 0, 28),
-        (28, 2, 145),
-        (104, 0, 104),
-        (104, 2, 145),
-        (140, 1, 140),
-        (144, 1, 145),
-    ];
-    for (at, byte, place) in changes {
+    for (at, byte, place) in LEAST_MALFORMED {
         let mut bytes = LEAST_EXISTENCE;
         assert!(rt; at < 145);
         bytes[at] = byte;
