@@ -1,1 +1,2 @@
 pub mod Unwinding
+pub mod Padded

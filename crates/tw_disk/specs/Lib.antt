@@ -1,5 +1,6 @@
 pub mod Image
 pub mod Put
+pub mod PageBytes
 pub mod Disk
 pub mod Moments
 pub mod Model

@@ -1,7 +1,8 @@
 //! Disks by pages of 4,096 bytes, what a crash may leave of one, and the pages that a store shows to the crates above it.
 //!
 //! [`Disk`] is the device with the disk model: what a write, a barrier and a crash may do. [`Pages`] is a list of pages that only grows.
-//! [`MemDisk`] and [`MemPages`] are both in memory, with calls that fail where a test plans it. [`word_at`] reads a number in a page.
+//! [`MemDisk`] and [`MemPages`] are both in memory, with calls that fail where a test plans it. [`append_at`]
+//! puts bytes into a page, and [`u64_at`] and its like read the fields that stand in one.
 #![tactic(auto)]
 
 mod call;
@@ -10,16 +11,16 @@ mod disk;
 mod fail_list;
 mod memory_disk;
 mod memory_pages;
+mod page_bytes;
 mod pages;
 #[cfg(test)]
 mod tests;
 #[cfg(test)]
 mod untold;
-mod words;
 
 pub use disk::Disk;
 pub use memory_disk::MemDisk;
 pub use memory_pages::MemPages;
+pub use page_bytes::{append_at, digest_at, u16_at, u32_at, u64_at};
 pub use pages::Pages;
 pub use tw_base::{Failed, NoMemory};
-pub use words::word_at;

@@ -1,6 +1,9 @@
 use crate::untold::UntoldDisk;
-use crate::{Disk, Failed, MemDisk, MemPages, NoMemory, Pages};
+use crate::{
+    Disk, Failed, MemDisk, MemPages, NoMemory, Pages, append_at, digest_at, u16_at, u32_at, u64_at,
+};
 use std::test::Fail;
+use tw_base::Digest;
 
 // Writes a page full of this byte, and tells whether that went well.
 fn put<D: Disk>(disk: &mut D, page: u64, byte: u8) -> Result<(), Failed> {
@@ -125,5 +128,19 @@ fn pages_in_memory(rt: HostRuntime) -> Result<(), Fail> {
     assert_eq!(rt; last_byte(&mut pages, 4)?, Some(5));
     assert_eq!(rt; pages.reads(), 3);
     assert_eq!(rt; pages.used(), 6);
+    Ok(())
+}
+
+#[test]
+fn fields_of_a_page(rt: HostRuntime) -> Result<(), Fail> {
+    let mut page = [0; 4096];
+    append_at(&mut page, 0, &[1, 2, 3, 4, 5, 6, 7, 8]);
+    append_at(&mut page, 8, &[9; 32]);
+    assert_eq!(rt; u16_at(&page, 1), 0x0203);
+    assert_eq!(rt; u32_at(&page, 1), 0x0203_0405);
+    assert_eq!(rt; u64_at(&page, 1), 0x0203_0405_0607_0809);
+    assert_eq!(rt; digest_at(&page, 8), Digest([9; 32]));
+    assert_eq!(rt; u64_at(&page, 36), 0x0909_0909_0000_0000);
+    assert_eq!(rt; u64_at(&page, 4088), 0);
     Ok(())
 }

@@ -2,14 +2,11 @@
 use Rattle.std.specs.Prelude.{Bool, true, false, ◌^◌, ◌≡◌, ◌≢◌, ◌⊎◌, ℕ, ◌+◌, ◌-◌, ◌<◌, ◌≤◌, List, [], ◌∷◌, ◌++◌, length, replicate, slice_index}
 use Rattle.std.specs.Int.{to_be_bytes, w16, w64}
 use Rattle.tw_disk.specs.Image.{Image, page_at}
+use Rattle.tw_disk.specs.PageBytes.{padded}
 
 -- the letters TWSTORE1
 abbrev pub magic : List ℕ
 magic = 84 ∷ 87 ∷ 83 ∷ 84 ∷ 79 ∷ 82 ∷ 69 ∷ 49 ∷ []
-
--- these bytes, and then zeros to the end of a page
-abbrev pub padded : List ℕ → List ℕ
-padded bytes = bytes ++ replicate (4096 - length bytes) 0
 
 -- the page of a body: the letters, the generation, the number of used pages, the root record with its length, and zeros
 unfoldable pub body_page : ℕ → ℕ → List ℕ → List ℕ

@@ -1,15 +1,16 @@
 // The phases that make a store.
-ghost use Rattle.std.specs.Prelude.{◌≡◌, ◌⊎◌, ◌<◌, ◌≤◌, ◌+◌, ◌^◌, ◌↔◌, ℕ, List, length, Some, Err, OnOk, IfOk, IfErr, IsTrue, if◌then◌else◌};
+ghost use Rattle.std.specs.Prelude.{◌≡◌, ◌⊎◌, ◌<◌, ◌≤◌, ℕ, List, length, Some, Err, OnOk, IfOk, IfErr, if◌then◌else◌};
 ghost use Rattle.std.specs.Option.{IsSomeAnd};
 ghost use Rattle.tw_disk.specs.Image.{Image};
 ghost use Rattle.tw_base.specs.Faults.{HasCause, Rose};
 ghost use Rattle.tw_disk.specs.Disk.{LeavesOnly, IsAtRest};
 ghost use Rattle.tw_pages.specs.Store.{OpensAboveOlder};
 ghost use Rattle.tw_pages.specs.Init.{BothClosed, HasBodies, IsUnmade, first_opening, IsBlankOrNew};
-ghost use Rattle.tw_pages.specs.Slots.{IsBlank, IsOpen, IsTaken};
+ghost use Rattle.tw_pages.specs.Slots.{IsBlank, IsTaken};
 ghost use Rattle.tw_pages.specs.Told.{StaysTold};
 
 use crate::durable::write_pair_durably;
+use crate::gate::is_gate_open;
 use crate::layout::{body, closed_gate, open_gate};
 use crate::open::{StoreFault, settle};
 use tw_disk::{Disk, Failed};
@@ -60,22 +61,6 @@ pub fn write_open_gates<D: Disk>(disk: &mut D) -> Result<(), Failed>
 {
     write_pair_durably(disk, 0, &open_gate(), 1, &open_gate())?;
     Ok(())
-}
-
-// Whether the gate of a slot reads open.
-pub fn is_gate_open<D: Disk>(disk: &mut D, slot: u64) -> Result<bool, Failed>
-    requires low { slot < 2 }
-    requires room { IsSomeAnd (D.count disk.old) (λ n. 4 ≤ n) }
-    ensures gate { IfOk result (λ b. (c : Image) → D.content disk.old ≡ Some c → (IsTrue b ↔ IsOpen slot c)) }
-    ensures count { D.count disk.new ≡ D.count disk.old }
-    ensures content { D.content disk.new ≡ D.content disk.old }
-    ensures images { (c : Image) → D.may_leave disk.new c → D.may_leave disk.old c }
-    ensures time { LeavesOnly D.moment D.may_leave D.left_since disk.old disk.new (D.may_leave disk.old) }
-    ensures cause { HasCause (D.faults disk.old) (D.faults disk.new) result }
-{
-    let mut page = [0; 4096];
-    disk.read(slot, &mut page)?;
-    Ok(page[0] == 1)
 }
 
 // Makes what was written stable, refuses a store that is there, and tells whether there are too few pages for one.

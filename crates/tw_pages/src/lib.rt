@@ -7,6 +7,7 @@
 mod body;
 mod commit;
 mod durable;
+mod gate;
 mod init;
 mod laws;
 mod layout;

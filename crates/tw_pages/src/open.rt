@@ -1,13 +1,14 @@
 // What the two slots of a disk hold, and which of them counts.
-ghost use Rattle.std.specs.Prelude.{◌≡◌, ◌≢◌, ◌⊎◌, ◌<◌, ◌≤◌, ◌+◌, ◌-◌, ◌^◌, ℕ, List, length, take, Some, Err, IfOk, IfErr, OnOk, OnErr, IfSome, IsErrAnd, MatchResult};
+ghost use Rattle.std.specs.Prelude.{◌≡◌, ◌≢◌, ◌⊎◌, ◌<◌, ◌≤◌, ◌+◌, ◌-◌, ℕ, length, Some, Err, IfOk, IfErr, OnOk, IfSome};
 ghost use Rattle.std.specs.Option.{IsSomeAnd};
-ghost use Rattle.tw_disk.specs.Image.{Image, page_at};
 ghost use Rattle.tw_base.specs.Faults.{HasCause, Rose};
+ghost use Rattle.tw_disk.specs.Image.{Image};
 ghost use Rattle.tw_disk.specs.Disk.{LeavesOnly, IsAtRest, Only};
 ghost use Rattle.tw_pages.specs.Slots.{HoldsSlot, IsFoundIn, IsRefusedFor, HasRoom};
 ghost use Rattle.tw_pages.specs.declared.open.StoreFault.TheVariants.{DiskFault};
 
 use crate::body::{Body, read_body};
+use crate::gate::is_gate_open;
 use tw_disk::{Disk, Failed};
 
 // What was read of a slot.
@@ -35,11 +36,10 @@ pub fn read_slot<D: Disk>(disk: &mut D, slot: u64, count: u64) -> Result<Slot, F
     ensures time { LeavesOnly D.moment D.may_leave D.left_since disk.old disk.new (D.may_leave disk.old) }
     ensures cause { HasCause (D.faults disk.old) (D.faults disk.new) result }
 {
-    let mut page = [0; 4096];
-    disk.read(slot, &mut page)?;
-    if page[0] != 1 {
+    if !is_gate_open(disk, slot)? {
         return Ok(Slot::Closed);
     }
+    let mut page = [0; 4096];
     disk.read(2 + slot, &mut page)?;
     match read_body(&page, count) {
         Some(body) => Ok(Slot::Holds(body)),

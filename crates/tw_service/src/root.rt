@@ -1,7 +1,7 @@
 // Root records.
 
-ghost use Rattle.std.specs.Prelude.{◌≡◌, ◌≢◌, ◌⊎◌, ℕ, ◌+◌, ◌-◌, ◌*◌, ◌≤◌, ◌<◌, ◌^◌, ◌++◌, List, length, take, drop, IsTrue, ◌↔◌, MatchOption, IfSome};
-ghost use Rattle.std.specs.Int.{from_be_bytes, to_be_bytes, w64};
+ghost use Rattle.std.specs.Prelude.{◌≡◌, ℕ, ◌+◌, ◌-◌, ◌*◌, ◌≤◌, ◌<◌, ◌^◌, ◌++◌, List, length, take, IsTrue, ◌↔◌, MatchOption};
+ghost use Rattle.std.specs.Int.{to_be_bytes, w64};
 ghost use Rattle.arrayvec.specs.ArrayVec.{array_vec_len};
 ghost use Rattle.tw_base.specs.Names.{IsName};
 ghost use Rattle.tw_skiplist.specs.declared.head.Head.{Head};
@@ -9,6 +9,7 @@ ghost use Rattle.tw_service.specs.Roots.{FitsStore, IsAllowed, archive_bytes, ro
 
 use arrayvec::ArrayVec;
 use tw_base::{Digest, Hasher, Name, empty_tree, read_name};
+use tw_disk::{digest_at, u64_at};
 use tw_skiplist::Head;
 
 /// Puts the bytes at the record's end.
@@ -66,26 +67,6 @@ pub(crate) fn root_record<H: Hasher>(name: &Name, head: &Head) -> ArrayVec<u8, 1
     text
 }
 
-/// The number that stands at a place.
-fn word_at(bytes: &[u8], at: usize) -> u64
-    requires { at + 8 ≤ length bytes.now }
-    ensures { result ≡ from_be_bytes w64 (take 8 (drop at bytes.now)) }
-{
-    let mut word = [0; 8];
-    word.copy_from_slice(&bytes[at..at + 8]);
-    u64::from_be_bytes(word)
-}
-
-/// The digest that stands at a place.
-fn digest_at(bytes: &[u8], at: usize) -> Digest
-    requires { at + 32 ≤ length bytes.now }
-    ensures { result ≡ take 32 (drop at bytes.now) }
-{
-    let mut digest = [0; 32];
-    digest.copy_from_slice(&bytes[at..at + 32]);
-    Digest(digest)
-}
-
 /// The name that stands at the front.
 fn name_at_front(bytes: &[u8]) -> Option<Name>
     requires { 16 ≤ length bytes.now }
@@ -134,9 +115,9 @@ pub(crate) fn read_root<H: Hasher>(bytes: &[u8], used: u64, generation: u64) -> 
     let Some(name) = name_at_front(bytes) else {
         return None;
     };
-    let step = word_at(bytes, 16);
+    let step = u64_at(bytes, 16);
     let auth = digest_at(bytes, 24);
-    let page = word_at(bytes, 56);
+    let page = u64_at(bytes, 56);
     let head = Head { step, auth, page };
     if !fits_store(&head, used, generation) {
         return None;

@@ -5,7 +5,8 @@ use Rattle.std.specs.Int.{to_be_bytes, from_be_bytes, w32, w64}
 use Rattle.std.proofs.lemmas.Nat.{from_be_bytes-to_be_bytes_8, from_be_bytes-to_be_bytes_4}
 use Rattle.tw_skiplist.specs.declared.head.StepRef.{StepRef}
 use Rattle.tw_skiplist.specs.declared.fields.StepFields.{StepFields}
-use Rattle.tw_skiplist.specs.Bytes.{step_bytes, links_bytes, step_front, padded}
+use Rattle.tw_disk.specs.PageBytes.{padded}
+use Rattle.tw_skiplist.specs.Bytes.{step_bytes, links_bytes, step_front}
 use Rattle.tw_base.specs.Levels.{top_level}
 use Rattle.tw_skiplist.specs.Reading.{AllSized, HasWidths, IsStepPage, fields_in, link_in, link_of, links_in, no_ref}
 

@@ -7,7 +7,6 @@ pub mod Growing
 pub mod Kept
 pub mod KeptEvents
 pub mod Once
-pub mod Padded
 pub mod Plus
 pub mod Recording
 pub mod Shapes

@@ -1,12 +1,9 @@
 -- The bytes of step pages and event pages. Numbers are big-endian, and unused bytes are zero.
-use Rattle.std.specs.Prelude.{ℕ, suc, zero, ◌-◌, ◌*◌, List, [], ◌∷◌, ◌++◌, length, take, drop, replicate}
+use Rattle.std.specs.Prelude.{ℕ, suc, zero, ◌*◌, List, [], ◌∷◌, ◌++◌, length, take, drop, replicate}
 use Rattle.std.specs.Int.{to_be_bytes, w16, w32, w64}
+use Rattle.tw_disk.specs.PageBytes.{padded}
 use Rattle.tw_skiplist.specs.declared.head.StepRef.{StepRef}
 use Rattle.tw_skiplist.specs.declared.fields.StepFields.{StepFields}
-
--- these bytes, and then zeros to the end of a page
-abbrev pub padded : List ℕ → List ℕ
-padded bytes = bytes ++ replicate (4096 - length bytes) 0
 
 -- for each link the page and the authenticator of the step that it leads to
 abbrev pub links_bytes : List StepRef → List ℕ

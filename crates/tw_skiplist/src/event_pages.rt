@@ -1,19 +1,17 @@
 // Reading the stream of a step's events.
 
-ghost use Rattle.std.specs.Prelude.{◌≡◌, ℕ, ◌+◌, ◌-◌, ◌*◌, ◌<◌, ◌≤◌, ◌^◌, ◌++◌, ◌↔◌, List, length, take, drop, min, Some, IfOk, IsTrue, OnOk, MatchOption};
-ghost use Rattle.std.specs.Int.{to_be_bytes, w32};
+ghost use Rattle.std.specs.Prelude.{◌≡◌, ℕ, ◌+◌, ◌-◌, ◌*◌, ◌<◌, ◌≤◌, ◌^◌, ◌++◌, List, length, take, drop, min, Some, IfOk, OnOk, MatchOption};
 ghost use Rattle.tw_disk.specs.Image.{Image};
 ghost use Rattle.tw_disk.specs.Pages.{OnlyReads};
 ghost use Rattle.tw_skiplist.specs.Answers.{FaultsRise, IfBadPage, NeverNoStep, NotDiskFault};
-ghost use Rattle.tw_skiplist.specs.Bytes.{event_bytes};
-ghost use Rattle.tw_skiplist.specs.Events.{HasEventAt, HasPieces, HasStream, IsEventPageAt, IsNoEventAt, IsNoEventPageAt, MeetsBadPiece, SpellsEvents, last_page};
+ghost use Rattle.tw_skiplist.specs.Events.{HasEventAt, HasStream, IsEventPageAt, IsNoEventAt, IsNoEventPageAt, MeetsBadPiece, SpellsEvents, last_page};
 
 use crate::fault::ListFault;
 use crate::info::StepInfo;
 use crate::page::is_event_page;
 use std::alloc::Global;
 use tw_base::{Bytes, EventList, NoMemory};
-use tw_disk::Pages;
+use tw_disk::{Pages, u32_at};
 
 // Reads the event page of this number of the step, and appends its piece of a stream of this size.
 fn add_piece<P: Pages>(
@@ -95,22 +93,6 @@ pub(crate) fn read_stream<P: Pages>(
 
 // ---- the events in it
 
-fn word_at(bytes: &[u8], at: usize) -> [u8; 4]
-    requires { at + 4 ≤ length bytes.now }
-    ensures { result ≡ take 4 (drop at bytes.now) }
-{
-    let mut word = [0; 4];
-    word.copy_from_slice(&bytes[at..at + 4]);
-    word
-}
-
-// The number that the bytes spell.
-fn number_of(word: &[u8; 4]) -> u32
-    ensures { to_be_bytes w32 result ≡ word.now }
-{
-    u32::from_be_bytes(*word)
-}
-
 // The size of the event that stands at a place behind its length, where one of at most 1,024 bytes does.
 fn event_size(bytes: &[u8], at: usize) -> Option<usize>
     requires { at ≤ length bytes.now }
@@ -119,7 +101,7 @@ fn event_size(bytes: &[u8], at: usize) -> Option<usize>
     if bytes.len() - at < 4 {
         return None;
     }
-    let size = number_of(&word_at(bytes, at)) as usize;
+    let size = u32_at(bytes, at) as usize;
     if size > 1024 || bytes.len() - at - 4 < size {
         return None;
     }

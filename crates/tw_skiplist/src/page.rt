@@ -1,44 +1,37 @@
 // The bytes of step pages and event pages.
 
 ghost use Rattle.std.specs.Prelude.{◌≡◌, ◌<◌, ◌≤◌, ◌^◌, ◌+◌, ◌*◌, ◌++◌, ◌↔◌, List, ℕ, suc, length, take, drop, IsTrue, MatchOption};
-ghost use Rattle.std.specs.Int.{to_be_bytes, from_be_bytes, w32, w64};
+ghost use Rattle.std.specs.Int.{to_be_bytes, w64};
 ghost use Rattle.tw_base.specs.Levels.{top_level as top_level_of};
+ghost use Rattle.tw_disk.specs.PageBytes.{padded};
 ghost use Rattle.tw_skiplist.specs.declared.fields.StepFields.{StepFields};
 ghost use Rattle.tw_skiplist.specs.declared.head.StepRef.{StepRef};
-ghost use Rattle.tw_skiplist.specs.Bytes.{event_bytes, padded, step_bytes, step_front, step_numbers};
-ghost use Rattle.tw_skiplist.specs.Reading.{AllSized, HasWidths, IsStepPage, KeepsFieldRules, KeepsLinkRules, LiesBelow, fields_in, link_in, links_in};
+ghost use Rattle.tw_skiplist.specs.Bytes.{event_bytes, step_bytes, step_front, step_numbers};
+ghost use Rattle.tw_skiplist.specs.Reading.{HasWidths, IsStepPage, KeepsFieldRules, KeepsLinkRules, LiesBelow, fields_in, link_in, links_in};
 
 use crate::fields::{StepFields, StreamRef};
 use crate::head::StepRef;
 use arrayvec::ArrayVec;
 use tw_base::{Digest, top_level};
-use tw_disk::word_at;
+use tw_disk::{append_at, digest_at, u32_at, u64_at};
 
 // ---- writing
 
-// Puts bytes behind those that stand at the front of a page.
-fn fill(page: &mut [u8; 4096], at: usize, bytes: &[u8])
-    requires { at + length bytes.now ≤ 4096 }
-    ensures { (front : List ℕ) → length front ≡ at → page.old ≡ padded front → page.new ≡ padded (front ++ bytes.now) }
-{
-    page[at..at + bytes.len()].copy_from_slice(bytes);
-}
-
-fn fill_digest(page: &mut [u8; 4096], at: usize, digest: &Digest)
+fn append_digest(page: &mut [u8; 4096], at: usize, digest: &Digest)
     requires { at + 32 ≤ 4096 }
     ensures bytes { (front : List ℕ) → length front ≡ at → page.old ≡ padded front → page.new ≡ padded (front ++ digest.now) }
     ensures size { length digest.now ≡ 32 }
 {
-    fill(page, at, &digest.0);
+    append_at(page, at, &digest.0);
 }
 
-fn fill_link(page: &mut [u8; 4096], at: usize, link: &StepRef)
+fn append_link(page: &mut [u8; 4096], at: usize, link: &StepRef)
     requires { at + 40 ≤ 4096 }
     ensures bytes { (front : List ℕ) → length front ≡ at → page.old ≡ padded front → page.new ≡ padded (front ++ (to_be_bytes w64 link.now.page ++ link.now.auth)) }
     ensures size { length link.now.auth ≡ 32 }
 {
-    fill(page, at, &link.page.to_be_bytes());
-    fill_digest(page, at + 8, &link.auth);
+    append_at(page, at, &link.page.to_be_bytes());
+    append_digest(page, at + 8, &link.auth);
 }
 
 // The fields before the digests.
@@ -46,12 +39,12 @@ fn numbers(step: u64, fields: &StepFields) -> [u8; 4096]
     ensures { result ≡ padded (step_numbers step fields.now) }
 {
     let mut page = [0; 4096];
-    fill(&mut page, 0, &[1]);
-    fill(&mut page, 1, &step.to_be_bytes());
-    fill(&mut page, 9, &[1]);
-    fill(&mut page, 10, &fields.count.to_be_bytes());
-    fill(&mut page, 14, &fields.stream.size.to_be_bytes());
-    fill(&mut page, 18, &fields.stream.page.to_be_bytes());
+    append_at(&mut page, 0, &[1]);
+    append_at(&mut page, 1, &step.to_be_bytes());
+    append_at(&mut page, 9, &[1]);
+    append_at(&mut page, 10, &fields.count.to_be_bytes());
+    append_at(&mut page, 14, &fields.stream.size.to_be_bytes());
+    append_at(&mut page, 18, &fields.stream.page.to_be_bytes());
     page
 }
 
@@ -64,11 +57,11 @@ fn front(step: u64, fields: &StepFields, links: u8) -> [u8; 4096]
     ensures auth { length fields.now.auth ≡ 32 }
 {
     let mut page = numbers(step, fields);
-    fill_digest(&mut page, 26, &fields.event_root);
-    fill_digest(&mut page, 58, &fields.archive);
-    fill(&mut page, 90, &[0; 64]);
-    fill_digest(&mut page, 154, &fields.auth);
-    fill(&mut page, 186, &[links]);
+    append_digest(&mut page, 26, &fields.event_root);
+    append_digest(&mut page, 58, &fields.archive);
+    append_at(&mut page, 90, &[0; 64]);
+    append_digest(&mut page, 154, &fields.auth);
+    append_at(&mut page, 186, &[links]);
     page
 }
 
@@ -82,7 +75,7 @@ pub(crate) fn step_page(step: u64, fields: &StepFields, links: &[StepRef]) -> [u
     let mut page = front(step, fields, links.len() as u8);
     let mut at = 187;
     for link in links {
-        fill_link(&mut page, at, link);
+        append_link(&mut page, at, link);
         at += 40;
     }
     page
@@ -94,10 +87,10 @@ pub(crate) fn event_page(step: u64, number: u16, piece: &[u8]) -> [u8; 4096]
     ensures { result ≡ event_bytes step number piece.now }
 {
     let mut page = [0; 4096];
-    fill(&mut page, 0, &[2]);
-    fill(&mut page, 1, &step.to_be_bytes());
-    fill(&mut page, 9, &number.to_be_bytes());
-    fill(&mut page, 11, piece);
+    append_at(&mut page, 0, &[2]);
+    append_at(&mut page, 1, &step.to_be_bytes());
+    append_at(&mut page, 9, &number.to_be_bytes());
+    append_at(&mut page, 11, piece);
     page
 }
 
@@ -110,32 +103,14 @@ pub(crate) struct StepPage {
     pub links: ArrayVec<StepRef, 40>,
 }
 
-fn short_word_at(page: &[u8; 4096], at: usize) -> u32
-    requires { at + 4 ≤ 4096 }
-    ensures { result ≡ from_be_bytes w32 (take 4 (drop at page.now)) }
-{
-    let mut word = [0; 4];
-    word.copy_from_slice(&page[at..at + 4]);
-    u32::from_be_bytes(word)
-}
-
-fn digest_at(page: &[u8; 4096], at: usize) -> Digest
-    requires { at + 32 ≤ 4096 }
-    ensures { result ≡ take 32 (drop at page.now) }
-{
-    let mut bytes = [0; 32];
-    bytes.copy_from_slice(&page[at..at + 32]);
-    Digest(bytes)
-}
-
 fn fields_at(page: &[u8; 4096]) -> StepFields
     ensures { result ≡ fields_in page.now }
 {
     StepFields {
-        count: short_word_at(page, 10),
+        count: u32_at(page, 10),
         stream: StreamRef {
-            page: word_at(page, 18),
-            size: short_word_at(page, 14),
+            page: u64_at(page, 18),
+            size: u32_at(page, 14),
         },
         event_root: digest_at(page, 26),
         archive: digest_at(page, 58),
@@ -149,7 +124,7 @@ fn link_at(page: &[u8; 4096], level: u8) -> StepRef
 {
     let at = 187 + 40 * level as usize;
     StepRef {
-        page: word_at(page, at),
+        page: u64_at(page, at),
         auth: digest_at(page, at + 8),
     }
 }
@@ -166,12 +141,6 @@ fn links_at(page: &[u8; 4096], count: u8) -> ArrayVec<StepRef, 40>
         links.push(link_at(page, level));
     }
     links
-}
-
-fn is_same(page: &[u8; 4096], other: &[u8; 4096]) -> bool
-    ensures { IsTrue result ↔ (page.now ≡ other.now) }
-{
-    page.as_slice() == other.as_slice()
 }
 
 /// A power of two.
@@ -216,8 +185,7 @@ fn is_page(page: u64, step: u64, empty: &Digest, bytes: &[u8; 4096], found: &Ste
     requires { length found.now.links.items ≡ suc (top_level_of step) }
     ensures { IsTrue result ↔ IsStepPage empty.now page step found.now.fields found.now.links.items bytes.now }
 {
-    let anew = step_page(step, &found.fields, found.links.as_slice());
-    is_same(bytes, &anew)
+    *bytes == step_page(step, &found.fields, found.links.as_slice())
         && keeps_field_rules(empty, page, &found.fields)
         && keeps_link_rules(page, step, found.links.as_slice())
 }
@@ -252,5 +220,5 @@ pub(crate) fn is_event_page(bytes: &[u8; 4096], step: u64, number: u16, count: u
     requires { count ≤ 4085 }
     ensures { IsTrue result ↔ (bytes.now ≡ event_bytes step number (take count (drop 11 bytes.now))) }
 {
-    is_same(bytes, &event_page(step, number, &bytes[11..11 + count]))
+    *bytes == event_page(step, number, &bytes[11..11 + count])
 }

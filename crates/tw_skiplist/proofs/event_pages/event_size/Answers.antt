@@ -1,8 +1,26 @@
-use Rattle.std.proofs.Common.{◌≡◌, ◌+◌, ◌++◌, ℕ, List, ap, sym, ◌∙◌, arith, length, take, drop, length-drop, length-append}
-use Rattle.std.specs.Int.{to_be_bytes, from_be_bytes, w32}
-use Rattle.std.proofs.lemmas.Nat.{from_be_bytes-to_be_bytes_4}
+use Rattle.std.proofs.Common.{◌≡◌, ◌<◌, ◌+◌, ◌-◌, ◌++◌, ℕ, zero, suc, List, [], ◌∷◌, ap, sym, ◌∙◌, arith, get_or, length, take, drop, length-drop, length-append}
+use Rattle.std.specs.Int.{from_be_bytes, w32}
+use Rattle.std.proofs.lemmas.List.{get_or-drop, length-take-le}
+use Rattle.std.proofs.lemmas.Nat.{be_bytes_4, from_be_bytes-to_be_bytes_4}
 use Rattle.tw_skiplist.proofs.event_pages.event_size.Goals as goal
 use Rattle.tw_skiplist.proofs.event_pages.event_size.Goals.{then-size-gt1024-via-then-size-gt1024, then-size-gt1024-via-else-size-gt1024+then-bytes-at}
+
+-- the first of some bytes are bytes
+first_fit : (n : ℕ) (bs : List ℕ) → ((i : ℕ) → get_or bs i 0 < 256) → (i : ℕ) → get_or (take n bs) i 0 < 256
+first_fit zero bs fits i = omega arith
+first_fit (suc n) [] fits i = omega arith
+first_fit (suc n) (b ∷ bs) fits zero = fits 0
+first_fit (suc n) (b ∷ bs) fits (suc i) = first_fit n bs (λ k. fits (suc k)) i
+
+pub returns : goal.returns
+returns c =
+    let rest = drop c.args.at c.args.bytes.now in
+    let size : length rest ≡ length c.args.bytes.now - c.args.at = length-drop c.args.at c.args.bytes.now in record {
+      few = omega arith;
+      room = omega arith;
+      length_is = sym (be_bytes_4 (take 4 rest) c.u32_at-size.result (length-take-le 4 rest (omega (arith, size, c.if-bytes-at-lt4.false)))
+          (first_fit 4 rest (λ i. omega (arith, get_or-drop c.args.at c.args.bytes.now i 0, c.type_inv.bytes (c.args.at + i)))) c.u32_at-size.ensures);
+    }
 
 pub returns-then-bytes-at-lt4 : goal.returns-then-bytes-at-lt4
 returns-then-bytes-at-lt4 c = λ event rest is short.
@@ -12,9 +30,8 @@ returns-then-bytes-at-lt4 c = λ event rest is short.
 pub returns-then-size-gt1024 : goal.returns-then-size-gt1024
 returns-then-size-gt1024 c = λ event rest is short.
     let size : length (drop c.args.at c.args.bytes.now) ≡ 4 + length (event ++ rest) = ap (λ (t : List ℕ). length t) is ∙ omega arith in
-    let word : to_be_bytes w32 c.number_of-size.result ≡ to_be_bytes w32 (length event) = c.number_of-size.ensures ∙ c.word_at.ensures ∙ ap (take 4) is in
-    let same : c.number_of-size.result ≡ length event =
-    sym (from_be_bytes-to_be_bytes_4 c.number_of-size.result (omega (arith, c.number_of-size.auto))) ∙ ap (from_be_bytes w32) word ∙ from_be_bytes-to_be_bytes_4 (length event) (omega (arith, short)) in
+    let same : c.u32_at-size.result ≡ length event =
+    c.u32_at-size.ensures ∙ ap (λ (t : List ℕ). from_be_bytes w32 (take 4 t)) is ∙ from_be_bytes-to_be_bytes_4 (length event) (omega (arith, short)) in
     let all = length-drop c.args.at c.args.bytes.now in
     let both = length-append event rest in
     elim c.then-size-gt1024.branch [

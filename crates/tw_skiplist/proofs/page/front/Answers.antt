@@ -10,18 +10,18 @@ returns-clause-bytes c =
     let three : List ℕ = two ++ f.archive in
     let four : List ℕ = three ++ replicate 64 0 in
     let five : List ℕ = four ++ f.auth in
-    let a = c.fill_digest.ensures.size in
-    let b = c.fill_digest-2.ensures.size in
-    let d = c.fill_digest-3.ensures.size in
+    let a = c.append_digest.ensures.size in
+    let b = c.append_digest-2.ensures.size in
+    let d = c.append_digest-3.ensures.size in
     let s2 : length two ≡ 58 = omega arith in
     let s3 : length three ≡ 90 = omega (arith, length-append two f.archive) in
     let s4 : length four ≡ 154 = omega (arith, s3, length-append three (replicate 64 0)) in
     let s5 : length five ≡ 186 = omega (arith, s4, length-append four f.auth) in
-    let p1 = c.fill_digest.ensures.bytes one refl c.numbers-page.ensures in
-    let p2 = c.fill_digest-2.ensures.bytes two s2 p1 in
-    let p3 = c.fill.ensures three s3 p2 in
-    let p4 = c.fill_digest-3.ensures.bytes four s4 p3 in
-    c.fill-2.ensures five s5 p4
+    let p1 = c.append_digest.ensures.bytes one refl c.numbers-page.ensures in
+    let p2 = c.append_digest-2.ensures.bytes two s2 p1 in
+    let p3 = c.append_at.ensures three s3 p2 in
+    let p4 = c.append_digest-3.ensures.bytes four s4 p3 in
+    c.append_at-2.ensures five s5 p4
 
 pub returns-clause-size : goal.returns-clause-size
 returns-clause-size c =
@@ -31,9 +31,9 @@ returns-clause-size c =
     let three : List ℕ = two ++ f.archive in
     let four : List ℕ = three ++ replicate 64 0 in
     let five : List ℕ = four ++ f.auth in
-    let a = c.fill_digest.ensures.size in
-    let b = c.fill_digest-2.ensures.size in
-    let d = c.fill_digest-3.ensures.size in
+    let a = c.append_digest.ensures.size in
+    let b = c.append_digest-2.ensures.size in
+    let d = c.append_digest-3.ensures.size in
     let s2 : length two ≡ 58 = omega arith in
     let s3 : length three ≡ 90 = omega (arith, length-append two f.archive) in
     let s4 : length four ≡ 154 = omega (arith, s3, length-append three (replicate 64 0)) in

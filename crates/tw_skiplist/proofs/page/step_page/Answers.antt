@@ -2,7 +2,8 @@ use Rattle.std.proofs.Common.{◌≡◌, ◌*◌, ◌<◌, ◌++◌, List, lengt
 use Rattle.std.proofs.lemmas.List.{append-nil, take_all}
 use Rattle.std.specs.Int.{to_be_bytes, w64}
 use Rattle.tw_skiplist.specs.declared.head.StepRef.{StepRef}
-use Rattle.tw_skiplist.specs.Bytes.{padded, step_front, step_bytes, links_bytes}
+use Rattle.tw_disk.specs.PageBytes.{padded}
+use Rattle.tw_skiplist.specs.Bytes.{step_front, step_bytes, links_bytes}
 use Rattle.tw_skiplist.specs.Reading.{AllSized}
 use Rattle.tw_skiplist.proofs.Decode.{filled_link, length-links_bytes-more, AllSized-more}
 use Rattle.tw_skiplist.proofs.page.step_page.Goals as goal
@@ -19,8 +20,8 @@ loop-link-preserved c =
     let size : length (front ++ before) ≡ c.loop-link.at = omega (arith, length-append front before, c.front-page.ensures.size, inv.1, inv.2) in
     let less : i < length c.args.links.now = omega (arith, c.loop-link-test.true) in
     let is : c.link-item.result ≡ get_or c.args.links.now i c.link-item.result = c.link-item.is in
-    let auth_size = ap (λ (k : StepRef). length k.auth) (sym is) ∙ c.fill_link.ensures.size in (
-      c.fill_link.ensures.bytes (front ++ before) size inv.0
+    let auth_size = ap (λ (k : StepRef). length k.auth) (sym is) ∙ c.append_link.ensures.size in (
+      c.append_link.ensures.bytes (front ++ before) size inv.0
           ∙ ap (λ (k : StepRef). padded ((front ++ before) ++ (to_be_bytes w64 k.page ++ k.auth))) is
           ∙ filled_link front c.args.links.now i c.link-item.result less,
       omega (arith, inv.1),

@@ -1,5 +1,6 @@
 use Rattle.std.proofs.Common.{◌≡◌, ◌+◌, ◌*◌, ◌++◌, take, length}
-use Rattle.tw_skiplist.specs.Bytes.{padded, step_front, links_bytes}
+use Rattle.tw_disk.specs.PageBytes.{padded}
+use Rattle.tw_skiplist.specs.Bytes.{step_front, links_bytes}
 use Rattle.tw_skiplist.specs.Reading.{AllSized}
 use Rattle.tw_skiplist.proofs.page.step_page.Given as goal
 

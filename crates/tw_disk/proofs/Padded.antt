@@ -2,7 +2,7 @@
 use Rattle.std.proofs.Common.{◌≡◌, ℕ, ◌-◌, List, ◌++◌, length, drop, replicate, sym, ◌∙◌, ap, arith, append_assoc, length-append}
 use Rattle.std.proofs.lemmas.List.{take_at, drop_at, drop-replicate}
 use borrow.Rule.Slice.PartMut.{put_mid}
-use Rattle.tw_skiplist.specs.Bytes.{padded}
+use Rattle.tw_disk.specs.PageBytes.{padded}
 
 pub filled : (at n : ℕ) (front bytes page new : List ℕ) → length front ≡ at → page ≡ padded front → new ≡ bytes → n ≡ length bytes → put_mid at n page new ≡ padded (front ++ bytes)
 filled at n front bytes page new starts page_is new_is size =

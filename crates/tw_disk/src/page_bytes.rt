@@ -1,0 +1,61 @@
+// The bytes of pages, and the fields that stand in them.
+
+ghost use Rattle.std.specs.Prelude.{◌≡◌, ◌+◌, ◌++◌, ◌≤◌, ℕ, List, length, take, drop};
+ghost use Rattle.std.specs.Int.{from_be_bytes, w16, w32, w64};
+ghost use Rattle.tw_disk.specs.PageBytes.{padded};
+
+use tw_base::Digest;
+
+/// Puts bytes into a page at a place, which is from 0 to 4,096 less the number of bytes. Of a page
+/// that is so many bytes and then zeros it makes these bytes, then those put in, and then zeros; of
+/// any other page it promises nothing.
+pub fn append_at(page: &mut [u8; 4096], at: usize, bytes: &[u8])
+    requires { at + length bytes.now ≤ 4096 }
+    ensures { (front : List ℕ) → length front ≡ at → page.old ≡ padded front → page.new ≡ padded (front ++ bytes.now) }
+{
+    page[at..at + bytes.len()].copy_from_slice(bytes);
+}
+
+/// The number that the two bytes from a place on spell, the highest byte first. The place is from 0
+/// to the number of bytes less two.
+pub fn u16_at(bytes: &[u8], at: usize) -> u16
+    requires { at + 2 ≤ length bytes.now }
+    ensures { result ≡ from_be_bytes w16 (take 2 (drop at bytes.now)) }
+{
+    let mut word = [0; 2];
+    word.copy_from_slice(&bytes[at..at + 2]);
+    u16::from_be_bytes(word)
+}
+
+/// The number that the four bytes from a place on spell, the highest byte first. The place is from 0
+/// to the number of bytes less four.
+pub fn u32_at(bytes: &[u8], at: usize) -> u32
+    requires { at + 4 ≤ length bytes.now }
+    ensures { result ≡ from_be_bytes w32 (take 4 (drop at bytes.now)) }
+{
+    let mut word = [0; 4];
+    word.copy_from_slice(&bytes[at..at + 4]);
+    u32::from_be_bytes(word)
+}
+
+/// The number that the eight bytes from a place on spell, the highest byte first. The place is from 0
+/// to the number of bytes less eight.
+pub fn u64_at(bytes: &[u8], at: usize) -> u64
+    requires { at + 8 ≤ length bytes.now }
+    ensures { result ≡ from_be_bytes w64 (take 8 (drop at bytes.now)) }
+{
+    let mut word = [0; 8];
+    word.copy_from_slice(&bytes[at..at + 8]);
+    u64::from_be_bytes(word)
+}
+
+/// The digest that the 32 bytes from a place on are. The place is from 0 to the number of bytes less
+/// 32.
+pub fn digest_at(bytes: &[u8], at: usize) -> Digest
+    requires { at + 32 ≤ length bytes.now }
+    ensures { result ≡ take 32 (drop at bytes.now) }
+{
+    let mut digest = [0; 32];
+    digest.copy_from_slice(&bytes[at..at + 32]);
+    Digest(digest)
+}
