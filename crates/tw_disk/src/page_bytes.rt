@@ -6,14 +6,24 @@ ghost use Rattle.tw_disk.specs.PageBytes.{padded};
 
 use tw_base::Digest;
 
-/// Puts bytes into a page at a place, which is from 0 to 4,096 less the number of bytes. Of a page
-/// that is so many bytes and then zeros it makes these bytes, then those put in, and then zeros; of
-/// any other page it promises nothing.
+/// Puts bytes into a page at a place, which is from 0 to 4,096 less the number of bytes. Where the
+/// page is some bytes up to that place and zeros from there on, it is then these bytes, the bytes put
+/// in, and zeros to its end; of any other page nothing is promised.
 pub fn append_at(page: &mut [u8; 4096], at: usize, bytes: &[u8])
     requires { at + length bytes.now ≤ 4096 }
     ensures { (front : List ℕ) → length front ≡ at → page.old ≡ padded front → page.new ≡ padded (front ++ bytes.now) }
 {
     page[at..at + bytes.len()].copy_from_slice(bytes);
+}
+
+// The bytes from a place on, as many as the array has.
+fn array_at<const N: usize>(bytes: &[u8], at: usize) -> [u8; N]
+    requires { at + N ≤ length bytes.now }
+    ensures { result ≡ take N (drop at bytes.now) }
+{
+    let mut array = [0; N];
+    array.copy_from_slice(&bytes[at..at + N]);
+    array
 }
 
 /// The number that the two bytes from a place on spell, the highest byte first. The place is from 0
@@ -22,9 +32,7 @@ pub fn u16_at(bytes: &[u8], at: usize) -> u16
     requires { at + 2 ≤ length bytes.now }
     ensures { result ≡ from_be_bytes w16 (take 2 (drop at bytes.now)) }
 {
-    let mut word = [0; 2];
-    word.copy_from_slice(&bytes[at..at + 2]);
-    u16::from_be_bytes(word)
+    u16::from_be_bytes(array_at(bytes, at))
 }
 
 /// The number that the four bytes from a place on spell, the highest byte first. The place is from 0
@@ -33,9 +41,7 @@ pub fn u32_at(bytes: &[u8], at: usize) -> u32
     requires { at + 4 ≤ length bytes.now }
     ensures { result ≡ from_be_bytes w32 (take 4 (drop at bytes.now)) }
 {
-    let mut word = [0; 4];
-    word.copy_from_slice(&bytes[at..at + 4]);
-    u32::from_be_bytes(word)
+    u32::from_be_bytes(array_at(bytes, at))
 }
 
 /// The number that the eight bytes from a place on spell, the highest byte first. The place is from 0
@@ -44,9 +50,7 @@ pub fn u64_at(bytes: &[u8], at: usize) -> u64
     requires { at + 8 ≤ length bytes.now }
     ensures { result ≡ from_be_bytes w64 (take 8 (drop at bytes.now)) }
 {
-    let mut word = [0; 8];
-    word.copy_from_slice(&bytes[at..at + 8]);
-    u64::from_be_bytes(word)
+    u64::from_be_bytes(array_at(bytes, at))
 }
 
 /// The digest that the 32 bytes from a place on are. The place is from 0 to the number of bytes less
@@ -55,7 +59,5 @@ pub fn digest_at(bytes: &[u8], at: usize) -> Digest
     requires { at + 32 ≤ length bytes.now }
     ensures { result ≡ take 32 (drop at bytes.now) }
 {
-    let mut digest = [0; 32];
-    digest.copy_from_slice(&bytes[at..at + 32]);
-    Digest(digest)
+    Digest(array_at(bytes, at))
 }
