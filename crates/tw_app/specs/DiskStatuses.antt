@@ -52,7 +52,7 @@ pub record IsUnservedRun (told : Option Files) (found : Option Image) (words : L
 
 module _ {D : Type 0} (content : D → Option Image) (may_leave : D → Image → Type 0) (moment : D → ℕ) (left_since : D → ℕ → Image → Type 0) (old new : D) where
   -- status 0 of words that ask for a service: the anchor line of its step 0 was written whole, and the disk stands for its
-  -- history, without a step, for good
+  -- history, without a step, at rest
   pub record IsMadeRun (words : List (List ℕ)) (taken_before taken_after : Option (List ℕ)) : Type 0 where
     pub dir : List ℕ
     pub name : List ℕ
@@ -63,7 +63,7 @@ module _ {D : Type 0} (content : D → Option Image) (may_leave : D → Image �
     pub written : Appends taken_before taken_after (anchor_text thread)
 
   -- status 0 of words that ask for a step: the anchor line of the new step was written whole, and a disk that read as a history, with
-  -- writes pending or not, stands for the longer one for good
+  -- writes pending or not, stands for the longer one, at rest
   pub record IsAppendedRun (told : Option Files) (words : List (List ℕ)) (taken_before taken_after : Option (List ℕ)) : Type 0 where
     pub dir : List ℕ
     pub file : List ℕ

@@ -64,7 +64,7 @@ module _ {D : Type 0} (content : D → Option Image) (may_leave : D → Image �
   Keeps old new =
       (h : History) → (Stands old h → LeavesOnly moment may_leave left_since old new (IsOf h) × Stands new h) × (Rests old h → Rests new h)
 
-  -- the disk has become stable: the history that it read as stands now for good, at rest
+  -- the disk has become stable: it stands for the history that it read as, at rest
   abbrev pub Settles : (old new : D) → Type 0
   Settles old new = (h : History) → ReadsAs (content old) h → Rests new h
 
@@ -84,7 +84,7 @@ module _ {D : Type 0} (content : D → Option Image) (may_leave : D → Image �
       (h : History) → (ReadsAs (content old) h → LeavesOldOrOneOf events old new h × ReadsAsOneOf events new h)
       × (Stands old h → LeavesOnly moment may_leave left_since old new (StandsForOneOf sha256 h.name h events))
 
-  -- the same of the images, and where it read as the history, it now stands for the longer one for good, at rest
+  -- the same of the images, and where it read as the history, it now stands for the longer one, at rest
   abbrev pub Adds : (events : List (List ℕ)) → (old new : D) → Type 0
   Adds events old new =
       (h : History) → (ReadsAs (content old) h → Rests new (plus h (event_step events)) × LeavesOldOrOneOf events old new h)
@@ -99,7 +99,7 @@ module _ {D : Type 0} (content : D → Option Image) (may_leave : D → Image �
   MayBegin name old new =
       (image : Image) → content old ≡ Some image → LeavesOnly moment may_leave left_since old new (IsOldOrBegun name old) × Reads content new (IsOldOrBegun name old)
 
-  -- the same, and now it stands for that history for good, at rest
+  -- the same, and now it stands for that history, at rest
   abbrev pub Begins : (name : List ℕ) → (old new : D) → Type 0
   Begins name old new = MayBegin name old new × ((image : Image) → content old ≡ Some image → Rests new (no_history name))
 

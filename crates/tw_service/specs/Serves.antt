@@ -36,8 +36,8 @@ abbrev pub has_failed : {D H : Type 0} {g : _} {k : _} → Service D H g k → B
 has_failed service = service.is_broken
 
 module _ {D H : Type 0} {g : _} {k : _} (dig : List ℕ → List ℕ) (content : D → Option Image) (may_leave : D → Image → Type 0) where
-  -- the value serves this history for good: its disk tells its content, every image that a crash now may leave is this
-  -- content, and the store over it keeps the history under the value's name and head
+  -- the value serves this history: its disk is at rest, that is, it tells its content and every image that a crash now may
+  -- leave is this content, and the store over it keeps the history under the value's name and head
   abbrev pub Serves : Service D H g k → History → Type 0
   Serves service h = IsAtRest content may_leave (disk_of service) (KeepsHistory dig service.store service.name service.head h)
 

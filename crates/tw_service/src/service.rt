@@ -62,7 +62,7 @@ impl<D: Disk, H: Hasher> Service<D, H> {
     /// answer. Where a crash stops it, the disk is blank or stands for the empty history of the name, or is
     /// what a crash might have left before; and so reads a disk that told its content and is given back.
     pub fn init(alloc: Global, disk: D, name: Name) -> Result<Service<D, H>, (D, StoreFault)>
-        // The empty history of the name, for good.
+        // The empty history of the name, at rest.
         ensures served { IfOk result (λ s. (c : Image) → D.content disk ≡ Some c
             → Serves H.dig D.content D.may_leave s (no_history name)) }
         ensures thread { IfOk result (λ s. (name_of s ≡ name) × (steps_of s ≡ 0) × (has_failed s ≡ false)) }
@@ -122,7 +122,7 @@ impl<D: Disk, H: Hasher> Service<D, H> {
     /// `NoMemory`. A disk that stands for a history is never refused. Whatever it answers, the disk reads
     /// as before.
     pub fn open(alloc: Global, disk: D) -> Result<Service<D, H>, (D, StoreFault)>
-        // A disk that reads as one that stands for a history is opened as it, for good.
+        // A disk that reads as one that stands for a history is opened as it, at rest.
         ensures served { (c : Image) (of : List ℕ) (h : History) → D.content disk ≡ Some c → StandsFor H.dig c of h
             → MatchResult result (λ s. Serves H.dig D.content D.may_leave s h) (λ e. e.1 ≡ StoreFault.DiskFault) }
         ensures stable { IfOk result (λ s. (c : Image) → D.content disk ≡ Some c
@@ -197,7 +197,7 @@ impl<D: Disk, H: Hasher> Service<D, H> {
         self.name
     }
 
-    /// Gives the disk back. Where a history was served, the disk stands for it, for good.
+    /// Gives the disk back. Where a history was served, the disk stands for it, at rest.
     pub fn close(self) -> D
         ensures disk { result ≡ disk_of self }
         ensures stands { (h : History) → Serves H.dig D.content D.may_leave self h
@@ -230,7 +230,7 @@ impl<D: Disk, H: Hasher> Service<D, H> {
         ensures table { MatchOption (append_refusal_of (has_failed self.old) (steps_of self.old) events.now)
             (IfErr result IsFault) (λ refusal. result ≡ Err refusal) }
 
-        // After Ok the longer history is served, for good, and the answer is its last thread.
+        // After Ok the longer history is served, at rest, and the answer is its last thread.
         ensures done { IfOk result (λ thread. (h : History) → Serves H.dig D.content D.may_leave self.old h
             → Serves H.dig D.content D.may_leave self.new (plus h (event_step events.now))
             × (thread ≡ last_thread H.dig (plus h (event_step events.now)))) }
