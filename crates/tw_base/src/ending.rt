@@ -9,10 +9,8 @@ use crate::failure::ReadFault;
 pub fn whole<T: Drop>(bytes: &[u8], read: Result<(T, u64), ReadFault>) -> Result<T, ReadFault>
     ensures { IsWholeOf bytes.now read result }
 {
-    match read {
-        Ok((value, after)) => whole_to(bytes, after, Ok(value)),
-        Err(fault) => Err(fault),
-    }
+    let (value, after) = read?;
+    whole_to(bytes, after, Ok(value))
 }
 
 /// The same of a reader whose words end at a known place.

@@ -59,10 +59,8 @@ pub fn read_history(alloc: Global, bytes: &[u8]) -> Result<History, HistoryFault
 fn judged(alloc: Global, history: History) -> Result<History, HistoryFault>
     ensures { MatchResult result (λ h. (h ≡ history) × IsSound history) (TellsRule history) }
 {
-    match is_sound(alloc, &history) {
-        Ok(()) => Ok(history),
-        Err(fault) => Err(fault),
-    }
+    is_sound(alloc, &history)?;
+    Ok(history)
 }
 
 #[cfg(test)]
