@@ -6,12 +6,14 @@
     rt ci --anew 2>&1 | python3 tools/times.py gate
                                                hands the gate's lines on, and then prints when each crate was proved
 
-The first says how much work each crate is, by one job; the second how long one waits for the gate, which proves several at once.
-Neither says anything where the machine does other work.
+The first says how much work each crate is, in processor seconds; it says nothing where another clone on the machine has checked the
+crates already, since `rt check` begins with what that one kept. The second says how long one waits for the gate, which proves several
+crates at once; it says nothing where the machine does other work.
 """
 
 import os
 import re
+import resource
 import subprocess
 import sys
 import tempfile
@@ -33,13 +35,19 @@ def table(columns, rows):
     return lines + [f"| {' | '.join(row)} |" for row in rows]
 
 
+def processor_seconds():
+    """The processor seconds that the commands took so far."""
+    spent = resource.getrusage(resource.RUSAGE_CHILDREN)
+    return spent.ru_utime + spent.ru_stime
+
+
 def timed(words, folder):
-    """How long a command takes, in seconds; it has to end well."""
-    begun = time.monotonic()
+    """The processor seconds that a command takes; it has to end well."""
+    before = processor_seconds()
     done = subprocess.run(words, cwd=folder, capture_output=True, text=True, check=False)
     if done.returncode:
         sys.exit(f"{' '.join(words)} ended with status {done.returncode}\n{done.stdout[-2000:]}{done.stderr[-2000:]}")
-    return time.monotonic() - begun
+    return processor_seconds() - before
 
 
 def checked(wanted):
@@ -52,22 +60,22 @@ def checked(wanted):
         for name in order:
             place = f"{folder}/clone/crates/{name}"
             is_wanted = not wanted or name in wanted
-            code = timed(["rt", "check", "--jobs", "1"], place)
-            tests = timed(["rt", "check", "--test", "--jobs", "1"], place) if is_wanted else 0
+            code = timed(["rt", "check"], place)
+            tests = timed(["rt", "check", "--test"], place) if is_wanted else 0
             if (Path(place) / "src/lib.rt").exists():
                 timed(["rt", "lib"], place)
             if is_wanted:
-                print(f"{name}: {code:.0f} seconds, its tests {tests:.0f}", file=sys.stderr)
+                print(f"{name}: {code:.0f} processor seconds, its tests {tests:.0f}", file=sys.stderr)
                 yield name, code, tests
 
 
 def check(wanted, is_to_write):
     rows = [(f"`{name}`", f"{code:.0f}", f"{tests:.0f}") for name, code, tests in checked(wanted)]
-    lines = table(("crate", "its code, in seconds", "its tests, in seconds"), rows)
+    lines = table(("crate", "its code", "its tests after it"), rows)
     print("\n".join(lines))
     if is_to_write:
         path = TOP / "docs/proving.md"
-        text = f"By one job, from nothing, on one of {os.cpu_count()} processors.\n\n" + "\n".join(lines) + "\n"
+        text = f"Processor seconds from nothing, on a machine of {os.cpu_count()} processors.\n\n" + "\n".join(lines) + "\n"
         path.write_text(MARKED.sub(lambda marks: marks[1] + text + marks[2], path.read_text()))
 
 
