@@ -63,10 +63,7 @@ pub fn step<P: Pages, H: Hasher>(
         return Err(ListFault::NoStep { last });
     }
     let empty = empty_tree::<H>();
-    match find_info::<P, H>(alloc, pages, &empty, &link_to_head(head), last, i) {
-        Err(fault) => Err(fault),
-        Ok(info) => Ok(info),
-    }
+    find_info::<P, H>(alloc, pages, &empty, &link_to_head(head), last, i)
 }
 
 /// The path from the step n down to the step i, of the history whose head is given (a step below
@@ -212,11 +209,6 @@ pub fn events<P: Pages, H: Hasher>(
     ensures kept { OnlyReads P.used_count P.list P.same P.unbroken pages.old pages.new (NotDiskFault result) }
     ensures faults { FaultsRise (P.faults pages.old) (P.faults pages.new) result }
 {
-    match step::<P, H>(alloc, pages, head, i) {
-        Err(fault) => Err(fault),
-        Ok(info) => match events_of(alloc, pages, &info) {
-            Err(fault) => Err(fault),
-            Ok(events) => Ok(events),
-        },
-    }
+    let info = step::<P, H>(alloc, pages, head, i)?;
+    events_of(alloc, pages, &info)
 }
