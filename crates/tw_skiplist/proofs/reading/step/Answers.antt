@@ -26,7 +26,7 @@ returns-clause-info g c =
     let below : c.args.i ≤ c.args.head.now.step = omega (arith, c.if-i-last.false) in
     IfOk-weaker c.find_info.result _ _
     (λ info told_info ps h told keeps.
-      let found = told_info ps told in
-      tells_info g.H.Hasher.dig g.met.H.Hasher.size ps h c.args.head.now keeps c.empty_tree-empty.result c.link_to_head.result c.empty_tree-empty.ensures c.link_to_head.ensures
-      c.args.i found.0 info some below found.1 found.2)
+    let found = told_info ps told in
+    tells_info g.H.Hasher.dig g.met.H.Hasher.size ps h c.args.head.now keeps c.empty_tree-empty.result c.link_to_head.result c.empty_tree-empty.ensures c.link_to_head.ensures
+    c.args.i found.0 info some below found.1 found.2)
     c.find_info.ensures.info
