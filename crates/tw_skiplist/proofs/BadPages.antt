@@ -1,5 +1,6 @@
 -- What BadPage says, from one answer to another.
-use Rattle.std.proofs.Common.{◌≡◌, ℕ, List, Err, arith, inl, subst}
+use Rattle.std.proofs.Common.{◌≡◌, ℕ, List, Result, Ok, Err, arith, inl, subst, sym}
+use Rattle.std.specs.Result.{IsErrAnd}
 use Rattle.tw_disk.specs.Image.{Image}
 use Rattle.tw_base.specs.Texts.{empty_tree_text}
 use Rattle.tw_skiplist.specs.declared.fault.ListFault.{ListFault}
@@ -16,6 +17,17 @@ bad_page_on (NoStep n) P Q on bad = tt
 bad_page_on (BadPage page) P Q on bad = on page bad
 bad_page_on DiskFault P Q on bad = tt
 bad_page_on NoMemory P Q on bad = tt
+
+-- the same answer, with or without a fault, says what its page says
+pub bad_page_weaker : {T : Type 0} (r : Result T ListFault) (P Q : ℕ → Type 0) → ((page : ℕ) → P page → Q page) → IfBadPage r P → IfBadPage r Q
+bad_page_weaker (Ok _) P Q on bad = tt
+bad_page_weaker (Err fault) P Q on bad = bad_page_on fault P Q on bad
+
+-- a fault that `?` passes on says what its page says
+pub bad_page_passed : {T : Type 0} (r : Result T ListFault) (fault : ListFault) (P Q : ℕ → Type 0) → IsErrAnd r (λ e. e ≡ fault) → ((page : ℕ) → P page → Q page)
+    → IfBadPage {T = Unit {0}} (Err fault) P → IfBadPage r Q
+bad_page_passed (Ok _) fault P Q is on bad = absurd is
+bad_page_passed (Err e) fault P Q is on bad = bad_page_on e P Q on (subst (λ (x : ListFault). IfBadPage {T = Unit {0}} (Err x) P) (sym is) bad)
 
 -- an answer of another call that is never NoStep, where the step is there
 pub no_step_on : (fault : ListFault) (last : ℕ) (P : Type 0) → NeverNoStep {T = Unit {0}} (Err fault) → P → NoStepUnless {T = Unit {0}} (Err fault) last P

@@ -93,10 +93,7 @@ fn gather<P: Pages, H: Hasher>(
     let mut link = *first;
     for level in 0..top {
         links.add::<H>(&link, step, level, datum);
-        match follow(pages, empty, &link, step - power(level), level) {
-            Err(fault) => return Err(fault),
-            Ok(next) => link = next,
-        }
+        link = follow(pages, empty, &link, step - power(level), level)?;
     }
     links.add::<H>(&link, step, top, datum);
     Ok(links)
@@ -211,11 +208,9 @@ pub fn append<P: Pages, H: Hasher>(
         auth: head.auth,
     };
     let datum = datum::<H>(&content.event_root, &content.archive, content.count);
-    match gather::<P, H>(pages, &content.archive, &first, head.step, &datum) {
-        Err(fault) => Err(fault),
-        Ok(links) => match put_step::<P, H>(pages, head.step + 1, &content, &links) {
-            Err(_) => Err(ListFault::NoMemory),
-            Ok(new) => Ok(new),
-        },
+    let links = gather::<P, H>(pages, &content.archive, &first, head.step, &datum)?;
+    match put_step::<P, H>(pages, head.step + 1, &content, &links) {
+        Err(_) => Err(ListFault::NoMemory),
+        Ok(new) => Ok(new),
     }
 }

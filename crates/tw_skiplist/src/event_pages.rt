@@ -79,14 +79,10 @@ pub(crate) fn read_stream<P: Pages>(
     let mut last = info.page;
     let mut number = 0u16;
     while 4085 * (number as u32) < size {
-        match add_piece(pages, page, info.step, number, size, &mut bytes) {
-            Err(fault) => return Err(fault),
-            Ok(()) => {
-                last = page;
-                page += 1;
-                number += 1;
-            }
-        }
+        add_piece(pages, page, info.step, number, size, &mut bytes)?;
+        last = page;
+        page += 1;
+        number += 1;
     }
     Ok(StreamRead { bytes, last })
 }

@@ -63,10 +63,7 @@ pub fn step<P: Pages, H: Hasher>(
         return Err(ListFault::NoStep { last });
     }
     let empty = empty_tree::<H>();
-    match find_info::<P, H>(alloc, pages, &empty, &link_to_head(head), last, i) {
-        Err(fault) => Err(fault),
-        Ok(info) => Ok(info),
-    }
+    find_info::<P, H>(alloc, pages, &empty, &link_to_head(head), last, i)
 }
 
 /// The path from the step n down to the step i, of the history whose head is given (a step below
@@ -103,13 +100,9 @@ pub fn path<P: Pages, H: Hasher>(
         return Err(ListFault::NoStep { last });
     }
     let empty = empty_tree::<H>();
-    match descend(pages, &empty, &link_to_head(head), last, n) {
-        Err(fault) => Err(fault),
-        Ok(link) => match collect::<P, H>(alloc, pages, &empty, &link, n, i) {
-            Err(fault) => Err(fault),
-            Ok(Collected { links, last: _ }) => Ok(Path { links }),
-        },
-    }
+    let link = descend(pages, &empty, &link_to_head(head), last, n)?;
+    let Collected { links, last: _ } = collect::<P, H>(alloc, pages, &empty, &link, n, i)?;
+    Ok(Path { links })
 }
 
 /// What a proof of the step i under the top needs: the path from the top to the step, and the step.
@@ -145,13 +138,8 @@ pub fn prove<P: Pages, H: Hasher>(
         return Err(ListFault::NoStep { last });
     }
     let empty = empty_tree::<H>();
-    match descend(pages, &empty, &link_to_head(head), last, top) {
-        Err(fault) => Err(fault),
-        Ok(link) => match collect_proof::<P, H>(alloc, pages, &empty, &link, top, i) {
-            Err(fault) => Err(fault),
-            Ok(proof) => Ok(proof),
-        },
-    }
+    let link = descend(pages, &empty, &link_to_head(head), last, top)?;
+    collect_proof::<P, H>(alloc, pages, &empty, &link, top, i)
 }
 
 /// The events of a step that `step` or `prove` told of the same pages, from its event pages alone.
@@ -180,13 +168,11 @@ pub fn events_of<P: Pages>(
     if info.stream.size > 69632 {
         return Err(ListFault::BadPage { page: info.page });
     }
-    match read_stream(alloc, pages, info) {
-        Err(fault) => Err(fault),
-        Ok(StreamRead { bytes, last }) => match read_events(alloc, bytes.as_slice(), info.count) {
-            Err(_) => Err(ListFault::NoMemory),
-            Ok(None) => Err(ListFault::BadPage { page: last }),
-            Ok(Some(events)) => Ok(events),
-        },
+    let StreamRead { bytes, last } = read_stream(alloc, pages, info)?;
+    match read_events(alloc, bytes.as_slice(), info.count) {
+        Err(_) => Err(ListFault::NoMemory),
+        Ok(None) => Err(ListFault::BadPage { page: last }),
+        Ok(Some(events)) => Ok(events),
     }
 }
 
@@ -212,11 +198,6 @@ pub fn events<P: Pages, H: Hasher>(
     ensures kept { OnlyReads P.used_count P.list P.same P.unbroken pages.old pages.new (NotDiskFault result) }
     ensures faults { FaultsRise (P.faults pages.old) (P.faults pages.new) result }
 {
-    match step::<P, H>(alloc, pages, head, i) {
-        Err(fault) => Err(fault),
-        Ok(info) => match events_of(alloc, pages, &info) {
-            Err(fault) => Err(fault),
-            Ok(events) => Ok(events),
-        },
-    }
+    let info = step::<P, H>(alloc, pages, head, i)?;
+    events_of(alloc, pages, &info)
 }

@@ -10,7 +10,7 @@ use Rattle.tw_skiplist.specs.Reading.{Gathers, GathersBadPage, HasLink, IsNoStep
 use Rattle.tw_skiplist.specs.Records.{page_labels}
 use Rattle.tw_skiplist.specs.declared.head.StepRef.{StepRef}
 use Rattle.tw_skiplist.proofs.Appending.{each_push, labels_on, page_labels-first}
-use Rattle.tw_skiplist.proofs.BadPages.{bad_page_on}
+use Rattle.tw_skiplist.proofs.BadPages.{bad_page_passed}
 use Rattle.tw_skiplist.proofs.Kept.{power-le}
 use Rattle.tw_skiplist.proofs.Gathering.{HasLinks-more, HasLinks-none, bad_link, level_fits, next_link}
 use Rattle.tw_skiplist.proofs.adding.gather.Goals as goal
@@ -47,16 +47,16 @@ loop-level-preserved g c =
     let lower : level < top_level_of (from + 1) = omega (arith, c.loop-level-test.true, c.top_level-top.ensures.value) in
     record {
       link = λ ps told.
-          let has = c.in-Ok.ensures.next ps (inv.kept.list_kept ∙ told) in
-          let has_level = subst (λ (p : ℕ). HasLink c.args.empty.now ps c.loop-level.link.page (from + 1 - p) level c.in-Ok.next) c.power.ensures has in
-          next_link dig g.met.H.Hasher.size ps c.args.first.now c.loop-level.link c.in-Ok.next from level c.requires.step lower (inv.link ps told)
-          (subst (λ (e : List ℕ). HasLink e ps c.loop-level.link.page (from + 1 - 2 ^ level) level c.in-Ok.next) c.requires.empty has_level);
+          let has = c.in_ok-link.ensures.next ps (inv.kept.list_kept ∙ told) in
+          let has_level = subst (λ (p : ℕ). HasLink c.args.empty.now ps c.loop-level.link.page (from + 1 - p) level c.in_ok-link.link) c.power.ensures has in
+          next_link dig g.met.H.Hasher.size ps c.args.first.now c.loop-level.link c.in_ok-link.link from level c.requires.step lower (inv.link ps told)
+          (subst (λ (e : List ℕ). HasLink e ps c.loop-level.link.page (from + 1 - 2 ^ level) level c.in_ok-link.link) c.requires.empty has_level);
       links = λ ps told. HasLinks-more dig ps c.args.first.now c.loop-level.link from c.args.datum.now c.loop-level.links.links.items c.add.new.self.links.items c.loop-level.links.labels.items c.add.new.self.labels.items
           level (inv.link ps told) c.add.ensures.links c.add.ensures.labels (inv.links ps told);
       gathers = λ ps told.
-          let has = subst (λ (p : ℕ). HasLink c.args.empty.now ps c.loop-level.link.page (from + 1 - p) level c.in-Ok.next) c.power.ensures (c.in-Ok.ensures.next ps (inv.kept.list_kept ∙ told)) in
+          let has = subst (λ (p : ℕ). HasLink c.args.empty.now ps c.loop-level.link.page (from + 1 - p) level c.in_ok-link.link) c.power.ensures (c.in_ok-link.ensures.next ps (inv.kept.list_kept ∙ told)) in
           let e : suc level ≡ level + 1 = omega arith in
-          subst (λ (n : ℕ). Gathers c.args.empty.now ps c.args.first.now from n c.in-Ok.next) e (next level c.loop-level.link c.in-Ok.next (inv.gathers ps told) has);
+          subst (λ (n : ℕ). Gathers c.args.empty.now ps c.args.first.now from n c.in_ok-link.link) e (next level c.loop-level.link c.in_ok-link.link (inv.gathers ps told) has);
       gathered = λ ps told.
           subst (λ (ls : List StepRef). (k : ℕ) → k < level + 1 → Gathers c.args.empty.now ps c.args.first.now from k (link_of ls k)) (sym c.add.ensures.links)
           (each_push c.loop-level.links.links.items c.loop-level.link level inv.link_count (λ k l. Gathers c.args.empty.now ps c.args.first.now from k l) (inv.gathered ps told) (inv.gathers ps told));
@@ -64,12 +64,12 @@ loop-level-preserved g c =
           inv.link_count inv.labels c.add.ensures.links c.add.ensures.labels;
       link_count = omega (arith, c.add.ensures.link_count, inv.link_count);
       label_count = omega (arith, c.add.ensures.label_count, inv.label_count);
-      kept = only_reads_on g.P.Pages.used_count g.P.Pages.list g.P.Pages.same g.P.Pages.unbroken _ _ _ _ _ _ g.met.P.Pages.same_on (λ good. tt) (λ good. tt) inv.kept c.in-Ok.ensures.kept;
-      faults = omega (arith, inv.faults, c.in-Ok.ensures.faults.later);
+      kept = only_reads_on g.P.Pages.used_count g.P.Pages.list g.P.Pages.same g.P.Pages.unbroken _ _ _ _ _ _ g.met.P.Pages.same_on (λ good. tt) (λ good. tt) inv.kept c.in_ok-link.ensures.kept;
+      faults = omega (arith, inv.faults, c.in_ok-link.ensures.faults.later);
     }
 
-pub returns-in-Err-clause-good : goal.returns-in-Err-clause-good
-returns-in-Err-clause-good g c =
+pub returns-in_err-link-clause-good : goal.returns-in_err-link-clause-good
+returns-in_err-link-clause-good g c =
     let inv = c.loop-level.invariant in
     let dig = g.H.Hasher.dig in
     let level = c.loop-level.level in
@@ -79,10 +79,11 @@ returns-in-Err-clause-good g c =
     bad_link dig g.met.H.Hasher.size ps c.args.first.now c.loop-level.link from level c.requires.step lower (inv.link ps told)
     (subst (λ (e : List ℕ). IsNoStepAt e ps c.loop-level.link.page (from + 1 - 2 ^ level)) c.requires.empty
     (subst (λ (p : ℕ). IsNoStepAt c.args.empty.now ps c.loop-level.link.page (from + 1 - p)) c.power.ensures no)) in
-    bad_page_on c.in-Err.fault
+    bad_page_passed c.from_residual.result c.in_err-link.field-0.0
     (λ p. (p ≡ c.loop-level.link.page) × ((ps : Image) → g.P.Pages.list c.loop-level.pages ≡ Some ps → IsNoStepAt c.args.empty.now ps c.loop-level.link.page (from + 1 - c.power.result)))
     (λ _. (ps : Image) → g.P.Pages.list c.args.pages.now ≡ Some ps → LeadsNowhere dig ps c.args.first.now from)
-    (λ page at ps told. bad ps told (at.1 ps (inv.kept.list_kept ∙ told))) c.in-Err.ensures.bad
+    c.from_residual.ensures.1
+    (λ page at ps told. bad ps told (at.1 ps (inv.kept.list_kept ∙ told))) c.in_err-link.ensures.bad
 
 pub returns-clause-links : goal.returns-clause-links
 returns-clause-links g c = λ ps told.
@@ -100,16 +101,17 @@ returns-clause-links g c = λ ps told.
     c.add-2.ensures.links c.add-2.ensures.labels
     (subst (λ (l : ℕ). HasLinks dig ps first from datum c.loop-level.links.links.items c.loop-level.links.labels.items l) end (inv.links ps told)))
 
-pub returns-in-Err-clause-bad : goal.returns-in-Err-clause-bad
-returns-in-Err-clause-bad g c =
+pub returns-in_err-link-clause-bad : goal.returns-in_err-link-clause-bad
+returns-in_err-link-clause-bad g c =
     let inv = c.loop-level.invariant in
     let level = c.loop-level.level in
     let from = c.args.from in
     let link = c.loop-level.link in
     let lower : level < top_level_of (from + 1) = omega (arith, c.loop-level-test.true, c.top_level-top.ensures.value) in
-    bad_page_on c.in-Err.fault
+    bad_page_passed c.from_residual.result c.in_err-link.field-0.0
     (λ p. (p ≡ link.page) × ((ps : Image) → g.P.Pages.list c.loop-level.pages ≡ Some ps → IsNoStepAt c.args.empty.now ps link.page (from + 1 - c.power.result)))
     (λ p. (ps : Image) → g.P.Pages.list c.args.pages.now ≡ Some ps → GathersBadPage c.args.empty.now ps c.args.first.now from p)
+    c.from_residual.ensures.1
     (λ p at ps told. record {
       level = level;
       link = link;
@@ -118,7 +120,7 @@ returns-in-Err-clause-bad g c =
       page_is = at.0;
       bad = subst (λ (q : ℕ). IsNoStepAt c.args.empty.now ps link.page (from + 1 - q)) c.power.ensures (at.1 ps (inv.kept.list_kept ∙ told));
     })
-    c.in-Err.ensures.bad
+    c.in_err-link.ensures.bad
 
 pub returns-clause-found : goal.returns-clause-found
 returns-clause-found g c = λ ps told.

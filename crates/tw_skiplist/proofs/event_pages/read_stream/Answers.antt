@@ -22,7 +22,7 @@ loop-number-preserved g c =
     let size = info.stream.size in
     record {
       pieces = λ ps told.
-          let piece = c.in-Ok.ensures.piece ps (inv.kept.list_kept ∙ told) in
+          let piece = c.in_ok-add_piece.ensures.piece ps (inv.kept.list_kept ∙ told) in
           let at = subst (λ (p : ℕ). IsEventPageAt ps p info.step number size piece.0) inv.page piece.2 in
           let next : suc number ≡ number + 1 = omega arith in
           subst (λ (b : List ℕ). HasPieces ps info.stream.page info.step size (number + 1) b) (sym piece.1)
@@ -31,8 +31,8 @@ loop-number-preserved g c =
       page = omega (arith, inv.page);
       last = inv.page ∙ ap (last_page info) (let next : suc number ≡ number + 1 = omega arith in next);
       few = omega (arith, c.loop-number-test.true, c.requires);
-      kept = only_reads_on g.P.Pages.used_count g.P.Pages.list g.P.Pages.same g.P.Pages.unbroken _ _ _ _ _ _ g.met.P.Pages.same_on (λ good. tt) (λ good. tt) inv.kept c.in-Ok.ensures.kept;
-      faults = omega (arith, inv.faults, c.in-Ok.ensures.faults.later);
+      kept = only_reads_on g.P.Pages.used_count g.P.Pages.list g.P.Pages.same g.P.Pages.unbroken _ _ _ _ _ _ g.met.P.Pages.same_on (λ good. tt) (λ good. tt) inv.kept c.in_ok-add_piece.ensures.kept;
+      faults = omega (arith, inv.faults, c.in_ok-add_piece.ensures.faults.later);
     }
 
 pub returns-clause-pieces : goal.returns-clause-pieces

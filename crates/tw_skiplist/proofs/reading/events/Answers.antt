@@ -6,29 +6,29 @@ use Rattle.tw_skiplist.specs.Events.{FindsNoEvents}
 use Rattle.tw_skiplist.specs.Infos.{IsInfoOf}
 use Rattle.tw_skiplist.specs.Keeping.{Keeps}
 use Rattle.tw_skiplist.specs.Records.{FindsBadPage, FindsInfo}
-use Rattle.tw_skiplist.proofs.BadPages.{bad_page_on}
+use Rattle.tw_skiplist.proofs.BadPages.{bad_page_weaker}
 use Rattle.tw_skiplist.proofs.reading.events.Goals as goal
 
-pub returns-in-Err-events_of-clause-bad : goal.returns-in-Err-events_of-clause-bad
-returns-in-Err-events_of-clause-bad g c =
+pub returns-clause-bad : goal.returns-clause-bad
+returns-clause-bad g c =
     let list = g.P.Pages.list in
     let dig = g.H.Hasher.dig in
-    let info = c.in-Ok.info in
+    let info = c.in_ok-info.info in
     let head = c.args.head.now in
-    bad_page_on c.in-Err-events_of.fault
+    bad_page_weaker c.events_of.result
     (λ p. (ps : Image) → list c.step.new.pages ≡ Some ps → FindsNoEvents ps info p)
     (λ p. (ps : Image) → list c.args.pages.now ≡ Some ps → FindsBadPage dig ps head c.args.i p ⊎ ((x : StepInfo) × FindsInfo dig ps head c.args.i x × FindsNoEvents ps x p))
-    (λ p at ps told. inr (info, c.in-Ok.ensures.found ps told, at ps (c.in-Ok.ensures.kept.list_kept ∙ told)))
-    c.in-Err-events_of.ensures.bad
+    (λ p at ps told. inr (info, c.in_ok-info.ensures.found ps told, at ps (c.in_ok-info.ensures.kept.list_kept ∙ told)))
+    c.events_of.ensures.bad
 
-pub returns-in-Err-events_of-clause-good : goal.returns-in-Err-events_of-clause-good
-returns-in-Err-events_of-clause-good g c =
+pub returns-clause-good : goal.returns-clause-good
+returns-clause-good g c =
     let list = g.P.Pages.list in
     let dig = g.H.Hasher.dig in
-    let info = c.in-Ok.info in
+    let info = c.in_ok-info.info in
     let head = c.args.head.now in
-    bad_page_on c.in-Err-events_of.fault
+    bad_page_weaker c.events_of.result
     (λ _. (d : List ℕ → List ℕ) (ps : Image) (h : History) (i : ℕ) → list c.step.new.pages ≡ Some ps → IsInfoOf d ps h i info → ⊥)
     (λ _. (ps : Image) (h : History) → list c.args.pages.now ≡ Some ps → Keeps dig ps h head → ⊥)
-    (λ p at ps h told keeps. at dig ps h c.args.i (c.in-Ok.ensures.kept.list_kept ∙ told) (c.in-Ok.ensures.info ps h told keeps))
-    c.in-Err-events_of.ensures.good
+    (λ p at ps h told keeps. at dig ps h c.args.i (c.in_ok-info.ensures.kept.list_kept ∙ told) (c.in_ok-info.ensures.info ps h told keeps))
+    c.events_of.ensures.good

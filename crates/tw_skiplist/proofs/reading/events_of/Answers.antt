@@ -4,7 +4,7 @@ use Rattle.tw_disk.specs.Image.{Image}
 use Rattle.tw_base.specs.History.{History}
 use Rattle.tw_skiplist.specs.Events.{MeetsBadPiece, SpellsEvents}
 use Rattle.tw_skiplist.specs.Infos.{IsInfoOf}
-use Rattle.tw_skiplist.proofs.BadPages.{bad_page_on}
+use Rattle.tw_skiplist.proofs.BadPages.{bad_page_passed}
 use Rattle.tw_skiplist.proofs.KeptEvents.{events_are, finds_some}
 use Rattle.tw_skiplist.proofs.reading.events_of.Goals as goal
 
@@ -17,22 +17,23 @@ match_some o v P Q is holds = subst (λ (x : Option (List (List ℕ))). MatchOpt
 pub returns-then-info-gt69632-clause-good : goal.returns-then-info-gt69632-clause-good
 returns-then-info-gt69632-clause-good g c = λ dig ps h i told is. finds_some dig ps h i c.args.info.now is c.args.info.now.page (inl (omega (arith, c.if-info-gt69632.true), refl))
 
-pub returns-in-Err-clause-good : goal.returns-in-Err-clause-good
-returns-in-Err-clause-good g c =
+pub returns-in_err-bytes-clause-good : goal.returns-in_err-bytes-clause-good
+returns-in_err-bytes-clause-good g c =
     let list = g.P.Pages.list in
     let info = c.args.info.now in
-    bad_page_on c.in-Err.fault
+    bad_page_passed c.from_residual.result c.in_err-bytes.field-0.0
     (λ p. (ps : Image) → list c.args.pages.now ≡ Some ps → MeetsBadPiece ps info p)
     (λ _. (dig : List ℕ → List ℕ) (ps : Image) (h : History) (i : ℕ) → list c.args.pages.now ≡ Some ps → IsInfoOf dig ps h i info → ⊥)
+    c.from_residual.ensures.1
     (λ p at dig ps h i told is. finds_some dig ps h i info is p (inr (inl (at ps told))))
-    c.in-Err.ensures.bad
+    c.in_err-bytes.ensures.bad
 
 -- the stream was read, and nothing is spelled
 misspelt : goal.returns-in-Ok-None-clause-bad
 misspelt g c = λ ps told.
-    let has = c.in-Ok.ensures.pieces ps told in
+    let has = c.in_ok-bytes.ensures.pieces ps told in
     let info = c.args.info.now in
-    let bytes = c.in-Ok.field-0.bytes in
+    let bytes = c.in_ok-bytes.field-0.bytes in
     let same = c.as_slice.ensures in
     inr (inr (record {
       bytes = bytes;
@@ -45,14 +46,14 @@ pub returns-in-Ok-None-clause-bad : goal.returns-in-Ok-None-clause-bad
 returns-in-Ok-None-clause-bad g c = misspelt g c
 
 pub returns-in-Ok-None-clause-good : goal.returns-in-Ok-None-clause-good
-returns-in-Ok-None-clause-good g c = λ dig ps h i told is. finds_some dig ps h i c.args.info.now is c.in-Ok.field-0.last (misspelt g c ps told)
+returns-in-Ok-None-clause-good g c = λ dig ps h i told is. finds_some dig ps h i c.args.info.now is c.in_ok-bytes.field-0.last (misspelt g c ps told)
 
 pub returns-clause-events : goal.returns-clause-events
 returns-clause-events g c = λ dig ps h i told is.
-    let has = c.in-Ok.ensures.pieces ps told in
+    let has = c.in_ok-bytes.ensures.pieces ps told in
     let info = c.args.info.now in
     events_are dig ps h i info is c.in-Ok-Some.events (record {
-      bytes = c.in-Ok.field-0.bytes;
+      bytes = c.in_ok-bytes.field-0.bytes;
       has = has.0;
       spells = subst (λ (b : List ℕ). SpellsEvents b info.count c.in-Ok-Some.events) c.as_slice.ensures (match_some c.in-Ok-Some.field-0 c.in-Ok-Some.events _ _ c.in-Ok-Some.field-0-is c.in-Ok-Some.ensures);
     })

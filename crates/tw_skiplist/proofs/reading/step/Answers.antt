@@ -1,28 +1,32 @@
 use Rattle.std.proofs.Common.{◌≡◌, ◌<◌, ◌≤◌, Some, arith}
+use Rattle.std.proofs.lemmas.Result.{IfOk-weaker}
 use Rattle.tw_disk.specs.Image.{Image}
 use Rattle.tw_base.specs.History.{History}
 use Rattle.tw_skiplist.specs.Keeping.{Keeps}
 use Rattle.tw_skiplist.specs.Reading.{MeetsBadPage}
-use Rattle.tw_skiplist.proofs.BadPages.{bad_page_on}
+use Rattle.tw_skiplist.proofs.BadPages.{bad_page_weaker}
 use Rattle.tw_skiplist.proofs.Finding.{meets_none, tells_info}
 use Rattle.tw_skiplist.proofs.reading.step.Goals as goal
 
-pub returns-in-Err-clause-good : goal.returns-in-Err-clause-good
-returns-in-Err-clause-good g c =
+pub returns-clause-good : goal.returns-clause-good
+returns-clause-good g c =
     let list = g.P.Pages.list in
     let head = c.args.head.now in
     let below : c.args.i ≤ head.step = omega (arith, c.if-i-last.false) in
-    bad_page_on c.in-Err.fault
+    bad_page_weaker c.find_info.result
     (λ p. (ps : Image) → list c.args.pages.now ≡ Some ps → MeetsBadPage c.empty_tree-empty.result ps c.link_to_head.result head.step c.args.i p)
     (λ _. (ps : Image) (h : History) → list c.args.pages.now ≡ Some ps → Keeps g.H.Hasher.dig ps h head → ⊥)
     (λ p at ps h told keeps. meets_none g.H.Hasher.dig g.met.H.Hasher.size ps h head keeps c.empty_tree-empty.result c.link_to_head.result c.empty_tree-empty.ensures c.link_to_head.ensures
     c.args.i p below (at ps told))
-    c.in-Err.ensures.bad
+    c.find_info.ensures.bad
 
-pub returns-in-Ok-clause-info : goal.returns-in-Ok-clause-info
-returns-in-Ok-clause-info g c = λ ps h told keeps.
-    let found = c.in-Ok.ensures.info ps told in
+pub returns-clause-info : goal.returns-clause-info
+returns-clause-info g c =
     let some : 0 < c.args.i = omega (arith, c.if-i-eq0.false) in
     let below : c.args.i ≤ c.args.head.now.step = omega (arith, c.if-i-last.false) in
+    IfOk-weaker c.find_info.result _ _
+    (λ info told_info ps h told keeps.
+    let found = told_info ps told in
     tells_info g.H.Hasher.dig g.met.H.Hasher.size ps h c.args.head.now keeps c.empty_tree-empty.result c.link_to_head.result c.empty_tree-empty.ensures c.link_to_head.ensures
-    c.args.i found.0 c.in-Ok.info some below found.1 found.2
+    c.args.i found.0 info some below found.1 found.2)
+    c.find_info.ensures.info
