@@ -1,5 +1,5 @@
 -- What BadPage says, from one answer to another.
-use Rattle.std.proofs.Common.{◌≡◌, ℕ, List, Err, arith, inl, subst}
+use Rattle.std.proofs.Common.{◌≡◌, ℕ, List, Result, Ok, Err, arith, inl, subst}
 use Rattle.tw_disk.specs.Image.{Image}
 use Rattle.tw_base.specs.Texts.{empty_tree_text}
 use Rattle.tw_skiplist.specs.declared.fault.ListFault.{ListFault}
@@ -10,12 +10,17 @@ use Rattle.tw_skiplist.specs.Answers.{IfBadPage, NeverNoStep, NoStepUnless}
 use Rattle.tw_skiplist.specs.Reading.{MeetsBadPage, MeetsBadPageAbove}
 use Rattle.tw_skiplist.specs.Records.{FindsBadPageVia, head_ref}
 
+-- an answer that says of its page what is more
+pub IfBadPage-weaker : {T : Type 0} (result : Result T ListFault) (P Q : ℕ → Type 0) → ((page : ℕ) → P page → Q page) → IfBadPage result P → IfBadPage result Q
+IfBadPage-weaker (Ok value) P Q on bad = tt
+IfBadPage-weaker (Err (NoStep n)) P Q on bad = tt
+IfBadPage-weaker (Err (BadPage page)) P Q on bad = on page bad
+IfBadPage-weaker (Err DiskFault) P Q on bad = tt
+IfBadPage-weaker (Err NoMemory) P Q on bad = tt
+
 -- the same fault of another call says what its page says
 pub bad_page_on : (fault : ListFault) (P Q : ℕ → Type 0) → ((page : ℕ) → P page → Q page) → IfBadPage {T = Unit {0}} (Err fault) P → IfBadPage {T = Unit {0}} (Err fault) Q
-bad_page_on (NoStep n) P Q on bad = tt
-bad_page_on (BadPage page) P Q on bad = on page bad
-bad_page_on DiskFault P Q on bad = tt
-bad_page_on NoMemory P Q on bad = tt
+bad_page_on fault = IfBadPage-weaker {T = Unit {0}} (Err fault)
 
 -- an answer of another call that is never NoStep, where the step is there
 pub no_step_on : (fault : ListFault) (last : ℕ) (P : Type 0) → NeverNoStep {T = Unit {0}} (Err fault) → P → NoStepUnless {T = Unit {0}} (Err fault) last P

@@ -84,13 +84,8 @@ pub(crate) fn descend<P: Pages>(
     let mut at = from;
     while at > to {
         let level = next_hop(at, to);
-        match follow(pages, empty, &link, at, level) {
-            Err(fault) => return Err(fault),
-            Ok(next) => {
-                link = next;
-                at -= power(level);
-            }
-        }
+        link = follow(pages, empty, &link, at, level)?;
+        at -= power(level);
     }
     Ok(link)
 }
