@@ -90,16 +90,10 @@ pub(crate) fn collect<P: Pages, H: Hasher>(
     let mut at = from;
     while at > to {
         let level = next_hop(at, to);
-        match hop_at::<P, H>(alloc, pages, empty, &last, at, level) {
-            Err(fault) => return Err(fault),
-            Ok(Hop { link, next }) => match links.push(link) {
-                Err(_) => return Err(ListFault::NoMemory),
-                Ok(()) => {
-                    last = next;
-                    at -= power(level);
-                }
-            },
-        }
+        let Hop { link, next } = hop_at::<P, H>(alloc, pages, empty, &last, at, level)?;
+        links.push(link)?;
+        last = next;
+        at -= power(level);
     }
     Ok(Collected { links, last })
 }
