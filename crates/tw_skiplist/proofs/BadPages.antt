@@ -11,17 +11,17 @@ use Rattle.tw_skiplist.specs.Answers.{IfBadPage, NeverNoStep, NoStepUnless}
 use Rattle.tw_skiplist.specs.Reading.{MeetsBadPage, MeetsBadPageAbove}
 use Rattle.tw_skiplist.specs.Records.{FindsBadPageVia, head_ref}
 
+-- an answer that says of its page what is more
+pub IfBadPage-weaker : {T : Type 0} (result : Result T ListFault) (P Q : ℕ → Type 0) → ((page : ℕ) → P page → Q page) → IfBadPage result P → IfBadPage result Q
+IfBadPage-weaker (Ok value) P Q on bad = tt
+IfBadPage-weaker (Err (NoStep n)) P Q on bad = tt
+IfBadPage-weaker (Err (BadPage page)) P Q on bad = on page bad
+IfBadPage-weaker (Err DiskFault) P Q on bad = tt
+IfBadPage-weaker (Err NoMemory) P Q on bad = tt
+
 -- the same fault of another call says what its page says
 pub bad_page_on : (fault : ListFault) (P Q : ℕ → Type 0) → ((page : ℕ) → P page → Q page) → IfBadPage {T = Unit {0}} (Err fault) P → IfBadPage {T = Unit {0}} (Err fault) Q
-bad_page_on (NoStep n) P Q on bad = tt
-bad_page_on (BadPage page) P Q on bad = on page bad
-bad_page_on DiskFault P Q on bad = tt
-bad_page_on NoMemory P Q on bad = tt
-
--- the same answer, with or without a fault, says what its page says
-pub bad_page_weaker : {T : Type 0} (r : Result T ListFault) (P Q : ℕ → Type 0) → ((page : ℕ) → P page → Q page) → IfBadPage r P → IfBadPage r Q
-bad_page_weaker (Ok _) P Q on bad = tt
-bad_page_weaker (Err fault) P Q on bad = bad_page_on fault P Q on bad
+bad_page_on fault = IfBadPage-weaker {T = Unit {0}} (Err fault)
 
 -- a fault that `?` passes on says what its page says
 pub bad_page_passed : {T : Type 0} (r : Result T ListFault) (fault : ListFault) (P Q : ℕ → Type 0) → IsErrAnd r (λ e. e ≡ fault) → ((page : ℕ) → P page → Q page)

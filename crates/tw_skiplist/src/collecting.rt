@@ -50,16 +50,10 @@ fn hop_at<P: Pages, H: Hasher>(
     ensures kept { OnlyReads P.used_count P.list P.same P.unbroken pages.old pages.new (NotDiskFault result) }
     ensures faults { FaultsRise (P.faults pages.old) (P.faults pages.new) result }
 {
-    match read_step(pages, link.page, at, empty) {
-        Err(fault) => Err(fault),
-        Ok(page) => {
-            let next = link_at(page.links.as_slice(), level);
-            match link_of_page::<H>(alloc, at, &page, level) {
-                Err(_) => Err(ListFault::NoMemory),
-                Ok(link) => Ok(Hop { link, next }),
-            }
-        }
-    }
+    let page = read_step(pages, link.page, at, empty)?;
+    let next = link_at(page.links.as_slice(), level);
+    let link = link_of_page::<H>(alloc, at, &page, level)?;
+    Ok(Hop { link, next })
 }
 
 /// The links of a path, and the link to its lower step.
@@ -96,16 +90,10 @@ pub(crate) fn collect<P: Pages, H: Hasher>(
     let mut at = from;
     while at > to {
         let level = next_hop(at, to);
-        match hop_at::<P, H>(alloc, pages, empty, &last, at, level) {
-            Err(fault) => return Err(fault),
-            Ok(Hop { link, next }) => match links.push(link) {
-                Err(_) => return Err(ListFault::NoMemory),
-                Ok(()) => {
-                    last = next;
-                    at -= power(level);
-                }
-            },
-        }
+        let Hop { link, next } = hop_at::<P, H>(alloc, pages, empty, &last, at, level)?;
+        links.push(link)?;
+        last = next;
+        at -= power(level);
     }
     Ok(Collected { links, last })
 }
@@ -125,13 +113,9 @@ pub(crate) fn read_info<P: Pages, H: Hasher>(
     ensures kept { OnlyReads P.used_count P.list P.same P.unbroken pages.old pages.new (NotDiskFault result) }
     ensures faults { FaultsRise (P.faults pages.old) (P.faults pages.new) result }
 {
-    match read_step(pages, link.page, step, empty) {
-        Err(fault) => Err(fault),
-        Ok(page) => match info_of_page::<H>(alloc, link.page, step, &page) {
-            Err(_) => Err(ListFault::NoMemory),
-            Ok(info) => Ok(info),
-        },
-    }
+    let page = read_step(pages, link.page, step, empty)?;
+    let info = info_of_page::<H>(alloc, link.page, step, &page)?;
+    Ok(info)
 }
 
 /// Walks from the first link down to a step from 1 on, and tells what its page tells.
@@ -153,13 +137,8 @@ pub(crate) fn find_info<P: Pages, H: Hasher>(
     ensures kept { OnlyReads P.used_count P.list P.same P.unbroken pages.old pages.new (NotDiskFault result) }
     ensures faults { FaultsRise (P.faults pages.old) (P.faults pages.new) result }
 {
-    match descend(pages, empty, first, from, to) {
-        Err(fault) => Err(fault),
-        Ok(link) => match read_info::<P, H>(alloc, pages, empty, &link, to) {
-            Err(fault) => Err(fault),
-            Ok(info) => Ok(info),
-        },
-    }
+    let link = descend(pages, empty, first, from, to)?;
+    read_info::<P, H>(alloc, pages, empty, &link, to)
 }
 
 /// Walks as `collect` does, and tells what the page of the lower step, from 1 on, tells.
@@ -187,14 +166,10 @@ pub(crate) fn collect_proof<P: Pages, H: Hasher>(
     ensures kept { OnlyReads P.used_count P.list P.same P.unbroken pages.old pages.new (NotDiskFault result) }
     ensures faults { FaultsRise (P.faults pages.old) (P.faults pages.new) result }
 {
-    match collect::<P, H>(alloc, pages, empty, first, from, to) {
-        Err(fault) => Err(fault),
-        Ok(Collected { links, last }) => match read_info::<P, H>(alloc, pages, empty, &last, to) {
-            Err(fault) => Err(fault),
-            Ok(info) => Ok(StepProof {
-                path: Path { links },
-                info,
-            }),
-        },
-    }
+    let Collected { links, last } = collect::<P, H>(alloc, pages, empty, first, from, to)?;
+    let info = read_info::<P, H>(alloc, pages, empty, &last, to)?;
+    Ok(StepProof {
+        path: Path { links },
+        info,
+    })
 }

@@ -1,5 +1,9 @@
 // Why a call on a list of steps has no answer.
 
+ghost use Rattle.std.specs.Prelude.{◌≡◌};
+
+use tw_base::NoMemory;
+
 /// Why a call on a list of steps has no answer.
 #[derive(Clone, Copy, Debug, PartialEq, Eq, Drop)]
 pub enum ListFault {
@@ -13,4 +17,14 @@ pub enum ListFault {
     DiskFault,
     /// There was no memory for what the call needed.
     NoMemory,
+}
+
+impl From<NoMemory> for ListFault {
+    ghost use Rattle.tw_skiplist.specs.declared.fault.ListFault.TheVariants.{NoMemory as WantedMemory};
+
+    ghost from_gives = { λ _ fault. fault ≡ WantedMemory };
+
+    fn from(_none: NoMemory) -> Self {
+        ListFault::NoMemory
+    }
 }

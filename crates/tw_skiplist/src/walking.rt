@@ -59,10 +59,8 @@ pub(crate) fn follow<P: Pages>(
     ensures kept { OnlyReads P.used_count P.list P.same P.unbroken pages.old pages.new (NotDiskFault result) }
     ensures faults { FaultsRise (P.faults pages.old) (P.faults pages.new) result }
 {
-    match read_step(pages, link.page, at, empty) {
-        Err(fault) => Err(fault),
-        Ok(page) => Ok(link_at(page.links.as_slice(), level)),
-    }
+    let page = read_step(pages, link.page, at, empty)?;
+    Ok(link_at(page.links.as_slice(), level))
 }
 
 /// Walks from the first link, which leads to the step `from` (below 2^40), down the greedy path to the
@@ -86,13 +84,8 @@ pub(crate) fn descend<P: Pages>(
     let mut at = from;
     while at > to {
         let level = next_hop(at, to);
-        match follow(pages, empty, &link, at, level) {
-            Err(fault) => return Err(fault),
-            Ok(next) => {
-                link = next;
-                at -= power(level);
-            }
-        }
+        link = follow(pages, empty, &link, at, level)?;
+        at -= power(level);
     }
     Ok(link)
 }

@@ -48,22 +48,22 @@ loop-at-preserved g c =
     let to = c.args.to in
     let from = c.args.from in
     let first = c.args.first.now in
-    let link = c.in-Ok.field-0.link in
-    let next = c.in-Ok.field-0.next in
+    let link = c.in_ok-link.field-0.link in
+    let next = c.in_ok-link.field-0.next in
     let level = c.next_hop-level.ensures.level in
     let under : to < at = omega (arith, c.loop-at-test.true) in
     let power : c.power-at.result ≡ 2 ^ hop_level at to = c.power-at.ensures ∙ ap (λ (l : ℕ). 2 ^ l) level in
     let short = hop_level-short at to under in
     let hops = λ (ps : Image) (told : g.P.Pages.list c.args.pages.now ≡ Some ps).
     let has : HasHop dig c.args.empty.now ps c.loop-at.last.page at (hop_level at to) link next =
-    subst (λ (l : ℕ). HasHop dig c.args.empty.now ps c.loop-at.last.page at l link next) level (c.in-Ok.ensures.hop ps (inv.kept.list_kept ∙ told)) in has in
+    subst (λ (l : ℕ). HasHop dig c.args.empty.now ps c.loop-at.last.page at l link next) level (c.in_ok-link.ensures.hop ps (inv.kept.list_kept ∙ told)) in has in
     record {
       walks = λ ps told.
           subst (λ (p : ℕ). Walks c.args.empty.now ps first from to next (at - p)) (sym power)
           (on c.loop-at.last at next (inv.walks ps told) under (hop_link dig c.args.empty.now ps c.loop-at.last.page at (hop_level at to) link next (hops ps told)));
       along = λ ps told.
           subst (λ (p : ℕ). WalksAlong dig c.args.empty.now ps first from to c.push.new.self next (at - p)) (sym power)
-          (subst (λ (ls : List Link). WalksAlong dig c.args.empty.now ps first from to ls next (hop at to)) (sym c.in-Ok-push.ensures.ok)
+          (subst (λ (ls : List Link). WalksAlong dig c.args.empty.now ps first from to ls next (hop at to)) (sym c.in_ok-push.ensures.ok)
           (one_more c.loop-at.links c.loop-at.last at link next (inv.along ps told) under (hops ps told)));
       leads = λ ps h places told kept within first_is.
           let walks = subst (λ (e : List ℕ). Walks e ps first from to c.loop-at.last at) c.requires.empty (inv.walks ps told) in
@@ -75,15 +75,15 @@ loop-at-preserved g c =
           let further : LeadsTo dig h (c.loop-at.links ++ link ∷ []) from (hop at to) to =
           leads-further dig h c.loop-at.links link from at to under record_is.0 record_is.1 so_far in
           subst (λ (p : ℕ). LeadsTo dig h c.push.new.self from (at - p) to) (sym power)
-          (subst (λ (ls : List Link). LeadsTo dig h ls from (hop at to) to) (sym c.in-Ok-push.ensures.ok) further);
+          (subst (λ (ls : List Link). LeadsTo dig h ls from (hop at to) to) (sym c.in_ok-push.ensures.ok) further);
       shapes =
-          let others : length link.others ≡ top_level at = c.in-Ok.ensures.others in
+          let others : length link.others ≡ top_level at = c.in_ok-link.ensures.others in
           subst (λ (p : ℕ). ShapesTo c.push.new.self from (at - p) to) (sym power)
-          (subst (λ (ls : List Link). ShapesTo ls from (hop at to) to) (sym c.in-Ok-push.ensures.ok) (shapes-further c.loop-at.links link from at to under others inv.shapes));
+          (subst (λ (ls : List Link). ShapesTo ls from (hop at to) to) (sym c.in_ok-push.ensures.ok) (shapes-further c.loop-at.links link from at to under others inv.shapes));
       low = omega (arith, short, power, under);
       high = omega (arith, inv.high);
-      kept = only_reads_on g.P.Pages.used_count g.P.Pages.list g.P.Pages.same g.P.Pages.unbroken _ _ _ _ _ _ g.met.P.Pages.same_on (λ good. tt) (λ good. tt) inv.kept c.in-Ok.ensures.kept;
-      faults = omega (arith, inv.faults, c.in-Ok.ensures.faults.later);
+      kept = only_reads_on g.P.Pages.used_count g.P.Pages.list g.P.Pages.same g.P.Pages.unbroken _ _ _ _ _ _ g.met.P.Pages.same_on (λ good. tt) (λ good. tt) inv.kept c.in_ok-link.ensures.kept;
+      faults = omega (arith, inv.faults, c.in_ok-link.ensures.faults.later);
     }
 
 pub returns-clause-path : goal.returns-clause-path

@@ -7,18 +7,18 @@ use Rattle.tw_skiplist.specs.Records.{page_datum}
 use Rattle.tw_skiplist.proofs.Recording.{length-other_labels}
 use Rattle.tw_skiplist.proofs.collecting.hop_at.Goals as goal
 
-pub returns-in-Ok-link_of_page-clause-hop : goal.returns-in-Ok-link_of_page-clause-hop
-returns-in-Ok-link_of_page-clause-hop g c = λ ps told. record {
-  fields = c.in-Ok.page.fields;
-  links = c.in-Ok.page.links.items;
-  is = c.in-Ok.ensures.is ps told;
+pub returns-clause-hop : goal.returns-clause-hop
+returns-clause-hop g c = λ ps told. record {
+  fields = c.in_ok-page.page.fields;
+  links = c.in_ok-page.page.links.items;
+  is = c.in_ok-page.ensures.is ps told;
   next_is = c.link_at-next.ensures ∙ ap (λ (ls : List StepRef). link_of ls c.args.level) c.as_slice.ensures.value;
-  record_is = c.in-Ok-link_of_page.ensures;
+  record_is = c.in_ok-link.ensures;
 }
 
-pub returns-in-Ok-link_of_page-clause-others : goal.returns-in-Ok-link_of_page-clause-others
-returns-in-Ok-link_of_page-clause-others g c =
+pub returns-clause-others : goal.returns-clause-others
+returns-clause-others g c =
     let dig = g.H.Hasher.dig in
-    let page = c.in-Ok.page in
-    ap (λ (l : Link). length l.others) c.in-Ok-link_of_page.ensures
-    ∙ length-other_labels dig c.args.at (page_datum dig page.fields) page.links.items c.args.level (top_level c.args.at) c.in-Ok.ensures.link_count c.requires.level
+    let page = c.in_ok-page.page in
+    ap (λ (l : Link). length l.others) c.in_ok-link.ensures
+    ∙ length-other_labels dig c.args.at (page_datum dig page.fields) page.links.items c.args.level (top_level c.args.at) c.in_ok-page.ensures.link_count c.requires.level

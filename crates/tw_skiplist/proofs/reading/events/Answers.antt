@@ -6,7 +6,7 @@ use Rattle.tw_skiplist.specs.Events.{FindsNoEvents}
 use Rattle.tw_skiplist.specs.Infos.{IsInfoOf}
 use Rattle.tw_skiplist.specs.Keeping.{Keeps}
 use Rattle.tw_skiplist.specs.Records.{FindsBadPage, FindsInfo}
-use Rattle.tw_skiplist.proofs.BadPages.{bad_page_weaker}
+use Rattle.tw_skiplist.proofs.BadPages.{IfBadPage-weaker}
 use Rattle.tw_skiplist.proofs.reading.events.Goals as goal
 
 pub returns-clause-bad : goal.returns-clause-bad
@@ -15,7 +15,7 @@ returns-clause-bad g c =
     let dig = g.H.Hasher.dig in
     let info = c.in_ok-info.info in
     let head = c.args.head.now in
-    bad_page_weaker c.events_of.result
+    IfBadPage-weaker c.events_of.result
     (λ p. (ps : Image) → list c.step.new.pages ≡ Some ps → FindsNoEvents ps info p)
     (λ p. (ps : Image) → list c.args.pages.now ≡ Some ps → FindsBadPage dig ps head c.args.i p ⊎ ((x : StepInfo) × FindsInfo dig ps head c.args.i x × FindsNoEvents ps x p))
     (λ p at ps told. inr (info, c.in_ok-info.ensures.found ps told, at ps (c.in_ok-info.ensures.kept.list_kept ∙ told)))
@@ -27,7 +27,7 @@ returns-clause-good g c =
     let dig = g.H.Hasher.dig in
     let info = c.in_ok-info.info in
     let head = c.args.head.now in
-    bad_page_weaker c.events_of.result
+    IfBadPage-weaker c.events_of.result
     (λ _. (d : List ℕ → List ℕ) (ps : Image) (h : History) (i : ℕ) → list c.step.new.pages ≡ Some ps → IsInfoOf d ps h i info → ⊥)
     (λ _. (ps : Image) (h : History) → list c.args.pages.now ≡ Some ps → Keeps dig ps h head → ⊥)
     (λ p at ps h told keeps. at dig ps h c.args.i (c.in_ok-info.ensures.kept.list_kept ∙ told) (c.in_ok-info.ensures.info ps h told keeps))

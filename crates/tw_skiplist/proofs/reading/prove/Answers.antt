@@ -6,7 +6,7 @@ use Rattle.tw_base.specs.History.{History}
 use Rattle.tw_skiplist.specs.Keeping.{Keeps}
 use Rattle.tw_skiplist.specs.Reading.{MeetsBadPage, MeetsBadPageAbove}
 use Rattle.tw_skiplist.specs.Records.{FindsBadPageVia}
-use Rattle.tw_skiplist.proofs.BadPages.{bad_page_passed, bad_page_weaker, met_above, met_on_the_way}
+use Rattle.tw_skiplist.proofs.BadPages.{bad_page_passed, IfBadPage-weaker, met_above, met_on_the_way}
 use Rattle.tw_skiplist.proofs.Finding.{found_path, meets_none, meets_none_further, middle_is, tells_info_further, top_within}
 use Rattle.tw_skiplist.proofs.reading.prove.Goals as goal
 
@@ -41,7 +41,7 @@ returns-clause-good g c =
     let head = c.args.head.now in
     let below : c.args.top ≤ head.step = omega (arith, c.if-top-last.false) in
     let lower : c.args.i ≤ c.args.top = omega (arith, c.if-i-top.false) in
-    bad_page_weaker c.collect_proof.result
+    IfBadPage-weaker c.collect_proof.result
     (λ p. (ps : Image) → list c.descend.new.pages ≡ Some ps → MeetsBadPage c.empty_tree-empty.result ps c.in_ok-link.link c.args.top c.args.i p)
     (λ _. (ps : Image) (h : History) → list c.args.pages.now ≡ Some ps → Keeps g.H.Hasher.dig ps h head → ⊥)
     (λ p at ps h told keeps. meets_none_further g.H.Hasher.dig g.met.H.Hasher.size ps h head keeps c.empty_tree-empty.result c.link_to_head.result c.empty_tree-empty.ensures c.link_to_head.ensures

@@ -4,7 +4,7 @@ use Rattle.tw_disk.specs.Image.{Image}
 use Rattle.tw_base.specs.History.{History}
 use Rattle.tw_skiplist.specs.Keeping.{Keeps}
 use Rattle.tw_skiplist.specs.Reading.{MeetsBadPage}
-use Rattle.tw_skiplist.proofs.BadPages.{bad_page_weaker}
+use Rattle.tw_skiplist.proofs.BadPages.{IfBadPage-weaker}
 use Rattle.tw_skiplist.proofs.Finding.{meets_none, tells_info}
 use Rattle.tw_skiplist.proofs.reading.step.Goals as goal
 
@@ -13,7 +13,7 @@ returns-clause-good g c =
     let list = g.P.Pages.list in
     let head = c.args.head.now in
     let below : c.args.i ≤ head.step = omega (arith, c.if-i-last.false) in
-    bad_page_weaker c.find_info.result
+    IfBadPage-weaker c.find_info.result
     (λ p. (ps : Image) → list c.args.pages.now ≡ Some ps → MeetsBadPage c.empty_tree-empty.result ps c.link_to_head.result head.step c.args.i p)
     (λ _. (ps : Image) (h : History) → list c.args.pages.now ≡ Some ps → Keeps g.H.Hasher.dig ps h head → ⊥)
     (λ p at ps h told keeps. meets_none g.H.Hasher.dig g.met.H.Hasher.size ps h head keeps c.empty_tree-empty.result c.link_to_head.result c.empty_tree-empty.ensures c.link_to_head.ensures

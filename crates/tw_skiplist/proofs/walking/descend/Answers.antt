@@ -36,11 +36,11 @@ loop-at-preserved g c =
     let short = hop_level-short at to under in
     record {
       walks = λ ps told.
-          let next : HasLink c.args.empty.now ps c.loop-at.link.page at (hop_level at to) c.in-Ok.next =
-          subst (λ (l : ℕ). HasLink c.args.empty.now ps c.loop-at.link.page at l c.in-Ok.next) level (c.in-Ok.ensures.next ps (inv.kept.list_kept ∙ told)) in
-          subst (λ (p : ℕ). Walks c.args.empty.now ps c.args.first.now c.args.from to c.in-Ok.next (at - p)) (sym power) (on c.loop-at.link at c.in-Ok.next (inv.walks ps told) under next);
+          let next : HasLink c.args.empty.now ps c.loop-at.link.page at (hop_level at to) c.in_ok-link.link =
+          subst (λ (l : ℕ). HasLink c.args.empty.now ps c.loop-at.link.page at l c.in_ok-link.link) level (c.in_ok-link.ensures.next ps (inv.kept.list_kept ∙ told)) in
+          subst (λ (p : ℕ). Walks c.args.empty.now ps c.args.first.now c.args.from to c.in_ok-link.link (at - p)) (sym power) (on c.loop-at.link at c.in_ok-link.link (inv.walks ps told) under next);
       low = omega (arith, short, power, under);
       high = omega (arith, inv.high);
-      kept = only_reads_on g.P.Pages.used_count g.P.Pages.list g.P.Pages.same g.P.Pages.unbroken _ _ _ _ _ _ g.met.P.Pages.same_on (λ good. tt) (λ good. tt) inv.kept c.in-Ok.ensures.kept;
-      faults = omega (arith, inv.faults, c.in-Ok.ensures.faults.later);
+      kept = only_reads_on g.P.Pages.used_count g.P.Pages.list g.P.Pages.same g.P.Pages.unbroken _ _ _ _ _ _ g.met.P.Pages.same_on (λ good. tt) (λ good. tt) inv.kept c.in_ok-link.ensures.kept;
+      faults = omega (arith, inv.faults, c.in_ok-link.ensures.faults.later);
     }
