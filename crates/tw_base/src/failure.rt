@@ -1,5 +1,7 @@
 // Answers without a value.
 
+use std::alloc::{AllocError, AllocFailed};
+
 /// A device, an input or a sink failed; its count of faults rose in that call.
 #[derive(Clone, Copy, PartialEq, Eq, Debug, Drop)]
 pub struct Failed;
@@ -7,6 +9,26 @@ pub struct Failed;
 /// There was no memory for what the call needed.
 #[derive(Clone, Copy, PartialEq, Eq, Debug, Drop)]
 pub struct NoMemory;
+
+impl From<AllocError> for NoMemory {
+    ghost use Rattle.std.specs.Prelude.{⊤};
+
+    ghost from_gives = { λ _ _. ⊤ };
+
+    fn from(_refused: AllocError) -> Self {
+        NoMemory
+    }
+}
+
+impl<T: Drop> From<AllocFailed<T>> for NoMemory {
+    ghost use Rattle.std.specs.Prelude.{⊤};
+
+    ghost from_gives = { λ _ _. ⊤ };
+
+    fn from(_refused: AllocFailed<T>) -> Self {
+        NoMemory
+    }
+}
 
 /// Why bytes could not be read.
 #[derive(Clone, Copy, PartialEq, Eq, Debug, Drop)]
@@ -25,6 +47,28 @@ impl From<NoMemory> for ReadFault {
     ghost from_gives = { λ _ fault. fault ≡ WantedMemory };
 
     fn from(_none: NoMemory) -> Self {
+        ReadFault::NoMemory
+    }
+}
+
+impl From<AllocError> for ReadFault {
+    ghost use Rattle.std.specs.Prelude.{◌≡◌};
+    ghost use Rattle.tw_base.specs.declared.failure.ReadFault.TheVariants.{NoMemory as WantedMemory};
+
+    ghost from_gives = { λ _ fault. fault ≡ WantedMemory };
+
+    fn from(_refused: AllocError) -> Self {
+        ReadFault::NoMemory
+    }
+}
+
+impl<T: Drop> From<AllocFailed<T>> for ReadFault {
+    ghost use Rattle.std.specs.Prelude.{◌≡◌};
+    ghost use Rattle.tw_base.specs.declared.failure.ReadFault.TheVariants.{NoMemory as WantedMemory};
+
+    ghost from_gives = { λ _ fault. fault ≡ WantedMemory };
+
+    fn from(_refused: AllocFailed<T>) -> Self {
         ReadFault::NoMemory
     }
 }

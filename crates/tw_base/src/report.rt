@@ -4,6 +4,16 @@ use crate::name::Name;
 use crate::sequence::Bytes;
 use crate::thread::Place;
 
+/// One step of a chain from service to service: step `archived` of service `by` received the
+/// thread of service `from` at step `step`.
+#[derive(Clone, Copy, PartialEq, Eq, Debug, Drop)]
+pub struct Hop {
+    pub from: Name,
+    pub step: u64,
+    pub by: Name,
+    pub archived: u64,
+}
+
 /// An event that a proof shows at its place; no event has a time yet.
 #[derive(Drop, Debug)]
 pub struct Seen {

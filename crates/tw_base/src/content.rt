@@ -1,0 +1,13 @@
+// What a step of a history records.
+
+use crate::sequence::EventList;
+use crate::thread::Thread;
+
+/// What a step records.
+#[derive(Drop, Debug)]
+pub enum Content {
+    /// Events, at most 1,024, each of at most 1,024 bytes.
+    Events(EventList),
+    /// The thread of another service, at a step of 1 to 2^40 - 1.
+    Received(Thread),
+}

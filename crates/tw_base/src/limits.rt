@@ -1,0 +1,20 @@
+// The limits of names, steps and histories, and what they mean.
+
+/// The greatest number of a step: 2^40 - 1. Steps are numbered from 1; where a step field may be 0, it speaks of the
+/// time before the first step.
+pub const LAST_STEP: u64 = 0xff_ffff_ffff;
+
+/// The most events of a step.
+pub const MOST_EVENTS: u64 = 1024;
+
+/// The most bytes of an event.
+pub const MOST_EVENT_BYTES: u64 = 1024;
+
+/// The most bytes that the events of a step have together.
+pub const MOST_STEP_BYTES: u64 = 65_536;
+
+/// The most bytes of a history file: 64 MiB.
+pub const MOST_HISTORY_BYTES: u64 = 67_108_864;
+
+/// The most anchors that a verifier holds.
+pub const MOST_ANCHORS: u64 = 64;
