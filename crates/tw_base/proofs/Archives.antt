@@ -10,6 +10,7 @@ use Rattle.tw_base.specs.Lists.{Each, In}
 use Rattle.tw_base.specs.Entries.{KeyBelow, key_of}
 use Rattle.tw_base.specs.History.{History, Step, entry_at, received, step_at}
 use Rattle.tw_base.specs.Tree.{entries, forest, tree, IsRising}
+use Rattle.tw_base.specs.Rules.Rule.{HoldsAllThreads}
 use Rattle.tw_base.specs.Sound.{IsSound}
 use Rattle.tw_base.proofs.Keys.{KeyBelow-irrefl}
 use Rattle.tw_base.proofs.ListLemmas.{Apart, Each-in, Each-map, In-cases_append, In-left, In-right, pigeonhole}
@@ -43,7 +44,7 @@ module _ (h : History) (sound : IsSound h) where
         | inl there ↦ (let some : slice_get h.steps i ≡ Some there.0 = there.2 in let never : None ≡ Some there.0 = sym none ∙ some in cc)
         | inr past ↦ absurd (omega (arith, past.0))
       ]
-      by (Some s) is = (sound.steps i s is).all_threads
+      by (Some s) is = (sound.steps i s is).rules HoldsAllThreads
 
   -- the archive after step i has what was received up to step i
   pub tree-has : (i k : ℕ) (e : Entry) → i ≤ length h.steps → k ≤ i → entry_at h k ≡ Some e → In e (entries (tree h i))

@@ -10,7 +10,11 @@ use Rattle.tw_base.specs.Entries.{IsFit}
 use Rattle.tw_base.specs.History.{History, Step, Node, entry_at, entry_to, fresh_of, root_of, step_at, thread_of}
 use Rattle.tw_base.specs.Tree.{Tree, branch, entries, forest, new_trees, planted, tree, IsRising, IsRisingTree}
 use Rattle.tw_base.specs.Tree.Tree.{Empty}
-use Rattle.tw_base.specs.Sound.{IsSound, IsThread}
+use Rattle.tw_base.specs.Limits.{IsThread, IsWithinLimits}
+use Rattle.tw_base.specs.Rules.Rule.{TreesRise}
+use Rattle.tw_base.specs.Sound.{IsSound}
+use Rattle.tw_base.specs.declared.content.Content.{Content}
+use Rattle.tw_base.specs.declared.content.Content.TheVariants.{Events, Received}
 use Rattle.tw_base.proofs.ListLemmas.{Each-append, Each-get_or, Each-map}
 use Rattle.tw_base.proofs.Naming.{IsName-size}
 
@@ -67,7 +71,7 @@ module _ (h : History) where
     where
       news : (s : Option Step) → step_at h (suc i) ≡ s → Each Rises (planted (entry_to h (suc i)) (forest h i) (fresh_of s))
       news None e = tt
-      news (Some s) e = subst (λ o. Each Rises (planted (entry_to h (suc i)) (forest h i) (fresh_of o))) e (sound.steps i s e).rising_trees
+      news (Some s) e = subst (λ o. Each Rises (planted (entry_to h (suc i)) (forest h i) (fresh_of o))) e ((sound.steps i s e).rules TreesRise)
 
   -- each entry of the archive after step i is the thread of a step at or below i
   pub tree-archived : (i : ℕ) → Each (IsArchived h i) (entries (tree h i))
@@ -86,6 +90,14 @@ module _ (h : History) where
       by None is made = cc
       by (Some t) is made = let same : record { thread = t; archived = k } ≡ e = cc in (ap (λ (x : Entry). x.archived) same, is ∙ ap (λ (x : Entry). Some x.thread) same)
 
+  -- a thread that a step within the limits received is one
+  thread-within : (s : Step) → IsWithinLimits s.content → IfSome (thread_of (Some s)) IsThread
+  thread-within s limits = by s.content limits
+    where
+      by : (c : Content) → IsWithinLimits c → IfSome (thread_of (Some (record { content = c; fresh = s.fresh; root = s.root }))) IsThread
+      by (Events events) all = tt
+      by (Received t) is = is
+
   pub received-sound : IsSound h → (k : ℕ) (t : Thread) → thread_of (step_at h k) ≡ Some t → IsThread t × (0 < k) × (k ≤ length h.steps)
   received-sound sound zero t at = cc
   received-sound sound (suc j) t at = by (step_at h (suc j)) refl at
@@ -93,7 +105,7 @@ module _ (h : History) where
       by : (s : Option Step) → step_at h (suc j) ≡ s → thread_of s ≡ Some t → IsThread t × (0 < suc j) × (suc j ≤ length h.steps)
       by None is got = cc
       by (Some s) is got =
-          let rule = subst (λ o. IfSome o IsThread) got (sound.steps j s is).thread in
+          let rule = subst (λ o. IfSome o IsThread) got (thread-within s (sound.steps j s is).limits) in
           let within = slice_get_within h.steps j s is in
           (rule, omega arith, omega (arith, within))
 

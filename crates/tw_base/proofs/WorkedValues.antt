@@ -4,7 +4,7 @@ use Rattle.std.specs.Int.Count.{count_trailing_zeros}
 use Rattle.tw_base.specs.Texts.{genesis_text, datum_text, link_text, authenticator_text, empty_tree_text, tree_node_text, event_leaf_text, event_node_text, no_events_text}
 use Rattle.tw_base.specs.EventTree.{tree_hash, event_root}
 use Rattle.tw_base.specs.History.{History, entry_to}
-use Rattle.tw_base.specs.History.Content.{Events, Received}
+use Rattle.tw_base.specs.declared.content.Content.TheVariants.{Events, Received}
 use Rattle.tw_base.specs.Tree.{planted, forest, tree}
 use Rattle.tw_base.specs.Levels.{top_level}
 use Rattle.tw_base.specs.Auth.{auth, auths, tree_label, datum_text_at, link_texts}

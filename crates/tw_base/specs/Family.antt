@@ -2,9 +2,9 @@
 use Rattle.std.specs.Prelude.{◌≡◌, ℕ, ◌≤◌, List, [], ◌∷◌, ◌++◌, length, slice_get, Option, Some, None, if◌then◌else◌}
 use Rattle.std.specs.Str.{bytes_eq}
 use Rattle.tw_base.specs.declared.thread.Thread.{Thread}
-use Rattle.tw_base.specs.declared.thread.Place.{Place}
 use Rattle.tw_base.specs.declared.report.Claim.{Claim}
 use Rattle.tw_base.specs.declared.report.Claim.TheVariants.{Exists}
+use Rattle.tw_base.specs.declared.report.Seen.{Seen}
 use Rattle.tw_base.specs.Lists.{Each}
 use Rattle.tw_base.specs.History.{History, events_at}
 use Rattle.tw_base.specs.Sound.{IsSound}
@@ -29,14 +29,16 @@ HasThread dig family t = (h : History) × HasHistory family t.from h × (t.step 
 abbrev pub HasThreads : (List ℕ → List ℕ) → List History → List Thread → Type 0
 HasThreads dig family threads = Each (HasThread dig family) threads
 
--- the event stands at this place of the service's history
-abbrev pub EventStands : List History → Place → (event : List ℕ) → Type 0
-EventStands family place event =
-    (h : History) × HasHistory family place.service h × (slice_get (events_at h place.step) place.index ≡ Some event)
+-- the event stands at its place in the history of its service; no step of a history has a time
+pub record SeenStands (family : List History) (seen : Seen) : Type 0 where
+  pub history : History
+  pub has : HasHistory family seen.place.service history
+  pub stands : slice_get (events_at history seen.place.step) seen.place.index ≡ Some seen.event
+  pub time : seen.time ≡ None
 
 -- what a claim says of the family
-abbrev pub Facts : List History → Claim → Type 0
-Facts family (Exists seen) = EventStands family seen.place seen.event
+abbrev pub Facts : (List ℕ → List ℕ) → List History → Claim → Type 0
+Facts dig family (Exists seen) = SeenStands family seen
 
 -- the texts of the histories, one after another
 abbrev pub family_texts : (List ℕ → List ℕ) → List History → List (List ℕ)

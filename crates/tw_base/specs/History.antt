@@ -1,13 +1,10 @@
 -- A history: a service's name and its steps, numbered from 1.
-use Rattle.std.specs.Prelude.{ℕ, suc, zero, List, [], ◌∷◌, ◌++◌, slice_get, Option, Some, None, option_and_then, nat_le, if◌then◌else◌}
+use Rattle.std.specs.Prelude.{ℕ, suc, zero, List, [], ◌∷◌, ◌++◌, length, slice_get, Option, Some, None, option_and_then, nat_le, if◌then◌else◌}
 use Rattle.std.specs.Option.{option_to_list}
+use Rattle.tw_base.specs.declared.content.Content.{Content}
+use Rattle.tw_base.specs.declared.content.Content.TheVariants.{Events, Received}
 use Rattle.tw_base.specs.declared.thread.Thread.{Thread}
 use Rattle.tw_base.specs.declared.thread.Entry.{Entry}
-
--- what a step records: events, or the thread of another service
-pub data Content : Type 0 where
-  Events : List (List ℕ) → Content
-  Received : Thread → Content
 
 -- a node of the archive's trees: the numbers of its sides (0 the empty tree), and of the step whose thread it has
 pub record Node : Type 0 where
@@ -15,7 +12,8 @@ pub record Node : Type 0 where
   pub entry : ℕ
   pub right : ℕ
 
--- a step, the nodes that it adds to the archive, and the number of the archive's root after it
+-- what a step records (events, or the thread of another service), the nodes that it adds to the archive, and the number of the
+-- archive's root after it
 pub record Step : Type 0 where
   pub content : Content
   pub fresh : List Node
@@ -73,3 +71,7 @@ received h (suc i) = received h i ++ option_to_list (entry_at h (suc i))
 -- the history with one more step
 abbrev pub plus : History → Step → History
 plus h s = record { name = h.name; steps = h.steps ++ s ∷ [] }
+
+-- the history with one more step of these events: no new node, and the root as before
+abbrev pub with_events : History → List (List ℕ) → History
+with_events h events = plus h (record { content = Events events; fresh = []; root = root_of (step_at h (length h.steps)) })

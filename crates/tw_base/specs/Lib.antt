@@ -1,6 +1,8 @@
 pub mod Names
 pub mod Texts
 pub mod Weak
+pub mod Bytes
+pub mod HasherSteps
 pub mod Digests
 pub mod Entries
 pub mod Clash
@@ -9,11 +11,16 @@ pub mod EventTree
 pub mod AuditPath
 pub mod History
 pub mod Tree
+pub mod Limits
+pub mod Rules
 pub mod Sound
 pub mod Levels
 pub mod Auth
 pub mod HistoryTexts
+pub mod HistoryFile
+pub mod HistoryLayout
 pub mod Family
+pub mod Reasons
 pub mod Formats
 pub mod Fields
 pub mod Anchors

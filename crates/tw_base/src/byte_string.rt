@@ -20,8 +20,6 @@ pub fn read_bytes(alloc: Global, bytes: &[u8], at: u64, count: u64) -> Result<By
             place: bytes.len() as u64,
         });
     }
-    match Vec::from_slice(alloc, &bytes[at as usize..(at + count) as usize]) {
-        Ok(items) => Ok(Bytes::from_vec(items)),
-        Err(_) => Err(ReadFault::NoMemory),
-    }
+    let found = Bytes::from_slice(alloc, &bytes[at as usize..(at + count) as usize])?;
+    Ok(found)
 }

@@ -1,5 +1,7 @@
 // Digests.
 
+ghost use Rattle.std.specs.Prelude.{◌≡◌, ◌↔◌, IsTrue};
+
 use std::marker::Model;
 
 /// The digest of a text: 32 bytes, as SHA-256 of FIPS 180-4 gives them. Contracts see it as the
@@ -17,4 +19,11 @@ impl Model for Digest {
     ghost invariant = { λ d. length d.0 ≡ 32 };
 
     ghost inverse = { λ bytes. record { 0 = bytes } };
+}
+
+/// Whether two digests are one.
+pub fn is_same_digest(one: &Digest, other: &Digest) -> bool
+    ensures { IsTrue result ↔ (one.now ≡ other.now) }
+{
+    *one == *other
 }

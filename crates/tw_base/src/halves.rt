@@ -3,13 +3,7 @@
 ghost use Rattle.std.specs.Prelude.{◌≡◌, ◌^◌, ◌<◌, ◌≤◌};
 ghost use Rattle.tw_base.specs.EventTree.{largest_power_below};
 
-/// The power of two of that exponent.
-fn power_of_two(exponent: u32) -> usize
-    requires { exponent < 64 }
-    ensures { result ≡ 2 ^ exponent }
-{
-    1 << exponent
-}
+use crate::link_level::power_of_two;
 
 /// How many of 2 to 1,024 events are in the left half: the largest power of two smaller than their
 /// number.
@@ -20,5 +14,5 @@ pub fn left_count(count: usize) -> usize
     ensures less { result < count }
     ensures some { 0 < result }
 {
-    power_of_two((count - 1).ilog2())
+    power_of_two((count - 1).ilog2() as u8) as usize
 }

@@ -2,6 +2,7 @@
 
 ghost use Rattle.std.specs.Prelude.{◌≡◌, ℕ, List, [], ◌∷◌, ◌++◌, ◌%◌, length, sum, replicate};
 ghost use Rattle.sha2.specs.Sha256.{sha256};
+ghost use Rattle.tw_base.specs.Bytes.{AreBytes};
 
 use crate::digest::Digest;
 use sha2::{Digest as _, Sha256};
@@ -16,6 +17,8 @@ pub trait Hasher {
         ensures { result ≡ dig text.now };
 
     ghost size: { (text : List ℕ) → length (dig text) ≡ 32 };
+
+    ghost bytes: { (text : List ℕ) → AreBytes (dig text) };
 }
 
 /// SHA-256 of FIPS 180-4.
@@ -23,6 +26,7 @@ pub struct Sha;
 
 impl Hasher for Sha {
     ghost use Rattle.sha2.proofs.Facts256.{length-sha256};
+    ghost use Rattle.tw_base.specs.HasherSteps.{bytes-sha256};
 
     ghost dig = { sha256 };
 
@@ -31,6 +35,8 @@ impl Hasher for Sha {
     }
 
     ghost size = { length-sha256 };
+
+    ghost bytes = { bytes-sha256 };
 }
 
 /// For tests, a digest with easy clashes: its first byte is the sum of the text's bytes modulo 256,
@@ -38,6 +44,7 @@ impl Hasher for Sha {
 pub struct Weak;
 
 impl Hasher for Weak {
+    ghost use Rattle.tw_base.specs.HasherSteps.{bytes-weak};
     ghost use Rattle.tw_base.specs.Weak.{length-weak, weak};
 
     ghost dig = { weak };
@@ -53,4 +60,6 @@ impl Hasher for Weak {
     }
 
     ghost size = { length-weak };
+
+    ghost bytes = { bytes-weak };
 }

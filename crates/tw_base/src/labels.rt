@@ -7,21 +7,11 @@ ghost use Rattle.tw_base.specs.Entries.{IsFit, entry_text};
 ghost use Rattle.tw_base.specs.Digests.{AllDigests};
 
 use crate::digest::Digest;
+use crate::fixed_list::put;
 use crate::hasher::Hasher;
 use crate::name::Name;
 use crate::thread::Entry;
 use arrayvec::ArrayVec;
-
-/// Puts the bytes at the text's end.
-fn put<const N: usize>(text: &mut ArrayVec<u8, N>, bytes: &[u8])
-    requires { array_vec_len text.old + length bytes.now ≤ N }
-    ensures { text.new.items ≡ text.old.items ++ bytes.now }
-{
-    match text.try_extend_from_slice(bytes) {
-        Ok(()) => {}
-        Err(_) => unreachable!(),
-    }
-}
 
 /// Puts a digest at the text's end.
 fn put_digest<const N: usize>(text: &mut ArrayVec<u8, N>, digest: &Digest)

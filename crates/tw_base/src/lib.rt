@@ -9,6 +9,7 @@ mod ending;
 mod event_tree;
 mod failure;
 mod fields;
+mod fixed_list;
 mod halves;
 mod hasher;
 mod history_laws;
@@ -29,11 +30,12 @@ mod writers;
 pub use anchor::find_anchor;
 pub use byte_string::read_bytes;
 pub use content::Content;
-pub use digest::Digest;
+pub use digest::{Digest, is_same_digest};
 pub use ending::{whole, whole_to};
 pub use event_tree::{audit_path_laws, event_root_laws};
 pub use failure::{Failed, NoMemory, ReadFault};
 pub use fields::{read_digest, read_labels, read_name, read_number, read_text};
+pub use fixed_list::put;
 pub use halves::left_count;
 pub use hasher::{Hasher, Sha, Weak};
 pub use history_laws::{archive_laws, clash_laws, plus_laws};
@@ -42,7 +44,7 @@ pub use labels::{
     authenticator, datum, empty_tree, event_leaf, event_node, genesis, link_label, no_events,
     tree_node,
 };
-pub use link_level::top_level;
+pub use link_level::{power_of_two, top_level};
 pub use name::{Name, is_name_byte};
 pub use path_sides::{path_length, sides_of};
 pub use placing::malformed;

@@ -18,3 +18,11 @@ pub fn top_level(step: u64) -> u8
     }
     step.trailing_zeros() as u8
 }
+
+/// The power of two of an exponent below 64: how many steps a link of that level leads down.
+pub fn power_of_two(exponent: u8) -> u64
+    requires { exponent < 64 }
+    ensures { result ≡ 2 ^ exponent }
+{
+    1 << exponent
+}

@@ -1,6 +1,6 @@
 // Lists on the heap.
 
-ghost use Rattle.std.specs.Prelude.{◌≡◌, [], ◌∷◌, ◌++◌, length, OnOk, OnErr};
+ghost use Rattle.std.specs.Prelude.{◌≡◌, [], ◌∷◌, ◌++◌, length, IfOk, OnOk, OnErr};
 
 use crate::failure::NoMemory;
 use std::alloc::Global;
@@ -75,6 +75,13 @@ impl<T: Drop> Sequence<T> {
 }
 
 impl Sequence<u8> {
+    /// The bytes of a slice.
+    pub fn from_slice(alloc: Global, bytes: &[u8]) -> Result<Self, NoMemory>
+        ensures { IfOk result (λ copy. copy ≡ bytes.now) }
+    {
+        Ok(Self::from_vec(Vec::from_slice(alloc, bytes)?))
+    }
+
     /// Appends the bytes; after want of memory the list is as before.
     pub fn extend_from_slice(&mut self, more: &[u8]) -> Result<(), NoMemory>
         ensures ok { OnOk result (self.new ≡ self.old ++ more.now) }

@@ -2,7 +2,7 @@
 // Numbers are big-endian. After want of memory nothing was appended, but by `put_labels`.
 
 ghost use Rattle.std.specs.Prelude.{◌≡◌, ℕ, ◌^◌, ◌<◌, ◌≤◌, ◌++◌, length, take, OnOk, OnErr};
-ghost use Rattle.tw_base.specs.Fields.{bytes as any_bytes, digest as digest_format, name as name_format, number_bytes, repeated};
+ghost use Rattle.tw_base.specs.Fields.{bytes as any_bytes, digest as digest_format, name as name_format, number, number_bytes, repeated};
 ghost use Rattle.tw_base.specs.Formats.{Spells};
 ghost use Rattle.tw_base.specs.Texts.{joined};
 
@@ -18,6 +18,7 @@ pub fn put_number(into: &mut Bytes, value: u64, width: u8) -> Result<(), NoMemor
     requires fits { value < 256 ^ width }
     ensures ok { OnOk result (into.new ≡ into.old ++ number_bytes width value) }
     ensures err { OnErr result (into.new ≡ into.old) }
+    ensures spelled { (least most : ℕ) → least ≤ value → value ≤ most → most < 256 ^ width → Spells (number width least most) (number_bytes width value) value }
 {
     let bytes = value.to_be_bytes();
     into.extend_from_slice(&bytes[8 - width as usize..])

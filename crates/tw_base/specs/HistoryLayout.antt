@@ -3,22 +3,24 @@ use Rattle.std.specs.Prelude.{◌-◌, ◌^◌, ◌==◌, if◌then◌else◌}
 use Rattle.tw_base.specs.Formats.{Format, then_by}
 use Rattle.tw_base.specs.Formats.Format.{Done}
 use Rattle.tw_base.specs.Fields.{digest, name, number, repeated, sized_bytes, text}
-use Rattle.tw_base.specs.History.{Content, History, Node, Step}
-use Rattle.tw_base.specs.History.Content.{Events, Received}
-use Rattle.tw_history.specs.HistoryFile.{history_magic}
+use Rattle.tw_base.specs.declared.content.Content.{Content}
+use Rattle.tw_base.specs.declared.content.Content.TheVariants.{Events, Received}
+use Rattle.tw_base.specs.declared.limits.TheConstants.{LAST_STEP, MOST_EVENTS, MOST_EVENT_BYTES}
+use Rattle.tw_base.specs.History.{History, Node, Step}
+use Rattle.tw_base.specs.HistoryFile.{history_magic}
 
 -- the number of events, and each event behind its length
 unfoldable pub events_layout : Format Content
 events_layout =
-    then_by (number 4 0 1024) (λ count.
-    then_by (repeated count (sized_bytes 4 0 1024)) (λ events.
+    then_by (number 4 0 MOST_EVENTS) (λ count.
+    then_by (repeated count (sized_bytes 4 0 MOST_EVENT_BYTES)) (λ events.
     Done (Events events)))
 
 -- a service, its step, and its authenticator there
 unfoldable pub thread_layout : Format Content
 thread_layout =
     then_by name (λ from.
-    then_by (number 8 1 (2 ^ 40 - 1)) (λ step.
+    then_by (number 8 1 LAST_STEP) (λ step.
     then_by digest (λ auth.
     Done (Received (record { from = from; step = step; auth = auth })))))
 
@@ -47,6 +49,6 @@ unfoldable pub history_layout : Format History
 history_layout =
     then_by (text history_magic) (λ magic.
     then_by name (λ service.
-    then_by (number 8 0 (2 ^ 40 - 1)) (λ count.
+    then_by (number 8 0 LAST_STEP) (λ count.
     then_by (repeated count step_layout) (λ steps.
     Done (record { name = service; steps = steps })))))

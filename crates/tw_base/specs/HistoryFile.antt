@@ -2,16 +2,13 @@
 use Rattle.std.specs.Prelude.{ℕ, List, [], ◌∷◌, ◌++◌, length, map}
 use Rattle.tw_base.specs.Fields.{number_bytes}
 use Rattle.tw_base.specs.Texts.{joined}
-use Rattle.tw_base.specs.History.{Content, History, Node, Step}
-use Rattle.tw_base.specs.History.Content.{Events, Received}
+use Rattle.tw_base.specs.declared.content.Content.{Content}
+use Rattle.tw_base.specs.declared.content.Content.TheVariants.{Events, Received}
+use Rattle.tw_base.specs.History.{History, Node, Step}
 
 -- the four bytes TWH1
 abbrev pub history_magic : List ℕ
 history_magic = 0x54 ∷ 0x57 ∷ 0x48 ∷ 0x31 ∷ []
-
--- the most bytes that a history file may have: 64 MiB
-abbrev pub most_bytes : ℕ
-most_bytes = 67108864
 
 -- an event behind its length
 abbrev pub event_bytes : List ℕ → List ℕ

@@ -1,0 +1,33 @@
+-- What a step may record: the limits of events and of a received thread.
+use Rattle.std.specs.Prelude.{◌≡◌, ℕ, ◌<◌, ◌≤◌, List, length, sum_by}
+use Rattle.tw_base.specs.declared.content.Content.{Content}
+use Rattle.tw_base.specs.declared.content.Content.TheVariants.{Events, Received}
+use Rattle.tw_base.specs.declared.limits.TheConstants.{LAST_STEP, MOST_EVENTS, MOST_EVENT_BYTES, MOST_STEP_BYTES}
+use Rattle.tw_base.specs.declared.thread.Thread.{Thread}
+use Rattle.tw_base.specs.Bytes.{AreBytes}
+use Rattle.tw_base.specs.Lists.{Each}
+use Rattle.tw_base.specs.Names.{IsName}
+
+-- a recorded step of a service, with an authenticator there
+abbrev pub IsThread : Thread → Type 0
+IsThread t = IsName t.from × (0 < t.step) × (t.step ≤ LAST_STEP) × (length t.auth ≡ 32) × AreBytes t.auth
+
+-- at most 1,024 events, each of at most 1,024 bytes
+pub record AreEvents (events : List (List ℕ)) : Type 0 where
+  pub count : length events ≤ MOST_EVENTS
+  pub sizes : Each (λ event. length event ≤ MOST_EVENT_BYTES) events
+  pub bytes : Each AreBytes events
+
+-- the events have together at most 65,536 bytes
+abbrev pub FitTogether : List (List ℕ) → Type 0
+FitTogether events = sum_by (λ event. length event) events ≤ MOST_STEP_BYTES
+
+-- a step may record these events
+pub record MayRecord (events : List (List ℕ)) : Type 0 where
+  pub are : AreEvents events
+  pub fit : FitTogether events
+
+-- the limits of a step's content
+abbrev pub IsWithinLimits : Content → Type 0
+IsWithinLimits (Events events) = AreEvents events
+IsWithinLimits (Received t) = IsThread t
