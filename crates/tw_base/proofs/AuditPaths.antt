@@ -128,7 +128,7 @@ path_length-le (suc level) count index few =
         ]
 
 module _ (dig : List ℕ → List ℕ) where
-  few-events : (events : List (List ℕ)) (index : ℕ) → length events ≤ 1 → audit_path dig events index ≡ []
+  pub few-events : (events : List (List ℕ)) (index : ℕ) → length events ≤ 1 → audit_path dig events index ≡ []
   few-events [] index few = audit_path-none dig index
   few-events (e ∷ []) index few = audit_path-one dig e index
   few-events (e ∷ f ∷ es) index few = absurd (omega arith)

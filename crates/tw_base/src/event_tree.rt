@@ -1,8 +1,8 @@
 // The laws of the event tree: its definitions are the equations of RFC 6962.
 
-ghost use Rattle.std.specs.Prelude.{◌≡◌, ℕ, ◌-◌, ◌*◌, ◌^◌, ◌<◌, ◌≤◌, List, [], ◌∷◌, ◌++◌, length};
+ghost use Rattle.std.specs.Prelude.{◌≡◌, ℕ, ◌-◌, ◌*◌, ◌^◌, ◌<◌, ◌≤◌, List, [], ◌∷◌, ◌++◌, length, slice_get, Some};
 ghost use Rattle.tw_base.specs.EventTree.{audit_path, event_root, largest_power_below, left_half, right_half};
-ghost use Rattle.tw_base.specs.AuditPath.{path_length};
+ghost use Rattle.tw_base.specs.AuditPath.{ChecksEvent, path_length};
 ghost use Rattle.tw_base.specs.Digests.{AllDigests};
 ghost use Rattle.tw_base.specs.Texts.{event_leaf_text, event_node_text, no_events_text};
 
@@ -20,7 +20,8 @@ pub fn event_root_laws<H: Hasher>()
 {}
 
 /// The equations of RFC 6962, section 2.1.1: the path to the only event is empty, and one to an
-/// event of either half ends in the root of the other half. Each label of it halves the count.
+/// event of either half ends in the root of the other half. Each label of it halves the count. The
+/// path shows its event under the root.
 pub fn audit_path_laws<H: Hasher>()
     ensures one { (event : List ℕ) → audit_path H.dig (event ∷ []) 0 ≡ [] }
     ensures left { (events : List (List ℕ)) (index : ℕ) → 1 < length events → index < largest_power_below (length events) →
@@ -30,4 +31,6 @@ pub fn audit_path_laws<H: Hasher>()
     ensures size { (events : List (List ℕ)) (index : ℕ) → length (audit_path H.dig events index) ≡ path_length (length events) index }
     ensures few { (level count index : ℕ) → count ≤ 2 ^ level → path_length count index ≤ level }
     ensures digests { (events : List (List ℕ)) (index : ℕ) → AllDigests (audit_path H.dig events index) }
+    ensures checks { (events : List (List ℕ)) (index : ℕ) (event : List ℕ) → slice_get events index ≡ Some event →
+        ChecksEvent H.dig (event_root H.dig events) (length events) index event (audit_path H.dig events index) }
 {}

@@ -15,7 +15,7 @@ use Rattle.tw_base.proofs.Clashes.{Among-left, Among-right, and_then, same_text}
 use Rattle.tw_base.proofs.TextFields.{leaf-fields, node-fields}
 use Rattle.tw_base.proofs.EventTrees.{by_halves, event_root-more, event_root-one, event_texts-leaf, event_texts-left, event_texts-right, event_texts-top, largest_power_below-less, length-event_root, length-left_half, length-right_half}
 use Rattle.tw_base.proofs.AuditPaths.{path_length-left, path_length-right, path_sides-few, path_sides-left, path_sides-right}
-use Rattle.tw_events.proofs.Upwards.{AllDigests-front, HasLast, has_last, length-root_above, node_texts_above-last, root_above-last, root_above-none}
+use Rattle.tw_base.proofs.Upwards.{AllDigests-front, HasLast, has_last, length-root_above, node_texts_above-last, root_above-last, root_above-none}
 
 first_of_one : (e : List ℕ) (index : ℕ) → index < 1 → get_or (e ∷ []) index [] ≡ e
 first_of_one e zero h = refl

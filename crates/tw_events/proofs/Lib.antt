@@ -1,4 +1,2 @@
 pub mod Steps
-pub mod Upwards
 pub mod Binding
-pub mod Completeness

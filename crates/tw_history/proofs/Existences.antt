@@ -6,7 +6,7 @@ use Rattle.tw_base.specs.Lists.{Each}
 use Rattle.tw_base.specs.AuditPath.{ChecksEvent, path_length}
 use Rattle.tw_base.specs.EventTree.{audit_path, event_root}
 use Rattle.tw_base.specs.History.{History, events_at}
-use Rattle.tw_events.proofs.Completeness.{ChecksEvent-audit_path}
+use Rattle.tw_base.proofs.AuditShown.{ChecksEvent-audit_path}
 use Rattle.tw_skipproof.specs.declared.existence.ExistenceProof.{ExistenceProof}
 use Rattle.tw_skipproof.specs.Existence.{IsWithinLimits}
 use Rattle.tw_skipproof.specs.Openings.{IsOpeningAt}

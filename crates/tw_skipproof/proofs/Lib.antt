@@ -6,7 +6,8 @@ pub mod LayoutLaws
 pub mod ReadingLaws
 pub mod WritingLaws
 pub mod SpellingLaws
-pub mod Making
+pub mod OwnPaths
+pub mod ExistenceOf
 pub mod WorkedPaths
 pub mod PathSizes
 pub mod ExistenceSizes

@@ -19,7 +19,7 @@ use Rattle.tw_skipproof.specs.declared.existence.EventPart.{EventPart}
 use Rattle.tw_skipproof.specs.declared.existence.ExistenceProof.{ExistenceProof}
 use Rattle.tw_skipproof.specs.Paths.{HasShape, greedy_steps, hop, steps_within}
 use Rattle.tw_skipproof.specs.Layouts.{labels, link_layout, links_layout, opening_from, opening_layout, path_layout}
-use Rattle.tw_skipproof.specs.Existence.{IsWithinLimits, event_layout, existence_layout, existence_magic, pos}
+use Rattle.tw_skipproof.specs.Existence.{IsExistenceInRange, event_layout, existence_layout, existence_magic, pos}
 use Rattle.tw_skipproof.specs.Writing.{IsShaped, event_bytes, existence_bytes, link_bytes, opening_bytes, path_bytes}
 use Rattle.tw_skipproof.proofs.ReadingLaws.{hop-less, steps_within-more, steps_within-none}
 
@@ -145,7 +145,7 @@ event-words count few =
 record ExistenceWord (word : List ℕ) (p : ExistenceProof) : Type 0 where
   pub written : word ≡ existence_bytes p
   pub shape : IsShaped p
-  pub limits : IsWithinLimits p
+  pub limits : IsExistenceInRange p
 
 existence-words : AllWords existence_layout ExistenceWord
 unfolding existence_layout existence_bytes
@@ -193,7 +193,7 @@ existence-written word p s = (existence-words word p s).written
 pub existence-shape : (word : List ℕ) (p : ExistenceProof) → Spells existence_layout word p → IsShaped p
 existence-shape word p s = (existence-words word p s).shape
 
-pub existence-limits : (word : List ℕ) (p : ExistenceProof) → Spells existence_layout word p → IsWithinLimits p
+pub existence-limits : (word : List ℕ) (p : ExistenceProof) → Spells existence_layout word p → IsExistenceInRange p
 existence-limits word p s = (existence-words word p s).limits
 
 -- a proof that is read has the layout's links and labels

@@ -17,7 +17,7 @@ use Rattle.tw_skipproof.specs.declared.existence.EventPart.{EventPart}
 use Rattle.tw_skipproof.specs.declared.existence.ExistenceProof.{ExistenceProof}
 use Rattle.tw_skipproof.specs.Paths.{HasShape, greedy_steps, hop}
 use Rattle.tw_skipproof.specs.Layouts.{labels, link_layout, links_layout, opening_from, path_layout}
-use Rattle.tw_skipproof.specs.Existence.{IsWithinLimits, event_layout, existence_layout, existence_magic, pos}
+use Rattle.tw_skipproof.specs.Existence.{IsExistenceInRange, event_layout, existence_layout, existence_magic, pos}
 use Rattle.tw_skipproof.specs.Writing.{IsShaped, IsSpelledEvent, IsSpelledLink, IsSpelledOpening, event_bytes, existence_bytes, link_bytes, opening_bytes, path_bytes}
 use Rattle.tw_skipproof.proofs.ReadingLaws.{greedy_steps-more, greedy_steps-none}
 
@@ -73,7 +73,7 @@ path_spelled (link ∷ links) from to each shape =
     (spells_then (links_layout (greedy_steps (hop from to) to)) _ (path_bytes links) [] links (link ∷ links) (path_spelled links (hop from to) to each.1 shape.2) refl) in
     subst P (sym (greedy_steps-more from to shape.0)) (subst Q (append-nil (path_bytes links)) spelled)
 
-pub existence_spelled : (p : ExistenceProof) → IsWithinLimits p → IsShaped p → Spells name p.at.service p.at.service
+pub existence_spelled : (p : ExistenceProof) → IsExistenceInRange p → IsShaped p → Spells name p.at.service p.at.service
     → Each IsSpelledLink p.at.path.links → IsSpelledOpening p.at.opening → IsSpelledEvent p.event → Spells existence_layout (existence_bytes p) p
 unfolding existence_layout existence_bytes
 existence_spelled p limits shape service links opening event =

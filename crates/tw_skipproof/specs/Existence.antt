@@ -42,7 +42,7 @@ existence_layout =
     }))))))))
 
 -- the ranges that the layout gives the numbers and the event
-pub record IsWithinLimits (p : ExistenceProof) : Type 0 where
+pub record IsExistenceInRange (p : ExistenceProof) : Type 0 where
   pub step : p.at.step < 2 ^ 40
   pub top : p.at.top < 2 ^ 40
   pub count : p.at.opening.count ≤ 1024

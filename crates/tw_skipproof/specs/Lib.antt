@@ -4,4 +4,5 @@ pub mod Layouts
 pub mod Existence
 pub mod Reading
 pub mod Writing
-pub mod Making
+pub mod HistoryProofs
+pub mod Acceptance

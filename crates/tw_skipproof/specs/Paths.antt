@@ -68,6 +68,12 @@ module _ (dig : List ℕ → List ℕ) where
       path_texts links (hop from to) to bottom
       ++ climb_link_text link from (hop_level from to) below ∷ climb_auth_text link from (hop_level from to) below ∷ []
 
+  -- the links are those of the greedy path in number and shape, and climb from this authenticator of the lower step to that one
+  -- of the upper step
+  pub record Climbs (links : List Link) (from to : ℕ) (bottom upper : List ℕ) : Type 0 where
+    pub shape : HasShape links from to
+    pub reaches : climbed links from to bottom ≡ upper
+
 -- the widths that the fields of links have
 abbrev pub HasLinkSizes : List Link → Type 0
 HasLinkSizes [] = Unit {0}

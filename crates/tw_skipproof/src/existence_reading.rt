@@ -2,7 +2,7 @@
 
 ghost use Rattle.std.specs.Prelude.{◌≡◌, ℕ, ◌+◌, ◌-◌, ◌*◌, ◌^◌, ◌<◌, ◌≤◌, length, IfOk};
 ghost use Rattle.tw_base.specs.Formats.{GivesIfMemory, GivesWithEnd, ReadsAs, read_at};
-ghost use Rattle.tw_skipproof.specs.Existence.{IsWithinLimits, event_layout, existence_layout, pos};
+ghost use Rattle.tw_skipproof.specs.Existence.{IsExistenceInRange, event_layout, existence_layout, pos};
 ghost use Rattle.tw_skipproof.specs.Reading.{event_at as event_at_of, existence_at as existence_at_of};
 ghost use Rattle.tw_skipproof.specs.Writing.{IsShaped};
 
@@ -74,7 +74,7 @@ fn event_at(alloc: Global, bytes: &[u8], at: u64, count: u32) -> Result<(EventPa
 #[tactic(auto, unfolding(crate::specs::Reading::existence_at))]
 fn existence_at(alloc: Global, bytes: &[u8]) -> Result<(ExistenceProof, u64), ReadFault>
     ensures read { GivesWithEnd (λ p. p) result (existence_at_of bytes.now 0) }
-    ensures limits { IfOk result (λ r. IsWithinLimits r.0) }
+    ensures limits { IfOk result (λ r. IsExistenceInRange r.0) }
 {
     malformed(read_text(bytes, 0, &MAGIC))?;
     let service = malformed(read_name(bytes, 5))?;
@@ -99,7 +99,7 @@ fn existence_at(alloc: Global, bytes: &[u8]) -> Result<(ExistenceProof, u64), Re
 /// than the proof's labels and event.
 pub fn read_existence(alloc: Global, bytes: &[u8]) -> Result<ExistenceProof, ReadFault>
     ensures read { ReadsAs (λ p. p) existence_layout bytes.now result }
-    ensures limits { IfOk result IsWithinLimits }
+    ensures limits { IfOk result IsExistenceInRange }
     ensures shape { IfOk result IsShaped }
 {
     whole(bytes, existence_at(alloc, bytes))

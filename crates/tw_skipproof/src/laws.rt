@@ -4,13 +4,15 @@ ghost use Rattle.std.specs.Prelude.{◌≡◌, ℕ, ◌^◌, ◌<◌, ◌≤◌,
 ghost use Rattle.tw_base.specs.Auth.{auth};
 ghost use Rattle.tw_base.specs.Formats.{OneSpelling, Spells, WrittenAs};
 ghost use Rattle.tw_base.specs.History.{History};
+ghost use Rattle.tw_base.specs.Sound.{IsSound};
 ghost use Rattle.tw_base.specs.Levels.{top_level};
 ghost use Rattle.tw_skipproof.specs.declared.existence.ExistenceProof.{ExistenceProof};
 ghost use Rattle.tw_skipproof.specs.declared.opening.Opening.{Opening};
 ghost use Rattle.tw_skipproof.specs.declared.path.Link.{Link};
-ghost use Rattle.tw_skipproof.specs.Existence.{IsWithinLimits, existence_layout};
+ghost use Rattle.tw_skipproof.specs.Acceptance.{IsAcceptedUnder};
+ghost use Rattle.tw_skipproof.specs.Existence.{IsExistenceInRange, existence_layout};
 ghost use Rattle.tw_skipproof.specs.Layouts.{opening_layout, path_layout};
-ghost use Rattle.tw_skipproof.specs.Making.{IsOpeningOf, IsPathOf};
+ghost use Rattle.tw_skipproof.specs.HistoryProofs.{IsExistenceOf, IsOpeningOf, IsPathOf};
 ghost use Rattle.tw_skipproof.specs.Openings.{IsOpeningAt, opening_auth};
 ghost use Rattle.tw_skipproof.specs.Paths.{HasShape, climbed};
 ghost use Rattle.tw_skipproof.specs.Writing.{IsShaped, existence_bytes, opening_bytes, path_bytes};
@@ -28,13 +30,23 @@ pub fn spelling_laws()
     ensures path_size { (from to : ℕ) (bytes : List ℕ) (links : List Link) → from < 2 ^ 40 → Spells (path_layout from to) bytes links → length bytes < 53761 }
     ensures existence { WrittenAs existence_layout existence_bytes × OneSpelling existence_layout }
     ensures existence_size { (bytes : List ℕ) (p : ExistenceProof) → Spells existence_layout bytes p → length bytes ≤ 56497 }
-    ensures existence_shape { (bytes : List ℕ) (p : ExistenceProof) → Spells existence_layout bytes p → IsShaped p × IsWithinLimits p }
+    ensures existence_shape { (bytes : List ℕ) (p : ExistenceProof) → Spells existence_layout bytes p → IsShaped p × IsExistenceInRange p }
 {}
 
-/// A history's own openings and paths compute its authenticators.
+/// A history's own openings and paths compute its authenticators. Its own proof of an event, under
+/// a top that isn't below the event's step, is accepted under its authenticator of the top; where
+/// the history is sound and has the top, what `write_existence` writes of the proof spells it.
 pub fn making_laws<H: Hasher>()
     ensures opening { (h : History) (step : ℕ) (o : Opening) → 0 < step → IsOpeningOf H.dig h step o →
         IsOpeningAt step o × (opening_auth H.dig step o ≡ auth H.dig h step) }
     ensures path { (h : History) (links : List Link) (from to : ℕ) → to ≤ from → IsPathOf H.dig h links from to →
         HasShape links from to × (climbed H.dig links from to (auth H.dig h to) ≡ auth H.dig h from) }
+    ensures existence { (h : History) (step index top : ℕ) (p : ExistenceProof) → step ≤ top → IsExistenceOf H.dig h step index top p →
+        IsAcceptedUnder H.dig (auth H.dig h top) p }
+    ensures within { (h : History) (step index top : ℕ) (p : ExistenceProof) →
+        IsSound h → step ≤ top → top ≤ length h.steps → IsExistenceOf H.dig h step index top p →
+        IsExistenceInRange p × IsShaped p × (length p.event.event < 2 ^ 32) }
+    ensures spelled { (h : History) (step index top : ℕ) (p : ExistenceProof) →
+        IsSound h → step ≤ top → top ≤ length h.steps → IsExistenceOf H.dig h step index top p →
+        Spells existence_layout (existence_bytes p) p }
 {}

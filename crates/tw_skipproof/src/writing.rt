@@ -5,7 +5,7 @@ ghost use Rattle.tw_base.specs.Fields.{name, number_bytes};
 ghost use Rattle.tw_base.specs.Formats.{Spells};
 ghost use Rattle.tw_base.specs.Levels.{top_level};
 ghost use Rattle.tw_base.specs.Lists.{Each};
-ghost use Rattle.tw_skipproof.specs.Existence.{IsWithinLimits, existence_layout};
+ghost use Rattle.tw_skipproof.specs.Existence.{IsExistenceInRange, existence_layout};
 ghost use Rattle.tw_skipproof.specs.Layouts.{opening_layout, path_layout};
 ghost use Rattle.tw_skipproof.specs.Paths.{HasShape};
 ghost use Rattle.tw_skipproof.specs.Writing.{IsShaped, IsSpelledEvent, IsSpelledLink, IsSpelledOpening, event_bytes, existence_bytes, link_bytes, opening_bytes, path_bytes};
@@ -122,7 +122,7 @@ pub fn write_path(alloc: Global, path: &Path) -> Result<Bytes, NoMemory>
 pub fn write_existence(alloc: Global, proof: &ExistenceProof) -> Result<Bytes, NoMemory>
     requires { length proof.now.event.event < 2 ^ 32 }
     ensures bytes { IfOk result (λ bytes. bytes ≡ existence_bytes proof.now) }
-    ensures spelled { IfOk result (λ bytes. IsWithinLimits proof.now → IsShaped proof.now → Spells existence_layout bytes proof.now) }
+    ensures spelled { IfOk result (λ bytes. IsExistenceInRange proof.now → IsShaped proof.now → Spells existence_layout bytes proof.now) }
 {
     let mut bytes = Bytes::new(alloc);
     put_bytes(&mut bytes, &MAGIC)?;

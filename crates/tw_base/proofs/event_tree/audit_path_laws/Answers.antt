@@ -1,4 +1,5 @@
 use Rattle.tw_base.proofs.AuditPaths.{AllDigests-audit_path, length-audit_path, path_length-le}
+use Rattle.tw_base.proofs.AuditShown.{ChecksEvent-audit_path}
 use Rattle.tw_base.proofs.EventTrees.{audit_path-left, audit_path-one, audit_path-right}
 use Rattle.tw_base.proofs.event_tree.audit_path_laws.Goals as goal
 
@@ -19,3 +20,6 @@ returns-clause-few g c = path_length-le
 
 pub returns-clause-digests : goal.returns-clause-digests
 returns-clause-digests g c = AllDigests-audit_path g.H.Hasher.dig g.met.H.Hasher.size
+
+pub returns-clause-checks : goal.returns-clause-checks
+returns-clause-checks g c = ChecksEvent-audit_path g.H.Hasher.dig

@@ -2,7 +2,7 @@ use Rattle.std.proofs.Common.{◌≡◌, length, ap, sym, ◌∙◌, arith}
 use Rattle.tw_base.specs.AuditPath.{ChecksEvent, path_length, path_sides, root_above}
 use Rattle.tw_base.specs.EventTree.{audit_path, event_root}
 use Rattle.tw_base.specs.Texts.{event_leaf_text}
-use Rattle.tw_events.proofs.Completeness.{ChecksEvent-audit_path}
+use Rattle.tw_base.proofs.AuditShown.{ChecksEvent-audit_path}
 use Rattle.tw_history.proofs.event_part.root_over.Goals as goal
 
 pub root_above_leaf-requires : goal.root_above_leaf-requires

@@ -11,7 +11,7 @@ use Rattle.tw_base.specs.AuditPath.{ChecksEvent, path_length, path_sides, root_a
 use Rattle.tw_base.specs.EventTree.{audit_path, event_root, largest_power_below, left_half, right_half}
 use Rattle.tw_base.proofs.EventTrees.{audit_path-left, audit_path-right, by_halves, event_root-more, event_root-one, largest_power_below-less, length-left_half, length-right_half}
 use Rattle.tw_base.proofs.AuditPaths.{length-audit_path, path_sides-few, path_sides-left, path_sides-right}
-use Rattle.tw_events.proofs.Upwards.{root_above-last, root_above-none}
+use Rattle.tw_base.proofs.Upwards.{root_above-last, root_above-none}
 
 module _ (dig : List ℕ → List ℕ) where
   abbrev leaf_at : List (List ℕ) → ℕ → List ℕ

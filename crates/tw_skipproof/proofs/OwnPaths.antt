@@ -12,7 +12,7 @@ use Rattle.tw_skipproof.specs.declared.opening.Opening.{Opening}
 use Rattle.tw_skipproof.specs.declared.path.Link.{Link}
 use Rattle.tw_skipproof.specs.Openings.{IsOpeningAt, opening_auth, opening_datum_text, opening_link_text}
 use Rattle.tw_skipproof.specs.Paths.{HasShape, climbed, hop, hop_level, with_label}
-use Rattle.tw_skipproof.specs.Making.{IsOpeningOf, IsPathOf, labels_at}
+use Rattle.tw_skipproof.specs.HistoryProofs.{IsOpeningOf, IsPathOf, labels_at}
 use Rattle.tw_skipproof.proofs.Hops.{hop-below, hop_level-le}
 
 -- ---- lists

@@ -1,0 +1,46 @@
+-- The openings, paths and existence proofs that a history itself has.
+use Rattle.std.specs.Prelude.{◌≡◌, ℕ, ◌-◌, ◌<◌, ◌≤◌, List, [], ◌∷◌, drop, map, remove, slice_get, Some}
+use Rattle.tw_base.specs.EventTree.{audit_path}
+use Rattle.tw_base.specs.Formats.{Spells}
+use Rattle.tw_base.specs.History.{History, events_at}
+use Rattle.tw_base.specs.Auth.{auths, datum_text_at, link_texts_at}
+use Rattle.tw_skipproof.specs.declared.existence.ExistenceProof.{ExistenceProof}
+use Rattle.tw_skipproof.specs.declared.opening.Opening.{Opening}
+use Rattle.tw_skipproof.specs.declared.path.Link.{Link}
+use Rattle.tw_skipproof.specs.Existence.{existence_layout}
+use Rattle.tw_skipproof.specs.Openings.{Binds}
+use Rattle.tw_skipproof.specs.Paths.{hop, hop_level}
+
+module _ (dig : List ℕ → List ℕ) (h : History) where
+  -- the labels of a step's links, from level 0 on
+  abbrev pub labels_at : ℕ → List (List ℕ)
+  labels_at step = map dig (link_texts_at dig h (auths dig h (step - 1)) step)
+
+  -- the opening has what the history's step has
+  pub record IsOpeningOf (step : ℕ) (o : Opening) : Type 0 where
+    pub binds : Binds dig h step o
+    pub others : o.others ≡ drop 1 (labels_at step)
+
+  -- the links are those of the history's greedy path: each has its step's datum, and its labels but for the link's own
+  abbrev pub IsPathOf : List Link → (from to : ℕ) → Type 0
+  IsPathOf [] from to = from ≤ to
+  IsPathOf (link ∷ links) from to =
+      (to < from) × (link.datum ≡ dig (datum_text_at dig h from)) × (link.others ≡ remove (labels_at from) (hop_level from to))
+      × IsPathOf links (hop from to) to
+
+  module _ (step index top : ℕ) where
+    -- the proof that the history has of its event at this index of the step, under this top: the history's name, its path
+    -- from the top down to the step, its opening of the step, the event, and the audit path among the step's events
+    pub record IsExistenceOf (p : ExistenceProof) : Type 0 where
+      pub service : p.at.service ≡ h.name
+      pub at_step : p.at.step ≡ step
+      pub at_top : p.at.top ≡ top
+      pub path : IsPathOf p.at.path.links top step
+      pub opening : IsOpeningOf step p.at.opening
+      pub at_index : p.event.index ≡ index
+      pub event : slice_get (events_at h step) index ≡ Some p.event.event
+      pub event_path : p.event.path ≡ audit_path dig (events_at h step) index
+
+    -- the bytes spell that proof
+    abbrev pub MakesExistence : List ℕ → Type 0
+    MakesExistence bytes = (p : ExistenceProof) × Spells existence_layout bytes p × IsExistenceOf p
