@@ -1,9 +1,7 @@
 -- The existence proof that a history has of an event is accepted under the history's authenticator of the top, and is spelled.
-use Rattle.std.proofs.Common.{◌≡◌, ℕ, suc, zero, ◌<◌, ◌≤◌, ◌^◌, List, [], length, refl, ap, sym, ◌∙◌, subst, arith, lit≤}
+use Rattle.std.proofs.Common.{◌≡◌, ℕ, suc, zero, ◌-◌, ◌<◌, ◌≤◌, ◌^◌, List, [], ◌∷◌, length, refl, ap, sym, ◌∙◌, subst, arith, lit≤}
 use Rattle.std.specs.Prelude.{Option, Some, None, slice_get}
 use Rattle.std.proofs.lemmas.Option.{get_or_from_slice_get, slice_get_within}
-use Rattle.tw_base.specs.declared.content.Content.{Content}
-use Rattle.tw_base.specs.declared.content.Content.TheVariants.{Events, Received}
 use Rattle.tw_base.specs.AuditPath.{ChecksEvent}
 use Rattle.tw_base.specs.Auth.{auth}
 use Rattle.tw_base.specs.EventTree.{audit_path, event_root}
@@ -12,7 +10,6 @@ use Rattle.tw_base.specs.Lists.{Each}
 use Rattle.tw_base.specs.Bytes.{AreBytes}
 use Rattle.tw_base.specs.Formats.{Spells}
 use Rattle.tw_base.specs.Fields.{bytes, digest, name, repeated}
-use Rattle.tw_base.specs.Limits.{AreEvents, IsWithinLimits}
 use Rattle.tw_base.specs.Sound.{IsSound}
 use Rattle.tw_base.specs.Texts.{joined}
 use Rattle.tw_base.proofs.AuditShown.{ChecksEvent-audit_path}
@@ -20,6 +17,7 @@ use Rattle.tw_base.proofs.ByteLemmas.{AreBytes-at}
 use Rattle.tw_base.proofs.DigestBytes.{Each-drop, Each-remove, IsDigest, audit_path-digests, auth-digest, dig-digest, digest_spelled, digests_spelled, event_root-digest, map-digests, tree_label-digest}
 use Rattle.tw_base.proofs.FieldLaws.{bytes-spells, name-spells}
 use Rattle.tw_base.proofs.ListLemmas.{Each-get_or}
+use Rattle.tw_base.proofs.SoundEvents.{sound-may_record}
 use Rattle.tw_skipproof.specs.declared.existence.ExistenceProof.{ExistenceProof}
 use Rattle.tw_skipproof.specs.declared.path.Link.{Link}
 use Rattle.tw_skipproof.specs.Acceptance.{IsAcceptedUnder, Reaches, ShowsEvent}
@@ -36,29 +34,11 @@ use Rattle.tw_skipproof.proofs.WritingLaws.{event_spelled, existence_spelled, li
 in_no_events : (index : ℕ) (event : List ℕ) → slice_get [] index ≡ Some event → ⊥
 in_no_events index event there = let inside : index < 0 = slice_get_within [] index event there in omega (arith, inside)
 
-in_step : (o : Option Step) (index : ℕ) (event : List ℕ) → slice_get (events_of o) index ≡ Some event → (s : Step) × (o ≡ Some s)
-in_step None index event there = absurd (in_no_events index event there)
-in_step (Some s) index event there = (s, refl)
-
 from_step_1 : (h : History) (step index : ℕ) (event : List ℕ) → slice_get (events_at h step) index ≡ Some event → 0 < step
 from_step_1 h zero index event there = absurd (in_no_events index event there)
 from_step_1 h (suc i) index event there = omega arith
 
--- the events of a step within the limits
-within-events : (c : Content) (s : Step) → s.content ≡ c → IsWithinLimits c → AreEvents (events_of (Some s))
-within-events (Events events) s is within = subst (λ c. AreEvents (events_of (Some (record { content = c; fresh = s.fresh; root = s.root })))) (sym is) within
-within-events (Received t) s is within =
-    subst (λ c. AreEvents (events_of (Some (record { content = c; fresh = s.fresh; root = s.root })))) (sym is)
-    (record { count = lit≤ tt; sizes = tt; bytes = tt })
-
-pub events-within : (h : History) (step index : ℕ) (event : List ℕ) → IsSound h → slice_get (events_at h step) index ≡ Some event → AreEvents (events_at h step)
-events-within h zero index event sound there = absurd (in_no_events index event there)
-events-within h (suc i) index event sound there =
-    let found = in_step (step_at h (suc i)) index event there in
-    let limits = within-events found.0.content found.0 refl (sound.steps i found.0 found.1).limits in
-    subst (λ o. AreEvents (events_of o)) (sym found.1) limits
-
-event-within : {h : History} (P : List ℕ → Type 0) (events : List (List ℕ)) (index : ℕ) (event : List ℕ) → P [] → Each P events → slice_get events index ≡ Some event → P event
+event-within : (P : List ℕ → Type 0) (events : List (List ℕ)) (index : ℕ) (event : List ℕ) → P [] → Each P events → slice_get events index ≡ Some event → P event
 event-within P events index event default all there =
     subst P (get_or_from_slice_get events index event [] there) (Each-get_or P events index [] default all)
 
@@ -103,11 +83,11 @@ module _ (dig : List ℕ → List ℕ) (h : History) (step index top : ℕ) (p :
   }
 
   event_size : IsSound h → length p.event.event ≤ 1024
-  event_size sound = event-within {h = h} (λ e. length e ≤ 1024) (events_at h step) index p.event.event (lit≤ tt) (events-within h step index p.event.event sound is.event).sizes is.event
+  event_size sound = event-within (λ e. length e ≤ 1024) (events_at h step) index p.event.event (lit≤ tt) (sound-may_record h step sound).are.sizes is.event
 
   in_range-made : IsSound h → step ≤ top → top ≤ length h.steps → IsExistenceInRange p
   in_range-made sound order has =
-      let few = (events-within h step index p.event.event sound is.event).count in
+      let few = (sound-may_record h step sound).are.count in
       let short = sound.length in
       record {
         step = omega (arith, order, has, short, is.at_step);
@@ -151,7 +131,7 @@ module _ (dig : List ℕ → List ℕ) (h : History) (step index top : ℕ) (p :
     pub spelled-made : IsSound h → step ≤ top → top ≤ length h.steps → Spells existence_layout (existence_bytes p) p
     spelled-made sound order has =
         let binds = is.opening.binds in
-        let event = event-within {h = h} AreBytes (events_at h step) index p.event.event tt (events-within h step index p.event.event sound is.event).bytes is.event in
+        let event = event-within AreBytes (events_at h step) index p.event.event tt (sound-may_record h step sound).are.bytes is.event in
         let name_is : Spells name p.at.service p.at.service = subst (λ n. Spells name n n) (sym is.service) (name-spells h.name sound.name) in
         existence_spelled p (in_range-made sound order has) (IsShaped-made order) name_is (links-spelled p.at.path.links top step is.path)
         (opening_spelled p.at.opening

@@ -12,17 +12,14 @@ use Rattle.tw_base.specs.Clash.{Among, OrClash}
 use Rattle.tw_base.proofs.Clashes.{and_then, same_text, Among-left, Among-right}
 use Rattle.tw_base.proofs.TextFields.{authenticator-fields, link-fields, datum-fields, SameDatum}
 use Rattle.tw_base.proofs.EventTrees.{length-event_root}
+use Rattle.tw_base.proofs.SoundEvents.{sound-may_record}
 use Rattle.tw_base.proofs.Sizes.{AllDigests-map, tree_label-size}
 use Rattle.tw_base.proofs.Auths.{auth-suc, auths-at, has-auth_text, has-datum_text, has-link_text, label-at, link_texts-has, text_at}
 use Rattle.tw_skipproof.specs.declared.opening.Opening.{Opening}
 use Rattle.tw_skipproof.specs.Openings.{Binds, HasSizes, IsOpeningAt, opening_auth, opening_auth_text, opening_datum_text, opening_link_text, opening_texts}
 
-few_events : (h : History) (i : ℕ) → IsSound h → i < length h.steps → length (events_at h (suc i)) < 2 ^ 32
-few_events h i sound within = cases (step_at h (suc i)) refl
-  where
-    cases : (r : Option Step) → step_at h (suc i) ≡ r → length (events_of r) < 2 ^ 32
-    cases None e = lit< tt
-    cases (Some s) e = let few = (sound.steps i s e).event_count in omega arith
+few_events : (h : History) (i : ℕ) → IsSound h → length (events_at h (suc i)) < 2 ^ 32
+few_events h i sound = let few = (sound-may_record h (suc i) sound).are.count in omega arith
 
 module _ (dig : List ℕ → List ℕ) (size : (text : List ℕ) → length (dig text) ≡ 32) where
   -- the text of the link to the step before, at level 0, and its label
@@ -86,7 +83,7 @@ module _ (dig : List ℕ → List ℕ) (size : (text : List ℕ) → length (dig
       → opening_auth dig step o ≡ auth dig h step
       → OrClash dig (history_texts dig h ++ opening_texts dig step o) (Binds dig h step o)
   opening-binds_sound h zero o sizes of sound within e = absurd (omega (arith, of.0))
-  opening-binds_sound h (suc i) o sizes of sound within e = opening-binds h i o sizes within (few_events h i sound within) e
+  opening-binds_sound h (suc i) o sizes of sound within e = opening-binds h i o sizes within (few_events h i sound) e
 
   pub binds_from : (step : ℕ) (o : Opening) (r : Option (List ℕ)) → MatchOption r (IsOpeningAt step o → ⊥) (λ d. IsOpeningAt step o × (d ≡ opening_auth dig step o))
       → IfSome r (λ _. HasSizes o)
