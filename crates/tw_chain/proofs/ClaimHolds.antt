@@ -1,8 +1,9 @@
 -- From an accepted existence proof to the history: the event stands there, or two texts clash.
-use Rattle.std.proofs.Common.{◌≡◌, ℕ, suc, zero, ◌<◌, ◌≤◌, List, ◌++◌, length, sym, ap, ◌∙◌, subst, arith, inl}
+use Rattle.std.proofs.Common.{◌≡◌, ℕ, suc, zero, ◌<◌, ◌≤◌, List, [], ◌++◌, length, refl, sym, ap, ◌∙◌, subst, arith, inl}
 use Rattle.std.specs.Prelude.{Some, slice_get}
 use Rattle.std.specs.Option.{option_to_list}
 use Rattle.tw_base.specs.declared.thread.Thread.{Thread}
+use Rattle.tw_base.specs.Anchors.{anchor_of}
 use Rattle.tw_base.specs.AuditPath.{audit_texts}
 use Rattle.tw_base.specs.Auth.{auth}
 use Rattle.tw_base.specs.Clash.{OrClash, Within}
@@ -19,21 +20,23 @@ use Rattle.tw_skipproof.specs.declared.existence.ExistenceProof.{ExistenceProof}
 use Rattle.tw_skipproof.specs.declared.existence.Part.{Part}
 use Rattle.tw_skipproof.specs.Openings.{Binds, opening_auth, opening_texts}
 use Rattle.tw_skipproof.specs.Paths.{path_texts}
-use Rattle.tw_chain.specs.Accepting.{claim_of, held, named_anchor, proof_texts}
+use Rattle.tw_skipproof.specs.Acceptance.{existence_texts}
+use Rattle.tw_chain.specs.declared.proof.Proof.TheVariants.{Exists}
+use Rattle.tw_chain.specs.Accepting.{claim_of, held, proof_texts}
 
 -- the texts of the opening and of the path
 abbrev pub part_texts : (dig : List ℕ → List ℕ) → Part → List (List ℕ)
 part_texts dig at = opening_texts dig at.step at.opening ++ path_texts dig at.path.links at.top at.step (opening_auth dig at.step at.opening)
 
 -- what the path binds and what the opening binds, one after the other
-pub climbs_bind : (dig : List ℕ → List ℕ) (h : History) (at : Part) (anchor : Thread) (bottom top : List ℕ)
+pub reaches_bind : (dig : List ℕ → List ℕ) (h : History) (at : Part) (upper bottom top : List ℕ)
     → bottom ≡ opening_auth dig at.step at.opening
     → (at.step ≤ at.top → at.top ≤ length h.steps → top ≡ auth dig h at.top
     → OrClash dig (history_texts dig h ++ path_texts dig at.path.links at.top at.step bottom) (bottom ≡ auth dig h at.step))
     → (at.step ≤ length h.steps → bottom ≡ auth dig h at.step → OrClash dig (history_texts dig h ++ opening_texts dig at.step at.opening) (Binds dig h at.step at.opening))
-    → top ≡ anchor.auth → at.step ≤ at.top → at.top ≤ length h.steps → auth dig h at.top ≡ anchor.auth
+    → top ≡ upper → at.step ≤ at.top → at.top ≤ length h.steps → auth dig h at.top ≡ upper
     → OrClash dig (history_texts dig h ++ part_texts dig at) (Binds dig h at.step at.opening)
-climbs_bind dig h at anchor bottom top is path opening reaches order within has =
+reaches_bind dig h at upper bottom top is path opening reaches order within has =
     let texts : List (List ℕ) = history_texts dig h ++ part_texts dig at in
     let first : OrClash dig (history_texts dig h ++ path_texts dig at.path.links at.top at.step (opening_auth dig at.step at.opening)) (bottom ≡ auth dig h at.step) =
     subst (λ b. OrClash dig (history_texts dig h ++ path_texts dig at.path.links at.top at.step b) (bottom ≡ auth dig h at.step)) is (path order within (reaches ∙ sym has)) in
@@ -65,10 +68,10 @@ claim_holds_of : (dig : List ℕ → List ℕ) (family : List History) (p : Exis
     → OrClash dig (history_texts dig h ++ part_texts dig p.at) (Binds dig h p.at.step p.at.opening)
     → ((events : List (List ℕ)) → length events ≡ p.at.opening.count → event_root dig events ≡ p.at.opening.event_root
     → OrClash dig (event_texts dig events ++ audit_texts dig p.at.opening.count p.event.index p.event.event p.event.path) (slice_get events p.event.index ≡ Some p.event.event))
-    → OrClash dig (family_texts dig family ++ proof_texts dig p) (Facts family (claim_of p))
-unfolding proof_texts
+    → OrClash dig (family_texts dig family ++ proof_texts dig (Exists p)) (Facts dig family (claim_of (Exists p)))
+unfolding existence_texts
 claim_holds_of dig family p h has some within binds shows =
-    let texts : List (List ℕ) = family_texts dig family ++ proof_texts dig p in
+    let texts : List (List ℕ) = family_texts dig family ++ proof_texts dig (Exists p) in
     let own : Within (history_texts dig h) (family_texts dig family) = texts_within dig family p.at.service h has in
     let audit : List (List ℕ) = audit_texts dig p.at.opening.count p.event.index p.event.event p.event.path in
     let path : List (List ℕ) = path_texts dig p.at.path.links p.at.top p.at.step (opening_auth dig p.at.step p.at.opening) in
@@ -77,27 +80,27 @@ claim_holds_of dig family p h has some within binds shows =
     let of_history : List (List ℕ) = history_texts dig h in
     let rest : List (List ℕ) = path ++ audit in
     let Stands : Type 0 = slice_get (events_at h p.at.step) p.event.index ≡ Some p.event.event in
-    and_then dig texts (Binds dig h p.at.step p.at.opening) (Facts family (claim_of p))
+    and_then dig texts (Binds dig h p.at.step p.at.opening) (Facts dig family (claim_of (Exists p)))
     (OrClash-wider dig (of_history ++ (opened ++ path)) texts (Binds dig h p.at.step p.at.opening)
     (both_within of_history (opened ++ path) of_family (opened ++ rest) own (both_within opened path opened rest (λ t a. a) (λ t a. Among-left t path audit a))) binds)
-    (λ bound. and_then dig texts Stands (Facts family (claim_of p))
+    (λ bound. and_then dig texts Stands (Facts dig family (claim_of (Exists p)))
     (OrClash-wider dig (of_history ++ audit) texts Stands
     (both_within of_history audit of_family (opened ++ rest) own (λ t a. Among-right t opened rest (Among-right t path audit a))) (event_stands dig h p some within bound shows))
-    (λ stands. inl (h, has, stands)))
+    (λ stands. inl (record { history = h; has = has; stands = stands; time = refl })))
 
 -- the anchor that the proof names is a thread of the family
-anchored : (dig : List ℕ → List ℕ) (family : List History) (anchors : List Thread) (p : ExistenceProof) (anchor : Thread) → named_anchor anchors p ≡ Some anchor
-    → HasThreads dig family (held anchors p) → HasThread dig family anchor
+anchored : (dig : List ℕ → List ℕ) (family : List History) (anchors : List Thread) (p : ExistenceProof) (anchor : Thread)
+    → anchor_of anchors p.at.service p.at.top ≡ Some anchor → HasThreads dig family (held anchors (Exists p)) → HasThread dig family anchor
 anchored dig family anchors p anchor is has =
-    let threads : HasThreads dig family (option_to_list (Some anchor)) = subst (λ o. HasThreads dig family (option_to_list o)) is has in threads.0
+    let threads : HasThreads dig family (option_to_list (Some anchor) ++ []) = subst (λ o. HasThreads dig family (option_to_list o ++ [])) is has in threads.0
 
 pub claim_holds : (dig : List ℕ → List ℕ) (family : List History) (anchors : List Thread) (p : ExistenceProof) (anchor : Thread)
-    → AllSound family → named_anchor anchors p ≡ Some anchor → HasThreads dig family (held anchors p) → 0 < p.at.step → p.at.step ≤ p.at.top
+    → AllSound family → anchor_of anchors p.at.service p.at.top ≡ Some anchor → HasThreads dig family (held anchors (Exists p)) → 0 < p.at.step → p.at.step ≤ p.at.top
     → ((h : History) → IsSound h → p.at.step ≤ p.at.top → p.at.top ≤ length h.steps → auth dig h p.at.top ≡ anchor.auth
     → OrClash dig (history_texts dig h ++ part_texts dig p.at) (Binds dig h p.at.step p.at.opening))
     → ((events : List (List ℕ)) → length events ≡ p.at.opening.count → event_root dig events ≡ p.at.opening.event_root
     → OrClash dig (event_texts dig events ++ audit_texts dig p.at.opening.count p.event.index p.event.event p.event.path) (slice_get events p.event.index ≡ Some p.event.event))
-    → OrClash dig (family_texts dig family ++ proof_texts dig p) (Facts family (claim_of p))
+    → OrClash dig (family_texts dig family ++ proof_texts dig (Exists p)) (Facts dig family (claim_of (Exists p)))
 claim_holds dig family anchors p anchor sound is has some order climbs shows =
     let names = anchor_of-is anchors p.at.service p.at.top anchor is in
     let thread : HasThread dig family anchor = anchored dig family anchors p anchor is has in

@@ -4,22 +4,27 @@ use Rattle.std.proofs.Common.{◌≡◌, ℕ, ◌<◌, ◌≤◌, List, ◌++◌
 use Rattle.std.proofs.lemmas.Bool.{cases_lt}
 use Rattle.std.proofs.lemmas.List.{length-append, length-take-le, take-take, take_all}
 use Rattle.tw_base.specs.declared.thread.Thread.{Thread}
-use Rattle.tw_base.specs.Formats.{IsFront, IsPlace, SpellsNothing}
-use Rattle.tw_skipproof.specs.Existence.{existence_layout}
+use Rattle.tw_base.specs.Formats.{IsFront, IsPlace, Spells, SpellsNothing}
 use Rattle.tw_skipproof.proofs.ExistenceSizes.{existence-size}
+use Rattle.tw_chain.specs.declared.proof.Proof.{Proof}
+use Rattle.tw_chain.specs.Proofs.{proof_layout}
+use Rattle.tw_chain.proofs.ProofLayout.{to_existence}
 use Rattle.tw_chain.specs.declared.verdict.Verdict.{Verdict}
 use Rattle.tw_chain.specs.declared.verdict.Verdict.TheVariants.{Yes, No}
 use Rattle.tw_chain.specs.Binding.{BindsHistories}
 use Rattle.tw_chain.specs.Reasons.{IsOfLaterKind, IsVerdict, Stands}
 use Rattle.tw_chain.proofs.Verdicts.{later_kind, malformed_bytes}
 
-module _ (limit : ℕ) (above : 56497 < limit) (bytes : List ℕ) where
-  spells_nothing : limit < length bytes → SpellsNothing existence_layout bytes
-  spells_nothing longer p spelled = let short = existence-size bytes p spelled in absurd (omega (arith, short, above, longer))
+proof-size : (bytes : List ℕ) (q : Proof) → Spells proof_layout bytes q → length bytes ≤ 56497
+proof-size bytes q spelled = let is = to_existence bytes q spelled in existence-size bytes is.proof is.spells
 
-  front_spells_nothing : limit < length bytes → SpellsNothing existence_layout (take limit bytes)
+module _ (limit : ℕ) (above : 56497 < limit) (bytes : List ℕ) where
+  spells_nothing : limit < length bytes → SpellsNothing proof_layout bytes
+  spells_nothing longer p spelled = let short = proof-size bytes p spelled in absurd (omega (arith, short, above, longer))
+
+  front_spells_nothing : limit < length bytes → SpellsNothing proof_layout (take limit bytes)
   front_spells_nothing longer p spelled =
-      let short = existence-size (take limit bytes) p spelled in
+      let short = proof-size (take limit bytes) p spelled in
       absurd (omega (arith, short, above, length-take-le limit bytes (let r : limit ≤ length bytes = omega arith in r)))
 
   -- the kind stands in the first five bytes
@@ -33,21 +38,21 @@ module _ (limit : ℕ) (above : 56497 < limit) (bytes : List ℕ) where
   later_of_front later = (later.0, first_five ∙ later.1, later.2, later.3)
 
   -- a front longer than the limit is the front of no proof
-  long_front : (n : ℕ) → limit < n → n ≤ length bytes → IsFront existence_layout (take n bytes) → ⊥
+  long_front : (n : ℕ) → limit < n → n ≤ length bytes → IsFront proof_layout (take n bytes) → ⊥
   long_front n more within front =
-      let short = existence-size (take n bytes ++ front.0) front.1 front.2 in
+      let short = proof-size (take n bytes ++ front.0) front.1 front.2 in
       omega (arith, short, above, more, length-append (take n bytes) front.0, length-take-le n bytes within)
 
-  place_of_all : (place : ℕ) → limit < length bytes → IsPlace existence_layout (take limit bytes) place → IsPlace existence_layout bytes place
+  place_of_all : (place : ℕ) → limit < length bytes → IsPlace proof_layout (take limit bytes) place → IsPlace proof_layout bytes place
   place_of_all place longer is =
       let size : length (take limit bytes) ≡ limit = length-take-le limit bytes (omega arith) in
       let inside : place ≤ limit = omega (arith, is.within, size) in
       record {
         within = omega (arith, inside, longer);
-        good = subst (IsFront existence_layout) (take-take place limit bytes inside) is.good;
+        good = subst (IsFront proof_layout) (take-take place limit bytes inside) is.good;
         longest = λ n within front. elim (cases_lt limit n) [
           | inl more ↦ absurd (long_front n more within front)
-          | inr less ↦ is.longest n (omega (arith, less, size)) (subst (IsFront existence_layout) (sym (take-take n limit bytes less)) front)
+          | inr less ↦ is.longest n (omega (arith, less, size)) (subst (IsFront proof_layout) (sym (take-take n limit bytes less)) front)
         ];
       }
 

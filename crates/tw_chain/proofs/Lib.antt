@@ -1,3 +1,5 @@
+pub mod ProofLayout
+pub mod Lowest
 pub mod ClaimHolds
 pub mod Verdicts
 pub mod Fronts

@@ -1,63 +1,57 @@
--- When the proof that an event exists is accepted, what it then claims, and what checking it hashes.
-use Rattle.std.specs.Prelude.{◌≡◌, ℕ, ◌≤◌, List, ◌++◌, Option, Some, None}
+-- When a proof is accepted, what it then claims, and what checking it hashes.
+use Rattle.std.specs.Prelude.{◌≡◌, ℕ, List, [], ◌∷◌, Option, Some, None}
+use Rattle.std.specs.List.{flat_map}
 use Rattle.std.specs.Option.{option_to_list}
-use Rattle.tw_base.specs.declared.thread.Thread.{Thread}
 use Rattle.tw_base.specs.declared.report.Claim.{Claim}
-use Rattle.tw_base.specs.declared.report.Claim.TheVariants.{Exists}
+use Rattle.tw_base.specs.declared.report.Claim.TheVariants as claims
 use Rattle.tw_base.specs.declared.report.Report.{Report}
+use Rattle.tw_base.specs.declared.thread.Key.{Key}
+use Rattle.tw_base.specs.declared.thread.Thread.{Thread}
 use Rattle.tw_base.specs.Anchors.{anchor_of}
-use Rattle.tw_base.specs.AuditPath.{ChecksEvent, audit_texts}
 use Rattle.tw_base.specs.Formats.{Spells}
 use Rattle.tw_skipproof.specs.declared.existence.ExistenceProof.{ExistenceProof}
-use Rattle.tw_skipproof.specs.declared.existence.Part.{Part}
-use Rattle.tw_skipproof.specs.Openings.{IsOpeningAt, opening_auth, opening_texts}
-use Rattle.tw_skipproof.specs.Paths.{HasShape, climbed, path_texts}
-use Rattle.tw_skipproof.specs.Existence.{existence_layout}
+use Rattle.tw_skipproof.specs.Acceptance.{IsAcceptedUnder, existence_texts}
+use Rattle.tw_chain.specs.declared.proof.Proof.{Proof}
+use Rattle.tw_chain.specs.declared.proof.Proof.TheVariants.{Exists}
+use Rattle.tw_chain.specs.Proofs.{proof_layout}
 
--- the anchor that the proof names, where it is held
-abbrev pub named_anchor : List Thread → ExistenceProof → Option Thread
-named_anchor anchors p = anchor_of anchors p.at.service p.at.top
+-- the services and steps that the proof needs an anchor of, in the order of its bytes
+abbrev pub named : Proof → List Key
+named (Exists p) = record { from = p.at.service; step = p.at.top } ∷ []
+
+-- the anchor of this service and step, where it is held
+abbrev pub anchor_at : List Thread → Key → Option Thread
+anchor_at anchors key = anchor_of anchors key.from key.step
 
 -- the threads that the verifier holds of those that the proof names
-abbrev pub held : List Thread → ExistenceProof → List Thread
-held anchors p = option_to_list (named_anchor anchors p)
+abbrev pub held : List Thread → Proof → List Thread
+held anchors p = flat_map (λ key. option_to_list (anchor_at anchors key)) (named p)
 
 module _ (dig : List ℕ → List ℕ) where
-  -- the path climbs from the authenticator that the opening computes to the anchor's
-  pub record Climbs (at : Part) (anchor : Thread) : Type 0 where
-    pub opening : IsOpeningAt at.step at.opening
-    pub shape : HasShape at.path.links at.top at.step
-    pub reaches : climbed dig at.path.links at.top at.step (opening_auth dig at.step at.opening) ≡ anchor.auth
-
-  -- the event computes the event root of the opening, with the opening's count of events
-  abbrev pub ShowsEvent : ExistenceProof → Type 0
-  ShowsEvent p = ChecksEvent dig p.at.opening.event_root p.at.opening.count p.event.index p.event.event p.event.path
-
-  pub record IsAccepted (anchors : List Thread) (p : ExistenceProof) : Type 0 where
-    pub order : p.at.step ≤ p.at.top
+  -- an existence proof is accepted under the anchor that it names
+  pub record IsExistenceAccepted (anchors : List Thread) (p : ExistenceProof) : Type 0 where
     pub anchor : Thread
-    pub is_held : named_anchor anchors p ≡ Some anchor
-    pub path : Climbs p.at anchor
-    pub event : ShowsEvent p
+    pub is_held : anchor_of anchors p.at.service p.at.top ≡ Some anchor
+    pub accepted : IsAcceptedUnder dig anchor.auth p
+
+  abbrev pub IsAccepted : (anchors : List Thread) → Proof → Type 0
+  IsAccepted anchors (Exists p) = IsExistenceAccepted anchors p
 
   -- the bytes spell a proof that is accepted under the anchors
   abbrev pub Accepts : List Thread → List ℕ → Type 0
-  Accepts anchors bytes = (p : ExistenceProof) × Spells existence_layout bytes p × IsAccepted anchors p
+  Accepts anchors bytes = (p : Proof) × Spells proof_layout bytes p × IsAccepted anchors p
 
-  -- what checking the proof hashes: the opening, the path from the bottom upwards, the event's leaf and the nodes above it
-  unfoldable pub proof_texts : ExistenceProof → List (List ℕ)
-  proof_texts p =
-      opening_texts dig p.at.step p.at.opening
-      ++ (path_texts dig p.at.path.links p.at.top p.at.step (opening_auth dig p.at.step p.at.opening)
-      ++ audit_texts dig p.at.opening.count p.event.index p.event.event p.event.path)
+  -- what checking the proof hashes
+  abbrev pub proof_texts : Proof → List (List ℕ)
+  proof_texts (Exists p) = existence_texts dig p
 
--- the event stands at the proof's step and index
-abbrev pub claim_of : ExistenceProof → Claim
-claim_of p = Exists (record {
+-- what the proof claims: of kind 1, that the event stands at its step and index
+abbrev pub claim_of : Proof → Claim
+claim_of (Exists p) = claims.Exists (record {
   place = record { service = p.at.service; step = p.at.step; index = p.event.index };
   event = p.event.event;
   time = None;
 })
 
-abbrev pub report_of : ExistenceProof → Report
+abbrev pub report_of : Proof → Report
 report_of p = record { claim = claim_of p }

@@ -1,4 +1,5 @@
+pub mod Proofs
 pub mod Accepting
+pub mod Claiming
 pub mod Reasons
 pub mod Binding
-pub mod Making

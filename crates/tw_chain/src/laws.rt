@@ -1,34 +1,38 @@
 // The laws of the existence proofs that a history has.
 
-ghost use Rattle.std.specs.Prelude.{◌≡◌, ℕ, ◌^◌, ◌<◌, ◌≤◌, List, length, Some, slice_get};
+ghost use Rattle.std.specs.Prelude.{◌≡◌, ℕ, ◌≤◌, List, length, Some, slice_get};
 ghost use Rattle.tw_base.specs.declared.thread.Thread.{Thread};
 ghost use Rattle.tw_base.specs.Anchors.{anchor_of};
 ghost use Rattle.tw_base.specs.Auth.{auth};
+ghost use Rattle.tw_base.specs.Formats.{Spells};
 ghost use Rattle.tw_base.specs.History.{History, events_at};
 ghost use Rattle.tw_base.specs.Sound.{IsSound};
 ghost use Rattle.tw_skipproof.specs.declared.existence.ExistenceProof.{ExistenceProof};
-ghost use Rattle.tw_skipproof.specs.Existence.{IsWithinLimits};
-ghost use Rattle.tw_skipproof.specs.Writing.{IsShaped};
+ghost use Rattle.tw_skipproof.specs.HistoryProofs.{IsExistenceOf, MakesExistence};
+ghost use Rattle.tw_skipproof.specs.Writing.{existence_bytes};
+ghost use Rattle.tw_chain.specs.declared.proof.Proof.TheVariants.{Exists};
 ghost use Rattle.tw_chain.specs.Accepting.{Accepts, IsAccepted, claim_of};
-ghost use Rattle.tw_chain.specs.Making.{IsExistenceOf, MakesExistence, claim_at};
+ghost use Rattle.tw_chain.specs.Claiming.{claim_at};
+ghost use Rattle.tw_chain.specs.Proofs.{proof_layout};
 
 use tw_base::Hasher;
 
 /// The proof that a history has of one of its events, under a top that isn't below the event's
 /// step, is accepted wherever the anchor held of that service and top has the history's
 /// authenticator of the top. It claims that this event stands at this index of the step. Where the
-/// history is sound and has the top, the proof is within the limits of its format and has its
-/// shape, so that what `write_existence` writes of it spells it.
+/// history is sound and has the top, the proof is spelled, by what `write_existence` writes of it,
+/// and these bytes are accepted there.
 pub fn completeness_laws<H: Hasher>()
     ensures accepted { (h : History) (step index top : ℕ) (p : ExistenceProof) (anchors : List Thread) (anchor : Thread) →
         step ≤ top → IsExistenceOf H.dig h step index top p → anchor_of anchors h.name top ≡ Some anchor → anchor.auth ≡ auth H.dig h top →
-        IsAccepted H.dig anchors p }
+        IsAccepted H.dig anchors (Exists p) }
     ensures accepts { (h : History) (step index top : ℕ) (bytes : List ℕ) (anchors : List Thread) (anchor : Thread) →
         step ≤ top → MakesExistence H.dig h step index top bytes → anchor_of anchors h.name top ≡ Some anchor → anchor.auth ≡ auth H.dig h top →
         Accepts H.dig anchors bytes }
     ensures claim { (h : History) (step index top : ℕ) (p : ExistenceProof) (event : List ℕ) →
-        IsExistenceOf H.dig h step index top p → slice_get (events_at h step) index ≡ Some event → claim_of p ≡ claim_at h step index event }
-    ensures within { (h : History) (step index top : ℕ) (p : ExistenceProof) →
+        IsExistenceOf H.dig h step index top p → slice_get (events_at h step) index ≡ Some event → claim_of (Exists p) ≡ claim_at h step index event }
+    ensures spelled { (h : History) (step index top : ℕ) (p : ExistenceProof) (anchors : List Thread) (anchor : Thread) →
         IsSound h → step ≤ top → top ≤ length h.steps → IsExistenceOf H.dig h step index top p →
-        IsWithinLimits p × IsShaped p × (length p.event.event < 2 ^ 32) }
+        anchor_of anchors h.name top ≡ Some anchor → anchor.auth ≡ auth H.dig h top →
+        Spells proof_layout (existence_bytes p) (Exists p) × Accepts H.dig anchors (existence_bytes p) }
 {}

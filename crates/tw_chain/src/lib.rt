@@ -2,11 +2,14 @@
 #![tactic(auto)]
 
 mod existing;
+mod judging;
 mod kinds;
 mod laws;
+mod proof;
 mod verdict;
 
 pub use laws::completeness_laws;
+pub use proof::{Proof, read_proof};
 pub use verdict::{Verdict, verify};
 
 #[cfg(test)]

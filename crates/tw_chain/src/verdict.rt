@@ -2,16 +2,17 @@
 
 ghost use Rattle.std.specs.Prelude.{◌≡◌, ℕ, List, IfOk};
 ghost use Rattle.tw_base.specs.Formats.{Spells};
-ghost use Rattle.tw_skipproof.specs.Existence.{IsWithinLimits, existence_layout};
 ghost use Rattle.tw_chain.specs.Accepting.{report_of};
 ghost use Rattle.tw_chain.specs.Binding.{BindsHistories};
+ghost use Rattle.tw_chain.specs.Proofs.{IsInRange, proof_layout};
 ghost use Rattle.tw_chain.specs.Reasons.{IsVerdict};
 
-use crate::existing::reason_against;
+use crate::judging::reason_against;
 use crate::kinds::is_of_later_kind;
+use crate::proof::{Proof, read_proof};
 use std::alloc::Global;
 use tw_base::{Claim, Hasher, NoMemory, Place, ReadFault, Reason, Report, Seen, Thread};
-use tw_skipproof::{ExistenceProof, read_existence};
+use tw_skipproof::ExistenceProof;
 
 /// What a verifier answers.
 #[derive(Drop, Debug)]
@@ -23,10 +24,10 @@ pub enum Verdict {
 }
 
 /// The report of an accepted proof.
-fn report(proof: ExistenceProof) -> Report
+fn report(proof: Proof) -> Report
     ensures { result ≡ report_of proof }
 {
-    let ExistenceProof { at, event } = proof;
+    let Proof::Exists(ExistenceProof { at, event }) = proof;
     let place = Place {
         service: at.service,
         step: at.step,
@@ -42,10 +43,10 @@ fn report(proof: ExistenceProof) -> Report
 }
 
 /// The verdict on a proof that was read.
-fn judged<H: Hasher>(proof: ExistenceProof, anchors: &[Thread]) -> Verdict
-    requires { IsWithinLimits proof }
-    ensures verdict { (bytes : List ℕ) → Spells existence_layout bytes proof → IsVerdict H.dig anchors.now bytes result }
-    ensures binds { (bytes : List ℕ) → Spells existence_layout bytes proof → BindsHistories H.dig anchors.now bytes result }
+fn judged<H: Hasher>(proof: Proof, anchors: &[Thread]) -> Verdict
+    requires { IsInRange proof }
+    ensures verdict { (bytes : List ℕ) → Spells proof_layout bytes proof → IsVerdict H.dig anchors.now bytes result }
+    ensures binds { (bytes : List ℕ) → Spells proof_layout bytes proof → BindsHistories H.dig anchors.now bytes result }
 {
     match reason_against::<H>(&proof, anchors) {
         None => Verdict::Yes(report(proof)),
@@ -70,7 +71,7 @@ pub fn verify<H: Hasher>(
     if is_of_later_kind(bytes) {
         return Ok(Verdict::No(Reason::Unbuilt));
     }
-    match read_existence(alloc, bytes) {
+    match read_proof(alloc, bytes) {
         Ok(proof) => Ok(judged::<H>(proof, anchors)),
         Err(ReadFault::Malformed { place }) => Ok(Verdict::No(Reason::Malformed { place })),
         Err(ReadFault::NoMemory) => Err(NoMemory),

@@ -1,12 +1,12 @@
--- When an existence proof is accepted under an authenticator of its top.
-use Rattle.std.specs.Prelude.{ℕ, ◌≤◌, List}
-use Rattle.tw_base.specs.AuditPath.{ChecksEvent}
+-- When an existence proof is accepted under an authenticator of its top, and what checking it hashes.
+use Rattle.std.specs.Prelude.{ℕ, ◌≤◌, List, ◌++◌}
+use Rattle.tw_base.specs.AuditPath.{ChecksEvent, audit_texts}
 use Rattle.tw_skipproof.specs.declared.existence.EventPart.{EventPart}
 use Rattle.tw_skipproof.specs.declared.existence.ExistenceProof.{ExistenceProof}
 use Rattle.tw_skipproof.specs.declared.existence.Part.{Part}
 use Rattle.tw_skipproof.specs.declared.opening.Opening.{Opening}
-use Rattle.tw_skipproof.specs.Openings.{IsOpeningAt, opening_auth}
-use Rattle.tw_skipproof.specs.Paths.{Climbs}
+use Rattle.tw_skipproof.specs.Openings.{IsOpeningAt, opening_auth, opening_texts}
+use Rattle.tw_skipproof.specs.Paths.{Climbs, path_texts}
 
 module _ (dig : List ℕ → List ℕ) where
   -- the opening is one of the part's step, and the path climbs from the authenticator that it computes to this one of the top
@@ -22,3 +22,10 @@ module _ (dig : List ℕ → List ℕ) where
     pub order : p.at.step ≤ p.at.top
     pub path : Reaches p.at upper
     pub event : ShowsEvent p.at.opening p.event
+
+  -- what checking the proof hashes: the opening, the path from the bottom upwards, the event's leaf and the nodes above it
+  unfoldable pub existence_texts : ExistenceProof → List (List ℕ)
+  existence_texts p =
+      opening_texts dig p.at.step p.at.opening
+      ++ (path_texts dig p.at.path.links p.at.top p.at.step (opening_auth dig p.at.step p.at.opening)
+      ++ audit_texts dig p.at.opening.count p.event.index p.event.event p.event.path)
