@@ -1,10 +1,10 @@
-// The least proof, and proofs that differ from it in one place.
+// The least proof, and some that differ from it in one place; the acceptance run changes and cuts each byte.
 
 use super::*;
 use std::alloc::Global;
 use std::process::Abort;
 use tw_base::{Claim, Digest, Hasher, Name, Reason, Sha, Thread, Weak};
-use tw_skipproof::{LEAST_AUTHENTICATOR, LEAST_EXISTENCE, LEAST_MALFORMED};
+use tw_skipproof::{LEAST_AUTHENTICATOR, LEAST_EXISTENCE};
 
 /// A thread of step 1 of a service.
 fn first_step(rt: &impl Abort, service: &[u8], auth: [u8; 32]) -> Thread {
@@ -81,32 +81,16 @@ fn other_anchors(rt: HostRuntime) {
 }
 
 #[test]
-fn padded_cut_and_empty(rt: HostRuntime) {
-    let mut padded = [0; 146];
-    padded[..145].copy_from_slice(&LEAST_EXISTENCE);
-    assert_eq!(rt;
-        reason_of(&rt, rt.alloc(), &padded),
-        Some(Reason::Malformed { place: 145 })
-    );
+fn a_cut_proof(rt: HostRuntime) {
     let cut = &LEAST_EXISTENCE[..144];
     assert_eq!(rt;
         reason_of(&rt, rt.alloc(), cut),
         Some(Reason::Malformed { place: 144 })
     );
-    assert_eq!(rt;
-        reason_of(&rt, rt.alloc(), &[]),
-        Some(Reason::Malformed { place: 0 })
-    );
 }
 
 #[test]
 fn changed_proofs(rt: HostRuntime) {
-    for (at, byte, place) in LEAST_MALFORMED {
-        assert_eq!(rt;
-            reason_with(&rt, rt.alloc(), at, byte),
-            Some(Reason::Malformed { place })
-        );
-    }
     assert_eq!(rt;
         reason_with(&rt, rt.alloc(), 37, 0),
         Some(Reason::BadPath { part: 0 })

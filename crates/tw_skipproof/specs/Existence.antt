@@ -1,5 +1,6 @@
 -- Proofs that one event exists: their bytes and the texts that checking them hashes.
 use Rattle.std.specs.Prelude.{ℕ, ◌-◌, ◌<◌, ◌≤◌, ◌^◌, List, [], ◌∷◌, length}
+use Rattle.tw_base.specs.declared.limits.TheConstants.{LAST_STEP, MOST_EVENTS, MOST_EVENT_BYTES}
 use Rattle.tw_base.specs.Formats.{Format, then_by}
 use Rattle.tw_base.specs.Formats.Format.{Done}
 use Rattle.tw_base.specs.Fields.{bytes, name, number, text}
@@ -10,13 +11,13 @@ use Rattle.tw_skipproof.specs.Layouts.{labels, opening_from, path_layout}
 
 -- a step from 1 on
 abbrev pub pos : Format ℕ
-pos = number 8 1 (2 ^ 40 - 1)
+pos = number 8 1 LAST_STEP
 
 -- an event under an opening with this count of events: its index, its bytes behind their number, and its audit path
 unfoldable pub event_layout : (count : ℕ) → Format EventPart
 event_layout count =
     then_by (number 4 0 (count - 1)) (λ index.
-    then_by (number 4 0 1024) (λ size.
+    then_by (number 4 0 MOST_EVENT_BYTES) (λ size.
     then_by (bytes size) (λ event.
     then_by (labels (path_length count index)) (λ path.
     Done (record { index = index; event = event; path = path })))))
@@ -43,8 +44,8 @@ existence_layout =
 
 -- the ranges that the layout gives the numbers and the event
 pub record IsExistenceInRange (p : ExistenceProof) : Type 0 where
-  pub step : p.at.step < 2 ^ 40
-  pub top : p.at.top < 2 ^ 40
-  pub count : p.at.opening.count ≤ 1024
+  pub step : p.at.step ≤ LAST_STEP
+  pub top : p.at.top ≤ LAST_STEP
+  pub count : p.at.opening.count ≤ MOST_EVENTS
   pub index : p.event.index < p.at.opening.count
-  pub event : length p.event.event ≤ 1024
+  pub event : length p.event.event ≤ MOST_EVENT_BYTES

@@ -1,5 +1,6 @@
 -- The bytes of openings and paths.
 use Rattle.std.specs.Prelude.{ℕ, ◌∷◌, List, []}
+use Rattle.tw_base.specs.declared.limits.TheConstants.{MOST_EVENTS}
 use Rattle.tw_base.specs.Formats.{Format, then_by}
 use Rattle.tw_base.specs.Formats.Format.{Done}
 use Rattle.tw_base.specs.Fields.{digest, number, repeated}
@@ -17,7 +18,7 @@ unfoldable pub opening_from : (least step : ℕ) → Format Opening
 opening_from least step =
     then_by digest (λ event_root.
     then_by digest (λ archive_root.
-    then_by (number 4 least 1024) (λ count.
+    then_by (number 4 least MOST_EVENTS) (λ count.
     then_by digest (λ prev.
     then_by (labels (top_level step)) (λ others.
     Done (record { event_root = event_root; archive_root = archive_root; count = count; prev = prev; others = others }))))))

@@ -1,5 +1,6 @@
 -- Reading openings, links and event parts field by field, over the whole input and a place in it.
 use Rattle.std.specs.Prelude.{ℕ, ◌-◌, List, ◌++◌, Result, Ok, Err}
+use Rattle.tw_base.specs.declared.limits.TheConstants.{MOST_EVENTS, MOST_EVENT_BYTES}
 use Rattle.tw_base.specs.Formats.{Placed, ◌>>=◌, read_at}
 use Rattle.tw_base.specs.Fields.{bytes, digest, name, number, text}
 use Rattle.tw_base.specs.AuditPath.{path_length}
@@ -15,7 +16,7 @@ unfoldable pub opening_at : (least step : ℕ) → List ℕ → ℕ → Result (
 opening_at least step whole at = do
   event_root ← read_at digest whole at
   archive_root ← read_at digest whole event_root.after
-  count ← read_at (number 4 least 1024) whole archive_root.after
+  count ← read_at (number 4 least MOST_EVENTS) whole archive_root.after
   prev ← read_at digest whole count.after
   others ← read_at (labels (top_level step)) whole prev.after
   Ok (record {
@@ -32,7 +33,7 @@ link_at step whole at = do
 unfoldable pub event_at : (count : ℕ) → List ℕ → ℕ → Result (Placed EventPart) ℕ
 event_at count whole at = do
   index ← read_at (number 4 0 (count - 1)) whole at
-  size ← read_at (number 4 0 1024) whole index.after
+  size ← read_at (number 4 0 MOST_EVENT_BYTES) whole index.after
   event ← read_at (bytes size.value) whole size.after
   path ← read_at (labels (path_length count index.value)) whole event.after
   Ok (record { value = record { index = index.value; event = event.value; path = path.value }; after = path.after })

@@ -1,5 +1,6 @@
 -- The bytes of openings, paths and existence proofs, and which of these values have them as a spelling.
 use Rattle.std.specs.Prelude.{◌≡◌, ℕ, ◌<◌, ◌≤◌, List, [], ◌∷◌, ◌++◌, length}
+use Rattle.tw_base.specs.declared.limits.TheConstants.{MOST_EVENTS, MOST_EVENT_BYTES}
 use Rattle.tw_base.specs.Formats.{Spells}
 use Rattle.tw_base.specs.Fields.{number_bytes}
 use Rattle.tw_base.specs.Texts.{joined}
@@ -43,7 +44,7 @@ pub record IsShaped (p : ExistenceProof) : Type 0 where
 -- the bytes of an opening spell it wherever its labels are those of the step and its count is in the range
 abbrev pub IsSpelledOpening : Opening → Type 0
 IsSpelledOpening o =
-    (least step : ℕ) → length o.others ≡ top_level step → least ≤ o.count → o.count ≤ 1024
+    (least step : ℕ) → length o.others ≡ top_level step → least ≤ o.count → o.count ≤ MOST_EVENTS
     → Spells (opening_from least step) (opening_bytes o) o
 
 abbrev pub IsSpelledLink : Link → Type 0
@@ -51,5 +52,5 @@ IsSpelledLink link = (step : ℕ) → length link.others ≡ top_level step → 
 
 abbrev pub IsSpelledEvent : EventPart → Type 0
 IsSpelledEvent e =
-    (count : ℕ) → e.index < count → count ≤ 1024 → length e.event ≤ 1024 → length e.path ≡ path_length count e.index
+    (count : ℕ) → e.index < count → count ≤ MOST_EVENTS → length e.event ≤ MOST_EVENT_BYTES → length e.path ≡ path_length count e.index
     → Spells (event_layout count) (event_bytes e) e

@@ -9,22 +9,10 @@ ghost use Rattle.tw_base.specs.HistoryTexts.{history_texts};
 ghost use Rattle.tw_base.specs.Sound.{IsSound};
 ghost use Rattle.tw_skipproof.specs.Paths.{HasLinkSizes, HasShape, climb_auth_text, climbed, path_texts};
 
-use crate::hop::{level_of_hop, power};
+use crate::hop::level_of_hop;
 use crate::path::{Link, Path};
 use arrayvec::ArrayVec;
-use tw_base::{Digest, Hasher, authenticator, link_label, top_level};
-
-/// Puts the labels at the list's end.
-fn put_labels(labels: &mut ArrayVec<Digest, 40>, more: &[Digest])
-    requires { length labels.old.items + length more.now ≤ 40 }
-    ensures items { labels.new.items ≡ labels.old.items ++ more.now }
-    ensures len { length labels.new.items ≡ length labels.old.items + length more.now }
-{
-    match labels.try_extend_from_slice(more) {
-        Ok(()) => {}
-        Err(_) => unreachable!(),
-    }
-}
+use tw_base::{Digest, Hasher, authenticator, link_label, power_of_two, put, top_level};
 
 /// The authenticator of the step that the link leaves.
 fn link_authenticator<H: Hasher>(link: &Link, step: u64, level: u8, below: &Digest) -> Digest
@@ -37,9 +25,9 @@ fn link_authenticator<H: Hasher>(link: &Link, step: u64, level: u8, below: &Dige
     let label = link_label::<H>(step, level, &link.datum, below);
     let (lower, upper) = link.others.as_slice().split_at(level as usize);
     let mut labels: ArrayVec<Digest, 40> = ArrayVec::new();
-    put_labels(&mut labels, lower);
+    put(&mut labels, lower);
     labels.push(label);
-    put_labels(&mut labels, upper);
+    put(&mut labels, upper);
     authenticator::<H>(step, labels.as_slice())
 }
 
@@ -57,7 +45,7 @@ fn climb_links<H: Hasher>(links: &[Link], from: u64, to: u64, bottom: &Digest) -
                 return None;
             }
             let level = level_of_hop(from, to);
-            match climb_links::<H>(rest, from - power(level), to, bottom) {
+            match climb_links::<H>(rest, from - power_of_two(level), to, bottom) {
                 None => None,
                 Some(below) => Some(link_authenticator::<H>(link, from, level, &below)),
             }

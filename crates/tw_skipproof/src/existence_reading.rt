@@ -9,6 +9,7 @@ ghost use Rattle.tw_skipproof.specs.Writing.{IsShaped};
 use crate::existence::{EventPart, ExistenceProof, Part};
 use crate::reading::{opening_at, path_at};
 use std::alloc::Global;
+use tw_base::limits::{LAST_STEP, MOST_EVENT_BYTES};
 use tw_base::{
     ReadFault, malformed, path_length, read_bytes, read_labels, read_name, read_number, read_text,
     top_level, whole,
@@ -16,9 +17,6 @@ use tw_base::{
 
 /// How an existence proof begins: the four bytes `TWP1` and the kind 1.
 pub(crate) const MAGIC: [u8; 5] = [0x54, 0x57, 0x50, 0x31, 1];
-
-/// The greatest step.
-const LAST_STEP: u64 = (1 << 40) - 1;
 
 /// A step from 1 on at a place.
 fn pos_at(bytes: &[u8], at: u64) -> Result<u64, ReadFault>
@@ -49,7 +47,7 @@ fn event_fields(
     ensures size { IfOk result (λ r. length r.0.event ≤ 1024) }
 {
     let index = malformed(read_number(bytes, at, 4, 0, count as u64 - 1))? as u32;
-    let size = malformed(read_number(bytes, at + 4, 4, 0, 1024))?;
+    let size = malformed(read_number(bytes, at + 4, 4, 0, MOST_EVENT_BYTES))?;
     let event = read_bytes(alloc, bytes, at + 8, size)?;
     let labels = path_length(count, index) as u64;
     let path = read_labels(alloc, bytes, at + 8 + size, labels)?;

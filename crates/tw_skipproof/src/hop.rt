@@ -5,15 +5,7 @@ ghost use Rattle.tw_base.specs.Levels.{top_level as top_level_of};
 ghost use Rattle.tw_skipproof.specs.declared.path.Link.{Link};
 ghost use Rattle.tw_skipproof.specs.Paths.{HasShape, IsGreedy, hop_level};
 
-use tw_base::top_level;
-
-/// A power of two.
-pub(crate) fn power(level: u8) -> u64
-    requires { level < 64 }
-    ensures { result ≡ 2 ^ level }
-{
-    1 << level
-}
+use tw_base::{power_of_two, top_level};
 
 /// The level of the greedy path's next link.
 #[tactic(auto, using(crate::proofs::Hops::levels), unfolding(crate::specs::Paths::hop_level))]
@@ -26,7 +18,7 @@ pub(crate) fn level_of_hop(from: u64, to: u64) -> u8
     ensures small { result < 40 }
 {
     let mut level = top_level(from);
-    while level > 0 && power(level) > from - to {
+    while level > 0 && power_of_two(level) > from - to {
         level -= 1;
     }
     level

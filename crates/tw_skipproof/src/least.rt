@@ -21,20 +21,3 @@ pub const LEAST_AUTHENTICATOR: [u8; 32] = [
     0x9f, 0x9c, 0xc8, 0xf6, 0xba, 0xef, 0x59, 0x2e, 0xd6, 0xbf, 0x90, 0xb1, 0x06, 0xeb, 0xe7, 0xb8,
     0x82, 0xf5, 0x9a, 0x1c, 0xc9, 0x80, 0x3a, 0x6d, 0x1e, 0xef, 0x69, 0x74, 0xda, 0x5f, 0x87, 0xed,
 ];
-
-/// Changes of one byte of `LEAST_EXISTENCE` after which no proof is spelled: the place of the byte,
-/// its new value, and the place that is told: that of the first byte that can't stand there, or 145
-/// where bytes are missing.
-pub const LEAST_MALFORMED: [(usize, u8, u64); 11] = [
-    (0, 0x55, 0),
-    (4, 9, 4),
-    (5, 0x41, 5),
-    (7, 0x61, 7),
-    (21, 1, 21),
-    (28, 0, 28),
-    (28, 2, 145),
-    (104, 0, 104),
-    (104, 2, 145),
-    (140, 1, 140),
-    (144, 1, 145),
-];

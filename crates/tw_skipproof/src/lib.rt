@@ -17,7 +17,7 @@ pub use existence::{EventPart, ExistenceProof, Part};
 pub use existence_reading::read_existence;
 pub use hop::next_hop;
 pub use laws::{making_laws, spelling_laws};
-pub use least::{LEAST_AUTHENTICATOR, LEAST_EXISTENCE, LEAST_MALFORMED};
+pub use least::{LEAST_AUTHENTICATOR, LEAST_EXISTENCE};
 pub use opening::{Opening, check_opening};
 pub use path::{Link, LinkList, Path};
 pub use reading::{read_opening, read_path};

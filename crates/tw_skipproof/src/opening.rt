@@ -9,7 +9,7 @@ ghost use Rattle.tw_base.specs.Sound.{IsSound};
 ghost use Rattle.tw_skipproof.specs.Openings.{Binds, HasSizes, IsOpeningAt, opening_auth, opening_texts};
 
 use arrayvec::ArrayVec;
-use tw_base::{Digest, Hasher, Labels, authenticator, datum, link_label, top_level};
+use tw_base::{Digest, Hasher, Labels, authenticator, datum, link_label, put, top_level};
 
 /// The fields behind the authenticator of a step from 1 on: the root of its events, the label of
 /// its archive, its count of events, the authenticator of the step before it, and the labels of
@@ -38,10 +38,8 @@ fn computed<H: Hasher>(opening: &Opening, step: u64) -> Option<Digest>
     let first = link_label::<H>(step, 0, &datum, &opening.prev);
     let mut labels: ArrayVec<Digest, 40> = ArrayVec::new();
     labels.push(first);
-    match labels.try_extend_from_slice(opening.others.as_slice()) {
-        Ok(()) => Some(authenticator::<H>(step, labels.as_slice())),
-        Err(_) => unreachable!(),
-    }
+    put(&mut labels, opening.others.as_slice());
+    Some(authenticator::<H>(step, labels.as_slice()))
 }
 
 /// The authenticator that the opening computes at the step (at most 2^40 - 1), each text hashed

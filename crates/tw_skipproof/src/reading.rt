@@ -8,12 +8,14 @@ ghost use Rattle.tw_skipproof.specs.Layouts.{links_layout, opening_from, opening
 ghost use Rattle.tw_skipproof.specs.Paths.{greedy_steps, hop};
 ghost use Rattle.tw_skipproof.specs.Reading.{behind, link_at as link_at_of, opening_at as opening_at_of};
 
-use crate::hop::{level_of_hop, power};
+use crate::hop::level_of_hop;
 use crate::opening::Opening;
 use crate::path::{Link, LinkList, Path};
 use std::alloc::Global;
+use tw_base::limits::MOST_EVENTS;
 use tw_base::{
-    ReadFault, malformed, read_digest, read_labels, read_number, top_level, whole, whole_to,
+    ReadFault, malformed, power_of_two, read_digest, read_labels, read_number, top_level, whole,
+    whole_to,
 };
 
 /// The fields of the opening of the step at a place, one after another.
@@ -34,7 +36,7 @@ fn opening_fields(
 {
     let event_root = malformed(read_digest(bytes, at))?;
     let archive_root = malformed(read_digest(bytes, at + 32))?;
-    let count = malformed(read_number(bytes, at + 64, 4, least, 1024))?;
+    let count = malformed(read_number(bytes, at + 64, 4, least, MOST_EVENTS))?;
     let prev = malformed(read_digest(bytes, at + 68))?;
     let others = read_labels(alloc, bytes, at + 100, top_level(step) as u64)?;
     Ok(Opening {
@@ -84,7 +86,7 @@ fn next_step(from: u64, to: u64) -> u64
     ensures value { result ≡ hop from to }
     ensures less { result < from }
 {
-    from - power(level_of_hop(from, to))
+    from - power_of_two(level_of_hop(from, to))
 }
 
 /// The path between the two steps at a place, and the place after it.

@@ -21,10 +21,7 @@ use tw_base::{Bytes, NoMemory, put_bytes, put_digest, put_labels, put_name, put_
 fn with_room(alloc: Global, size: usize) -> Result<Bytes, NoMemory>
     ensures { IfOk result (λ bytes. bytes ≡ []) }
 {
-    match Vec::with_capacity(alloc, size) {
-        Ok(items) => Ok(Bytes::from_vec(items)),
-        Err(_) => Err(NoMemory),
-    }
+    Ok(Bytes::from_vec(Vec::with_capacity(alloc, size)?))
 }
 
 /// Appends the fields of the opening.

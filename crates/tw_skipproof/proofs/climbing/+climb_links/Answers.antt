@@ -16,7 +16,7 @@ returns-then-from-to-clause-answer g t c =
 
 pub returns-in-Some-climb_links-clause-answer : goal.returns-in-Some-climb_links-clause-answer
 returns-in-Some-climb_links-clause-answer g t c =
-    longer_path g.H.Hasher.dig c.args.links.now c.in-Some.rest.now c.in-Some.link.now c.args.from c.args.to c.level_of_hop-level.result c.power.result
+    longer_path g.H.Hasher.dig c.args.links.now c.in-Some.rest.now c.in-Some.link.now c.args.from c.args.to c.level_of_hop-level.result c.power_of_two.result
     c.args.bottom.now c.in-Some-climb_links.below c.link_authenticator.result
-    c.in-Some.ensures.cases.0 c.if-from-to-2.false (sym c.len.ensures ∙ c.if-len-top_level.false ∙ c.top_level.ensures.value) c.level_of_hop-level.ensures.level c.power.ensures
+    c.in-Some.ensures.cases.0 c.if-from-to-2.false (sym c.len.ensures ∙ c.if-len-top_level.false ∙ c.top_level.ensures.value) c.level_of_hop-level.ensures.level c.power_of_two.ensures
     c.in-Some-climb_links.ensures.answer.0 c.in-Some-climb_links.ensures.answer.1 c.link_authenticator.ensures.value

@@ -3,7 +3,7 @@ use Rattle.tw_base.specs.Levels.{top_level}
 use Rattle.tw_base.proofs.Levels.{top_level-below}
 use Rattle.tw_skipproof.proofs.hop.level_of_hop.Goals as goal
 
-pub returns-else-power-from-clause-small : goal.returns-else-power-from-clause-small
-returns-else-power-from-clause-small c =
+pub returns-else-power_of_two-from-clause-small : goal.returns-else-power_of_two-from-clause-small
+returns-else-power_of_two-from-clause-small c =
     let small : top_level c.args.from < 40 = top_level-below c.args.from c.requires.step in
     omega (arith, c.loop-level.invariant.1)
