@@ -1,6 +1,7 @@
 // What checking an existence proof answers.
 
-ghost use Rattle.std.specs.Prelude.{◌≡◌, ℕ, ◌^◌, ◌≤◌, List, ◌++◌, ◌<◌, length, slice_get, Some, IsNone, IsTrue, ◌↔◌, MatchOption};
+ghost use Rattle.std.specs.Prelude.{◌≡◌, ℕ, ◌≤◌, List, ◌++◌, ◌<◌, length, slice_get, Some, IsNone, IsTrue, ◌↔◌, MatchOption};
+ghost use Rattle.tw_base.specs.declared.limits.TheConstants.{LAST_STEP};
 ghost use Rattle.tw_base.specs.Auth.{auth};
 ghost use Rattle.tw_base.specs.AuditPath.{audit_texts};
 ghost use Rattle.tw_base.specs.Clash.{OrClash};
@@ -25,8 +26,8 @@ use tw_skipproof::{ExistenceProof, Part, check_opening, climb};
 /// sound history has that authenticator there, the opening's fields are that history's, or two texts
 /// clash.
 fn reaches<H: Hasher>(at: &Part, upper: &Digest) -> bool
-    requires step { at.now.step < 2 ^ 40 }
-    requires top { at.now.top < 2 ^ 40 }
+    requires step { at.now.step ≤ LAST_STEP }
+    requires top { at.now.top ≤ LAST_STEP }
     ensures answer { IsTrue result ↔ Reaches H.dig at.now upper.now }
     ensures binds { IsTrue result → (h : History) → IsSound h → at.now.step ≤ at.now.top → at.now.top ≤ length h.steps → auth H.dig h at.now.top ≡ upper.now →
         OrClash H.dig (history_texts H.dig h ++ (opening_texts H.dig at.now.step at.now.opening

@@ -1,6 +1,7 @@
 // Climbing a path.
 
 ghost use Rattle.std.specs.Prelude.{◌≡◌, ℕ, ◌+◌, ◌-◌, ◌^◌, ◌<◌, ◌≤◌, List, ◌++◌, length, MatchOption, IfSome};
+ghost use Rattle.tw_base.specs.declared.limits.TheConstants.{LAST_STEP};
 ghost use Rattle.tw_base.specs.Auth.{auth};
 ghost use Rattle.tw_base.specs.Clash.{OrClash};
 ghost use Rattle.tw_base.specs.Digests.{AllDigests};
@@ -33,7 +34,7 @@ fn link_authenticator<H: Hasher>(link: &Link, step: u64, level: u8, below: &Dige
 
 /// The authenticator of the upper step, computed upwards over the links.
 fn climb_links<H: Hasher>(links: &[Link], from: u64, to: u64, bottom: &Digest) -> Option<Digest>
-    requires { from < 2 ^ 40 }
+    requires { from ≤ LAST_STEP }
     ensures answer { MatchOption result (HasShape links.now from to → ⊥)
         (λ d. HasShape links.now from to × (d ≡ climbed H.dig links.now from to bottom.now)) }
     ensures sizes { IfSome result (λ _. HasLinkSizes links.now) }
@@ -61,7 +62,7 @@ fn climb_links<H: Hasher>(links: &[Link], from: u64, to: u64, bottom: &Digest) -
 /// Where it is the authenticator of `from` in a sound history, `bottom` is that of `to`, or two
 /// texts that the path and the history hash clash.
 pub fn climb<H: Hasher>(path: &Path, from: u64, to: u64, bottom: &Digest) -> Option<Digest>
-    requires { from < 2 ^ 40 }
+    requires { from ≤ LAST_STEP }
     ensures answer { MatchOption result (HasShape path.now.links from to → ⊥)
         (λ d. HasShape path.now.links from to × (d ≡ climbed H.dig path.now.links from to bottom.now)) }
     ensures binds { IfSome result (λ d. (h : History) → IsSound h → to ≤ from → from ≤ length h.steps → d ≡ auth H.dig h from →

@@ -1,6 +1,7 @@
 // Reading existence proofs.
 
 ghost use Rattle.std.specs.Prelude.{◌≡◌, ℕ, ◌+◌, ◌-◌, ◌*◌, ◌^◌, ◌<◌, ◌≤◌, length, IfOk};
+ghost use Rattle.tw_base.specs.declared.limits.TheConstants.{LAST_STEP, MOST_EVENTS, MOST_EVENT_BYTES};
 ghost use Rattle.tw_base.specs.Formats.{GivesIfMemory, GivesWithEnd, ReadsAs, read_at};
 ghost use Rattle.tw_skipproof.specs.Existence.{IsExistenceInRange, event_layout, existence_layout, pos};
 ghost use Rattle.tw_skipproof.specs.Reading.{event_at as event_at_of, existence_at as existence_at_of};
@@ -23,7 +24,7 @@ fn pos_at(bytes: &[u8], at: u64) -> Result<u64, ReadFault>
     requires { at ≤ length bytes.now }
     ensures read { GivesIfMemory (λ n. n) result (at + 8) (read_at pos bytes.now at) }
     ensures within { IfOk result (λ _. at + 8 ≤ length bytes.now) }
-    ensures range { IfOk result (λ n. (1 ≤ n) × (n < 2 ^ 40)) }
+    ensures range { IfOk result (λ n. (1 ≤ n) × (n ≤ LAST_STEP)) }
 {
     let step = malformed(read_number(bytes, at, 8, 1, LAST_STEP))?;
     Ok(step)
@@ -40,11 +41,11 @@ fn event_fields(
 ) -> Result<(EventPart, u64), ReadFault>
     requires within { at ≤ length bytes.now }
     requires some { 1 ≤ count }
-    requires few { count ≤ 1024 }
+    requires few { count ≤ MOST_EVENTS }
     ensures read { GivesWithEnd (λ e. e) result (event_at_of count bytes.now at) }
     ensures within { IfOk result (λ r. r.1 ≤ length bytes.now) }
     ensures index { IfOk result (λ r. r.0.index < count) }
-    ensures size { IfOk result (λ r. length r.0.event ≤ 1024) }
+    ensures size { IfOk result (λ r. length r.0.event ≤ MOST_EVENT_BYTES) }
 {
     let index = malformed(read_number(bytes, at, 4, 0, count as u64 - 1))? as u32;
     let size = malformed(read_number(bytes, at + 4, 4, 0, MOST_EVENT_BYTES))?;
@@ -59,11 +60,11 @@ fn event_fields(
 fn event_at(alloc: Global, bytes: &[u8], at: u64, count: u32) -> Result<(EventPart, u64), ReadFault>
     requires within { at ≤ length bytes.now }
     requires some { 1 ≤ count }
-    requires few { count ≤ 1024 }
+    requires few { count ≤ MOST_EVENTS }
     ensures read { GivesWithEnd (λ e. e) result (read_at (event_layout count) bytes.now at) }
     ensures within { IfOk result (λ r. r.1 ≤ length bytes.now) }
     ensures index { IfOk result (λ r. r.0.index < count) }
-    ensures size { IfOk result (λ r. length r.0.event ≤ 1024) }
+    ensures size { IfOk result (λ r. length r.0.event ≤ MOST_EVENT_BYTES) }
 {
     event_fields(alloc, bytes, at, count)
 }

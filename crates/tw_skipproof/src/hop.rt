@@ -1,6 +1,7 @@
 // The greedy rule.
 
 ghost use Rattle.std.specs.Prelude.{◌≡◌, ℕ, ◌-◌, ◌*◌, ◌^◌, ◌<◌, ◌≤◌, List, length};
+ghost use Rattle.tw_base.specs.declared.limits.TheConstants.{LAST_STEP};
 ghost use Rattle.tw_base.specs.Levels.{top_level as top_level_of};
 ghost use Rattle.tw_skipproof.specs.declared.path.Link.{Link};
 ghost use Rattle.tw_skipproof.specs.Paths.{HasShape, IsGreedy, hop_level};
@@ -11,7 +12,7 @@ use tw_base::{power_of_two, top_level};
 #[tactic(auto, using(crate::proofs::Hops::levels), unfolding(crate::specs::Paths::hop_level))]
 pub(crate) fn level_of_hop(from: u64, to: u64) -> u8
     requires below { to < from }
-    requires step { from < 2 ^ 40 }
+    requires step { from ≤ LAST_STEP }
     ensures level { result ≡ hop_level from to }
     ensures short { 2 ^ result ≤ from - to }
     ensures within { result ≤ top_level_of from }
@@ -29,7 +30,7 @@ pub(crate) fn level_of_hop(from: u64, to: u64) -> u8
 /// 2^d the whole path has at most 2 d links.
 pub fn next_hop(from: u64, to: u64) -> u8
     requires below { to < from }
-    requires step { from < 2 ^ 40 }
+    requires step { from ≤ LAST_STEP }
     ensures level { result ≡ hop_level from to }
     ensures greedy { IsGreedy from to result }
     ensures few_links { (links : List Link) (digits : ℕ) → from < 2 ^ digits → HasShape links from to → length links ≤ 2 * digits }

@@ -1,6 +1,7 @@
 // The laws of paths, openings and existence proofs, on which the layers above build.
 
 ghost use Rattle.std.specs.Prelude.{◌≡◌, ℕ, ◌^◌, ◌<◌, ◌≤◌, List, length};
+ghost use Rattle.tw_base.specs.declared.limits.TheConstants.{LAST_STEP};
 ghost use Rattle.tw_base.specs.Auth.{auth};
 ghost use Rattle.tw_base.specs.Formats.{OneSpelling, Spells, WrittenAs};
 ghost use Rattle.tw_base.specs.History.{History};
@@ -27,7 +28,7 @@ pub fn spelling_laws()
     ensures opening_labels { (step : ℕ) (bytes : List ℕ) (o : Opening) → Spells (opening_layout step) bytes o → length o.others ≡ top_level step }
     ensures path { (from to : ℕ) → WrittenAs (path_layout from to) path_bytes × OneSpelling (path_layout from to) }
     ensures path_shape { (from to : ℕ) (bytes : List ℕ) (links : List Link) → Spells (path_layout from to) bytes links → HasShape links from to }
-    ensures path_size { (from to : ℕ) (bytes : List ℕ) (links : List Link) → from < 2 ^ 40 → Spells (path_layout from to) bytes links → length bytes < 53761 }
+    ensures path_size { (from to : ℕ) (bytes : List ℕ) (links : List Link) → from ≤ LAST_STEP → Spells (path_layout from to) bytes links → length bytes < 53761 }
     ensures existence { WrittenAs existence_layout existence_bytes × OneSpelling existence_layout }
     ensures existence_size { (bytes : List ℕ) (p : ExistenceProof) → Spells existence_layout bytes p → length bytes ≤ 56497 }
     ensures existence_shape { (bytes : List ℕ) (p : ExistenceProof) → Spells existence_layout bytes p → IsShaped p × IsExistenceInRange p }

@@ -1,6 +1,7 @@
 // Openings: what the authenticator of a step is made of.
 
 ghost use Rattle.std.specs.Prelude.{◌≡◌, ℕ, ◌+◌, ◌^◌, ◌<◌, ◌≤◌, List, ◌++◌, length, MatchOption, IfSome};
+ghost use Rattle.tw_base.specs.declared.limits.TheConstants.{LAST_STEP};
 ghost use Rattle.tw_base.specs.Auth.{auth};
 ghost use Rattle.tw_base.specs.Clash.{OrClash};
 ghost use Rattle.tw_base.specs.History.{History};
@@ -26,7 +27,7 @@ pub struct Opening {
 /// The authenticator that the opening computes, and the sizes of what it was computed from.
 #[tactic(auto, unfolding(crate::specs::Openings::opening_auth))]
 fn computed<H: Hasher>(opening: &Opening, step: u64) -> Option<Digest>
-    requires { step < 2 ^ 40 }
+    requires { step ≤ LAST_STEP }
     ensures answer { MatchOption result (IsOpeningAt step opening.now → ⊥)
         (λ d. IsOpeningAt step opening.now × (d ≡ opening_auth H.dig step opening.now)) }
     ensures sizes { IfSome result (λ _. HasSizes opening.now) }
@@ -49,7 +50,7 @@ fn computed<H: Hasher>(opening: &Opening, step: u64) -> Option<Digest>
 /// Where it is the step's authenticator in a sound history, the opening's fields are the history's,
 /// or two texts that the opening and the history hash clash.
 pub fn check_opening<H: Hasher>(opening: &Opening, step: u64) -> Option<Digest>
-    requires { step < 2 ^ 40 }
+    requires { step ≤ LAST_STEP }
     ensures answer { MatchOption result (IsOpeningAt step opening.now → ⊥)
         (λ d. IsOpeningAt step opening.now × (d ≡ opening_auth H.dig step opening.now)) }
     ensures sizes { IfSome result (λ _. HasSizes opening.now) }

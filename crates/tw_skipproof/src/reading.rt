@@ -1,6 +1,7 @@
 // Reading openings, paths and existence proofs.
 
 ghost use Rattle.std.specs.Prelude.{◌≡◌, ℕ, ◌+◌, ◌*◌, ◌^◌, ◌<◌, ◌≤◌, length, IfOk};
+ghost use Rattle.tw_base.specs.declared.limits.TheConstants.{LAST_STEP, MOST_EVENTS};
 ghost use Rattle.tw_base.specs.Formats.{GivesIfMemory, GivesWithEnd, ReadsAs, read_at};
 ghost use Rattle.tw_base.specs.Levels.{top_level as top_level_of};
 ghost use Rattle.tw_skipproof.specs.declared.path.Path.{Path};
@@ -28,11 +29,11 @@ fn opening_fields(
     step: u64,
 ) -> Result<Opening, ReadFault>
     requires within { at ≤ length bytes.now }
-    requires least { least ≤ 1024 }
-    requires step { step < 2 ^ 40 }
+    requires least { least ≤ MOST_EVENTS }
+    requires step { step ≤ LAST_STEP }
     ensures read { GivesIfMemory (λ o. o) result (at + 100 + 32 * top_level_of step) (opening_at_of least step bytes.now at) }
     ensures within { IfOk result (λ _. at + 100 + 32 * top_level_of step ≤ length bytes.now) }
-    ensures count { IfOk result (λ o. (least ≤ o.count) × (o.count ≤ 1024)) }
+    ensures count { IfOk result (λ o. (least ≤ o.count) × (o.count ≤ MOST_EVENTS)) }
 {
     let event_root = malformed(read_digest(bytes, at))?;
     let archive_root = malformed(read_digest(bytes, at + 32))?;
@@ -57,11 +58,11 @@ pub(crate) fn opening_at(
     step: u64,
 ) -> Result<Opening, ReadFault>
     requires within { at ≤ length bytes.now }
-    requires least { least ≤ 1024 }
-    requires step { step < 2 ^ 40 }
+    requires least { least ≤ MOST_EVENTS }
+    requires step { step ≤ LAST_STEP }
     ensures read { GivesIfMemory (λ o. o) result (at + 100 + 32 * top_level_of step) (read_at (opening_from least step) bytes.now at) }
     ensures within { IfOk result (λ _. at + 100 + 32 * top_level_of step ≤ length bytes.now) }
-    ensures count { IfOk result (λ o. (least ≤ o.count) × (o.count ≤ 1024)) }
+    ensures count { IfOk result (λ o. (least ≤ o.count) × (o.count ≤ MOST_EVENTS)) }
 {
     opening_fields(alloc, bytes, at, least, step)
 }
@@ -70,7 +71,7 @@ pub(crate) fn opening_at(
 #[tactic(auto, unfolding(crate::specs::Reading::link_at))]
 fn link_at(alloc: Global, bytes: &[u8], at: u64, step: u64) -> Result<Link, ReadFault>
     requires within { at ≤ length bytes.now }
-    requires step { step < 2 ^ 40 }
+    requires step { step ≤ LAST_STEP }
     ensures read { GivesIfMemory (λ l. l) result (at + 32 + 32 * top_level_of step) (link_at_of step bytes.now at) }
     ensures within { IfOk result (λ _. at + 32 + 32 * top_level_of step ≤ length bytes.now) }
 {
@@ -82,7 +83,7 @@ fn link_at(alloc: Global, bytes: &[u8], at: u64, step: u64) -> Result<Link, Read
 /// The step that the greedy path's next link leads to.
 fn next_step(from: u64, to: u64) -> u64
     requires below { to < from }
-    requires step { from < 2 ^ 40 }
+    requires step { from ≤ LAST_STEP }
     ensures value { result ≡ hop from to }
     ensures less { result < from }
 {
@@ -98,7 +99,7 @@ pub(crate) fn path_at(
     to: u64,
 ) -> Result<(Path, u64), ReadFault>
     requires within { at ≤ length bytes.now }
-    requires step { from < 2 ^ 40 }
+    requires step { from ≤ LAST_STEP }
     ensures read { GivesWithEnd (λ (p : Path). p.links) result (read_at (path_layout from to) bytes.now at) }
     ensures within { IfOk result (λ r. r.1 ≤ length bytes.now) }
 {
@@ -117,7 +118,7 @@ pub(crate) fn path_at(
 /// The opening of the step (0 to 2^40 - 1) that the bytes spell, from first to last. Malformed
 /// exactly where they spell none, with the place of the first byte at which no opening goes on.
 pub fn read_opening(alloc: Global, bytes: &[u8], step: u64) -> Result<Opening, ReadFault>
-    requires { step < 2 ^ 40 }
+    requires { step ≤ LAST_STEP }
     ensures { ReadsAs (λ o. o) (opening_layout step) bytes.now result }
 {
     let after = 100 + 32 * top_level(step) as u64;
@@ -128,7 +129,7 @@ pub fn read_opening(alloc: Global, bytes: &[u8], step: u64) -> Result<Opening, R
 /// to itself or to a later one it has no bytes. Malformed exactly where they spell none, with the
 /// place of the first byte at which no path goes on.
 pub fn read_path(alloc: Global, bytes: &[u8], from: u64, to: u64) -> Result<Path, ReadFault>
-    requires { from < 2 ^ 40 }
+    requires { from ≤ LAST_STEP }
     ensures { ReadsAs (λ (p : Path). p.links) (path_layout from to) bytes.now result }
 {
     whole(bytes, path_at(alloc, bytes, 0, from, to))

@@ -1,6 +1,7 @@
 // Writing openings, paths and existence proofs.
 
 ghost use Rattle.std.specs.Prelude.{◌≡◌, ℕ, ◌^◌, ◌<◌, ◌≤◌, [], ◌++◌, length, IfOk, OnOk};
+ghost use Rattle.tw_base.specs.declared.limits.TheConstants.{MOST_EVENTS};
 ghost use Rattle.tw_base.specs.Fields.{name, number_bytes};
 ghost use Rattle.tw_base.specs.Formats.{Spells};
 ghost use Rattle.tw_base.specs.Levels.{top_level};
@@ -90,7 +91,7 @@ fn put_place(into: &mut Bytes, part: &Part) -> Result<(), NoMemory>
 /// has so many levels from 1 on, where its count is at most 1,024.
 pub fn write_opening(alloc: Global, opening: &Opening) -> Result<Bytes, NoMemory>
     ensures bytes { IfOk result (λ bytes. bytes ≡ opening_bytes opening.now) }
-    ensures spelled { IfOk result (λ bytes. (step : ℕ) → length opening.now.others ≡ top_level step → opening.now.count ≤ 1024 →
+    ensures spelled { IfOk result (λ bytes. (step : ℕ) → length opening.now.others ≡ top_level step → opening.now.count ≤ MOST_EVENTS →
         Spells (opening_layout step) bytes opening.now) }
 {
     let size = opening.others.len().saturating_mul(32).saturating_add(100);

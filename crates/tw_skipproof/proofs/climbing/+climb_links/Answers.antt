@@ -6,7 +6,7 @@ use Rattle.tw_skipproof.proofs.climbing.+climb_links.Goals as goal
 
 pub link_authenticator-requires-clause-count : goal.link_authenticator-requires-clause-count
 link_authenticator-requires-clause-count g t c =
-    let small : top_level c.args.from < 40 = top_level-below c.args.from c.requires in
+    let small : top_level c.args.from < 40 = top_level-below c.args.from (omega (arith, c.requires)) in
     let count : length c.in-Some.link.now.others < 40 = omega arith in
     count
 

@@ -1,4 +1,4 @@
-use Rattle.std.proofs.Common.{lit≤}
+use Rattle.std.proofs.Common.{arith, lit≤}
 use Rattle.tw_skipproof.proofs.ExistenceSizes.{existence-size}
 use Rattle.tw_skipproof.proofs.PathSizes.{path-size}
 use Rattle.tw_skipproof.proofs.SpellingLaws.{existence-limits, existence-one_spelling, existence-shape, existence-written, opening-labels, opening-one_spelling, opening-written, path-one_spelling, path-shape, path-written}
@@ -17,7 +17,7 @@ pub returns-clause-path_shape : goal.returns-clause-path_shape
 returns-clause-path_shape c = path-shape
 
 pub returns-clause-path_size : goal.returns-clause-path_size
-returns-clause-path_size c = path-size
+returns-clause-path_size c = λ from to bytes links short spelled. path-size from to bytes links (omega (arith, short)) spelled
 
 pub returns-clause-existence : goal.returns-clause-existence
 returns-clause-existence c = (existence-written, existence-one_spelling)
