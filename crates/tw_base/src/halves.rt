@@ -1,6 +1,7 @@
 // How a list of events is split.
 
 ghost use Rattle.std.specs.Prelude.{◌≡◌, ◌^◌, ◌<◌, ◌≤◌};
+ghost use Rattle.tw_base.specs.declared.limits.TheConstants.{MOST_EVENTS};
 ghost use Rattle.tw_base.specs.EventTree.{largest_power_below};
 
 use crate::link_level::power_of_two;
@@ -9,7 +10,7 @@ use crate::link_level::power_of_two;
 /// number.
 pub fn left_count(count: usize) -> usize
     requires more { 1 < count }
-    requires few { count ≤ 1024 }
+    requires few { count ≤ MOST_EVENTS }
     ensures value { result ≡ largest_power_below count }
     ensures less { result < count }
     ensures some { 0 < result }

@@ -2,6 +2,7 @@
 
 ghost use Rattle.std.specs.Prelude.{◌≡◌, ℕ, ◌+◌, ◌*◌, ◌≤◌, List, ◌++◌, length};
 ghost use Rattle.arrayvec.specs.ArrayVec.{array_vec_len};
+ghost use Rattle.tw_base.specs.declared.limits.TheConstants.{MOST_EVENT_BYTES};
 ghost use Rattle.tw_base.specs.Texts.{authenticator_text, datum_text, empty_tree_text, event_leaf_text, event_node_text, genesis_text, link_text, no_events_text};
 ghost use Rattle.tw_base.specs.Entries.{IsFit, entry_text};
 ghost use Rattle.tw_base.specs.Digests.{AllDigests};
@@ -113,7 +114,7 @@ pub fn tree_node<H: Hasher>(left: &Digest, entry: &Entry, right: &Digest) -> Dig
 /// The label of one event of at most 1,024 bytes: the leaf hash of RFC 6962, section 2.1.
 #[tactic(auto, unfolding(crate::specs::Texts::event_leaf_text))]
 pub fn event_leaf<H: Hasher>(event: &[u8]) -> Digest
-    requires { length event.now ≤ 1024 }
+    requires { length event.now ≤ MOST_EVENT_BYTES }
     ensures { result ≡ H.dig (event_leaf_text event.now) }
 {
     let mut text: ArrayVec<u8, 1025> = ArrayVec::new();

@@ -52,5 +52,5 @@ pub use report::{Claim, Hop, Reason, Report, Seen};
 pub use root::Root;
 pub use sequence::{Bytes, EventList, Sequence};
 pub use side::Side;
-pub use thread::{Entry, Key, Place, Thread, compare_keys, entry_key};
+pub use thread::{Entries, Entry, Key, Place, Thread, Threads, compare_keys, entry_key};
 pub use writers::{put_bytes, put_digest, put_labels, put_name, put_number};

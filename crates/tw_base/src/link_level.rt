@@ -1,13 +1,14 @@
 // The levels of a step's links.
 
 ghost use Rattle.std.specs.Prelude.{◌≡◌, ℕ, ◌^◌, ◌%◌, ◌<◌, ◌≤◌};
+ghost use Rattle.tw_base.specs.declared.limits.TheConstants.{LAST_STEP};
 ghost use Rattle.tw_base.specs.Levels.{top_level as top_level_of};
 
 /// The greatest level of a step's links: the greatest l such that 2^l divides the step (0 to
 /// 2^40 - 1), and 0 for step 0, which has no link. A step from 1 on has one link more than this.
 #[tactic(auto, using(crate::proofs::Levels::top_levels))]
 pub fn top_level(step: u64) -> u8
-    requires { step < 2 ^ 40 }
+    requires { step ≤ LAST_STEP }
     ensures value { result ≡ top_level_of step }
     ensures small { result < 40 }
     ensures divides { 0 < step → step % 2 ^ result ≡ 0 }

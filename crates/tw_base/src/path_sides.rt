@@ -2,6 +2,7 @@
 
 ghost use Rattle.std.specs.Prelude.{◌≡◌, ◌<◌, ◌≤◌, reverse};
 ghost use Rattle.arrayvec.specs.ArrayVec.{array_vec_len};
+ghost use Rattle.tw_base.specs.declared.limits.TheConstants.{MOST_EVENTS};
 ghost use Rattle.tw_base.specs.AuditPath.{path_length as length_of_path, path_sides};
 
 use crate::halves::left_count;
@@ -12,7 +13,7 @@ use arrayvec::ArrayVec;
 /// downwards, so that the lowest is popped first.
 pub fn sides_of(count: usize, index: usize) -> ArrayVec<Side, 10>
     requires inside { index < count }
-    requires few { count ≤ 1024 }
+    requires few { count ≤ MOST_EVENTS }
     ensures sides { reverse result.items ≡ path_sides count index }
     ensures len { array_vec_len result ≡ length_of_path count index }
 {
@@ -37,7 +38,7 @@ pub fn sides_of(count: usize, index: usize) -> ArrayVec<Side, 10>
 /// at most 10.
 pub fn path_length(count: u32, index: u32) -> u8
     requires inside { index < count }
-    requires few { count ≤ 1024 }
+    requires few { count ≤ MOST_EVENTS }
     ensures value { result ≡ length_of_path count index }
     ensures bound { result ≤ 10 }
 {

@@ -5,6 +5,7 @@ ghost use Rattle.tw_base.specs.Entries.{key_cmp, key_of};
 
 use crate::digest::Digest;
 use crate::name::Name;
+use crate::sequence::Sequence;
 use std::cmp::Ordering;
 
 /// A thread of a timeline: a service, one of its steps (0 to 2^40 - 1) and the authenticator of
@@ -22,6 +23,12 @@ pub struct Entry {
     pub thread: Thread,
     pub archived: u64,
 }
+
+/// Threads, in some order.
+pub type Threads = Sequence<Thread>;
+
+/// The entries of an archive, in some order.
+pub type Entries = Sequence<Entry>;
 
 /// What an archive is ordered by: name and then step.
 #[derive(Clone, Copy, PartialEq, Eq, PartialOrd, Ord, Debug, Drop)]

@@ -5,7 +5,7 @@ use Rattle.tw_base.proofs.link_level.top_level.Goals as goal
 
 pub returns-clause-small : goal.returns-clause-small
 returns-clause-small c =
-    let small : top_level c.args.step < 40 = top_level-below c.args.step c.requires in
+    let small : top_level c.args.step < 40 = top_level-below c.args.step (omega (arith, c.requires)) in
     omega (arith, small, top_level-is c.args.step (omega arith))
 
 pub returns-clause-divides : goal.returns-clause-divides
