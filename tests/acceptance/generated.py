@@ -162,8 +162,37 @@ def histories():
                 yield shown(f"{len(steps)} steps, {name}, event {index} of step {step}", data, step, index)
 
 
+def shown_trees():
+    """Each event of steps of 1 to 64 events, of which event i has i bytes, each of them i; and one of 1,024 events."""
+    table = [bytes([i]) * i for i in range(64)]
+    for count in range(1, 65):
+        data = reference.history_bytes("table", [reference.Step(table[:count])])
+        for index in range(count):
+            yield shown(f"event {index} of {count}", data, 1, index)
+    many = reference.history_bytes("many", [reference.Step([bytes([i // 256, i % 256]) for i in range(1024)])])
+    yield shown("event 777 of 1024", many, 1, 777)
+
+
+def shown_and_accepted():
+    """What is shown of a woven history, where each of its events is accepted under the authenticator of the last step."""
+    steps = woven(33, "two")
+    data = reference.history_bytes("woven", steps)
+    auth = reference.history_line("woven", steps).auths[-1]
+    for step, recorded in enumerate(steps, 1):
+        for index in range(len(recorded.events)):
+            proof, _ = reference.shown("h", data, step, index)
+            case = judged(f"event {index} of step {step}", proof, "woven", len(steps), auth)
+            assert case["status"] == 0
+            yield case
+
+
 def changed_histories():
-    """Each byte of a small history file changed, and each cut of it."""
+    """Each byte of a small history file changed, and each cut of it; each cut of files of one step."""
+    event, thread = reference.Step([b""]), reference.Step(thread=("b", 258, bytes(32)), nodes=[(0, 1, 0)], root=1)
+    for name, step in (("an event", event), ("a thread", thread)):
+        data = reference.history_bytes("a", [step])
+        for size in range(len(data)):
+            yield shown(f"{name}, cut to {size}", data[:size], 1, 0)
     steps = woven(7, "small")
     data = reference.history_bytes("woven", steps)
     last = max(number for number, step in enumerate(steps, 1) if step.events)
@@ -200,6 +229,19 @@ def broken_by_hand():
     yield 6, "too many bytes of events", [reference.Step([bytes(1024)] * 64 + [b"x"])]
 
 
+def swapped_labels():
+    """A proof of an event of which two labels of its path are swapped, and such a proof under another index."""
+    line = counted_timeline("labels", [5])
+    data = reference.proof_bytes(line, 1, 2, 1)
+    labels = [data[-96:-64], data[-64:-32], data[-32:]]
+    for one, two, three in ((1, 0, 2), (0, 2, 1), (2, 1, 0)):
+        turned = data[:-96] + labels[one] + labels[two] + labels[three]
+        yield judged(f"labels {one}, {two}, {three}", turned, "labels", 1, line.auths[1])
+    place = len(data) - 96 - len(event_text(1, 2)) - 8
+    for index in (0, 1, 3, 4, 5, 6):
+        yield judged(f"index {index}", data[:place] + reference.be(index, 4) + data[place + 4 :], "labels", 1, line.auths[1])
+
+
 def unsound_histories():
     """Each rule broken by hand, and histories of which one number of a node or a root is changed."""
     for rule, name, steps in broken_by_hand():
@@ -224,7 +266,10 @@ def unsound_histories():
 
 
 def cases():
-    groups = (paths, event_trees, sizes, deep, all_changed, above_the_top, histories, changed_histories, unsound_histories)
+    groups = (
+        paths, event_trees, sizes, deep, all_changed, above_the_top, swapped_labels, histories, shown_trees, shown_and_accepted,
+        changed_histories, unsound_histories,
+    )
     for group in groups:
         for case in group():
             yield {**case, "name": f"{group.__name__}: {case['name']}"}

@@ -426,6 +426,17 @@ def broken_rule(name, number, step, archive):
     return 6 if sum(map(len, step.events)) > 65536 else None
 
 
+def history_line(name, steps):
+    """The timeline of a sound history."""
+    archive, archives = Archive(), []
+    for number, step in enumerate(steps, 1):
+        if step.thread:
+            archive.received[number] = step.thread
+        archive.nodes += step.nodes
+        archives.append(archive.label(step.root))
+    return Timeline(name, [step.events for step in steps], archives)
+
+
 def shown(file, data, step, index):
     """What the program writes of an event of a history file of this name, and its status."""
     if len(data) > HISTORY_LIMIT:
@@ -434,18 +445,16 @@ def shown(file, data, step, index):
         name, steps = read_history(data)
     except Malformed as bad:
         return f"unreadable {file} byte {bad.place}\n".encode(), 9
-    archive, archives = Archive(), []
+    archive = Archive()
     for number, recorded in enumerate(steps, 1):
         rule = broken_rule(name, number, recorded, archive)
         if rule:
             return f"unsound {file} step {number} rule {rule}\n".encode(), 9
-        archives.append(archive.label(recorded.root))
     if not 1 <= step <= len(steps):
         return f"refused NoStep {len(steps)}\n".encode(), 7
     if index >= len(steps[step - 1].events):
         return f"refused NoEvent {len(steps[step - 1].events)}\n".encode(), 7
-    line = Timeline(name, [recorded.events for recorded in steps], archives)
-    return proof_bytes(line, step, index, len(steps)), 0
+    return proof_bytes(history_line(name, steps), step, index, len(steps)), 0
 
 
 def print_values():

@@ -13,8 +13,6 @@ mod reading;
 mod reading_content;
 mod reading_steps;
 mod showing;
-#[cfg(test)]
-mod showing_tests;
 mod sizes;
 mod soundness;
 mod step;

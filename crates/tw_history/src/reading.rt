@@ -62,6 +62,3 @@ fn judged(alloc: Global, history: History) -> Result<History, HistoryFault>
     is_sound(alloc, &history)?;
     Ok(history)
 }
-
-#[cfg(test)]
-mod tests;

@@ -11,8 +11,6 @@ mod greatest;
 mod keys;
 mod nodes;
 mod summary;
-#[cfg(test)]
-mod tests;
 mod threads;
 
 use crate::fault::HistoryFault;

@@ -1,76 +1,60 @@
-// Histories and the bytes of their files.
+// Small history files, read, judged, written again and shown.
 
 use super::*;
-use std::process::Abort;
+use std::alloc::Global;
 use std::test::Fail;
-use tw_base::{Bytes, Digest, EventList, Name, Thread};
+use tw_base::{Bytes, Digest, Name, Weak};
 
-/// The name `a`.
-fn name_a(rt: &impl Abort) -> Name {
-    Name::read(b"a").expect(rt, "a name")
+/// The file of the history of the service `a` with one step, of one event of no bytes.
+fn one_event() -> &'static [u8] {
+    b"TWH1a\0\0\0\0\0\0\0\0\0\0\0\0\0\0\0\0\0\0\0\0\0\0\x01\x01\0\0\0\x01\0\0\0\0\0\0\0\0\0\0"
+}
+
+/// The file of the history of the service `b` with one step, which received step 1 of the service
+/// `a`, with its node.
+fn one_thread() -> &'static [u8] {
+    b"TWH1b\0\0\0\0\0\0\0\0\0\0\0\0\0\0\0\0\0\0\0\0\0\0\x01\x02a\0\0\0\0\0\0\0\0\0\0\0\0\0\0\0\0\0\0\0\0\0\0\x01\xbf\0\0\0\0\0\0\0\0\0\0\0\0\0\0\0\0\0\0\0\0\0\0\0\0\0\0\0\0\0\0\0\0\x01\0\0\0\0\0\0\0\0\0\0\0\x01\0\0\0\0\0\0\0\x01"
+}
+
+/// A digest of the weak hasher.
+fn short(first: u8) -> Digest {
+    let mut bytes = [0; 32];
+    bytes[0] = first;
+    Digest(bytes)
+}
+
+/// The history of a file, sound, and its file written anew.
+fn read_and_written(alloc: Global, file: &[u8]) -> Result<(History, Bytes), HistoryFault> {
+    let history = read_history(alloc, file)?;
+    is_sound(alloc, &history)?;
+    let written = write_history(alloc, &history)?;
+    Ok((history, written))
 }
 
 #[test]
-fn files_of_events(rt: HostRuntime) -> Result<(), Fail> {
+fn a_step_of_an_event(rt: HostRuntime) -> Result<(), Fail> {
     let alloc = rt.alloc();
-    let none = History::new(name_a(&rt), Steps::new(alloc), Nodes::new(alloc));
-    let bytes = write_history(alloc, &none)?;
-    assert_eq!(rt; bytes.len(), 28);
-    assert_eq!(rt; &bytes.as_slice()[..5], b"TWH1a".as_slice());
-    assert_eq!(rt; &bytes.as_slice()[5..], [0; 23].as_slice());
-    let mut events = EventList::new(alloc);
-    events.push(Bytes::new(alloc))?;
-    let mut steps = Steps::new(alloc);
-    steps.push(Step {
-        content: Content::Events(events),
-        fresh: 0,
-        root: 0,
-    })?;
-    let one = History::new(name_a(&rt), steps, Nodes::new(alloc));
-    let bytes = write_history(alloc, &one)?;
-    assert_eq!(rt; bytes.len(), 43);
-    assert_eq!(rt;
-        &bytes.as_slice()[20..],
-        [
-            0, 0, 0, 0, 0, 0, 0, 1, 1, 0, 0, 0, 1, 0, 0, 0, 0, 0, 0, 0, 0, 0, 0
-        ]
-        .as_slice()
-    );
+    let (history, written) = read_and_written(alloc, one_event())?;
+    assert_eq!(rt; written.as_slice(), one_event());
+    assert_eq!(rt; auth_of::<Weak>(alloc, &history, 1)?, Some(short(0xbf)));
+    assert_eq!(rt; show_event::<Weak>(alloc, &history, 1, 0)?.len(), 145);
     Ok(())
 }
 
 #[test]
-fn file_of_a_thread(rt: HostRuntime) -> Result<(), Fail> {
+fn a_step_of_a_thread(rt: HostRuntime) -> Result<(), Fail> {
     let alloc = rt.alloc();
-    let mut nodes = Nodes::new(alloc);
-    nodes.push(Node {
-        left: 0,
-        entry: 1,
-        right: 0,
-    })?;
-    let mut steps = Steps::new(alloc);
-    steps.push(Step {
-        content: Content::Received(Thread {
-            from: Name::read(b"b").ok_or("no name")?,
-            step: 0x0102,
-            auth: Digest([7; 32]),
-        }),
-        fresh: 1,
-        root: 1,
-    })?;
-    let history = History::new(name_a(&rt), steps, nodes);
-    let bytes = write_history(alloc, &history)?;
-    let bytes = bytes.as_slice();
-    assert_eq!(rt; bytes.len(), 107);
-    assert_eq!(rt; &bytes[27..30], b"\x01\x02b".as_slice());
-    assert_eq!(rt; &bytes[45..53], [0, 0, 0, 0, 0, 0, 1, 2].as_slice());
-    assert_eq!(rt; &bytes[53..85], [7; 32].as_slice());
-    assert_eq!(rt;
-        &bytes[85..],
-        [
-            0, 1, 0, 0, 0, 0, 0, 0, 0, 0, 0, 0, 0, 1, 0, 0, 0, 0, 0, 0, 0, 1
-        ]
-        .as_slice()
-    );
+    let (history, written) = read_and_written(alloc, one_thread())?;
+    assert_eq!(rt; written.as_slice(), one_thread());
+    assert_eq!(rt; auth_of::<Weak>(alloc, &history, 1)?, Some(short(0x0a)));
+    Ok(())
+}
+
+#[test]
+fn no_step(rt: HostRuntime) -> Result<(), Fail> {
+    let alloc = rt.alloc();
+    let name = Name::read(b"a").ok_or("no name")?;
+    let history = History::new(name, Steps::new(alloc), Nodes::new(alloc));
+    assert_eq!(rt; write_history(alloc, &history)?.len(), 28);
     Ok(())
 }

@@ -6,7 +6,7 @@ use Rattle.std.proofs.Math.Seq.{take-length}
 use Rattle.std.proofs.lemmas.Bool.{cases_lt}
 use Rattle.std.proofs.lemmas.List.Splits.{slice_split_first, slice_split_none, length-slice_split}
 use Rattle.std.proofs.lemmas.List.Sums.{prefix_len-le-length, fails_before_first}
-use Rattle.tw_msg.specs.Anchors.{lines, lines_of_parts, is_line_feed}
+use Rattle.tw_msg.specs.AnchorsFile.{lines, lines_of_parts, is_line_feed}
 
 lines_of_parts-cons : (line : List ℕ) (parts : List (List ℕ)) → 0 < length parts → lines_of_parts (line ∷ parts) ≡ line ∷ lines_of_parts parts
 lines_of_parts-cons line [] some = absurd (omega arith)

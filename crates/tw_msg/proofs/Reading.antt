@@ -5,9 +5,10 @@ use Rattle.std.proofs.Math.Seq.{drop-cons, take-suc, take-length}
 use Rattle.std.proofs.lemmas.List.{length-drop, length-map, length-take, length-take-le, map-append, get_or-map, get_or-take}
 use Rattle.std.proofs.lemmas.Slice.Eq.{bytes_eq-Decides}
 use Rattle.std.proofs.lemmas.List.Folds.{list_any_at}
+use Rattle.tw_base.specs.declared.limits.TheConstants.{LAST_STEP, MOST_ANCHORS}
 use Rattle.tw_base.specs.declared.thread.Thread.{Thread}
-use Rattle.tw_text.specs.Words.{is_number, number_of, is_number_within, is_digest}
-use Rattle.tw_msg.specs.Anchors.{anchor, may_follow, is_good, line_at, AllGood, IsFirstBadLine, is_anchor, is_of, name_word, step_word, digest_word}
+use Rattle.tw_text.specs.Words.{is_number, word_number, is_number_within, is_digest}
+use Rattle.tw_msg.specs.AnchorsFile.{anchor, line_may_follow, is_good, line_at, AllGood, IsFirstBadLine, is_anchor, is_of, name_word, step_word, digest_word}
 use Rattle.tw_base.specs.Names.{is_name_text}
 
 -- ---- tests
@@ -31,7 +32,7 @@ pub record IsRead (all remaining : List (List ℕ)) (anchors : List Thread) : Ty
   pub so_far : anchors ≡ map anchor (take (length anchors) all)
   pub rest : remaining ≡ drop (length anchors) all
   pub good : (i : ℕ) → i < length anchors → is_good all i ≡ true
-  pub few : length anchors ≤ 64
+  pub few : length anchors ≤ MOST_ANCHORS
 
 pub none_read : (all : List (List ℕ)) → IsRead all all []
 none_read all = record { so_far = refl; rest = refl; good = λ i h. absurd (omega arith); few = omega arith }
@@ -49,19 +50,19 @@ next all remaining line n e =
     record { within = within; here = cc; rest = cc }
 
 good-next : (all remaining : List (List ℕ)) (line : List ℕ) (anchors : List Thread) (answer : Bool) → IsRead all (line ∷ remaining) anchors →
-    may_follow anchors line ≡ answer → is_good all (length anchors) ≡ answer
+    line_may_follow anchors line ≡ answer → is_good all (length anchors) ≡ answer
 good-next all remaining line anchors answer before follows =
     let here = next all remaining line (length anchors) before.rest in
-    subst (λ found. may_follow found (line_at all (length anchors)) ≡ answer) before.so_far
-    (subst (λ l. may_follow anchors l ≡ answer) (sym here.here) follows)
+    subst (λ found. line_may_follow found (line_at all (length anchors)) ≡ answer) before.so_far
+    (subst (λ l. line_may_follow anchors l ≡ answer) (sym here.here) follows)
 
-few-may_follow : (anchors : List Thread) (line : List ℕ) → may_follow anchors line ≡ true → length anchors < 64
+few-may_follow : (anchors : List Thread) (line : List ℕ) → line_may_follow anchors line ≡ true → length anchors < MOST_ANCHORS
 few-may_follow anchors line follows =
-    let anchor_too = both (leb (suc (length anchors)) 64 && is_anchor line) (not (list_any (is_of (anchor line).from) anchors)) follows in
-    leb-true (suc (length anchors)) 64 (both (leb (suc (length anchors)) 64) (is_anchor line) anchor_too.0).0
+    let anchor_too = both (leb (suc (length anchors)) MOST_ANCHORS && is_anchor line) (not (list_any (is_of (anchor line).from) anchors)) follows in
+    leb-true (suc (length anchors)) MOST_ANCHORS (both (leb (suc (length anchors)) MOST_ANCHORS) (is_anchor line) anchor_too.0).0
 
 pub read_on : (all remaining : List (List ℕ)) (line : List ℕ) (anchors : List Thread) → IsRead all (line ∷ remaining) anchors →
-    may_follow anchors line ≡ true → IsRead all remaining (anchors ++ anchor line ∷ [])
+    line_may_follow anchors line ≡ true → IsRead all remaining (anchors ++ anchor line ∷ [])
 read_on all remaining line anchors before follows =
     let here = next all remaining line (length anchors) before.rest in
     let n = length anchors in
@@ -81,7 +82,7 @@ read_on all remaining line anchors before follows =
 pub record IsRead_through (all : List (List ℕ)) (anchors : List Thread) : Type 0 where
   pub anchors_are : anchors ≡ map anchor all
   pub good : AllGood all
-  pub few : length anchors ≤ 64
+  pub few : length anchors ≤ MOST_ANCHORS
 
 pub all_read : (all : List (List ℕ)) (anchors : List Thread) → IsRead all [] anchors → IsRead_through all anchors
 all_read all anchors before =
@@ -95,11 +96,11 @@ all_read all anchors before =
     }
 
 -- a line that may follow has the service of none of the anchors
-other-may_follow : (anchors : List Thread) (line : List ℕ) (i : ℕ) (d : Thread) → may_follow anchors line ≡ true → i < length anchors →
+other-may_follow : (anchors : List Thread) (line : List ℕ) (i : ℕ) (d : Thread) → line_may_follow anchors line ≡ true → i < length anchors →
     (get_or anchors i d).from ≢ (anchor line).from
 other-may_follow anchors line i d follows within same =
     let of = is_of (anchor line).from in
-    let none = (both (leb (suc (length anchors)) 64 && is_anchor line) (not (list_any of anchors)) follows).1 in
+    let none = (both (leb (suc (length anchors)) MOST_ANCHORS && is_anchor line) (not (list_any of anchors)) follows).1 in
     let equal : of (get_or anchors i d) ≡ true = (bytes_eq-Decides (get_or anchors i d).from (anchor line).from).1 same in
     let any : list_any of anchors ≡ true = list_any_at of anchors i d within equal in
     let wrong : false ≡ true = sym (ap not any) ∙ none in
@@ -121,7 +122,7 @@ different-good all good i j d below within same =
     (ap (λ t. t.from) earlier ∙ same ∙ ap (λ t. t.from) later)
 
 pub first_bad_line : (all remaining : List (List ℕ)) (line : List ℕ) (anchors : List Thread) → IsRead all (line ∷ remaining) anchors →
-    may_follow anchors line ≡ false → IsFirstBadLine all (length anchors + 1)
+    line_may_follow anchors line ≡ false → IsFirstBadLine all (length anchors + 1)
 first_bad_line all remaining line anchors before bad =
     record {
       index = length anchors;
@@ -133,30 +134,30 @@ first_bad_line all remaining line anchors before bad =
 
 -- ---- the number of a step
 
-pub number-pos : (word : List ℕ) → is_number_within 1 0xff_ffff_ffff word ≡ true →
-    (is_number word ≡ true) × (1 ≤ number_of word) × (number_of word ≤ 0xff_ffff_ffff)
+pub number-pos : (word : List ℕ) → is_number_within 1 LAST_STEP word ≡ true →
+    (is_number word ≡ true) × (1 ≤ word_number word) × (word_number word ≤ LAST_STEP)
 number-pos word within =
-    let outer = both (is_number word && leb 1 (number_of word)) (leb (number_of word) 0xff_ffff_ffff) within in
-    let inner = both (is_number word) (leb 1 (number_of word)) outer.0 in
-    (inner.0, leb-true 1 (number_of word) inner.1, leb-true (number_of word) 0xff_ffff_ffff outer.1)
+    let outer = both (is_number word && leb 1 (word_number word)) (leb (word_number word) LAST_STEP) within in
+    let inner = both (is_number word) (leb 1 (word_number word)) outer.0 in
+    (inner.0, leb-true 1 (word_number word) inner.1, leb-true (word_number word) LAST_STEP outer.1)
 
-pub pos-number : (word : List ℕ) → is_number word ≡ true → 1 ≤ number_of word → number_of word ≤ 0xff_ffff_ffff →
-    is_number_within 1 0xff_ffff_ffff word ≡ true
+pub pos-number : (word : List ℕ) → is_number word ≡ true → 1 ≤ word_number word → word_number word ≤ LAST_STEP →
+    is_number_within 1 LAST_STEP word ≡ true
 pos-number word number low high =
-    join (is_number word && leb 1 (number_of word)) (leb (number_of word) 0xff_ffff_ffff)
-    (join (is_number word) (leb 1 (number_of word)) number (le-leb _ _ low)) (le-leb _ _ high)
+    join (is_number word && leb 1 (word_number word)) (leb (word_number word) LAST_STEP)
+    (join (is_number word) (leb 1 (word_number word)) number (le-leb _ _ low)) (le-leb _ _ high)
 
 -- ---- the words of a line
 
 pub anchor-words : (line : List ℕ) → is_anchor line ≡ true →
-    (is_name_text (name_word line) ≡ true) × (is_number_within 1 0xff_ffff_ffff (step_word line) ≡ true) × (is_digest (digest_word line) ≡ true)
+    (is_name_text (name_word line) ≡ true) × (is_number_within 1 LAST_STEP (step_word line) ≡ true) × (is_digest (digest_word line) ≡ true)
 anchor-words line holds =
-    let outer = both (is_name_text (name_word line) && is_number_within 1 0xff_ffff_ffff (step_word line)) (is_digest (digest_word line)) holds in
-    let inner = both (is_name_text (name_word line)) (is_number_within 1 0xff_ffff_ffff (step_word line)) outer.0 in
+    let outer = both (is_name_text (name_word line) && is_number_within 1 LAST_STEP (step_word line)) (is_digest (digest_word line)) holds in
+    let inner = both (is_name_text (name_word line)) (is_number_within 1 LAST_STEP (step_word line)) outer.0 in
     (inner.0, inner.1, outer.1)
 
-pub words-anchor : (line : List ℕ) → is_name_text (name_word line) ≡ true → is_number_within 1 0xff_ffff_ffff (step_word line) ≡ true →
+pub words-anchor : (line : List ℕ) → is_name_text (name_word line) ≡ true → is_number_within 1 LAST_STEP (step_word line) ≡ true →
     is_digest (digest_word line) ≡ true → is_anchor line ≡ true
 words-anchor line name step digest =
-    join (is_name_text (name_word line) && is_number_within 1 0xff_ffff_ffff (step_word line)) (is_digest (digest_word line))
-    (join (is_name_text (name_word line)) (is_number_within 1 0xff_ffff_ffff (step_word line)) name step) digest
+    join (is_name_text (name_word line) && is_number_within 1 LAST_STEP (step_word line)) (is_digest (digest_word line))
+    (join (is_name_text (name_word line)) (is_number_within 1 LAST_STEP (step_word line)) name step) digest

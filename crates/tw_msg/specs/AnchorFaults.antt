@@ -1,6 +1,6 @@
 -- What a fault of an anchors file tells.
 use Rattle.std.specs.Prelude.{ℕ, List}
-use Rattle.tw_msg.specs.Anchors.{IsFirstBadLine}
+use Rattle.tw_msg.specs.AnchorsFile.{IsFirstBadLine}
 use Rattle.tw_msg.specs.declared.anchors.AnchorFault.{AnchorFault}
 use Rattle.tw_msg.specs.declared.anchors.AnchorFault.TheVariants.{BadLine, NoMemory}
 

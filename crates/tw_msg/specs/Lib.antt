@@ -1,4 +1,4 @@
-pub mod Anchors
+pub mod AnchorsFile
 pub mod AnchorFaults
 pub mod EventsFile
 pub mod EventsReading

@@ -2,20 +2,15 @@
 
 ghost use Rattle.std.specs.Prelude.{◌≡◌, ◌≢◌, ◌≤◌, ◌↔◌, length, map, IsTrue, IsSome, IfSome, IfOk, IfErr, ℕ};
 ghost use Rattle.std.specs.List.{AllPairs, list_any};
-ghost use Rattle.tw_msg.specs.Anchors.{AllGood, anchor as anchor_of, is_anchor, is_of, lines, may_follow};
-ghost use Rattle.tw_text.specs.Words.{is_number_within, number_of};
+ghost use Rattle.tw_msg.specs.AnchorsFile.{AllGood, anchor as anchor_of, is_anchor, is_of, lines, line_may_follow};
+ghost use Rattle.tw_text.specs.Words.{is_number_within, word_number};
 ghost use Rattle.tw_msg.specs.AnchorFaults.{TellsBadLine};
 
 use crate::split::split_at_first;
 use std::alloc::Global;
+use tw_base::limits::{LAST_STEP, MOST_ANCHORS};
 use tw_base::{Name, NoMemory, Sequence, Thread};
 use tw_text::{read_digest, read_number};
-
-/// The greatest step.
-const LAST_STEP: u64 = 0xff_ffff_ffff;
-
-/// How many anchors a verifier holds at most.
-const MOST_ANCHORS: usize = 64;
 
 /// Threads, such as the anchors of a verifier.
 pub type Threads = Sequence<Thread>;
@@ -30,13 +25,24 @@ pub enum AnchorFault {
     NoMemory,
 }
 
+impl From<NoMemory> for AnchorFault {
+    ghost use Rattle.std.specs.Prelude.{◌≡◌};
+    ghost use Rattle.tw_msg.specs.declared.anchors.AnchorFault.TheVariants.{NoMemory as WantedMemory};
+
+    ghost from_gives = { λ _ fault. fault ≡ WantedMemory };
+
+    fn from(_refused: NoMemory) -> Self {
+        AnchorFault::NoMemory
+    }
+}
+
 /// The anchors of a file: lines `NAME STEP HEX` with one blank between, at most 64, one a service;
 /// STEP within 1 to 2^40 - 1 in decimal digits, HEX of 64 digits of either case. Each line is ended
 /// by one line feed, which the last may lack. An empty file has no anchors.
 pub fn read_anchors(alloc: Global, bytes: &[u8]) -> Result<Threads, AnchorFault>
     ensures anchors { IfOk result (λ anchors. anchors ≡ map anchor_of (lines bytes.now)) }
     ensures good { IfOk result (λ _. AllGood (lines bytes.now)) }
-    ensures few { IfOk result (λ anchors. length anchors ≤ 64) }
+    ensures few { IfOk result (λ anchors. length anchors ≤ MOST_ANCHORS) }
     ensures services { IfOk result (AllPairs (λ a b. a.from ≢ b.from)) }
     ensures bad { IfErr result (TellsBadLine (lines bytes.now)) }
 {
@@ -49,20 +55,18 @@ pub fn read_anchors(alloc: Global, bytes: &[u8]) -> Result<Threads, AnchorFault>
                 line: anchors.len() as u64 + 1,
             });
         };
-        match anchors.push(anchor) {
-            Ok(()) => rest = after,
-            Err(NoMemory) => return Err(AnchorFault::NoMemory),
-        }
+        anchors.push(anchor)?;
+        rest = after;
     }
     Ok(anchors)
 }
 
 /// The anchor of a line that may follow the lines of these.
 fn next_anchor(anchors: &[Thread], line: &[u8]) -> Option<Thread>
-    ensures some { IsSome result ↔ IsTrue (may_follow anchors.now line.now) }
+    ensures some { IsSome result ↔ IsTrue (line_may_follow anchors.now line.now) }
     ensures value { IfSome result (λ anchor. anchor ≡ anchor_of line.now) }
 {
-    if anchors.len() >= MOST_ANCHORS {
+    if anchors.len() as u64 >= MOST_ANCHORS {
         return None;
     }
     let anchor = read_anchor(line)?;
@@ -88,8 +92,8 @@ fn read_anchor(line: &[u8]) -> Option<Thread>
 
 /// The number of a step from 1 on.
 fn read_step(word: &[u8]) -> Option<u64>
-    ensures some { IsSome result ↔ IsTrue (is_number_within 1 0xff_ffff_ffff word.now) }
-    ensures value { IfSome result (λ step. step ≡ number_of word.now) }
+    ensures some { IsSome result ↔ IsTrue (is_number_within 1 LAST_STEP word.now) }
+    ensures value { IfSome result (λ step. step ≡ word_number word.now) }
 {
     let step = read_number(word)?;
     if (1..=LAST_STEP).contains(&step) {

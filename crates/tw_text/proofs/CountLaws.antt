@@ -2,7 +2,7 @@
 use Rattle.std.proofs.Common.{◌≡◌, ℕ, ◌+◌, ◌<◌, List, ◌∷◌, length, drop, suc, get_or, if◌then◌else◌, ap, ◌∙◌, sym, add-one}
 use Rattle.std.proofs.Math.Seq.{drop-cons}
 use Rattle.tw_text.specs.Forms.{Part, fits}
-use Rattle.tw_text.specs.Taken.{count_fitting}
+use Rattle.tw_text.specs.TakenSteps.{count_fitting}
 
 -- the count from a word on, by whether that word fits
 pub count_fitting-drop : (part : Part) (words : List (List ℕ)) (i : ℕ) (word : List ℕ) → i < length words → get_or words i word ≡ word →

@@ -2,9 +2,9 @@
 use Rattle.std.proofs.Common.{◌≡◌, ℕ, zero, suc, ◌+◌, ◌≤◌, List, [], ◌∷◌, ◌++◌, length, take, min, refl, ap, ◌∙◌, sym, subst, Bool, true, false, ◌&&◌, leb, arith, append-nil, length-append, length-take-le, cond, eqb, map, codes, replicate, eq-eqb, eqb-true, le-leb, leb-true}
 use Rattle.std.specs.List.{list_all}
 use Rattle.std.proofs.Math.Dec.{leb-zero}
-use Rattle.tw_text.specs.Forms.{Part, More, Form, fits, may_follow, have_parts, have_form}
+use Rattle.tw_text.specs.Forms.{Part, More, Form, fits, words_may_follow, have_parts, have_form}
 use Rattle.tw_text.specs.Forms.More.{Nothing, UpTo, AnyNumberOf}
-use Rattle.tw_text.specs.Taken.{count_fitting, count_more, count_taken}
+use Rattle.tw_text.specs.TakenSteps.{count_fitting, count_more, count_taken}
 
 -- ---- conjunctions of tests
 
@@ -65,7 +65,7 @@ count_taken-le (part ∷ parts) more [] = omega arith
 count_taken-le (part ∷ parts) more (word ∷ words) =
     count_within (fits part word) (count_taken parts more words) (length words) (count_taken-le parts more words)
 
-may_follow-count : (more : More) (words : List (List ℕ)) → count_more more words ≡ length words → may_follow more words ≡ true
+may_follow-count : (more : More) (words : List (List ℕ)) → count_more more words ≡ length words → words_may_follow more words ≡ true
 may_follow-count Nothing words all = grind arith
 may_follow-count (UpTo most part) words all =
     let fitting = count_fitting-le part words in
@@ -74,7 +74,7 @@ may_follow-count (UpTo most part) words all =
     join (leb (length words) most) (list_all (fits part) words) (le-leb _ _ short) (all_fit part words whole)
 may_follow-count (AnyNumberOf part) words all = all_fit part words all
 
-count-may_follow : (more : More) (words : List (List ℕ)) → may_follow more words ≡ true → count_more more words ≡ length words
+count-may_follow : (more : More) (words : List (List ℕ)) → words_may_follow more words ≡ true → count_more more words ≡ length words
 count-may_follow Nothing words follow = omega (arith, leb-true (length words) 0 follow)
 count-may_follow (UpTo most part) words follow =
     let parted = both (leb (length words) most) (list_all (fits part) words) follow in
@@ -116,7 +116,7 @@ length-front : (words rest : List (List ℕ)) (n : ℕ) → n ≤ length words �
 length-front words rest n within = length-append (take n words) rest ∙ ap (λ k. k + length rest) (length-take-le n words within)
 
 front-count_more : (more : More) (words rest : List (List ℕ)) (n : ℕ) → n ≤ length words →
-    may_follow more (take n words ++ rest) ≡ true → n ≤ count_more more words
+    words_may_follow more (take n words ++ rest) ≡ true → n ≤ count_more more words
 front-count_more Nothing words rest n within follow =
     omega (arith, leb-true (length (take n words ++ rest)) 0 follow, length-front words rest n within)
 front-count_more (UpTo most part) words rest n within follow =
@@ -176,7 +176,7 @@ sample Part.Hex = replicate 64 48
 abbrev pub can_be_had : List Part → Bool
 can_be_had parts = list_all (λ part. fits part (sample part)) parts
 
-follow_none : (more : More) → may_follow more [] ≡ true
+follow_none : (more : More) → words_may_follow more [] ≡ true
 follow_none Nothing = refl
 follow_none (UpTo most part) = join (leb 0 most) true (leb-zero most) refl
 follow_none (AnyNumberOf part) = refl
@@ -198,7 +198,7 @@ fitting_front part (word ∷ words) (suc k) h =
     let here = one_within (fits part word) (count_fitting part words) k h in
     join (fits part word) (list_all (fits part) (take k words)) here.0 (fitting_front part words k here.1)
 
-following_front : (more : More) (words : List (List ℕ)) → may_follow more (take (count_more more words) words) ≡ true
+following_front : (more : More) (words : List (List ℕ)) → words_may_follow more (take (count_more more words) words) ≡ true
 following_front Nothing words = refl
 following_front (UpTo most part) words =
     let k = min most (count_fitting part words) in
@@ -221,7 +221,7 @@ one_more part parts more word words k false e fit on = (map sample (part ∷ par
 pub taken-front : (parts : List Part) (more : More) (words : List (List ℕ)) → can_be_had parts ≡ true →
     GoesOn parts more words (count_taken parts more words)
 taken-front [] more words fit =
-    ([], subst (λ front. may_follow more front ≡ true) (sym (append-nil (take (count_more more words) words))) (following_front more words))
+    ([], subst (λ front. words_may_follow more front ≡ true) (sym (append-nil (take (count_more more words) words))) (following_front more words))
 taken-front (part ∷ parts) more [] fit = (map sample (part ∷ parts), have-samples (part ∷ parts) more fit)
 taken-front (part ∷ parts) more (word ∷ words) fit =
     let here = both (fits part (sample part)) (can_be_had parts) fit in

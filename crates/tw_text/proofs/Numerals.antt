@@ -8,7 +8,7 @@ use Rattle.std.specs.Str.Parse.{digits_value, ParsesUnsigned}
 use Rattle.std.proofs.lemmas.Fmt.{IsAscii-from_digits}
 use Rattle.std.proofs.lemmas.Str.{IsUtf8-from_ascii}
 use Rattle.std.proofs.lemmas.Str.Parse.{IsNumeralModel, IsDigitsTest, numerals_by_value, parse_digits}
-use Rattle.tw_text.specs.Words.{is_number, number_of}
+use Rattle.tw_text.specs.Words.{is_number, word_number}
 
 all_digits : IsDigitsTest (λ ds. list_all is_ascii_digit ds ≡ true)
 all_digits = search rules
@@ -24,14 +24,14 @@ IsUtf8-is_number word number =
     IsUtf8-from_ascii word (IsAscii-from_digits word (numerals.to word (digits-is_number word number)))
 
 -- a number that `parse` takes has no more than 64 bits
-parsed : {E : Type 0} (word : List ℕ) (r : Result ℕ E) → IsTrue (is_number word) → OkIff r ((0 < length word) × (number_of word < 2 ^ 64)) (number_of word) →
-    IsSome (result_ok r) ↔ (IsTrue (is_number word) × (number_of word < 2 ^ 64))
+parsed : {E : Type 0} (word : List ℕ) (r : Result ℕ E) → IsTrue (is_number word) → OkIff r ((0 < length word) × (word_number word < 2 ^ 64)) (word_number word) →
+    IsSome (result_ok r) ↔ (IsTrue (is_number word) × (word_number word < 2 ^ 64))
 parsed word (Ok n) number digits = grind arith
 parsed word (Err e) number digits = grind arith
 
 -- `parse` gives the number where it has no more than 64 bits
 pub parse-is_number : {E : Type 0} (word : List ℕ) (r : Result ℕ E) → IsTrue (is_number word) → ParsesUnsigned 64 10 word r →
-    IsSome (result_ok r) ↔ (IsTrue (is_number word) × (number_of word < 2 ^ 64))
+    IsSome (result_ok r) ↔ (IsTrue (is_number word) × (word_number word < 2 ^ 64))
 parse-is_number word r number parses =
     parsed word r number (parse_digits numerals 64 word r parses (digits-is_number word number))
 

@@ -1,11 +1,11 @@
 -- What stands at the places of words that have a form.
 use Rattle.std.proofs.Common.{◌≡◌, ℕ, zero, suc, ◌<◌, ◌≤◌, ◌^◌, List, [], ◌∷◌, length, get_or, refl, subst, Bool, true, false, ◌&&◌, arith, leb, leb-true}
 use Rattle.std.specs.List.{list_all}
-use Rattle.tw_text.specs.Words.{is_number, number_of}
+use Rattle.tw_text.specs.Words.{is_number, word_number}
 use Rattle.tw_text.specs.Forms.{Part, More, fits, have_parts, have_form}
 use Rattle.tw_text.specs.Forms.More.{UpTo}
-use Rattle.tw_text.specs.CommandLine.{form_of, number, word_at, maybe_top}
-use Rattle.tw_text.specs.Rows.{HasNumber, HasName, HasDigest}
+use Rattle.tw_text.specs.CommandLine.{form_of, number_part, word_at, maybe_top}
+use Rattle.tw_text.specs.RowSteps.{HasNumber, HasName, HasDigest}
 use Rattle.tw_text.specs.declared.form.FormName.{FormName}
 use Rattle.tw_text.proofs.FormLaws.{both}
 
@@ -56,7 +56,7 @@ short least most n test fit small =
 
 has_number : (part : Part) (words : List (List ℕ)) (i : ℕ) → fits part (word_at words i) ≡ true → is_short_number part ≡ true → HasNumber words i
 has_number (Part.Number least most) words i fit small =
-    let parted = short least most (number_of (word_at words i)) (is_number (word_at words i)) fit small in
+    let parted = short least most (word_number (word_at words i)) (is_number (word_at words i)) fit small in
     record { number = parted.0; fits = parted.1 }
 has_number (Part.Fixed text) words i fit small = absurd (cc)
 has_number Part.Path words i fit small = absurd (cc)
@@ -91,5 +91,5 @@ pub top_there : (form name : FormName) (words : List (List ℕ)) (i : ℕ) → f
 top_there form name words i is have after more within =
     let named = subst (λ f. have_form (form_of f) words ≡ true) is have in
     let whole = subst (λ m. have_parts (form_of name).parts m words ≡ true) more named in
-    has_number number words i
-    (follows_at (form_of name).parts 1 number words i whole (leb-true (length (form_of name).parts) i after) within) refl
+    has_number number_part words i
+    (follows_at (form_of name).parts 1 number_part words i whole (leb-true (length (form_of name).parts) i after) within) refl

@@ -4,9 +4,9 @@ use Rattle.std.specs.List.{list_all}
 use Rattle.std.proofs.lemmas.Bool.{cases_lt}
 use Rattle.hex.proofs.OnLiterals.{hex_on_literals}
 use Rattle.tw_base.specs.Lists.{In}
-use Rattle.tw_text.specs.Forms.{Form, command_by, IsFront, IsFirstBad}
+use Rattle.tw_text.specs.Forms.{Form, command_by, IsFrontOfForm, IsFirstBad}
 use Rattle.tw_text.specs.CommandLine.{form_of, form_names, forms, command_of}
-use Rattle.tw_text.specs.Taken.{taken_by, most_taken}
+use Rattle.tw_text.specs.TakenSteps.{taken_by, most_taken}
 use Rattle.tw_text.proofs.FormLaws.{both, can_be_had, taken-front, front-count_taken, count_taken-le}
 
 most_taken-le : (forms : List Form) (words : List (List ℕ)) (form : Form) → In form forms → taken_by form words ≤ most_taken forms words
@@ -53,7 +53,7 @@ IsFirstBad-most_taken first forms words all =
       within = subst (λ n. n ≤ length words) found.taken (count_taken-le form.parts form.more words);
       form = form;
       listed = found.listed;
-      good = subst (λ n. IsFront form (take n words)) found.taken
+      good = subst (λ n. IsFrontOfForm form (take n words)) found.taken
           (taken-front form.parts form.more words (can_be_had-listed (first ∷ forms) form all found.listed));
       longest = λ other listed n within front.
           let taken = front-count_taken other.parts other.more words front.0 n within front.1 in

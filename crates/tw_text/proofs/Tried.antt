@@ -3,7 +3,7 @@ use Rattle.std.proofs.Common.{◌≡◌, ℕ, ◌+◌, ◌<◌, ◌≤◌, List,
 use Rattle.std.proofs.Math.Seq.{drop-cons}
 use Rattle.tw_text.specs.Forms.{Form, have_form, command_by}
 use Rattle.tw_text.specs.CommandLine.{form_of}
-use Rattle.tw_text.specs.Taken.{taken_by, most_taken}
+use Rattle.tw_text.specs.TakenSteps.{taken_by, most_taken}
 use Rattle.tw_text.specs.declared.form.FormName.{FormName}
 
 -- the words have none of the table's forms before these that are left, and so many words at most went with those

@@ -35,13 +35,13 @@ fits Service word = is_name_text word
 fits (Number least most) word = is_number_within least most word
 fits Hex word = is_digest word
 
-abbrev pub may_follow : More → List (List ℕ) → Bool
-may_follow Nothing words = nat_le (length words) 0
-may_follow (UpTo most part) words = nat_le (length words) most && list_all (fits part) words
-may_follow (AnyNumberOf part) words = list_all (fits part) words
+abbrev pub words_may_follow : More → List (List ℕ) → Bool
+words_may_follow Nothing words = nat_le (length words) 0
+words_may_follow (UpTo most part) words = nat_le (length words) most && list_all (fits part) words
+words_may_follow (AnyNumberOf part) words = list_all (fits part) words
 
 abbrev pub have_parts : List Part → More → List (List ℕ) → Bool
-have_parts [] more words = may_follow more words
+have_parts [] more words = words_may_follow more words
 have_parts (part ∷ parts) more [] = false
 have_parts (part ∷ parts) more (word ∷ words) = fits part word && have_parts parts more words
 
@@ -50,8 +50,8 @@ abbrev pub have_form : Form → List (List ℕ) → Bool
 have_form form words = have_parts form.parts form.more words
 
 -- the words are the front of some words that have the form
-abbrev pub IsFront : Form → List (List ℕ) → Type 0
-IsFront form words = (rest : List (List ℕ)) × IsTrue (have_form form (words ++ rest))
+abbrev pub IsFrontOfForm : Form → List (List ℕ) → Type 0
+IsFrontOfForm form words = (rest : List (List ℕ)) × IsTrue (have_form form (words ++ rest))
 
 -- the command of the first form of a table that the words have
 abbrev pub command_by : List Form → List (List ℕ) → Option Command
@@ -66,5 +66,5 @@ pub record IsFirstBad (forms : List Form) (words : List (List ℕ)) (number : �
   pub within : front ≤ length words
   pub form : Form
   pub listed : In form forms
-  pub good : IsFront form (take front words)
-  pub longest : (other : Form) → In other forms → (n : ℕ) → n ≤ length words → IsFront other (take n words) → n ≤ front
+  pub good : IsFrontOfForm form (take front words)
+  pub longest : (other : Form) → In other forms → (n : ℕ) → n ≤ length words → IsFrontOfForm other (take n words) → n ≤ front

@@ -1,7 +1,7 @@
 pub mod Words
 pub mod Forms
 pub mod CommandLine
-pub mod Rows
-pub mod Taken
+pub mod RowSteps
+pub mod TakenSteps
 pub mod Lines
 pub mod Reports

@@ -11,17 +11,17 @@ abbrev pub is_number : List ℕ → Bool
 is_number word = nat_le 1 (length word) && (length word == 1 || not (slice_index word 0 == 48)) && list_all is_ascii_digit word
 
 -- the number that the digits write
-abbrev pub number_of : List ℕ → ℕ
-number_of word = digits_value 10 word
+abbrev pub word_number : List ℕ → ℕ
+word_number word = digits_value 10 word
 
 -- a number within a range
 abbrev pub is_number_within : (least most : ℕ) → List ℕ → Bool
-is_number_within least most word = is_number word && nat_le least (number_of word) && nat_le (number_of word) most
+is_number_within least most word = is_number word && nat_le least (word_number word) && nat_le (word_number word) most
 
 -- a digest: 64 hexadecimal digits of either case
 abbrev pub is_digest : List ℕ → Bool
 is_digest word = is_ok (decode_sized word 32)
 
 -- the bytes that the digits write
-abbrev pub digest_of : List ℕ → List ℕ
-digest_of word = result_unwrap_or (decode_sized word 32) []
+abbrev pub word_digest : List ℕ → List ℕ
+word_digest word = result_unwrap_or (decode_sized word 32) []

@@ -3,10 +3,12 @@
 
 ghost use Rattle.std.specs.Prelude.{◌≡◌};
 ghost use Rattle.tw_text.specs.CommandLine.{form_of, form_names};
-ghost use Rattle.tw_text.specs.Rows.{IsRow};
+ghost use Rattle.tw_text.specs.RowSteps.{IsRow};
 
+use crate::limits::{MOST_GENERATED, MOST_HISTORIES};
 use crate::part::Part;
 use crate::part::Part::{Fixed, Hex, Number, Path, Service};
+use tw_base::limits::LAST_STEP;
 
 /// The forms of the command line, one for each command.
 #[derive(Clone, Copy, Debug, Drop)]
@@ -83,13 +85,13 @@ const NUMBER: Part = Number {
 /// The number of a step from 1 on.
 const POS: Part = Number {
     least: 1,
-    most: 0xff_ffff_ffff,
+    most: LAST_STEP,
 };
 
 /// How many steps `generate` can make.
 const STEPS: Part = Number {
     least: 1,
-    most: 10_000,
+    most: MOST_GENERATED,
 };
 
 /// The last step, where it isn't left out.
@@ -134,7 +136,10 @@ pub fn form_named(name: FormName) -> Form
         FormName::VerifyOne => (&[Fixed("verify"), Path, Service, POS, Hex], Nothing),
         FormName::Strict => (&[Fixed("strict"), Path, Path], Nothing),
         FormName::CheckMap => (&[Fixed("checkmap"), Path, Path, Path], Nothing),
-        FormName::Audit => (&[Fixed("audit"), Path, Path, Path], UpTo(63, Path)),
+        FormName::Audit => (
+            &[Fixed("audit"), Path, Path, Path],
+            UpTo(MOST_HISTORIES - 1, Path),
+        ),
         FormName::Replay => (&[Fixed("replay"), Path], Nothing),
         FormName::Generate => (&[Fixed("generate"), NUMBER, STEPS], Nothing),
     };

@@ -6,6 +6,7 @@ mod command;
 mod field;
 mod fixed;
 mod form;
+pub mod limits;
 mod line;
 mod number;
 mod part;

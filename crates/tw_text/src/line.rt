@@ -75,8 +75,6 @@ pub fn put_hex(alloc: Global, text: &mut Bytes, bytes: &[u8]) -> Result<(), NoMe
     if bytes.is_empty() {
         return put_word(text, b"-");
     }
-    match hex::encode(alloc, bytes) {
-        Ok(digits) => put_word(text, digits.as_bytes()),
-        Err(_) => Err(NoMemory),
-    }
+    let digits = hex::encode(alloc, bytes)?;
+    put_word(text, digits.as_bytes())
 }

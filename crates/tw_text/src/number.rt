@@ -3,7 +3,7 @@
 ghost use Rattle.std.specs.Prelude.{◌≡◌, ◌↔◌, ◌<◌, ◌≤◌, ◌^◌, IsTrue, IsSome, IfSome, IsSomeAnd};
 ghost use Rattle.std.specs.Char.{is_ascii_digit};
 ghost use Rattle.std.specs.List.{list_all};
-ghost use Rattle.tw_text.specs.Words.{digest_of, number_of};
+ghost use Rattle.tw_text.specs.Words.{word_digest, word_number};
 ghost use Rattle.tw_text.specs.Words.{is_digest as is_digest_of, is_number as is_number_of};
 
 use hex::FromHex;
@@ -25,8 +25,8 @@ fn all_digits(text: &[u8]) -> bool
 
 /// The number of 64 bits that the text is, in decimal digits with no sign and no leading zero.
 pub fn read_number(text: &[u8]) -> Option<u64>
-    ensures some { IsSome result ↔ (IsTrue (is_number_of text.now) × (number_of text.now < 2 ^ 64)) }
-    ensures value { IfSome result (λ n. n ≡ number_of text.now) }
+    ensures some { IsSome result ↔ (IsTrue (is_number_of text.now) × (word_number text.now < 2 ^ 64)) }
+    ensures value { IfSome result (λ n. n ≡ word_number text.now) }
 {
     if !is_number(text) {
         return None;
@@ -37,7 +37,7 @@ pub fn read_number(text: &[u8]) -> Option<u64>
 /// The digest that the text is, in 64 hexadecimal digits of either case.
 pub fn read_digest(text: &[u8]) -> Option<Digest>
     ensures some { IsSome result ↔ IsTrue (is_digest_of text.now) }
-    ensures value { IfSome result (λ digest. digest ≡ digest_of text.now) }
+    ensures value { IfSome result (λ digest. digest ≡ word_digest text.now) }
 {
     match <[u8; 32]>::from_hex(text) {
         Ok(bytes) => Some(Digest(bytes)),

@@ -2,7 +2,7 @@
 
 ghost use Rattle.std.specs.Prelude.{◌≡◌};
 ghost use Rattle.tw_text.specs.Forms.{fits as fits_part};
-ghost use Rattle.tw_text.specs.Rows.{part_of};
+ghost use Rattle.tw_text.specs.RowSteps.{part_of};
 
 use crate::number::{is_within, read_digest, read_number};
 use tw_base::Name;

@@ -2,8 +2,8 @@
 
 ghost use Rattle.std.specs.Prelude.{◌≡◌, ◌≤◌, length, map};
 ghost use Rattle.std.specs.String.{string_bytes};
-ghost use Rattle.tw_text.specs.Rows.{more_of, part_of};
-ghost use Rattle.tw_text.specs.Taken.{count_fitting as count_fitting_of, count_more as count_more_of, count_taken as count_taken_of};
+ghost use Rattle.tw_text.specs.RowSteps.{more_of, part_of};
+ghost use Rattle.tw_text.specs.TakenSteps.{count_fitting as count_fitting_of, count_more as count_more_of, count_taken as count_taken_of};
 
 use crate::form::More;
 use crate::part::{Part, fits};

@@ -4,8 +4,8 @@ ghost use Rattle.std.specs.Prelude.{◌≡◌, ◌<◌, ◌≤◌, ◌+◌, ◌=
 ghost use Rattle.std.specs.String.{string_bytes};
 ghost use Rattle.tw_text.specs.CommandLine.{IsBadWord, command_of, form_names, form_of, forms, digest_at, name_at, number_at, top_at, word_at};
 ghost use Rattle.tw_text.specs.Forms.{command_by, have_form};
-ghost use Rattle.tw_text.specs.Rows.{HasDigest, HasName, HasNumber};
-ghost use Rattle.tw_text.specs.Taken.{most_taken, taken_by};
+ghost use Rattle.tw_text.specs.RowSteps.{HasDigest, HasName, HasNumber};
+ghost use Rattle.tw_text.specs.TakenSteps.{most_taken, taken_by};
 
 use crate::command::Command;
 use crate::form::{FORMS, Form, FormName, form_named};
@@ -24,16 +24,24 @@ pub enum WordFault {
     NoMemory,
 }
 
+impl From<NoMemory> for WordFault {
+    ghost use Rattle.std.specs.Prelude.{◌≡◌};
+    ghost use Rattle.tw_text.specs.declared.words.WordFault.TheVariants.{NoMemory as WantedMemory};
+
+    ghost from_gives = { λ _ fault. fault ≡ WantedMemory };
+
+    fn from(_refused: NoMemory) -> Self {
+        WordFault::NoMemory
+    }
+}
+
 /// The command that the words have a form of. NoMemory never comes where they have none.
 pub fn read_words(alloc: Global, words: &[String]) -> Result<Command, WordFault>
     ensures form { IfSome (command_of (map string_bytes words.now)) (λ command. MatchResult result (λ c. c ≡ command) (λ e. e ≡ WordFault.NoMemory)) }
     ensures no_form { IfNone (command_of (map string_bytes words.now)) (IsErrAnd result (IsBadWord (map string_bytes words.now))) }
 {
     match find_form(&FORMS, words) {
-        Ok(name) => match make_command(alloc, name, words) {
-            Ok(command) => Ok(command),
-            Err(NoMemory) => Err(WordFault::NoMemory),
-        },
+        Ok(name) => Ok(make_command(alloc, name, words)?),
         Err(taken) => Err(WordFault::BadWord {
             number: taken as u64 + 1,
         }),
@@ -198,10 +206,7 @@ fn word(words: &[String], i: usize) -> &str
 fn path(alloc: Global, words: &[String], i: usize) -> Result<Bytes, NoMemory>
     ensures { IfOk result (λ path. path ≡ word_at (map string_bytes words.now) i) }
 {
-    match Vec::from_slice(alloc, word(words, i).as_bytes()) {
-        Ok(bytes) => Ok(Bytes::from_vec(bytes)),
-        Err(_) => Err(NoMemory),
-    }
+    Ok(Bytes::from_vec(Vec::from_slice(alloc, word(words, i).as_bytes())?))
 }
 
 /// The paths from a place on.

@@ -5,7 +5,7 @@ ghost use Rattle.tw_base.specs.Auth.{tree_label};
 ghost use Rattle.tw_base.specs.Texts.{empty_tree_text};
 ghost use Rattle.tw_base.specs.Tree.{entries};
 ghost use Rattle.tw_base.specs.Tree.Tree.{Empty as NoEntry, Branch as RootedAt};
-ghost use Rattle.tw_tree.specs.Meaning.{tree_of};
+ghost use Rattle.tw_tree.specs.TreeMeaning.{tree_of};
 
 use std::alloc::Global;
 use tw_base::{Digest, Entry, Hasher, NoMemory, Sequence, empty_tree, tree_node};

@@ -1,8 +1,9 @@
 use Rattle.std.proofs.Common.{◌≡◌, ◌∙◌, sym, ap, subst, refl, true, false, IsSome}
 use Rattle.std.specs.List.{before_first, after_first}
+use Rattle.tw_base.specs.declared.limits.TheConstants.{LAST_STEP}
 use Rattle.tw_base.specs.Names.{is_name_text}
 use Rattle.tw_text.specs.Words.{is_number_within, is_digest}
-use Rattle.tw_msg.specs.Anchors.{is_blank, step_word, digest_word}
+use Rattle.tw_msg.specs.AnchorsFile.{is_blank, step_word, digest_word}
 use Rattle.tw_msg.proofs.Reading.{anchor-words, words-anchor}
 use Rattle.tw_msg.proofs.anchors.read_anchor.Goals as goal
 
@@ -13,7 +14,7 @@ returns-in_err-step-clause-some c =
     c.split_at_first-2.ensures.before ∙ ap (λ rest. before_first is_blank rest) c.split_at_first.ensures.after in (
       λ some. let wrong : false ≡ true = subst (λ o. IsSome o) c.from_residual-in_err-step.ensures some in absurd (cc),
       λ holds. let wrong : false ≡ true = c.in_err-step.ensures.some.1
-          (subst (λ word. is_number_within 1 0xff_ffff_ffff word ≡ true) (sym step_is) (anchor-words line holds).1) in absurd (cc),
+          (subst (λ word. is_number_within 1 LAST_STEP word ≡ true) (sym step_is) (anchor-words line holds).1) in absurd (cc),
     )
 
 pub returns-clause-some : goal.returns-clause-some
@@ -25,7 +26,7 @@ returns-clause-some c =
     c.split_at_first-2.ensures.after ∙ ap (λ rest. after_first is_blank rest) c.split_at_first.ensures.after in (
       λ _. words-anchor line
           (subst (λ word. is_name_text word ≡ true) c.split_at_first.ensures.before (c.in_ok-from.ensures.some.0 refl))
-          (subst (λ word. is_number_within 1 0xff_ffff_ffff word ≡ true) step_is (c.in_ok-step.ensures.some.0 refl))
+          (subst (λ word. is_number_within 1 LAST_STEP word ≡ true) step_is (c.in_ok-step.ensures.some.0 refl))
           (subst (λ word. is_digest word ≡ true) digest_is (c.in_ok-auth.ensures.some.0 refl)),
       λ _. refl,
     )

@@ -1,6 +1,6 @@
 use Rattle.std.proofs.Common.{◌≡◌, ◌≢◌, ◌+◌, ◌∷◌, [], ◌++◌, length, ◌∙◌, sym, ap, subst, refl, true, false, eqb-true}
 use Rattle.std.specs.List.{after_first, AllPairs}
-use Rattle.tw_msg.specs.Anchors.{lines, is_line_feed, may_follow, anchor, IsFirstBadLine}
+use Rattle.tw_msg.specs.AnchorsFile.{lines, is_line_feed, line_may_follow, anchor, IsFirstBadLine}
 use Rattle.tw_msg.proofs.LineLaws.{lines-first, lines-empty, length-some}
 use Rattle.tw_msg.proofs.Reading.{IsRead, read_on, all_read, different-good, first_bad_line, not_true}
 use Rattle.tw_msg.proofs.anchors.read_anchors.Goals as goal
@@ -17,9 +17,9 @@ returns-in_default-clause-bad c =
     ∙ ap (λ l. l ∷ lines (after_first is_line_feed c.loop-rest.rest.now)) (sym c.split_at_first.ensures.before)
     ∙ ap (λ a. line ∷ lines a) (sym c.split_at_first.ensures.after) in
     let before : IsRead all (line ∷ lines after) anchors = subst (λ rest. IsRead all rest anchors) first c.loop-rest.invariant in
-    let bad : may_follow anchors line ≡ false = not_true (may_follow anchors line) (λ holds.
+    let bad : line_may_follow anchors line ≡ false = not_true (line_may_follow anchors line) (λ holds.
     let wrong : false ≡ true = c.in_default.ensures.some.1
-    (subst (λ found. may_follow found line ≡ true) (sym c.as_slice.ensures) holds) in cc) in
+    (subst (λ found. line_may_follow found line ≡ true) (sym c.as_slice.ensures) holds) in cc) in
     subst (λ n. IsFirstBadLine all (n + 1)) (sym c.len.ensures) (first_bad_line all (lines after) line anchors before bad)
 
 pub loop-rest-preserved : goal.loop-rest-preserved
@@ -34,10 +34,10 @@ loop-rest-preserved c =
     ∙ ap (λ l. l ∷ lines (after_first is_line_feed c.loop-rest.rest.now)) (sym c.split_at_first.ensures.before)
     ∙ ap (λ a. line ∷ lines a) (sym c.split_at_first.ensures.after) in
     let before : IsRead all (line ∷ lines after) anchors = subst (λ rest. IsRead all rest anchors) first c.loop-rest.invariant in
-    let follows : may_follow anchors line ≡ true =
-    subst (λ found. may_follow found line ≡ true) c.as_slice.ensures (c.in-Some.ensures.some.0 refl) in
+    let follows : line_may_follow anchors line ≡ true =
+    subst (λ found. line_may_follow found line ≡ true) c.as_slice.ensures (c.in-Some.ensures.some.0 refl) in
     let more : c.push.new.self ≡ anchors ++ anchor line ∷ [] =
-    c.in-Ok.ensures.ok ∙ ap (λ a. anchors ++ a ∷ []) c.in-Some.ensures.value in
+    c.in_ok-push.ensures.ok ∙ ap (λ a. anchors ++ a ∷ []) c.in-Some.ensures.value in
     subst (λ found. IsRead all (lines after) found) (sym more) (read_on all (lines after) line anchors before follows)
 
 pub returns-clause-anchors : goal.returns-clause-anchors

@@ -1,5 +1,5 @@
 use Rattle.std.proofs.Common.{length}
-use Rattle.tw_msg.specs.Anchors.{lines}
+use Rattle.tw_msg.specs.AnchorsFile.{lines}
 use Rattle.tw_msg.proofs.Reading.{IsRead}
 use Rattle.tw_msg.proofs.anchors.read_anchors.Given as goal
 

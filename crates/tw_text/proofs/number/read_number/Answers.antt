@@ -1,6 +1,6 @@
 use Rattle.std.proofs.Common.{◌∙◌, sym, subst, IsTrue, IsSome, ◌↔◌, ◌<◌, ◌^◌}
 use Rattle.std.specs.Str.Parse.{ParsesUnsigned}
-use Rattle.tw_text.specs.Words.{is_number, number_of}
+use Rattle.tw_text.specs.Words.{is_number, word_number}
 use Rattle.tw_text.proofs.Numerals.{IsUtf8-is_number, parse-is_number, err_part, ok_part}
 use Rattle.tw_text.proofs.number.read_number.Goals as goal
 
@@ -16,4 +16,4 @@ returns-clause-some c =
     let same = ok_part _ _ _ _ c.from_utf8.ensures.cases (sym c.ok.ensures.value ∙ c.in_ok-ok.was) in
     let parses = subst (λ text. ParsesUnsigned 64 10 text c.parse.result) same.0 c.parse.ensures.value.0 in
     let found = parse-is_number c.args.text.now c.parse.result number parses in
-    subst (λ r. IsSome r ↔ (IsTrue (is_number c.args.text.now) × (number_of c.args.text.now < 2 ^ 64))) (sym c.ok-2.ensures.value) found
+    subst (λ r. IsSome r ↔ (IsTrue (is_number c.args.text.now) × (word_number c.args.text.now < 2 ^ 64))) (sym c.ok-2.ensures.value) found

@@ -2,8 +2,8 @@ use Rattle.std.proofs.Common.{◌≡◌, suc, ◌<◌, ◌+◌, length, map, dro
 use Rattle.std.specs.String.{string_bytes}
 use Rattle.std.proofs.lemmas.List.{get_or-map, length-map}
 use Rattle.tw_text.specs.Forms.{fits}
-use Rattle.tw_text.specs.Rows.{part_of}
-use Rattle.tw_text.specs.Taken.{count_fitting}
+use Rattle.tw_text.specs.RowSteps.{part_of}
+use Rattle.tw_text.specs.TakenSteps.{count_fitting}
 use Rattle.tw_text.proofs.CountLaws.{count_fitting-drop}
 use Rattle.tw_text.proofs.taking.count_fitting.Goals as goal
 

@@ -1,7 +1,7 @@
 use Rattle.std.proofs.Common.{◌≡◌, ◌+◌, map, drop}
 use Rattle.std.specs.String.{string_bytes}
-use Rattle.tw_text.specs.Rows.{part_of}
-use Rattle.tw_text.specs.Taken.{count_fitting}
+use Rattle.tw_text.specs.RowSteps.{part_of}
+use Rattle.tw_text.specs.TakenSteps.{count_fitting}
 use Rattle.tw_text.proofs.taking.count_fitting.Given as goal
 
 -- the words before this one fit

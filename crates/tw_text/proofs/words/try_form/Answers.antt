@@ -2,7 +2,7 @@ use Rattle.std.proofs.Common.{◌∙◌, map, length}
 use Rattle.std.specs.String.{string_bytes}
 use Rattle.std.proofs.lemmas.List.{length-map}
 use Rattle.tw_text.specs.CommandLine.{form_of}
-use Rattle.tw_text.specs.Rows.{part_of, more_of}
+use Rattle.tw_text.specs.RowSteps.{part_of, more_of}
 use Rattle.tw_text.proofs.FormLaws.{have_form-by_count}
 use Rattle.tw_text.proofs.words.try_form.Goals as goal
 

@@ -2,9 +2,10 @@
 use Rattle.std.specs.Prelude.{◌≡◌, ℕ, ◌+◌, ◌<◌, List, [], ◌∷◌, length, take, map, Bool, true, false, not, ◌&&◌, ◌==◌, nat_lt}
 use Rattle.std.specs.List.{slice_split, before_first, after_first, list_any, slice_index_or}
 use Rattle.std.specs.Str.{bytes_eq}
+use Rattle.tw_base.specs.declared.limits.TheConstants.{LAST_STEP, MOST_ANCHORS}
 use Rattle.tw_base.specs.Names.{is_name_text, padded_name}
 use Rattle.tw_base.specs.declared.thread.Thread.{Thread}
-use Rattle.tw_text.specs.Words.{is_number_within, number_of, is_digest, digest_of}
+use Rattle.tw_text.specs.Words.{is_number_within, word_number, is_digest, word_digest}
 
 -- ---- lines
 
@@ -43,13 +44,13 @@ digest_word line = after_first is_blank (after_first is_blank line)
 
 -- a service's name, the number of a step from 1 on, and a digest in hexadecimal digits of either case
 abbrev pub is_anchor : List ℕ → Bool
-is_anchor line = is_name_text (name_word line) && is_number_within 1 0xff_ffff_ffff (step_word line) && is_digest (digest_word line)
+is_anchor line = is_name_text (name_word line) && is_number_within 1 LAST_STEP (step_word line) && is_digest (digest_word line)
 
 abbrev pub anchor : List ℕ → Thread
 anchor line = record {
   from = padded_name (name_word line);
-  step = number_of (step_word line);
-  auth = digest_of (digest_word line);
+  step = word_number (step_word line);
+  auth = word_digest (digest_word line);
 }
 
 -- ---- a file
@@ -58,15 +59,15 @@ abbrev pub is_of : (service : List ℕ) → Thread → Bool
 is_of service thread = bytes_eq thread.from service
 
 -- the line may follow those of these anchors: it is an anchor of another service, and one of at most 64
-abbrev pub may_follow : List Thread → (line : List ℕ) → Bool
-may_follow anchors line = nat_lt (length anchors) 64 && is_anchor line && not (list_any (is_of (anchor line).from) anchors)
+abbrev pub line_may_follow : List Thread → (line : List ℕ) → Bool
+line_may_follow anchors line = nat_lt (length anchors) MOST_ANCHORS && is_anchor line && not (list_any (is_of (anchor line).from) anchors)
 
 abbrev pub line_at : List (List ℕ) → ℕ → List ℕ
 line_at lines i = slice_index_or lines i []
 
 -- the line with this index may follow the lines before it
 abbrev pub is_good : List (List ℕ) → ℕ → Bool
-is_good lines i = may_follow (map anchor (take i lines)) (line_at lines i)
+is_good lines i = line_may_follow (map anchor (take i lines)) (line_at lines i)
 
 abbrev pub AllGood : List (List ℕ) → Type 0
 AllGood lines = (i : ℕ) → i < length lines → is_good lines i ≡ true

@@ -1,7 +1,7 @@
 -- The code's table of forms as the definitions see it.
 use Rattle.std.specs.Prelude.{◌≡◌, ℕ, ◌<◌, ◌^◌, List, map, IsTrue}
 use Rattle.tw_base.specs.Names.{is_name_text}
-use Rattle.tw_text.specs.Words.{is_number, number_of, is_digest}
+use Rattle.tw_text.specs.Words.{is_number, word_number, is_digest}
 use Rattle.tw_text.specs.Forms as forms
 use Rattle.tw_text.specs.CommandLine.{word_at}
 use Rattle.tw_text.specs.declared.part.Part.{Part}
@@ -30,7 +30,7 @@ pub record IsRow (row : Form) (form : forms.Form) : Type 0 where
 -- a number of 64 bits stands at this place of the words
 pub record HasNumber (words : List (List ℕ)) (i : ℕ) : Type 0 where
   pub number : IsTrue (is_number (word_at words i))
-  pub fits : number_of (word_at words i) < 2 ^ 64
+  pub fits : word_number (word_at words i) < 2 ^ 64
 
 abbrev pub HasName : (words : List (List ℕ)) (i : ℕ) → Type 0
 HasName words i = IsTrue (is_name_text (word_at words i))
