@@ -5,14 +5,14 @@ use Rattle.std.proofs.lemmas.List.Sums.{sum_by-cons}
 use Rattle.tw_base.specs.declared.thread.Thread.{Thread}
 use Rattle.tw_base.specs.Fields.{number_bytes}
 use Rattle.tw_base.specs.History.{History, Node}
-use Rattle.tw_base.specs.History.Content.{Events, Received}
+use Rattle.tw_base.specs.declared.content.Content.TheVariants.{Events, Received}
 use Rattle.tw_base.specs.Texts.{joined}
 use Rattle.tw_base.proofs.NumberLaws.{length-number_bytes}
 use Rattle.tw_history.specs.declared.step.Node.{Node as TableNode}
 use Rattle.tw_history.specs.declared.step.Step.{Step}
-use Rattle.tw_history.specs.HistoryFile.{content_bytes, event_bytes, history_bytes, node_bytes, step_bytes}
-use Rattle.tw_history.specs.Meaning.{content_of, node_of, step_of, steps_of}
-use Rattle.tw_history.specs.Writing.{step_size}
+use Rattle.tw_base.specs.HistoryFile.{content_bytes, event_bytes, history_bytes, node_bytes, step_bytes}
+use Rattle.tw_history.specs.Tables.{node_of, step_of, steps_of_table}
+use Rattle.tw_history.specs.WritingSteps.{step_size}
 
 pub event-size : (event : List ℕ) → length (event_bytes event) ≡ 4 + length event
 event-size event = omega (arith, length-append (number_bytes 4 (length event)) event, length-number_bytes 4 (length event))
@@ -42,7 +42,7 @@ nodes-size (n ∷ nodes) = omega (arith, length-append (node_bytes n) (joined (m
 
 step-size : (s : Step) (fresh : List TableNode) → length fresh ≡ s.fresh → length (step_bytes (step_of s fresh)) ≡ step_size s
 step-size s fresh count =
-    let content : List ℕ = content_bytes (content_of s.content) in
+    let content : List ℕ = content_bytes s.content in
     let number : List ℕ = number_bytes 2 (length (map node_of fresh)) in
     let nodes : List ℕ = joined (map node_bytes (map node_of fresh)) in
     let root : List ℕ = number_bytes 4 s.root in
@@ -59,7 +59,7 @@ step-size s fresh count =
     )
 
 pub steps-size : (steps : List Step) (nodes : List TableNode) → sum_by (λ s. s.fresh) steps ≡ length nodes
-    → length (joined (map step_bytes (steps_of steps nodes))) ≡ sum_by step_size steps
+    → length (joined (map step_bytes (steps_of_table steps nodes))) ≡ sum_by step_size steps
 steps-size [] nodes counted = refl
 steps-size (s ∷ steps) nodes counted =
     let sum = sum_by-cons (λ s. s.fresh) s steps in
@@ -67,13 +67,13 @@ steps-size (s ∷ steps) nodes counted =
     let count : length (take s.fresh nodes) ≡ s.fresh = omega (arith, counted, sum, length-take s.fresh nodes) in
     omega (
       arith,
-      length-append (step_bytes (step_of s (take s.fresh nodes))) (joined (map step_bytes (steps_of steps (drop s.fresh nodes)))),
+      length-append (step_bytes (step_of s (take s.fresh nodes))) (joined (map step_bytes (steps_of_table steps (drop s.fresh nodes)))),
       step-size s (take s.fresh nodes) count,
       steps-size steps (drop s.fresh nodes) left,
       sum_by-cons step_size s steps,
     )
 
-pub history-size : (h : History) (steps : List Step) (nodes : List TableNode) → h.steps ≡ steps_of steps nodes → sum_by (λ s. s.fresh) steps ≡ length nodes → length h.name ≡ 16
+pub history-size : (h : History) (steps : List Step) (nodes : List TableNode) → h.steps ≡ steps_of_table steps nodes → sum_by (λ s. s.fresh) steps ≡ length nodes → length h.name ≡ 16
     → length (history_bytes h) ≡ 28 + sum_by step_size steps
 history-size h steps nodes is counted name =
     let number : List ℕ = number_bytes 8 (length h.steps) in

@@ -2,35 +2,36 @@
 use Rattle.std.proofs.Common.{ℕ, ◌<◌, ◌≤◌, ◌^◌, [], length, ap, sym, ◌∙◌, subst, arith}
 use Rattle.std.specs.Prelude.{List}
 use Rattle.std.proofs.lemmas.Option.{get_or_from_slice_get}
+use Rattle.tw_base.specs.declared.limits.TheConstants.{LAST_STEP, MOST_EVENTS, MOST_EVENT_BYTES}
 use Rattle.tw_base.specs.Lists.{Each}
 use Rattle.tw_base.specs.AuditPath.{ChecksEvent, path_length}
 use Rattle.tw_base.specs.EventTree.{audit_path, event_root}
 use Rattle.tw_base.specs.History.{History, events_at}
 use Rattle.tw_base.proofs.AuditShown.{ChecksEvent-audit_path}
 use Rattle.tw_skipproof.specs.declared.existence.ExistenceProof.{ExistenceProof}
-use Rattle.tw_skipproof.specs.Existence.{IsWithinLimits}
+use Rattle.tw_skipproof.specs.Existence.{IsExistenceInRange}
 use Rattle.tw_skipproof.specs.Openings.{IsOpeningAt}
 use Rattle.tw_skipproof.specs.Paths.{HasShape}
 use Rattle.tw_skipproof.specs.Writing.{IsShaped}
-use Rattle.tw_skipproof.proofs.Making.{opening-of, path-of}
-use Rattle.tw_chain.specs.Making.{IsExistenceOf}
+use Rattle.tw_skipproof.specs.HistoryProofs.{IsExistenceOf}
+use Rattle.tw_skipproof.proofs.OwnPaths.{opening-of, path-of}
 use Rattle.tw_history.proofs.TableSteps.{Each-inside}
 
 module _ (dig : List ℕ → List ℕ) (h : History) (step index top : ℕ) (p : ExistenceProof) (is : IsExistenceOf dig h step index top p) where
   checks : ChecksEvent dig (event_root dig (events_at h step)) (length (events_at h step)) index p.event.event (audit_path dig (events_at h step) index)
   checks = ChecksEvent-audit_path dig (events_at h step) index p.event.event is.event
 
-  pub IsWithinLimits-few : step ≤ top → top < 2 ^ 40 → length (events_at h step) ≤ 1024 → Each (λ event. length event ≤ 1024) (events_at h step)
-      → IsWithinLimits p
-  IsWithinLimits-few order small few sizes =
+  pub IsExistenceInRange-few : step ≤ top → top ≤ LAST_STEP → length (events_at h step) ≤ MOST_EVENTS → Each (λ event. length event ≤ MOST_EVENT_BYTES) (events_at h step)
+      → IsExistenceInRange p
+  IsExistenceInRange-few order small few sizes =
       let inside : index < length (events_at h step) = checks.inside in
       record {
         step = omega (arith, order, small, is.at_step);
         top = omega (arith, small, is.at_top);
         count = omega (arith, few, is.opening.binds.count);
         index = omega (arith, inside, is.at_index, is.opening.binds.count);
-        event = subst (λ event. length event ≤ 1024) (get_or_from_slice_get (events_at h step) index p.event.event [] is.event)
-            (Each-inside (λ event. length event ≤ 1024) (events_at h step) index [] inside sizes);
+        event = subst (λ event. length event ≤ MOST_EVENT_BYTES) (get_or_from_slice_get (events_at h step) index p.event.event [] is.event)
+            (Each-inside (λ event. length event ≤ MOST_EVENT_BYTES) (events_at h step) index [] inside sizes);
       }
 
   pub IsShaped-made : 0 < step → step ≤ top → IsShaped p

@@ -14,7 +14,7 @@ use Rattle.tw_base.specs.declared.thread.Thread.{Thread}
 use Rattle.tw_base.specs.declared.thread.Entry.{Entry}
 use Rattle.tw_base.specs.Lists.{Each, In}
 use Rattle.tw_base.proofs.ListLemmas.{Each-append, Each-in, Each-map, In-left, In-right}
-use Rattle.tw_history.specs.Judging.{IsGreatest, IsLater, greatest_of}
+use Rattle.tw_history.specs.JudgingSteps.{IsGreatest, IsLater, greatest_of}
 use Rattle.tw_history.specs.declared.soundness.greatest.GreatestSteps.{GreatestSteps}
 
 abbrev Found : List Entry → (name : List ℕ) → Option ℕ → Type 0

@@ -17,3 +17,4 @@ pub mod Greatest
 pub mod EventSizes
 pub mod RulesJudged
 pub mod TableGrowth
+pub mod SoundFiles

@@ -4,6 +4,7 @@ use Rattle.std.specs.Prelude.{map}
 use Rattle.std.proofs.Math.Nat.{le_trans, mod-eq_of_lt, pow-le-pow_right}
 use Rattle.std.proofs.lemmas.Bool.{cases_lt}
 use Rattle.std.proofs.lemmas.List.{length-map, map_push}
+use Rattle.tw_base.specs.declared.limits.TheConstants.{LAST_STEP}
 use Rattle.tw_base.specs.Texts.{link_text}
 use Rattle.tw_base.specs.Levels.{top_level}
 use Rattle.tw_base.specs.Auth.{link_texts}
@@ -11,7 +12,7 @@ use Rattle.tw_base.proofs.Auths.{length-link_texts}
 use Rattle.tw_base.proofs.Levels.{top_level-divides}
 
 -- a link leads to a step that isn't below 0
-pub link-inside : (step level : ℕ) → 0 < step → step < 2 ^ 40 → level ≤ top_level step → 2 ^ level ≤ step
+pub link-inside : (step level : ℕ) → 0 < step → step ≤ LAST_STEP → level ≤ top_level step → 2 ^ level ≤ step
 link-inside step level some small within =
     let least : 2 ^ level ≤ 2 ^ top_level step = pow-le-pow_right (lit< tt) within in
     let divides : step % 2 ^ top_level step ≡ 0 = top_level-divides step some (omega arith) in

@@ -14,13 +14,13 @@ use Rattle.tw_base.specs.Tree.Tree.{Branch, Empty}
 use Rattle.tw_base.specs.Auth.{auth, auths, datum_text_at, link_texts, tree_label}
 use Rattle.tw_base.proofs.Auths.{auths-at, length-auths}
 use Rattle.tw_base.proofs.Plus.{forest-first}
-use Rattle.tw_skipproof.specs.Making.{labels_at}
+use Rattle.tw_skipproof.specs.HistoryProofs.{labels_at}
 use Rattle.tw_history.specs.declared.step.Node.{Node}
 use Rattle.tw_history.specs.declared.step.Step.{Step}
 use Rattle.tw_history.specs.declared.pass.Digests.{Digests}
 use Rattle.tw_history.specs.declared.step_digests.StepDigests.{StepDigests}
-use Rattle.tw_history.specs.Meaning.{node_of, step_of}
-use Rattle.tw_history.specs.Passing.{HasPassed, IsOfStep, events_in}
+use Rattle.tw_history.specs.Tables.{node_of, step_of}
+use Rattle.tw_history.specs.PassSteps.{HasPassed, IsOfStep, events_in}
 use Rattle.tw_history.proofs.LinkLabels.{length-labels_below}
 use Rattle.tw_history.proofs.TableSteps.{events_of-content}
 

@@ -9,15 +9,15 @@ use Rattle.tw_base.specs.declared.thread.Key.{Key}
 use Rattle.tw_base.specs.Lists.{Each}
 use Rattle.tw_base.specs.Entries.{key_of}
 use Rattle.tw_base.specs.History.{History, Node, entry_at, entry_to, fresh_of, step_at}
-use Rattle.tw_base.specs.Sound.{NodesFit}
+use Rattle.tw_base.specs.Rules.{NodesFit}
 use Rattle.tw_base.specs.Tree.{Tree, IsRising, branch, entries, forest, new_trees, planted}
 use Rattle.tw_base.specs.Tree.Tree.{Empty, Branch}
 use Rattle.tw_base.proofs.ListLemmas.{Each-append, Each-get_or, Each-parts}
 use Rattle.tw_base.proofs.Trees.{entry_at-parts, entry_to-at}
 use Rattle.tw_history.specs.declared.soundness.summary.Summary.{Summary}
 use Rattle.tw_history.specs.declared.step.Node.{Node as NodeOfTable}
-use Rattle.tw_history.specs.Judging.{AreReceived, summary_of}
-use Rattle.tw_history.specs.Meaning.{node_of}
+use Rattle.tw_history.specs.JudgingSteps.{AreReceived, summary_of}
+use Rattle.tw_history.specs.Tables.{node_of}
 
 abbrev pub Rises : Tree → Type 0
 Rises t = IsRising (entries t)

@@ -1,6 +1,7 @@
 -- Reading a history file field by field is reading its layout.
 use Rattle.std.proofs.Common.{◌≡◌, ℕ, List, refl, ◌∙◌, subst, sym}
 use Rattle.std.specs.Prelude.{Result, Ok, Err, MatchResult, length, ◌≤◌, Bool, true, false, ◌==◌, if◌then◌else◌}
+use Rattle.tw_base.specs.declared.limits.TheConstants.{MOST_EVENT_BYTES, MOST_HISTORY_BYTES}
 use Rattle.tw_base.specs.declared.failure.ReadFault.{ReadFault}
 use Rattle.tw_base.specs.History.{History}
 use Rattle.tw_base.specs.Fields.{number, sized_bytes}
@@ -10,14 +11,13 @@ use Rattle.tw_base.proofs.FieldLaws.{sized_bytes-steps}
 use Rattle.tw_base.specs.Sound.{IsSound}
 use Rattle.tw_history.specs.declared.fault.HistoryFault.{HistoryFault}
 use Rattle.tw_history.specs.declared.fault.HistoryFault.TheVariants.{Malformed, NoMemory, TooLong, Unsound}
-use Rattle.tw_history.specs.HistoryFile.{most_bytes}
 use Rattle.tw_history.specs.Refusals.{ReadsHistory, TellsRule}
-use Rattle.tw_history.specs.Layout.{content_layout, events_layout, history_layout, node_layout, step_layout, thread_layout}
+use Rattle.tw_base.specs.HistoryLayout.{content_layout, events_layout, history_layout, node_layout, step_layout, thread_layout}
 use Rattle.tw_history.specs.Reading.{content_at, event_at, events_at, history_at, node_at, step_at, thread_at}
 
-pub event_at-is : (whole : List ℕ) (at : ℕ) → read_at (sized_bytes 4 0 1024) whole at ≡ event_at whole at
+pub event_at-is : (whole : List ℕ) (at : ℕ) → read_at (sized_bytes 4 0 MOST_EVENT_BYTES) whole at ≡ event_at whole at
 unfolding event_at
-event_at-is whole at = sized_bytes-steps 4 0 1024 whole at
+event_at-is whole at = sized_bytes-steps 4 0 MOST_EVENT_BYTES whole at
 
 pub events_at-is : (whole : List ℕ) (at : ℕ) → read_at events_layout whole at ≡ events_at whole at
 unfolding events_layout events_at
@@ -61,7 +61,7 @@ history_given whole r given =
     subst P (sym (history_at-is whole 0)) given
 
 -- a table that is read, and judged
-pub judged_read : (whole : List ℕ) (h : History) (r : Result History HistoryFault) → length whole ≤ most_bytes → Spells history_layout whole h
+pub judged_read : (whole : List ℕ) (h : History) (r : Result History HistoryFault) → length whole ≤ MOST_HISTORY_BYTES → Spells history_layout whole h
     → MatchResult r (λ found. (found ≡ h) × IsSound h) (TellsRule h) → ReadsHistory whole r
 judged_read whole h (Ok found) short spelled judged =
     let P : History → Type 0 = λ x. Spells history_layout whole x × IsSound x in

@@ -4,35 +4,37 @@ use Rattle.std.specs.Prelude.{option_and_then, option_map, IfSome, MatchOption, 
 use Rattle.std.specs.Option.{option_to_list}
 use Rattle.std.proofs.lemmas.Bool.{cases_lt}
 use Rattle.std.proofs.lemmas.List.{get_or-map, length-append, length-map}
+use Rattle.tw_base.specs.declared.limits.TheConstants.{LAST_STEP, MOST_EVENT_BYTES}
 use Rattle.tw_base.specs.declared.thread.Thread.{Thread}
 use Rattle.tw_base.specs.declared.thread.Entry.{Entry}
 use Rattle.tw_base.specs.Lists.{Each, In}
 use Rattle.tw_base.specs.Names.{IsName}
 use Rattle.tw_base.specs.History.{History, Node, Step, entry_at, events_of, fresh_of, received, root_of, step_at, thread_of}
-use Rattle.tw_base.specs.Sound.{IsSound, IsSoundStep, IsThread, NodesFit}
+use Rattle.tw_base.specs.Rules.{NodesFit}
+use Rattle.tw_base.specs.Sound.{IsSound, IsSoundStep}
 use Rattle.tw_base.specs.Tree.{Tree, branch, entries, forest, new_trees, planted, tree}
 use Rattle.tw_base.specs.Tree.Tree.{Empty}
 use Rattle.tw_base.proofs.ListLemmas.{Each-append}
-use Rattle.tw_history.specs.declared.step.Content.{Content}
-use Rattle.tw_history.specs.declared.step.Content.TheVariants.{Events, Received}
+use Rattle.tw_base.specs.declared.content.Content.{Content}
+use Rattle.tw_base.specs.declared.content.Content.TheVariants.{Events, Received}
 use Rattle.tw_history.specs.declared.step.Step.{Step as StepOfTable}
 use Rattle.tw_history.specs.declared.step.Node.{Node as NodeOfTable}
 use Rattle.tw_history.specs.declared.fault.HistoryFault.{HistoryFault}
 use Rattle.tw_history.specs.declared.fault.HistoryFault.TheVariants.{Malformed, NoMemory, TooLong, Unsound}
 use Rattle.tw_history.specs.declared.soundness.summary.Summary.{Summary}
 use Rattle.tw_history.specs.declared.soundness.Judged.{Judged}
-use Rattle.tw_history.specs.Judging.{IsGreatest, IsJudged, IsLater, TellsFirst, greatest_of, summary_of}
-use Rattle.tw_history.specs.Meaning.{IsInRange, IsTable, content_of, node_of, step_of, steps_of}
+use Rattle.tw_history.specs.JudgingSteps.{IsGreatest, HasJudged, IsLater, TellsFirst, greatest_of, summary_of}
+use Rattle.tw_history.specs.Tables.{IsInRange, IsTable, node_of, step_of, steps_of_table}
 use Rattle.tw_history.specs.Refusals.{TellsRule}
-use Rattle.tw_history.specs.Rules.{Keeps, Rule, number_of}
-use Rattle.tw_history.specs.Rules.Rule.{NodesAreKnown, TreesRise, HoldsAllThreads, IsOfAnother, StepsRise, EventsFit}
+use Rattle.tw_base.specs.Rules.{KeepsRule, Rule, rule_number}
+use Rattle.tw_base.specs.Rules.Rule.{NodesAreKnown, TreesRise, HoldsAllThreads, IsOfAnother, StepsRise, EventsFit}
 use Rattle.tw_history.proofs.Planting.{Rises, forest-next}
-use Rattle.tw_history.proofs.TableLaws.{length-steps_of}
+use Rattle.tw_history.proofs.TableLaws.{length-steps_of_table}
 use Rattle.tw_history.proofs.Summaries.{count-summary}
 
 -- each rule below the number, rule by rule
-pub lower_rules : (h : History) (i : ℕ) (s : Step) (n : ℕ) → (1 < n → Keeps h i s NodesAreKnown) → (2 < n → Keeps h i s TreesRise) → (3 < n → Keeps h i s HoldsAllThreads)
-    → (4 < n → Keeps h i s IsOfAnother) → (5 < n → Keeps h i s StepsRise) → (6 < n → Keeps h i s EventsFit) → (other : Rule) → number_of other < n → Keeps h i s other
+pub lower_rules : (h : History) (i : ℕ) (s : Step) (n : ℕ) → (1 < n → KeepsRule h i s NodesAreKnown) → (2 < n → KeepsRule h i s TreesRise) → (3 < n → KeepsRule h i s HoldsAllThreads)
+    → (4 < n → KeepsRule h i s IsOfAnother) → (5 < n → KeepsRule h i s StepsRise) → (6 < n → KeepsRule h i s EventsFit) → (other : Rule) → rule_number other < n → KeepsRule h i s other
 lower_rules h i s n one two three four five six NodesAreKnown less = one less
 lower_rules h i s n one two three four five six TreesRise less = two less
 lower_rules h i s n one two three four five six HoldsAllThreads less = three less
@@ -40,7 +42,7 @@ lower_rules h i s n one two three four five six IsOfAnother less = four less
 lower_rules h i s n one two three four five six StepsRise less = five less
 lower_rules h i s n one two three four five six EventsFit less = six less
 
-pub number-below : (rule : Rule) → number_of rule < 7
+pub number-below : (rule : Rule) → rule_number rule < 7
 number-below NodesAreKnown = omega arith
 number-below TreesRise = omega arith
 number-below HoldsAllThreads = omega arith
@@ -49,8 +51,8 @@ number-below StepsRise = omega arith
 number-below EventsFit = omega arith
 
 -- the refusal by a rule that is broken
-pub refusal : (h : History) (i : ℕ) (s : Step) (P : Unit {0} → Type 0) (r : Result (Unit {0}) HistoryFault) (broken : Rule) → r ≡ Err (Unsound (i + 1) (number_of broken))
-    → (Keeps h i s broken → ⊥) → ((other : Rule) → number_of other < number_of broken → Keeps h i s other) → MatchResult r P (TellsFirst h i s)
+pub refusal : (h : History) (i : ℕ) (s : Step) (P : Unit {0} → Type 0) (r : Result (Unit {0}) HistoryFault) (broken : Rule) → r ≡ Err (Unsound (i + 1) (rule_number broken))
+    → (KeepsRule h i s broken → ⊥) → ((other : Rule) → rule_number other < rule_number broken → KeepsRule h i s other) → MatchResult r P (TellsFirst h i s)
 refusal h i s P r broken is breaks lower = subst (λ x. MatchResult x P (TellsFirst h i s)) (sym is) (omega arith, (broken, refl, breaks, lower))
 
 length-planted : (entry : ℕ → Option Entry) (trees : List Tree) (ns : List Node) → length (planted entry trees ns) ≡ length ns
@@ -101,7 +103,7 @@ module _ (h : History) (i : ℕ) (s : Step) (there : step_at h (suc i) ≡ Some 
 
   -- rule 1
   pub known-is : (number first count : ℕ) → number ≡ suc i → first ≡ length (forest h i) → count ≡ length s.fresh
-      → (NodesFit h number first s.fresh × (s.root < first + count)) ↔ Keeps h i s NodesAreKnown
+      → (NodesFit h number first s.fresh × (s.root < first + count)) ↔ KeepsRule h i s NodesAreKnown
   known-is number first count this so_far new =
       let root : first + count ≡ length (forest h (suc i)) = omega (arith, length-forest_next, so_far, new) in (
         (λ known. (subst (λ n. NodesFit h (suc i) n s.fresh) so_far (subst (λ n. NodesFit h n first s.fresh) this known.0), subst (λ n. s.root < n) root known.1)),
@@ -113,53 +115,17 @@ module _ (h : History) (i : ℕ) (s : Step) (there : step_at h (suc i) ≡ Some 
   root_tree = ap (λ o. get_or (forest h (suc i)) (root_of o) Empty) there
 
   -- rule 3
-  pub all-is : (summary : Summary) (threads : ℕ) → summary ≡ summary_of (get_or (forest h (suc i)) s.root Empty) → threads ≡ length (received h (suc i)) → threads < 2 ^ 40
-      → (summary.count ≡ threads) ↔ Keeps h i s HoldsAllThreads
+  pub all-is : (summary : Summary) (threads : ℕ) → summary ≡ summary_of (get_or (forest h (suc i)) s.root Empty) → threads ≡ length (received h (suc i)) → threads ≤ LAST_STEP
+      → (summary.count ≡ threads) ↔ KeepsRule h i s HoldsAllThreads
   all-is summary threads kept received few =
       let count = count-summary summary _ kept in
       let same = ap (λ t. length (entries t)) root_tree in
       ((λ is. omega (arith, is, count, same, received, few)), (λ is. omega (arith, is, count, same, received, few)))
 
--- the limits of a step's content
-limits : (content : Content) (fresh : List Node) (root : ℕ) → IsInRange content
-    → IfSome (thread_of (Some (record { content = content_of content; fresh = fresh; root = root }))) (λ t. IsName t.from × (length t.auth ≡ 32))
-    → (length (events_of (Some (record { content = content_of content; fresh = fresh; root = root }))) ≤ 1024)
-    × Each (λ event. length event ≤ 1024) (events_of (Some (record { content = content_of content; fresh = fresh; root = root })))
-    × IfSome (thread_of (Some (record { content = content_of content; fresh = fresh; root = root }))) IsThread
-limits (Events events) fresh root range law = (range.0, range.1, tt)
-limits (Received t) fresh root range law = (omega arith, tt, (law.0, range.0, range.1, law.1))
-
--- a step that keeps each rule is sound
-pub sound_step : (h : History) (i : ℕ) (step : StepOfTable) (fresh : List NodeOfTable) → IsInRange step.content
-    → IfSome (thread_of (Some (step_of step fresh))) (λ t. IsName t.from × (length t.auth ≡ 32)) → ((rule : Rule) → Keeps h i (step_of step fresh) rule) → IsSoundStep h i (step_of step fresh)
-sound_step h i step fresh range law kept =
-    let limit = limits step.content (map node_of fresh) step.root range law in
-    record {
-      nodes = (kept NodesAreKnown).0;
-      root = (kept NodesAreKnown).1;
-      rising_trees = kept TreesRise;
-      all_threads = kept HoldsAllThreads;
-      not_own = kept IsOfAnother;
-      rising_steps = kept StepsRise;
-      event_bytes = kept EventsFit;
-      event_count = limit.0;
-      event_sizes = limit.1;
-      thread = limit.2;
-    }
-
--- and a sound step keeps each rule
-pub sound-keeps : (h : History) (i : ℕ) (s : Step) → IsSoundStep h i s → (rule : Rule) → Keeps h i s rule
-sound-keeps h i s sound NodesAreKnown = (sound.nodes, sound.root)
-sound-keeps h i s sound TreesRise = sound.rising_trees
-sound-keeps h i s sound HoldsAllThreads = sound.all_threads
-sound-keeps h i s sound IsOfAnother = sound.not_own
-sound-keeps h i s sound StepsRise = sound.rising_steps
-sound-keeps h i s sound EventsFit = sound.event_bytes
-
 -- what is kept after a step that keeps each rule
-pub judged_next : (h : History) (i : ℕ) (s : Step) (before after : Judged) → step_at h (suc i) ≡ Some s → IsJudged h i before → Keeps h i s TreesRise
+pub judged_next : (h : History) (i : ℕ) (s : Step) (before after : Judged) → step_at h (suc i) ≡ Some s → HasJudged h i before → KeepsRule h i s TreesRise
     → after.summaries.items ≡ map summary_of (forest h (suc i)) → after.threads ≡ length (received h (suc i))
-    → IsGreatest (received h i ++ option_to_list (entry_of (suc i) (thread_of (Some s)))) (greatest_of after.greatest) → IsJudged h (suc i) after
+    → IsGreatest (received h i ++ option_to_list (entry_of (suc i) (thread_of (Some s)))) (greatest_of after.greatest) → HasJudged h (suc i) after
 judged_next h i s before after there judged rise kept counted greatest = record {
   summaries = kept;
   rising = subst (Each Rises) (sym (forest-next h i)) (Each-append Rises (forest h i) (new_trees h i) judged.rising rise);
@@ -169,7 +135,7 @@ judged_next h i s before after there judged rise kept counted greatest = record 
 
 -- what is kept before the first step
 pub judged-none : (h : History) (judged : Judged) → judged.summaries.items ≡ summary_of Empty ∷ [] → judged.threads ≡ 0
-    → ((name : List ℕ) → greatest_of judged.greatest name ≡ None) → IsJudged h 0 judged
+    → ((name : List ℕ) → greatest_of judged.greatest name ≡ None) → HasJudged h 0 judged
 unfolding forest received
 judged-none h judged kept none empty = record {
   summaries = kept;
@@ -186,18 +152,18 @@ module _ (h : History) (i : ℕ) (step : StepOfTable) (fresh : List NodeOfTable)
 
   -- rule 1
   pub known_by : (first : ℕ) (items : List Summary) → items ≡ map summary_of (forest h i) → first ≡ length items
-      → (NodesFit h (i + 1) first (map node_of fresh) × (step.root < first + length fresh)) ↔ Keeps h i ThisStep NodesAreKnown
+      → (NodesFit h (i + 1) first (map node_of fresh) × (step.root < first + length fresh)) ↔ KeepsRule h i ThisStep NodesAreKnown
   known_by first items kept is =
       known-is h i ThisStep there (i + 1) first (length fresh) (add-one i) (is ∙ ap length kept ∙ length-map (forest h i) summary_of) (sym (length-map fresh node_of))
 
   -- the root is the number of a summary
-  pub root-within : (items : List Summary) → items ≡ map summary_of (forest h (suc i)) → Keeps h i ThisStep NodesAreKnown → step.root < length items
+  pub root-within : (items : List Summary) → items ≡ map summary_of (forest h (suc i)) → KeepsRule h i ThisStep NodesAreKnown → step.root < length items
   root-within items kept known = subst (λ n. step.root < n) (sym (ap length kept ∙ length-map (forest h (suc i)) summary_of)) known.1
 
   -- rule 3
-  pub all_by : (items : List Summary) (summary : Summary) (before count : ℕ) → items ≡ map summary_of (forest h (suc i)) → Keeps h i ThisStep NodesAreKnown
-      → summary ≡ get_or items step.root summary → before ≡ length (received h i) → count ≡ length (option_to_list (thread_of (Some ThisStep))) → suc i < 2 ^ 40
-      → (summary.count ≡ before + count) ↔ Keeps h i ThisStep HoldsAllThreads
+  pub all_by : (items : List Summary) (summary : Summary) (before count : ℕ) → items ≡ map summary_of (forest h (suc i)) → KeepsRule h i ThisStep NodesAreKnown
+      → summary ≡ get_or items step.root summary → before ≡ length (received h i) → count ≡ length (option_to_list (thread_of (Some ThisStep))) → suc i ≤ LAST_STEP
+      → (summary.count ≡ before + count) ↔ KeepsRule h i ThisStep HoldsAllThreads
   all_by items summary before count kept known is so_far new few =
       let threads = count-received h i ThisStep there before count so_far new in
       all-is h i ThisStep there summary (before + count)
@@ -206,12 +172,12 @@ module _ (h : History) (i : ℕ) (step : StepOfTable) (fresh : List NodeOfTable)
 
   -- rule 4
   pub another_by : (own : List ℕ) (thread : Option Thread) (r : Bool) → thread ≡ thread_of (Some ThisStep) → own ≡ h.name
-      → (IsTrue r ↔ IfSome thread (λ t. t.from ≢ own)) → IsTrue r ↔ Keeps h i ThisStep IsOfAnother
+      → (IsTrue r ↔ IfSome thread (λ t. t.from ≢ own)) → IsTrue r ↔ KeepsRule h i ThisStep IsOfAnother
   another_by own thread r is same exactly =
       subst (λ o. IsTrue r ↔ IfSome o (λ t. t.from ≢ h.name)) is (subst (λ name. IsTrue r ↔ IfSome thread (λ t. t.from ≢ name)) same exactly)
 
   -- rule 5
-  pub later_by : (thread : Option Thread) (r : Bool) → thread ≡ thread_of (Some ThisStep) → (IsTrue r ↔ IfSome thread (λ t. IsLater t (received h i))) → IsTrue r ↔ Keeps h i ThisStep StepsRise
+  pub later_by : (thread : Option Thread) (r : Bool) → thread ≡ thread_of (Some ThisStep) → (IsTrue r ↔ IfSome thread (λ t. IsLater t (received h i))) → IsTrue r ↔ KeepsRule h i ThisStep StepsRise
   later_by thread r is exactly = subst (λ o. IsTrue r ↔ IfSome o (λ t. IsLater t (received h i))) is exactly
 
 -- the first step that isn't sound tells the history's rule
@@ -225,7 +191,7 @@ tells-rule h k s (Unsound step rule) there tells sound = record {
   number = tells.1.1;
   broken = tells.1.2;
   lower = tells.1.3;
-  earlier = λ i t less at. sound-keeps h i t (sound i t less at);
+  earlier = λ i t less at. (sound i t less at).rules;
 }
 tells-rule h k s NoMemory there tells sound = tt
 tells-rule h k s (Malformed place) there tells sound = tells
@@ -252,10 +218,10 @@ ok-told (Ok done) P Q R more told = more told
 ok-told (Err e) P Q R more told = told
 
 -- a history whose steps are sound
-pub sound_history : (h : History) (name : List ℕ) (steps : List StepOfTable) (nodes : List NodeOfTable) → record { name = name; steps = steps_of steps nodes } ≡ h → IsTable steps nodes → IsName name
+pub sound_history : (h : History) (name : List ℕ) (steps : List StepOfTable) (nodes : List NodeOfTable) → record { name = name; steps = steps_of_table steps nodes } ≡ h → IsTable steps nodes → IsName name
     → ((i : ℕ) (s : Step) → step_at h (suc i) ≡ Some s → IsSoundStep h i s) → IsSound h
 sound_history h name steps nodes is table named sound = record {
   name = subst (λ (x : History). IsName x.name) is named;
-  length = subst (λ n. n < 2 ^ 40) (sym (length-steps_of steps nodes) ∙ ap (λ (x : History). length x.steps) is) table.few;
+  length = subst (λ n. n ≤ LAST_STEP) (sym (length-steps_of_table steps nodes) ∙ ap (λ (x : History). length x.steps) is) table.few;
   steps = sound;
 }

@@ -4,14 +4,15 @@ use Rattle.std.proofs.lemmas.List.{append-nil}
 use Rattle.std.specs.Prelude.{◌==◌, if◌then◌else◌, flat_map}
 use Rattle.tw_base.specs.Formats.{Format, OneSpelling, WrittenAs}
 use Rattle.tw_base.specs.Fields.{digest, name, number, number_bytes, repeated, sized_bytes, text}
-use Rattle.tw_base.specs.History.Content.{Events, Received}
+use Rattle.tw_base.specs.declared.content.Content.TheVariants.{Events, Received}
 use Rattle.tw_base.specs.Texts.{joined}
 use Rattle.tw_base.proofs.FormatLaws.{AllWords, all_words-done, all_words-then, one_spelling}
 use Rattle.tw_base.proofs.NumberLaws.{number_spelled, number-written}
 use Rattle.std.proofs.lemmas.Bool.{cases_lt}
+use Rattle.tw_base.specs.declared.limits.TheConstants.{LAST_STEP, MOST_EVENTS, MOST_EVENT_BYTES}
 use Rattle.tw_base.proofs.FieldLaws.{bytes-written, length-repeated, name-written, repeated-written, sized_bytes-written, text-word}
-use Rattle.tw_history.specs.HistoryFile.{content_bytes, event_bytes, history_bytes, history_magic, node_bytes, step_bytes}
-use Rattle.tw_history.specs.Layout.{content_layout, events_layout, history_layout, node_layout, step_layout, thread_layout}
+use Rattle.tw_base.specs.HistoryFile.{content_bytes, event_bytes, history_bytes, history_magic, node_bytes, step_bytes}
+use Rattle.tw_base.specs.HistoryLayout.{content_layout, events_layout, history_layout, node_layout, step_layout, thread_layout}
 
 flat_map-joined : {X : Type 0} (write : X → List ℕ) (xs : List X) → flat_map write xs ≡ joined (map write xs)
 flat_map-joined write [] = refl
@@ -31,21 +32,21 @@ list-words count f write w word xs s = record {
 events-written : AllWords events_layout (λ word c. (1 ∷ word) ≡ content_bytes c)
 unfolding events_layout
 events-written =
-    all_words-then (number 4 0 1024) _ (λ word c. (1 ∷ word) ≡ content_bytes c) (λ count_word count counted.
-    all_words-then (repeated count (sized_bytes 4 0 1024)) _ _ (λ events_word events listed.
-    let all = list-words count (sized_bytes 4 0 1024) event_bytes (sized_bytes-written 4 0 1024 (lit≤ tt) (lit< tt)) events_word events listed in
+    all_words-then (number 4 0 MOST_EVENTS) _ (λ word c. (1 ∷ word) ≡ content_bytes c) (λ count_word count counted.
+    all_words-then (repeated count (sized_bytes 4 0 MOST_EVENT_BYTES)) _ _ (λ events_word events listed.
+    let all = list-words count (sized_bytes 4 0 MOST_EVENT_BYTES) event_bytes (sized_bytes-written 4 0 MOST_EVENT_BYTES (lit≤ tt) (lit< tt)) events_word events listed in
     let word : 1 ∷ (count_word ++ (events_word ++ [])) ≡ 1 ∷ (number_bytes 4 (length events) ++ joined (map event_bytes events)) =
-    (λ k. 1 ∷ ((number-written 4 0 1024 (lit≤ tt) (lit< tt) count_word count counted ∙ ap (number_bytes 4) all.size) k ++ (append-nil events_word ∙ all.written) k)) in
+    (λ k. 1 ∷ ((number-written 4 0 MOST_EVENTS (lit≤ tt) (lit< tt) count_word count counted ∙ ap (number_bytes 4) all.size) k ++ (append-nil events_word ∙ all.written) k)) in
     all_words-done (Events events) _ word))
 
 thread-written : AllWords thread_layout (λ word c. (2 ∷ word) ≡ content_bytes c)
 unfolding thread_layout
 thread-written =
     all_words-then name _ (λ word c. (2 ∷ word) ≡ content_bytes c) (λ from_word from named.
-    all_words-then (number 8 1 (2 ^ 40 - 1)) _ _ (λ step_word step stepped.
+    all_words-then (number 8 1 LAST_STEP) _ _ (λ step_word step stepped.
     all_words-then digest _ _ (λ auth_word auth told.
     let word : 2 ∷ (from_word ++ (step_word ++ (auth_word ++ []))) ≡ 2 ∷ (from ++ (number_bytes 8 step ++ auth)) =
-    (λ k. 2 ∷ (name-written from_word from named k ++ (number-written 8 1 (2 ^ 40 - 1) (lit≤ tt) (lit< tt) step_word step stepped k
+    (λ k. 2 ∷ (name-written from_word from named k ++ (number-written 8 1 LAST_STEP (lit≤ tt) (lit< tt) step_word step stepped k
     ++ (append-nil auth_word ∙ bytes-written 32 auth_word auth told) k))) in
     all_words-done (Received (record { from = from; step = step; auth = auth })) _ word)))
 
@@ -104,12 +105,12 @@ unfolding history_layout
 history-written =
     all_words-then (text history_magic) _ (λ word h. word ≡ history_bytes h) (λ magic_word magic magical.
     all_words-then name _ _ (λ name_word service named.
-    all_words-then (number 8 0 (2 ^ 40 - 1)) _ _ (λ count_word count counted.
+    all_words-then (number 8 0 LAST_STEP) _ _ (λ count_word count counted.
     all_words-then (repeated count step_layout) _ _ (λ steps_word steps listed.
     let all = list-words count step_layout step_bytes step-written steps_word steps listed in
     let word : magic_word ++ (name_word ++ (count_word ++ (steps_word ++ []))) ≡ history_magic ++ (service ++ (number_bytes 8 (length steps) ++ joined (map step_bytes steps))) =
     (λ k. text-word history_magic magic_word magic magical k ++ (name-written name_word service named k
-    ++ ((number-written 8 0 (2 ^ 40 - 1) (lit≤ tt) (lit< tt) count_word count counted ∙ ap (number_bytes 8) all.size) k ++ (append-nil steps_word ∙ all.written) k))) in
+    ++ ((number-written 8 0 LAST_STEP (lit≤ tt) (lit< tt) count_word count counted ∙ ap (number_bytes 8) all.size) k ++ (append-nil steps_word ∙ all.written) k))) in
     all_words-done (record { name = service; steps = steps }) _ word))))
 
 -- two files of one history are the same bytes

@@ -11,7 +11,7 @@ use Rattle.tw_base.specs.Tree.Tree.{Branch}
 use Rattle.tw_base.proofs.ListLemmas.{Each-append, Each-map, Each-parts}
 use Rattle.tw_base.proofs.Keys.{KeyBelow-trans}
 use Rattle.tw_history.specs.declared.soundness.summary.Summary.{Summary}
-use Rattle.tw_history.specs.Judging.{AreReceived, first_archived, last_archived, last_or, summary_of}
+use Rattle.tw_history.specs.JudgingSteps.{AreReceived, first_archived, last_archived, last_or, summary_of}
 
 -- a test that failed doesn't hold
 pub is_false : (b : Bool) → b ≡ false → IsTrue b → ⊥

@@ -6,7 +6,7 @@ use Rattle.tw_base.specs.Lists.{Each}
 use Rattle.tw_base.proofs.ListLemmas.{Each-append}
 use Rattle.tw_history.specs.declared.step.Step.{Step}
 use Rattle.tw_history.specs.declared.step.Node.{Node}
-use Rattle.tw_history.specs.Meaning.{IsInRange, IsTable}
+use Rattle.tw_history.specs.Tables.{IsInRange, IsTable}
 
 module _ (steps : List Step) (nodes : List Node) (s : Step) where
   pub IsTable-push : (fresh : List Node) → IsTable steps nodes → length fresh ≡ s.fresh → length steps < 1000 → IsInRange s.content

@@ -2,8 +2,8 @@
 use Rattle.std.proofs.Common.{◌≡◌, List, [], ◌∷◌, length, drop, suc, refl, ap}
 use Rattle.tw_history.specs.declared.step.Step.{Step}
 use Rattle.tw_history.specs.declared.step.Node.{Node}
-use Rattle.tw_history.specs.Meaning.{steps_of}
+use Rattle.tw_history.specs.Tables.{steps_of_table}
 
-pub length-steps_of : (steps : List Step) (nodes : List Node) → length (steps_of steps nodes) ≡ length steps
-length-steps_of [] nodes = refl
-length-steps_of (s ∷ steps) nodes = ap suc (length-steps_of steps (drop s.fresh nodes))
+pub length-steps_of_table : (steps : List Step) (nodes : List Node) → length (steps_of_table steps nodes) ≡ length steps
+length-steps_of_table [] nodes = refl
+length-steps_of_table (s ∷ steps) nodes = ap suc (length-steps_of_table steps (drop s.fresh nodes))

@@ -14,8 +14,8 @@ use Rattle.tw_base.proofs.FieldLaws.{repeated-push, repeated-start, repeated-sto
 use Rattle.tw_base.proofs.ListLemmas.{Each-append}
 use Rattle.tw_history.specs.declared.step.Step.{Step}
 use Rattle.tw_history.specs.declared.step.Node.{Node}
-use Rattle.tw_history.specs.Layout.{node_layout, step_layout}
-use Rattle.tw_history.specs.Meaning.{node_of, step_of, steps_of}
+use Rattle.tw_base.specs.HistoryLayout.{node_layout, step_layout}
+use Rattle.tw_history.specs.Tables.{node_of, step_of, steps_of_table}
 use Rattle.tw_history.specs.Reading.{added, node_at, step_at}
 use Rattle.tw_history.proofs.ReadingLaws.{node_at-is, step_at-is}
 
@@ -62,17 +62,17 @@ module _ {X : Type 0} where
       (same, whole ∙ ap (λ xs. old ++ xs) (sym same))
 
 -- one step more takes the nodes that are appended with it
-pub steps_of-push : (steps : List Step) (nodes fresh : List Node) (s : Step) → sum_by (λ s. s.fresh) steps ≡ length nodes → s.fresh ≡ length fresh
-    → steps_of (steps ++ s ∷ []) (nodes ++ fresh) ≡ steps_of steps nodes ++ step_of s fresh ∷ []
-steps_of-push [] [] fresh s counted count = ap (λ ns. step_of s ns ∷ []) (ap (λ n. take n fresh) count ∙ take_all (length fresh) fresh (omega arith))
-steps_of-push [] (n ∷ nodes) fresh s counted count = absurd (omega (arith, counted))
-steps_of-push (t ∷ steps) nodes fresh s counted count =
+pub steps_of_table-push : (steps : List Step) (nodes fresh : List Node) (s : Step) → sum_by (λ s. s.fresh) steps ≡ length nodes → s.fresh ≡ length fresh
+    → steps_of_table (steps ++ s ∷ []) (nodes ++ fresh) ≡ steps_of_table steps nodes ++ step_of s fresh ∷ []
+steps_of_table-push [] [] fresh s counted count = ap (λ ns. step_of s ns ∷ []) (ap (λ n. take n fresh) count ∙ take_all (length fresh) fresh (omega arith))
+steps_of_table-push [] (n ∷ nodes) fresh s counted count = absurd (omega (arith, counted))
+steps_of_table-push (t ∷ steps) nodes fresh s counted count =
     let sum = sum_by-cons (λ s. s.fresh) t steps in
     let enough : t.fresh ≤ length nodes = omega (arith, counted, sum) in
     let left : sum_by (λ s. s.fresh) steps ≡ length (drop t.fresh nodes) = omega (arith, counted, sum, length-drop t.fresh nodes) in
-    ap (λ ns. step_of t ns ∷ steps_of (steps ++ s ∷ []) (drop t.fresh (nodes ++ fresh))) (take-append-le t.fresh nodes fresh enough)
-    ∙ ap (λ ns. step_of t (take t.fresh nodes) ∷ steps_of (steps ++ s ∷ []) ns) (drop-append-le t.fresh nodes fresh enough)
-    ∙ ap (λ ss. step_of t (take t.fresh nodes) ∷ ss) (steps_of-push steps (drop t.fresh nodes) fresh s left count)
+    ap (λ ns. step_of t ns ∷ steps_of_table (steps ++ s ∷ []) (drop t.fresh (nodes ++ fresh))) (take-append-le t.fresh nodes fresh enough)
+    ∙ ap (λ ns. step_of t (take t.fresh nodes) ∷ steps_of_table (steps ++ s ∷ []) ns) (drop-append-le t.fresh nodes fresh enough)
+    ∙ ap (λ ss. step_of t (take t.fresh nodes) ∷ ss) (steps_of_table-push steps (drop t.fresh nodes) fresh s left count)
 
 -- ---- nodes
 
@@ -99,22 +99,22 @@ nodes_further whole at after next count old nodes more n kept pushed so_far one 
 
 -- a table with one step more, and the nodes that it added
 pub record Further (whole : List ℕ) (at next : ℕ) (more : List Step) (all : List Node) : Type 0 where
-  pub read : read_at (repeated (length more) step_layout) whole at ≡ Ok (record { value = steps_of more all; after = next })
+  pub read : read_at (repeated (length more) step_layout) whole at ≡ Ok (record { value = steps_of_table more all; after = next })
   pub counted : sum_by (λ s. s.fresh) more ≡ length all
 
 pub steps_further : (whole : List ℕ) (at after next : ℕ) (steps more : List Step) (nodes all : List Node) (s : Step)
     → sum_by (λ s. s.fresh) steps ≡ length nodes → more ≡ steps ++ s ∷ [] → all ≡ nodes ++ added nodes all → length all ≡ length nodes + s.fresh
-    → read_at (repeated (length steps) step_layout) whole at ≡ Ok (record { value = steps_of steps nodes; after = after })
+    → read_at (repeated (length steps) step_layout) whole at ≡ Ok (record { value = steps_of_table steps nodes; after = after })
     → step_at whole after ≡ Ok (record { value = step_of s (added nodes all); after = next }) → Further whole at next more all
 steps_further whole at after next steps more nodes all s counted pushed kept count so_far one =
     let fresh : s.fresh ≡ length (added nodes all) = omega (arith, count, ap length kept, length-append nodes (added nodes all)) in
-    let taken : steps_of more all ≡ steps_of steps nodes ++ step_of s (added nodes all) ∷ [] =
-    ap (λ ss. steps_of ss all) pushed ∙ ap (steps_of (steps ++ s ∷ [])) kept ∙ steps_of-push steps nodes (added nodes all) s counted fresh in
+    let taken : steps_of_table more all ≡ steps_of_table steps nodes ++ step_of s (added nodes all) ∷ [] =
+    ap (λ ss. steps_of_table ss all) pushed ∙ ap (steps_of_table (steps ++ s ∷ [])) kept ∙ steps_of_table-push steps nodes (added nodes all) s counted fresh in
     let size : length more ≡ length steps + 1 = omega (arith, ap length pushed, length-append steps (s ∷ [])) in
     record {
       read =
           ap (λ n. read_at (repeated n step_layout) whole at) size
-          ∙ repeated-push (length steps) step_layout whole at after next (steps_of steps nodes) (step_of s (added nodes all)) so_far (step_at-is whole after ∙ one)
+          ∙ repeated-push (length steps) step_layout whole at after next (steps_of_table steps nodes) (step_of s (added nodes all)) so_far (step_at-is whole after ∙ one)
           ∙ ap (λ ss. Ok (record { value = ss; after = next })) (sym taken);
       counted = omega (arith, ap (sum_by (λ s. s.fresh)) pushed, sum_by-append (λ s. s.fresh) steps (s ∷ []), sum_by-cons (λ s. s.fresh) s [], counted, count);
     }

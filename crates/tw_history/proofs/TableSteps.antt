@@ -11,12 +11,12 @@ use Rattle.tw_base.specs.Lists.{Each}
 use Rattle.tw_base.specs.History.{History, entry_at, entry_to, events_at, events_of, fresh_of, step_at, thread_of}
 use Rattle.tw_base.specs.History.{Node as NodeMeant, Step as StepMeant}
 use Rattle.tw_base.specs.Tree.{Tree, forest, planted}
-use Rattle.tw_history.specs.declared.step.Content.{Content}
-use Rattle.tw_history.specs.declared.step.Content.TheVariants.{Events, Received}
+use Rattle.tw_base.specs.declared.content.Content.{Content}
+use Rattle.tw_base.specs.declared.content.Content.TheVariants.{Events, Received}
 use Rattle.tw_history.specs.declared.step.Step.{Step}
 use Rattle.tw_history.specs.declared.step.Node.{Node}
-use Rattle.tw_history.specs.Meaning.{node_of, step_of, steps_of}
-use Rattle.tw_history.specs.Passing.{events_in, thread_in}
+use Rattle.tw_history.specs.Tables.{node_of, step_of, steps_of_table}
+use Rattle.tw_history.specs.PassSteps.{events_in, thread_in}
 
 pub Each-inside : {X : Type 0} (P : X → Type 0) (xs : List X) (i : ℕ) (d : X) → i < length xs → Each P xs → P (get_or xs i d)
 Each-inside P [] i d inside all = absurd (omega arith)
@@ -35,12 +35,12 @@ nodes_of_first-suc : (steps : List Step) (i : ℕ) (d : Step) → i < length ste
 nodes_of_first-suc steps i d inside = ap (nodes_of_first steps) (sym (add-one i)) ∙ sum_by_more (λ (x : Step). x.fresh) steps i d inside
 
 -- the step at an index, with its nodes
-pub steps_of-at : (steps : List Step) (nodes : List Node) (i : ℕ) (d : Step) → i < length steps
-    → slice_get (steps_of steps nodes) i ≡ Some (step_of (get_or steps i d) (take (get_or steps i d).fresh (drop (nodes_of_first steps i) nodes)))
-steps_of-at [] nodes i d inside = absurd (omega arith)
-steps_of-at (s ∷ steps) nodes zero d inside = refl
-steps_of-at (s ∷ steps) nodes (suc i) d inside =
-    steps_of-at steps (drop s.fresh nodes) i d (omega arith)
+pub steps_of_table-at : (steps : List Step) (nodes : List Node) (i : ℕ) (d : Step) → i < length steps
+    → slice_get (steps_of_table steps nodes) i ≡ Some (step_of (get_or steps i d) (take (get_or steps i d).fresh (drop (nodes_of_first steps i) nodes)))
+steps_of_table-at [] nodes i d inside = absurd (omega arith)
+steps_of_table-at (s ∷ steps) nodes zero d inside = refl
+steps_of_table-at (s ∷ steps) nodes (suc i) d inside =
+    steps_of_table-at steps (drop s.fresh nodes) i d (omega arith)
     ∙ ap (λ (ns : List Node). Some (step_of (get_or steps i d) (take (get_or steps i d).fresh ns)))
     (drop-drop (nodes_of_first steps i) s.fresh nodes ∙ ap (λ n. drop n nodes) (sym (sum_by-cons (λ (x : Step). x.fresh) s (take i steps))))
 
@@ -58,10 +58,10 @@ length-planted entry trees [] = refl
 length-planted entry trees (n ∷ ns) = ap suc (length-planted entry _ ns)
 
 -- a history that a table stands for
-module _ (h : History) (steps : List Step) (nodes : List Node) (is : h.steps ≡ steps_of steps nodes) where
+module _ (h : History) (steps : List Step) (nodes : List Node) (is : h.steps ≡ steps_of_table steps nodes) where
   pub step_at-table : (i : ℕ) (d : Step) → i < length steps
       → step_at h (suc i) ≡ Some (step_of (get_or steps i d) (take (get_or steps i d).fresh (drop (nodes_of_first steps i) nodes)))
-  step_at-table i d inside = ap (λ (ss : List StepMeant). slice_get ss i) is ∙ steps_of-at steps nodes i d inside
+  step_at-table i d inside = ap (λ (ss : List StepMeant). slice_get ss i) is ∙ steps_of_table-at steps nodes i d inside
 
   pub events_at-table : (i : ℕ) (d : Step) → i < length steps → events_at h (i + 1) ≡ events_in (get_or steps i d).content
   events_at-table i d inside =

@@ -9,25 +9,25 @@ use Rattle.tw_base.specs.Entries.{key_of}
 use Rattle.tw_base.specs.History.{History, entry_at, thread_of}
 use Rattle.tw_history.specs.declared.step.Step.{Step}
 use Rattle.tw_history.specs.declared.step.Node.{Node}
-use Rattle.tw_history.specs.Judging.{thread_key}
-use Rattle.tw_history.specs.Meaning.{step_of, steps_of}
+use Rattle.tw_history.specs.JudgingSteps.{thread_key}
+use Rattle.tw_history.specs.Tables.{step_of, steps_of_table}
 
 -- what a step of a table received
 abbrev pub thread_in : Option Step → Option Thread
 thread_in None = None
 thread_in (Some s) = thread_of (Some (step_of s []))
 
-pub thread_of-steps_of : (steps : List Step) (nodes : List Node) (i : ℕ) → thread_of (slice_get (steps_of steps nodes) i) ≡ thread_in (slice_get steps i)
-thread_of-steps_of [] nodes i = refl
-thread_of-steps_of (s ∷ steps) nodes zero = refl
-thread_of-steps_of (s ∷ steps) nodes (suc i) = thread_of-steps_of steps (drop s.fresh nodes) i
+pub thread_of-steps_of_table : (steps : List Step) (nodes : List Node) (i : ℕ) → thread_of (slice_get (steps_of_table steps nodes) i) ≡ thread_in (slice_get steps i)
+thread_of-steps_of_table [] nodes i = refl
+thread_of-steps_of_table (s ∷ steps) nodes zero = refl
+thread_of-steps_of_table (s ∷ steps) nodes (suc i) = thread_of-steps_of_table steps (drop s.fresh nodes) i
 
 key_of-thread : (k : ℕ) (t : Option Thread) → option_map key_of (option_and_then (λ u. Some (record { thread = u; archived = k })) t) ≡ option_map thread_key t
 key_of-thread k None = refl
 key_of-thread k (Some t) = refl
 
 -- the key of what a step received, where the table has that step
-pub key_at-found : (h : History) (steps : List Step) (nodes : List Node) (step index : ℕ) (s : Step) → h.steps ≡ steps_of steps nodes → (1 ≤ step) × (index ≡ step - 1)
+pub key_at-found : (h : History) (steps : List Step) (nodes : List Node) (step index : ℕ) (s : Step) → h.steps ≡ steps_of_table steps nodes → (1 ≤ step) × (index ≡ step - 1)
     → index < length steps → s ≡ get_or steps index s → option_map thread_key (thread_of (Some (step_of s []))) ≡ option_map key_of (entry_at h step)
 key_at-found h steps nodes zero index s is at within got = absurd (omega (arith, at.0))
 key_at-found h steps nodes (suc i) index s is at within got =
@@ -35,10 +35,10 @@ key_at-found h steps nodes (suc i) index s is at within got =
     let there : slice_get steps i ≡ Some s = subst (λ k. slice_get steps k ≡ Some s) same (slice_get-get_or steps index s within ∙ ap (λ (x : Step). Some x) (sym got)) in
     sym (key_of-thread (suc i) (thread_of (slice_get h.steps i))
     ∙ ap (λ o. option_map thread_key (thread_of (slice_get o i))) is
-    ∙ ap (option_map thread_key) (thread_of-steps_of steps nodes i ∙ ap thread_in there))
+    ∙ ap (option_map thread_key) (thread_of-steps_of_table steps nodes i ∙ ap thread_in there))
 
 -- and where it has none
-pub key_at-missing : (h : History) (steps : List Step) (nodes : List Node) (step index : ℕ) → h.steps ≡ steps_of steps nodes → (1 ≤ step) × (index ≡ step - 1)
+pub key_at-missing : (h : History) (steps : List Step) (nodes : List Node) (step index : ℕ) → h.steps ≡ steps_of_table steps nodes → (1 ≤ step) × (index ≡ step - 1)
     → length steps ≤ index → None ≡ option_map key_of (entry_at h step)
 key_at-missing h steps nodes zero index is at past = absurd (omega (arith, at.0))
 key_at-missing h steps nodes (suc i) index is at past =
@@ -46,7 +46,7 @@ key_at-missing h steps nodes (suc i) index is at past =
     let none : slice_get steps i ≡ None = slice_get_past steps i (omega (arith, same, past)) in
     sym (key_of-thread (suc i) (thread_of (slice_get h.steps i))
     ∙ ap (λ o. option_map thread_key (thread_of (slice_get o i))) is
-    ∙ ap (option_map thread_key) (thread_of-steps_of steps nodes i ∙ ap thread_in none))
+    ∙ ap (option_map thread_key) (thread_of-steps_of_table steps nodes i ∙ ap thread_in none))
 
 slice_get-drop : {X : Type 0} (xs : List X) (k : ℕ) (y : X) (ys : List X) → y ∷ ys ≡ drop k xs → slice_get xs k ≡ Some y
 slice_get-drop {X = X} [] k y ys is = cc (drop-nil {A = X} k)
@@ -58,21 +58,21 @@ drop-drop {X = X} [] k y ys is = cc (drop-nil {A = X} k)
 drop-drop (x ∷ xs) zero y ys is = cc
 drop-drop (x ∷ xs) (suc k) y ys is = drop-drop xs k y ys is
 
-module _ (h : History) (steps : List Step) (rest : List Node) (k : ℕ) (step : Step) (ahead : steps_of (drop k steps) rest ≡ drop k h.steps) (within : k < length steps) (got : step ≡ get_or steps k step) where
+module _ (h : History) (steps : List Step) (rest : List Node) (k : ℕ) (step : Step) (ahead : steps_of_table (drop k steps) rest ≡ drop k h.steps) (within : k < length steps) (got : step ≡ get_or steps k step) where
   here : drop k steps ≡ step ∷ drop (suc k) steps
   here = drop-cons steps k step within ∙ ap (λ (x : Step). x ∷ drop (suc k) steps) (sym got)
 
-  front : step_of step (take step.fresh rest) ∷ steps_of (drop (suc k) steps) (drop step.fresh rest) ≡ drop k h.steps
-  front = sym (ap (λ ss. steps_of ss rest) here) ∙ ahead
+  front : step_of step (take step.fresh rest) ∷ steps_of_table (drop (suc k) steps) (drop step.fresh rest) ≡ drop k h.steps
+  front = sym (ap (λ ss. steps_of_table ss rest) here) ∙ ahead
 
   -- the next step of the table is the history's step k + 1
   pub step-there : slice_get h.steps k ≡ Some (step_of step (take step.fresh rest))
   step-there = slice_get-drop h.steps k _ _ front
 
   -- and behind it come the others, with the nodes that are left
-  pub steps-ahead : steps_of (drop (k + 1) steps) (drop step.fresh rest) ≡ drop (k + 1) h.steps
+  pub steps-ahead : steps_of_table (drop (k + 1) steps) (drop step.fresh rest) ≡ drop (k + 1) h.steps
   steps-ahead =
-      ap (λ n. steps_of (drop n steps) (drop step.fresh rest)) (add-one k) ∙ drop-drop h.steps k _ _ front ∙ ap (λ n. drop n h.steps) (sym (add-one k))
+      ap (λ n. steps_of_table (drop n steps) (drop step.fresh rest)) (add-one k) ∙ drop-drop h.steps k _ _ front ∙ ap (λ n. drop n h.steps) (sym (add-one k))
 
   pub steps-counted : sum_by (λ s. s.fresh) (drop k steps) ≡ length rest → sum_by (λ s. s.fresh) (drop (k + 1) steps) ≡ length (drop step.fresh rest)
   steps-counted counted =

@@ -2,10 +2,11 @@
 use Rattle.std.proofs.Common.{◌≡◌, ℕ, ◌+◌, ◌-◌, ◌<◌, ◌≤◌, ◌^◌, List, [], ◌∷◌, ◌++◌, length, map, take, drop, get_or, refl, ap, sym, ◌∙◌, subst, arith, lit<, lit≤, sum_by}
 use Rattle.std.proofs.lemmas.List.{append-nil, append_assoc, drop_all, drop_more, length-drop, take-append-drop}
 use Rattle.std.proofs.lemmas.List.Sums.{sum_by-cons}
+use Rattle.tw_base.specs.declared.limits.TheConstants.{LAST_STEP, MOST_EVENTS, MOST_EVENT_BYTES}
 use Rattle.tw_base.specs.Formats.{Format, Spells}
 use Rattle.tw_base.specs.Fields.{bytes, digest, name, number, number_bytes, repeated, sized_bytes, text}
 use Rattle.tw_base.specs.History.{History, Node, Step}
-use Rattle.tw_base.specs.History.Content.{Events, Received}
+use Rattle.tw_base.specs.declared.content.Content.TheVariants.{Events, Received}
 use Rattle.tw_base.specs.Texts.{joined}
 use Rattle.tw_base.proofs.FormatLaws.{spells_then}
 use Rattle.tw_base.proofs.NumberLaws.{number_spells}
@@ -15,10 +16,10 @@ use Rattle.tw_base.specs.Lists.{Each}
 use Rattle.tw_base.proofs.ListLemmas.{Each-parts}
 use Rattle.tw_history.specs.declared.step.Node.{Node as TableNode}
 use Rattle.tw_history.specs.declared.step.Step.{Step as TableStep}
-use Rattle.tw_history.specs.Meaning.{step_of, steps_of}
-use Rattle.tw_history.specs.HistoryFile.{content_bytes, event_bytes, history_bytes, history_magic, node_bytes, step_bytes}
-use Rattle.tw_history.specs.Layout.{content_layout, events_layout, history_layout, node_layout, step_layout, thread_layout}
-use Rattle.tw_history.specs.Writing.{AllSpelled}
+use Rattle.tw_history.specs.Tables.{step_of, steps_of_table}
+use Rattle.tw_base.specs.HistoryFile.{content_bytes, event_bytes, history_bytes, history_magic, node_bytes, step_bytes}
+use Rattle.tw_base.specs.HistoryLayout.{content_layout, events_layout, history_layout, node_layout, step_layout, thread_layout}
+use Rattle.tw_history.specs.WritingSteps.{AllSpelled}
 
 module _ {X : Type 0} where
   pub all_spelled-nil : (f : Format X) (write : X → List ℕ) → AllSpelled f write []
@@ -47,10 +48,10 @@ module _ {X Y : Type 0} where
   pub all_spelled-map_end : (f : Format X) (write : X → List ℕ) (view : Y → X) (ys : List Y) (i : ℕ) → length ys ≤ i → AllSpelled f write (map view (drop i ys))
   all_spelled-map_end f write view ys i l = subst (AllSpelled f write) (ap (map view) (sym (drop_all i ys l))) (all_spelled-nil f write)
 
-pub event_spelled : (event : List ℕ) → length event ≤ 1024 → Spells (bytes (length event)) event event → Spells (sized_bytes 4 0 1024) (event_bytes event) event
+pub event_spelled : (event : List ℕ) → length event ≤ MOST_EVENT_BYTES → Spells (bytes (length event)) event event → Spells (sized_bytes 4 0 MOST_EVENT_BYTES) (event_bytes event) event
 unfolding sized_bytes
 event_spelled event short s =
-    spells_then (number 4 0 1024) bytes (number_bytes 4 (length event)) event (length event) event (number_spells 4 0 1024 (length event) (lit< tt) (omega arith) short) s
+    spells_then (number 4 0 MOST_EVENTS) bytes (number_bytes 4 (length event)) event (length event) event (number_spells 4 0 MOST_EVENTS (length event) (lit< tt) (omega arith) short) s
 
 kind_spelled : (kind : ℕ) → 1 ≤ kind → kind ≤ 2 → number_bytes 1 kind ≡ kind ∷ [] → Spells (number 1 1 2) (kind ∷ []) kind
 kind_spelled kind low high is =
@@ -64,22 +65,22 @@ thread_kind : number_bytes 1 2 ≡ 2 ∷ []
 unfolding number_bytes
 thread_kind = refl
 
-pub events_spelled : (events : List (List ℕ)) → length events ≤ 1024 → AllSpelled (sized_bytes 4 0 1024) event_bytes events → Spells content_layout (content_bytes (Events events)) (Events events)
+pub events_spelled : (events : List (List ℕ)) → length events ≤ MOST_EVENTS → AllSpelled (sized_bytes 4 0 MOST_EVENT_BYTES) event_bytes events → Spells content_layout (content_bytes (Events events)) (Events events)
 unfolding content_layout events_layout
 events_spelled events few s =
     let P : List ℕ → Type 0 = λ w. Spells events_layout (number_bytes 4 (length events) ++ w) (Events events) in
     let spelled : P (joined (map event_bytes events) ++ []) =
-    spells_then (number 4 0 1024) _ (number_bytes 4 (length events)) _ (length events) (Events events) (number_spells 4 0 1024 (length events) (lit< tt) (omega arith) few)
-    (spells_then (repeated (length events) (sized_bytes 4 0 1024)) _ (joined (map event_bytes events)) [] events (Events events) s refl) in
+    spells_then (number 4 0 MOST_EVENTS) _ (number_bytes 4 (length events)) _ (length events) (Events events) (number_spells 4 0 MOST_EVENTS (length events) (lit< tt) (omega arith) few)
+    (spells_then (repeated (length events) (sized_bytes 4 0 MOST_EVENT_BYTES)) _ (joined (map event_bytes events)) [] events (Events events) s refl) in
     spells_then (number 1 1 2) _ (1 ∷ []) _ 1 (Events events) (kind_spelled 1 (lit≤ tt) (lit≤ tt) events_kind) (subst P (append-nil (joined (map event_bytes events))) spelled)
 
-pub thread_spelled : (t : Thread) → 0 < t.step → t.step < 2 ^ 40 → Spells name t.from t.from → Spells digest t.auth t.auth → Spells content_layout (content_bytes (Received t)) (Received t)
+pub thread_spelled : (t : Thread) → 0 < t.step → t.step ≤ LAST_STEP → Spells name t.from t.from → Spells digest t.auth t.auth → Spells content_layout (content_bytes (Received t)) (Received t)
 unfolding content_layout thread_layout
 thread_spelled t some low from auth =
     let P : List ℕ → Type 0 = λ w. Spells thread_layout (t.from ++ (number_bytes 8 t.step ++ w)) (Received t) in
     let spelled : P (t.auth ++ []) =
     spells_then name _ t.from _ t.from (Received t) from
-    (spells_then (number 8 1 (2 ^ 40 - 1)) _ (number_bytes 8 t.step) _ t.step (Received t) (number_spells 8 1 (2 ^ 40 - 1) t.step (lit< tt) (omega arith) (omega arith))
+    (spells_then (number 8 1 LAST_STEP) _ (number_bytes 8 t.step) _ t.step (Received t) (number_spells 8 1 LAST_STEP t.step (lit< tt) (omega arith) (omega arith))
     (spells_then digest _ t.auth [] t.auth (Received t) auth refl)) in
     spells_then (number 1 1 2) _ (2 ∷ []) _ 2 (Received t) (kind_spelled 2 (lit≤ tt) (lit≤ tt) thread_kind) (subst P (append-nil t.auth) spelled)
 
@@ -105,14 +106,14 @@ step_spelled s few root content fresh =
     (spells_then (number 4 0 (2 ^ 32 - 1)) _ (number_bytes 4 s.root) [] s.root s (number_spells 4 0 (2 ^ 32 - 1) s.root (lit< tt) (omega arith) (omega arith)) refl))) in
     subst P (append-nil (number_bytes 4 s.root)) spelled
 
-pub history_spelled : (h : History) → length h.steps < 2 ^ 40 → Spells name h.name h.name → AllSpelled step_layout step_bytes h.steps → Spells history_layout (history_bytes h) h
+pub history_spelled : (h : History) → length h.steps ≤ LAST_STEP → Spells name h.name h.name → AllSpelled step_layout step_bytes h.steps → Spells history_layout (history_bytes h) h
 unfolding history_layout
 history_spelled h few service steps =
     let P : List ℕ → Type 0 = λ w. Spells history_layout (history_magic ++ (h.name ++ (number_bytes 8 (length h.steps) ++ w))) h in
     let spelled : P (joined (map step_bytes h.steps) ++ []) =
     spells_then (text history_magic) _ history_magic _ history_magic h (text-spells history_magic)
     (spells_then name _ h.name _ h.name h service
-    (spells_then (number 8 0 (2 ^ 40 - 1)) _ (number_bytes 8 (length h.steps)) _ (length h.steps) h (number_spells 8 0 (2 ^ 40 - 1) (length h.steps) (lit< tt) (omega arith) (omega arith))
+    (spells_then (number 8 0 LAST_STEP) _ (number_bytes 8 (length h.steps)) _ (length h.steps) h (number_spells 8 0 LAST_STEP (length h.steps) (lit< tt) (omega arith) (omega arith))
     (spells_then (repeated (length h.steps) step_layout) _ (joined (map step_bytes h.steps)) [] h.steps h steps refl))) in
     subst P (append-nil (joined (map step_bytes h.steps))) spelled
 
@@ -120,10 +121,10 @@ history_spelled h few service steps =
 
 -- a step's bytes are written, and the next nodes are left
 pub record StepsFurther (steps : List TableStep) (nodes later : List TableNode) (i : ℕ) (now : Step) : Type 0 where
-  pub taken : steps_of (drop i steps) nodes ≡ now ∷ steps_of (drop (i + 1) steps) later
-  pub written : (into more all : List ℕ) → more ≡ into ++ step_bytes now → into ++ joined (map step_bytes (steps_of (drop i steps) nodes)) ≡ all
-      → more ++ joined (map step_bytes (steps_of (drop (i + 1) steps) later)) ≡ all
-  pub spelled : AllSpelled step_layout step_bytes (steps_of (drop (i + 1) steps) later) → AllSpelled step_layout step_bytes (steps_of (drop i steps) nodes)
+  pub taken : steps_of_table (drop i steps) nodes ≡ now ∷ steps_of_table (drop (i + 1) steps) later
+  pub written : (into more all : List ℕ) → more ≡ into ++ step_bytes now → into ++ joined (map step_bytes (steps_of_table (drop i steps) nodes)) ≡ all
+      → more ++ joined (map step_bytes (steps_of_table (drop (i + 1) steps) later)) ≡ all
+  pub spelled : AllSpelled step_layout step_bytes (steps_of_table (drop (i + 1) steps) later) → AllSpelled step_layout step_bytes (steps_of_table (drop i steps) nodes)
   pub counted : sum_by (λ s. s.fresh) (drop i steps) ≡ length nodes → sum_by (λ s. s.fresh) (drop (i + 1) steps) ≡ length later
   pub entries : Each {X = TableNode} (λ n. n.entry < 2 ^ 64) nodes → Each {X = TableNode} (λ n. n.entry < 2 ^ 64) later
 
@@ -132,16 +133,16 @@ pub steps_further : (steps : List TableStep) (nodes fresh later : List TableNode
     → StepsFurther steps nodes later i (step_of s fresh)
 steps_further steps nodes fresh later i s l is front back one =
     let cut : drop i steps ≡ s ∷ drop (i + 1) steps = drop_more steps i s l ∙ ap (λ x. x ∷ drop (i + 1) steps) (sym is) in
-    let taken : steps_of (drop i steps) nodes ≡ step_of s fresh ∷ steps_of (drop (i + 1) steps) later =
-    ap (λ ss. steps_of ss nodes) cut ∙ (λ k. step_of s (sym front k) ∷ steps_of (drop (i + 1) steps) (sym back k)) in
+    let taken : steps_of_table (drop i steps) nodes ≡ step_of s fresh ∷ steps_of_table (drop (i + 1) steps) later =
+    ap (λ ss. steps_of_table ss nodes) cut ∙ (λ k. step_of s (sym front k) ∷ steps_of_table (drop (i + 1) steps) (sym back k)) in
     record {
       taken = taken;
       written = λ into more all pushed so_far.
-          ap (λ w. w ++ joined (map step_bytes (steps_of (drop (i + 1) steps) later))) pushed
-          ∙ append_assoc into (step_bytes (step_of s fresh)) (joined (map step_bytes (steps_of (drop (i + 1) steps) later)))
+          ap (λ w. w ++ joined (map step_bytes (steps_of_table (drop (i + 1) steps) later))) pushed
+          ∙ append_assoc into (step_bytes (step_of s fresh)) (joined (map step_bytes (steps_of_table (drop (i + 1) steps) later)))
           ∙ ap (λ ss. into ++ joined (map step_bytes ss)) (sym taken) ∙ so_far;
       spelled = λ rest.
-          subst (AllSpelled step_layout step_bytes) (sym taken) (all_spelled-cons step_layout step_bytes (step_of s fresh) (steps_of (drop (i + 1) steps) later) one rest);
+          subst (AllSpelled step_layout step_bytes) (sym taken) (all_spelled-cons step_layout step_bytes (step_of s fresh) (steps_of_table (drop (i + 1) steps) later) one rest);
       counted = λ counted.
           omega (arith, counted, ap (sum_by (λ s. s.fresh)) cut, sum_by-cons (λ s. s.fresh) s (drop (i + 1) steps), ap length back, length-drop s.fresh nodes);
       entries = λ all.
@@ -150,6 +151,6 @@ steps_further steps nodes fresh later i s l is front back one =
     }
 
 -- no step is left behind the last
-pub steps_spelled_end : (steps : List TableStep) (nodes : List TableNode) (i : ℕ) → length steps ≤ i → AllSpelled step_layout step_bytes (steps_of (drop i steps) nodes)
+pub steps_spelled_end : (steps : List TableStep) (nodes : List TableNode) (i : ℕ) → length steps ≤ i → AllSpelled step_layout step_bytes (steps_of_table (drop i steps) nodes)
 steps_spelled_end steps nodes i l =
-    subst (λ ss. AllSpelled step_layout step_bytes (steps_of ss nodes)) (sym (drop_all i steps l)) (all_spelled-nil step_layout step_bytes)
+    subst (λ ss. AllSpelled step_layout step_bytes (steps_of_table ss nodes)) (sym (drop_all i steps l)) (all_spelled-nil step_layout step_bytes)

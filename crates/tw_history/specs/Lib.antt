@@ -1,10 +1,9 @@
-pub mod Meaning
+pub mod Tables
+pub mod FileRanges
 pub mod HistoryOf
-pub mod HistoryFile
-pub mod Layout
 pub mod Rules
 pub mod Refusals
 pub mod Reading
-pub mod Writing
-pub mod Passing
-pub mod Judging
+pub mod WritingSteps
+pub mod PassSteps
+pub mod JudgingSteps

@@ -1,27 +1,29 @@
 -- Reading a history file field by field, over the whole input and a place in it.
 use Rattle.std.specs.Prelude.{ℕ, ◌-◌, ◌^◌, List, length, drop, ◌==◌, if◌then◌else◌, Result, Ok}
+use Rattle.tw_base.specs.declared.limits.TheConstants.{LAST_STEP, MOST_EVENTS, MOST_EVENT_BYTES}
 use Rattle.tw_base.specs.Formats.{Placed, ◌>>=◌, read_at}
 use Rattle.tw_base.specs.Fields.{bytes, digest, name, number, repeated, sized_bytes, text}
-use Rattle.tw_base.specs.History.{Content, History, Node, Step}
-use Rattle.tw_base.specs.History.Content.{Events, Received}
-use Rattle.tw_history.specs.HistoryFile.{history_magic}
-use Rattle.tw_history.specs.Layout.{node_layout, step_layout}
+use Rattle.tw_base.specs.declared.content.Content.{Content}
+use Rattle.tw_base.specs.History.{History, Node, Step}
+use Rattle.tw_base.specs.declared.content.Content.TheVariants.{Events, Received}
+use Rattle.tw_base.specs.HistoryFile.{history_magic}
+use Rattle.tw_base.specs.HistoryLayout.{node_layout, step_layout}
 
 unfoldable pub event_at : List ℕ → ℕ → Result (Placed (List ℕ)) ℕ
 event_at whole at = do
-  size ← read_at (number 4 0 1024) whole at
+  size ← read_at (number 4 0 MOST_EVENTS) whole at
   read_at (bytes size.value) whole size.after
 
 unfoldable pub events_at : List ℕ → ℕ → Result (Placed Content) ℕ
 events_at whole at = do
-  count ← read_at (number 4 0 1024) whole at
-  events ← read_at (repeated count.value (sized_bytes 4 0 1024)) whole count.after
+  count ← read_at (number 4 0 MOST_EVENTS) whole at
+  events ← read_at (repeated count.value (sized_bytes 4 0 MOST_EVENT_BYTES)) whole count.after
   Ok (record { value = Events events.value; after = events.after })
 
 unfoldable pub thread_at : List ℕ → ℕ → Result (Placed Content) ℕ
 thread_at whole at = do
   from ← read_at name whole at
-  step ← read_at (number 8 1 (2 ^ 40 - 1)) whole from.after
+  step ← read_at (number 8 1 LAST_STEP) whole from.after
   auth ← read_at digest whole step.after
   Ok (record { value = Received (record { from = from.value; step = step.value; auth = auth.value }); after = auth.after })
 
@@ -49,7 +51,7 @@ unfoldable pub history_at : List ℕ → ℕ → Result (Placed History) ℕ
 history_at whole at = do
   magic ← read_at (text history_magic) whole at
   service ← read_at name whole magic.after
-  count ← read_at (number 8 0 (2 ^ 40 - 1)) whole service.after
+  count ← read_at (number 8 0 LAST_STEP) whole service.after
   steps ← read_at (repeated count.value step_layout) whole count.after
   Ok (record { value = record { name = service.value; steps = steps.value }; after = steps.after })
 

@@ -1,10 +1,10 @@
 -- When each refusal comes.
 use Rattle.std.specs.Prelude.{◌≡◌, ℕ, ◌<◌, ◌≤◌, List, length, Result, Ok, Err}
+use Rattle.tw_base.specs.declared.limits.TheConstants.{MOST_HISTORY_BYTES}
 use Rattle.tw_base.specs.Formats.{IsPlace, Spells, SpellsNothing}
 use Rattle.tw_base.specs.History.{History, events_at}
 use Rattle.tw_base.specs.Sound.{IsSound}
-use Rattle.tw_history.specs.HistoryFile.{most_bytes}
-use Rattle.tw_history.specs.Layout.{history_layout}
+use Rattle.tw_base.specs.HistoryLayout.{history_layout}
 use Rattle.tw_history.specs.Rules.{IsFirstBroken}
 use Rattle.tw_history.specs.declared.fault.HistoryFault.{HistoryFault}
 use Rattle.tw_history.specs.declared.fault.HistoryFault.TheVariants.{Malformed, NoMemory, TooLong, Unsound}
@@ -14,7 +14,7 @@ use Rattle.tw_history.specs.declared.fault.ShowFault.TheVariants.{NoEvent, NoMem
 -- why a file isn't written: it would be too long, and then the refusal tells the number of its bytes; want of memory may
 -- come at any time
 abbrev pub TellsLength : List ℕ → HistoryFault → Type 0
-TellsLength file (TooLong bytes) = (most_bytes < length file) × (bytes ≡ length file)
+TellsLength file (TooLong bytes) = (MOST_HISTORY_BYTES < length file) × (bytes ≡ length file)
 TellsLength file NoMemory = Unit {0}
 TellsLength file _ = ⊥
 
@@ -28,12 +28,12 @@ TellsRule h _ = ⊥
 -- many; they spell no history, with the place of the first byte at which none goes on; the history that they spell breaks
 -- a rule, with the first one. Want of memory may come at any time
 abbrev pub ReadsHistory : List ℕ → Result History HistoryFault → Type 0
-ReadsHistory bytes (Ok h) = (length bytes ≤ most_bytes) × Spells history_layout bytes h × IsSound h
-ReadsHistory bytes (Err (TooLong count)) = (most_bytes < length bytes) × (count ≡ length bytes)
+ReadsHistory bytes (Ok h) = (length bytes ≤ MOST_HISTORY_BYTES) × Spells history_layout bytes h × IsSound h
+ReadsHistory bytes (Err (TooLong count)) = (MOST_HISTORY_BYTES < length bytes) × (count ≡ length bytes)
 ReadsHistory bytes (Err (Malformed place)) =
-    (length bytes ≤ most_bytes) × SpellsNothing history_layout bytes × IsPlace history_layout bytes place
+    (length bytes ≤ MOST_HISTORY_BYTES) × SpellsNothing history_layout bytes × IsPlace history_layout bytes place
 ReadsHistory bytes (Err (Unsound step rule)) =
-    (length bytes ≤ most_bytes) × ((h : History) × Spells history_layout bytes h × IsFirstBroken h step rule)
+    (length bytes ≤ MOST_HISTORY_BYTES) × ((h : History) × Spells history_layout bytes h × IsFirstBroken h step rule)
 ReadsHistory bytes (Err NoMemory) = Unit {0}
 
 -- why an event isn't shown: the history has no such step, and this is its last; or the step has no such event, and this

@@ -1,5 +1,7 @@
 // Why there is no answer.
 
+use tw_base::NoMemory;
+
 /// Why a history isn't read, isn't sound, or has no file.
 #[derive(Clone, Copy, PartialEq, Eq, Debug, Drop)]
 pub enum HistoryFault {
@@ -15,6 +17,17 @@ pub enum HistoryFault {
     NoMemory,
 }
 
+impl From<NoMemory> for HistoryFault {
+    ghost use Rattle.std.specs.Prelude.{◌≡◌};
+    ghost use Rattle.tw_history.specs.declared.fault.HistoryFault.TheVariants.{NoMemory as WantedMemory};
+
+    ghost from_gives = { λ _ fault. fault ≡ WantedMemory };
+
+    fn from(_refused: NoMemory) -> Self {
+        HistoryFault::NoMemory
+    }
+}
+
 /// Why an event isn't shown.
 #[derive(Clone, Copy, PartialEq, Eq, Debug, Drop)]
 pub enum ShowFault {
@@ -24,4 +37,15 @@ pub enum ShowFault {
     NoEvent { count: u32 },
     /// There was no memory for what the call needed.
     NoMemory,
+}
+
+impl From<NoMemory> for ShowFault {
+    ghost use Rattle.std.specs.Prelude.{◌≡◌};
+    ghost use Rattle.tw_history.specs.declared.fault.ShowFault.TheVariants.{NoMemory as WantedMemory};
+
+    ghost from_gives = { λ _ fault. fault ≡ WantedMemory };
+
+    fn from(_refused: NoMemory) -> Self {
+        ShowFault::NoMemory
+    }
 }

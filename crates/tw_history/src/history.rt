@@ -1,7 +1,7 @@
 // Histories as tables of steps and nodes.
 
 ghost use Rattle.std.specs.Prelude.{◌≡◌};
-ghost use Rattle.tw_history.specs.Meaning.{IsTable, steps_of};
+ghost use Rattle.tw_history.specs.Tables.{IsTable, steps_of_table};
 
 use crate::step::{Nodes, Steps};
 use std::marker::Model;
@@ -24,10 +24,10 @@ impl Model for History {
 
     ghost Value = { HistoryMeant };
 
-    ghost use Rattle.tw_history.specs.Meaning.{IsTable};
-    ghost use Rattle.tw_history.specs.HistoryOf.{history_of};
+    ghost use Rattle.tw_history.specs.Tables.{IsTable};
+    ghost use Rattle.tw_history.specs.HistoryOf.{history_of_table};
 
-    ghost view = { history_of };
+    ghost view = { history_of_table };
 
     ghost invariant = { λ h. IsTable h.steps h.nodes };
 }
@@ -36,7 +36,7 @@ impl History {
     /// The history of these steps and nodes. Takes no memory.
     pub fn new(name: Name, steps: Steps, nodes: Nodes) -> Self
         requires { IsTable steps nodes }
-        ensures { result ≡ record { name = name; steps = steps_of steps nodes } }
+        ensures { result ≡ record { name = name; steps = steps_of_table steps nodes } }
     {
         History { name, steps, nodes }
     }

@@ -1,11 +1,16 @@
 // The laws of history files, on which the layers above build.
 
-ghost use Rattle.tw_base.specs.Formats.{OneSpelling, WrittenAs};
-ghost use Rattle.tw_history.specs.HistoryFile.{history_bytes};
-ghost use Rattle.tw_history.specs.Layout.{history_layout};
+ghost use Rattle.tw_base.specs.Formats.{OneSpelling, Spells, WrittenAs};
+ghost use Rattle.tw_base.specs.History.{History};
+ghost use Rattle.tw_base.specs.Sound.{IsSound};
+ghost use Rattle.tw_history.specs.FileRanges.{IsInFileRange};
+ghost use Rattle.tw_base.specs.HistoryFile.{history_bytes};
+ghost use Rattle.tw_base.specs.HistoryLayout.{history_layout};
 
-/// What the layout spells: a history's one spelling is what `write_history` writes.
+/// What the layout spells: a history's one spelling is what `write_history` writes; and a sound
+/// history of which each number of a node fits its field has that spelling.
 pub fn history_laws()
     ensures written { WrittenAs history_layout history_bytes }
     ensures one { OneSpelling history_layout }
+    ensures spelled { (h : History) → IsSound h → IsInFileRange h → Spells history_layout (history_bytes h) h }
 {}

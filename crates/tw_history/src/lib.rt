@@ -28,5 +28,6 @@ pub use laws::history_laws;
 pub use reading::read_history;
 pub use showing::show_event;
 pub use soundness::is_sound;
-pub use step::{Content, Node, Nodes, Step, Steps};
+pub use step::{Node, Nodes, Step, Steps};
+pub use tw_base::Content;
 pub use writing::write_history;

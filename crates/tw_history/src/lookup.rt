@@ -4,16 +4,17 @@ ghost use Rattle.std.specs.Prelude.{◌≡◌, ◌+◌, ◌^◌, ◌<◌, ◌≤
 ghost use Rattle.tw_base.specs.History.{entry_to, events_at, step_at, thread_of};
 ghost use Rattle.tw_base.specs.Lists.{Each};
 ghost use Rattle.tw_base.specs.Tree.{forest};
-ghost use Rattle.tw_history.specs.Meaning.{IsInRange, IsTable, step_of, steps_of};
-ghost use Rattle.tw_history.specs.Passing.{events_in, thread_in};
+ghost use Rattle.tw_history.specs.Tables.{IsInRange, IsTable, step_of, steps_of_table};
+ghost use Rattle.tw_history.specs.PassSteps.{events_in, thread_in};
+ghost use Rattle.tw_base.specs.declared.limits.TheConstants.{LAST_STEP};
 
 use crate::history::History;
-use crate::step::{Content, Node, Step};
-use tw_base::{Entry, Thread};
+use crate::step::{Node, Step};
+use tw_base::{Content, Entry, Thread};
 
 /// The steps and the nodes that the history is a table of.
 pub(crate) fn table_of(history: &History) -> (&[Step], &[Node])
-    ensures steps { history.now.steps ≡ steps_of result.0.now result.1.now }
+    ensures steps { history.now.steps ≡ steps_of_table result.0.now result.1.now }
     ensures count { length history.now.steps ≡ length result.0.now }
     ensures table { IsTable result.0.now result.1.now }
 {
@@ -23,7 +24,7 @@ pub(crate) fn table_of(history: &History) -> (&[Step], &[Node])
 /// The number of steps.
 pub(crate) fn count_of_steps(history: &History) -> u64
     ensures count { result ≡ length history.now.steps }
-    ensures few { result < 2 ^ 40 }
+    ensures few { result ≤ LAST_STEP }
 {
     let (steps, _) = table_of(history);
     steps.len() as u64
@@ -41,7 +42,7 @@ fn step_with_nodes<'a>(
     requires counted { sum_by (λ s. s.fresh) steps.now ≡ length nodes.now }
     requires before { before ≡ sum_by (λ s. s.fresh) (take index steps.now) }
     requires contents { Each (λ s. IsInRange s.content) steps.now }
-    ensures step { slice_get (steps_of steps.now nodes.now) index ≡ Some (step_of result.0.now result.1.now) }
+    ensures step { slice_get (steps_of_table steps.now nodes.now) index ≡ Some (step_of result.0.now result.1.now) }
     ensures content { IsInRange result.0.now.content }
 {
     let step = &steps[index];
@@ -56,7 +57,7 @@ pub(crate) fn step_behind(history: &History, index: u64, before: usize) -> (&Ste
     requires before { length (forest history.now index) ≡ before + 1 }
     ensures step { slice_get history.now.steps index ≡ Some (step_of result.0.now result.1.now) }
     ensures content { IsInRange result.0.now.content }
-    ensures few { length history.now.steps < 2 ^ 40 }
+    ensures few { length history.now.steps ≤ LAST_STEP }
 {
     let (steps, nodes) = table_of(history);
     step_with_nodes(steps, nodes, index as usize, before)

@@ -6,8 +6,8 @@ ghost use Rattle.tw_base.specs.EventTree.{event_root as event_root_of};
 ghost use Rattle.tw_base.specs.History.{History as HistoryMeant, entry_to, events_at};
 ghost use Rattle.tw_base.specs.Tree.{Tree, branch, planted};
 ghost use Rattle.tw_base.specs.Tree.Tree.{Empty};
-ghost use Rattle.tw_history.specs.Meaning.{node_of};
-ghost use Rattle.tw_history.specs.Passing.{HasPassed, IsOfStep};
+ghost use Rattle.tw_history.specs.Tables.{node_of};
+ghost use Rattle.tw_history.specs.PassSteps.{HasPassed, IsOfStep};
 
 use crate::history::History;
 use crate::lookup::{content_behind, entry_up_to, step_behind};

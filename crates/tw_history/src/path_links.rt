@@ -1,14 +1,15 @@
 // The links of a history's path.
 
 ghost use Rattle.std.specs.Prelude.{◌≡◌, ◌^◌, ◌<◌, ◌≤◌, List, length, reverse, IfOk, OnOk};
-ghost use Rattle.tw_skipproof.specs.Making.{IsPathOf};
-ghost use Rattle.tw_history.specs.Passing.{HasPassed};
+ghost use Rattle.tw_skipproof.specs.HistoryProofs.{IsPathOf};
+ghost use Rattle.tw_history.specs.PassSteps.{HasPassed};
+ghost use Rattle.tw_base.specs.declared.limits.TheConstants.{LAST_STEP};
 
 use crate::history::History;
 use crate::pass::{Digests, event_root_behind, pass_step, pass_steps};
-use crate::step_digests::{link_at, power};
+use crate::step_digests::link_at;
 use std::alloc::Global;
-use tw_base::{Hasher, NoMemory};
+use tw_base::{Hasher, NoMemory, power_of_two};
 use tw_skipproof::{Link, LinkList, next_hop};
 
 /// The links of the path down from a step, in the order in which a pass comes by: from the lower
@@ -22,7 +23,7 @@ fn links_upwards<H: Hasher>(
 ) -> Result<Vec<Link>, NoMemory>
     requires order { to ≤ from }
     requires inside { from ≤ length history.now.steps }
-    requires few { from < 2 ^ 40 }
+    requires few { from ≤ LAST_STEP }
     requires passed { HasPassed H.dig history.now to digests.old }
     ensures links { IfOk result (λ links. IsPathOf H.dig history.now (reverse links.items) from to) }
     ensures passed { OnOk result (HasPassed H.dig history.now from digests.new) }
@@ -31,16 +32,14 @@ fn links_upwards<H: Hasher>(
         return Ok(Vec::new(alloc));
     }
     let level = next_hop(from, to);
-    let below = from - power(level);
+    let below = from - power_of_two(level);
     let mut links = links_upwards::<H>(alloc, history, below, to, digests)?;
     pass_steps::<H>(history, below, from - 1, digests)?;
     let event_root = event_root_behind::<H>(history, from - 1);
     let passed = pass_step::<H>(history, from - 1, event_root, digests)?;
     let link = link_at(alloc, &passed, level)?;
-    match links.push(link) {
-        Ok(()) => Ok(links),
-        Err(_) => Err(NoMemory),
-    }
+    links.push(link)?;
+    Ok(links)
 }
 
 /// The links of the path from a step down to one that the pass has passed; the pass goes on to the
@@ -54,7 +53,7 @@ pub(crate) fn path_links<H: Hasher>(
 ) -> Result<LinkList, NoMemory>
     requires order { to ≤ from }
     requires inside { from ≤ length history.now.steps }
-    requires few { from < 2 ^ 40 }
+    requires few { from ≤ LAST_STEP }
     requires passed { HasPassed H.dig history.now to digests.old }
     ensures { IfOk result (λ links. IsPathOf H.dig history.now links from to) }
 {

@@ -2,18 +2,18 @@
 
 ghost use Rattle.std.specs.Prelude.{◌≡◌, MatchResult};
 ghost use Rattle.tw_base.specs.Formats.{GivesWithEnd, ReadsAs};
-ghost use Rattle.tw_history.specs.Layout.{history_layout};
+ghost use Rattle.tw_base.specs.HistoryLayout.{history_layout};
 ghost use Rattle.tw_history.specs.Reading.{history_at as history_at_of};
 ghost use Rattle.tw_base.specs.Sound.{IsSound};
 ghost use Rattle.tw_history.specs.Refusals.{ReadsHistory, TellsRule};
 
 use crate::fault::HistoryFault;
 use crate::history::History;
-use crate::reading_content::LAST_STEP;
 use crate::reading_steps::{Table, steps_at};
 use crate::soundness::is_sound;
-use crate::writing::{MAGIC, MOST_BYTES};
+use crate::writing::MAGIC;
 use std::alloc::Global;
+use tw_base::limits::{LAST_STEP, MOST_HISTORY_BYTES};
 use tw_base::{ReadFault, malformed, read_name, read_number, read_text, whole};
 
 /// The history at the front of the bytes, and the place after it.
@@ -43,7 +43,7 @@ pub(crate) fn read_table(alloc: Global, bytes: &[u8]) -> Result<History, ReadFau
 pub fn read_history(alloc: Global, bytes: &[u8]) -> Result<History, HistoryFault>
     ensures read { ReadsHistory bytes.now result }
 {
-    if bytes.len() > MOST_BYTES {
+    if bytes.len() as u64 > MOST_HISTORY_BYTES {
         return Err(HistoryFault::TooLong {
             bytes: bytes.len() as u64,
         });

@@ -4,22 +4,14 @@ ghost use Rattle.std.specs.Prelude.{◌≡◌, ℕ, ◌+◌, ◌-◌, ◌^◌, �
 ghost use Rattle.tw_base.specs.Fields.{repeated, sized_bytes};
 ghost use Rattle.tw_base.specs.Formats.{GivesWithEnd, read_at};
 ghost use Rattle.tw_base.specs.Lists.{Each};
-ghost use Rattle.tw_history.specs.Meaning.{IsInRange, content_of};
+ghost use Rattle.tw_history.specs.Tables.{IsInRange};
 ghost use Rattle.tw_history.specs.Reading.{content_at as content_at_of, event_at as event_at_of, events_at as events_at_of, thread_at as thread_at_of};
 
-use crate::step::Content;
 use std::alloc::Global;
+use tw_base::limits::{LAST_STEP, MOST_EVENTS, MOST_EVENT_BYTES};
 use tw_base::{
-    Bytes, EventList, ReadFault, Thread, malformed, read_bytes, read_digest, read_name, read_number,
+    Content, Bytes, EventList, ReadFault, Thread, malformed, read_bytes, read_digest, read_name, read_number,
 };
-
-/// The greatest step.
-pub(crate) const LAST_STEP: u64 = (1 << 40) - 1;
-
-/// The most events of a step, and the most bytes of an event.
-const MOST_EVENTS: u64 = 1024;
-
-const MOST_OF_EVENT: u64 = 1024;
 
 /// The event at a place, behind its length, and the place after it.
 #[tactic(auto, unfolding(crate::specs::Reading::event_at))]
@@ -27,9 +19,9 @@ fn event_at(alloc: Global, bytes: &[u8], at: u64) -> Result<(Bytes, u64), ReadFa
     requires within { at ≤ length bytes.now }
     ensures read { GivesWithEnd (λ e. e) result (event_at_of bytes.now at) }
     ensures within { IfOk result (λ r. r.1 ≤ length bytes.now) }
-    ensures size { IfOk result (λ r. length r.0 ≤ 1024) }
+    ensures size { IfOk result (λ r. length r.0 ≤ MOST_EVENT_BYTES) }
 {
-    let size = malformed(read_number(bytes, at, 4, 0, MOST_OF_EVENT))?;
+    let size = malformed(read_number(bytes, at, 4, 0, MOST_EVENT_BYTES))?;
     let event = read_bytes(alloc, bytes, at + 4, size)?;
     Ok((event, at + 4 + size))
 }
@@ -42,10 +34,10 @@ fn event_list_at(
     count: u64,
 ) -> Result<(EventList, u64), ReadFault>
     requires within { at ≤ length bytes.now }
-    ensures read { GivesWithEnd (λ e. e) result (read_at (repeated count (sized_bytes 4 0 1024)) bytes.now at) }
+    ensures read { GivesWithEnd (λ e. e) result (read_at (repeated count (sized_bytes 4 0 MOST_EVENT_BYTES)) bytes.now at) }
     ensures within { IfOk result (λ r. r.1 ≤ length bytes.now) }
     ensures count { IfOk result (λ r. length r.0 ≡ count) }
-    ensures sizes { IfOk result (λ r. Each (λ event. length event ≤ 1024) r.0) }
+    ensures sizes { IfOk result (λ r. Each (λ event. length event ≤ MOST_EVENT_BYTES) r.0) }
 {
     let mut events = EventList::new(alloc);
     let mut place = at;
@@ -61,7 +53,7 @@ fn event_list_at(
 #[tactic(auto, unfolding(crate::specs::Reading::events_at))]
 fn events_at(alloc: Global, bytes: &[u8], at: u64) -> Result<(Content, u64), ReadFault>
     requires within { at ≤ length bytes.now }
-    ensures read { GivesWithEnd content_of result (events_at_of bytes.now at) }
+    ensures read { GivesWithEnd (λ content. content) result (events_at_of bytes.now at) }
     ensures within { IfOk result (λ r. r.1 ≤ length bytes.now) }
     ensures range { IfOk result (λ r. IsInRange r.0) }
 {
@@ -74,7 +66,7 @@ fn events_at(alloc: Global, bytes: &[u8], at: u64) -> Result<(Content, u64), Rea
 #[tactic(auto, unfolding(crate::specs::Reading::thread_at))]
 fn thread_at(bytes: &[u8], at: u64) -> Result<(Content, u64), ReadFault>
     requires within { at ≤ length bytes.now }
-    ensures read { GivesWithEnd content_of result (thread_at_of bytes.now at) }
+    ensures read { GivesWithEnd (λ content. content) result (thread_at_of bytes.now at) }
     ensures within { IfOk result (λ r. r.1 ≤ length bytes.now) }
     ensures range { IfOk result (λ r. IsInRange r.0) }
 {
@@ -89,7 +81,7 @@ fn thread_at(bytes: &[u8], at: u64) -> Result<(Content, u64), ReadFault>
 #[tactic(auto, unfolding(crate::specs::Reading::content_at))]
 pub(crate) fn content_at(alloc: Global, bytes: &[u8], at: u64) -> Result<(Content, u64), ReadFault>
     requires within { at ≤ length bytes.now }
-    ensures read { GivesWithEnd content_of result (content_at_of bytes.now at) }
+    ensures read { GivesWithEnd (λ content. content) result (content_at_of bytes.now at) }
     ensures within { IfOk result (λ r. r.1 ≤ length bytes.now) }
     ensures range { IfOk result (λ r. IsInRange r.0) }
 {

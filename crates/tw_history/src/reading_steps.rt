@@ -6,9 +6,10 @@ ghost use Rattle.tw_base.specs.Fields.{repeated};
 ghost use Rattle.tw_base.specs.Formats.{GivesIfMemory, GivesWithEnd, read_at};
 ghost use Rattle.tw_base.specs.Lists.{Each};
 ghost use Rattle.tw_history.specs.declared.reading_steps.Table.{Table};
-ghost use Rattle.tw_history.specs.Layout.{node_layout, step_layout};
-ghost use Rattle.tw_history.specs.Meaning.{IsInRange, IsTable, node_of, step_of, steps_of};
+ghost use Rattle.tw_base.specs.HistoryLayout.{node_layout, step_layout};
+ghost use Rattle.tw_history.specs.Tables.{IsInRange, IsTable, node_of, step_of, steps_of_table};
 ghost use Rattle.tw_history.specs.Reading.{added, node_at as node_at_of, step_at as step_at_of};
+ghost use Rattle.tw_base.specs.declared.limits.TheConstants.{LAST_STEP};
 
 use crate::reading_content::content_at;
 use crate::step::{Node, Nodes, Step, Steps};
@@ -97,8 +98,8 @@ pub(crate) fn steps_at(
     count: u64,
 ) -> Result<(Table, u64), ReadFault>
     requires within { at ≤ length bytes.now }
-    requires few { count < 2 ^ 40 }
-    ensures read { GivesWithEnd (λ (t : Table). steps_of t.steps t.nodes) result (read_at (repeated count step_layout) bytes.now at) }
+    requires few { count ≤ LAST_STEP }
+    ensures read { GivesWithEnd (λ (t : Table). steps_of_table t.steps t.nodes) result (read_at (repeated count step_layout) bytes.now at) }
     ensures within { IfOk result (λ r. r.1 ≤ length bytes.now) }
     ensures table { IfOk result (λ r. IsTable r.0.steps r.0.nodes) }
 {

@@ -1,18 +1,19 @@
 // Proofs that a history itself makes.
 
 ghost use Rattle.std.specs.Prelude.{◌≡◌, ◌^◌, ◌<◌, ◌≤◌, List, length, Some, IfOk, IfErr, OnOk};
-ghost use Rattle.tw_base.specs.declared.thread.Thread.{Thread};
-ghost use Rattle.tw_base.specs.Anchors.{anchor_of};
+ghost use Rattle.tw_skipproof.specs.declared.existence.ExistenceProof.{ExistenceProof};
 ghost use Rattle.tw_base.specs.Auth.{auth};
 ghost use Rattle.tw_base.specs.EventTree.{event_root as event_root_of};
 ghost use Rattle.tw_base.specs.History.{events_at};
 ghost use Rattle.tw_base.specs.Lists.{Each};
-ghost use Rattle.tw_chain.specs.Accepting.{Accepts};
-ghost use Rattle.tw_chain.specs.Making.{IsExistenceOf, MakesExistence};
-ghost use Rattle.tw_skipproof.specs.Making.{IsOpeningOf, IsPathOf};
-ghost use Rattle.tw_history.specs.Meaning.{IsInRange};
-ghost use Rattle.tw_history.specs.Passing.{HasPassed, events_in};
+ghost use Rattle.tw_base.specs.Formats.{Spells};
+ghost use Rattle.tw_skipproof.specs.Acceptance.{IsAcceptedUnder};
+ghost use Rattle.tw_skipproof.specs.Existence.{existence_layout};
+ghost use Rattle.tw_skipproof.specs.HistoryProofs.{IsExistenceOf, IsOpeningOf, IsPathOf, MakesExistence};
+ghost use Rattle.tw_history.specs.Tables.{IsInRange};
+ghost use Rattle.tw_history.specs.PassSteps.{HasPassed, events_in};
 ghost use Rattle.tw_history.specs.Refusals.{RefusesEvent};
+ghost use Rattle.tw_base.specs.declared.limits.TheConstants.{LAST_STEP, MOST_EVENTS, MOST_EVENT_BYTES};
 
 use crate::event_part::{event_part, root_over};
 use crate::fault::ShowFault;
@@ -20,17 +21,16 @@ use crate::history::History;
 use crate::lookup::{content_at, content_behind, count_of_steps};
 use crate::pass::{Digests, auth_passed, begin, pass_step, pass_steps};
 use crate::path_links::path_links;
-use crate::step::Content;
 use crate::step_digests::{count_of_events, opening_with};
 use std::alloc::Global;
-use tw_base::{Bytes, Digest, EventList, Hasher, NoMemory};
+use tw_base::{Content, Bytes, Digest, EventList, Hasher, NoMemory};
 use tw_skipproof::{ExistenceProof, Opening, Part, Path, write_existence};
 
 /// The events of the content, where one has this index; else how many there are.
 fn events_having(content: &Content, index: u32) -> Result<&EventList, u32>
     requires { IsInRange content.now }
     ensures events { IfOk result (λ events. (events.now ≡ events_in content.now) × (index < length events.now)) }
-    ensures ranges { IfOk result (λ events. (length events.now ≤ 1024) × Each (λ event. length event ≤ 1024) events.now) }
+    ensures ranges { IfOk result (λ events. (length events.now ≤ MOST_EVENTS) × Each (λ event. length event ≤ MOST_EVENT_BYTES) events.now) }
     ensures count { IfErr result (λ count. (count ≡ length (events_in content.now)) × (count ≤ index)) }
 {
     match content {
@@ -50,7 +50,7 @@ fn events_having(content: &Content, index: u32) -> Result<&EventList, u32>
 fn events_to_show(history: &History, step: u64, index: u32) -> Result<&EventList, ShowFault>
     ensures step { OnOk result ((0 < step) × (step ≤ length history.now.steps)) }
     ensures events { IfOk result (λ events. (events.now ≡ events_at history.now step) × (index < length events.now)) }
-    ensures ranges { IfOk result (λ events. (length events.now ≤ 1024) × Each (λ event. length event ≤ 1024) events.now) }
+    ensures ranges { IfOk result (λ events. (length events.now ≤ MOST_EVENTS) × Each (λ event. length event ≤ MOST_EVENT_BYTES) events.now) }
     ensures refused { IfErr result (RefusesEvent history.now step index) }
 {
     match content_at(history, step) {
@@ -99,7 +99,7 @@ fn part_of<H: Hasher>(
     ensures place { IfOk result (λ part. (part.service ≡ history.now.name) × (part.step ≡ step) × (part.top ≡ length history.now.steps)) }
     ensures path { IfOk result (λ part. IsPathOf H.dig history.now part.path.links (length history.now.steps) step) }
     ensures opening { IfOk result (λ part. IsOpeningOf H.dig history.now step part.opening) }
-    ensures few { OnOk result (length history.now.steps < 2 ^ 40) }
+    ensures few { OnOk result (length history.now.steps ≤ LAST_STEP) }
 {
     let top = count_of_steps(history);
     let mut digests = begin::<H>(alloc, history)?;
@@ -126,10 +126,10 @@ fn existence_of<H: Hasher>(
     requires inside { step ≤ length history.now.steps }
     requires events { events.now ≡ events_at history.now step }
     requires index { index < length events.now }
-    requires few { length events.now ≤ 1024 }
-    requires small { Each (λ event. length event ≤ 1024) events.now }
+    requires few { length events.now ≤ MOST_EVENTS }
+    requires small { Each (λ event. length event ≤ MOST_EVENT_BYTES) events.now }
     ensures existence { IfOk result (IsExistenceOf H.dig history.now step index (length history.now.steps)) }
-    ensures few { OnOk result (length history.now.steps < 2 ^ 40) }
+    ensures few { OnOk result (length history.now.steps ≤ LAST_STEP) }
 {
     let event = event_part::<H>(alloc, events, index)?;
     let event_root = root_over::<H>(&event, events);
@@ -149,8 +149,8 @@ fn written<H: Hasher>(
     requires inside { step ≤ length history.now.steps }
     requires events { events.now ≡ events_at history.now step }
     requires index { index < length events.now }
-    requires few { length events.now ≤ 1024 }
-    requires small { Each (λ event. length event ≤ 1024) events.now }
+    requires few { length events.now ≤ MOST_EVENTS }
+    requires small { Each (λ event. length event ≤ MOST_EVENT_BYTES) events.now }
     ensures { IfOk result (MakesExistence H.dig history.now step index (length history.now.steps)) }
 {
     let proof = existence_of::<H>(alloc, history, step, events, index)?;
@@ -169,14 +169,11 @@ pub fn show_event<H: Hasher>(
     index: u32,
 ) -> Result<Bytes, ShowFault>
     ensures shown { IfOk result (MakesExistence H.dig history.now step index (length history.now.steps)) }
-    ensures accepted { IfOk result (λ bytes. (anchors : List Thread) (anchor : Thread)
-        → anchor_of anchors history.now.name (length history.now.steps) ≡ Some anchor
-        → anchor.auth ≡ auth H.dig history.now (length history.now.steps) → Accepts H.dig anchors bytes) }
+    ensures accepted { IfOk result (λ bytes. (p : ExistenceProof) × Spells existence_layout bytes p
+        × IsAcceptedUnder H.dig (auth H.dig history.now (length history.now.steps)) p) }
     ensures refused { IfErr result (RefusesEvent history.now step index) }
 {
     let events = events_to_show(history, step, index)?;
-    match written::<H>(alloc, history, step, events, index) {
-        Ok(bytes) => Ok(bytes),
-        Err(NoMemory) => Err(ShowFault::NoMemory),
-    }
+    let bytes = written::<H>(alloc, history, step, events, index)?;
+    Ok(bytes)
 }

@@ -3,13 +3,14 @@
 ghost use Rattle.std.specs.Prelude.{◌≡◌, ◌+◌, ◌*◌, ◌<◌, ◌≤◌, ◌^◌, length, map, sum_by};
 ghost use Rattle.tw_base.specs.Lists.{Each};
 ghost use Rattle.tw_base.specs.Texts.{joined};
-ghost use Rattle.tw_history.specs.HistoryFile.{content_bytes, event_bytes, history_bytes};
-ghost use Rattle.tw_history.specs.Meaning.{IsInRange, content_of};
-ghost use Rattle.tw_history.specs.Writing.{step_size as step_size_of};
+ghost use Rattle.tw_base.specs.HistoryFile.{content_bytes, event_bytes, history_bytes};
+ghost use Rattle.tw_history.specs.Tables.{IsInRange};
+ghost use Rattle.tw_history.specs.WritingSteps.{step_size as step_size_of};
+ghost use Rattle.tw_base.specs.declared.limits.TheConstants.{LAST_STEP, MOST_EVENTS, MOST_EVENT_BYTES};
 
 use crate::history::History;
-use crate::step::{Content, Step};
-use tw_base::Bytes;
+use crate::step::Step;
+use tw_base::{Bytes, Content};
 
 /// The number of bytes of the history's file.
 pub(crate) fn file_size(history: &History) -> u64
@@ -22,7 +23,7 @@ pub(crate) fn file_size(history: &History) -> u64
 /// The number of bytes of the steps.
 fn steps_size(steps: &[Step]) -> u64
     requires contents { Each (λ s. IsInRange s.content) steps.now }
-    requires few { length steps.now < 2 ^ 40 }
+    requires few { length steps.now ≤ LAST_STEP }
     ensures size { result ≡ sum_by step_size_of steps.now }
     ensures small { result < 2 ^ 62 }
 {
@@ -45,7 +46,7 @@ fn step_size(step: &Step) -> u64
 /// The number of bytes of the content behind its kind.
 fn content_size(content: &Content) -> u64
     requires { IsInRange content.now }
-    ensures size { result ≡ length (content_bytes (content_of content.now)) }
+    ensures size { result ≡ length (content_bytes content.now) }
     ensures small { result < 2 ^ 21 }
 {
     match content {
@@ -60,8 +61,8 @@ fn content_size(content: &Content) -> u64
 
 /// The number of bytes of the events, each behind its length.
 fn events_size(events: &[Bytes]) -> u64
-    requires few { length events.now ≤ 1024 }
-    requires sizes { Each (λ event. length event ≤ 1024) events.now }
+    requires few { length events.now ≤ MOST_EVENTS }
+    requires sizes { Each (λ event. length event ≤ MOST_EVENT_BYTES) events.now }
     ensures size { result ≡ length (joined (map event_bytes events.now)) }
     ensures small { result ≤ 1028 * length events.now }
 {
@@ -74,7 +75,7 @@ fn events_size(events: &[Bytes]) -> u64
 
 /// The number of bytes of the event behind its length.
 fn event_size(event: &Bytes) -> u64
-    requires { length event.now ≤ 1024 }
+    requires { length event.now ≤ MOST_EVENT_BYTES }
     ensures size { result ≡ length (event_bytes event.now) }
     ensures small { result ≤ 1028 }
 {

@@ -1,11 +1,12 @@
 // Whether a history is sound.
 
-ghost use Rattle.std.specs.Prelude.{◌≡◌, ℕ, suc, ◌<◌, ◌^◌, length, Some, Err, MatchResult};
+ghost use Rattle.std.specs.Prelude.{◌≡◌, ℕ, suc, ◌<◌, ◌≤◌, length, Some, Err, IfOk, MatchResult};
 ghost use Rattle.tw_base.specs.History.{History as HistoryMeant, Step as StepMeant, step_at};
 ghost use Rattle.tw_base.specs.Sound.{IsSound, IsSoundStep};
-ghost use Rattle.tw_history.specs.Judging.{IsJudged, TellsFirst};
-ghost use Rattle.tw_history.specs.Meaning.{IsInRange, IsTable, step_of, steps_of};
+ghost use Rattle.tw_history.specs.JudgingSteps.{HasJudged, TellsFirst};
+ghost use Rattle.tw_history.specs.Tables.{IsInRange, IsTable, step_of, steps_of_table};
 ghost use Rattle.tw_history.specs.Refusals.{TellsRule};
+ghost use Rattle.tw_base.specs.declared.limits.TheConstants.{LAST_STEP};
 
 mod greatest;
 mod keys;
@@ -20,7 +21,8 @@ use greatest::GreatestSteps;
 use nodes::{names_known, plant};
 use std::alloc::Global;
 use summary::Summary;
-use threads::{count, events_fit, is_later, is_of_another, received_thread, thread_law};
+use threads::{count, events_fit, is_later, is_of_another, limits_law, received_thread};
+use tw_base::NoMemory;
 
 /// What is kept of the steps that were judged.
 #[derive(Drop)]
@@ -62,18 +64,16 @@ pub fn is_sound(alloc: Global, history: &History) -> Result<(), HistoryFault>
 
 impl Judged {
     /// What is kept before the first step.
-    fn of_none(alloc: Global) -> Result<Self, HistoryFault>
-        ensures { MatchResult result (λ judged. (h : HistoryMeant) → IsJudged h 0 judged) (λ fault. fault ≡ HistoryFault.NoMemory) }
+    fn of_none(alloc: Global) -> Result<Self, NoMemory>
+        ensures { IfOk result (λ judged. (h : HistoryMeant) → HasJudged h 0 judged) }
     {
         let mut summaries = Vec::new(alloc);
-        match summaries.push(Summary::of_none()) {
-            Ok(()) => Ok(Judged {
-                summaries,
-                threads: 0,
-                greatest: GreatestSteps::new(alloc),
-            }),
-            Err(_) => Err(HistoryFault::NoMemory),
-        }
+        summaries.push(Summary::of_none())?;
+        Ok(Judged {
+            summaries,
+            threads: 0,
+            greatest: GreatestSteps::new(alloc),
+        })
     }
 }
 
@@ -84,9 +84,9 @@ fn judge_steps(
     nodes: &[Node],
     judged: Judged,
 ) -> Result<(), HistoryFault>
-    requires table { history.now.steps ≡ steps_of steps.now nodes.now }
+    requires table { history.now.steps ≡ steps_of_table steps.now nodes.now }
     requires ranges { IsTable steps.now nodes.now }
-    requires judged { IsJudged history.now 0 judged }
+    requires judged { HasJudged history.now 0 judged }
     ensures { MatchResult result
         (λ _. (i : ℕ) (s : StepMeant) → step_at history.now (suc i) ≡ Some s → IsSoundStep history.now i s)
         (TellsRule history.now) }
@@ -112,10 +112,10 @@ fn judge_step(
     requires there { step_at history.now (suc earlier) ≡ Some (step_of step.now fresh.now) }
     requires counted { length fresh.now ≡ step.now.fresh }
     requires content { IsInRange step.now.content }
-    requires few { suc earlier < 2 ^ 40 }
-    requires judged { IsJudged history.now earlier judged.old }
+    requires few { suc earlier ≤ LAST_STEP }
+    requires judged { HasJudged history.now earlier judged.old }
     ensures { MatchResult result
-        (λ _. IsSoundStep history.now earlier (step_of step.now fresh.now) × IsJudged history.now (suc earlier) judged.new)
+        (λ _. IsSoundStep history.now earlier (step_of step.now fresh.now) × HasJudged history.now (suc earlier) judged.new)
         (TellsFirst history.now earlier (step_of step.now fresh.now)) }
 {
     let number = earlier + 1;
@@ -140,12 +140,10 @@ fn judge_step(
     if !events_fit(step) {
         return unsound(number, 6);
     }
-    thread_law(&thread);
+    limits_law(&step.content);
     judged.threads = threads;
-    match judged.greatest.add(&thread) {
-        Ok(()) => Ok(()),
-        Err(_) => Err(HistoryFault::NoMemory),
-    }
+    judged.greatest.add(&thread)?;
+    Ok(())
 }
 
 /// The refusal of the step by the rule.

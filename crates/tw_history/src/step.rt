@@ -1,15 +1,6 @@
 // The steps of a history and the nodes of its archive, as a history file has them.
 
-use tw_base::{EventList, Sequence, Thread};
-
-/// What a step records.
-#[derive(Drop, Debug)]
-pub enum Content {
-    /// Events, at most 1,024, each of at most 1,024 bytes.
-    Events(EventList),
-    /// The thread of another service, at a step of 1 to 2^40 - 1.
-    Received(Thread),
-}
+use tw_base::{Content, Sequence};
 
 /// A step of a history.
 #[derive(Drop, Debug)]

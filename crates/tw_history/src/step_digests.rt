@@ -5,13 +5,15 @@ ghost use Rattle.tw_base.specs.Auth.{link_texts};
 ghost use Rattle.tw_base.specs.EventTree.{event_root as event_root_of};
 ghost use Rattle.tw_base.specs.Levels.{top_level as top_level_of};
 ghost use Rattle.tw_base.specs.Texts.{datum_text};
-ghost use Rattle.tw_history.specs.Meaning.{IsInRange};
-ghost use Rattle.tw_history.specs.Passing.{events_in};
+ghost use Rattle.tw_history.specs.Tables.{IsInRange};
+ghost use Rattle.tw_history.specs.PassSteps.{events_in};
+ghost use Rattle.tw_base.specs.declared.limits.TheConstants.{LAST_STEP};
 
-use crate::step::Content;
 use arrayvec::ArrayVec;
 use std::alloc::Global;
-use tw_base::{Digest, Hasher, Labels, NoMemory, datum, link_label, no_events, top_level};
+use tw_base::{
+    Content, Digest, Hasher, Labels, NoMemory, datum, link_label, no_events, power_of_two, top_level,
+};
 use tw_events::event_root;
 use tw_skipproof::{Link, Opening};
 
@@ -47,23 +49,15 @@ pub(crate) fn count_of_events(content: &Content) -> u32
     }
 }
 
-/// A power of two.
-pub(crate) fn power(level: u8) -> u64
-    requires { level < 64 }
-    ensures { result ≡ 2 ^ level }
-{
-    1 << level
-}
-
 /// The authenticator that a link leads to, of the earlier ones.
 fn below(earlier: &[Digest], step: u64, level: u8) -> &Digest
     requires from_1 { 0 < step }
-    requires step { step < 2 ^ 40 }
+    requires step { step ≤ LAST_STEP }
     requires earlier { step ≤ length earlier.now }
     requires level { level ≤ top_level_of step }
     ensures { result.now ≡ slice_index_or earlier.now (step - 2 ^ level) [] }
 {
-    &earlier[(step - power(level)) as usize]
+    &earlier[(step - power_of_two(level)) as usize]
 }
 
 /// The labels of the step's links from level 0 on, over the authenticators of the earlier steps.
@@ -73,7 +67,7 @@ pub(crate) fn link_labels<H: Hasher>(
     earlier: &[Digest],
 ) -> ArrayVec<Digest, 40>
     requires from_1 { 0 < step }
-    requires step { step < 2 ^ 40 }
+    requires step { step ≤ LAST_STEP }
     requires earlier { step ≤ length earlier.now }
     ensures { result.items ≡ map H.dig (link_texts H.dig datum.now earlier.now step (suc (top_level_of step))) }
 {
@@ -95,7 +89,7 @@ pub(crate) fn digests_of_step<H: Hasher>(
     earlier: &[Digest],
 ) -> StepDigests
     requires from_1 { 0 < step }
-    requires step { step < 2 ^ 40 }
+    requires step { step ≤ LAST_STEP }
     requires earlier { step ≤ length earlier.now }
     ensures event_root { result.event_root ≡ event_root }
     ensures archive_root { result.archive_root ≡ archive_root }
@@ -112,22 +106,12 @@ pub(crate) fn digests_of_step<H: Hasher>(
     }
 }
 
-/// The labels of a list on the heap.
-fn copied(alloc: Global, labels: &[Digest]) -> Result<Vec<Digest>, NoMemory>
-    ensures { IfOk result (λ copy. copy.items ≡ labels.now) }
-{
-    match Vec::from_slice(alloc, labels) {
-        Ok(items) => Ok(items),
-        Err(_) => Err(NoMemory),
-    }
-}
-
 /// The link of a path that leaves the step at this level.
 pub(crate) fn link_at(alloc: Global, digests: &StepDigests, level: u8) -> Result<Link, NoMemory>
     requires { level < length digests.now.labels.items }
     ensures { IfOk result (λ link. (link.datum ≡ digests.now.datum) × (link.others ≡ remove digests.now.labels.items level)) }
 {
-    let mut others = copied(alloc, digests.labels.as_slice())?;
+    let mut others = Vec::from_slice(alloc, digests.labels.as_slice())?;
     others.remove(level as usize);
     Ok(Link {
         datum: digests.datum,
@@ -147,7 +131,7 @@ pub(crate) fn opening_with(
         × (o.others ≡ drop 1 digests.now.labels.items)) }
     ensures given { IfOk result (λ o. (o.count ≡ count) × (o.prev ≡ prev)) }
 {
-    let others = copied(alloc, &digests.labels.as_slice()[1..])?;
+    let others = Vec::from_slice(alloc, &digests.labels.as_slice()[1..])?;
     Ok(Opening {
         event_root: digests.event_root,
         archive_root: digests.archive_root,

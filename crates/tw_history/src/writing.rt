@@ -5,24 +5,23 @@ ghost use Rattle.tw_base.specs.Fields.{sized_bytes};
 ghost use Rattle.tw_base.specs.Formats.{Spells};
 ghost use Rattle.tw_base.specs.Lists.{Each};
 ghost use Rattle.tw_base.specs.Texts.{joined};
-ghost use Rattle.tw_history.specs.HistoryFile.{content_bytes, event_bytes, history_bytes, most_bytes, node_bytes, step_bytes};
-ghost use Rattle.tw_history.specs.Layout.{content_layout, history_layout, node_layout, step_layout};
-ghost use Rattle.tw_history.specs.Meaning.{IsInRange, content_of, node_of, step_of, steps_of};
+ghost use Rattle.tw_base.specs.HistoryFile.{content_bytes, event_bytes, history_bytes, node_bytes, step_bytes};
+ghost use Rattle.tw_base.specs.HistoryLayout.{content_layout, history_layout, node_layout, step_layout};
+ghost use Rattle.tw_history.specs.Tables.{IsInRange, node_of, step_of, steps_of_table};
 ghost use Rattle.tw_history.specs.Refusals.{TellsLength};
-ghost use Rattle.tw_history.specs.Writing.{AllSpelled};
+ghost use Rattle.tw_history.specs.WritingSteps.{AllSpelled};
+ghost use Rattle.tw_base.specs.declared.limits.TheConstants.{MOST_EVENT_BYTES};
 
 use crate::fault::HistoryFault;
 use crate::history::History;
 use crate::sizes::file_size;
-use crate::step::{Content, Node, Step};
+use crate::step::{Node, Step};
 use std::alloc::Global;
-use tw_base::{Bytes, NoMemory, put_bytes, put_digest, put_name, put_number};
+use tw_base::limits::MOST_HISTORY_BYTES;
+use tw_base::{Content, Bytes, NoMemory, put_bytes, put_digest, put_name, put_number};
 
 /// The four bytes at the head of a history file.
 pub(crate) const MAGIC: [u8; 4] = *b"TWH1";
-
-/// The most bytes that a history file may have: 64 MiB.
-pub(crate) const MOST_BYTES: usize = 67_108_864;
 
 /// The bytes of the history's file: `TWH1`, the name, the number of steps, and then for each step
 /// its content, its new nodes and its root. They spell the history. The time is linear in their
@@ -31,17 +30,15 @@ pub(crate) const MOST_BYTES: usize = 67_108_864;
 pub fn write_history(alloc: Global, history: &History) -> Result<Bytes, HistoryFault>
     ensures bytes { IfOk result (λ bytes. bytes ≡ history_bytes history.now) }
     ensures spelled { IfOk result (λ bytes. Spells history_layout bytes history.now) }
-    ensures short { IfOk result (λ bytes. length bytes ≤ most_bytes) }
+    ensures short { IfOk result (λ bytes. length bytes ≤ MOST_HISTORY_BYTES) }
     ensures long { IfErr result (TellsLength (history_bytes history.now)) }
 {
     let size = file_size(history);
-    if size > MOST_BYTES as u64 {
+    if size > MOST_HISTORY_BYTES {
         return Err(HistoryFault::TooLong { bytes: size });
     }
-    match written(alloc, history, size as usize) {
-        Ok(bytes) => Ok(bytes),
-        Err(NoMemory) => Err(HistoryFault::NoMemory),
-    }
+    let bytes = written(alloc, history, size as usize)?;
+    Ok(bytes)
 }
 
 /// The bytes of the history's file, in room for so many.
@@ -49,19 +46,9 @@ fn written(alloc: Global, history: &History, size: usize) -> Result<Bytes, NoMem
     ensures bytes { IfOk result (λ bytes. bytes ≡ history_bytes history.now) }
     ensures spelled { IfOk result (λ bytes. Spells history_layout bytes history.now) }
 {
-    let mut bytes = with_room(alloc, size)?;
+    let mut bytes = Bytes::from_vec(Vec::with_capacity(alloc, size)?);
     put_history(&mut bytes, history)?;
     Ok(bytes)
-}
-
-/// No bytes, with room for so many.
-fn with_room(alloc: Global, size: usize) -> Result<Bytes, NoMemory>
-    ensures { IfOk result (λ bytes. bytes ≡ []) }
-{
-    match Vec::with_capacity(alloc, size) {
-        Ok(items) => Ok(Bytes::from_vec(items)),
-        Err(_) => Err(NoMemory),
-    }
 }
 
 /// Appends the bytes of the history's file.
@@ -81,8 +68,8 @@ fn put_steps(into: &mut Bytes, steps: &[Step], nodes: &[Node]) -> Result<(), NoM
     requires counted { sum_by (λ s. s.fresh) steps.now ≡ length nodes.now }
     requires contents { Each (λ s. IsInRange s.content) steps.now }
     requires entries { Each (λ n. n.entry < 2 ^ 64) nodes.now }
-    ensures ok { OnOk result (into.new ≡ into.old ++ joined (map step_bytes (steps_of steps.now nodes.now))) }
-    ensures spelled { OnOk result (AllSpelled step_layout step_bytes (steps_of steps.now nodes.now)) }
+    ensures ok { OnOk result (into.new ≡ into.old ++ joined (map step_bytes (steps_of_table steps.now nodes.now))) }
+    ensures spelled { OnOk result (AllSpelled step_layout step_bytes (steps_of_table steps.now nodes.now)) }
 {
     let mut rest = nodes;
     for step in steps {
@@ -111,8 +98,8 @@ fn put_step(into: &mut Bytes, step: &Step, fresh: &[Node]) -> Result<(), NoMemor
 /// Appends the kind of the content and the content.
 fn put_content(into: &mut Bytes, content: &Content) -> Result<(), NoMemory>
     requires { IsInRange content.now }
-    ensures ok { OnOk result (into.new ≡ into.old ++ content_bytes (content_of content.now)) }
-    ensures spelled { OnOk result (Spells content_layout (content_bytes (content_of content.now)) (content_of content.now)) }
+    ensures ok { OnOk result (into.new ≡ into.old ++ content_bytes content.now) }
+    ensures spelled { OnOk result (Spells content_layout (content_bytes content.now) content.now) }
 {
     match content {
         Content::Events(events) => {
@@ -133,9 +120,9 @@ fn put_content(into: &mut Bytes, content: &Content) -> Result<(), NoMemory>
 
 /// Appends the events, each behind its length.
 fn put_events(into: &mut Bytes, events: &[Bytes]) -> Result<(), NoMemory>
-    requires { Each (λ event. length event ≤ 1024) events.now }
+    requires { Each (λ event. length event ≤ MOST_EVENT_BYTES) events.now }
     ensures ok { OnOk result (into.new ≡ into.old ++ joined (map event_bytes events.now)) }
-    ensures spelled { OnOk result (AllSpelled (sized_bytes 4 0 1024) event_bytes events.now) }
+    ensures spelled { OnOk result (AllSpelled (sized_bytes 4 0 MOST_EVENT_BYTES) event_bytes events.now) }
 {
     for event in events {
         put_event(into, event)?;
@@ -145,9 +132,9 @@ fn put_events(into: &mut Bytes, events: &[Bytes]) -> Result<(), NoMemory>
 
 /// Appends the event behind its length.
 fn put_event(into: &mut Bytes, event: &Bytes) -> Result<(), NoMemory>
-    requires { length event.now ≤ 1024 }
+    requires { length event.now ≤ MOST_EVENT_BYTES }
     ensures ok { OnOk result (into.new ≡ into.old ++ event_bytes event.now) }
-    ensures spelled { OnOk result (Spells (sized_bytes 4 0 1024) (event_bytes event.now) event.now) }
+    ensures spelled { OnOk result (Spells (sized_bytes 4 0 MOST_EVENT_BYTES) (event_bytes event.now) event.now) }
 {
     put_number(into, event.len() as u64, 4)?;
     put_bytes(into, event.as_slice())?;

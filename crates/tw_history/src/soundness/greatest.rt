@@ -3,7 +3,7 @@
 ghost use Rattle.std.specs.Prelude.{◌≡◌, ◌≢◌, ◌++◌, List, ℕ, Some, option_map, IfSome, OnOk, OnErr};
 ghost use Rattle.std.specs.Option.{option_to_list};
 ghost use Rattle.tw_base.specs.declared.thread.Entry.{Entry};
-ghost use Rattle.tw_history.specs.Judging.{IsGreatest, IsLater, greatest_of};
+ghost use Rattle.tw_history.specs.JudgingSteps.{IsGreatest, IsLater, greatest_of};
 
 use std::alloc::Global;
 use std::collections::BTreeMap;
@@ -49,9 +49,7 @@ impl GreatestSteps {
         ensures others { OnOk result ((name : List ℕ) → name ≢ service → greatest_of self.new name ≡ greatest_of self.old name) }
         ensures err { OnErr result ((name : List ℕ) → greatest_of self.new name ≡ greatest_of self.old name) }
     {
-        match self.steps.insert(service, step) {
-            Ok(_) => Ok(()),
-            Err(_) => Err(NoMemory),
-        }
+        self.steps.insert(service, step)?;
+        Ok(())
     }
 }

@@ -7,13 +7,13 @@ ghost use Rattle.tw_base.specs.Entries.{KeyBelow, key_of};
 ghost use Rattle.tw_base.specs.History.{entry_at, thread_of};
 ghost use Rattle.tw_base.specs.Tree.{Tree, IsRising, entries};
 ghost use Rattle.tw_base.specs.Tree.Tree.{Branch};
-ghost use Rattle.tw_history.specs.Judging.{AreReceived, summary_of, thread_key};
-ghost use Rattle.tw_history.specs.Meaning.{step_of};
+ghost use Rattle.tw_history.specs.JudgingSteps.{AreReceived, summary_of, thread_key};
+ghost use Rattle.tw_history.specs.Tables.{step_of};
 
 use super::summary::Summary;
 use crate::history::History;
-use crate::step::{Content, Step};
-use tw_base::{Key, compare_keys};
+use crate::step::Step;
+use tw_base::{Content, Key, compare_keys};
 
 /// The key of the thread that the step received; None where there is no such step or it has events.
 pub(super) fn key_at(history: &History, step: u64) -> Option<Key>

@@ -1,18 +1,18 @@
 // The new nodes of a step.
 
-ghost use Rattle.std.specs.Prelude.{◌≡◌, ◌↔◌, ℕ, suc, ◌+◌, ◌<◌, ◌^◌, length, map, IsSome, IsTrue, IfOk, IfErr, false};
+ghost use Rattle.std.specs.Prelude.{◌≡◌, ◌↔◌, ℕ, suc, ◌+◌, ◌<◌, ◌^◌, length, map, IsSome, IsTrue, IfOk, false};
 ghost use Rattle.tw_base.specs.Lists.{Each};
 ghost use Rattle.tw_base.specs.History.{entry_to, fresh_of, step_at};
-ghost use Rattle.tw_base.specs.Sound.{NodesFit};
+ghost use Rattle.tw_base.specs.Rules.{NodesFit};
 ghost use Rattle.tw_base.specs.Tree.{IsRising, entries, forest, new_trees};
-ghost use Rattle.tw_history.specs.Judging.{summary_of};
-ghost use Rattle.tw_history.specs.Meaning.{node_of};
+ghost use Rattle.tw_history.specs.JudgingSteps.{summary_of};
+ghost use Rattle.tw_history.specs.Tables.{node_of};
 
 use super::keys::{key_at, rises};
 use super::summary::Summary;
-use crate::fault::HistoryFault;
 use crate::history::History;
 use crate::step::Node;
+use tw_base::NoMemory;
 
 /// Whether the entry is a step, up to this one, that received a thread.
 fn is_received(history: &History, step: u64, entry: u64) -> bool
@@ -68,7 +68,7 @@ pub(super) fn plant(
     earlier: u64,
     nodes: &[Node],
     summaries: &mut Vec<Summary>,
-) -> Result<bool, HistoryFault>
+) -> Result<bool, NoMemory>
     requires known { NodesFit history.now (suc earlier) (length (forest history.now earlier)) (map node_of nodes.now) }
     requires fresh { fresh_of (step_at history.now (suc earlier)) ≡ map node_of nodes.now }
     requires before { summaries.old.items ≡ map summary_of (forest history.now earlier) }
@@ -76,7 +76,6 @@ pub(super) fn plant(
     ensures risen { IfOk result (λ rise. IsTrue rise → (summaries.new.items ≡ map summary_of (forest history.now (suc earlier)))
         × Each (λ t. IsRising (entries t)) (new_trees history.now earlier)) }
     ensures fallen { IfOk result (λ rise. rise ≡ false → Each (λ t. IsRising (entries t)) (new_trees history.now earlier) → ⊥) }
-    ensures fault { IfErr result (λ fault. fault ≡ HistoryFault.NoMemory) }
 {
     for node in nodes {
         let left = summaries[node.left as usize];
@@ -85,9 +84,7 @@ pub(super) fn plant(
             return Ok(false);
         }
         let summary = Summary::of_branch(&left, node.entry, &right);
-        if summaries.push(summary).is_err() {
-            return Err(HistoryFault::NoMemory);
-        }
+        summaries.push(summary)?;
     }
     Ok(true)
 }

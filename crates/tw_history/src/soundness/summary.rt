@@ -4,7 +4,7 @@ ghost use Rattle.std.specs.Prelude.{◌≡◌};
 ghost use Rattle.tw_base.specs.declared.thread.Entry.{Entry};
 ghost use Rattle.tw_base.specs.Tree.{Tree};
 ghost use Rattle.tw_base.specs.Tree.Tree.{Branch, Empty};
-ghost use Rattle.tw_history.specs.Judging.{summary_of};
+ghost use Rattle.tw_history.specs.JudgingSteps.{summary_of};
 
 /// How many entries a tree has, and the steps that received the first and the last of them.
 #[derive(Clone, Copy, Drop, Debug)]

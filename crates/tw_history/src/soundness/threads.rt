@@ -4,17 +4,17 @@ ghost use Rattle.std.specs.Prelude.{◌≡◌, ◌≢◌, ◌↔◌, ◌≤◌, 
 ghost use Rattle.std.specs.Option.{option_to_list};
 ghost use Rattle.tw_base.specs.declared.thread.Entry.{Entry};
 ghost use Rattle.tw_base.specs.Lists.{Each};
-ghost use Rattle.tw_base.specs.Names.{IsName};
+ghost use Rattle.tw_base.specs.Bytes.{AreBytes};
+ghost use Rattle.tw_base.specs.Limits.{FitTogether, IsWithinLimits};
 ghost use Rattle.tw_base.specs.History.{events_of, thread_of};
-ghost use Rattle.tw_history.specs.Judging.{IsGreatest, IsLater, greatest_of};
-ghost use Rattle.tw_history.specs.Meaning.{IsInRange, step_of};
+ghost use Rattle.tw_history.specs.JudgingSteps.{IsGreatest, IsLater, greatest_of};
+ghost use Rattle.tw_history.specs.Tables.{IsInRange, step_of};
+ghost use Rattle.tw_base.specs.declared.limits.TheConstants.{MOST_EVENTS, MOST_EVENT_BYTES};
 
 use super::greatest::GreatestSteps;
-use crate::step::{Content, Step};
-use tw_base::{Bytes, Name, Thread};
-
-/// The most bytes that the events of a step may have together.
-const MOST_EVENT_BYTES: usize = 65_536;
+use crate::step::Step;
+use tw_base::limits::MOST_STEP_BYTES;
+use tw_base::{Bytes, Content, Digest, Name, Thread};
 
 /// The thread that the step received; None where it has events.
 pub(super) fn received_thread(step: &Step) -> Option<Thread>
@@ -63,18 +63,18 @@ pub(super) fn is_later(greatest: &GreatestSteps, thread: &Option<Thread>) -> boo
 /// Whether the events of the step have together at most 65,536 bytes.
 pub(super) fn events_fit(step: &Step) -> bool
     requires { IsInRange step.now.content }
-    ensures { IsTrue result ↔ (sum_by (λ event. length event) (events_of (Some (step_of step.now []))) ≤ 65536) }
+    ensures { IsTrue result ↔ FitTogether (events_of (Some (step_of step.now []))) }
 {
     match &step.content {
-        Content::Events(events) => total_size(events.as_slice()) <= MOST_EVENT_BYTES,
+        Content::Events(events) => total_size(events.as_slice()) as u64 <= MOST_STEP_BYTES,
         Content::Received(_) => true,
     }
 }
 
 /// The number of bytes of the events together.
 fn total_size(events: &[Bytes]) -> usize
-    requires count { length events.now ≤ 1024 }
-    requires sizes { Each (λ event. length event ≤ 1024) events.now }
+    requires count { length events.now ≤ MOST_EVENTS }
+    requires sizes { Each (λ event. length event ≤ MOST_EVENT_BYTES) events.now }
     ensures { result ≡ sum_by (λ event. length event) events.now }
 {
     let mut total = 0;
@@ -84,12 +84,41 @@ fn total_size(events: &[Bytes]) -> usize
     total
 }
 
-/// The name of a thread is a name, and its authenticator has 32 bytes.
-pub(super) fn thread_law(thread: &Option<Thread>)
-    ensures { IfSome thread.now (λ t. IsName t.from × (length t.auth ≡ 32)) }
+/// What a step of a table records is within the limits: names, digests and bytes are so by their
+/// types.
+pub(super) fn limits_law(content: &Content)
+    requires { IsInRange content.now }
+    ensures { IsWithinLimits content.now }
 {
-    if let Some(thread) = thread {
-        let _ = thread.from.as_bytes();
-        let _ = &thread.auth.0;
+    match content {
+        Content::Events(events) => events_law(events.as_slice()),
+        Content::Received(thread) => {
+            let _ = thread.from.as_bytes();
+            digest_law(&thread.auth);
+        }
     }
+}
+
+/// Each event is a list of bytes.
+fn events_law(events: &[Bytes])
+    ensures { Each AreBytes events.now }
+{
+    for event in events {
+        bytes_law(event.as_slice());
+    }
+}
+
+/// A digest has 32 bytes.
+fn digest_law(digest: &Digest)
+    ensures size { length digest.now ≡ 32 }
+    ensures bytes { AreBytes digest.now }
+{
+    bytes_law(&digest.0);
+}
+
+/// Each item of a slice of bytes is below 256.
+fn bytes_law(bytes: &[u8])
+    ensures { AreBytes bytes.now }
+{
+    let _bytes = bytes;
 }

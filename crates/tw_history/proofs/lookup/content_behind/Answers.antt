@@ -1,6 +1,6 @@
 use Rattle.std.proofs.Common.{arith}
 use Rattle.tw_history.specs.declared.step.Step.{Step}
-use Rattle.tw_history.specs.Meaning.{IsInRange}
+use Rattle.tw_history.specs.Tables.{IsInRange}
 use Rattle.tw_history.proofs.TableSteps.{Each-inside, events_at-table, thread_at-table}
 use Rattle.tw_history.proofs.lookup.content_behind.Goals as goal
 

@@ -7,7 +7,7 @@ use Rattle.tw_base.specs.Texts.{authenticator_text, datum_text}
 use Rattle.tw_base.specs.Tree.{forest, planted}
 use Rattle.tw_base.proofs.Auths.{length-auths}
 use Rattle.tw_base.proofs.Plus.{forest-first}
-use Rattle.tw_history.specs.Meaning.{node_of}
+use Rattle.tw_history.specs.Tables.{node_of}
 use Rattle.tw_history.proofs.Passes.{PassesStep-passes, length-labels, some_labels, some_trees}
 use Rattle.tw_history.proofs.pass.pass_step.Goals as goal
 

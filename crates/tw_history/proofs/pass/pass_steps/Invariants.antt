@@ -1,4 +1,4 @@
-use Rattle.tw_history.specs.Passing.{HasPassed}
+use Rattle.tw_history.specs.PassSteps.{HasPassed}
 use Rattle.tw_history.proofs.pass.pass_steps.Given as goal
 
 abbrev pub invariant-loop-index : goal.invariant-loop-index

@@ -5,9 +5,9 @@ use Rattle.tw_skipproof.proofs.Hops.{hop_level-le}
 use Rattle.tw_history.proofs.Passes.{IsOfStep-count}
 use Rattle.tw_history.proofs.path_links.+links_upwards.Goals as goal
 
-pub power-requires : goal.power-requires
-power-requires g t c =
-    let small : top_level c.args.from < 40 = top_level-below c.args.from c.requires.few in
+pub power_of_two-requires : goal.power_of_two-requires
+power_of_two-requires g t c =
+    let small : top_level c.args.from < 40 = top_level-below c.args.from (omega arith) in
     omega (arith, small, hop_level-le c.args.from c.args.to, c.next_hop-level.ensures.level)
 
 pub link_at-requires : goal.link_at-requires

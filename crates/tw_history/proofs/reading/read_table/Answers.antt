@@ -1,5 +1,5 @@
 use Rattle.tw_base.proofs.FormatLaws.{reads_whole}
-use Rattle.tw_history.specs.Layout.{history_layout}
+use Rattle.tw_base.specs.HistoryLayout.{history_layout}
 use Rattle.tw_history.proofs.LayoutLaws.{goes_on-history}
 use Rattle.tw_history.proofs.ReadingLaws.{history_given}
 use Rattle.tw_history.proofs.reading.read_table.Goals as goal

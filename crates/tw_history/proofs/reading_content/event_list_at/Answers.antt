@@ -1,5 +1,6 @@
 use Rattle.std.proofs.Common.{length, ◌<◌, ◌≤◌, ◌∙◌, ap, arith, length-append, ◌∷◌, []}
 use Rattle.std.proofs.lemmas.Result.{err_from_is_err_and}
+use Rattle.tw_base.specs.declared.limits.TheConstants.{MOST_EVENT_BYTES}
 use Rattle.tw_base.specs.Fields.{sized_bytes}
 use Rattle.tw_base.proofs.FieldLaws.{repeated-start}
 use Rattle.tw_history.proofs.ReadingLaws.{event_at-is}
@@ -10,7 +11,7 @@ pub events-init : goal.events-init
 events-init c = rw c.new-events.ensures record {
   within = c.requires.within;
   few = omega arith;
-  read = repeated-start (sized_bytes 4 0 1024) c.args.bytes.now c.args.at;
+  read = repeated-start (sized_bytes 4 0 MOST_EVENT_BYTES) c.args.bytes.now c.args.at;
   sizes = tt;
 }
 
@@ -19,7 +20,7 @@ returns-in_err-event-clause-read c =
     let p = err_from_is_err_and c.from_residual.result c.from_residual.ensures.1 in
     let more : length c.events.events < c.args.count = omega (arith, c.events-test.true, c.len.ensures) in
     rw (p.1, p.2)
-    (list_stopped _ (λ e. e) (λ e. e) (length c.events.events) c.args.count (sized_bytes 4 0 1024) c.args.bytes.now c.args.at c.events.place c.events.events _
+    (list_stopped _ (λ e. e) (λ e. e) (length c.events.events) c.args.count (sized_bytes 4 0 MOST_EVENT_BYTES) c.args.bytes.now c.args.at c.events.place c.events.events _
     more c.events.invariant.read (event_at-is c.args.bytes.now c.events.place) c.in_err-event.ensures.read)
 
 pub events-preserved : goal.events-preserved
@@ -29,7 +30,7 @@ events-preserved c =
       within = c.in_ok-event.ensures.within;
       few = omega (arith, ap length pushed, length-append c.events.events (c.in_ok-event.event ∷ []), c.events-test.true, c.len.ensures);
       read =
-          list_further (sized_bytes 4 0 1024) c.args.bytes.now c.args.at c.events.place c.in_ok-event.after c.events.events c.push.new.self c.in_ok-event.event pushed
+          list_further (sized_bytes 4 0 MOST_EVENT_BYTES) c.args.bytes.now c.args.at c.events.place c.in_ok-event.after c.events.events c.push.new.self c.in_ok-event.event pushed
           c.events.invariant.read (event_at-is c.args.bytes.now c.events.place ∙ c.in_ok-event.ensures.read);
-      sizes = each_further (λ event. length event ≤ 1024) c.events.events c.push.new.self c.in_ok-event.event pushed c.events.invariant.sizes c.in_ok-event.ensures.size;
+      sizes = each_further (λ event. length event ≤ MOST_EVENT_BYTES) c.events.events c.push.new.self c.in_ok-event.event pushed c.events.invariant.sizes c.in_ok-event.ensures.size;
     }

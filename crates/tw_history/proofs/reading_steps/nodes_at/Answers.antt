@@ -1,7 +1,7 @@
 use Rattle.std.proofs.Common.{length, map, ◌+◌, ◌<◌, ◌^◌, ap, arith, length-append, ◌∷◌, []}
 use Rattle.std.proofs.lemmas.Result.{err_from_is_err_and}
-use Rattle.tw_history.specs.Layout.{node_layout}
-use Rattle.tw_history.specs.Meaning.{node_of}
+use Rattle.tw_base.specs.HistoryLayout.{node_layout}
+use Rattle.tw_history.specs.Tables.{node_of}
 use Rattle.tw_history.specs.Reading.{added}
 use Rattle.tw_history.proofs.ReadingLaws.{node_at-is}
 use Rattle.tw_history.proofs.TableReading.{each_further, list_stopped_to, nodes_further, nodes_started}

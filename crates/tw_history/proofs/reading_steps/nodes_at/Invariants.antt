@@ -2,8 +2,8 @@ use Rattle.std.proofs.Common.{◌≡◌, ◌+◌, ◌*◌, ◌<◌, ◌≤◌, �
 use Rattle.tw_base.specs.Fields.{repeated}
 use Rattle.tw_base.specs.Formats.{read_at}
 use Rattle.tw_base.specs.Lists.{Each}
-use Rattle.tw_history.specs.Layout.{node_layout}
-use Rattle.tw_history.specs.Meaning.{node_of}
+use Rattle.tw_base.specs.HistoryLayout.{node_layout}
+use Rattle.tw_history.specs.Tables.{node_of}
 use Rattle.tw_history.specs.Reading.{added}
 use Rattle.tw_history.proofs.reading_steps.nodes_at.Given as goal
 

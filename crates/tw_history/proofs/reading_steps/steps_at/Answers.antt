@@ -3,8 +3,8 @@ use Rattle.std.proofs.lemmas.Result.{err_from_is_err_and}
 use Rattle.tw_base.proofs.FieldLaws.{repeated-start}
 use Rattle.tw_history.specs.declared.reading_steps.Table.{Table}
 use Rattle.tw_history.specs.declared.step.Step.{Step}
-use Rattle.tw_history.specs.Layout.{step_layout}
-use Rattle.tw_history.specs.Meaning.{IsInRange, step_of, steps_of}
+use Rattle.tw_base.specs.HistoryLayout.{step_layout}
+use Rattle.tw_history.specs.Tables.{IsInRange, step_of, steps_of_table}
 use Rattle.tw_history.specs.Reading.{added}
 use Rattle.tw_history.proofs.ReadingLaws.{step_at-is}
 use Rattle.tw_history.proofs.TableReading.{each_further, list_stopped, steps_further}
@@ -25,7 +25,7 @@ returns-in_err-step-clause-read c =
     let p = err_from_is_err_and c.from_residual.result c.from_residual.ensures.1 in
     let more : length c.steps.steps < c.args.count = omega (arith, c.steps-test.true, c.len.ensures) in
     rw (p.1, p.2)
-    (list_stopped _ (λ (s : Step). step_of s (added c.steps.nodes c.step_at.new.nodes)) (λ (t : Table). steps_of t.steps t.nodes) (length c.steps.steps) c.args.count step_layout c.args.bytes.now c.args.at c.steps.place (steps_of c.steps.steps c.steps.nodes) _
+    (list_stopped _ (λ (s : Step). step_of s (added c.steps.nodes c.step_at.new.nodes)) (λ (t : Table). steps_of_table t.steps t.nodes) (length c.steps.steps) c.args.count step_layout c.args.bytes.now c.args.at c.steps.place (steps_of_table c.steps.steps c.steps.nodes) _
     more c.steps.invariant.read (step_at-is c.args.bytes.now c.steps.place) c.in_err-step.ensures.read)
 
 pub steps-preserved : goal.steps-preserved

@@ -1,23 +1,24 @@
 use Rattle.std.proofs.Common.{◌≤◌, length, subst}
 use Rattle.std.proofs.lemmas.Result.{IfOk-weaker}
+use Rattle.tw_base.specs.declared.limits.TheConstants.{MOST_EVENTS, MOST_EVENT_BYTES}
 use Rattle.tw_base.specs.Formats.{Spells}
 use Rattle.tw_base.specs.Lists.{Each}
-use Rattle.tw_chain.specs.Making.{MakesExistence}
 use Rattle.tw_skipproof.specs.declared.existence.ExistenceProof.{ExistenceProof}
-use Rattle.tw_skipproof.specs.Existence.{IsWithinLimits, existence_layout}
+use Rattle.tw_skipproof.specs.Existence.{IsExistenceInRange, existence_layout}
+use Rattle.tw_skipproof.specs.HistoryProofs.{MakesExistence}
 use Rattle.tw_skipproof.specs.Writing.{IsShaped}
-use Rattle.tw_history.proofs.Existences.{IsShaped-made, IsWithinLimits-few}
+use Rattle.tw_history.proofs.Existences.{IsShaped-made, IsExistenceInRange-few}
 use Rattle.tw_history.proofs.showing.written.Goals as goal
 
 pub returns : goal.returns
 returns g c =
     let proof : ExistenceProof = c.in_ok-proof.proof in
     let is = c.in_ok-proof.ensures.existence in
-    let limits : IsWithinLimits proof = IsWithinLimits-few g.H.Hasher.dig c.args.history.now c.args.step c.args.index (length c.args.history.now.steps) proof is
-    c.requires.inside c.in_ok-proof.ensures.few (subst (λ events. length events ≤ 1024) c.requires.events c.requires.few)
-    (subst (Each (λ event. length event ≤ 1024)) c.requires.events c.requires.small) in
+    let limits : IsExistenceInRange proof = IsExistenceInRange-few g.H.Hasher.dig c.args.history.now c.args.step c.args.index (length c.args.history.now.steps) proof is
+    c.requires.inside c.in_ok-proof.ensures.few (subst (λ events. length events ≤ MOST_EVENTS) c.requires.events c.requires.few)
+    (subst (Each (λ event. length event ≤ MOST_EVENT_BYTES)) c.requires.events c.requires.small) in
     let shaped : IsShaped proof = IsShaped-made g.H.Hasher.dig c.args.history.now c.args.step c.args.index (length c.args.history.now.steps) proof is
     c.requires.from_1 c.requires.inside in
-    IfOk-weaker c.write_existence.result (λ bytes. IsWithinLimits proof → IsShaped proof → Spells existence_layout bytes proof)
+    IfOk-weaker c.write_existence.result (λ bytes. IsExistenceInRange proof → IsShaped proof → Spells existence_layout bytes proof)
     (MakesExistence g.H.Hasher.dig c.args.history.now c.args.step c.args.index (length c.args.history.now.steps))
     (λ bytes spelled. (proof, spelled limits shaped, is)) c.write_existence.ensures.spelled

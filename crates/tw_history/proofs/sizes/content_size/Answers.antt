@@ -1,6 +1,6 @@
 use Rattle.std.proofs.Common.{arith, length, map, ap, sym, ◌∙◌, ◌+◌}
 use Rattle.tw_base.specs.Texts.{joined}
-use Rattle.tw_history.specs.HistoryFile.{event_bytes}
+use Rattle.tw_base.specs.HistoryFile.{event_bytes}
 use Rattle.tw_history.proofs.ByteCounts.{events-size, thread-size}
 use Rattle.tw_history.proofs.sizes.content_size.Goals as goal
 

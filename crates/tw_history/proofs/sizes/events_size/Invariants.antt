@@ -1,6 +1,6 @@
 use Rattle.std.proofs.Common.{◌≡◌, ◌+◌, ◌*◌, ◌≤◌, drop, length, map}
 use Rattle.tw_base.specs.Texts.{joined}
-use Rattle.tw_history.specs.HistoryFile.{event_bytes}
+use Rattle.tw_base.specs.HistoryFile.{event_bytes}
 use Rattle.tw_history.proofs.sizes.events_size.Given as goal
 
 abbrev pub invariant-loop-event : goal.invariant-loop-event

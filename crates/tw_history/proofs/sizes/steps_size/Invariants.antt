@@ -1,5 +1,5 @@
 use Rattle.std.proofs.Common.{◌≡◌, ◌+◌, ◌*◌, ◌≤◌, ◌^◌, drop, sum_by}
-use Rattle.tw_history.specs.Writing.{step_size}
+use Rattle.tw_history.specs.WritingSteps.{step_size}
 use Rattle.tw_history.proofs.sizes.steps_size.Given as goal
 
 abbrev pub invariant-loop-step : goal.invariant-loop-step

@@ -1,13 +1,11 @@
 use Rattle.std.proofs.Common.{◌≡◌, suc, ◌++◌, ◌<◌, ap, sym, subst, ◌∙◌, arith, length}
-use Rattle.std.specs.Prelude.{IfSome}
-use Rattle.tw_base.specs.Names.{IsName}
-use Rattle.tw_history.specs.Judging.{IsGreatest, greatest_of}
+use Rattle.tw_history.specs.JudgingSteps.{IsGreatest, greatest_of}
 use Rattle.std.specs.Option.{option_to_list}
 use Rattle.tw_base.specs.History.{History, Step, received}
-use Rattle.tw_history.specs.Meaning.{step_of}
-use Rattle.tw_history.specs.Rules.Rule.{NodesAreKnown, TreesRise, HoldsAllThreads, IsOfAnother, StepsRise, EventsFit}
+use Rattle.tw_history.specs.Tables.{step_of}
+use Rattle.tw_base.specs.Rules.Rule.{NodesAreKnown, TreesRise, HoldsAllThreads, IsOfAnother, StepsRise, EventsFit}
 use Rattle.tw_history.proofs.Summaries.{is_false}
-use Rattle.tw_history.proofs.RulesJudged.{all_by, another_by, count-received, entry_of, judged_next, known_by, later_by, length-option, length-received, lower_rules, number-below, refusal, root-within, sound_step}
+use Rattle.tw_history.proofs.RulesJudged.{all_by, another_by, count-received, entry_of, judged_next, known_by, later_by, length-option, length-received, lower_rules, number-below, refusal, root-within}
 use Rattle.tw_history.proofs.soundness.judge_step.Goals as goal
 
 pub returns-then-not-names_known : goal.returns-then-not-names_known
@@ -131,8 +129,8 @@ returns-then-not-events_fit c =
     refusal h i s _ c.unsound-then-not-events_fit.result EventsFit c.unsound-then-not-events_fit.ensures (λ kept. is_false _ c.if-not-events_fit.true (c.events_fit.ensures.1 kept))
     (lower_rules h i s 6 (λ _. one) (λ _. risen.1) (λ _. three) (λ _. four) (λ _. five) (λ l. absurd (omega (arith, l))))
 
-pub returns-in-Ok : goal.returns-in-Ok
-returns-in-Ok c =
+pub returns : goal.returns
+returns c =
     let h = c.args.history.now in
     let i = c.args.earlier in
     let st = c.args.step.now in
@@ -153,8 +151,8 @@ returns-in-Ok c =
     let every = lower_rules h i s 7 (λ _. one) (λ _. risen.1) (λ _. three) (λ _. four) (λ _. five) (λ _. six) in
     let thread = c.received_thread-thread.ensures in
     let counted = count-received h i s c.requires.there c.args.judged.now.threads c.count.result c.requires.judged.threads (c.count.ensures ∙ ap (λ o. length (option_to_list o)) thread) in
-    let added = c.in-Ok.ensures (received h i) (suc i) c.requires.judged.greatest ((c.is_later.ensures (received h i) c.requires.judged.greatest).0 c.if-not-is_later.false) in (
-      sound_step h i st fresh c.requires.content (subst (λ o. IfSome o (λ t. IsName t.from × (length t.auth ≡ 32))) thread c.thread_law.ensures) (λ rule. every rule (number-below rule)),
+    let added = c.in_ok-add.ensures (received h i) (suc i) c.requires.judged.greatest ((c.is_later.ensures (received h i) c.requires.judged.greatest).0 c.if-not-is_later.false) in (
+      record { rules = λ rule. every rule (number-below rule); limits = c.limits_law.ensures },
       judged_next h i s c.args.judged.now _ c.requires.there c.requires.judged risen.1 risen.0 counted
           (subst (λ o. IsGreatest (received h i ++ option_to_list (entry_of (suc i) o)) (greatest_of c.add.new.self)) thread added),
     )

@@ -4,10 +4,10 @@ use Rattle.tw_base.proofs.Levels.{top_level-below}
 use Rattle.tw_history.proofs.LinkLabels.{link-inside}
 use Rattle.tw_history.proofs.step_digests.below.Goals as goal
 
-pub power-requires : goal.power-requires
-power-requires c = let small : top_level c.args.step < 40 = top_level-below c.args.step c.requires.step in omega arith
+pub power_of_two-requires : goal.power_of_two-requires
+power_of_two-requires c = let small : top_level c.args.step < 40 = top_level-below c.args.step (omega arith) in omega arith
 
 pub overflow_sub-result : goal.overflow_sub-result
 overflow_sub-result c =
     let inside : 2 ^ c.args.level ≤ c.args.step = link-inside c.args.step c.args.level c.requires.from_1 c.requires.step c.requires.level in
-    omega (arith, inside, c.power.ensures)
+    omega (arith, inside, c.power_of_two.ensures)

@@ -1,7 +1,7 @@
 use Rattle.std.proofs.Common.{ap, sym, ◌∙◌}
 use Rattle.tw_base.specs.EventTree.{event_root}
 use Rattle.tw_base.proofs.EventTrees.{event_root-none}
-use Rattle.tw_history.specs.Passing.{events_in}
+use Rattle.tw_history.specs.PassSteps.{events_in}
 use Rattle.tw_history.proofs.step_digests.root_of_events.Goals as goal
 
 pub returns-in-Received : goal.returns-in-Received

@@ -1,7 +1,8 @@
 use Rattle.std.proofs.Common.{subst}
+use Rattle.tw_base.specs.declared.limits.TheConstants.{MOST_EVENT_BYTES}
 use Rattle.tw_base.specs.Fields.{sized_bytes}
-use Rattle.tw_history.specs.HistoryFile.{event_bytes}
-use Rattle.tw_history.specs.Writing.{AllSpelled}
+use Rattle.tw_base.specs.HistoryFile.{event_bytes}
+use Rattle.tw_history.specs.WritingSteps.{AllSpelled}
 use Rattle.tw_history.proofs.WritingLaws.{events_spelled, thread_spelled}
 use Rattle.tw_history.proofs.writing.put_content.Goals as goal
 
@@ -9,7 +10,7 @@ pub returns-in_ok-put_events-in-Events-clause-spelled : goal.returns-in_ok-put_e
 returns-in_ok-put_events-in-Events-clause-spelled c =
     let range = rw c.in-Events.is at c.requires in
     rw c.in-Events.is (events_spelled c.in-Events.events range.0
-    (subst (AllSpelled (sized_bytes 4 0 1024) event_bytes) c.as_slice.ensures c.in_ok-put_events-in-Events.ensures.spelled))
+    (subst (AllSpelled (sized_bytes 4 0 MOST_EVENT_BYTES) event_bytes) c.as_slice.ensures c.in_ok-put_events-in-Events.ensures.spelled))
 
 pub returns-in_ok-put_digest-in-Received-clause-spelled : goal.returns-in_ok-put_digest-in-Received-clause-spelled
 returns-in_ok-put_digest-in-Received-clause-spelled c =

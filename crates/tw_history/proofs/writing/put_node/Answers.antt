@@ -1,5 +1,5 @@
 use Rattle.std.proofs.Common.{arith}
-use Rattle.tw_history.specs.Meaning.{node_of}
+use Rattle.tw_history.specs.Tables.{node_of}
 use Rattle.tw_history.proofs.WritingLaws.{node_spelled}
 use Rattle.tw_history.proofs.writing.put_node.Goals as goal
 

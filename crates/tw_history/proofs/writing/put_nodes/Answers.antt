@@ -1,8 +1,8 @@
 use Rattle.std.proofs.Common.{arith, refl}
 use Rattle.std.proofs.lemmas.Grind.{common_steps}
-use Rattle.tw_history.specs.HistoryFile.{node_bytes}
-use Rattle.tw_history.specs.Layout.{node_layout}
-use Rattle.tw_history.specs.Meaning.{node_of}
+use Rattle.tw_base.specs.HistoryFile.{node_bytes}
+use Rattle.tw_base.specs.HistoryLayout.{node_layout}
+use Rattle.tw_history.specs.Tables.{node_of}
 use Rattle.tw_history.proofs.WritingLaws.{all_spelled-map_end, all_spelled-map_from}
 use Rattle.tw_history.proofs.writing.put_nodes.Goals as goal
 

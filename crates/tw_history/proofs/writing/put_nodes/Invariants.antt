@@ -1,9 +1,9 @@
 use Rattle.std.proofs.Common.{◌≡◌, ◌++◌, drop, map}
 use Rattle.tw_base.specs.Texts.{joined}
-use Rattle.tw_history.specs.HistoryFile.{node_bytes}
-use Rattle.tw_history.specs.Layout.{node_layout}
-use Rattle.tw_history.specs.Meaning.{node_of}
-use Rattle.tw_history.specs.Writing.{AllSpelled}
+use Rattle.tw_base.specs.HistoryFile.{node_bytes}
+use Rattle.tw_base.specs.HistoryLayout.{node_layout}
+use Rattle.tw_history.specs.Tables.{node_of}
+use Rattle.tw_history.specs.WritingSteps.{AllSpelled}
 use Rattle.tw_history.proofs.writing.put_nodes.Given as goal
 
 abbrev pub invariant-loop-node : goal.invariant-loop-node

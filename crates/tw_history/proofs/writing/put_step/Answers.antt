@@ -1,6 +1,6 @@
 use Rattle.std.proofs.Common.{arith}
 use Rattle.std.proofs.lemmas.List.{length-map}
-use Rattle.tw_history.specs.Meaning.{node_of, step_of}
+use Rattle.tw_history.specs.Tables.{node_of, step_of}
 use Rattle.tw_history.proofs.WritingLaws.{step_spelled}
 use Rattle.tw_history.proofs.writing.put_step.Goals as goal
 

@@ -1,6 +1,6 @@
 use Rattle.std.proofs.Common.{◌≡◌, ◌↔◌, ◌+◌, drop, map}
-use Rattle.tw_base.specs.Sound.{NodesFit}
-use Rattle.tw_history.specs.Meaning.{node_of}
+use Rattle.tw_base.specs.Rules.{NodesFit}
+use Rattle.tw_history.specs.Tables.{node_of}
 use Rattle.tw_history.proofs.soundness.nodes.are_known.Given as goal
 
 abbrev pub invariant-loop-node : goal.invariant-loop-node

@@ -2,7 +2,7 @@ use Rattle.std.proofs.Common.{◌≡◌, ℕ, ◌+◌, ◌<◌, List, [], ◌∷
 use Rattle.std.specs.Prelude.{if◌then◌else◌}
 use Rattle.std.proofs.Math.ListN.{drop_of_length-le}
 use Rattle.tw_base.specs.History.{History, Node}
-use Rattle.tw_history.specs.Meaning.{node_of}
+use Rattle.tw_history.specs.Tables.{node_of}
 use Rattle.tw_history.specs.declared.step.Node.{Node as NodeOfTable}
 use Rattle.tw_history.specs.declared.soundness.summary.Summary.{Summary}
 use Rattle.tw_history.proofs.Summaries.{is_false}
@@ -49,7 +49,7 @@ loop-node-preserved c =
     (rises-of_node h i xs (node_of n) ns p n.left) (rises-of_node h i xs (node_of n) ns p n.right) e.2 in
     let made = c.of_branch-summary.ensures (left_of h i xs (node_of n) ns p) (right_of h i xs (node_of n) ns p) e.0 left right e.3 in
     let next = planted-next h i xs (node_of n) ns p e.0 c.of_branch-summary.result e.1 made (test.0 c.if-not-rises.false) in
-    let pushed : c.push.new.self.items ≡ xs ++ c.of_branch-summary.result ∷ [] = c.push.ensures.items ∙ ap (λ b. if b then xs ++ c.of_branch-summary.result ∷ [] else xs) (c.is_err.ensures.negation ∙ ap not c.if-is_err.false) in
+    let pushed : c.push.new.self.items ≡ xs ++ c.of_branch-summary.result ∷ [] = c.in_ok-push.ensures.items in
     subst (λ ys. Planted h i ys ns) (sym pushed) next
 
 pub returns-clause-risen : goal.returns-clause-risen

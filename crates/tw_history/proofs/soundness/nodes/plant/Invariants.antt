@@ -1,5 +1,5 @@
 use Rattle.std.proofs.Common.{drop, map}
-use Rattle.tw_history.specs.Meaning.{node_of}
+use Rattle.tw_history.specs.Tables.{node_of}
 use Rattle.tw_history.proofs.Planting.{Planted}
 use Rattle.tw_history.proofs.soundness.nodes.plant.Given as goal
 

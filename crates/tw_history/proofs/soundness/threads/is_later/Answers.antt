@@ -1,6 +1,6 @@
 use Rattle.std.proofs.Common.{◌↔◌, sym, subst, IsTrue, true, ltb}
 use Rattle.std.specs.Prelude.{IfSome}
-use Rattle.tw_history.specs.Judging.{IsLater}
+use Rattle.tw_history.specs.JudgingSteps.{IsLater}
 use Rattle.tw_history.proofs.Greatest.{later-none, later-some}
 use Rattle.tw_history.proofs.soundness.threads.is_later.Goals as goal
 

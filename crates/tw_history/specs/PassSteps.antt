@@ -5,9 +5,9 @@ use Rattle.tw_base.specs.Auth.{auths, datum_text_at, tree_label}
 use Rattle.tw_base.specs.EventTree.{event_root}
 use Rattle.tw_base.specs.History.{History, events_at}
 use Rattle.tw_base.specs.Tree.{forest, tree}
-use Rattle.tw_skipproof.specs.Making.{labels_at}
-use Rattle.tw_history.specs.declared.step.Content.{Content}
-use Rattle.tw_history.specs.declared.step.Content.TheVariants.{Events, Received}
+use Rattle.tw_skipproof.specs.HistoryProofs.{labels_at}
+use Rattle.tw_base.specs.declared.content.Content.{Content}
+use Rattle.tw_base.specs.declared.content.Content.TheVariants.{Events, Received}
 use Rattle.tw_history.specs.declared.pass.Digests.{Digests}
 use Rattle.tw_history.specs.declared.step_digests.StepDigests.{StepDigests}
 

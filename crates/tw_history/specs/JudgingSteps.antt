@@ -14,7 +14,7 @@ use Rattle.tw_history.specs.declared.soundness.greatest.GreatestSteps.{GreatestS
 use Rattle.tw_history.specs.declared.soundness.Judged.{Judged}
 use Rattle.tw_history.specs.declared.fault.HistoryFault.{HistoryFault}
 use Rattle.tw_history.specs.declared.fault.HistoryFault.TheVariants.{NoMemory, Unsound}
-use Rattle.tw_history.specs.Rules.{Keeps, Rule, number_of}
+use Rattle.tw_base.specs.Rules.{KeepsRule, Rule, rule_number}
 
 -- what an archive is ordered by
 abbrev pub thread_key : Thread → Key
@@ -58,7 +58,7 @@ IsGreatest es greatest =
 
 -- what is kept of a history's steps up to i: a summary of each tree by its number, how many threads were received, and the
 -- greatest step of each service; each tree so far rises
-pub record IsJudged (h : History) (i : ℕ) (judged : Judged) : Type 0 where
+pub record HasJudged (h : History) (i : ℕ) (judged : Judged) : Type 0 where
   pub summaries : judged.summaries.items ≡ map summary_of (forest h i)
   pub rising : Each (λ t. IsRising (entries t)) (forest h i)
   pub threads : judged.threads ≡ length (received h i)
@@ -67,6 +67,6 @@ pub record IsJudged (h : History) (i : ℕ) (judged : Judged) : Type 0 where
 -- why step i + 1, which is s, isn't sound: the first rule that it breaks
 abbrev pub TellsFirst : (h : History) (i : ℕ) (s : Step) → HistoryFault → Type 0
 TellsFirst h i s (Unsound step rule) =
-    (step ≡ suc i) × ((broken : Rule) × (rule ≡ number_of broken) × (Keeps h i s broken → ⊥) × ((other : Rule) → number_of other < rule → Keeps h i s other))
+    (step ≡ suc i) × ((broken : Rule) × (rule ≡ rule_number broken) × (KeepsRule h i s broken → ⊥) × ((other : Rule) → rule_number other < rule → KeepsRule h i s other))
 TellsFirst h i s NoMemory = Unit {0}
 TellsFirst h i s _ = ⊥

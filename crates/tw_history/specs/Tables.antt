@@ -1,0 +1,33 @@
+-- What a table of steps and nodes stands for.
+use Rattle.std.specs.Prelude.{◌≡◌, ◌<◌, ◌≤◌, ◌^◌, List, [], ◌∷◌, length, map, take, drop, sum_by}
+use Rattle.tw_base.specs.declared.content.Content.{Content}
+use Rattle.tw_base.specs.declared.content.Content.TheVariants.{Events, Received}
+use Rattle.tw_base.specs.declared.limits.TheConstants.{LAST_STEP, MOST_EVENTS, MOST_EVENT_BYTES}
+use Rattle.tw_base.specs.Lists.{Each}
+use Rattle.tw_base.specs.History.{Step as StepMeant, Node as NodeMeant}
+use Rattle.tw_history.specs.declared.step.Step.{Step}
+use Rattle.tw_history.specs.declared.step.Node.{Node}
+
+abbrev pub node_of : Node → NodeMeant
+node_of n = record { left = n.left; entry = n.entry; right = n.right }
+
+-- a step with the nodes that it adds
+abbrev pub step_of : Step → List Node → StepMeant
+step_of s fresh = record { content = s.content; fresh = map node_of fresh; root = s.root }
+
+-- each step takes the next of the nodes, as many as it counts
+abbrev pub steps_of_table : List Step → List Node → List StepMeant
+steps_of_table [] nodes = []
+steps_of_table (s ∷ ss) nodes = step_of s (take s.fresh nodes) ∷ steps_of_table ss (drop s.fresh nodes)
+
+-- the ranges of a step's content; names, digests and bytes have theirs by their types
+abbrev pub IsInRange : Content → Type 0
+IsInRange (Events events) = (length events ≤ MOST_EVENTS) × Each (λ event. length event ≤ MOST_EVENT_BYTES) events
+IsInRange (Received t) = (0 < t.step) × (t.step ≤ LAST_STEP)
+
+-- the counts of new nodes add up to the number of nodes, and every field is in its range
+pub record IsTable (steps : List Step) (nodes : List Node) : Type 0 where
+  pub counted : sum_by (λ s. s.fresh) steps ≡ length nodes
+  pub few : length steps ≤ LAST_STEP
+  pub contents : Each (λ s. IsInRange s.content) steps
+  pub entries : Each (λ n. n.entry < 2 ^ 64) nodes
