@@ -8,9 +8,10 @@ ghost use Rattle.tw_history.specs.Tables.{IsInRange};
 ghost use Rattle.tw_history.specs.Reading.{content_at as content_at_of, event_at as event_at_of, events_at as events_at_of, thread_at as thread_at_of};
 
 use std::alloc::Global;
-use tw_base::limits::{LAST_STEP, MOST_EVENTS, MOST_EVENT_BYTES};
+use tw_base::limits::{LAST_STEP, MOST_EVENT_BYTES, MOST_EVENTS};
 use tw_base::{
-    Content, Bytes, EventList, ReadFault, Thread, malformed, read_bytes, read_digest, read_name, read_number,
+    Bytes, Content, EventList, ReadFault, Thread, malformed, read_bytes, read_digest, read_name,
+    read_number,
 };
 
 /// The event at a place, behind its length, and the place after it.

@@ -23,7 +23,7 @@ use crate::pass::{Digests, auth_passed, begin, pass_step, pass_steps};
 use crate::path_links::path_links;
 use crate::step_digests::{count_of_events, opening_with};
 use std::alloc::Global;
-use tw_base::{Content, Bytes, Digest, EventList, Hasher, NoMemory};
+use tw_base::{Bytes, Content, Digest, EventList, Hasher, NoMemory};
 use tw_skipproof::{ExistenceProof, Opening, Part, Path, write_existence};
 
 /// The events of the content, where one has this index; else how many there are.

@@ -12,7 +12,8 @@ ghost use Rattle.tw_base.specs.declared.limits.TheConstants.{LAST_STEP};
 use arrayvec::ArrayVec;
 use std::alloc::Global;
 use tw_base::{
-    Content, Digest, Hasher, Labels, NoMemory, datum, link_label, no_events, power_of_two, top_level,
+    Content, Digest, Hasher, Labels, NoMemory, datum, link_label, no_events, power_of_two,
+    top_level,
 };
 use tw_events::event_root;
 use tw_skipproof::{Link, Opening};

@@ -18,7 +18,7 @@ use crate::sizes::file_size;
 use crate::step::{Node, Step};
 use std::alloc::Global;
 use tw_base::limits::MOST_HISTORY_BYTES;
-use tw_base::{Content, Bytes, NoMemory, put_bytes, put_digest, put_name, put_number};
+use tw_base::{Bytes, Content, NoMemory, put_bytes, put_digest, put_name, put_number};
 
 /// The four bytes at the head of a history file.
 pub(crate) const MAGIC: [u8; 4] = *b"TWH1";
