@@ -5,4 +5,4 @@
 mod tests;
 mod tree;
 
-pub use tree::{Entries, Tree, label, list};
+pub use tree::{Tree, label, list};

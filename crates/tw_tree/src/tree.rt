@@ -8,7 +8,7 @@ ghost use Rattle.tw_base.specs.Tree.Tree.{Empty as NoEntry, Branch as RootedAt};
 ghost use Rattle.tw_tree.specs.TreeMeaning.{tree_of};
 
 use std::alloc::Global;
-use tw_base::{Digest, Entry, Hasher, NoMemory, Sequence, empty_tree, tree_node};
+use tw_base::{Digest, Entries, Entry, Hasher, NoMemory, empty_tree, tree_node};
 
 /// A binary tree of entries. The archive of a service is one whose entries rise by name and then
 /// step; nothing here needs that order.
@@ -27,9 +27,6 @@ pub enum Tree {
     },
 }
 
-/// Entries, such as those of an archive in their order.
-pub type Entries = Sequence<Entry>;
-
 impl Tree {
     /// The tree without entries. Takes no memory.
     pub fn empty() -> Tree
@@ -43,12 +40,8 @@ impl Tree {
     pub fn branch(alloc: Global, left: Tree, entry: Entry, right: Tree) -> Result<Tree, NoMemory>
         ensures { IfOk result (λ tree. tree_of tree ≡ RootedAt (tree_of left) entry (tree_of right)) }
     {
-        let Ok(left) = Box::new(alloc, left) else {
-            return Err(NoMemory);
-        };
-        let Ok(right) = Box::new(alloc, right) else {
-            return Err(NoMemory);
-        };
+        let left = Box::new(alloc, left)?;
+        let right = Box::new(alloc, right)?;
         Ok(Tree::Branch { left, entry, right })
     }
 }
