@@ -4,9 +4,10 @@ ghost use Rattle.std.specs.Prelude.{◌≡◌, ℕ, ◌≤◌, ◌↔◌, List, 
 ghost use Rattle.tw_base.specs.AuditPath.{ChecksEvent, audit_texts, node_text_beside, root_above};
 ghost use Rattle.tw_base.specs.Clash.{OrClash};
 ghost use Rattle.tw_base.specs.EventTree.{event_root, event_texts};
+ghost use Rattle.tw_base.specs.declared.limits.TheConstants.{MOST_EVENTS, MOST_EVENT_BYTES};
 
 use arrayvec::ArrayVec;
-use tw_base::{Digest, Hasher, Labels, Side, event_leaf, event_node, sides_of};
+use tw_base::{Digest, Hasher, Labels, Side, event_leaf, event_node, is_same_digest, sides_of};
 
 /// The label of the event node over a label of the path, which stands on that side, and the label
 /// reached so far.
@@ -41,17 +42,10 @@ pub fn root_above_leaf<H: Hasher>(
     reached
 }
 
-/// Whether the digests are one.
-fn is_same(a: &Digest, b: &Digest) -> bool
-    ensures { IsTrue result ↔ (a.now ≡ b.now) }
-{
-    *a == *b
-}
-
 /// Whether the path leads from the event to the root.
 fn is_shown<H: Hasher>(root: &Digest, count: u32, index: u32, event: &[u8], path: &[Digest]) -> bool
-    requires few { count ≤ 1024 }
-    requires small { length event.now ≤ 1024 }
+    requires few { count ≤ MOST_EVENTS }
+    requires small { length event.now ≤ MOST_EVENT_BYTES }
     ensures { IsTrue result ↔ ChecksEvent H.dig root.now count index event.now path.now }
 {
     if index >= count {
@@ -63,7 +57,7 @@ fn is_shown<H: Hasher>(root: &Digest, count: u32, index: u32, event: &[u8], path
     }
     let leaf = event_leaf::<H>(event);
     let reached = root_above_leaf::<H>(sides, path, leaf);
-    is_same(&reached, root)
+    is_same_digest(&reached, root)
 }
 
 /// Whether the path shows that the event, of at most 1,024 bytes, stands at that index of the
@@ -80,8 +74,8 @@ pub fn check_event<H: Hasher>(
     event: &[u8],
     path: &Labels,
 ) -> bool
-    requires few { count ≤ 1024 }
-    requires small { length event.now ≤ 1024 }
+    requires few { count ≤ MOST_EVENTS }
+    requires small { length event.now ≤ MOST_EVENT_BYTES }
     ensures answer { IsTrue result ↔ ChecksEvent H.dig root.now count index event.now path.now }
     ensures binds { IsTrue result → (events : List (List ℕ)) → length events ≡ count → event_root H.dig events ≡ root.now →
         OrClash H.dig (event_texts H.dig events ++ audit_texts H.dig count index event.now path.now) (slice_get events index ≡ Some event.now) }

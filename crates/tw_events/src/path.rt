@@ -4,6 +4,7 @@ ghost use Rattle.std.specs.Prelude.{◌≡◌, ℕ, ◌<◌, ◌≤◌, List, �
 ghost use Rattle.tw_base.specs.AuditPath.{ChecksEvent};
 ghost use Rattle.tw_base.specs.EventTree.{audit_path, event_root};
 ghost use Rattle.tw_base.specs.Lists.{Each};
+ghost use Rattle.tw_base.specs.declared.limits.TheConstants.{MOST_EVENTS, MOST_EVENT_BYTES};
 
 use crate::root::root_of;
 use std::alloc::Global;
@@ -12,8 +13,8 @@ use tw_base::{Bytes, EventList, Hasher, Labels, NoMemory, left_count};
 /// Appends the path of that index among these events, from the leaf upwards.
 fn add_path<H: Hasher>(events: &[Bytes], index: usize, path: &mut Labels) -> Result<(), NoMemory>
     requires inside { index < length events.now }
-    requires few { length events.now ≤ 1024 }
-    requires small { Each (λ event. length event ≤ 1024) events.now }
+    requires few { length events.now ≤ MOST_EVENTS }
+    requires small { Each (λ event. length event ≤ MOST_EVENT_BYTES) events.now }
     ensures { OnOk result (path.new ≡ path.old ++ audit_path H.dig events.now index) }
 {
     if events.len() == 1 {
@@ -40,8 +41,8 @@ pub fn event_path<H: Hasher>(
     index: u32,
 ) -> Result<Labels, NoMemory>
     requires inside { index < length events.now }
-    requires few { length events.now ≤ 1024 }
-    requires small { Each (λ event. length event ≤ 1024) events.now }
+    requires few { length events.now ≤ MOST_EVENTS }
+    requires small { Each (λ event. length event ≤ MOST_EVENT_BYTES) events.now }
     ensures path { IfOk result (λ path. path ≡ audit_path H.dig events.now index) }
     ensures checks { IfOk result (λ path. (event : List ℕ) → slice_get events.now index ≡ Some event →
         ChecksEvent H.dig (event_root H.dig events.now) (length events.now) index event path) }

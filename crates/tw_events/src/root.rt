@@ -3,14 +3,15 @@
 ghost use Rattle.std.specs.Prelude.{◌≡◌, ◌≤◌, length};
 ghost use Rattle.tw_base.specs.EventTree.{event_root as event_root_of};
 ghost use Rattle.tw_base.specs.Lists.{Each};
+ghost use Rattle.tw_base.specs.declared.limits.TheConstants.{MOST_EVENTS, MOST_EVENT_BYTES};
 
 use tw_base::{Bytes, Digest, EventList, Hasher, event_leaf, event_node, left_count, no_events};
 
 /// The root of the tree over these events, at most ten halvings deep.
 #[tactic(auto, using(crate::proofs::Steps::few_events))]
 pub(crate) fn root_of<H: Hasher>(events: &[Bytes]) -> Digest
-    requires few { length events.now ≤ 1024 }
-    requires small { Each (λ event. length event ≤ 1024) events.now }
+    requires few { length events.now ≤ MOST_EVENTS }
+    requires small { Each (λ event. length event ≤ MOST_EVENT_BYTES) events.now }
     ensures { result ≡ event_root_of H.dig events.now }
 {
     match events {
@@ -28,8 +29,8 @@ pub(crate) fn root_of<H: Hasher>(events: &[Bytes]) -> Digest
 /// The root of at most 1,024 events, each of at most 1,024 bytes: the Merkle tree hash of RFC 6962,
 /// section 2.1. Takes no memory and hashes each text once.
 pub fn event_root<H: Hasher>(events: &EventList) -> Digest
-    requires few { length events.now ≤ 1024 }
-    requires small { Each (λ event. length event ≤ 1024) events.now }
+    requires few { length events.now ≤ MOST_EVENTS }
+    requires small { Each (λ event. length event ≤ MOST_EVENT_BYTES) events.now }
     ensures { result ≡ event_root_of H.dig events.now }
 {
     root_of::<H>(events.as_slice())

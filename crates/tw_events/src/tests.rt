@@ -2,6 +2,7 @@
 
 ghost use Rattle.std.specs.Prelude.{◌≡◌, ◌+◌, ◌≤◌, ◌<◌, length, OnOk, IfOk};
 ghost use Rattle.tw_base.specs.Lists.{Each};
+ghost use Rattle.tw_base.specs.declared.limits.TheConstants.{MOST_EVENT_BYTES};
 
 use super::*;
 use std::alloc::Global;
@@ -10,10 +11,10 @@ use tw_base::{Bytes, EventList, NoMemory, Sha, event_leaf, event_node};
 
 /// Appends an event.
 fn add_event(alloc: Global, events: &mut EventList, bytes: &[u8]) -> Result<(), NoMemory>
-    requires short { length bytes.now ≤ 1024 }
-    requires small { Each (λ event. length event ≤ 1024) events.old }
+    requires short { length bytes.now ≤ MOST_EVENT_BYTES }
+    requires small { Each (λ event. length event ≤ MOST_EVENT_BYTES) events.old }
     ensures len { OnOk result (length events.new ≡ length events.old + 1) }
-    ensures small { Each (λ event. length event ≤ 1024) events.new }
+    ensures small { Each (λ event. length event ≤ MOST_EVENT_BYTES) events.new }
 {
     let mut event = Bytes::new(alloc);
     event.extend_from_slice(bytes)?;
@@ -24,7 +25,7 @@ fn add_event(alloc: Global, events: &mut EventList, bytes: &[u8]) -> Result<(), 
 /// The event of no bytes, that of one byte 1, and that of two bytes 2.
 fn three_events(alloc: Global) -> Result<EventList, NoMemory>
     ensures count { IfOk result (λ events. length events ≡ 3) }
-    ensures small { IfOk result (λ events. Each (λ event. length event ≤ 1024) events) }
+    ensures small { IfOk result (λ events. Each (λ event. length event ≤ MOST_EVENT_BYTES) events) }
 {
     let mut events = EventList::new(alloc);
     add_event(alloc, &mut events, b"")?;

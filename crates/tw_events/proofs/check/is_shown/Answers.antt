@@ -12,7 +12,7 @@ returns g c =
       λ yes. record {
         inside = c.if-index-count.false;
         size = c.if-path-len.false ∙ c.len.ensures.value ∙ c.sides_of-sides.ensures.len;
-        reaches = sym reached ∙ c.is_same.ensures.0 yes;
+        reaches = sym reached ∙ c.is_same_digest.ensures.0 yes;
       },
-      λ checks. c.is_same.ensures.1 (reached ∙ checks.reaches),
+      λ checks. c.is_same_digest.ensures.1 (reached ∙ checks.reaches),
     )
