@@ -6,6 +6,7 @@ use Rattle.tw_base.specs.declared.report.Seen.{Seen}
 use Rattle.tw_base.specs.declared.report.Report.{Report}
 use Rattle.tw_base.specs.declared.report.Reason.{Reason}
 use Rattle.tw_base.specs.declared.report.Reason.TheVariants.{Malformed, BadOrder, NotHeld, BadPath, BadOpening, BadEvent, BadTree, Carried, Unbuilt}
+use Rattle.tw_base.specs.Reasons.{reason_number}
 use Rattle.tw_text.specs.Lines.{line}
 use Rattle.tw_text.specs.declared.field.Field.{Field}
 use Rattle.tw_text.specs.declared.field.Field.TheVariants.{Word, Number, Named, Hex}
@@ -27,18 +28,7 @@ report_text report = claim_text report.claim
 
 -- ---- proofs that are not accepted
 
--- the number and the name of a reason
-abbrev pub reason_number : Reason → ℕ
-reason_number (Malformed place) = 1
-reason_number BadOrder = 2
-reason_number (NotHeld service step) = 3
-reason_number (BadPath part) = 4
-reason_number (BadOpening part) = 5
-reason_number (BadEvent part) = 6
-reason_number (BadTree part) = 7
-reason_number (Carried count) = 8
-reason_number Unbuilt = 9
-
+-- the name of a reason
 abbrev pub reason_name : Reason → List ℕ
 reason_name (Malformed place) = codes "Malformed"
 reason_name BadOrder = codes "BadOrder"

@@ -3,7 +3,8 @@
 ghost use Rattle.std.specs.Prelude.{◌≡◌, ◌++◌, OnOk, IfOk};
 ghost use Rattle.tw_text.specs.Lines.{fields_text};
 ghost use Rattle.tw_text.specs.Reports.{event_line, reason_fields, report_text, rejected_text};
-ghost use Rattle.tw_text.specs.Reports.{reason_name as reason_name_of, reason_number as reason_number_of};
+ghost use Rattle.tw_base.specs.Reasons.{reason_number as reason_number_of};
+ghost use Rattle.tw_text.specs.Reports.{reason_name as reason_name_of};
 
 use crate::line::{put_hex, put_name, put_number, put_word};
 use std::alloc::Global;
