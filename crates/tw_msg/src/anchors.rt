@@ -9,11 +9,8 @@ ghost use Rattle.tw_msg.specs.AnchorFaults.{TellsBadLine};
 use crate::split::split_at_first;
 use std::alloc::Global;
 use tw_base::limits::{LAST_STEP, MOST_ANCHORS};
-use tw_base::{Name, NoMemory, Sequence, Thread};
+use tw_base::{Name, NoMemory, Thread, Threads};
 use tw_text::{read_digest, read_number};
-
-/// Threads, such as the anchors of a verifier.
-pub type Threads = Sequence<Thread>;
 
 /// Why a file is no anchors file.
 #[derive(Clone, Copy, PartialEq, Eq, Debug, Drop)]

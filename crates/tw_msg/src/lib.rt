@@ -7,5 +7,5 @@ mod split;
 #[cfg(test)]
 mod tests;
 
-pub use anchors::{AnchorFault, Threads, read_anchors};
+pub use anchors::{AnchorFault, read_anchors};
 pub use events::{events_file_laws, read_events};
