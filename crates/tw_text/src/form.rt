@@ -97,7 +97,7 @@ const STEPS: Part = Number {
 /// The last step, where it isn't left out.
 const MAYBE_TOP: More = More::UpTo(1, NUMBER);
 
-/// The table: one line for each form.
+/// The table: one line for each form, and so longer than other functions.
 #[tactic(auto, unfolding(crate::specs::CommandLine::form_of))]
 pub fn form_named(name: FormName) -> Form
     ensures { IsRow result (form_of name) }

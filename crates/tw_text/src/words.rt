@@ -206,7 +206,7 @@ fn word(words: &[String], i: usize) -> &str
 fn path(alloc: Global, words: &[String], i: usize) -> Result<Bytes, NoMemory>
     ensures { IfOk result (λ path. path ≡ word_at (map string_bytes words.now) i) }
 {
-    Ok(Bytes::from_vec(Vec::from_slice(alloc, word(words, i).as_bytes())?))
+    Bytes::from_slice(alloc, word(words, i).as_bytes())
 }
 
 /// The paths from a place on.
