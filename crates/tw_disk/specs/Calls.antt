@@ -4,11 +4,11 @@ use Rattle.std.proofs.Common.{◌-◌, arith, subst, sym, ap, ◌∙◌, length-
 use Rattle.std.proofs.lemmas.List.{get_or-take, get_or-set_other, length-set, length-take, get_or-append_right}
 use Rattle.std.proofs.Math.Seq.{take-append_seam}
 use Rattle.tw_disk.specs.Image.{Image, Torn, put, page_at}
-use Rattle.tw_disk.specs.Disk.{Elapses, Only, Follows}
+use Rattle.tw_disk.specs.Disk.{Only, Follows}
 use Rattle.tw_disk.specs.Put.{torn_put, put-back}
 use Rattle.tw_disk.specs.Model.{DeviceCall, Write, Written, at_rest, step, after, IsImage, Since}
 use Rattle.tw_disk.specs.Model.{Barrier as BarrierCall}
-use Rattle.tw_disk.specs.Laws.{after-push, grown_after, image_now, write_follows, barrier_only, barrier_image, elapses_push}
+use Rattle.tw_disk.specs.Laws.{Elapses, after-push, grown_after, image_now, write_follows, barrier_only, barrier_image, elapses_push}
 use Rattle.tw_disk.specs.Kept.{undone, earlier, with_bytes, calls_of, written_of, Fits, AllFit, Gains}
 use Rattle.tw_disk.specs.declared.call.Call.{Call}
 use Rattle.tw_disk.specs.declared.call.Call.TheVariants.{Overwrite, Append, Barrier}

@@ -6,7 +6,6 @@ use Rattle.std.proofs.Math.Seq.{take-length}
 use Rattle.std.proofs.lemmas.Bool.{cases_eq}
 use Rattle.std.proofs.lemmas.List.{length-take, length-set, get_or-take, get_or-set_same, get_or-set_other, ext_get_or, take-append-le, take_all}
 use Rattle.tw_disk.specs.Image.{Image, Torn, page_at}
-use Rattle.tw_disk.specs.Disk.{Elapses}
 use Rattle.tw_disk.specs.Put.{length-put_le, page_at-put_below}
 use Rattle.tw_disk.specs.Model.{DeviceCall, Write, Barrier, Written, IsUntouched, at_rest, step, after, IsImage, Since, spoilt, outcome}
 
@@ -113,6 +112,12 @@ since_now base calls t c le image = record {
 pub only_now : (base : Image) (calls : List DeviceCall) (c : Image) → Since base calls (length calls) c → IsImage (after (at_rest base) calls) c
 only_now base calls c since = subst (λ (l : List DeviceCall). IsImage (after (at_rest base) l) c) (take_all since.at calls (omega (arith, since.from))) since.image
 
+-- one moment after another, over the same images since earlier ones
+pub record Elapses (before now : ℕ) (past since : ℕ → Image → Type 0) (may_leave : Image → Type 0) : Type 0 where
+  pub later : before ≤ now
+  pub nothing_else : (t : ℕ) (c : Image) → t ≤ before → since t c → past t c ⊎ may_leave c
+  pub keeps : (t : ℕ) (c : Image) → t ≤ before → past t c → since t c
+
 -- one call more
 pub elapses_push : (base : Image) (calls : List DeviceCall) (call : DeviceCall) → Elapses (length calls) (length (calls ++ call ∷ [])) (Since base calls) (Since base (calls ++ call ∷ [])) (IsImage (after (at_rest base) (calls ++ call ∷ [])))
 elapses_push base calls call = record {
@@ -137,7 +142,3 @@ elapses_push base calls call = record {
       to = le;
       image = subst (λ (l : List DeviceCall). IsImage (after (at_rest base) l) c) (take-append-le since.at calls (call ∷ []) le) since.image;
     })
-
--- no call
-pub elapses_same : (base : Image) (calls : List DeviceCall) → Elapses (length calls) (length calls) (Since base calls) (Since base calls) (IsImage (after (at_rest base) calls))
-elapses_same base calls = record { later = omega arith; nothing_else = λ t c le since. inl since; keeps = λ t c le since. since }

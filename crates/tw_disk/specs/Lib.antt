@@ -2,6 +2,7 @@ pub mod Image
 pub mod Put
 pub mod PageBytes
 pub mod Disk
+pub mod DiskSteps
 pub mod Moments
 pub mod Model
 pub mod Laws

@@ -1,6 +1,7 @@
 -- What a disk in memory shows.
 use Rattle.std.specs.Prelude.{◌≡◌, ℕ, List, Option, Some, Bool, length}
 use Rattle.tw_disk.specs.Image.{Image}
+use Rattle.tw_disk.specs.Disk.{DiskView}
 use Rattle.tw_disk.specs.Model.{DeviceCall, Written, IsImage, Since}
 use Rattle.tw_disk.specs.Kept.{earlier, calls_of, written_of}
 use Rattle.tw_disk.specs.declared.memory_disk.MemDisk.{MemDisk}
@@ -40,6 +41,17 @@ left_since_of disk t c = Since (earlier disk.calls.items disk.pages.items) (call
 abbrev pub faults_of : MemDisk → ℕ
 faults_of disk = disk.faults
 
+-- all that it tells of itself
+abbrev pub view_of : MemDisk → DiskView
+view_of disk = record {
+  content = content_of disk;
+  count = count_of disk;
+  may_leave = may_leave_of disk;
+  moment = moment_of disk;
+  left_since = left_since_of disk;
+  faults = faults_of disk;
+}
+
 -- how many writes and barriers it was asked for since it was made
 abbrev pub made_of : MemDisk → ℕ
 made_of disk = disk.device.made
@@ -69,7 +81,7 @@ abbrev pub is_stopped : MemDisk → Bool
 is_stopped disk = disk.is_stopped
 
 -- the disk holds and may leave the same, has counted the same, and is stopped or not as before
-pub record IsSameDisk (old new : MemDisk) : Type 0 where
+pub record IsSameMemDisk (old new : MemDisk) : Type 0 where
   pub pages : new.pages.items ≡ old.pages.items
   pub calls : new.calls.items ≡ old.calls.items
   pub faults : new.faults ≡ old.faults

@@ -138,7 +138,7 @@ fn answer(faults: &mut u64, is_to_fail: bool) -> Result<(), Failed>
 }
 
 impl MemDisk {
-    ghost use Rattle.tw_disk.specs.MemDisk.{pages_of, device_calls_of, state_of, faults_of, made_of, reads_of, failing_of, failing_reads_of, asks_of, stop_of, is_stopped, IsSameDisk};
+    ghost use Rattle.tw_disk.specs.MemDisk.{pages_of, device_calls_of, state_of, faults_of, made_of, reads_of, failing_of, failing_reads_of, asks_of, stop_of, is_stopped, IsSameMemDisk};
     ghost use Rattle.tw_disk.specs.Model.{outcome};
 
     /// A disk without a page. It takes no memory yet.
@@ -186,7 +186,7 @@ impl MemDisk {
         ensures err { OnErr result (failing_of self.new ≡ failing_of self.old) }
         ensures others { (failing_reads_of self.new ≡ failing_reads_of self.old)
             × (stop_of self.new ≡ stop_of self.old) }
-        ensures same { IsSameDisk self.old self.new }
+        ensures same { IsSameMemDisk self.old self.new }
     {
         self.device.plan(k)
     }
@@ -197,7 +197,7 @@ impl MemDisk {
         ensures planned { OnOk result (failing_reads_of self.new ≡ failing_reads_of self.old ++ (min (asks_of self.old + k) (2 ^ 64 - 1)) ∷ []) }
         ensures err { OnErr result (failing_reads_of self.new ≡ failing_reads_of self.old) }
         ensures others { (failing_of self.new ≡ failing_of self.old) × (stop_of self.new ≡ stop_of self.old) }
-        ensures same { IsSameDisk self.old self.new }
+        ensures same { IsSameMemDisk self.old self.new }
     {
         self.asks.plan(k)
     }
@@ -210,7 +210,7 @@ impl MemDisk {
         ensures stop { stop_of self.new ≡ Some (min (made_of self.old + k) (2 ^ 64 - 1)) }
         ensures others { (failing_of self.new ≡ failing_of self.old)
             × (failing_reads_of self.new ≡ failing_reads_of self.old) }
-        ensures same { IsSameDisk self.old self.new }
+        ensures same { IsSameMemDisk self.old self.new }
     {
         self.stop = Some(self.device.made().saturating_add(k));
     }
@@ -245,20 +245,10 @@ impl Disk for MemDisk {
     ghost use Rattle.std.specs.Prelude.{IfOk, IfSome, MatchOption};
     ghost use Rattle.std.specs.Option.{option_map, IsSomeAnd};
     ghost use Rattle.tw_disk.specs.Image.{Image, Torn};
-    ghost use Rattle.tw_disk.specs.Disk.{grown, KeepsRoom, Follows, Only, Elapses};
-    ghost use Rattle.tw_disk.specs.MemDisk.{content_of, count_of, may_leave_of, moment_of, left_since_of, faults_of, made_of, reads_of, failing_of, failing_reads_of, asks_of, stop_of, is_stopped, KeepsPlans};
+    ghost use Rattle.tw_disk.specs.Disk.{grown, KeepsRoom, Follows, IsSameDisk, Only, TimeGoesOn};
+    ghost use Rattle.tw_disk.specs.MemDisk.{content_of, count_of, may_leave_of, view_of, faults_of, made_of, reads_of, failing_of, failing_reads_of, asks_of, stop_of, is_stopped, KeepsPlans};
 
-    ghost content = { content_of };
-
-    ghost count = { count_of };
-
-    ghost may_leave = { may_leave_of };
-
-    ghost moment = { moment_of };
-
-    ghost left_since = { left_since_of };
-
-    ghost faults = { faults_of };
+    ghost view = { view_of };
 
     ghost count_is_told = { λ disk c is. told_count disk.pages.items c is };
 
@@ -271,9 +261,7 @@ impl Disk for MemDisk {
     fn pages(&mut self) -> Result<u64, Failed>
         ensures told { IfOk result (λ n. count_of self.new ≡ Some n) }
         ensures kept { IfSome (count_of self.old) (λ n. count_of self.new ≡ Some n) }
-        ensures content { content_of self.new ≡ content_of self.old }
-        ensures crash { (c : Image) → may_leave_of self.new c ↔ may_leave_of self.old c }
-        ensures time { Elapses (moment_of self.old) (moment_of self.new) (left_since_of self.old) (left_since_of self.new) (may_leave_of self.new) }
+        ensures same { IsSameDisk (view_of self.old) (view_of self.new) }
         ensures cause { HasCause (faults_of self.old) (faults_of self.new) result }
 
         // It fails exactly where it was planned to, or where the disk is stopped.
@@ -293,9 +281,7 @@ impl Disk for MemDisk {
         requires { IsSomeAnd (count_of self.old) (λ n. page < n) }
         ensures bytes { OnOk result (IfSome (content_of self.old) (λ c. into.new ≡ page_at c page)) }
         ensures count { count_of self.new ≡ count_of self.old }
-        ensures content { content_of self.new ≡ content_of self.old }
-        ensures crash { (c : Image) → may_leave_of self.new c ↔ may_leave_of self.old c }
-        ensures time { Elapses (moment_of self.old) (moment_of self.new) (left_since_of self.old) (left_since_of self.new) (may_leave_of self.new) }
+        ensures same { IsSameDisk (view_of self.old) (view_of self.new) }
         ensures cause { HasCause (faults_of self.old) (faults_of self.new) result }
 
         // It fails exactly where it was planned to, or where the disk is stopped.
@@ -321,7 +307,7 @@ impl Disk for MemDisk {
         ensures count { (count_of self.new ≡ count_of self.old) ⊎ (count_of self.new ≡ grown page (count_of self.old)) }
         ensures room { KeepsRoom (count_of self.old) (count_of self.new) }
         ensures crash { Follows (Torn page) (may_leave_of self.old) (may_leave_of self.new) }
-        ensures time { Elapses (moment_of self.old) (moment_of self.new) (left_since_of self.old) (left_since_of self.new) (may_leave_of self.new) }
+        ensures time { TimeGoesOn (view_of self.old) (view_of self.new) }
         ensures cause { HasCause (faults_of self.old) (faults_of self.new) result }
 
         // It fails where it was planned to and where the disk is stopped; want of memory makes it fail too.
@@ -348,7 +334,7 @@ impl Disk for MemDisk {
         ensures content { content_of self.new ≡ content_of self.old }
         ensures crash { (c : Image) → may_leave_of self.new c → may_leave_of self.old c }
         ensures nothing_stable { OnErr result ((c : Image) → may_leave_of self.old c → may_leave_of self.new c) }
-        ensures time { Elapses (moment_of self.old) (moment_of self.new) (left_since_of self.old) (left_since_of self.new) (may_leave_of self.new) }
+        ensures time { TimeGoesOn (view_of self.old) (view_of self.new) }
         ensures cause { HasCause (faults_of self.old) (faults_of self.new) result }
 
         // It fails where it was planned to and where the disk is stopped; want of memory makes it fail too.

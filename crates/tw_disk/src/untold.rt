@@ -21,17 +21,7 @@ impl UntoldDisk {
 }
 
 impl Disk for UntoldDisk {
-    ghost content = { λ _. None };
-
-    ghost count = { λ disk. disk.count };
-
-    ghost may_leave = { λ _ _. ⊥ };
-
-    ghost moment = { λ _. 0 };
-
-    ghost left_since = { λ _ _ _. ⊥ };
-
-    ghost faults = { λ _. 2 ^ 64 - 1 };
+    ghost view = { λ disk. record { content = None; count = disk.count; may_leave = λ _. ⊥; moment = 0; left_since = λ _ _. ⊥; faults = 2 ^ 64 - 1 } };
 
     ghost count_is_told = { λ disk c is. no_content c _ is };
 

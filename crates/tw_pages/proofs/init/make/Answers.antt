@@ -9,10 +9,10 @@ returns-in_err-write_open_gates-clause-images g c = λ rest.
     let P = IsBlankOrNew c.args.root.now in
     let closed = c.in_ok-see_gates_closed.ensures.closed rest in
     let ready = c.in_ok-write_bodies.ensures.ready closed in
-    goes_on g.D.Disk.moment g.D.Disk.may_leave g.D.Disk.left_since c.args.disk.now c.write_bodies.new.disk c.write_open_gates.new.disk P
-    (goes_on g.D.Disk.moment g.D.Disk.may_leave g.D.Disk.left_since c.args.disk.now c.see_gates_closed.new.disk c.write_bodies.new.disk P
-    (leaves_weaker g.D.Disk.moment g.D.Disk.may_leave g.D.Disk.left_since c.args.disk.now c.see_gates_closed.new.disk IsBlank P (λ i blank. inl blank) (c.in_ok-see_gates_closed.ensures.images rest))
-    (leaves_weaker g.D.Disk.moment g.D.Disk.may_leave g.D.Disk.left_since c.see_gates_closed.new.disk c.write_bodies.new.disk BothClosed P (λ i both. inl (inr (both.first, both.second))) (c.in_ok-write_bodies.ensures.images closed)))
+    goes_on (g.D.Disk.view c.args.disk.now) (g.D.Disk.view c.write_bodies.new.disk) (g.D.Disk.view c.write_open_gates.new.disk) P
+    (goes_on (g.D.Disk.view c.args.disk.now) (g.D.Disk.view c.see_gates_closed.new.disk) (g.D.Disk.view c.write_bodies.new.disk) P
+    (leaves_weaker (g.D.Disk.view c.args.disk.now) (g.D.Disk.view c.see_gates_closed.new.disk) IsBlank P (λ i blank. inl blank) (c.in_ok-see_gates_closed.ensures.images rest))
+    (leaves_weaker (g.D.Disk.view c.see_gates_closed.new.disk) (g.D.Disk.view c.write_bodies.new.disk) BothClosed P (λ i both. inl (inr (both.first, both.second))) (c.in_ok-write_bodies.ensures.images closed)))
     (c.write_open_gates.ensures.images c.args.root.now ready)
 
 pub returns-clause-images : goal.returns-clause-images
@@ -20,8 +20,8 @@ returns-clause-images g c = λ rest.
     let P = IsBlankOrNew c.args.root.now in
     let closed = c.in_ok-see_gates_closed.ensures.closed rest in
     let ready = c.in_ok-write_bodies.ensures.ready closed in
-    goes_on g.D.Disk.moment g.D.Disk.may_leave g.D.Disk.left_since c.args.disk.now c.write_bodies.new.disk c.write_open_gates.new.disk P
-    (goes_on g.D.Disk.moment g.D.Disk.may_leave g.D.Disk.left_since c.args.disk.now c.see_gates_closed.new.disk c.write_bodies.new.disk P
-    (leaves_weaker g.D.Disk.moment g.D.Disk.may_leave g.D.Disk.left_since c.args.disk.now c.see_gates_closed.new.disk IsBlank P (λ i blank. inl blank) (c.in_ok-see_gates_closed.ensures.images rest))
-    (leaves_weaker g.D.Disk.moment g.D.Disk.may_leave g.D.Disk.left_since c.see_gates_closed.new.disk c.write_bodies.new.disk BothClosed P (λ i both. inl (inr (both.first, both.second))) (c.in_ok-write_bodies.ensures.images closed)))
+    goes_on (g.D.Disk.view c.args.disk.now) (g.D.Disk.view c.write_bodies.new.disk) (g.D.Disk.view c.write_open_gates.new.disk) P
+    (goes_on (g.D.Disk.view c.args.disk.now) (g.D.Disk.view c.see_gates_closed.new.disk) (g.D.Disk.view c.write_bodies.new.disk) P
+    (leaves_weaker (g.D.Disk.view c.args.disk.now) (g.D.Disk.view c.see_gates_closed.new.disk) IsBlank P (λ i blank. inl blank) (c.in_ok-see_gates_closed.ensures.images rest))
+    (leaves_weaker (g.D.Disk.view c.see_gates_closed.new.disk) (g.D.Disk.view c.write_bodies.new.disk) BothClosed P (λ i both. inl (inr (both.first, both.second))) (c.in_ok-write_bodies.ensures.images closed)))
     (c.in_ok-write_open_gates.ensures.images c.args.root.now ready)

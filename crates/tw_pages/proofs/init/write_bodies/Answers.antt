@@ -10,6 +10,6 @@ use Rattle.tw_pages.proofs.init.write_bodies.Goals as goal
 pub returns-clause-ready : goal.returns-clause-ready
 returns-clause-ready g c = λ rest.
     let root = c.args.root.now in
-    pair_rests g.D.Disk.content g.D.Disk.may_leave c.args.disk.now c.write_pair_durably.new.disk 2 (body_page 1 4 root) 3 (body_page 0 4 root) BothClosed (λ i. BothClosed i × HasBodies root i) rest
-    (c.in_ok-write_pair_durably.ensures.written ∙ (λ i. option_map (put 3 (c.body-2.ensures i)) (option_map (put 2 (c.body.ensures i)) (g.D.Disk.content c.args.disk.now))))
+    pair_rests (g.D.Disk.view c.args.disk.now) (g.D.Disk.view c.write_pair_durably.new.disk) 2 (body_page 1 4 root) 3 (body_page 0 4 root) BothClosed (λ i. BothClosed i × HasBodies root i) rest
+    (c.in_ok-write_pair_durably.ensures.written ∙ (λ i. option_map (put 3 (c.body-2.ensures i)) (option_map (put 2 (c.body.ensures i)) (g.D.Disk.view c.args.disk.now).content)))
     c.in_ok-write_pair_durably.ensures.durable (bodies_stand root rest.image c.requires.root rest.has)

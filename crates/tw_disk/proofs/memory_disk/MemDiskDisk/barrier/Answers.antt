@@ -22,4 +22,5 @@ returns-in-Ok-clause-crash c =
 pub returns-in-Ok-clause-time : goal.returns-in-Ok-clause-time
 returns-in-Ok-clause-time c =
     let pages = c.args.self.now.pages.items in
-    elapses _ _ _ _ BarrierCall (gains_call _ _ Barrier pages pages c.in-Ok.ensures.ok refl tt)
+    let time = elapses _ _ _ _ BarrierCall (gains_call _ _ Barrier pages pages c.in-Ok.ensures.ok refl tt) in
+    record { later = time.later; nothing_else = time.nothing_else; keeps = time.keeps }

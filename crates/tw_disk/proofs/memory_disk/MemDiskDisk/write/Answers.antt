@@ -30,4 +30,6 @@ pub returns-in-Ok-clause-crash : goal.returns-in-Ok-clause-crash
 returns-in-Ok-clause-crash c = write_crash _ _ _ _ c.args.self.now.calls_fit c.args.page c.args.from.now c.in-Ok.ensures.gains c.requires
 
 pub returns-in-Ok-clause-time : goal.returns-in-Ok-clause-time
-returns-in-Ok-clause-time c = elapses _ _ _ _ (Write c.args.page c.args.from.now) c.in-Ok.ensures.gains
+returns-in-Ok-clause-time c =
+    let time = elapses _ _ _ _ (Write c.args.page c.args.from.now) c.in-Ok.ensures.gains in
+    record { later = time.later; nothing_else = time.nothing_else; keeps = time.keeps }
