@@ -1,5 +1,5 @@
 -- What one call of a disk in memory does, where its list of kept calls gains that call.
-use Rattle.std.specs.Prelude.{◌≡◌, ℕ, ◌≤◌, List, [], ◌∷◌, ◌++◌, length, Some, refl, suc, slice_set}
+use Rattle.std.specs.Prelude.{◌≡◌, ◌⊎◌, ℕ, ◌≤◌, List, [], ◌∷◌, ◌++◌, length, Some, refl, suc, slice_set}
 use Rattle.std.proofs.Common.{◌-◌, arith, subst, sym, ap, ◌∙◌, length-append, get_or, take}
 use Rattle.std.proofs.lemmas.List.{get_or-take, get_or-set_other, length-set, length-take, get_or-append_right}
 use Rattle.std.proofs.Math.Seq.{take-append_seam}
@@ -8,7 +8,7 @@ use Rattle.tw_disk.specs.Disk.{Only, Follows}
 use Rattle.tw_disk.specs.Put.{torn_put, put-back}
 use Rattle.tw_disk.specs.Model.{DeviceCall, Write, Written, at_rest, step, after, IsImage, Since}
 use Rattle.tw_disk.specs.Model.{Barrier as BarrierCall}
-use Rattle.tw_disk.specs.Laws.{Elapses, after-push, grown_after, image_now, write_follows, barrier_only, barrier_image, elapses_push}
+use Rattle.tw_disk.specs.Laws.{after-push, grown_after, image_now, write_follows, barrier_only, barrier_image, nothing_else_push, keeps_push, at_rest_only, since_rest, rest_since}
 use Rattle.tw_disk.specs.Kept.{undone, earlier, with_bytes, calls_of, written_of, Fits, AllFit, Gains}
 use Rattle.tw_disk.specs.declared.call.Call.{Call}
 use Rattle.tw_disk.specs.declared.call.Call.TheVariants.{Overwrite, Append, Barrier}
@@ -20,6 +20,10 @@ earlier-push (c ∷ calls) call image = ap (λ (i : Image). undone c i) (earlier
 calls_of-push : (calls : List Call) (call : Call) (image : Image) → calls_of (calls ++ call ∷ []) image ≡ calls_of calls (undone call image) ++ with_bytes call image ∷ []
 calls_of-push [] call image = refl
 calls_of-push (c ∷ calls) call image = λ i. with_bytes c (earlier-push calls call image i) ∷ calls_of-push calls call image i
+
+pub length-calls_of : (calls : List Call) (image : Image) → length (calls_of calls image) ≡ length calls
+length-calls_of [] image = refl
+length-calls_of (c ∷ calls) image = ap suc (length-calls_of calls image)
 
 fits-push : (calls : List Call) (call : Call) (image : Image) → AllFit calls (undone call image) → Fits call image → AllFit (calls ++ call ∷ []) image
 fits-push [] call image all fits = (fits, tt)
@@ -63,18 +67,28 @@ module _ (old_calls : List Call) (old : Image) (new_calls : List Call) (new : Im
   pub state : written_of new_calls new ≡ step (written_of old_calls old) call
   state = (λ i. after (at_rest (gains.base i)) (gains.calls i)) ∙ after-push (at_rest (earlier old_calls old)) (calls_of old_calls old) call
 
-  pub elapses : Elapses (length (calls_of old_calls old)) (length (calls_of new_calls new)) (Since (earlier old_calls old) (calls_of old_calls old)) (Since (earlier new_calls new) (calls_of new_calls new)) (IsImage (written_of new_calls new))
-  elapses =
+  pub nothing_else : (t : ℕ) (c : Image) → Since (earlier new_calls new) (calls_of new_calls new) t c → Since (earlier old_calls old) (calls_of old_calls old) t c ⊎ IsImage (written_of new_calls new) c
+  nothing_else t c =
       let base = earlier old_calls old in
       let calls = calls_of old_calls old in
-      let P : Image → List DeviceCall → Type 0 = λ b l. Elapses (length calls) (length l) (Since base calls) (Since b l) (IsImage (after (at_rest b) l)) in
-      subst (λ (b : Image). P b (calls_of new_calls new)) (sym gains.base) (subst (λ (l : List DeviceCall). P base l) (sym gains.calls) (elapses_push base calls call))
+      let P : Image → List DeviceCall → Type 0 = λ b l. Since b l t c → Since base calls t c ⊎ IsImage (after (at_rest b) l) c in
+      subst (λ (b : Image). P b (calls_of new_calls new)) (sym gains.base) (subst (λ (l : List DeviceCall). P base l) (sym gains.calls) (nothing_else_push base calls call t c))
+
+  pub keeps : (t : ℕ) (c : Image) → Since (earlier old_calls old) (calls_of old_calls old) t c → Since (earlier new_calls new) (calls_of new_calls new) t c
+  keeps t c =
+      let base = earlier old_calls old in
+      let calls = calls_of old_calls old in
+      let P : Image → List DeviceCall → Type 0 = λ b l. Since base calls t c → Since b l t c in
+      subst (λ (b : Image). P b (calls_of new_calls new)) (sym gains.base) (subst (λ (l : List DeviceCall). P base l) (sym gains.calls) (keeps_push base calls call t c))
 
   stepped : (c : Image) → IsImage (written_of new_calls new) c → IsImage (step (written_of old_calls old) call) c
   stepped c image = subst (λ (s : Written). IsImage s c) state image
 
-  pub time_goes_on : length (calls_of new_calls new) ≡ suc (length (calls_of old_calls old))
-  time_goes_on = ap length gains.calls ∙ omega (arith, length-append (calls_of old_calls old) (call ∷ []))
+  pub one_more : length (calls_of new_calls new) ≡ suc (length (calls_of old_calls old))
+  one_more = ap length gains.calls ∙ omega (arith, length-append (calls_of old_calls old) (call ∷ []))
+
+  pub one_longer : length new_calls ≡ suc (length old_calls)
+  one_longer = sym (length-calls_of new_calls new) ∙ one_more ∙ ap suc (length-calls_of old_calls old)
 
 module _ (old_calls : List Call) (old : Image) (new_calls : List Call) (new : Image) (all : AllFit old_calls old) where
   shorter : length (written_of old_calls old).settled ≤ length (written_of old_calls old).now
@@ -116,3 +130,13 @@ gains_append calls new_calls page old new bytes is added here =
     let last : page_at new page ≡ page_at (old ++ bytes ∷ []) (length old) = λ i. page_at (added i) (here i) in
     let read : page_at new page ≡ bytes = last ∙ get_or-append_right old (bytes ∷ []) (length old) (length old) [] refl (omega arith) ∙ ap (λ (j : ℕ). get_or (bytes ∷ []) j []) start in
     gains_overwrite calls new_calls (Append page) (length old) old new bytes is back size (λ i. Write (here i) (read i))
+
+-- a disk that keeps no call is at rest: a crash leaves what it reads, now or at any moment since the last crash
+pub rested : (calls : List Call) (image c : Image) → calls ≡ [] → IsImage (written_of calls image) c → c ≡ image
+rested calls image c none is = at_rest_only image c (subst (λ (l : List Call). IsImage (written_of l image) c) none is)
+
+pub since_rested : (calls : List Call) (image : Image) (t : ℕ) (c : Image) → calls ≡ [] → Since (earlier calls image) (calls_of calls image) t c → c ≡ image
+since_rested calls image t c none since = since_rest image t c (subst (λ (l : List Call). Since (earlier l image) (calls_of l image) t c) none since)
+
+pub rested_since : (calls : List Call) (image : Image) (t : ℕ) (c : Image) → calls ≡ [] → t ≡ 0 → c ≡ image → Since (earlier calls image) (calls_of calls image) t c
+rested_since calls image t c none start is = subst (λ (l : List Call). Since (earlier l image) (calls_of l image) t c) (sym none) (rest_since image t c start is)

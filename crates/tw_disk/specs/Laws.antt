@@ -1,5 +1,5 @@
 -- What holds of a disk after each list of calls.
-use Rattle.std.specs.Prelude.{◌≡◌, ◌≢◌, ◌⊎◌, ℕ, zero, suc, ◌<◌, ◌≤◌, min, List, [], ◌∷◌, ◌++◌, length, take, refl, replicate}
+use Rattle.std.specs.Prelude.{◌≡◌, ◌≢◌, ◌⊎◌, ◌+◌, ◌-◌, ℕ, zero, suc, ◌<◌, ◌≤◌, min, List, [], ◌∷◌, ◌++◌, length, take, refl, replicate}
 use Rattle.std.proofs.Common.{arith, subst, sym, ap, ◌∙◌, length-append, inl, inr}
 use Rattle.std.proofs.Math.ListN.{set}
 use Rattle.std.proofs.Math.Seq.{take-length}
@@ -100,45 +100,54 @@ pub barrier_image : (s : Written) (c : Image) → length s.settled ≤ length s.
 barrier_image s c firm image = record { at_least = omega (arith, image.at_least); at_most = image.at_most; others = λ k lt untouched. image.others k lt tt }
 
 -- this moment is one of those since an earlier one
-pub since_now : (base : Image) (calls : List DeviceCall) (t : ℕ) (c : Image) → t ≤ length calls → IsImage (after (at_rest base) calls) c → Since base calls t c
-since_now base calls t c le image = record {
+pub since_now : (crashed_at : ℕ) (base : Image) (calls : List DeviceCall) (t : ℕ) (c : Image) → t ≤ crashed_at + length calls → IsImage (after (at_rest base) calls) c → Since base calls (t - crashed_at) c
+since_now crashed_at base calls t c le image = record {
   at = length calls;
-  from = le;
+  from = omega (arith, le);
   to = omega arith;
   image = subst (λ (l : List DeviceCall). IsImage (after (at_rest base) l) c) (sym (take-length calls)) image;
 }
 
 -- since this moment there is no other
-pub only_now : (base : Image) (calls : List DeviceCall) (c : Image) → Since base calls (length calls) c → IsImage (after (at_rest base) calls) c
-only_now base calls c since = subst (λ (l : List DeviceCall). IsImage (after (at_rest base) l) c) (take_all since.at calls (omega (arith, since.from))) since.image
+pub only_now : (crashed_at : ℕ) (base : Image) (calls : List DeviceCall) (c : Image) → Since base calls (crashed_at + length calls - crashed_at) c → IsImage (after (at_rest base) calls) c
+only_now crashed_at base calls c since = subst (λ (l : List DeviceCall). IsImage (after (at_rest base) l) c) (take_all since.at calls (omega (arith, since.from))) since.image
 
--- one moment after another, over the same images since earlier ones
-pub record Elapses (before now : ℕ) (past since : ℕ → Image → Type 0) (may_leave : Image → Type 0) : Type 0 where
-  pub later : before ≤ now
-  pub nothing_else : (t : ℕ) (c : Image) → t ≤ before → since t c → past t c ⊎ may_leave c
-  pub keeps : (t : ℕ) (c : Image) → t ≤ before → past t c → since t c
+-- one call more, which ends at this moment
+module _ (base : Image) (calls : List DeviceCall) (call : DeviceCall) where
+  one_longer : length (calls ++ call ∷ []) ≡ suc (length calls)
+  one_longer = omega (arith, length-append calls (call ∷ []))
 
--- one call more
-pub elapses_push : (base : Image) (calls : List DeviceCall) (call : DeviceCall) → Elapses (length calls) (length (calls ++ call ∷ [])) (Since base calls) (Since base (calls ++ call ∷ [])) (IsImage (after (at_rest base) (calls ++ call ∷ [])))
-elapses_push base calls call = record {
-  later = omega (arith, size);
-  nothing_else = λ t c le since. split t c since (cases_eq since.at (suc (length calls)));
-  keeps = λ t c le since. record {
+  pub nothing_else_push : (t : ℕ) (c : Image) → Since base (calls ++ call ∷ []) t c → Since base calls t c ⊎ IsImage (after (at_rest base) (calls ++ call ∷ [])) c
+  nothing_else_push t c since = split (cases_eq since.at (suc (length calls)))
+    where
+      split : (since.at ≡ suc (length calls)) ⊎ (since.at ≢ suc (length calls)) → Since base calls t c ⊎ IsImage (after (at_rest base) (calls ++ call ∷ [])) c
+      split (inl is) = inr (subst (λ (l : List DeviceCall). IsImage (after (at_rest base) l) c) (take_all since.at (calls ++ call ∷ []) (omega (arith, one_longer))) since.image)
+      split (inr ne) = let le : since.at ≤ length calls = omega (arith, one_longer, since.to) in inl (record {
+        at = since.at;
+        from = since.from;
+        to = le;
+        image = subst (λ (l : List DeviceCall). IsImage (after (at_rest base) l) c) (take-append-le since.at calls (call ∷ []) le) since.image;
+      })
+
+  pub keeps_push : (t : ℕ) (c : Image) → Since base calls t c → Since base (calls ++ call ∷ []) t c
+  keeps_push t c since = record {
     at = since.at;
     from = since.from;
-    to = omega (arith, size, since.to);
+    to = omega (arith, one_longer, since.to);
     image = subst (λ (l : List DeviceCall). IsImage (after (at_rest base) l) c) (sym (take-append-le since.at calls (call ∷ []) since.to)) since.image;
-  };
-}
-  where
-    size : length (calls ++ call ∷ []) ≡ suc (length calls)
-    size = omega (arith, length-append calls (call ∷ []))
+  }
 
-    split : (t : ℕ) (c : Image) → (since : Since base (calls ++ call ∷ []) t c) → (since.at ≡ suc (length calls)) ⊎ (since.at ≢ suc (length calls)) → Since base calls t c ⊎ IsImage (after (at_rest base) (calls ++ call ∷ [])) c
-    split t c since (inl is) = inr (subst (λ (l : List DeviceCall). IsImage (after (at_rest base) l) c) (take_all since.at (calls ++ call ∷ []) (omega (arith, size))) since.image)
-    split t c since (inr ne) = let le : since.at ≤ length calls = omega (arith, size, since.to) in inl (record {
-      at = since.at;
-      from = since.from;
-      to = le;
-      image = subst (λ (l : List DeviceCall). IsImage (after (at_rest base) l) c) (take-append-le since.at calls (call ∷ []) le) since.image;
-    })
+-- a disk that was just crashed has this image alone, at each moment from an earlier one on
+pub at_rest_only : (image : Image) (c : Image) → IsImage (at_rest image) c → c ≡ image
+at_rest_only image c is = barrier_only (at_rest image) c is
+
+pub since_rest : (image : Image) (t : ℕ) (c : Image) → Since image [] t c → c ≡ image
+since_rest image t c since = at_rest_only image c (subst (λ (l : List DeviceCall). IsImage (after (at_rest image) l) c) (take_all since.at [] (omega arith)) since.image)
+
+pub rest_since : (image : Image) (t : ℕ) (c : Image) → t ≡ 0 → c ≡ image → Since image [] t c
+rest_since image t c start is = record {
+  at = 0;
+  from = omega (arith, start);
+  to = omega arith;
+  image = subst (λ (i : Image). IsImage (at_rest image) i) (sym is) (image_now (at_rest image) (grown_after image []));
+}

@@ -1,5 +1,5 @@
 -- What a disk in memory shows.
-use Rattle.std.specs.Prelude.{◌≡◌, ℕ, List, Option, Some, Bool, length}
+use Rattle.std.specs.Prelude.{◌≡◌, ◌+◌, ◌-◌, ℕ, List, Option, Some, Bool, length}
 use Rattle.tw_disk.specs.Image.{Image}
 use Rattle.tw_disk.specs.Disk.{DiskView}
 use Rattle.tw_disk.specs.Model.{DeviceCall, Written, IsImage, Since}
@@ -29,13 +29,13 @@ count_of disk = Some (length disk.pages.items)
 abbrev pub may_leave_of : MemDisk → Image → Type 0
 may_leave_of disk c = IsImage (written_of disk.calls.items disk.pages.items) c
 
--- the moment is the number of the writes and barriers that it keeps
+-- the moment is the number of the writes and barriers that it ever kept: those up to the last crash, and those that it keeps
 abbrev pub moment_of : MemDisk → ℕ
-moment_of disk = length (calls_of disk.calls.items disk.pages.items)
+moment_of disk = disk.crashed_at + length (calls_of disk.calls.items disk.pages.items)
 
--- the images that a crash at some moment from that one on may have left
+-- the images that a crash at some moment from that one on, and from the last crash on, may have left
 abbrev pub left_since_of : MemDisk → ℕ → Image → Type 0
-left_since_of disk t c = Since (earlier disk.calls.items disk.pages.items) (calls_of disk.calls.items disk.pages.items) t c
+left_since_of disk t c = Since (earlier disk.calls.items disk.pages.items) (calls_of disk.calls.items disk.pages.items) (t - disk.crashed_at) c
 
 -- how often it has failed
 abbrev pub faults_of : MemDisk → ℕ
@@ -84,6 +84,7 @@ is_stopped disk = disk.is_stopped
 pub record IsSameMemDisk (old new : MemDisk) : Type 0 where
   pub pages : new.pages.items ≡ old.pages.items
   pub calls : new.calls.items ≡ old.calls.items
+  pub crashed_at : new.crashed_at ≡ old.crashed_at
   pub faults : new.faults ≡ old.faults
   pub made : new.device.made ≡ old.device.made
   pub asks : new.asks.made ≡ old.asks.made

@@ -9,18 +9,20 @@ use crate::Disk;
 use crate::call::Call;
 use crate::crash::leave;
 use crate::fail_list::FailList;
-use std::alloc::{AllocError, Global};
+use std::alloc::Global;
 use tw_base::{Failed, NoMemory};
 
 /// A disk in memory, which tells its content and keeps all its writes and barriers since it was made or crashed.
 ///
-/// Of each write it keeps the bytes that the write replaced, so what every earlier read gave, and what each crash might have left, follows
-/// from what it keeps; each page that was written is held once for what reads give and once for each write that replaced it.
-/// A write or barrier that finds no memory counts a fault and answers `Failed`, and changes nothing.
+/// Of each write it keeps the bytes that the write replaced, so what every read since then gave, and what each crash since then might have
+/// left, follows from what it keeps; each page that was written is held once for what reads give and once for each write that replaced it.
+/// A write or barrier that finds no memory counts a fault and answers `Failed`, and changes nothing; so does one that would be
+/// number 2^64 of those that were kept ever, crashes or not. Their number is the moment.
 #[derive(Drop)]
 pub struct MemDisk {
     pages: Vec<[u8; 4096]>,
     calls: Vec<Call>,
+    crashed_at: u64,
     device: FailList,
     asks: FailList,
     reads: u64,
@@ -28,6 +30,7 @@ pub struct MemDisk {
     is_stopped: bool,
     faults: u64,
     alloc: Global,
+    ghost counted: { crashed_at + length calls.items < 2 ^ 64 },
     ghost calls_fit: { AllFit calls.items pages.items } by { all_fit-prop calls.items pages.items },
 }
 
@@ -38,7 +41,7 @@ fn overwrite(
     alloc: Global,
     place: usize,
     from: &[u8; 4096],
-) -> Result<(), AllocError>
+) -> Result<(), NoMemory>
     requires { place < vec_len pages.old }
     ensures gains { OnOk result (Gains (Write place from.now) calls.old.items pages.old.items calls.new.items pages.new.items) }
     ensures pages { OnOk result (pages.new.items ≡ put place from.now pages.old.items) }
@@ -59,7 +62,7 @@ fn append(
     calls: &mut Vec<Call>,
     pages: &mut Vec<[u8; 4096]>,
     from: &[u8; 4096],
-) -> Result<(), AllocError>
+) -> Result<(), NoMemory>
     ensures gains { OnOk result (Gains (Write (length pages.old.items) from.now) calls.old.items pages.old.items calls.new.items pages.new.items) }
     ensures pages { OnOk result (pages.new.items ≡ put (length pages.old.items) from.now pages.old.items) }
     ensures calls_err { OnErr result (calls.new.items ≡ calls.old.items) }
@@ -72,20 +75,33 @@ fn append(
     Ok(())
 }
 
-// Makes a write and keeps it, or does neither where there is no memory.
+// Sees that one call more can be counted, after those up to the last crash and those kept since.
+fn see_countable(crashed_at: u64, calls: &Vec<Call>) -> Result<(), NoMemory>
+    ensures { OnOk result (crashed_at + length calls.now.items + 1 < 2 ^ 64) }
+{
+    if calls.len() as u64 >= u64::MAX - crashed_at {
+        return Err(NoMemory);
+    }
+    Ok(())
+}
+
+// Makes a write and keeps it, or does neither where there is no memory or the call can't be counted.
 fn keep_write(
+    crashed_at: u64,
     calls: &mut Vec<Call>,
     pages: &mut Vec<[u8; 4096]>,
     alloc: Global,
     page: u64,
     from: &[u8; 4096],
-) -> Result<(), AllocError>
+) -> Result<(), NoMemory>
     requires { page ≤ vec_len pages.old }
+    ensures counted { OnOk result (crashed_at + length calls.old.items + 1 < 2 ^ 64) }
     ensures gains { OnOk result (Gains (Write page from.now) calls.old.items pages.old.items calls.new.items pages.new.items) }
     ensures pages { OnOk result (pages.new.items ≡ put page from.now pages.old.items) }
     ensures calls_err { OnErr result (calls.new.items ≡ calls.old.items) }
     ensures pages_err { OnErr result (pages.new.items ≡ pages.old.items) }
 {
+    see_countable(crashed_at, calls)?;
     let place = page as usize;
     if place < pages.len() {
         overwrite(calls, pages, alloc, place, from)
@@ -94,11 +110,13 @@ fn keep_write(
     }
 }
 
-// Keeps a good barrier, or nothing where there is no memory.
-fn keep_barrier(calls: &mut Vec<Call>) -> Result<(), AllocError>
+// Keeps a good barrier, or nothing where there is no memory or the call can't be counted.
+fn keep_barrier(crashed_at: u64, calls: &mut Vec<Call>) -> Result<(), NoMemory>
+    ensures counted { OnOk result (crashed_at + length calls.old.items + 1 < 2 ^ 64) }
     ensures ok { OnOk result (calls.new.items ≡ calls.old.items ++ Call.Barrier ∷ []) }
     ensures err { OnErr result (calls.new.items ≡ calls.old.items) }
 {
+    see_countable(crashed_at, calls)?;
     calls.push(Call::Barrier)?;
     Ok(())
 }
@@ -138,13 +156,16 @@ fn answer(faults: &mut u64, is_to_fail: bool) -> Result<(), Failed>
 }
 
 impl MemDisk {
-    ghost use Rattle.tw_disk.specs.MemDisk.{pages_of, device_calls_of, state_of, faults_of, made_of, reads_of, failing_of, failing_reads_of, asks_of, stop_of, is_stopped, IsSameMemDisk};
+    ghost use Rattle.tw_disk.specs.Image.{Image};
+    ghost use Rattle.tw_disk.specs.Disk.{IsAtRest, LeavesOnly};
+    ghost use Rattle.tw_disk.specs.MemDisk.{pages_of, device_calls_of, state_of, view_of, may_leave_of, moment_of, left_since_of, faults_of, made_of, reads_of, failing_of, failing_reads_of, asks_of, stop_of, is_stopped, IsSameMemDisk};
     ghost use Rattle.tw_disk.specs.Model.{outcome};
 
     /// A disk without a page. It takes no memory yet.
     pub fn new(alloc: Global) -> Self
         ensures pages { pages_of result ≡ [] }
         ensures calls { device_calls_of result ≡ [] }
+        ensures moment { moment_of result ≡ 0 }
         ensures faults { faults_of result ≡ 0 }
         ensures made { made_of result ≡ 0 }
         ensures reads { reads_of result ≡ 0 }
@@ -154,6 +175,7 @@ impl MemDisk {
         MemDisk {
             pages: Vec::new(alloc),
             calls: Vec::new(alloc),
+            crashed_at: 0,
             device: FailList::new(alloc),
             asks: FailList::new(alloc),
             reads: 0,
@@ -219,11 +241,19 @@ impl MemDisk {
     ///
     /// The pages written since the last good barrier have: 0 their old bytes, and the page count of that barrier holds; 1 their new bytes;
     /// 2 zeros; 3 bytes of the value 1. With 1 to 3 the last page count holds. It takes no memory.
+    ///
+    /// The clock goes on, and isn't set back: the moment is the same. Of the time before the crash the disk then tells no more than what
+    /// was left in it: since each moment up to that of the crash, a crash may have left this image alone. So a run that ends in a crash
+    /// leaves only what the disk might have left before it, and the next run begins at rest, at that moment.
     pub fn crash(&mut self, choice: u8)
         requires { choice ≤ 3 }
 
         // The disk then reads as one of the images that the model allows.
         ensures image { IsImage (state_of self.old) (pages_of self.new) }
+        ensures rests { IsAtRest (view_of self.new) (may_leave_of self.old) }
+        ensures moment { moment_of self.new ≡ moment_of self.old }
+        ensures since { (t : ℕ) (c : Image) → t ≤ moment_of self.new → left_since_of self.new t c ↔ (c ≡ pages_of self.new) }
+        ensures leaves { LeavesOnly (view_of self.old) (view_of self.new) (may_leave_of self.old) }
         ensures outcome { pages_of self.new ≡ outcome choice (state_of self.old) }
         ensures stable { device_calls_of self.new ≡ [] }
         ensures runs { (stop_of self.new ≡ None) × (is_stopped self.new ≡ false) }
@@ -232,6 +262,7 @@ impl MemDisk {
         ensures counts { (faults_of self.new ≡ faults_of self.old) × (made_of self.new ≡ made_of self.old)
             × (asks_of self.new ≡ asks_of self.old) × (reads_of self.new ≡ reads_of self.old) }
     {
+        self.crashed_at += self.calls.len() as u64;
         leave(&mut self.pages, &mut self.calls, choice);
         self.calls.clear();
         self.stop = None;
@@ -254,9 +285,9 @@ impl Disk for MemDisk {
 
     ghost as_it_reads = { λ disk c is. told_image disk.calls.items disk.pages.items c disk.calls_fit is };
 
-    ghost counts_now = { λ disk t c le image. since_now (earlier disk.calls.items disk.pages.items) (calls_of disk.calls.items disk.pages.items) t c le image };
+    ghost counts_now = { λ disk t c le image. since_now disk.crashed_at (earlier disk.calls.items disk.pages.items) (calls_of disk.calls.items disk.pages.items) t c le image };
 
-    ghost only_now = { λ disk c since. only_now (earlier disk.calls.items disk.pages.items) (calls_of disk.calls.items disk.pages.items) c since };
+    ghost only_now = { λ disk c since. only_now disk.crashed_at (earlier disk.calls.items disk.pages.items) (calls_of disk.calls.items disk.pages.items) c since };
 
     fn pages(&mut self) -> Result<u64, Failed>
         ensures told { IfOk result (λ n. count_of self.new ≡ Some n) }
@@ -322,7 +353,14 @@ impl Disk for MemDisk {
         if was_stopped {
             return Err(count_fault(&mut self.faults));
         }
-        match keep_write(&mut self.calls, &mut self.pages, self.alloc, page, from) {
+        match keep_write(
+            self.crashed_at,
+            &mut self.calls,
+            &mut self.pages,
+            self.alloc,
+            page,
+            from,
+        ) {
             Ok(()) => answer(&mut self.faults, fails),
             Err(_) => Err(count_fault(&mut self.faults)),
         }
@@ -347,7 +385,7 @@ impl Disk for MemDisk {
         if is_to_fail(&mut self.device, self.stop, &mut self.is_stopped) {
             return Err(count_fault(&mut self.faults));
         }
-        match keep_barrier(&mut self.calls) {
+        match keep_barrier(self.crashed_at, &mut self.calls) {
             Ok(()) => Ok(()),
             Err(_) => Err(count_fault(&mut self.faults)),
         }
