@@ -1,6 +1,12 @@
--- Views of a disk that hold the same, one after another. These lemmas stand in specs/ since the laws of an impl cite them.
+-- Disks that tell no content, and views that hold the same. These lemmas stand in specs/ since the laws of an impl cite them.
+use Rattle.std.specs.Prelude.{◌≡◌, None, Some, Option}
 use Rattle.std.proofs.Common.{◌∙◌, refl, arith}
 use Rattle.tw_disk.specs.Disk.{DiskView, IsSameDisk}
+use Rattle.tw_disk.specs.Image.{Image}
+
+-- where nothing is told, whatever follows from what is told holds
+pub no_content : (c : Image) (P : Type 0) → (let none : Option Image = None in none ≡ Some c) → P
+no_content c P is = cc
 
 pub same_disk : (disk : DiskView) → IsSameDisk disk disk
 same_disk disk = record { content = refl; images = λ c. (λ left. left, λ left. left); later = omega arith; images_since = λ t c le. (λ left. left, λ left. left) }

@@ -3,7 +3,7 @@ use Rattle.std.specs.Prelude.{◌≡◌, ◌+◌, ◌-◌, ℕ, List, Option, So
 use Rattle.tw_disk.specs.Image.{Image}
 use Rattle.tw_disk.specs.Disk.{DiskView}
 use Rattle.tw_disk.specs.Model.{DeviceCall, Written, IsImage, Since}
-use Rattle.tw_disk.specs.Kept.{earlier, calls_of, written_of}
+use Rattle.tw_disk.specs.KeptCalls.{earlier, calls_of, written_of}
 use Rattle.tw_disk.specs.declared.memory_disk.MemDisk.{MemDisk}
 
 -- what reads give

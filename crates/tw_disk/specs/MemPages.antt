@@ -1,6 +1,5 @@
 -- What a list of pages in memory shows.
-use Rattle.std.specs.Prelude.{◌≡◌, ◌≤◌, ℕ, List, length, drop, ◌+◌, Option, Some}
-use Rattle.std.proofs.Common.{arith, ap, length-drop}
+use Rattle.std.specs.Prelude.{ℕ, List, length, drop, Option, Some}
 use Rattle.tw_disk.specs.Image.{Image}
 use Rattle.tw_disk.specs.declared.memory_pages.MemPages.{MemPages}
 
@@ -39,6 +38,3 @@ asks_of pages = pages.asks.made
 -- how often a read has failed
 abbrev pub faults_of : MemPages → ℕ
 faults_of pages = pages.faults
-
-pub told_used : (all pages : Image) → 4 ≤ length all → Some (drop 4 all) ≡ Some pages → length all ≡ 4 + length pages
-told_used all pages le is = let same : drop 4 all ≡ pages = cc in omega (arith, le, ap length same, length-drop 4 all)

@@ -13,7 +13,7 @@ pub enum Call {
 
 impl Call {
     ghost use Rattle.std.specs.Prelude.{◌≡◌, ◌∷◌, [], ℕ, List, MatchOption};
-    ghost use Rattle.tw_disk.specs.Loose.{loose_of};
+    ghost use Rattle.tw_disk.specs.LooseSteps.{loose_of};
 
     // The page that it wrote, if it is a write.
     pub fn page_written(self) -> Option<u64>

@@ -1,8 +1,8 @@
 // What a crash of a disk in memory leaves.
 ghost use Rattle.std.specs.Prelude.{◌≡◌, ◌≤◌, [], length};
 ghost use Rattle.tw_disk.specs.Model.{spoilt, outcome};
-ghost use Rattle.tw_disk.specs.Kept.{written_of, AllFit};
-ghost use Rattle.tw_disk.specs.Loose.{loose_of, AllBelow};
+ghost use Rattle.tw_disk.specs.KeptCalls.{written_of, AllFit};
+ghost use Rattle.tw_disk.specs.LooseSteps.{loose_of, AllBelow};
 
 use crate::call::Call;
 

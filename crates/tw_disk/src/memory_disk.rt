@@ -3,7 +3,8 @@ ghost use Rattle.std.specs.Prelude.{◌≡◌, ◌⊎◌, ◌↔◌, ◌<◌, �
 ghost use Rattle.tw_disk.specs.Image.{put, page_at};
 ghost use Rattle.tw_base.specs.Faults.{HasCause, Rose};
 ghost use Rattle.tw_disk.specs.Model.{Write, Barrier, IsImage, Since};
-ghost use Rattle.tw_disk.specs.Kept.{earlier, calls_of, written_of, AllFit, all_fit-prop, Gains};
+ghost use Rattle.tw_disk.specs.KeptCalls.{earlier, calls_of, written_of, AllFit, Gains};
+ghost use Rattle.tw_disk.specs.MemDiskSteps.{all_fit-prop};
 
 use crate::Disk;
 use crate::call::Call;
@@ -271,8 +272,7 @@ impl MemDisk {
 }
 
 impl Disk for MemDisk {
-    ghost use Rattle.tw_disk.specs.Calls.{told_count, told_image};
-    ghost use Rattle.tw_disk.specs.Laws.{since_now, only_now};
+    ghost use Rattle.tw_disk.specs.MemDiskSteps.{told_count, told_image, since_now, only_now};
     ghost use Rattle.std.specs.Prelude.{IfOk, IfSome, MatchOption};
     ghost use Rattle.std.specs.Option.{option_map, IsSomeAnd};
     ghost use Rattle.tw_disk.specs.Image.{Image, Torn};

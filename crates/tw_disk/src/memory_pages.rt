@@ -62,7 +62,8 @@ impl Pages for MemPages {
     ghost use Rattle.tw_disk.specs.Image.{Image, page_at};
     ghost use Rattle.tw_base.specs.Faults.{HasCause};
     ghost use Rattle.tw_disk.specs.Pages.{OnlyReads};
-    ghost use Rattle.tw_disk.specs.MemPages.{list_of, count_of, reads_of, failing_of, asks_of, faults_of, IsSame, IsUnbroken, told_used};
+    ghost use Rattle.tw_disk.specs.MemPages.{list_of, count_of, reads_of, failing_of, asks_of, faults_of, IsSame, IsUnbroken};
+    ghost use Rattle.tw_disk.specs.MemPagesSteps.{told_used};
 
     ghost list = { list_of };
 

@@ -1,6 +1,6 @@
 // A disk that tells no content, as one over a real file is.
 ghost use Rattle.std.specs.Prelude.{◌≡◌, ◌-◌, ◌^◌, ℕ, None, Some};
-ghost use Rattle.tw_disk.specs.Untold.{no_content};
+ghost use Rattle.tw_disk.specs.DiskSteps.{no_content};
 
 use crate::{Disk, Failed};
 

@@ -2,7 +2,7 @@
 ghost use Rattle.std.specs.Prelude.{Some, None, ⊤};
 ghost use Rattle.tw_outside.specs.Memory.{files_of, input_faults, bytes_taken, sink_faults};
 
-use crate::{Inputs, MemInputs, MemSink, PIECE, ReadFault, Sink, read_all, read_piece, write_all};
+use crate::{InputFault, Inputs, MemInputs, MemSink, PIECE, Sink, read_all, read_piece, write_all};
 use std::alloc::{AllocError, Global};
 use std::test::Fail;
 use tw_base::Failed;
@@ -142,7 +142,7 @@ fn a_file_that_is_not_there_is_a_fault(rt: HostRuntime) -> Result<(), Fail> {
         let answer = read_all(rt.alloc(), &mut inputs, "other", limit);
         assert_eq!(rt;
             answer.err(),
-            Some(ReadFault::Failed),
+            Some(InputFault::Failed),
             "at the limit {limit}"
         );
     }

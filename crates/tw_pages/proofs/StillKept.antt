@@ -4,9 +4,9 @@ use Rattle.tw_disk.specs.Image.{Image}
 use Rattle.tw_disk.specs.Disk.{DiskView, LeavesOnly, IsAtRest}
 use Rattle.tw_pages.specs.declared.store.Store.{Store}
 use Rattle.tw_pages.specs.Store.{Opening, IsAbove, OpensAs}
-use Rattle.tw_pages.specs.Kept.{opening_of, IsKept}
+use Rattle.tw_pages.specs.StoreValue.{opening_of, IsKept}
 use Rattle.tw_pages.specs.Same.{IsSameStore}
-use Rattle.tw_disk.specs.Moments.{same_leaves as disk_leaves}
+use Rattle.tw_disk.proofs.Moments.{same_leaves as disk_leaves}
 use Rattle.tw_pages.proofs.Openings.{above_opens}
 
 module _ {D : Type 0} {g : _} (view : D → DiskView) where

@@ -3,7 +3,8 @@ ghost use Rattle.std.specs.Prelude.{◌≡◌, ◌⊎◌, ◌<◌, ◌≤◌, �
 ghost use Rattle.std.specs.Option.{IsSomeAnd};
 ghost use Rattle.tw_disk.specs.Image.{Image};
 ghost use Rattle.tw_disk.specs.Disk.{LeavesOnly, IsAtRest, IsRun};
-ghost use Rattle.tw_pages.specs.Store.{Opening, OpensAs, OpensAlone, OpensAboveOlder, OpensAsEither, IsReady, IsAbove, IsCommit, spare_of};
+ghost use Rattle.tw_pages.specs.Store.{Opening, OpensAs, OpensAlone, OpensAboveOlder, OpensAsEither, IsAbove, spare_of};
+ghost use Rattle.tw_pages.specs.CommitSteps.{IsReady, IsCommit};
 
 use crate::phases::{close_spare_gate, open_spare_gate, write_spare_body};
 use crate::staged::write_staged;

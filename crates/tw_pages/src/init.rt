@@ -5,7 +5,8 @@ ghost use Rattle.tw_disk.specs.Image.{Image};
 ghost use Rattle.tw_base.specs.Faults.{Rose};
 ghost use Rattle.tw_disk.specs.Disk.{LeavesOnly, IsAtRest, IsRun};
 ghost use Rattle.tw_pages.specs.Store.{OpensAboveOlder};
-ghost use Rattle.tw_pages.specs.Init.{BothClosed, HasBodies, IsUnmade, first_opening, IsBlankOrNew};
+ghost use Rattle.tw_pages.specs.InitSteps.{BothClosed, HasBodies, IsUnmade};
+ghost use Rattle.tw_pages.specs.Init.{first_opening, IsBlankOrNew};
 ghost use Rattle.tw_pages.specs.Slots.{IsBlank, IsTaken};
 
 use crate::durable::write_pair_durably;

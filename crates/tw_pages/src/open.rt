@@ -4,7 +4,8 @@ ghost use Rattle.std.specs.Option.{IsSomeAnd};
 ghost use Rattle.tw_base.specs.Faults.{HasCause, Rose};
 ghost use Rattle.tw_disk.specs.Image.{Image};
 ghost use Rattle.tw_disk.specs.Disk.{LeavesOnly, IsAtRest, Only};
-ghost use Rattle.tw_pages.specs.Slots.{HoldsSlot, IsFoundIn, IsRefusedFor, HasRoom};
+ghost use Rattle.tw_pages.specs.SlotSteps.{HoldsSlot, IsFoundIn, HasRoom};
+ghost use Rattle.tw_pages.specs.Slots.{IsRefusedFor};
 ghost use Rattle.tw_pages.specs.declared.open.StoreFault.TheVariants.{DiskFault};
 
 use crate::body::{Body, read_body};

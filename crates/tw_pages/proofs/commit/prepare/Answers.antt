@@ -1,6 +1,7 @@
 use Rattle.std.proofs.Common.{◌≡◌, ◌+◌, ℕ, length, sym, ◌∙◌, ap, subst, arith, length-append}
-use Rattle.tw_disk.specs.Moments.{goes_on, leaves_weaker, at_rest_now}
-use Rattle.tw_pages.specs.Store.{OpensAs, OpensAlone, Holds}
+use Rattle.tw_disk.proofs.Moments.{goes_on, leaves_weaker, at_rest_now}
+use Rattle.tw_pages.specs.Store.{OpensAs, OpensAlone}
+use Rattle.tw_pages.specs.CommitSteps.{Holds}
 use Rattle.tw_pages.proofs.Steps.{alone_opens}
 use Rattle.tw_pages.proofs.commit.prepare.Goals as goal
 

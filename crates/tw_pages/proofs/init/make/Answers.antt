@@ -1,7 +1,8 @@
 use Rattle.std.proofs.Common.{inl, inr}
-use Rattle.tw_disk.specs.Moments.{goes_on, leaves_weaker}
+use Rattle.tw_disk.proofs.Moments.{goes_on, leaves_weaker}
 use Rattle.tw_pages.specs.Slots.{IsBlank}
-use Rattle.tw_pages.specs.Init.{BothClosed, IsBlankOrNew}
+use Rattle.tw_pages.specs.InitSteps.{BothClosed}
+use Rattle.tw_pages.specs.Init.{IsBlankOrNew}
 use Rattle.tw_pages.proofs.init.make.Goals as goal
 
 pub returns-in_err-write_open_gates-clause-images : goal.returns-in_err-write_open_gates-clause-images

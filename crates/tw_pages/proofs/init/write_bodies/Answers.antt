@@ -1,9 +1,9 @@
 use Rattle.std.proofs.Common.{◌∙◌}
 use Rattle.std.specs.Option.{option_map}
 use Rattle.tw_disk.specs.Image.{put}
-use Rattle.tw_disk.specs.Moments.{pair_rests}
+use Rattle.tw_disk.proofs.Moments.{pair_rests}
 use Rattle.tw_pages.specs.Store.{body_page}
-use Rattle.tw_pages.specs.Init.{BothClosed, HasBodies}
+use Rattle.tw_pages.specs.InitSteps.{BothClosed, HasBodies}
 use Rattle.tw_pages.proofs.Begins.{bodies_stand}
 use Rattle.tw_pages.proofs.init.write_bodies.Goals as goal
 

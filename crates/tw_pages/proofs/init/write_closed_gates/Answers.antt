@@ -1,9 +1,9 @@
 use Rattle.std.proofs.Common.{◌<◌, length, ◌∙◌}
 use Rattle.std.specs.Option.{option_map}
 use Rattle.tw_disk.specs.Image.{put}
-use Rattle.tw_disk.specs.Moments.{pair_rests}
+use Rattle.tw_disk.proofs.Moments.{pair_rests}
 use Rattle.tw_pages.specs.Store.{closed_gate_page}
-use Rattle.tw_pages.specs.Init.{BothClosed}
+use Rattle.tw_pages.specs.InitSteps.{BothClosed}
 use Rattle.tw_pages.proofs.Begins.{gates_closed}
 use Rattle.tw_pages.proofs.init.write_closed_gates.Goals as goal
 

@@ -1,9 +1,10 @@
 use Rattle.std.proofs.Common.{◌∙◌}
 use Rattle.std.specs.Option.{option_map}
 use Rattle.tw_disk.specs.Image.{put}
-use Rattle.tw_disk.specs.Moments.{pair_rests}
+use Rattle.tw_disk.proofs.Moments.{pair_rests}
 use Rattle.tw_pages.specs.Store.{open_gate_page, OpensAboveOlder}
-use Rattle.tw_pages.specs.Init.{BothClosed, HasBodies, first_opening}
+use Rattle.tw_pages.specs.InitSteps.{BothClosed, HasBodies}
+use Rattle.tw_pages.specs.Init.{first_opening}
 use Rattle.tw_pages.proofs.Begins.{gates_opened}
 use Rattle.tw_pages.proofs.init.write_open_gates.Goals as goal
 

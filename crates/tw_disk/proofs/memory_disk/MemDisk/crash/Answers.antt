@@ -1,9 +1,10 @@
 use Rattle.std.proofs.Common.{◌≡◌, ◌+◌, ◌-◌, length, refl, sym, subst, ap, inr, arith}
 use Rattle.tw_disk.specs.Image.{Image}
 use Rattle.tw_disk.specs.Model.{IsImage}
-use Rattle.tw_disk.specs.Kept.{written_of, earlier, calls_of}
-use Rattle.tw_disk.specs.Laws.{outcome_image, grown_after}
-use Rattle.tw_disk.specs.Calls.{length-calls_of, rested, since_rested, rested_since}
+use Rattle.tw_disk.specs.KeptCalls.{written_of, earlier, calls_of}
+use Rattle.tw_disk.proofs.ModelLaws.{outcome_image}
+use Rattle.tw_disk.specs.MemDiskSteps.{grown_after}
+use Rattle.tw_disk.proofs.KeptCallLaws.{length-calls_of, rested, since_rested, rested_since}
 use Rattle.tw_disk.proofs.memory_disk.MemDisk.crash.Goals as goal
 
 pub returns-clause-image : goal.returns-clause-image

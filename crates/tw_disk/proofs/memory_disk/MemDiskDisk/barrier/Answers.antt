@@ -1,6 +1,6 @@
 use Rattle.std.proofs.Common.{◌-◌, refl, arith}
 use Rattle.tw_disk.specs.Model.{Barrier as BarrierCall}
-use Rattle.tw_disk.specs.Calls.{one_more, nothing_else, keeps, gains_call, one_longer, barrier_durable, barrier_crash}
+use Rattle.tw_disk.proofs.KeptCallLaws.{one_more, nothing_else, keeps, gains_call, one_longer, barrier_durable, barrier_crash}
 use Rattle.tw_disk.specs.declared.call.Call.TheVariants.{Barrier}
 use Rattle.tw_disk.proofs.memory_disk.MemDiskDisk.barrier.Goals as goal
 

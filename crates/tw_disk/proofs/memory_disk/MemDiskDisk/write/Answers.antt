@@ -2,8 +2,9 @@ use Rattle.std.proofs.Common.{◌-◌, Some, ℕ, length, ap, ◌∙◌, inr, su
 use Rattle.std.specs.Prelude.{Result, Ok, Err, OnOk}
 use Rattle.tw_disk.specs.Image.{Image, Torn}
 use Rattle.tw_disk.specs.Model.{Write}
-use Rattle.tw_disk.specs.Put.{torn_put, length-put}
-use Rattle.tw_disk.specs.Calls.{one_more, one_longer, nothing_else, keeps, write_crash}
+use Rattle.tw_disk.proofs.Puts.{torn_put}
+use Rattle.tw_disk.specs.PutSteps.{length-put}
+use Rattle.tw_disk.proofs.KeptCallLaws.{one_more, one_longer, nothing_else, keeps, write_crash}
 use Rattle.tw_disk.proofs.memory_disk.MemDiskDisk.write.Goals as goal
 
 on_ok : {T E P : Type 0} (r : Result T E) → P → OnOk r P

@@ -1,40 +1,16 @@
 -- What holds of a disk after each list of calls.
-use Rattle.std.specs.Prelude.{◌≡◌, ◌≢◌, ◌⊎◌, ◌+◌, ◌-◌, ℕ, zero, suc, ◌<◌, ◌≤◌, min, List, [], ◌∷◌, ◌++◌, length, take, refl, replicate}
+use Rattle.std.specs.Prelude.{◌≡◌, ◌≢◌, ◌⊎◌, ℕ, zero, suc, ◌<◌, ◌≤◌, min, List, [], ◌∷◌, ◌++◌, length, take, refl, replicate}
 use Rattle.std.proofs.Common.{arith, subst, sym, ap, ◌∙◌, length-append, inl, inr}
 use Rattle.std.proofs.Math.ListN.{set}
-use Rattle.std.proofs.Math.Seq.{take-length}
 use Rattle.std.proofs.lemmas.Bool.{cases_eq}
 use Rattle.std.proofs.lemmas.List.{length-take, length-set, get_or-take, get_or-set_same, get_or-set_other, ext_get_or, take-append-le, take_all}
 use Rattle.tw_disk.specs.Image.{Image, Torn, page_at}
-use Rattle.tw_disk.specs.Put.{length-put_le, page_at-put_below}
-use Rattle.tw_disk.specs.Model.{DeviceCall, Write, Barrier, Written, IsUntouched, at_rest, step, after, IsImage, Since, spoilt, outcome}
+use Rattle.tw_disk.specs.Model.{DeviceCall, Barrier, Written, IsUntouched, at_rest, step, after, IsImage, Since, spoilt, outcome}
+use Rattle.tw_disk.specs.MemDiskSteps.{IsGrown, grown_after, image_now}
 
 pub after-push : (s : Written) (calls : List DeviceCall) (call : DeviceCall) → after s (calls ++ call ∷ []) ≡ step (after s calls) call
 after-push s [] call = refl
 after-push s (c ∷ calls) call = after-push (step s c) calls call
-
--- what reads give is the settled image but for the pages written since, and no shorter
-pub record IsGrown (s : Written) : Type 0 where
-  pub no_shorter : length s.settled ≤ length s.now
-  pub others : (k : ℕ) → k < length s.settled → IsUntouched s.loose k → page_at s.settled k ≡ page_at s.now k
-
-grown_step : (s : Written) (call : DeviceCall) → IsGrown s → IsGrown (step s call)
-grown_step s (Write page bytes) is = record {
-  no_shorter = omega (arith, is.no_shorter, length-put_le page bytes s.now);
-  others = λ k lt untouched. is.others k lt untouched.1 ∙ sym (page_at-put_below page bytes s.now k (omega (arith, lt, is.no_shorter)) untouched.0);
-}
-grown_step s Barrier is = record { no_shorter = omega arith; others = λ k lt untouched. refl }
-
-grown_from : (s : Written) (calls : List DeviceCall) → IsGrown s → IsGrown (after s calls)
-grown_from s [] is = is
-grown_from s (call ∷ calls) is = grown_from (step s call) calls (grown_step s call is)
-
-pub grown_after : (base : Image) (calls : List DeviceCall) → IsGrown (after (at_rest base) calls)
-grown_after base calls = grown_from (at_rest base) calls (record { no_shorter = omega arith; others = λ k lt untouched. refl })
-
--- a disk as it reads is one of its images
-pub image_now : (s : Written) → IsGrown s → IsImage s s.now
-image_now s is = record { at_least = is.no_shorter; at_most = omega arith; others = λ k lt untouched. refl }
 
 -- and so is what it held at the last good barrier
 pub image_settled : (s : Written) → IsGrown s → IsImage s s.settled
@@ -98,19 +74,6 @@ barrier_only s c image = ext_get_or [] c s.now (omega (arith, image.at_least, im
 -- and nothing that it might not have left before
 pub barrier_image : (s : Written) (c : Image) → length s.settled ≤ length s.now → IsImage (step s Barrier) c → IsImage s c
 barrier_image s c firm image = record { at_least = omega (arith, image.at_least); at_most = image.at_most; others = λ k lt untouched. image.others k lt tt }
-
--- this moment is one of those since an earlier one
-pub since_now : (crashed_at : ℕ) (base : Image) (calls : List DeviceCall) (t : ℕ) (c : Image) → t ≤ crashed_at + length calls → IsImage (after (at_rest base) calls) c → Since base calls (t - crashed_at) c
-since_now crashed_at base calls t c le image = record {
-  at = length calls;
-  from = omega (arith, le);
-  to = omega arith;
-  image = subst (λ (l : List DeviceCall). IsImage (after (at_rest base) l) c) (sym (take-length calls)) image;
-}
-
--- since this moment there is no other
-pub only_now : (crashed_at : ℕ) (base : Image) (calls : List DeviceCall) (c : Image) → Since base calls (crashed_at + length calls - crashed_at) c → IsImage (after (at_rest base) calls) c
-only_now crashed_at base calls c since = subst (λ (l : List DeviceCall). IsImage (after (at_rest base) l) c) (take_all since.at calls (omega (arith, since.from))) since.image
 
 -- one call more, which ends at this moment
 module _ (base : Image) (calls : List DeviceCall) (call : DeviceCall) where

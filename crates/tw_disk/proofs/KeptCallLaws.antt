@@ -1,17 +1,18 @@
 -- What one call of a disk in memory does, where its list of kept calls gains that call.
-use Rattle.std.specs.Prelude.{◌≡◌, ◌⊎◌, ℕ, ◌≤◌, List, [], ◌∷◌, ◌++◌, length, Some, refl, suc, slice_set}
+use Rattle.std.specs.Prelude.{◌≡◌, ◌⊎◌, ℕ, ◌≤◌, List, [], ◌∷◌, ◌++◌, length, refl, suc}
 use Rattle.std.proofs.Common.{◌-◌, arith, subst, sym, ap, ◌∙◌, length-append, get_or, take}
-use Rattle.std.proofs.lemmas.List.{get_or-take, get_or-set_other, length-set, length-take, get_or-append_right}
+use Rattle.std.proofs.lemmas.List.{get_or-append_right}
 use Rattle.std.proofs.Math.Seq.{take-append_seam}
 use Rattle.tw_disk.specs.Image.{Image, Torn, put, page_at}
 use Rattle.tw_disk.specs.Disk.{Only, Follows}
-use Rattle.tw_disk.specs.Put.{torn_put, put-back}
 use Rattle.tw_disk.specs.Model.{DeviceCall, Write, Written, at_rest, step, after, IsImage, Since}
 use Rattle.tw_disk.specs.Model.{Barrier as BarrierCall}
-use Rattle.tw_disk.specs.Laws.{after-push, grown_after, image_now, write_follows, barrier_only, barrier_image, nothing_else_push, keeps_push, at_rest_only, since_rest, rest_since}
-use Rattle.tw_disk.specs.Kept.{undone, earlier, with_bytes, calls_of, written_of, Fits, AllFit, Gains}
+use Rattle.tw_disk.specs.KeptCalls.{undone, earlier, with_bytes, calls_of, written_of, Fits, AllFit, Gains}
 use Rattle.tw_disk.specs.declared.call.Call.{Call}
-use Rattle.tw_disk.specs.declared.call.Call.TheVariants.{Overwrite, Append, Barrier}
+use Rattle.tw_disk.specs.declared.call.Call.TheVariants.{Append}
+use Rattle.tw_disk.proofs.Puts.{torn_put}
+use Rattle.tw_disk.specs.MemDiskSteps.{grown_after, now_is}
+use Rattle.tw_disk.proofs.ModelLaws.{after-push, write_follows, barrier_only, barrier_image, nothing_else_push, keeps_push, at_rest_only, since_rest, rest_since}
 
 earlier-push : (calls : List Call) (call : Call) (image : Image) → earlier (calls ++ call ∷ []) image ≡ earlier calls (undone call image)
 earlier-push [] call image = refl
@@ -37,24 +38,6 @@ fits_before (c ∷ calls) call image all = (subst (λ (i : Image). Fits c i) (ea
 pub fits_last : (calls : List Call) (call : Call) (image : Image) → AllFit (calls ++ call ∷ []) image → Fits call image
 fits_last [] call image all = all.0
 fits_last (c ∷ calls) call image all = fits_last calls call image all.1
-
--- a call that fits leads from what was before it to what is after it
-call_now : (s : Written) (call : Call) (image : Image) → s.now ≡ undone call image → Fits call image → (step s (with_bytes call image)).now ≡ image
-call_now s (Overwrite page before) image is fits =
-    ap (λ (i : Image). put page (page_at image page) i) is
-    ∙ put-back page (slice_set image page before.value) image (omega (arith, length-set image page before.value, fits)) (omega (arith, length-set image page before.value, fits)) (λ k lt ne. get_or-set_other image page k before.value [] ne)
-call_now s (Append page) image is fits =
-    ap (λ (i : Image). put page (page_at image page) i) is
-    ∙ put-back page (undone (Append page) image) image (omega (arith, length-take page image, fits)) (omega (arith, length-take page image, fits)) (λ k lt ne. get_or-take page image k [] (omega (arith, lt, fits, ne)))
-call_now s Barrier image is fits = is
-
-now_from : (s : Written) (calls : List Call) (image : Image) → s.now ≡ earlier calls image → AllFit calls image → (after s (calls_of calls image)).now ≡ image
-now_from s [] image is all = is
-now_from s (call ∷ calls) image is all = now_from (step s (with_bytes call (earlier calls image))) calls image (call_now s call (earlier calls image) is all.0) all.1
-
--- the kept calls lead to what reads give
-pub now_is : (calls : List Call) (image : Image) → AllFit calls image → (written_of calls image).now ≡ image
-now_is calls image all = now_from (at_rest (earlier calls image)) calls image refl all
 
 pub gains_call : (calls new_calls : List Call) (call : Call) (old new : Image) → new_calls ≡ calls ++ call ∷ [] → undone call new ≡ old → Fits call new → Gains (with_bytes call new) calls old new_calls new
 gains_call calls new_calls call old new is back fits = record {
@@ -105,16 +88,6 @@ module _ (old_calls : List Call) (old : Image) (new_calls : List Call) (new : Im
 
   pub barrier_crash : Gains BarrierCall old_calls old new_calls new → (c : Image) → IsImage (written_of new_calls new) c → IsImage (written_of old_calls old) c
   barrier_crash gains c image = barrier_image (written_of old_calls old) c shorter (stepped old_calls old new_calls new BarrierCall gains c image)
-
--- a disk that tells its content tells its page count
-pub told_count : (now c : Image) → Some now ≡ Some c → Some (length now) ≡ Some (length c)
-told_count now c is = let same : now ≡ c = cc in ap (λ (i : Image). Some (length i)) same
-
--- a disk as it reads is one of its images
-pub told_image : (calls : List Call) (now c : Image) → AllFit calls now → Some now ≡ Some c → IsImage (written_of calls now) c
-told_image calls now c all is =
-    let same : now ≡ c = cc in
-    subst (λ (i : Image). IsImage (written_of calls now) i) (now_is calls now all ∙ same) (image_now (written_of calls now) (grown_after (earlier calls now) (calls_of calls now)))
 
 -- a write of a page that was there
 pub gains_overwrite : (calls new_calls : List Call) (call : Call) (page : ℕ) (old new : Image) (bytes : List ℕ) → new_calls ≡ calls ++ call ∷ [] → undone call new ≡ old → Fits call new → with_bytes call new ≡ Write page bytes → Gains (Write page bytes) calls old new_calls new
