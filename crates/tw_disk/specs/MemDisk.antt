@@ -54,23 +54,19 @@ view_of disk = record {
 
 -- how many writes and barriers it was asked for since it was made
 abbrev pub made_of : MemDisk → ℕ
-made_of disk = disk.device.made
+made_of disk = disk.made
 
 -- how many calls of read it has had since it was made
 abbrev pub reads_of : MemDisk → ℕ
 reads_of disk = disk.reads
 
--- the writes and barriers that are to fail, by their numbers since it was made
+-- the writes and barriers that are to fail, counted from now
 abbrev pub failing_of : MemDisk → List ℕ
-failing_of disk = disk.device.planned.items
+failing_of disk = disk.failing
 
--- the calls of pages and read that are to fail, by their numbers since it was made
+-- the calls of pages and read that are to fail, counted from now
 abbrev pub failing_reads_of : MemDisk → List ℕ
-failing_reads_of disk = disk.asks.planned.items
-
--- how many calls of pages and read it has had since it was made
-abbrev pub asks_of : MemDisk → ℕ
-asks_of disk = disk.asks.made
+failing_reads_of disk = disk.failing_reads
 
 -- the number of the write or barrier at which it is to stop, if there is one
 abbrev pub stop_of : MemDisk → Option ℕ
@@ -86,13 +82,13 @@ pub record IsSameMemDisk (old new : MemDisk) : Type 0 where
   pub calls : new.calls.items ≡ old.calls.items
   pub crashed_at : new.crashed_at ≡ old.crashed_at
   pub faults : new.faults ≡ old.faults
-  pub made : new.device.made ≡ old.device.made
-  pub asks : new.asks.made ≡ old.asks.made
+  pub made : new.made ≡ old.made
   pub reads : new.reads ≡ old.reads
   pub stopped : new.is_stopped ≡ old.is_stopped
 
--- the same calls are to fail, and the disk is to stop at the same call or at none, as before
-pub record KeepsPlans (old new : MemDisk) : Type 0 where
-  pub failing : new.device.planned.items ≡ old.device.planned.items
-  pub failing_reads : new.asks.planned.items ≡ old.asks.planned.items
-  pub stop : new.stop ≡ old.stop
+-- these writes and barriers and these calls of pages and read are to fail, counted from now, and the disk is to stop at this write or
+-- barrier, by its number since it was made, or at none
+pub record IsPlanned (disk : MemDisk) (failing failing_reads : List ℕ) (stop : Option ℕ) : Type 0 where
+  pub failing_are : disk.failing ≡ failing
+  pub failing_reads_are : disk.failing_reads ≡ failing_reads
+  pub stop_is : disk.stop ≡ stop

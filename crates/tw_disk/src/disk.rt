@@ -5,6 +5,7 @@ ghost use Rattle.tw_disk.specs.Image.{Image, Torn, put, page_at};
 ghost use Rattle.tw_base.specs.Faults.{HasCause};
 ghost use Rattle.tw_disk.specs.Disk.{grown, KeepsRoom, Follows, Only, DiskView, IsSameDisk, TimeGoesOn};
 
+use crate::Page;
 use tw_base::Failed;
 
 /// A block device with pages of 4,096 bytes, numbered from 0.
@@ -31,7 +32,7 @@ pub trait Disk {
         ensures cause { HasCause (view self.old).faults (view self.new).faults result };
 
     /// Gives the bytes of a page below the told count. It changes nothing; after `Failed` the array may hold anything.
-    fn read(&mut self, page: u64, into: &mut [u8; 4096]) -> Result<(), Failed>
+    fn read(&mut self, page: u64, into: &mut Page) -> Result<(), Failed>
         requires { IsSomeAnd (view self.old).count (λ n. page < n) }
         ensures bytes { OnOk result (IfSome (view self.old).content (λ c. into.new ≡ page_at c page)) }
         ensures count { (view self.new).count ≡ (view self.old).count }
@@ -39,7 +40,7 @@ pub trait Disk {
         ensures cause { HasCause (view self.old).faults (view self.new).faults result };
 
     /// Writes a page that is at most the told count; a write at the count adds a page.
-    fn write(&mut self, page: u64, from: &[u8; 4096]) -> Result<(), Failed>
+    fn write(&mut self, page: u64, from: &Page) -> Result<(), Failed>
         requires { IsSomeAnd (view self.old).count (λ n. page ≤ n) }
 
         // After Ok the page reads as written and the others as before; after Failed the page may hold any bytes.

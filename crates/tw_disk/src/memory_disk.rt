@@ -1,17 +1,18 @@
 // A disk in memory.
-ghost use Rattle.std.specs.Prelude.{◌≡◌, ◌⊎◌, ◌↔◌, ◌<◌, ◌≤◌, ◌+◌, ◌-◌, ◌^◌, ◌++◌, ◌∷◌, [], ℕ, min, length, Some, None, false, vec_len, OnOk, OnErr, IsOk, IsErr, IsTrue, Contains};
+ghost use Rattle.std.specs.Prelude.{◌≡◌, ◌⊎◌, ◌↔◌, ◌<◌, ◌≤◌, ◌+◌, ◌-◌, ◌^◌, ◌++◌, ◌∷◌, [], ℕ, min, length, Some, None, false, vec_len, OnOk, OnErr, IsOk, IsErr, IsTrue};
 ghost use Rattle.tw_disk.specs.Image.{put, page_at};
 ghost use Rattle.tw_base.specs.Faults.{HasCause, Rose};
+ghost use Rattle.tw_outside.specs.PlannedFailures.{fails_next, after_call};
 ghost use Rattle.tw_disk.specs.Model.{Write, Barrier, IsImage, Since};
 ghost use Rattle.tw_disk.specs.KeptCalls.{earlier, calls_of, written_of, AllFit, Gains};
 ghost use Rattle.tw_disk.specs.MemDiskSteps.{all_fit-prop};
 
-use crate::Disk;
 use crate::call::Call;
 use crate::crash::leave;
-use crate::fail_list::FailList;
+use crate::{Disk, Page};
 use std::alloc::Global;
 use tw_base::{Failed, NoMemory};
+use tw_outside::FailingCalls;
 
 /// A disk in memory, which tells its content and keeps all its writes and barriers since it was made or crashed.
 ///
@@ -21,11 +22,12 @@ use tw_base::{Failed, NoMemory};
 /// number 2^64 of those that were kept ever, crashes or not. Their number is the moment.
 #[derive(Drop)]
 pub struct MemDisk {
-    pages: Vec<[u8; 4096]>,
+    pages: Vec<Page>,
     calls: Vec<Call>,
     crashed_at: u64,
-    device: FailList,
-    asks: FailList,
+    failing: FailingCalls,
+    failing_reads: FailingCalls,
+    made: u64,
     reads: u64,
     stop: Option<u64>,
     is_stopped: bool,
@@ -38,10 +40,10 @@ pub struct MemDisk {
 // Writes over a page that is there, and keeps what it held; or does neither where there is no memory.
 fn overwrite(
     calls: &mut Vec<Call>,
-    pages: &mut Vec<[u8; 4096]>,
+    pages: &mut Vec<Page>,
     alloc: Global,
     place: usize,
-    from: &[u8; 4096],
+    from: &Page,
 ) -> Result<(), NoMemory>
     requires { place < vec_len pages.old }
     ensures gains { OnOk result (Gains (Write place from.now) calls.old.items pages.old.items calls.new.items pages.new.items) }
@@ -59,11 +61,7 @@ fn overwrite(
 }
 
 // Adds a page, or does nothing where there is no memory.
-fn append(
-    calls: &mut Vec<Call>,
-    pages: &mut Vec<[u8; 4096]>,
-    from: &[u8; 4096],
-) -> Result<(), NoMemory>
+fn append(calls: &mut Vec<Call>, pages: &mut Vec<Page>, from: &Page) -> Result<(), NoMemory>
     ensures gains { OnOk result (Gains (Write (length pages.old.items) from.now) calls.old.items pages.old.items calls.new.items pages.new.items) }
     ensures pages { OnOk result (pages.new.items ≡ put (length pages.old.items) from.now pages.old.items) }
     ensures calls_err { OnErr result (calls.new.items ≡ calls.old.items) }
@@ -90,10 +88,10 @@ fn see_countable(crashed_at: u64, calls: &Vec<Call>) -> Result<(), NoMemory>
 fn keep_write(
     crashed_at: u64,
     calls: &mut Vec<Call>,
-    pages: &mut Vec<[u8; 4096]>,
+    pages: &mut Vec<Page>,
     alloc: Global,
     page: u64,
-    from: &[u8; 4096],
+    from: &Page,
 ) -> Result<(), NoMemory>
     requires { page ≤ vec_len pages.old }
     ensures counted { OnOk result (crashed_at + length calls.old.items + 1 < 2 ^ 64) }
@@ -123,17 +121,22 @@ fn keep_barrier(crashed_at: u64, calls: &mut Vec<Call>) -> Result<(), NoMemory>
 }
 
 // Counts a device call, and tells whether it is to fail. A stop that has begun goes on.
-fn is_to_fail(device: &mut FailList, stop: Option<u64>, is_stopped: &mut bool) -> bool
-    ensures counted { device.new.made ≡ min (device.old.made + 1) (2 ^ 64 - 1) }
-    ensures kept { device.new.planned.items ≡ device.old.planned.items }
-    ensures stopped { IsTrue is_stopped.new ↔ (IsTrue is_stopped.old ⊎ (stop ≡ Some device.new.made)) }
-    ensures fails { (Contains device.old.planned.items device.new.made ⊎ IsTrue is_stopped.new) → IsTrue result }
+fn is_to_fail(
+    failing: &mut FailingCalls,
+    made: &mut u64,
+    stop: Option<u64>,
+    is_stopped: &mut bool,
+) -> bool
+    ensures made { made.new ≡ min (made.old + 1) (2 ^ 64 - 1) }
+    ensures counted { failing.new ≡ after_call failing.old }
+    ensures stopped { IsTrue is_stopped.new ↔ (IsTrue is_stopped.old ⊎ (stop ≡ Some made.new)) }
+    ensures fails { (IsTrue (fails_next failing.old) ⊎ IsTrue is_stopped.new) → IsTrue result }
 {
-    let is_planned = device.is_next_to_fail();
-    if stop == Some(device.made()) {
+    *made = made.saturating_add(1);
+    if stop == Some(*made) {
         *is_stopped = true;
     }
-    is_planned || *is_stopped
+    failing.count_call() || *is_stopped
 }
 
 // Counts a fault.
@@ -159,7 +162,7 @@ fn answer(faults: &mut u64, is_to_fail: bool) -> Result<(), Failed>
 impl MemDisk {
     ghost use Rattle.tw_disk.specs.Image.{Image};
     ghost use Rattle.tw_disk.specs.Disk.{IsAtRest, LeavesOnly};
-    ghost use Rattle.tw_disk.specs.MemDisk.{pages_of, device_calls_of, state_of, view_of, may_leave_of, moment_of, left_since_of, faults_of, made_of, reads_of, failing_of, failing_reads_of, asks_of, stop_of, is_stopped, IsSameMemDisk};
+    ghost use Rattle.tw_disk.specs.MemDisk.{pages_of, device_calls_of, state_of, view_of, may_leave_of, moment_of, left_since_of, faults_of, made_of, reads_of, failing_of, failing_reads_of, stop_of, is_stopped, IsPlanned, IsSameMemDisk};
     ghost use Rattle.tw_disk.specs.Model.{outcome};
 
     /// A disk without a page. It takes no memory yet.
@@ -170,15 +173,16 @@ impl MemDisk {
         ensures faults { faults_of result ≡ 0 }
         ensures made { made_of result ≡ 0 }
         ensures reads { reads_of result ≡ 0 }
-        ensures failing { (failing_of result ≡ []) × (failing_reads_of result ≡ []) × (asks_of result ≡ 0) }
-        ensures runs { (stop_of result ≡ None) × (is_stopped result ≡ false) }
+        ensures plans { IsPlanned result [] [] None }
+        ensures runs { is_stopped result ≡ false }
     {
         MemDisk {
             pages: Vec::new(alloc),
             calls: Vec::new(alloc),
             crashed_at: 0,
-            device: FailList::new(alloc),
-            asks: FailList::new(alloc),
+            failing: FailingCalls::new(alloc),
+            failing_reads: FailingCalls::new(alloc),
+            made: 0,
             reads: 0,
             stop: None,
             is_stopped: false,
@@ -192,7 +196,7 @@ impl MemDisk {
     pub fn device_calls(&self) -> u64
         ensures { result ≡ made_of self.now }
     {
-        self.device.made()
+        self.made
     }
 
     /// The number of calls of `read` since it was made, failed ones among them. It stands still at 2^64 - 1.
@@ -202,27 +206,24 @@ impl MemDisk {
         self.reads
     }
 
-    /// Makes the k-th write or barrier from now on fail; k is at least 1. A write that fails so may be found done all the same.
+    /// Makes the k-th write or barrier from now on fail, beside those that are to fail already; 1 is the next, and 0 is none.
+    /// A write that fails so may be found done all the same.
     pub fn fail(&mut self, k: u64) -> Result<(), NoMemory>
-        requires { 1 ≤ k }
-        ensures planned { OnOk result (failing_of self.new ≡ failing_of self.old ++ (min (made_of self.old + k) (2 ^ 64 - 1)) ∷ []) }
-        ensures err { OnErr result (failing_of self.new ≡ failing_of self.old) }
-        ensures others { (failing_reads_of self.new ≡ failing_reads_of self.old)
-            × (stop_of self.new ≡ stop_of self.old) }
+        ensures planned { OnOk result (IsPlanned self.new (failing_of self.old ++ k ∷ []) (failing_reads_of self.old) (stop_of self.old)) }
+        ensures err { OnErr result (IsPlanned self.new (failing_of self.old) (failing_reads_of self.old) (stop_of self.old)) }
         ensures same { IsSameMemDisk self.old self.new }
     {
-        self.device.plan(k)
+        self.failing.add(k)
     }
 
-    /// Makes the k-th call of `pages` and `read`, counted together, from now on fail; k is at least 1.
+    /// Makes the k-th call of `pages` and `read`, counted together, from now on fail, beside those that are to fail already; 1 is the
+    /// next, and 0 is none.
     pub fn fail_read(&mut self, k: u64) -> Result<(), NoMemory>
-        requires { 1 ≤ k }
-        ensures planned { OnOk result (failing_reads_of self.new ≡ failing_reads_of self.old ++ (min (asks_of self.old + k) (2 ^ 64 - 1)) ∷ []) }
-        ensures err { OnErr result (failing_reads_of self.new ≡ failing_reads_of self.old) }
-        ensures others { (failing_of self.new ≡ failing_of self.old) × (stop_of self.new ≡ stop_of self.old) }
+        ensures planned { OnOk result (IsPlanned self.new (failing_of self.old) (failing_reads_of self.old ++ k ∷ []) (stop_of self.old)) }
+        ensures err { OnErr result (IsPlanned self.new (failing_of self.old) (failing_reads_of self.old) (stop_of self.old)) }
         ensures same { IsSameMemDisk self.old self.new }
     {
-        self.asks.plan(k)
+        self.failing_reads.add(k)
     }
 
     /// Makes the k-th write or barrier from now on fail, and every later call of any kind; k is at least 1.
@@ -230,12 +231,10 @@ impl MemDisk {
     /// A write at which the disk is stopped counts among the pages written since the last good barrier, with the bytes of that write.
     pub fn stop_at(&mut self, k: u64)
         requires { 1 ≤ k }
-        ensures stop { stop_of self.new ≡ Some (min (made_of self.old + k) (2 ^ 64 - 1)) }
-        ensures others { (failing_of self.new ≡ failing_of self.old)
-            × (failing_reads_of self.new ≡ failing_reads_of self.old) }
+        ensures stop { IsPlanned self.new (failing_of self.old) (failing_reads_of self.old) (Some (min (made_of self.old + k) (2 ^ 64 - 1))) }
         ensures same { IsSameMemDisk self.old self.new }
     {
-        self.stop = Some(self.device.made().saturating_add(k));
+        self.stop = Some(self.made.saturating_add(k));
     }
 
     /// Crashes: ends a stop, and leaves the outcome of this choice, which is at most 3. All of it is stable then.
@@ -257,11 +256,10 @@ impl MemDisk {
         ensures leaves { LeavesOnly (view_of self.old) (view_of self.new) (may_leave_of self.old) }
         ensures outcome { pages_of self.new ≡ outcome choice (state_of self.old) }
         ensures stable { device_calls_of self.new ≡ [] }
-        ensures runs { (stop_of self.new ≡ None) × (is_stopped self.new ≡ false) }
-        ensures failing { (failing_of self.new ≡ failing_of self.old)
-            × (failing_reads_of self.new ≡ failing_reads_of self.old) }
+        ensures runs { is_stopped self.new ≡ false }
+        ensures plans { IsPlanned self.new (failing_of self.old) (failing_reads_of self.old) None }
         ensures counts { (faults_of self.new ≡ faults_of self.old) × (made_of self.new ≡ made_of self.old)
-            × (asks_of self.new ≡ asks_of self.old) × (reads_of self.new ≡ reads_of self.old) }
+            × (reads_of self.new ≡ reads_of self.old) }
     {
         self.crashed_at += self.calls.len() as u64;
         leave(&mut self.pages, &mut self.calls, choice);
@@ -277,7 +275,7 @@ impl Disk for MemDisk {
     ghost use Rattle.std.specs.Option.{option_map, IsSomeAnd};
     ghost use Rattle.tw_disk.specs.Image.{Image, Torn};
     ghost use Rattle.tw_disk.specs.Disk.{grown, KeepsRoom, Follows, IsSameDisk, Only, TimeGoesOn};
-    ghost use Rattle.tw_disk.specs.MemDisk.{content_of, count_of, may_leave_of, view_of, faults_of, made_of, reads_of, failing_of, failing_reads_of, asks_of, stop_of, is_stopped, KeepsPlans};
+    ghost use Rattle.tw_disk.specs.MemDisk.{content_of, count_of, may_leave_of, view_of, faults_of, made_of, reads_of, failing_of, failing_reads_of, stop_of, is_stopped, IsPlanned};
 
     ghost view = { view_of };
 
@@ -296,19 +294,18 @@ impl Disk for MemDisk {
         ensures cause { HasCause (faults_of self.old) (faults_of self.new) result }
 
         // It fails exactly where it was planned to, or where the disk is stopped.
-        ensures fails { IsErr result ↔ (Contains (failing_reads_of self.old) (asks_of self.new) ⊎ IsTrue (is_stopped self.old)) }
-        ensures asked { asks_of self.new ≡ min (asks_of self.old + 1) (2 ^ 64 - 1) }
+        ensures fails { IsErr result ↔ (IsTrue (fails_next (failing_reads_of self.old)) ⊎ IsTrue (is_stopped self.old)) }
         ensures reads { reads_of self.new ≡ reads_of self.old }
         ensures calls { (made_of self.new ≡ made_of self.old) × (is_stopped self.new ≡ is_stopped self.old) }
-        ensures plans { KeepsPlans self.old self.new }
+        ensures plans { IsPlanned self.new (failing_of self.old) (after_call (failing_reads_of self.old)) (stop_of self.old) }
     {
-        if self.asks.is_next_to_fail() || self.is_stopped {
+        if self.failing_reads.count_call() || self.is_stopped {
             return Err(count_fault(&mut self.faults));
         }
         Ok(self.pages.len() as u64)
     }
 
-    fn read(&mut self, page: u64, into: &mut [u8; 4096]) -> Result<(), Failed>
+    fn read(&mut self, page: u64, into: &mut Page) -> Result<(), Failed>
         requires { IsSomeAnd (count_of self.old) (λ n. page < n) }
         ensures bytes { OnOk result (IfSome (content_of self.old) (λ c. into.new ≡ page_at c page)) }
         ensures count { count_of self.new ≡ count_of self.old }
@@ -316,21 +313,20 @@ impl Disk for MemDisk {
         ensures cause { HasCause (faults_of self.old) (faults_of self.new) result }
 
         // It fails exactly where it was planned to, or where the disk is stopped.
-        ensures fails { IsErr result ↔ (Contains (failing_reads_of self.old) (asks_of self.new) ⊎ IsTrue (is_stopped self.old)) }
-        ensures asked { asks_of self.new ≡ min (asks_of self.old + 1) (2 ^ 64 - 1) }
+        ensures fails { IsErr result ↔ (IsTrue (fails_next (failing_reads_of self.old)) ⊎ IsTrue (is_stopped self.old)) }
         ensures reads { reads_of self.new ≡ min (reads_of self.old + 1) (2 ^ 64 - 1) }
         ensures calls { (made_of self.new ≡ made_of self.old) × (is_stopped self.new ≡ is_stopped self.old) }
-        ensures plans { KeepsPlans self.old self.new }
+        ensures plans { IsPlanned self.new (failing_of self.old) (after_call (failing_reads_of self.old)) (stop_of self.old) }
     {
         self.reads = self.reads.saturating_add(1);
-        if self.asks.is_next_to_fail() || self.is_stopped {
+        if self.failing_reads.count_call() || self.is_stopped {
             return Err(count_fault(&mut self.faults));
         }
         *into = self.pages[page as usize];
         Ok(())
     }
 
-    fn write(&mut self, page: u64, from: &[u8; 4096]) -> Result<(), Failed>
+    fn write(&mut self, page: u64, from: &Page) -> Result<(), Failed>
         requires { IsSomeAnd (count_of self.old) (λ n. page ≤ n) }
         ensures written { OnOk result (content_of self.new ≡ option_map (put page from.now) (content_of self.old)) }
         ensures torn { MatchOption (content_of self.old) (content_of self.new ≡ None) (λ c. IsSomeAnd (content_of self.new) (Torn page c)) }
@@ -342,14 +338,19 @@ impl Disk for MemDisk {
         ensures cause { HasCause (faults_of self.old) (faults_of self.new) result }
 
         // It fails where it was planned to and where the disk is stopped; want of memory makes it fail too.
-        ensures fails { (Contains (failing_of self.old) (made_of self.new) ⊎ IsTrue (is_stopped self.new)) → IsErr result }
+        ensures fails { (IsTrue (fails_next (failing_of self.old)) ⊎ IsTrue (is_stopped self.new)) → IsErr result }
         ensures stopped { IsTrue (is_stopped self.new) ↔ (IsTrue (is_stopped self.old) ⊎ (stop_of self.old ≡ Some (made_of self.new))) }
         ensures counted { made_of self.new ≡ min (made_of self.old + 1) (2 ^ 64 - 1) }
-        ensures asked { (asks_of self.new ≡ asks_of self.old) × (reads_of self.new ≡ reads_of self.old) }
-        ensures plans { KeepsPlans self.old self.new }
+        ensures reads { reads_of self.new ≡ reads_of self.old }
+        ensures plans { IsPlanned self.new (after_call (failing_of self.old)) (failing_reads_of self.old) (stop_of self.old) }
     {
         let was_stopped = self.is_stopped;
-        let fails = is_to_fail(&mut self.device, self.stop, &mut self.is_stopped);
+        let fails = is_to_fail(
+            &mut self.failing,
+            &mut self.made,
+            self.stop,
+            &mut self.is_stopped,
+        );
         if was_stopped {
             return Err(count_fault(&mut self.faults));
         }
@@ -376,13 +377,19 @@ impl Disk for MemDisk {
         ensures cause { HasCause (faults_of self.old) (faults_of self.new) result }
 
         // It fails where it was planned to and where the disk is stopped; want of memory makes it fail too.
-        ensures fails { (Contains (failing_of self.old) (made_of self.new) ⊎ IsTrue (is_stopped self.new)) → IsErr result }
+        ensures fails { (IsTrue (fails_next (failing_of self.old)) ⊎ IsTrue (is_stopped self.new)) → IsErr result }
         ensures stopped { IsTrue (is_stopped self.new) ↔ (IsTrue (is_stopped self.old) ⊎ (stop_of self.old ≡ Some (made_of self.new))) }
         ensures counted { made_of self.new ≡ min (made_of self.old + 1) (2 ^ 64 - 1) }
-        ensures asked { (asks_of self.new ≡ asks_of self.old) × (reads_of self.new ≡ reads_of self.old) }
-        ensures plans { KeepsPlans self.old self.new }
+        ensures reads { reads_of self.new ≡ reads_of self.old }
+        ensures plans { IsPlanned self.new (after_call (failing_of self.old)) (failing_reads_of self.old) (stop_of self.old) }
     {
-        if is_to_fail(&mut self.device, self.stop, &mut self.is_stopped) {
+        let fails = is_to_fail(
+            &mut self.failing,
+            &mut self.made,
+            self.stop,
+            &mut self.is_stopped,
+        );
+        if fails {
             return Err(count_fault(&mut self.faults));
         }
         match keep_barrier(self.crashed_at, &mut self.calls) {

@@ -2,19 +2,20 @@
 ghost use Rattle.std.specs.Prelude.{◌≡◌, ◌-◌, ◌^◌, ℕ, None, Some};
 ghost use Rattle.tw_disk.specs.DiskSteps.{no_content};
 
-use crate::{Disk, Failed};
+use crate::limits::PAGE_SIZE;
+use crate::{Disk, Failed, Page};
 
 // One page, which gives what was written last, whatever its number is.
 #[derive(Drop)]
 pub struct UntoldDisk {
-    page: [u8; 4096],
+    page: Page,
     count: Option<u64>,
 }
 
 impl UntoldDisk {
     pub fn new() -> Self {
         UntoldDisk {
-            page: [0; 4096],
+            page: [0; PAGE_SIZE],
             count: None,
         }
     }
@@ -41,12 +42,12 @@ impl Disk for UntoldDisk {
         }
     }
 
-    fn read(&mut self, _page: u64, into: &mut [u8; 4096]) -> Result<(), Failed> {
+    fn read(&mut self, _page: u64, into: &mut Page) -> Result<(), Failed> {
         *into = self.page;
         Ok(())
     }
 
-    fn write(&mut self, page: u64, from: &[u8; 4096]) -> Result<(), Failed> {
+    fn write(&mut self, page: u64, from: &Page) -> Result<(), Failed> {
         match (self.count, page.checked_add(1)) {
             (Some(count), Some(next)) => {
                 self.page = *from;

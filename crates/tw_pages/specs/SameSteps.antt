@@ -8,6 +8,7 @@ use Rattle.tw_disk.specs.Disk.{DiskView}
 use Rattle.tw_disk.specs.DiskSteps.{same_disk, same_disk_on}
 use Rattle.tw_pages.specs.declared.store.Store.{Store}
 use Rattle.tw_pages.specs.Same.{pages_of, count_of, IsSameStore}
+use Rattle.tw_disk.specs.declared.limits.TheConstants.{FIRST_PAGE}
 
 module _ {D : Type 0} {g : _} (view : D → DiskView) where
   pub is_same_itself : (s : Store D g) → IsSameStore view s s
@@ -29,4 +30,4 @@ module _ {D : Type 0} {g : _} (view : D → DiskView) where
       let same : pages_of s c ≡ pages = cc in
       let P : Option ℕ → Type 0 = λ o. IsSomeAnd o (λ n. s.used ≤ n) in
       let fits : s.used ≤ length c = subst P (told c refl) room in
-      omega (arith, ap length same, length-append (take (s.used - 4) (drop 4 c)) s.staged.items, length-take (s.used - 4) (drop 4 c), length-drop 4 c)
+      omega (arith, ap length same, length-append (take (s.used - FIRST_PAGE) (drop FIRST_PAGE c)) s.staged.items, length-take (s.used - FIRST_PAGE) (drop FIRST_PAGE c), length-drop FIRST_PAGE c)

@@ -1,8 +1,10 @@
 -- What an image of a disk opens as: two slots, each with a gate page and a body page, and then the committed pages.
-use Rattle.std.specs.Prelude.{Bool, true, false, ◌^◌, ◌≡◌, ◌≢◌, ◌⊎◌, ℕ, ◌+◌, ◌-◌, ◌<◌, ◌≤◌, List, [], ◌∷◌, ◌++◌, length, replicate, slice_index}
+use Rattle.std.specs.Prelude.{Bool, true, false, ◌≡◌, ◌≢◌, ◌⊎◌, ℕ, ◌+◌, ◌-◌, ◌<◌, ◌≤◌, List, [], ◌∷◌, ◌++◌, length, replicate, slice_index}
 use Rattle.std.specs.Int.{to_be_bytes, w16, w64}
 use Rattle.tw_disk.specs.Image.{Image, page_at}
 use Rattle.tw_disk.specs.PageBytes.{padded}
+use Rattle.tw_disk.specs.declared.limits.TheConstants.{FIRST_PAGE, NUMBER_LIMIT, PAGE_SIZE}
+use Rattle.tw_pages.specs.declared.limits.TheConstants.{FIRST_BODY, MOST_ROOT_BYTES}
 
 -- the letters TWSTORE1
 abbrev pub magic : List ℕ
@@ -14,11 +16,11 @@ body_page generation used root = padded (magic ++ to_be_bytes w64 generation ++ 
 
 -- the page of an open gate
 unfoldable pub open_gate_page : List ℕ
-open_gate_page = 1 ∷ replicate 4095 0
+open_gate_page = 1 ∷ replicate (PAGE_SIZE - 1) 0
 
 -- the page of a closed gate
 unfoldable pub closed_gate_page : List ℕ
-closed_gate_page = replicate 4096 0
+closed_gate_page = replicate PAGE_SIZE 0
 
 -- the gate of this slot doesn't read open
 abbrev pub IsClosed : ℕ → Image → Type 0
@@ -33,7 +35,7 @@ pub record Opening : Type 0 where
 
 -- the number of the pages that an opening uses
 abbrev pub used_of : Opening → ℕ
-used_of o = 4 + length o.pages
+used_of o = FIRST_PAGE + length o.pages
 
 abbrev pub spare_of : Opening → ℕ
 spare_of o = 1 - o.slot
@@ -41,26 +43,26 @@ spare_of o = 1 - o.slot
 -- the page is this body, whose pages a disk of that many pages has
 pub record IsBody (count : ℕ) (page : List ℕ) (generation used : ℕ) (root : List ℕ) : Type 0 where
   pub bytes : page ≡ body_page generation used root
-  pub generation_fits : generation < 2 ^ 48
-  pub used_from : 4 ≤ used
-  pub used_fits : used < 2 ^ 48
+  pub generation_fits : generation < NUMBER_LIMIT
+  pub used_from : FIRST_PAGE ≤ used
+  pub used_fits : used < NUMBER_LIMIT
   pub room : used ≤ count
-  pub root_fits : length root ≤ 512
+  pub root_fits : length root ≤ MOST_ROOT_BYTES
 
 -- the image has this body in its slot, with the gate open, and all the pages
 pub record Stands (o : Opening) (c : Image) : Type 0 where
   pub which : o.slot < 2
   pub room : used_of o ≤ length c
   pub gate : slice_index (page_at c o.slot) 0 ≡ 1
-  pub body : IsBody (length c) (page_at c (2 + o.slot)) o.generation (used_of o) o.root
-  pub pages : (k : ℕ) → k < length o.pages → page_at c (4 + k) ≡ page_at o.pages k
+  pub body : IsBody (length c) (page_at c (FIRST_BODY + o.slot)) o.generation (used_of o) o.root
+  pub pages : (k : ℕ) → k < length o.pages → page_at c (FIRST_PAGE + k) ≡ page_at o.pages k
 
 -- the body of the other slot is one of a lower generation
 pub record IsOlder (o : Opening) (c : Image) : Type 0 where
   pub generation : ℕ
   pub used : ℕ
   pub root : List ℕ
-  pub body : IsBody (length c) (page_at c (2 + spare_of o)) generation used root
+  pub body : IsBody (length c) (page_at c (FIRST_BODY + spare_of o)) generation used root
   pub lower : generation < o.generation
 
 -- the image opens as this: either the other gate is closed, or its body is older

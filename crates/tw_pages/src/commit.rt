@@ -5,15 +5,17 @@ ghost use Rattle.tw_disk.specs.Image.{Image};
 ghost use Rattle.tw_disk.specs.Disk.{LeavesOnly, IsAtRest, IsRun};
 ghost use Rattle.tw_pages.specs.Store.{Opening, OpensAs, OpensAlone, OpensAboveOlder, OpensAsEither, IsAbove, spare_of};
 ghost use Rattle.tw_pages.specs.CommitSteps.{IsReady, IsCommit};
+ghost use Rattle.tw_disk.specs.declared.limits.TheConstants.{FIRST_PAGE, NUMBER_LIMIT};
+ghost use Rattle.tw_pages.specs.declared.limits.TheConstants.{MOST_ROOT_BYTES};
 
 use crate::phases::{close_spare_gate, open_spare_gate, write_spare_body};
 use crate::staged::write_staged;
-use tw_disk::{Disk, Failed};
+use tw_disk::{Disk, Failed, Page};
 
 // Closes the spare gate where it reads open.
 pub fn see_spare_gate_closed<D: Disk>(disk: &mut D, spare: u64, is_open: bool) -> Result<(), Failed>
     requires low { spare < 2 }
-    requires room { IsSomeAnd (D.view disk.old).count (λ n. 4 ≤ n) }
+    requires room { IsSomeAnd (D.view disk.old).count (λ n. FIRST_PAGE ≤ n) }
     ensures closed { OnOk result ((o : Opening) → spare ≡ spare_of o
         → IsAtRest (D.view disk.old) (IsAbove is_open o)
         → IsAtRest (D.view disk.new) (OpensAlone o)) }
@@ -35,15 +37,15 @@ pub fn prepare<D: Disk>(
     is_open: bool,
     used: u64,
     generation: u64,
-    staged: &[[u8; 4096]],
+    staged: &[Page],
     root: &[u8],
 ) -> Result<(), Failed>
     requires low { spare < 2 }
-    requires root { length root.now ≤ 512 }
-    requires used { 4 ≤ used }
+    requires root { length root.now ≤ MOST_ROOT_BYTES }
+    requires used { FIRST_PAGE ≤ used }
     requires room { IsSomeAnd (D.view disk.old).count (λ n. used ≤ n) }
-    requires fits { used + length staged.now < 2 ^ 48 }
-    requires next { generation < 2 ^ 48 }
+    requires fits { used + length staged.now < NUMBER_LIMIT }
+    requires next { generation < NUMBER_LIMIT }
     ensures ready { OnOk result ((old new : Opening)
         → IsCommit spare used generation staged.now root.now old new
         → IsAtRest (D.view disk.old) (IsAbove is_open old)
@@ -73,15 +75,15 @@ pub fn commit_to<D: Disk>(
     is_open: bool,
     used: u64,
     generation: u64,
-    staged: &[[u8; 4096]],
+    staged: &[Page],
     root: &[u8],
 ) -> Result<(), Failed>
     requires low { spare < 2 }
-    requires root { length root.now ≤ 512 }
-    requires used { 4 ≤ used }
+    requires root { length root.now ≤ MOST_ROOT_BYTES }
+    requires used { FIRST_PAGE ≤ used }
     requires room { IsSomeAnd (D.view disk.old).count (λ n. used ≤ n) }
-    requires fits { used + length staged.now < 2 ^ 48 }
-    requires next { generation < 2 ^ 48 }
+    requires fits { used + length staged.now < NUMBER_LIMIT }
+    requires next { generation < NUMBER_LIMIT }
     ensures done { OnOk result ((old new : Opening)
         → IsCommit spare used generation staged.now root.now old new
         → IsAtRest (D.view disk.old) (IsAbove is_open old)

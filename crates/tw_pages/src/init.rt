@@ -8,20 +8,24 @@ ghost use Rattle.tw_pages.specs.Store.{OpensAboveOlder};
 ghost use Rattle.tw_pages.specs.InitSteps.{BothClosed, HasBodies, IsUnmade};
 ghost use Rattle.tw_pages.specs.Init.{first_opening, IsBlankOrNew};
 ghost use Rattle.tw_pages.specs.Slots.{IsBlank, IsTaken};
+ghost use Rattle.tw_disk.specs.declared.limits.TheConstants.{FIRST_PAGE};
+ghost use Rattle.tw_pages.specs.declared.limits.TheConstants.{MOST_ROOT_BYTES};
 
 use crate::durable::write_pair_durably;
 use crate::gate::is_gate_open;
 use crate::layout::{body, closed_gate, open_gate};
+use crate::limits::FIRST_BODY;
 use crate::open::{StoreFault, settle};
+use tw_disk::limits::FIRST_PAGE;
 use tw_disk::{Disk, Failed};
 
 // Writes both gates closed, for good.
 pub fn write_closed_gates<D: Disk>(disk: &mut D) -> Result<(), Failed>
     requires { IsSomeAnd (D.view disk.old).count (λ n. 0 ≤ n) }
-    ensures closed { OnOk result (IsAtRest (D.view disk.old) (λ c. length c < 4)
+    ensures closed { OnOk result (IsAtRest (D.view disk.old) (λ c. length c < FIRST_PAGE)
         → IsAtRest (D.view disk.new) BothClosed) }
-    ensures images { IsAtRest (D.view disk.old) (λ c. length c < 4)
-        → LeavesOnly (D.view disk.old) (D.view disk.new) (λ c. length c < 4) }
+    ensures images { IsAtRest (D.view disk.old) (λ c. length c < FIRST_PAGE)
+        → LeavesOnly (D.view disk.old) (D.view disk.new) (λ c. length c < FIRST_PAGE) }
     ensures grown { OnOk result (IsSomeAnd (D.view disk.new).count (λ n. 2 ≤ n)) }
     ensures run { IsRun (D.view disk.old) (D.view disk.new) result }
 {
@@ -32,22 +36,28 @@ pub fn write_closed_gates<D: Disk>(disk: &mut D) -> Result<(), Failed>
 // Writes both bodies, for good.
 pub fn write_bodies<D: Disk>(disk: &mut D, root: &[u8]) -> Result<(), Failed>
     requires room { IsSomeAnd (D.view disk.old).count (λ n. 2 ≤ n) }
-    requires root { length root.now ≤ 512 }
+    requires root { length root.now ≤ MOST_ROOT_BYTES }
     ensures ready { OnOk result (IsAtRest (D.view disk.old) BothClosed
         → IsAtRest (D.view disk.new) (λ c. BothClosed c × HasBodies root.now c)) }
     ensures images { IsAtRest (D.view disk.old) BothClosed
         → LeavesOnly (D.view disk.old) (D.view disk.new) BothClosed }
-    ensures grown { OnOk result (IsSomeAnd (D.view disk.new).count (λ n. 4 ≤ n)) }
+    ensures grown { OnOk result (IsSomeAnd (D.view disk.new).count (λ n. FIRST_PAGE ≤ n)) }
     ensures run { IsRun (D.view disk.old) (D.view disk.new) result }
 {
-    write_pair_durably(disk, 2, &body(1, 4, root), 3, &body(0, 4, root))?;
+    write_pair_durably(
+        disk,
+        FIRST_BODY,
+        &body(1, FIRST_PAGE, root),
+        FIRST_BODY + 1,
+        &body(0, FIRST_PAGE, root),
+    )?;
     Ok(())
 }
 
 // Writes both gates open, for good, which makes the store.
 pub fn write_open_gates<D: Disk>(disk: &mut D) -> Result<(), Failed>
-    requires { IsSomeAnd (D.view disk.old).count (λ n. 4 ≤ n) }
-    ensures grown { OnOk result (IsSomeAnd (D.view disk.new).count (λ n. 4 ≤ n)) }
+    requires { IsSomeAnd (D.view disk.old).count (λ n. FIRST_PAGE ≤ n) }
+    ensures grown { OnOk result (IsSomeAnd (D.view disk.new).count (λ n. FIRST_PAGE ≤ n)) }
     ensures opened { OnOk result ((root : List ℕ)
         → IsAtRest (D.view disk.old) (λ c. BothClosed c × HasBodies root c)
         → IsAtRest (D.view disk.new) (OpensAboveOlder (first_opening root))) }
@@ -73,7 +83,7 @@ pub fn look<D: Disk>(disk: &mut D) -> Result<bool, StoreFault>
     ensures later { (D.view disk.old).faults ≤ (D.view disk.new).faults }
 {
     let count = settle(disk)?;
-    if count < 4 {
+    if count < FIRST_PAGE {
         return Ok(true);
     }
     if is_gate_open(disk, 0)? {
@@ -104,12 +114,12 @@ pub fn see_gates_closed<D: Disk>(disk: &mut D, short: bool) -> Result<(), Failed
 // Writes a store where there is none.
 pub fn make<D: Disk>(disk: &mut D, short: bool, root: &[u8]) -> Result<(), Failed>
     requires room { IsSomeAnd (D.view disk.old).count (λ n. (if short then 0 else 2) ≤ n) }
-    requires root { length root.now ≤ 512 }
+    requires root { length root.now ≤ MOST_ROOT_BYTES }
     ensures made { OnOk result (IsAtRest (D.view disk.old) (IsUnmade short)
         → IsAtRest (D.view disk.new) (OpensAboveOlder (first_opening root.now))) }
     ensures images { IsAtRest (D.view disk.old) (IsUnmade short)
         → LeavesOnly (D.view disk.old) (D.view disk.new) (IsBlankOrNew root.now) }
-    ensures room { OnOk result (IsSomeAnd (D.view disk.new).count (λ n. 4 ≤ n)) }
+    ensures room { OnOk result (IsSomeAnd (D.view disk.new).count (λ n. FIRST_PAGE ≤ n)) }
     ensures run { IsRun (D.view disk.old) (D.view disk.new) result }
 {
     see_gates_closed(disk, short)?;

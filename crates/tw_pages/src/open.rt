@@ -7,9 +7,12 @@ ghost use Rattle.tw_disk.specs.Disk.{LeavesOnly, IsAtRest, Only};
 ghost use Rattle.tw_pages.specs.SlotSteps.{HoldsSlot, IsFoundIn, HasRoom};
 ghost use Rattle.tw_pages.specs.Slots.{IsRefusedFor};
 ghost use Rattle.tw_pages.specs.declared.open.StoreFault.TheVariants.{DiskFault};
+ghost use Rattle.tw_disk.specs.declared.limits.TheConstants.{FIRST_PAGE};
 
 use crate::body::{Body, read_body};
 use crate::gate::is_gate_open;
+use crate::limits::FIRST_BODY;
+use tw_disk::limits::{FIRST_PAGE, PAGE_SIZE};
 use tw_disk::{Disk, Failed};
 
 // What was read of a slot.
@@ -27,7 +30,7 @@ pub enum Slot {
 pub fn read_slot<D: Disk>(disk: &mut D, slot: u64, count: u64) -> Result<Slot, Failed>
     requires low { slot < 2 }
     requires count { (D.view disk.old).count ≡ Some count }
-    requires room { 4 ≤ count }
+    requires room { FIRST_PAGE ≤ count }
     ensures slot { IfOk result (λ s. (c : Image) → (D.view disk.old).content ≡ Some c
         → HoldsSlot (length c) slot c s) }
     ensures room { IfOk result (HasRoom count) }
@@ -40,8 +43,8 @@ pub fn read_slot<D: Disk>(disk: &mut D, slot: u64, count: u64) -> Result<Slot, F
     if !is_gate_open(disk, slot)? {
         return Ok(Slot::Closed);
     }
-    let mut page = [0; 4096];
-    disk.read(2 + slot, &mut page)?;
+    let mut page = [0; PAGE_SIZE];
+    disk.read(FIRST_BODY + slot, &mut page)?;
     match read_body(&page, count) {
         Some(body) => Ok(Slot::Holds(body)),
         None => Ok(Slot::Broken),
@@ -80,7 +83,7 @@ pub fn choose(first: Slot, second: Slot) -> Result<Found, StoreFault>
         → IfOk result (λ f. f.body.used ≤ count) }
     ensures answers { IfErr result (λ e. (e ≢ StoreFault.DiskFault) × (e ≢ StoreFault.Taken)
         × (e ≢ StoreFault.NoMemory)) }
-    ensures refused { (c : Image) → 4 ≤ length c → HoldsSlot (length c) 0 c first
+    ensures refused { (c : Image) → FIRST_PAGE ≤ length c → HoldsSlot (length c) 0 c first
         → HoldsSlot (length c) 1 c second → IfErr result (IsRefusedFor c) }
 {
     match (first, second) {
@@ -110,7 +113,7 @@ fn choose_newer(first: Body, second: Body) -> Result<Found, StoreFault>
         → IfOk result (λ f. f.body.used ≤ count) }
     ensures answers { IfErr result (λ e. (e ≢ StoreFault.DiskFault) × (e ≢ StoreFault.Taken)
         × (e ≢ StoreFault.NoMemory)) }
-    ensures refused { (c : Image) → 4 ≤ length c → HoldsSlot (length c) 0 c (Slot.Holds first)
+    ensures refused { (c : Image) → FIRST_PAGE ≤ length c → HoldsSlot (length c) 0 c (Slot.Holds first)
         → HoldsSlot (length c) 1 c (Slot.Holds second) → IfErr result (IsRefusedFor c) }
 {
     if first.generation == second.generation {
@@ -166,7 +169,7 @@ pub fn find<D: Disk>(disk: &mut D) -> Result<Found, StoreFault>
     ensures later { (D.view disk.old).faults ≤ (D.view disk.new).faults }
 {
     let count = settle(disk)?;
-    if count < 4 {
+    if count < FIRST_PAGE {
         return Err(StoreFault::Blank);
     }
     let first = read_slot(disk, 0, count)?;
