@@ -15,8 +15,6 @@ mod page_bytes;
 mod pages;
 #[cfg(test)]
 mod tests;
-#[cfg(test)]
-mod untold;
 
 pub use disk::Disk;
 pub use memory_disk::MemDisk;
