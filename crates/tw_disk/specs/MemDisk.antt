@@ -18,38 +18,16 @@ device_calls_of disk = calls_of disk.calls.items disk.pages.items
 abbrev pub state_of : MemDisk → Written
 state_of disk = written_of disk.calls.items disk.pages.items
 
--- its content and its page count, which it always tells
-abbrev pub content_of : MemDisk → Option Image
-content_of disk = Some disk.pages.items
-
-abbrev pub count_of : MemDisk → Option ℕ
-count_of disk = Some (length disk.pages.items)
-
--- the images that a crash may leave now
-abbrev pub may_leave_of : MemDisk → Image → Type 0
-may_leave_of disk c = IsImage (written_of disk.calls.items disk.pages.items) c
-
--- the moment is the number of the writes and barriers that it ever kept: those up to the last crash, and those that it keeps
-abbrev pub moment_of : MemDisk → ℕ
-moment_of disk = disk.crashed_at + length (calls_of disk.calls.items disk.pages.items)
-
--- the images that a crash at some moment from that one on, and from the last crash on, may have left
-abbrev pub left_since_of : MemDisk → ℕ → Image → Type 0
-left_since_of disk t c = Since (earlier disk.calls.items disk.pages.items) (calls_of disk.calls.items disk.pages.items) (t - disk.crashed_at) c
-
--- how often it has failed
-abbrev pub faults_of : MemDisk → ℕ
-faults_of disk = disk.faults
-
--- all that it tells of itself
+-- All that it tells of itself. It always tells its content. The moment is the number of the writes and barriers that it ever kept, those up
+-- to the last crash and those that it keeps; of the time before the last crash it tells no more than what that crash left.
 abbrev pub view_of : MemDisk → DiskView
 view_of disk = record {
-  content = content_of disk;
-  count = count_of disk;
-  may_leave = may_leave_of disk;
-  moment = moment_of disk;
-  left_since = left_since_of disk;
-  faults = faults_of disk;
+  content = Some disk.pages.items;
+  count = Some (length disk.pages.items);
+  may_leave = λ c. IsImage (written_of disk.calls.items disk.pages.items) c;
+  moment = disk.crashed_at + length (calls_of disk.calls.items disk.pages.items);
+  left_since = λ t c. Since (earlier disk.calls.items disk.pages.items) (calls_of disk.calls.items disk.pages.items) (t - disk.crashed_at) c;
+  faults = disk.faults;
 }
 
 -- how many writes and barriers it was asked for since it was made

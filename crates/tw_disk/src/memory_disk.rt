@@ -162,15 +162,15 @@ fn answer(faults: &mut u64, is_to_fail: bool) -> Result<(), Failed>
 impl MemDisk {
     ghost use Rattle.tw_disk.specs.Image.{Image};
     ghost use Rattle.tw_disk.specs.Disk.{IsAtRest, LeavesOnly};
-    ghost use Rattle.tw_disk.specs.MemDisk.{pages_of, device_calls_of, state_of, view_of, may_leave_of, moment_of, left_since_of, faults_of, made_of, reads_of, failing_of, failing_reads_of, stop_of, is_stopped, IsPlanned, IsSameMemDisk};
+    ghost use Rattle.tw_disk.specs.MemDisk.{pages_of, device_calls_of, state_of, view_of, made_of, reads_of, failing_of, failing_reads_of, stop_of, is_stopped, IsPlanned, IsSameMemDisk};
     ghost use Rattle.tw_disk.specs.Model.{outcome};
 
     /// A disk without a page. It takes no memory yet.
     pub fn new(alloc: Global) -> Self
         ensures pages { pages_of result ≡ [] }
         ensures calls { device_calls_of result ≡ [] }
-        ensures moment { moment_of result ≡ 0 }
-        ensures faults { faults_of result ≡ 0 }
+        ensures moment { (view_of result).moment ≡ 0 }
+        ensures faults { (view_of result).faults ≡ 0 }
         ensures made { made_of result ≡ 0 }
         ensures reads { reads_of result ≡ 0 }
         ensures plans { IsPlanned result [] [] None }
@@ -250,15 +250,15 @@ impl MemDisk {
 
         // The disk then reads as one of the images that the model allows.
         ensures image { IsImage (state_of self.old) (pages_of self.new) }
-        ensures rests { IsAtRest (view_of self.new) (may_leave_of self.old) }
-        ensures moment { moment_of self.new ≡ moment_of self.old }
-        ensures since { (t : ℕ) (c : Image) → t ≤ moment_of self.new → left_since_of self.new t c ↔ (c ≡ pages_of self.new) }
-        ensures leaves { LeavesOnly (view_of self.old) (view_of self.new) (may_leave_of self.old) }
+        ensures rests { IsAtRest (view_of self.new) (view_of self.old).may_leave }
+        ensures moment { (view_of self.new).moment ≡ (view_of self.old).moment }
+        ensures since { (t : ℕ) (c : Image) → t ≤ (view_of self.new).moment → (view_of self.new).left_since t c ↔ (c ≡ pages_of self.new) }
+        ensures leaves { LeavesOnly (view_of self.old) (view_of self.new) (view_of self.old).may_leave }
         ensures outcome { pages_of self.new ≡ outcome choice (state_of self.old) }
         ensures stable { device_calls_of self.new ≡ [] }
         ensures runs { is_stopped self.new ≡ false }
         ensures plans { IsPlanned self.new (failing_of self.old) (failing_reads_of self.old) None }
-        ensures counts { (faults_of self.new ≡ faults_of self.old) × (made_of self.new ≡ made_of self.old)
+        ensures counts { ((view_of self.new).faults ≡ (view_of self.old).faults) × (made_of self.new ≡ made_of self.old)
             × (reads_of self.new ≡ reads_of self.old) }
     {
         self.crashed_at += self.calls.len() as u64;
@@ -275,7 +275,7 @@ impl Disk for MemDisk {
     ghost use Rattle.std.specs.Option.{option_map, IsSomeAnd};
     ghost use Rattle.tw_disk.specs.Image.{Image, Torn};
     ghost use Rattle.tw_disk.specs.Disk.{grown, KeepsRoom, Follows, IsSameDisk, Only, TimeGoesOn};
-    ghost use Rattle.tw_disk.specs.MemDisk.{content_of, count_of, may_leave_of, view_of, faults_of, made_of, reads_of, failing_of, failing_reads_of, stop_of, is_stopped, IsPlanned};
+    ghost use Rattle.tw_disk.specs.MemDisk.{view_of, made_of, reads_of, failing_of, failing_reads_of, stop_of, is_stopped, IsPlanned};
 
     ghost view = { view_of };
 
@@ -288,10 +288,10 @@ impl Disk for MemDisk {
     ghost only_now = { λ disk c since. only_now disk.crashed_at (earlier disk.calls.items disk.pages.items) (calls_of disk.calls.items disk.pages.items) c since };
 
     fn pages(&mut self) -> Result<u64, Failed>
-        ensures told { IfOk result (λ n. count_of self.new ≡ Some n) }
-        ensures kept { IfSome (count_of self.old) (λ n. count_of self.new ≡ Some n) }
+        ensures told { IfOk result (λ n. (view_of self.new).count ≡ Some n) }
+        ensures kept { IfSome (view_of self.old).count (λ n. (view_of self.new).count ≡ Some n) }
         ensures same { IsSameDisk (view_of self.old) (view_of self.new) }
-        ensures cause { HasCause (faults_of self.old) (faults_of self.new) result }
+        ensures cause { HasCause (view_of self.old).faults (view_of self.new).faults result }
 
         // It fails exactly where it was planned to, or where the disk is stopped.
         ensures fails { IsErr result ↔ (IsTrue (fails_next (failing_reads_of self.old)) ⊎ IsTrue (is_stopped self.old)) }
@@ -306,11 +306,11 @@ impl Disk for MemDisk {
     }
 
     fn read(&mut self, page: u64, into: &mut Page) -> Result<(), Failed>
-        requires { IsSomeAnd (count_of self.old) (λ n. page < n) }
-        ensures bytes { OnOk result (IfSome (content_of self.old) (λ c. into.new ≡ page_at c page)) }
-        ensures count { count_of self.new ≡ count_of self.old }
+        requires { IsSomeAnd (view_of self.old).count (λ n. page < n) }
+        ensures bytes { OnOk result (IfSome (view_of self.old).content (λ c. into.new ≡ page_at c page)) }
+        ensures count { (view_of self.new).count ≡ (view_of self.old).count }
         ensures same { IsSameDisk (view_of self.old) (view_of self.new) }
-        ensures cause { HasCause (faults_of self.old) (faults_of self.new) result }
+        ensures cause { HasCause (view_of self.old).faults (view_of self.new).faults result }
 
         // It fails exactly where it was planned to, or where the disk is stopped.
         ensures fails { IsErr result ↔ (IsTrue (fails_next (failing_reads_of self.old)) ⊎ IsTrue (is_stopped self.old)) }
@@ -327,15 +327,15 @@ impl Disk for MemDisk {
     }
 
     fn write(&mut self, page: u64, from: &Page) -> Result<(), Failed>
-        requires { IsSomeAnd (count_of self.old) (λ n. page ≤ n) }
-        ensures written { OnOk result (content_of self.new ≡ option_map (put page from.now) (content_of self.old)) }
-        ensures torn { MatchOption (content_of self.old) (content_of self.new ≡ None) (λ c. IsSomeAnd (content_of self.new) (Torn page c)) }
-        ensures grown { OnOk result (count_of self.new ≡ grown page (count_of self.old)) }
-        ensures count { (count_of self.new ≡ count_of self.old) ⊎ (count_of self.new ≡ grown page (count_of self.old)) }
-        ensures room { KeepsRoom (count_of self.old) (count_of self.new) }
-        ensures crash { Follows (Torn page) (may_leave_of self.old) (may_leave_of self.new) }
+        requires { IsSomeAnd (view_of self.old).count (λ n. page ≤ n) }
+        ensures written { OnOk result ((view_of self.new).content ≡ option_map (put page from.now) (view_of self.old).content) }
+        ensures torn { MatchOption (view_of self.old).content ((view_of self.new).content ≡ None) (λ c. IsSomeAnd (view_of self.new).content (Torn page c)) }
+        ensures grown { OnOk result ((view_of self.new).count ≡ grown page (view_of self.old).count) }
+        ensures count { ((view_of self.new).count ≡ (view_of self.old).count) ⊎ ((view_of self.new).count ≡ grown page (view_of self.old).count) }
+        ensures room { KeepsRoom (view_of self.old).count (view_of self.new).count }
+        ensures crash { Follows (Torn page) (view_of self.old).may_leave (view_of self.new).may_leave }
         ensures time { TimeGoesOn (view_of self.old) (view_of self.new) }
-        ensures cause { HasCause (faults_of self.old) (faults_of self.new) result }
+        ensures cause { HasCause (view_of self.old).faults (view_of self.new).faults result }
 
         // It fails where it was planned to and where the disk is stopped; want of memory makes it fail too.
         ensures fails { (IsTrue (fails_next (failing_of self.old)) ⊎ IsTrue (is_stopped self.new)) → IsErr result }
@@ -368,13 +368,13 @@ impl Disk for MemDisk {
     }
 
     fn barrier(&mut self) -> Result<(), Failed>
-        ensures durable { OnOk result (IfSome (content_of self.old) (λ c. Only c (may_leave_of self.new))) }
-        ensures count { count_of self.new ≡ count_of self.old }
-        ensures content { content_of self.new ≡ content_of self.old }
-        ensures crash { (c : Image) → may_leave_of self.new c → may_leave_of self.old c }
-        ensures nothing_stable { OnErr result ((c : Image) → may_leave_of self.old c → may_leave_of self.new c) }
+        ensures durable { OnOk result (IfSome (view_of self.old).content (λ c. Only c (view_of self.new).may_leave)) }
+        ensures count { (view_of self.new).count ≡ (view_of self.old).count }
+        ensures content { (view_of self.new).content ≡ (view_of self.old).content }
+        ensures crash { (c : Image) → (view_of self.new).may_leave c → (view_of self.old).may_leave c }
+        ensures nothing_stable { OnErr result ((c : Image) → (view_of self.old).may_leave c → (view_of self.new).may_leave c) }
         ensures time { TimeGoesOn (view_of self.old) (view_of self.new) }
-        ensures cause { HasCause (faults_of self.old) (faults_of self.new) result }
+        ensures cause { HasCause (view_of self.old).faults (view_of self.new).faults result }
 
         // It fails where it was planned to and where the disk is stopped; want of memory makes it fail too.
         ensures fails { (IsTrue (fails_next (failing_of self.old)) ⊎ IsTrue (is_stopped self.new)) → IsErr result }
