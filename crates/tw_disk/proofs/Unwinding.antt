@@ -3,9 +3,11 @@ use Rattle.std.proofs.Common.{◌≡◌, ℕ, List, [], ◌∷◌, ◌++◌, ap,
 use Rattle.tw_disk.specs.Image.{Image}
 use Rattle.tw_disk.specs.Model.{DeviceCall, Write, Written, step}
 use Rattle.tw_disk.specs.Model.{Barrier as BarrierCall}
-use Rattle.tw_disk.specs.Kept.{undone, with_bytes, written_of, Fits, AllFit}
-use Rattle.tw_disk.specs.Calls.{fits_before, fits_last, gains_call, state, now_is}
-use Rattle.tw_disk.specs.Loose.{loose_of, loose_of-overwrite, loose_of-barrier}
+use Rattle.tw_disk.specs.KeptCalls.{undone, with_bytes, written_of, Fits, AllFit}
+use Rattle.tw_disk.proofs.KeptCallLaws.{fits_before, fits_last, gains_call, state}
+use Rattle.tw_disk.specs.MemDiskSteps.{now_is}
+use Rattle.tw_disk.specs.LooseSteps.{loose_of}
+use Rattle.tw_disk.proofs.LooseLaws.{loose_of-overwrite, loose_of-barrier}
 use Rattle.tw_disk.specs.declared.call.Call.{Call}
 use Rattle.tw_disk.specs.declared.call.Call.TheVariants.{Barrier}
 

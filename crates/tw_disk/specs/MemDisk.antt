@@ -1,8 +1,9 @@
 -- What a disk in memory shows.
-use Rattle.std.specs.Prelude.{◌≡◌, ℕ, List, Option, Some, Bool, length}
+use Rattle.std.specs.Prelude.{◌≡◌, ◌+◌, ◌-◌, ℕ, List, Option, Some, Bool, length}
 use Rattle.tw_disk.specs.Image.{Image}
+use Rattle.tw_disk.specs.Disk.{DiskView}
 use Rattle.tw_disk.specs.Model.{DeviceCall, Written, IsImage, Since}
-use Rattle.tw_disk.specs.Kept.{earlier, calls_of, written_of}
+use Rattle.tw_disk.specs.KeptCalls.{earlier, calls_of, written_of}
 use Rattle.tw_disk.specs.declared.memory_disk.MemDisk.{MemDisk}
 
 -- what reads give
@@ -17,48 +18,33 @@ device_calls_of disk = calls_of disk.calls.items disk.pages.items
 abbrev pub state_of : MemDisk → Written
 state_of disk = written_of disk.calls.items disk.pages.items
 
--- its content and its page count, which it always tells
-abbrev pub content_of : MemDisk → Option Image
-content_of disk = Some disk.pages.items
-
-abbrev pub count_of : MemDisk → Option ℕ
-count_of disk = Some (length disk.pages.items)
-
--- the images that a crash may leave now
-abbrev pub may_leave_of : MemDisk → Image → Type 0
-may_leave_of disk c = IsImage (written_of disk.calls.items disk.pages.items) c
-
--- the moment is the number of the writes and barriers that it keeps
-abbrev pub moment_of : MemDisk → ℕ
-moment_of disk = length (calls_of disk.calls.items disk.pages.items)
-
--- the images that a crash at some moment from that one on may have left
-abbrev pub left_since_of : MemDisk → ℕ → Image → Type 0
-left_since_of disk t c = Since (earlier disk.calls.items disk.pages.items) (calls_of disk.calls.items disk.pages.items) t c
-
--- how often it has failed
-abbrev pub faults_of : MemDisk → ℕ
-faults_of disk = disk.faults
+-- All that it tells of itself. It always tells its content. The moment is the number of the writes and barriers that it ever kept, those up
+-- to the last crash and those that it keeps; of the time before the last crash it tells no more than what that crash left.
+abbrev pub view_of : MemDisk → DiskView
+view_of disk = record {
+  content = Some disk.pages.items;
+  count = Some (length disk.pages.items);
+  may_leave = λ c. IsImage (written_of disk.calls.items disk.pages.items) c;
+  moment = disk.crashed_at + length (calls_of disk.calls.items disk.pages.items);
+  left_since = λ t c. Since (earlier disk.calls.items disk.pages.items) (calls_of disk.calls.items disk.pages.items) (t - disk.crashed_at) c;
+  faults = disk.faults;
+}
 
 -- how many writes and barriers it was asked for since it was made
 abbrev pub made_of : MemDisk → ℕ
-made_of disk = disk.device.made
+made_of disk = disk.made
 
 -- how many calls of read it has had since it was made
 abbrev pub reads_of : MemDisk → ℕ
 reads_of disk = disk.reads
 
--- the writes and barriers that are to fail, by their numbers since it was made
+-- the writes and barriers that are to fail, counted from now
 abbrev pub failing_of : MemDisk → List ℕ
-failing_of disk = disk.device.planned.items
+failing_of disk = disk.failing
 
--- the calls of pages and read that are to fail, by their numbers since it was made
+-- the calls of pages and read that are to fail, counted from now
 abbrev pub failing_reads_of : MemDisk → List ℕ
-failing_reads_of disk = disk.asks.planned.items
-
--- how many calls of pages and read it has had since it was made
-abbrev pub asks_of : MemDisk → ℕ
-asks_of disk = disk.asks.made
+failing_reads_of disk = disk.failing_reads
 
 -- the number of the write or barrier at which it is to stop, if there is one
 abbrev pub stop_of : MemDisk → Option ℕ
@@ -69,17 +55,18 @@ abbrev pub is_stopped : MemDisk → Bool
 is_stopped disk = disk.is_stopped
 
 -- the disk holds and may leave the same, has counted the same, and is stopped or not as before
-pub record IsSameDisk (old new : MemDisk) : Type 0 where
+pub record IsSameMemDisk (old new : MemDisk) : Type 0 where
   pub pages : new.pages.items ≡ old.pages.items
   pub calls : new.calls.items ≡ old.calls.items
+  pub crashed_at : new.crashed_at ≡ old.crashed_at
   pub faults : new.faults ≡ old.faults
-  pub made : new.device.made ≡ old.device.made
-  pub asks : new.asks.made ≡ old.asks.made
+  pub made : new.made ≡ old.made
   pub reads : new.reads ≡ old.reads
   pub stopped : new.is_stopped ≡ old.is_stopped
 
--- the same calls are to fail, and the disk is to stop at the same call or at none, as before
-pub record KeepsPlans (old new : MemDisk) : Type 0 where
-  pub failing : new.device.planned.items ≡ old.device.planned.items
-  pub failing_reads : new.asks.planned.items ≡ old.asks.planned.items
-  pub stop : new.stop ≡ old.stop
+-- these writes and barriers and these calls of pages and read are to fail, counted from now, and the disk is to stop at this write or
+-- barrier, by its number since it was made, or at none
+pub record IsPlanned (disk : MemDisk) (failing failing_reads : List ℕ) (stop : Option ℕ) : Type 0 where
+  pub failing_are : disk.failing ≡ failing
+  pub failing_reads_are : disk.failing_reads ≡ failing_reads
+  pub stop_is : disk.stop ≡ stop

@@ -1,6 +1,6 @@
 -- What a list of pages in memory shows.
-use Rattle.std.specs.Prelude.{◌≡◌, ◌≤◌, ℕ, List, length, drop, ◌+◌, Option, Some}
-use Rattle.std.proofs.Common.{arith, ap, length-drop}
+use Rattle.std.specs.Prelude.{ℕ, List, length, drop, Option, Some}
+use Rattle.tw_disk.specs.declared.limits.TheConstants.{FIRST_PAGE}
 use Rattle.tw_disk.specs.Image.{Image}
 use Rattle.tw_disk.specs.declared.memory_pages.MemPages.{MemPages}
 
@@ -10,7 +10,7 @@ all_pages_of pages = pages.pages.items
 
 -- the pages from number 4 on, which it always tells
 abbrev pub list_of : MemPages → Option Image
-list_of pages = Some (drop 4 pages.pages.items)
+list_of pages = Some (drop FIRST_PAGE pages.pages.items)
 
 -- the number of pages, the first four among them
 abbrev pub count_of : MemPages → ℕ
@@ -28,17 +28,10 @@ IsUnbroken pages = Unit {0}
 abbrev pub reads_of : MemPages → ℕ
 reads_of pages = pages.reads
 
--- the reads that are to fail, by their numbers since it was made
+-- the reads that are to fail, counted from now
 abbrev pub failing_of : MemPages → List ℕ
-failing_of pages = pages.asks.planned.items
-
--- how many reads were counted
-abbrev pub asks_of : MemPages → ℕ
-asks_of pages = pages.asks.made
+failing_of pages = pages.failing
 
 -- how often a read has failed
 abbrev pub faults_of : MemPages → ℕ
 faults_of pages = pages.faults
-
-pub told_used : (all pages : Image) → 4 ≤ length all → Some (drop 4 all) ≡ Some pages → length all ≡ 4 + length pages
-told_used all pages le is = let same : drop 4 all ≡ pages = cc in omega (arith, le, ap length same, length-drop 4 all)

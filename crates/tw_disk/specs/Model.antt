@@ -1,5 +1,6 @@
 -- The disk model: what a disk is after its writes and barriers, and which images a crash may then leave.
 use Rattle.std.specs.Prelude.{◌≡◌, ◌≢◌, ℕ, zero, suc, ◌<◌, ◌≤◌, List, [], ◌∷◌, length, take, replicate, slice_set}
+use Rattle.tw_disk.specs.declared.limits.TheConstants.{PAGE_SIZE}
 use Rattle.tw_disk.specs.Image.{Image, put, page_at}
 
 -- a write that took effect, with its bytes, or a good barrier
@@ -54,5 +55,5 @@ spoilt bytes (page ∷ pages) image = spoilt bytes pages (slice_set image page b
 abbrev pub outcome : ℕ → Written → Image
 outcome zero s = s.settled
 outcome (suc zero) s = s.now
-outcome (suc (suc zero)) s = spoilt (replicate 4096 0) s.loose s.now
-outcome (suc (suc (suc more))) s = spoilt (replicate 4096 1) s.loose s.now
+outcome (suc (suc zero)) s = spoilt (replicate PAGE_SIZE 0) s.loose s.now
+outcome (suc (suc (suc more))) s = spoilt (replicate PAGE_SIZE 1) s.loose s.now

@@ -1,10 +1,12 @@
 // The calls that a disk in memory keeps.
 
+use crate::Page;
+
 /// A write that took effect, or a good barrier, with what undoes it.
 #[derive(Drop)]
 pub enum Call {
     /// A write of a page that was there, with the bytes that it replaced.
-    Overwrite { page: u64, before: Box<[u8; 4096]> },
+    Overwrite { page: u64, before: Box<Page> },
     /// A write at the count, which added the page of that number.
     Append { page: u64 },
     /// A good barrier.
@@ -13,7 +15,7 @@ pub enum Call {
 
 impl Call {
     ghost use Rattle.std.specs.Prelude.{◌≡◌, ◌∷◌, [], ℕ, List, MatchOption};
-    ghost use Rattle.tw_disk.specs.Loose.{loose_of};
+    ghost use Rattle.tw_disk.specs.LooseSteps.{loose_of};
 
     // The page that it wrote, if it is a write.
     pub fn page_written(self) -> Option<u64>

@@ -1,13 +1,15 @@
 // What a crash of a disk in memory leaves.
 ghost use Rattle.std.specs.Prelude.{◌≡◌, ◌≤◌, [], length};
 ghost use Rattle.tw_disk.specs.Model.{spoilt, outcome};
-ghost use Rattle.tw_disk.specs.Kept.{written_of, AllFit};
-ghost use Rattle.tw_disk.specs.Loose.{loose_of, AllBelow};
+ghost use Rattle.tw_disk.specs.KeptCalls.{written_of, AllFit};
+ghost use Rattle.tw_disk.specs.LooseSteps.{loose_of, AllBelow};
 
+use crate::Page;
 use crate::call::Call;
+use crate::limits::PAGE_SIZE;
 
 // Takes back the writes since the last good barrier, the last one first.
-fn unwind(pages: &mut Vec<[u8; 4096]>, calls: &mut Vec<Call>)
+fn unwind(pages: &mut Vec<Page>, calls: &mut Vec<Call>)
     requires { AllFit calls.old.items pages.old.items }
     ensures { pages.new.items ≡ (written_of calls.old.items pages.old.items).settled }
 {
@@ -21,7 +23,7 @@ fn unwind(pages: &mut Vec<[u8; 4096]>, calls: &mut Vec<Call>)
 }
 
 // Puts these bytes into each page that was written since the last good barrier.
-fn spoil(pages: &mut Vec<[u8; 4096]>, calls: &mut Vec<Call>, bytes: &[u8; 4096])
+fn spoil(pages: &mut Vec<Page>, calls: &mut Vec<Call>, bytes: &Page)
     requires { AllBelow (length pages.old.items) (loose_of [] calls.old.items) }
     ensures { pages.new.items ≡ spoilt bytes.now (loose_of [] calls.old.items) pages.old.items }
 {
@@ -34,7 +36,7 @@ fn spoil(pages: &mut Vec<[u8; 4096]>, calls: &mut Vec<Call>, bytes: &[u8; 4096])
 }
 
 // Leaves the outcome of this choice.
-pub fn leave(pages: &mut Vec<[u8; 4096]>, calls: &mut Vec<Call>, choice: u8)
+pub fn leave(pages: &mut Vec<Page>, calls: &mut Vec<Call>, choice: u8)
     requires fits { AllFit calls.old.items pages.old.items }
     requires choice { choice ≤ 3 }
     ensures { pages.new.items ≡ outcome choice (written_of calls.old.items pages.old.items) }
@@ -42,7 +44,7 @@ pub fn leave(pages: &mut Vec<[u8; 4096]>, calls: &mut Vec<Call>, choice: u8)
     match choice {
         0 => unwind(pages, calls),
         1 => (),
-        2 => spoil(pages, calls, &[0; 4096]),
-        _ => spoil(pages, calls, &[1; 4096]),
+        2 => spoil(pages, calls, &[0; PAGE_SIZE]),
+        _ => spoil(pages, calls, &[1; PAGE_SIZE]),
     }
 }

@@ -1,10 +1,11 @@
 // A disk of pages: what reads give, how many pages there are, and what a crash may leave.
-ghost use Rattle.std.specs.Prelude.{◌≡◌, ◌⊎◌, ◌↔◌, ◌<◌, ◌≤◌, ℕ, List, length, Option, Some, None, IfOk, IfSome, OnOk, OnErr, MatchOption};
+ghost use Rattle.std.specs.Prelude.{◌≡◌, ◌⊎◌, ◌<◌, ◌≤◌, ℕ, List, length, Option, Some, None, IfOk, IfSome, OnOk, OnErr, MatchOption};
 ghost use Rattle.std.specs.Option.{option_map, IsSomeAnd};
 ghost use Rattle.tw_disk.specs.Image.{Image, Torn, put, page_at};
 ghost use Rattle.tw_base.specs.Faults.{HasCause};
-ghost use Rattle.tw_disk.specs.Disk.{grown, KeepsRoom, Follows, Only, Elapses};
+ghost use Rattle.tw_disk.specs.Disk.{grown, KeepsRoom, Follows, Only, DiskView, IsSameDisk, TimeGoesOn};
 
+use crate::Page;
 use tw_base::Failed;
 
 /// A block device with pages of 4,096 bytes, numbered from 0.
@@ -20,78 +21,59 @@ use tw_base::Failed;
 ///
 /// A disk that can't say what it holds, such as one over a real file, tells no content and no image; its calls keep their causes.
 pub trait Disk {
-    /// What reads give, where the disk tells it.
-    ghost content: { Self → Option Image };
-
-    /// The number of pages, where it is told: from the first good `pages` on, and always where the content is told.
-    ghost count: { Self → Option ℕ };
-
-    /// The images that a crash at this moment may leave.
-    ghost may_leave: { Self → Image → Type 0 };
-
-    /// The moment, as a number that doesn't fall.
-    ghost moment: { Self → ℕ };
-
-    /// The images that a crash at some moment from that one on may have left.
-    ghost left_since: { Self → ℕ → Image → Type 0 };
-
-    /// How often the disk has failed; the count doesn't fall, and stands still at 2^64 - 1.
-    ghost faults: { Self → ℕ };
+    /// What the disk tells of itself.
+    ghost view: { Self → DiskView };
 
     /// The number of pages. It changes nothing.
     fn pages(&mut self) -> Result<u64, Failed>
-        ensures told { IfOk result (λ n. count self.new ≡ Some n) }
-        ensures kept { IfSome (count self.old) (λ n. count self.new ≡ Some n) }
-        ensures content { content self.new ≡ content self.old }
-        ensures crash { (c : Image) → may_leave self.new c ↔ may_leave self.old c }
-        ensures time { Elapses (moment self.old) (moment self.new) (left_since self.old) (left_since self.new) (may_leave self.new) }
-        ensures cause { HasCause (faults self.old) (faults self.new) result };
+        ensures told { IfOk result (λ n. (view self.new).count ≡ Some n) }
+        ensures kept { IfSome (view self.old).count (λ n. (view self.new).count ≡ Some n) }
+        ensures same { IsSameDisk (view self.old) (view self.new) }
+        ensures cause { HasCause (view self.old).faults (view self.new).faults result };
 
     /// Gives the bytes of a page below the told count. It changes nothing; after `Failed` the array may hold anything.
-    fn read(&mut self, page: u64, into: &mut [u8; 4096]) -> Result<(), Failed>
-        requires { IsSomeAnd (count self.old) (λ n. page < n) }
-        ensures bytes { OnOk result (IfSome (content self.old) (λ c. into.new ≡ page_at c page)) }
-        ensures count { count self.new ≡ count self.old }
-        ensures content { content self.new ≡ content self.old }
-        ensures crash { (c : Image) → may_leave self.new c ↔ may_leave self.old c }
-        ensures time { Elapses (moment self.old) (moment self.new) (left_since self.old) (left_since self.new) (may_leave self.new) }
-        ensures cause { HasCause (faults self.old) (faults self.new) result };
+    fn read(&mut self, page: u64, into: &mut Page) -> Result<(), Failed>
+        requires { IsSomeAnd (view self.old).count (λ n. page < n) }
+        ensures bytes { OnOk result (IfSome (view self.old).content (λ c. into.new ≡ page_at c page)) }
+        ensures count { (view self.new).count ≡ (view self.old).count }
+        ensures same { IsSameDisk (view self.old) (view self.new) }
+        ensures cause { HasCause (view self.old).faults (view self.new).faults result };
 
     /// Writes a page that is at most the told count; a write at the count adds a page.
-    fn write(&mut self, page: u64, from: &[u8; 4096]) -> Result<(), Failed>
-        requires { IsSomeAnd (count self.old) (λ n. page ≤ n) }
+    fn write(&mut self, page: u64, from: &Page) -> Result<(), Failed>
+        requires { IsSomeAnd (view self.old).count (λ n. page ≤ n) }
 
         // After Ok the page reads as written and the others as before; after Failed the page may hold any bytes.
-        ensures written { OnOk result (content self.new ≡ option_map (put page from.now) (content self.old)) }
-        ensures torn { MatchOption (content self.old) (content self.new ≡ None) (λ c. IsSomeAnd (content self.new) (Torn page c)) }
-        ensures grown { OnOk result (count self.new ≡ grown page (count self.old)) }
-        ensures count { (count self.new ≡ count self.old) ⊎ (count self.new ≡ grown page (count self.old)) }
-        ensures room { KeepsRoom (count self.old) (count self.new) }
+        ensures written { OnOk result ((view self.new).content ≡ option_map (put page from.now) (view self.old).content) }
+        ensures torn { MatchOption (view self.old).content ((view self.new).content ≡ None) (λ c. IsSomeAnd (view self.new).content (Torn page c)) }
+        ensures grown { OnOk result ((view self.new).count ≡ grown page (view self.old).count) }
+        ensures count { ((view self.new).count ≡ (view self.old).count) ⊎ ((view self.new).count ≡ grown page (view self.old).count) }
+        ensures room { KeepsRoom (view self.old).count (view self.new).count }
 
         // A crash leaves what it might have left before, with any bytes in this page.
-        ensures crash { Follows (Torn page) (may_leave self.old) (may_leave self.new) }
-        ensures time { Elapses (moment self.old) (moment self.new) (left_since self.old) (left_since self.new) (may_leave self.new) }
-        ensures cause { HasCause (faults self.old) (faults self.new) result };
+        ensures crash { Follows (Torn page) (view self.old).may_leave (view self.new).may_leave }
+        ensures time { TimeGoesOn (view self.old) (view self.new) }
+        ensures cause { HasCause (view self.old).faults (view self.new).faults result };
 
     /// Makes stable what was written. After `Failed` nothing is more stable than before.
     fn barrier(&mut self) -> Result<(), Failed>
-        ensures durable { OnOk result (IfSome (content self.old) (λ c. Only c (may_leave self.new))) }
-        ensures count { count self.new ≡ count self.old }
-        ensures content { content self.new ≡ content self.old }
-        ensures crash { (c : Image) → may_leave self.new c → may_leave self.old c }
-        ensures nothing_stable { OnErr result ((c : Image) → may_leave self.old c → may_leave self.new c) }
-        ensures time { Elapses (moment self.old) (moment self.new) (left_since self.old) (left_since self.new) (may_leave self.new) }
-        ensures cause { HasCause (faults self.old) (faults self.new) result };
+        ensures durable { OnOk result (IfSome (view self.old).content (λ c. Only c (view self.new).may_leave)) }
+        ensures count { (view self.new).count ≡ (view self.old).count }
+        ensures content { (view self.new).content ≡ (view self.old).content }
+        ensures crash { (c : Image) → (view self.new).may_leave c → (view self.old).may_leave c }
+        ensures nothing_stable { OnErr result ((c : Image) → (view self.old).may_leave c → (view self.new).may_leave c) }
+        ensures time { TimeGoesOn (view self.old) (view self.new) }
+        ensures cause { HasCause (view self.old).faults (view self.new).faults result };
 
     /// A disk that tells its content tells its page count.
-    ghost count_is_told: { (disk : Self) (c : Image) → content disk ≡ Some c → count disk ≡ Some (length c) };
+    ghost count_is_told: { (disk : Self) (c : Image) → (view disk).content ≡ Some c → (view disk).count ≡ Some (length c) };
 
     /// A disk as it reads is one of its images.
-    ghost as_it_reads: { (disk : Self) (c : Image) → content disk ≡ Some c → may_leave disk c };
+    ghost as_it_reads: { (disk : Self) (c : Image) → (view disk).content ≡ Some c → (view disk).may_leave c };
 
     /// This moment is one of those since an earlier one.
-    ghost counts_now: { (disk : Self) (t : ℕ) (c : Image) → t ≤ moment disk → may_leave disk c → left_since disk t c };
+    ghost counts_now: { (disk : Self) (t : ℕ) (c : Image) → t ≤ (view disk).moment → (view disk).may_leave c → (view disk).left_since t c };
 
     /// Since this moment there is no other.
-    ghost only_now: { (disk : Self) (c : Image) → left_since disk (moment disk) c → may_leave disk c };
+    ghost only_now: { (disk : Self) (c : Image) → (view disk).left_since (view disk).moment c → (view disk).may_leave c };
 }

@@ -8,19 +8,17 @@
 mod call;
 mod crash;
 mod disk;
-mod fail_list;
+pub mod limits;
 mod memory_disk;
 mod memory_pages;
 mod page_bytes;
 mod pages;
 #[cfg(test)]
 mod tests;
-#[cfg(test)]
-mod untold;
 
 pub use disk::Disk;
 pub use memory_disk::MemDisk;
 pub use memory_pages::MemPages;
-pub use page_bytes::{append_at, digest_at, u16_at, u32_at, u64_at};
+pub use page_bytes::{Page, append_at, digest_at, u16_at, u32_at, u64_at};
 pub use pages::Pages;
 pub use tw_base::{Failed, NoMemory};

@@ -1,44 +1,50 @@
 // A disk in memory.
-ghost use Rattle.std.specs.Prelude.{◌≡◌, ◌⊎◌, ◌↔◌, ◌<◌, ◌≤◌, ◌+◌, ◌-◌, ◌^◌, ◌++◌, ◌∷◌, [], ℕ, min, length, Some, None, false, vec_len, OnOk, OnErr, IsOk, IsErr, IsTrue, Contains};
+ghost use Rattle.std.specs.Prelude.{◌≡◌, ◌⊎◌, ◌↔◌, ◌<◌, ◌≤◌, ◌+◌, ◌-◌, ◌^◌, ◌++◌, ◌∷◌, [], ℕ, min, length, Some, None, false, vec_len, OnOk, OnErr, IsOk, IsErr, IsTrue};
 ghost use Rattle.tw_disk.specs.Image.{put, page_at};
 ghost use Rattle.tw_base.specs.Faults.{HasCause, Rose};
+ghost use Rattle.tw_outside.specs.PlannedFailures.{fails_next, after_call};
 ghost use Rattle.tw_disk.specs.Model.{Write, Barrier, IsImage, Since};
-ghost use Rattle.tw_disk.specs.Kept.{earlier, calls_of, written_of, AllFit, all_fit-prop, Gains};
+ghost use Rattle.tw_disk.specs.KeptCalls.{earlier, calls_of, written_of, AllFit, Gains};
+ghost use Rattle.tw_disk.specs.MemDiskSteps.{all_fit-prop};
 
-use crate::Disk;
 use crate::call::Call;
 use crate::crash::leave;
-use crate::fail_list::FailList;
-use std::alloc::{AllocError, Global};
+use crate::{Disk, Page};
+use std::alloc::Global;
 use tw_base::{Failed, NoMemory};
+use tw_outside::FailingCalls;
 
 /// A disk in memory, which tells its content and keeps all its writes and barriers since it was made or crashed.
 ///
-/// Of each write it keeps the bytes that the write replaced, so what every earlier read gave, and what each crash might have left, follows
-/// from what it keeps; each page that was written is held once for what reads give and once for each write that replaced it.
-/// A write or barrier that finds no memory counts a fault and answers `Failed`, and changes nothing.
+/// Of each write it keeps the bytes that the write replaced, so what every read since then gave, and what each crash since then might have
+/// left, follows from what it keeps; each page that was written is held once for what reads give and once for each write that replaced it.
+/// A write or barrier that finds no memory counts a fault and answers `Failed`, and changes nothing; so does one that would be
+/// number 2^64 of those that were kept ever, crashes or not. Their number is the moment.
 #[derive(Drop)]
 pub struct MemDisk {
-    pages: Vec<[u8; 4096]>,
+    pages: Vec<Page>,
     calls: Vec<Call>,
-    device: FailList,
-    asks: FailList,
+    crashed_at: u64,
+    failing: FailingCalls,
+    failing_reads: FailingCalls,
+    made: u64,
     reads: u64,
     stop: Option<u64>,
     is_stopped: bool,
     faults: u64,
     alloc: Global,
+    ghost counted: { crashed_at + length calls.items < 2 ^ 64 },
     ghost calls_fit: { AllFit calls.items pages.items } by { all_fit-prop calls.items pages.items },
 }
 
 // Writes over a page that is there, and keeps what it held; or does neither where there is no memory.
 fn overwrite(
     calls: &mut Vec<Call>,
-    pages: &mut Vec<[u8; 4096]>,
+    pages: &mut Vec<Page>,
     alloc: Global,
     place: usize,
-    from: &[u8; 4096],
-) -> Result<(), AllocError>
+    from: &Page,
+) -> Result<(), NoMemory>
     requires { place < vec_len pages.old }
     ensures gains { OnOk result (Gains (Write place from.now) calls.old.items pages.old.items calls.new.items pages.new.items) }
     ensures pages { OnOk result (pages.new.items ≡ put place from.now pages.old.items) }
@@ -55,11 +61,7 @@ fn overwrite(
 }
 
 // Adds a page, or does nothing where there is no memory.
-fn append(
-    calls: &mut Vec<Call>,
-    pages: &mut Vec<[u8; 4096]>,
-    from: &[u8; 4096],
-) -> Result<(), AllocError>
+fn append(calls: &mut Vec<Call>, pages: &mut Vec<Page>, from: &Page) -> Result<(), NoMemory>
     ensures gains { OnOk result (Gains (Write (length pages.old.items) from.now) calls.old.items pages.old.items calls.new.items pages.new.items) }
     ensures pages { OnOk result (pages.new.items ≡ put (length pages.old.items) from.now pages.old.items) }
     ensures calls_err { OnErr result (calls.new.items ≡ calls.old.items) }
@@ -72,20 +74,33 @@ fn append(
     Ok(())
 }
 
-// Makes a write and keeps it, or does neither where there is no memory.
+// Sees that one call more can be counted, after those up to the last crash and those kept since.
+fn see_countable(crashed_at: u64, calls: &Vec<Call>) -> Result<(), NoMemory>
+    ensures { OnOk result (crashed_at + length calls.now.items + 1 < 2 ^ 64) }
+{
+    if calls.len() as u64 >= u64::MAX - crashed_at {
+        return Err(NoMemory);
+    }
+    Ok(())
+}
+
+// Makes a write and keeps it, or does neither where there is no memory or the call can't be counted.
 fn keep_write(
+    crashed_at: u64,
     calls: &mut Vec<Call>,
-    pages: &mut Vec<[u8; 4096]>,
+    pages: &mut Vec<Page>,
     alloc: Global,
     page: u64,
-    from: &[u8; 4096],
-) -> Result<(), AllocError>
+    from: &Page,
+) -> Result<(), NoMemory>
     requires { page ≤ vec_len pages.old }
+    ensures counted { OnOk result (crashed_at + length calls.old.items + 1 < 2 ^ 64) }
     ensures gains { OnOk result (Gains (Write page from.now) calls.old.items pages.old.items calls.new.items pages.new.items) }
     ensures pages { OnOk result (pages.new.items ≡ put page from.now pages.old.items) }
     ensures calls_err { OnErr result (calls.new.items ≡ calls.old.items) }
     ensures pages_err { OnErr result (pages.new.items ≡ pages.old.items) }
 {
+    see_countable(crashed_at, calls)?;
     let place = page as usize;
     if place < pages.len() {
         overwrite(calls, pages, alloc, place, from)
@@ -94,27 +109,34 @@ fn keep_write(
     }
 }
 
-// Keeps a good barrier, or nothing where there is no memory.
-fn keep_barrier(calls: &mut Vec<Call>) -> Result<(), AllocError>
+// Keeps a good barrier, or nothing where there is no memory or the call can't be counted.
+fn keep_barrier(crashed_at: u64, calls: &mut Vec<Call>) -> Result<(), NoMemory>
+    ensures counted { OnOk result (crashed_at + length calls.old.items + 1 < 2 ^ 64) }
     ensures ok { OnOk result (calls.new.items ≡ calls.old.items ++ Call.Barrier ∷ []) }
     ensures err { OnErr result (calls.new.items ≡ calls.old.items) }
 {
+    see_countable(crashed_at, calls)?;
     calls.push(Call::Barrier)?;
     Ok(())
 }
 
 // Counts a device call, and tells whether it is to fail. A stop that has begun goes on.
-fn is_to_fail(device: &mut FailList, stop: Option<u64>, is_stopped: &mut bool) -> bool
-    ensures counted { device.new.made ≡ min (device.old.made + 1) (2 ^ 64 - 1) }
-    ensures kept { device.new.planned.items ≡ device.old.planned.items }
-    ensures stopped { IsTrue is_stopped.new ↔ (IsTrue is_stopped.old ⊎ (stop ≡ Some device.new.made)) }
-    ensures fails { (Contains device.old.planned.items device.new.made ⊎ IsTrue is_stopped.new) → IsTrue result }
+fn is_to_fail(
+    failing: &mut FailingCalls,
+    made: &mut u64,
+    stop: Option<u64>,
+    is_stopped: &mut bool,
+) -> bool
+    ensures made { made.new ≡ min (made.old + 1) (2 ^ 64 - 1) }
+    ensures counted { failing.new ≡ after_call failing.old }
+    ensures stopped { IsTrue is_stopped.new ↔ (IsTrue is_stopped.old ⊎ (stop ≡ Some made.new)) }
+    ensures fails { (IsTrue (fails_next failing.old) ⊎ IsTrue is_stopped.new) → IsTrue result }
 {
-    let is_planned = device.is_next_to_fail();
-    if stop == Some(device.made()) {
+    *made = made.saturating_add(1);
+    if stop == Some(*made) {
         *is_stopped = true;
     }
-    is_planned || *is_stopped
+    failing.count_call() || *is_stopped
 }
 
 // Counts a fault.
@@ -138,24 +160,29 @@ fn answer(faults: &mut u64, is_to_fail: bool) -> Result<(), Failed>
 }
 
 impl MemDisk {
-    ghost use Rattle.tw_disk.specs.MemDisk.{pages_of, device_calls_of, state_of, faults_of, made_of, reads_of, failing_of, failing_reads_of, asks_of, stop_of, is_stopped, IsSameDisk};
+    ghost use Rattle.tw_disk.specs.Image.{Image};
+    ghost use Rattle.tw_disk.specs.Disk.{IsAtRest, LeavesOnly};
+    ghost use Rattle.tw_disk.specs.MemDisk.{pages_of, device_calls_of, state_of, view_of, made_of, reads_of, failing_of, failing_reads_of, stop_of, is_stopped, IsPlanned, IsSameMemDisk};
     ghost use Rattle.tw_disk.specs.Model.{outcome};
 
     /// A disk without a page. It takes no memory yet.
     pub fn new(alloc: Global) -> Self
         ensures pages { pages_of result ≡ [] }
         ensures calls { device_calls_of result ≡ [] }
-        ensures faults { faults_of result ≡ 0 }
+        ensures moment { (view_of result).moment ≡ 0 }
+        ensures faults { (view_of result).faults ≡ 0 }
         ensures made { made_of result ≡ 0 }
         ensures reads { reads_of result ≡ 0 }
-        ensures failing { (failing_of result ≡ []) × (failing_reads_of result ≡ []) × (asks_of result ≡ 0) }
-        ensures runs { (stop_of result ≡ None) × (is_stopped result ≡ false) }
+        ensures plans { IsPlanned result [] [] None }
+        ensures runs { is_stopped result ≡ false }
     {
         MemDisk {
             pages: Vec::new(alloc),
             calls: Vec::new(alloc),
-            device: FailList::new(alloc),
-            asks: FailList::new(alloc),
+            crashed_at: 0,
+            failing: FailingCalls::new(alloc),
+            failing_reads: FailingCalls::new(alloc),
+            made: 0,
             reads: 0,
             stop: None,
             is_stopped: false,
@@ -169,7 +196,7 @@ impl MemDisk {
     pub fn device_calls(&self) -> u64
         ensures { result ≡ made_of self.now }
     {
-        self.device.made()
+        self.made
     }
 
     /// The number of calls of `read` since it was made, failed ones among them. It stands still at 2^64 - 1.
@@ -179,27 +206,24 @@ impl MemDisk {
         self.reads
     }
 
-    /// Makes the k-th write or barrier from now on fail; k is at least 1. A write that fails so may be found done all the same.
+    /// Makes the k-th write or barrier from now on fail, beside those that are to fail already; 1 is the next, and 0 is none.
+    /// A write that fails so may be found done all the same.
     pub fn fail(&mut self, k: u64) -> Result<(), NoMemory>
-        requires { 1 ≤ k }
-        ensures planned { OnOk result (failing_of self.new ≡ failing_of self.old ++ (min (made_of self.old + k) (2 ^ 64 - 1)) ∷ []) }
-        ensures err { OnErr result (failing_of self.new ≡ failing_of self.old) }
-        ensures others { (failing_reads_of self.new ≡ failing_reads_of self.old)
-            × (stop_of self.new ≡ stop_of self.old) }
-        ensures same { IsSameDisk self.old self.new }
+        ensures planned { OnOk result (IsPlanned self.new (failing_of self.old ++ k ∷ []) (failing_reads_of self.old) (stop_of self.old)) }
+        ensures err { OnErr result (IsPlanned self.new (failing_of self.old) (failing_reads_of self.old) (stop_of self.old)) }
+        ensures same { IsSameMemDisk self.old self.new }
     {
-        self.device.plan(k)
+        self.failing.add(k)
     }
 
-    /// Makes the k-th call of `pages` and `read`, counted together, from now on fail; k is at least 1.
+    /// Makes the k-th call of `pages` and `read`, counted together, from now on fail, beside those that are to fail already; 1 is the
+    /// next, and 0 is none.
     pub fn fail_read(&mut self, k: u64) -> Result<(), NoMemory>
-        requires { 1 ≤ k }
-        ensures planned { OnOk result (failing_reads_of self.new ≡ failing_reads_of self.old ++ (min (asks_of self.old + k) (2 ^ 64 - 1)) ∷ []) }
-        ensures err { OnErr result (failing_reads_of self.new ≡ failing_reads_of self.old) }
-        ensures others { (failing_of self.new ≡ failing_of self.old) × (stop_of self.new ≡ stop_of self.old) }
-        ensures same { IsSameDisk self.old self.new }
+        ensures planned { OnOk result (IsPlanned self.new (failing_of self.old) (failing_reads_of self.old ++ k ∷ []) (stop_of self.old)) }
+        ensures err { OnErr result (IsPlanned self.new (failing_of self.old) (failing_reads_of self.old) (stop_of self.old)) }
+        ensures same { IsSameMemDisk self.old self.new }
     {
-        self.asks.plan(k)
+        self.failing_reads.add(k)
     }
 
     /// Makes the k-th write or barrier from now on fail, and every later call of any kind; k is at least 1.
@@ -207,31 +231,37 @@ impl MemDisk {
     /// A write at which the disk is stopped counts among the pages written since the last good barrier, with the bytes of that write.
     pub fn stop_at(&mut self, k: u64)
         requires { 1 ≤ k }
-        ensures stop { stop_of self.new ≡ Some (min (made_of self.old + k) (2 ^ 64 - 1)) }
-        ensures others { (failing_of self.new ≡ failing_of self.old)
-            × (failing_reads_of self.new ≡ failing_reads_of self.old) }
-        ensures same { IsSameDisk self.old self.new }
+        ensures stop { IsPlanned self.new (failing_of self.old) (failing_reads_of self.old) (Some (min (made_of self.old + k) (2 ^ 64 - 1))) }
+        ensures same { IsSameMemDisk self.old self.new }
     {
-        self.stop = Some(self.device.made().saturating_add(k));
+        self.stop = Some(self.made.saturating_add(k));
     }
 
     /// Crashes: ends a stop, and leaves the outcome of this choice, which is at most 3. All of it is stable then.
     ///
     /// The pages written since the last good barrier have: 0 their old bytes, and the page count of that barrier holds; 1 their new bytes;
     /// 2 zeros; 3 bytes of the value 1. With 1 to 3 the last page count holds. It takes no memory.
+    ///
+    /// The clock goes on, and isn't set back: the moment is the same. Of the time before the crash the disk then tells no more than what
+    /// was left in it: since each moment up to that of the crash, a crash may have left this image alone. So a run that ends in a crash
+    /// leaves only what the disk might have left before it, and the next run begins at rest, at that moment.
     pub fn crash(&mut self, choice: u8)
         requires { choice ≤ 3 }
 
         // The disk then reads as one of the images that the model allows.
         ensures image { IsImage (state_of self.old) (pages_of self.new) }
+        ensures rests { IsAtRest (view_of self.new) (view_of self.old).may_leave }
+        ensures moment { (view_of self.new).moment ≡ (view_of self.old).moment }
+        ensures since { (t : ℕ) (c : Image) → t ≤ (view_of self.new).moment → (view_of self.new).left_since t c ↔ (c ≡ pages_of self.new) }
+        ensures leaves { LeavesOnly (view_of self.old) (view_of self.new) (view_of self.old).may_leave }
         ensures outcome { pages_of self.new ≡ outcome choice (state_of self.old) }
         ensures stable { device_calls_of self.new ≡ [] }
-        ensures runs { (stop_of self.new ≡ None) × (is_stopped self.new ≡ false) }
-        ensures failing { (failing_of self.new ≡ failing_of self.old)
-            × (failing_reads_of self.new ≡ failing_reads_of self.old) }
-        ensures counts { (faults_of self.new ≡ faults_of self.old) × (made_of self.new ≡ made_of self.old)
-            × (asks_of self.new ≡ asks_of self.old) × (reads_of self.new ≡ reads_of self.old) }
+        ensures runs { is_stopped self.new ≡ false }
+        ensures plans { IsPlanned self.new (failing_of self.old) (failing_reads_of self.old) None }
+        ensures counts { ((view_of self.new).faults ≡ (view_of self.old).faults) × (made_of self.new ≡ made_of self.old)
+            × (reads_of self.new ≡ reads_of self.old) }
     {
+        self.crashed_at += self.calls.len() as u64;
         leave(&mut self.pages, &mut self.calls, choice);
         self.calls.clear();
         self.stop = None;
@@ -240,128 +270,129 @@ impl MemDisk {
 }
 
 impl Disk for MemDisk {
-    ghost use Rattle.tw_disk.specs.Calls.{told_count, told_image};
-    ghost use Rattle.tw_disk.specs.Laws.{since_now, only_now};
+    ghost use Rattle.tw_disk.specs.MemDiskSteps.{told_count, told_image, since_now, only_now};
     ghost use Rattle.std.specs.Prelude.{IfOk, IfSome, MatchOption};
     ghost use Rattle.std.specs.Option.{option_map, IsSomeAnd};
     ghost use Rattle.tw_disk.specs.Image.{Image, Torn};
-    ghost use Rattle.tw_disk.specs.Disk.{grown, KeepsRoom, Follows, Only, Elapses};
-    ghost use Rattle.tw_disk.specs.MemDisk.{content_of, count_of, may_leave_of, moment_of, left_since_of, faults_of, made_of, reads_of, failing_of, failing_reads_of, asks_of, stop_of, is_stopped, KeepsPlans};
+    ghost use Rattle.tw_disk.specs.Disk.{grown, KeepsRoom, Follows, IsSameDisk, Only, TimeGoesOn};
+    ghost use Rattle.tw_disk.specs.MemDisk.{view_of, made_of, reads_of, failing_of, failing_reads_of, stop_of, is_stopped, IsPlanned};
 
-    ghost content = { content_of };
-
-    ghost count = { count_of };
-
-    ghost may_leave = { may_leave_of };
-
-    ghost moment = { moment_of };
-
-    ghost left_since = { left_since_of };
-
-    ghost faults = { faults_of };
+    ghost view = { view_of };
 
     ghost count_is_told = { λ disk c is. told_count disk.pages.items c is };
 
     ghost as_it_reads = { λ disk c is. told_image disk.calls.items disk.pages.items c disk.calls_fit is };
 
-    ghost counts_now = { λ disk t c le image. since_now (earlier disk.calls.items disk.pages.items) (calls_of disk.calls.items disk.pages.items) t c le image };
+    ghost counts_now = { λ disk t c le image. since_now disk.crashed_at (earlier disk.calls.items disk.pages.items) (calls_of disk.calls.items disk.pages.items) t c le image };
 
-    ghost only_now = { λ disk c since. only_now (earlier disk.calls.items disk.pages.items) (calls_of disk.calls.items disk.pages.items) c since };
+    ghost only_now = { λ disk c since. only_now disk.crashed_at (earlier disk.calls.items disk.pages.items) (calls_of disk.calls.items disk.pages.items) c since };
 
     fn pages(&mut self) -> Result<u64, Failed>
-        ensures told { IfOk result (λ n. count_of self.new ≡ Some n) }
-        ensures kept { IfSome (count_of self.old) (λ n. count_of self.new ≡ Some n) }
-        ensures content { content_of self.new ≡ content_of self.old }
-        ensures crash { (c : Image) → may_leave_of self.new c ↔ may_leave_of self.old c }
-        ensures time { Elapses (moment_of self.old) (moment_of self.new) (left_since_of self.old) (left_since_of self.new) (may_leave_of self.new) }
-        ensures cause { HasCause (faults_of self.old) (faults_of self.new) result }
+        ensures told { IfOk result (λ n. (view_of self.new).count ≡ Some n) }
+        ensures kept { IfSome (view_of self.old).count (λ n. (view_of self.new).count ≡ Some n) }
+        ensures same { IsSameDisk (view_of self.old) (view_of self.new) }
+        ensures cause { HasCause (view_of self.old).faults (view_of self.new).faults result }
 
         // It fails exactly where it was planned to, or where the disk is stopped.
-        ensures fails { IsErr result ↔ (Contains (failing_reads_of self.old) (asks_of self.new) ⊎ IsTrue (is_stopped self.old)) }
-        ensures asked { asks_of self.new ≡ min (asks_of self.old + 1) (2 ^ 64 - 1) }
+        ensures fails { IsErr result ↔ (IsTrue (fails_next (failing_reads_of self.old)) ⊎ IsTrue (is_stopped self.old)) }
         ensures reads { reads_of self.new ≡ reads_of self.old }
         ensures calls { (made_of self.new ≡ made_of self.old) × (is_stopped self.new ≡ is_stopped self.old) }
-        ensures plans { KeepsPlans self.old self.new }
+        ensures plans { IsPlanned self.new (failing_of self.old) (after_call (failing_reads_of self.old)) (stop_of self.old) }
     {
-        if self.asks.is_next_to_fail() || self.is_stopped {
+        if self.failing_reads.count_call() || self.is_stopped {
             return Err(count_fault(&mut self.faults));
         }
         Ok(self.pages.len() as u64)
     }
 
-    fn read(&mut self, page: u64, into: &mut [u8; 4096]) -> Result<(), Failed>
-        requires { IsSomeAnd (count_of self.old) (λ n. page < n) }
-        ensures bytes { OnOk result (IfSome (content_of self.old) (λ c. into.new ≡ page_at c page)) }
-        ensures count { count_of self.new ≡ count_of self.old }
-        ensures content { content_of self.new ≡ content_of self.old }
-        ensures crash { (c : Image) → may_leave_of self.new c ↔ may_leave_of self.old c }
-        ensures time { Elapses (moment_of self.old) (moment_of self.new) (left_since_of self.old) (left_since_of self.new) (may_leave_of self.new) }
-        ensures cause { HasCause (faults_of self.old) (faults_of self.new) result }
+    fn read(&mut self, page: u64, into: &mut Page) -> Result<(), Failed>
+        requires { IsSomeAnd (view_of self.old).count (λ n. page < n) }
+        ensures bytes { OnOk result (IfSome (view_of self.old).content (λ c. into.new ≡ page_at c page)) }
+        ensures count { (view_of self.new).count ≡ (view_of self.old).count }
+        ensures same { IsSameDisk (view_of self.old) (view_of self.new) }
+        ensures cause { HasCause (view_of self.old).faults (view_of self.new).faults result }
 
         // It fails exactly where it was planned to, or where the disk is stopped.
-        ensures fails { IsErr result ↔ (Contains (failing_reads_of self.old) (asks_of self.new) ⊎ IsTrue (is_stopped self.old)) }
-        ensures asked { asks_of self.new ≡ min (asks_of self.old + 1) (2 ^ 64 - 1) }
+        ensures fails { IsErr result ↔ (IsTrue (fails_next (failing_reads_of self.old)) ⊎ IsTrue (is_stopped self.old)) }
         ensures reads { reads_of self.new ≡ min (reads_of self.old + 1) (2 ^ 64 - 1) }
         ensures calls { (made_of self.new ≡ made_of self.old) × (is_stopped self.new ≡ is_stopped self.old) }
-        ensures plans { KeepsPlans self.old self.new }
+        ensures plans { IsPlanned self.new (failing_of self.old) (after_call (failing_reads_of self.old)) (stop_of self.old) }
     {
         self.reads = self.reads.saturating_add(1);
-        if self.asks.is_next_to_fail() || self.is_stopped {
+        if self.failing_reads.count_call() || self.is_stopped {
             return Err(count_fault(&mut self.faults));
         }
         *into = self.pages[page as usize];
         Ok(())
     }
 
-    fn write(&mut self, page: u64, from: &[u8; 4096]) -> Result<(), Failed>
-        requires { IsSomeAnd (count_of self.old) (λ n. page ≤ n) }
-        ensures written { OnOk result (content_of self.new ≡ option_map (put page from.now) (content_of self.old)) }
-        ensures torn { MatchOption (content_of self.old) (content_of self.new ≡ None) (λ c. IsSomeAnd (content_of self.new) (Torn page c)) }
-        ensures grown { OnOk result (count_of self.new ≡ grown page (count_of self.old)) }
-        ensures count { (count_of self.new ≡ count_of self.old) ⊎ (count_of self.new ≡ grown page (count_of self.old)) }
-        ensures room { KeepsRoom (count_of self.old) (count_of self.new) }
-        ensures crash { Follows (Torn page) (may_leave_of self.old) (may_leave_of self.new) }
-        ensures time { Elapses (moment_of self.old) (moment_of self.new) (left_since_of self.old) (left_since_of self.new) (may_leave_of self.new) }
-        ensures cause { HasCause (faults_of self.old) (faults_of self.new) result }
+    fn write(&mut self, page: u64, from: &Page) -> Result<(), Failed>
+        requires { IsSomeAnd (view_of self.old).count (λ n. page ≤ n) }
+        ensures written { OnOk result ((view_of self.new).content ≡ option_map (put page from.now) (view_of self.old).content) }
+        ensures torn { MatchOption (view_of self.old).content ((view_of self.new).content ≡ None) (λ c. IsSomeAnd (view_of self.new).content (Torn page c)) }
+        ensures grown { OnOk result ((view_of self.new).count ≡ grown page (view_of self.old).count) }
+        ensures count { ((view_of self.new).count ≡ (view_of self.old).count) ⊎ ((view_of self.new).count ≡ grown page (view_of self.old).count) }
+        ensures room { KeepsRoom (view_of self.old).count (view_of self.new).count }
+        ensures crash { Follows (Torn page) (view_of self.old).may_leave (view_of self.new).may_leave }
+        ensures time { TimeGoesOn (view_of self.old) (view_of self.new) }
+        ensures cause { HasCause (view_of self.old).faults (view_of self.new).faults result }
 
         // It fails where it was planned to and where the disk is stopped; want of memory makes it fail too.
-        ensures fails { (Contains (failing_of self.old) (made_of self.new) ⊎ IsTrue (is_stopped self.new)) → IsErr result }
+        ensures fails { (IsTrue (fails_next (failing_of self.old)) ⊎ IsTrue (is_stopped self.new)) → IsErr result }
         ensures stopped { IsTrue (is_stopped self.new) ↔ (IsTrue (is_stopped self.old) ⊎ (stop_of self.old ≡ Some (made_of self.new))) }
         ensures counted { made_of self.new ≡ min (made_of self.old + 1) (2 ^ 64 - 1) }
-        ensures asked { (asks_of self.new ≡ asks_of self.old) × (reads_of self.new ≡ reads_of self.old) }
-        ensures plans { KeepsPlans self.old self.new }
+        ensures reads { reads_of self.new ≡ reads_of self.old }
+        ensures plans { IsPlanned self.new (after_call (failing_of self.old)) (failing_reads_of self.old) (stop_of self.old) }
     {
         let was_stopped = self.is_stopped;
-        let fails = is_to_fail(&mut self.device, self.stop, &mut self.is_stopped);
+        let fails = is_to_fail(
+            &mut self.failing,
+            &mut self.made,
+            self.stop,
+            &mut self.is_stopped,
+        );
         if was_stopped {
             return Err(count_fault(&mut self.faults));
         }
-        match keep_write(&mut self.calls, &mut self.pages, self.alloc, page, from) {
+        match keep_write(
+            self.crashed_at,
+            &mut self.calls,
+            &mut self.pages,
+            self.alloc,
+            page,
+            from,
+        ) {
             Ok(()) => answer(&mut self.faults, fails),
             Err(_) => Err(count_fault(&mut self.faults)),
         }
     }
 
     fn barrier(&mut self) -> Result<(), Failed>
-        ensures durable { OnOk result (IfSome (content_of self.old) (λ c. Only c (may_leave_of self.new))) }
-        ensures count { count_of self.new ≡ count_of self.old }
-        ensures content { content_of self.new ≡ content_of self.old }
-        ensures crash { (c : Image) → may_leave_of self.new c → may_leave_of self.old c }
-        ensures nothing_stable { OnErr result ((c : Image) → may_leave_of self.old c → may_leave_of self.new c) }
-        ensures time { Elapses (moment_of self.old) (moment_of self.new) (left_since_of self.old) (left_since_of self.new) (may_leave_of self.new) }
-        ensures cause { HasCause (faults_of self.old) (faults_of self.new) result }
+        ensures durable { OnOk result (IfSome (view_of self.old).content (λ c. Only c (view_of self.new).may_leave)) }
+        ensures count { (view_of self.new).count ≡ (view_of self.old).count }
+        ensures content { (view_of self.new).content ≡ (view_of self.old).content }
+        ensures crash { (c : Image) → (view_of self.new).may_leave c → (view_of self.old).may_leave c }
+        ensures nothing_stable { OnErr result ((c : Image) → (view_of self.old).may_leave c → (view_of self.new).may_leave c) }
+        ensures time { TimeGoesOn (view_of self.old) (view_of self.new) }
+        ensures cause { HasCause (view_of self.old).faults (view_of self.new).faults result }
 
         // It fails where it was planned to and where the disk is stopped; want of memory makes it fail too.
-        ensures fails { (Contains (failing_of self.old) (made_of self.new) ⊎ IsTrue (is_stopped self.new)) → IsErr result }
+        ensures fails { (IsTrue (fails_next (failing_of self.old)) ⊎ IsTrue (is_stopped self.new)) → IsErr result }
         ensures stopped { IsTrue (is_stopped self.new) ↔ (IsTrue (is_stopped self.old) ⊎ (stop_of self.old ≡ Some (made_of self.new))) }
         ensures counted { made_of self.new ≡ min (made_of self.old + 1) (2 ^ 64 - 1) }
-        ensures asked { (asks_of self.new ≡ asks_of self.old) × (reads_of self.new ≡ reads_of self.old) }
-        ensures plans { KeepsPlans self.old self.new }
+        ensures reads { reads_of self.new ≡ reads_of self.old }
+        ensures plans { IsPlanned self.new (after_call (failing_of self.old)) (failing_reads_of self.old) (stop_of self.old) }
     {
-        if is_to_fail(&mut self.device, self.stop, &mut self.is_stopped) {
+        let fails = is_to_fail(
+            &mut self.failing,
+            &mut self.made,
+            self.stop,
+            &mut self.is_stopped,
+        );
+        if fails {
             return Err(count_fault(&mut self.faults));
         }
-        match keep_barrier(&mut self.calls) {
+        match keep_barrier(self.crashed_at, &mut self.calls) {
             Ok(()) => Ok(()),
             Err(_) => Err(count_fault(&mut self.faults)),
         }

@@ -1,40 +1,41 @@
 // A list of pages in memory.
-ghost use Rattle.std.specs.Prelude.{◌≡◌, ◌↔◌, ◌<◌, ◌≤◌, ◌+◌, ◌-◌, ◌^◌, ◌++◌, ◌∷◌, [], ℕ, min, length, drop, replicate, Some, IfOk, OnOk, OnErr, IsOk, IsErr, Contains};
+ghost use Rattle.std.specs.Prelude.{◌≡◌, ◌↔◌, ◌<◌, ◌≤◌, ◌+◌, ◌-◌, ◌^◌, ◌++◌, ◌∷◌, [], ℕ, min, length, drop, replicate, Some, IfOk, OnOk, OnErr, IsOk, IsErr, IsTrue};
+ghost use Rattle.tw_outside.specs.PlannedFailures.{fails_next, after_call};
+ghost use Rattle.tw_disk.specs.declared.limits.TheConstants.{FIRST_PAGE, NUMBER_LIMIT, PAGE_SIZE};
 
-use crate::Pages;
-use crate::fail_list::FailList;
+use crate::limits::{FIRST_PAGE, PAGE_SIZE};
+use crate::{Page, Pages};
 use std::alloc::Global;
 use tw_base::{Failed, NoMemory};
+use tw_outside::FailingCalls;
 
 /// Pages in memory, which tell their list and count their reads.
 #[derive(Drop)]
 pub struct MemPages {
-    pages: Vec<[u8; 4096]>,
-    asks: FailList,
+    pages: Vec<Page>,
+    failing: FailingCalls,
     reads: u64,
     faults: u64,
-    ghost four: { 4 ≤ length pages.items },
+    ghost four: { FIRST_PAGE ≤ length pages.items },
 }
 
 impl MemPages {
-    ghost use Rattle.tw_disk.specs.MemPages.{all_pages_of, reads_of, failing_of, asks_of, faults_of};
+    ghost use Rattle.tw_disk.specs.MemPages.{all_pages_of, reads_of, failing_of, faults_of};
 
     /// Four pages of zeros.
     pub fn new(alloc: Global) -> Result<MemPages, NoMemory>
-        ensures pages { IfOk result (λ p. all_pages_of p ≡ replicate 4 (replicate 4096 0)) }
+        ensures pages { IfOk result (λ p. all_pages_of p ≡ replicate FIRST_PAGE (replicate PAGE_SIZE 0)) }
         ensures reads { IfOk result (λ p. reads_of p ≡ 0) }
         ensures faults { IfOk result (λ p. faults_of p ≡ 0) }
-        ensures failing { IfOk result (λ p. (failing_of p ≡ []) × (asks_of p ≡ 0)) }
+        ensures failing { IfOk result (λ p. failing_of p ≡ []) }
     {
-        match Vec::from_slice(alloc, &[[0; 4096]; 4]) {
-            Ok(pages) => Ok(MemPages {
-                pages,
-                asks: FailList::new(alloc),
-                reads: 0,
-                faults: 0,
-            }),
-            Err(_) => Err(NoMemory),
-        }
+        let pages = Vec::from_slice(alloc, &[[0; PAGE_SIZE]; FIRST_PAGE as usize])?;
+        Ok(MemPages {
+            pages,
+            failing: FailingCalls::new(alloc),
+            reads: 0,
+            faults: 0,
+        })
     }
 
     /// The number of calls of `read` since it was made, failed ones among them. It stands still at 2^64 - 1.
@@ -44,16 +45,14 @@ impl MemPages {
         self.reads
     }
 
-    /// Makes the k-th read from now on fail; k is at least 1.
+    /// Makes the k-th read from now on fail, beside those that are to fail already; 1 is the next, and 0 is none.
     pub fn fail(&mut self, k: u64) -> Result<(), NoMemory>
-        requires { 1 ≤ k }
-        ensures planned { OnOk result (failing_of self.new ≡ failing_of self.old ++ (min (asks_of self.old + k) (2 ^ 64 - 1)) ∷ []) }
+        ensures planned { OnOk result (failing_of self.new ≡ failing_of self.old ++ k ∷ []) }
         ensures err { OnErr result (failing_of self.new ≡ failing_of self.old) }
         ensures same { (all_pages_of self.new ≡ all_pages_of self.old)
-            × (faults_of self.new ≡ faults_of self.old) × (asks_of self.new ≡ asks_of self.old)
-            × (reads_of self.new ≡ reads_of self.old) }
+            × (faults_of self.new ≡ faults_of self.old) × (reads_of self.new ≡ reads_of self.old) }
     {
-        self.asks.plan(k)
+        self.failing.add(k)
     }
 }
 
@@ -62,7 +61,8 @@ impl Pages for MemPages {
     ghost use Rattle.tw_disk.specs.Image.{Image, page_at};
     ghost use Rattle.tw_base.specs.Faults.{HasCause};
     ghost use Rattle.tw_disk.specs.Pages.{OnlyReads};
-    ghost use Rattle.tw_disk.specs.MemPages.{list_of, count_of, reads_of, failing_of, asks_of, faults_of, IsSame, IsUnbroken, told_used};
+    ghost use Rattle.tw_disk.specs.MemPages.{list_of, count_of, reads_of, failing_of, faults_of, IsSame, IsUnbroken};
+    ghost use Rattle.tw_disk.specs.MemPagesSteps.{told_used};
 
     ghost list = { list_of };
 
@@ -84,22 +84,21 @@ impl Pages for MemPages {
         self.pages.len() as u64
     }
 
-    fn read(&mut self, page: u64, into: &mut [u8; 4096]) -> Result<(), Failed>
-        requires low { 4 ≤ page }
+    fn read(&mut self, page: u64, into: &mut Page) -> Result<(), Failed>
+        requires low { FIRST_PAGE ≤ page }
         requires below { page < count_of self.old }
         ensures page { OnOk result ((pages : Image) → list_of self.old ≡ Some pages
-            → into.new ≡ page_at pages (page - 4)) }
+            → into.new ≡ page_at pages (page - FIRST_PAGE)) }
         ensures kept { OnlyReads count_of list_of IsSame IsUnbroken self.old self.new (IsOk result) }
         ensures cause { HasCause (faults_of self.old) (faults_of self.new) result }
 
         // It fails exactly where it was planned to.
-        ensures fails { IsErr result ↔ Contains (failing_of self.old) (asks_of self.new) }
-        ensures asked { asks_of self.new ≡ min (asks_of self.old + 1) (2 ^ 64 - 1) }
+        ensures fails { IsErr result ↔ IsTrue (fails_next (failing_of self.old)) }
         ensures reads { reads_of self.new ≡ min (reads_of self.old + 1) (2 ^ 64 - 1) }
-        ensures plans { failing_of self.new ≡ failing_of self.old }
+        ensures plans { failing_of self.new ≡ after_call (failing_of self.old) }
     {
         self.reads = self.reads.saturating_add(1);
-        if self.asks.is_next_to_fail() {
+        if self.failing.count_call() {
             self.faults = self.faults.saturating_add(1);
             return Err(Failed);
         }
@@ -107,8 +106,8 @@ impl Pages for MemPages {
         Ok(())
     }
 
-    fn stage(&mut self, page: &[u8; 4096]) -> Result<u64, NoMemory>
-        requires { count_of self.old < 2 ^ 48 - 4 }
+    fn stage(&mut self, page: &Page) -> Result<u64, NoMemory>
+        requires { count_of self.old < NUMBER_LIMIT - FIRST_PAGE }
         ensures number { IfOk result (λ n. n ≡ count_of self.old) }
         ensures list { OnOk result (list_of self.new ≡ option_map (λ pages. pages ++ page.now ∷ []) (list_of self.old)) }
         ensures used { OnOk result (count_of self.new ≡ count_of self.old + 1) }
@@ -117,13 +116,10 @@ impl Pages for MemPages {
         ensures same { IsSame self.old self.new }
         ensures unbroken { IsUnbroken self.old → IsUnbroken self.new }
         ensures faults { faults_of self.new ≡ faults_of self.old }
-        ensures asked { (asks_of self.new ≡ asks_of self.old) × (reads_of self.new ≡ reads_of self.old) }
-        ensures plans { failing_of self.new ≡ failing_of self.old }
+        ensures kept { (failing_of self.new ≡ failing_of self.old) × (reads_of self.new ≡ reads_of self.old) }
     {
         let number = self.pages.len() as u64;
-        match self.pages.push(*page) {
-            Ok(()) => Ok(number),
-            Err(_) => Err(NoMemory),
-        }
+        self.pages.push(*page)?;
+        Ok(number)
     }
 }

@@ -3,14 +3,19 @@
 ghost use Rattle.std.specs.Prelude.{◌≡◌, ◌+◌, ◌++◌, ◌≤◌, ℕ, List, length, take, drop};
 ghost use Rattle.std.specs.Int.{from_be_bytes, w16, w32, w64};
 ghost use Rattle.tw_disk.specs.PageBytes.{padded};
+ghost use Rattle.tw_disk.specs.declared.limits.TheConstants.{PAGE_SIZE};
 
+use crate::limits::PAGE_SIZE;
 use tw_base::Digest;
+
+/// The bytes of a page.
+pub type Page = [u8; PAGE_SIZE];
 
 /// Puts bytes into a page at a place, which is from 0 to 4,096 less the number of bytes. Where the
 /// page is some bytes up to that place and zeros from there on, it is then these bytes, the bytes put
 /// in, and zeros to its end; of any other page nothing is promised.
-pub fn append_at(page: &mut [u8; 4096], at: usize, bytes: &[u8])
-    requires { at + length bytes.now ≤ 4096 }
+pub fn append_at(page: &mut Page, at: usize, bytes: &[u8])
+    requires { at + length bytes.now ≤ PAGE_SIZE }
     ensures { (front : List ℕ) → length front ≡ at → page.old ≡ padded front → page.new ≡ padded (front ++ bytes.now) }
 {
     page[at..at + bytes.len()].copy_from_slice(bytes);

@@ -4,7 +4,9 @@ ghost use Rattle.std.specs.Option.{option_map};
 ghost use Rattle.tw_disk.specs.Image.{Image, page_at};
 ghost use Rattle.tw_base.specs.Faults.{HasCause};
 ghost use Rattle.tw_disk.specs.Pages.{OnlyReads};
+ghost use Rattle.tw_disk.specs.declared.limits.TheConstants.{FIRST_PAGE, NUMBER_LIMIT};
 
+use crate::Page;
 use tw_base::{Failed, NoMemory};
 
 /// Numbered pages of 4,096 bytes, of which those from number 4 on can be read. Pages are only added, at the end.
@@ -32,17 +34,17 @@ pub trait Pages {
         ensures { result ≡ used_count self.now };
 
     /// Gives the bytes of a page from number 4 on. After `Failed` the array may hold anything.
-    fn read(&mut self, page: u64, into: &mut [u8; 4096]) -> Result<(), Failed>
-        requires low { 4 ≤ page }
+    fn read(&mut self, page: u64, into: &mut Page) -> Result<(), Failed>
+        requires low { FIRST_PAGE ≤ page }
         requires below { page < used_count self.old }
         ensures page { OnOk result ((pages : Image) → list self.old ≡ Some pages
-            → into.new ≡ page_at pages (page - 4)) }
+            → into.new ≡ page_at pages (page - FIRST_PAGE)) }
         ensures kept { OnlyReads used_count list same unbroken self.old self.new (IsOk result) }
         ensures cause { HasCause (faults self.old) (faults self.new) result };
 
     /// Puts a page at the end, and answers its number, which is the old `used`. After `NoMemory` all is as before.
-    fn stage(&mut self, page: &[u8; 4096]) -> Result<u64, NoMemory>
-        requires { used_count self.old < 2 ^ 48 - 4 }
+    fn stage(&mut self, page: &Page) -> Result<u64, NoMemory>
+        requires { used_count self.old < NUMBER_LIMIT - FIRST_PAGE }
         ensures number { IfOk result (λ n. n ≡ used_count self.old) }
         ensures list { OnOk result (list self.new ≡ option_map (λ pages. pages ++ page.now ∷ []) (list self.old)) }
         ensures used { OnOk result (used_count self.new ≡ used_count self.old + 1) }
@@ -53,7 +55,7 @@ pub trait Pages {
         ensures faults { faults self.new ≡ faults self.old };
 
     /// The list that is told has as many pages as are counted.
-    ghost told_count: { (s : Self) (pages : Image) → list s ≡ Some pages → used_count s ≡ 4 + length pages };
+    ghost told_count: { (s : Self) (pages : Image) → list s ≡ Some pages → used_count s ≡ FIRST_PAGE + length pages };
 
     /// A value is the same as itself.
     ghost same_itself: { (s : Self) → same s s };

@@ -3,7 +3,7 @@ use Rattle.std.proofs.Common.{ℕ, ◌+◌, List, ◌++◌, length, take, take-a
 use Rattle.std.specs.Prelude.{Option, Some}
 use Rattle.std.proofs.lemmas.List.{append_assoc, length-append}
 use Rattle.std.proofs.Math.Seq.{take-append-add}
-use Rattle.tw_outside.specs.Taken.{Appends, AppendsPart, IsUnchanged}
+use Rattle.tw_outside.specs.TakenBytes.{Appends, AppendsPart, IsUnchanged}
 
 -- one text after another
 pub Appends-append : (old between new : Option (List ℕ)) (first second : List ℕ)

@@ -28,8 +28,8 @@ pub record Came (bytes : List ℕ) (at : ℕ) (piece : List ℕ) (n : ℕ) : Typ
   pub ends : 0 < length piece → ((n ≡ 0) ↔ (length bytes ≤ at))
 
 -- These are the first bytes of the named file, where it is told.
-abbrev pub IsFront : Option Files → List ℕ → List ℕ → Type 0
-IsFront told name front = (bytes : List ℕ) → Tells told name bytes → front ≡ take (length front) bytes
+abbrev pub IsFrontOfFile : Option Files → List ℕ → List ℕ → Type 0
+IsFrontOfFile told name front = (bytes : List ℕ) → Tells told name bytes → front ≡ take (length front) bytes
 
 -- These are the bytes of the named file up to the limit, or all of them if it has no more, where it is told.
 abbrev pub IsReadTo : Option Files → List ℕ → ℕ → List ℕ → Type 0

@@ -1,4 +1,4 @@
 pub mod Files
-pub mod Taken
-pub mod Calls
+pub mod TakenBytes
+pub mod PlannedFailures
 pub mod Memory

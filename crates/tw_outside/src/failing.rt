@@ -1,6 +1,6 @@
 // The calls of an object in memory that are to fail.
 ghost use Rattle.std.specs.Prelude.{◌≡◌, ◌++◌, ◌∷◌, [], OnOk, OnErr};
-ghost use Rattle.tw_outside.specs.Calls.{fails_next, after_call};
+ghost use Rattle.tw_outside.specs.PlannedFailures.{fails_next, after_call};
 
 use std::alloc::Global;
 use std::marker::Model;
@@ -36,7 +36,8 @@ impl FailingCalls {
         ensures ok { OnOk result (self.new ≡ self.old ++ k ∷ []) }
         ensures err { OnErr result (self.new ≡ self.old) }
     {
-        self.numbers.push(k).map_err(|_| NoMemory)
+        self.numbers.push(k)?;
+        Ok(())
     }
 
     /// Counts a call, and tells whether it is to fail.

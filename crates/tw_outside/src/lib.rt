@@ -14,7 +14,7 @@ pub use failing::FailingCalls;
 pub use inputs::Inputs;
 pub use mem_inputs::MemInputs;
 pub use mem_sink::MemSink;
-pub use reading::{PIECE, ReadFault, read_all, read_piece};
+pub use reading::{InputFault, PIECE, read_all, read_piece};
 pub use sink::Sink;
 pub use writing::write_all;
 

@@ -1,7 +1,7 @@
 // Inputs in memory.
 ghost use Rattle.std.specs.Prelude.{◌≡◌, ◌≤◌, ◌++◌, ◌∷◌, [], ◌⊎◌, ◌↔◌, ℕ, List, length, OnOk, OnErr, IfOk, IsErr, IsNone, IsTrue};
 ghost use Rattle.std.specs.FinMap as map_of;
-ghost use Rattle.tw_outside.specs.Calls.{fails_next, after_call};
+ghost use Rattle.tw_outside.specs.PlannedFailures.{fails_next, after_call};
 ghost use Rattle.tw_base.specs.Faults.{HasCause};
 ghost use Rattle.tw_outside.specs.Files.{Came};
 
@@ -51,11 +51,10 @@ impl MemInputs {
         ensures failing { failing_reads self.new ≡ failing_reads self.old }
         ensures faults { input_faults self.new ≡ input_faults self.old }
     {
-        let name = String::from_str(self.alloc, name).map_err(|_| NoMemory)?;
-        let bytes = Vec::from_slice(self.alloc, bytes).map_err(|_| NoMemory)?;
-        self.files
-            .push_front(StoredFile { name, bytes })
-            .map_err(|_| NoMemory)
+        let name = String::from_str(self.alloc, name)?;
+        let bytes = Vec::from_slice(self.alloc, bytes)?;
+        self.files.push_front(StoredFile { name, bytes })?;
+        Ok(())
     }
 
     /// Makes the k-th read from now on fail, beside those that are to fail already. 1 is the next read, and 0 is none.

@@ -1,6 +1,6 @@
 // A sink in memory.
 ghost use Rattle.std.specs.Prelude.{◌≡◌, ◌++◌, ◌∷◌, [], length, OnOk, OnErr, IfOk, IsErr, IsTrue};
-ghost use Rattle.tw_outside.specs.Calls.{fails_next, after_call};
+ghost use Rattle.tw_outside.specs.PlannedFailures.{fails_next, after_call};
 ghost use Rattle.tw_base.specs.Faults.{HasCause};
 
 use crate::failing::FailingCalls;

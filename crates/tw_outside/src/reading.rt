@@ -1,22 +1,44 @@
 // Reading an input piece by piece.
 ghost use Rattle.std.specs.Prelude.{◌≡◌, ◌<◌, ◌≤◌, ◌↔◌, ◌+◌, ◌*◌, ◌/◌, ℕ, List, vec_len, Ok, Err, true, false, IfOk, OnOk, OnErr};
 ghost use Rattle.tw_base.specs.Faults.{Rose};
-ghost use Rattle.tw_outside.specs.Files.{IsThere, IsFront, IsReadTo};
+ghost use Rattle.tw_outside.specs.Files.{IsThere, IsFrontOfFile, IsReadTo};
 
 use crate::inputs::Inputs;
-use std::alloc::Global;
-use tw_base::{Failed, NoMemory};
+use std::alloc::{AllocError, Global};
+use tw_base::Failed;
 
 /// The size of a piece in bytes: one read asks for no more, and for none beyond the next multiple of it.
 pub const PIECE: usize = 4096;
 
 /// Why an input wasn't read.
 #[derive(Clone, Copy, PartialEq, Eq, Debug, Drop)]
-pub enum ReadFault {
+pub enum InputFault {
     /// The inputs failed: their count of faults rose.
     Failed,
     /// There was no memory for the bytes.
     NoMemory,
+}
+
+impl From<Failed> for InputFault {
+    ghost use Rattle.std.specs.Prelude.{◌≡◌};
+    ghost use Rattle.tw_outside.specs.declared.reading.InputFault.TheVariants.{Failed as InputsFailed};
+
+    ghost from_gives = { λ _ fault. fault ≡ InputsFailed };
+
+    fn from(_: Failed) -> Self {
+        InputFault::Failed
+    }
+}
+
+impl From<AllocError> for InputFault {
+    ghost use Rattle.std.specs.Prelude.{◌≡◌};
+    ghost use Rattle.tw_outside.specs.declared.reading.InputFault.TheVariants.{NoMemory as WantedMemory};
+
+    ghost from_gives = { λ _ fault. fault ≡ WantedMemory };
+
+    fn from(_: AllocError) -> Self {
+        InputFault::NoMemory
+    }
 }
 
 /// Reads what comes next of a file after the bytes read so far, by one read, and answers whether more may come.
@@ -29,33 +51,28 @@ pub fn read_piece<I: Inputs>(
     name: &str,
     limit: usize,
     all: &mut Vec<u8>,
-) -> Result<bool, ReadFault>
+) -> Result<bool, InputFault>
     requires ask { I.may_ask inputs.old name.now }
     requires room { vec_len all.old ≤ limit }
     ensures kept { I.told inputs.new ≡ I.told inputs.old }
     ensures same_names { (other : List ℕ) → I.may_ask inputs.new other ↔ I.may_ask inputs.old other }
     ensures later { I.faults inputs.old ≤ I.faults inputs.new }
-    ensures failed { result ≡ Err ReadFault.Failed → Rose (I.faults inputs.old) (I.faults inputs.new) }
+    ensures failed { result ≡ Err InputFault.Failed → Rose (I.faults inputs.old) (I.faults inputs.new) }
     ensures err { OnErr result (all.new.items ≡ all.old.items) }
 
     ensures there { OnOk result (IsThere (I.told inputs.old) name.now) }
     ensures within { vec_len all.new ≤ limit }
     ensures piece { vec_len all.new ≤ PIECE * (vec_len all.old / PIECE + 1) }
-    ensures front { IsFront (I.told inputs.old) name.now all.old.items → IsFront (I.told inputs.old) name.now all.new.items }
+    ensures front { IsFrontOfFile (I.told inputs.old) name.now all.old.items → IsFrontOfFile (I.told inputs.old) name.now all.new.items }
     ensures more { result ≡ Ok true → (vec_len all.old < vec_len all.new) × (vec_len all.new < limit) }
-    ensures end { result ≡ Ok false → IsFront (I.told inputs.old) name.now all.old.items → IsReadTo (I.told inputs.old) name.now limit all.new.items }
+    ensures end { result ≡ Ok false → IsFrontOfFile (I.told inputs.old) name.now all.old.items → IsReadTo (I.told inputs.old) name.now limit all.new.items }
 {
     let before = all.len();
     let room = (PIECE - before % PIECE).min(limit - before);
     let mut piece = [0u8; PIECE];
-    let came = match inputs.read(name, before as u64, &mut piece[..room]) {
-        Ok(came) => came,
-        Err(Failed) => return Err(ReadFault::Failed),
-    };
-    match all.extend_from_slice(&piece[..came]) {
-        Ok(()) => Ok(came > 0 && all.len() < limit),
-        Err(_) => Err(ReadFault::NoMemory),
-    }
+    let came = inputs.read(name, before as u64, &mut piece[..room])?;
+    all.extend_from_slice(&piece[..came])?;
+    Ok(came > 0 && all.len() < limit)
 }
 
 /// Reads the named file to its end, or to the limit, which is a number of bytes. Each byte is asked for once.
@@ -67,12 +84,12 @@ pub fn read_all<I: Inputs>(
     inputs: &mut I,
     name: &str,
     limit: usize,
-) -> Result<Vec<u8>, ReadFault>
+) -> Result<Vec<u8>, InputFault>
     requires { I.may_ask inputs.old name.now }
     ensures kept { I.told inputs.new ≡ I.told inputs.old }
     ensures same_names { (other : List ℕ) → I.may_ask inputs.new other ↔ I.may_ask inputs.old other }
     ensures later { I.faults inputs.old ≤ I.faults inputs.new }
-    ensures failed { result ≡ Err ReadFault.Failed → Rose (I.faults inputs.old) (I.faults inputs.new) }
+    ensures failed { result ≡ Err InputFault.Failed → Rose (I.faults inputs.old) (I.faults inputs.new) }
 
     ensures there { OnOk result (IsThere (I.told inputs.old) name.now) }
     ensures within { IfOk result (λ all. vec_len all ≤ limit) }

@@ -1,7 +1,7 @@
 // Writing a text whole.
 ghost use Rattle.std.specs.Prelude.{OnOk, OnErr};
 ghost use Rattle.tw_base.specs.Faults.{HasCause};
-ghost use Rattle.tw_outside.specs.Taken.{Appends, AppendsPart};
+ghost use Rattle.tw_outside.specs.TakenBytes.{Appends, AppendsPart};
 
 use crate::sink::Sink;
 use tw_base::Failed;

@@ -2,9 +2,10 @@
 use Rattle.std.proofs.Common.{◌≡◌, ◌≢◌, ℕ, ◌+◌, ◌<◌, ◌≤◌, List, length, get_or, refl, sym, ◌∙◌, ap, arith}
 use Rattle.std.proofs.lemmas.List.{get_or-replicate}
 use Rattle.tw_disk.specs.Image.{Image, put, page_at}
-use Rattle.tw_disk.specs.Put.{length-put, page_at-put_same, page_at-put_other}
+use Rattle.tw_disk.specs.PutSteps.{length-put, page_at-put_same, page_at-put_other}
 use Rattle.tw_pages.specs.Store.{OpensAboveOlder, IsBody, open_gate_page, closed_gate_page, body_page}
-use Rattle.tw_pages.specs.Init.{BothClosed, HasBodies, first_opening}
+use Rattle.tw_pages.specs.InitSteps.{BothClosed, HasBodies}
+use Rattle.tw_pages.specs.Init.{first_opening}
 use Rattle.tw_pages.proofs.Steps.{body_moved}
 
 -- two pages put side by side

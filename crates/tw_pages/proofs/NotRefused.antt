@@ -3,7 +3,7 @@ use Rattle.std.proofs.Common.{Bool, true, false, ◌≡◌, inl, inr, ⊎_elim, 
 use Rattle.std.proofs.lemmas.Bool.{cases_eq}
 use Rattle.tw_disk.specs.Image.{Image, page_at}
 use Rattle.tw_pages.specs.Store.{Opening, OpensAs, IsBody, used_of, spare_of}
-use Rattle.tw_pages.specs.Init.{IsUnmade}
+use Rattle.tw_pages.specs.InitSteps.{IsUnmade}
 use Rattle.tw_pages.specs.Slots.{IsOpen, IsBlank, IsTaken, IsRefusedFor, BreaksSlot, FailsFirst, HasOneGeneration}
 use Rattle.tw_pages.specs.declared.open.StoreFault.{StoreFault}
 use Rattle.tw_pages.specs.declared.open.StoreFault.TheVariants.{Taken, Blank, NotAStore, DiskFault, NoMemory}

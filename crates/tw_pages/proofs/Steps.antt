@@ -3,8 +3,10 @@ use Rattle.std.proofs.Common.{◌≡◌, ◌≢◌, inl, inr, ◌⊎◌, ⊎_eli
 use Rattle.std.proofs.lemmas.Bool.{cases_eq, cases_lt}
 use Rattle.std.proofs.lemmas.List.{get_or-replicate, get_or_append_left, get_or-append_right, get_or-take, length-take-le}
 use Rattle.tw_disk.specs.Image.{Image, Torn, put, page_at}
-use Rattle.tw_disk.specs.Put.{length-put, page_at-put_same, page_at-put_other, torn_put}
-use Rattle.tw_pages.specs.Store.{Opening, Stands, IsClosed, IsOlder, OpensAs, OpensAlone, OpensAboveOlder, IsReady, OpensAsEither, used_of, spare_of, body_page, Holds, open_gate_page, closed_gate_page, IsNext, IsBody}
+use Rattle.tw_disk.specs.PutSteps.{length-put, page_at-put_same, page_at-put_other}
+use Rattle.tw_disk.proofs.Puts.{torn_put}
+use Rattle.tw_pages.specs.Store.{Opening, Stands, IsClosed, IsOlder, OpensAs, OpensAlone, OpensAboveOlder, OpensAsEither, used_of, spare_of, body_page, open_gate_page, closed_gate_page, IsBody}
+use Rattle.tw_pages.specs.CommitSteps.{IsReady, Holds, IsNext}
 
 -- the same body on a disk of no fewer pages
 pub body_moved : (count count' : ℕ) (page page' : List ℕ) (generation used : ℕ) (root : List ℕ) → page' ≡ page → count ≤ count' → IsBody count page generation used root → IsBody count' page' generation used root

@@ -1,12 +1,11 @@
 -- What stands in the slots of an image, and why an image is refused.
-use Rattle.std.specs.Prelude.{◌≡◌, ◌⊎◌, ℕ, ◌+◌, ◌-◌, ◌^◌, ◌<◌, ◌≤◌, List, length, take, drop, slice_index}
+use Rattle.std.specs.Prelude.{◌≡◌, ◌⊎◌, ℕ, ◌+◌, ◌<◌, ◌≤◌, List, length, slice_index}
 use Rattle.tw_disk.specs.Image.{Image, page_at}
-use Rattle.tw_pages.specs.Store.{IsClosed, IsBody, IsAbove, Opening}
-use Rattle.tw_pages.specs.declared.open.Slot.{Slot}
-use Rattle.tw_pages.specs.declared.open.Slot.TheVariants.{Closed, Broken, Holds}
-use Rattle.tw_pages.specs.declared.open.Found.{Found}
+use Rattle.tw_pages.specs.Store.{IsClosed, IsBody}
 use Rattle.tw_pages.specs.declared.open.StoreFault.{StoreFault}
 use Rattle.tw_pages.specs.declared.open.StoreFault.TheVariants.{Taken, Blank, NotAStore, DiskFault, NoMemory}
+use Rattle.tw_disk.specs.declared.limits.TheConstants.{FIRST_PAGE}
+use Rattle.tw_pages.specs.declared.limits.TheConstants.{FIRST_BODY}
 
 -- the gate of this slot reads open
 abbrev pub IsOpen : ℕ → Image → Type 0
@@ -15,30 +14,7 @@ IsOpen slot image = slice_index (page_at image slot) 0 ≡ 1
 -- the gate of this slot reads open, and its body isn't of the grammar of bodies on a disk of that many pages
 pub record BreaksSlot (count slot : ℕ) (image : Image) : Type 0 where
   pub gate : IsOpen slot image
-  pub no_body : (generation used : ℕ) (root : List ℕ) → IsBody count (page_at image (2 + slot)) generation used root → ⊥
-
--- what was read of a slot: a closed gate, an open one over no body, or an open one over this body
-abbrev pub HoldsSlot : ℕ → ℕ → Image → Slot → Type 0
-HoldsSlot count slot image Closed = IsClosed slot image
-HoldsSlot count slot image Broken = BreaksSlot count slot image
-HoldsSlot count slot image (Holds b) = IsOpen slot image × IsBody count (page_at image (2 + slot)) b.generation b.used (take b.root_len b.root)
-
--- a body that was read has pages that the disk has
-abbrev pub HasRoom : ℕ → Slot → Type 0
-HasRoom count Closed = Unit {0}
-HasRoom count Broken = Unit {0}
-HasRoom count (Holds b) = b.used ≤ count
-
--- what an image opens as by what was found in it
-abbrev pub opening_found : Found → Image → Opening
-opening_found f image = record { root = take f.body.root_len f.body.root; generation = f.body.generation; slot = f.slot; pages = take (f.body.used - 4) (drop 4 image) }
-
-pub record IsFoundIn (image : Image) (f : Found) : Type 0 where
-  pub opens : IsAbove f.is_spare_open (opening_found f image) image
-  pub used_from : 4 ≤ f.body.used
-  pub used_to : f.body.used ≤ length image
-  pub used_fits : f.body.used < 2 ^ 48
-  pub generation_fits : f.body.generation < 2 ^ 48
+  pub no_body : (generation used : ℕ) (root : List ℕ) → IsBody count (page_at image (FIRST_BODY + slot)) generation used root → ⊥
 
 -- both gates read open, over bodies of one generation
 pub record HasOneGeneration (image : Image) : Type 0 where
@@ -49,8 +25,8 @@ pub record HasOneGeneration (image : Image) : Type 0 where
   pub root_second : List ℕ
   pub gate_first : IsOpen 0 image
   pub gate_second : IsOpen 1 image
-  pub first : IsBody (length image) (page_at image 2) generation used_first root_first
-  pub second : IsBody (length image) (page_at image 3) generation used_second root_second
+  pub first : IsBody (length image) (page_at image FIRST_BODY) generation used_first root_first
+  pub second : IsBody (length image) (page_at image (FIRST_BODY + 1)) generation used_second root_second
 
 -- the slot is the lowest that fails: its gate reads open over no body; or it is slot 1 and both bodies have one generation
 abbrev pub FailsFirst : ℕ → Image → Type 0
@@ -59,16 +35,16 @@ FailsFirst slot image = ((slot ≡ 0) × BreaksSlot (length image) 0 image)
 
 -- no store was begun, or its gates were never opened
 abbrev pub IsBlank : Image → Type 0
-IsBlank image = (length image < 4) ⊎ (IsClosed 0 image × IsClosed 1 image)
+IsBlank image = (length image < FIRST_PAGE) ⊎ (IsClosed 0 image × IsClosed 1 image)
 
 -- there are four pages, and a gate reads open
 abbrev pub IsTaken : Image → Type 0
-IsTaken image = (4 ≤ length image) × (IsOpen 0 image ⊎ IsOpen 1 image)
+IsTaken image = (FIRST_PAGE ≤ length image) × (IsOpen 0 image ⊎ IsOpen 1 image)
 
 -- why an image isn't opened
 abbrev pub IsRefusedFor : Image → StoreFault → Type 0
 IsRefusedFor image Blank = IsBlank image
-IsRefusedFor image (NotAStore slot) = (4 ≤ length image) × FailsFirst slot image
+IsRefusedFor image (NotAStore slot) = (FIRST_PAGE ≤ length image) × FailsFirst slot image
 IsRefusedFor image Taken = ⊥
 IsRefusedFor image DiskFault = ⊥
 IsRefusedFor image NoMemory = ⊥

@@ -1,8 +1,10 @@
 -- What an image of a disk opens as: two slots, each with a gate page and a body page, and then the committed pages.
-use Rattle.std.specs.Prelude.{Bool, true, false, ◌^◌, ◌≡◌, ◌≢◌, ◌⊎◌, ℕ, ◌+◌, ◌-◌, ◌<◌, ◌≤◌, List, [], ◌∷◌, ◌++◌, length, replicate, slice_index}
+use Rattle.std.specs.Prelude.{Bool, true, false, ◌≡◌, ◌≢◌, ◌⊎◌, ℕ, ◌+◌, ◌-◌, ◌<◌, ◌≤◌, List, [], ◌∷◌, ◌++◌, length, replicate, slice_index}
 use Rattle.std.specs.Int.{to_be_bytes, w16, w64}
 use Rattle.tw_disk.specs.Image.{Image, page_at}
 use Rattle.tw_disk.specs.PageBytes.{padded}
+use Rattle.tw_disk.specs.declared.limits.TheConstants.{FIRST_PAGE, NUMBER_LIMIT, PAGE_SIZE}
+use Rattle.tw_pages.specs.declared.limits.TheConstants.{FIRST_BODY, MOST_ROOT_BYTES}
 
 -- the letters TWSTORE1
 abbrev pub magic : List ℕ
@@ -14,11 +16,11 @@ body_page generation used root = padded (magic ++ to_be_bytes w64 generation ++ 
 
 -- the page of an open gate
 unfoldable pub open_gate_page : List ℕ
-open_gate_page = 1 ∷ replicate 4095 0
+open_gate_page = 1 ∷ replicate (PAGE_SIZE - 1) 0
 
 -- the page of a closed gate
 unfoldable pub closed_gate_page : List ℕ
-closed_gate_page = replicate 4096 0
+closed_gate_page = replicate PAGE_SIZE 0
 
 -- the gate of this slot doesn't read open
 abbrev pub IsClosed : ℕ → Image → Type 0
@@ -33,7 +35,7 @@ pub record Opening : Type 0 where
 
 -- the number of the pages that an opening uses
 abbrev pub used_of : Opening → ℕ
-used_of o = 4 + length o.pages
+used_of o = FIRST_PAGE + length o.pages
 
 abbrev pub spare_of : Opening → ℕ
 spare_of o = 1 - o.slot
@@ -41,26 +43,26 @@ spare_of o = 1 - o.slot
 -- the page is this body, whose pages a disk of that many pages has
 pub record IsBody (count : ℕ) (page : List ℕ) (generation used : ℕ) (root : List ℕ) : Type 0 where
   pub bytes : page ≡ body_page generation used root
-  pub generation_fits : generation < 2 ^ 48
-  pub used_from : 4 ≤ used
-  pub used_fits : used < 2 ^ 48
+  pub generation_fits : generation < NUMBER_LIMIT
+  pub used_from : FIRST_PAGE ≤ used
+  pub used_fits : used < NUMBER_LIMIT
   pub room : used ≤ count
-  pub root_fits : length root ≤ 512
+  pub root_fits : length root ≤ MOST_ROOT_BYTES
 
 -- the image has this body in its slot, with the gate open, and all the pages
 pub record Stands (o : Opening) (c : Image) : Type 0 where
   pub which : o.slot < 2
   pub room : used_of o ≤ length c
   pub gate : slice_index (page_at c o.slot) 0 ≡ 1
-  pub body : IsBody (length c) (page_at c (2 + o.slot)) o.generation (used_of o) o.root
-  pub pages : (k : ℕ) → k < length o.pages → page_at c (4 + k) ≡ page_at o.pages k
+  pub body : IsBody (length c) (page_at c (FIRST_BODY + o.slot)) o.generation (used_of o) o.root
+  pub pages : (k : ℕ) → k < length o.pages → page_at c (FIRST_PAGE + k) ≡ page_at o.pages k
 
 -- the body of the other slot is one of a lower generation
 pub record IsOlder (o : Opening) (c : Image) : Type 0 where
   pub generation : ℕ
   pub used : ℕ
   pub root : List ℕ
-  pub body : IsBody (length c) (page_at c (2 + spare_of o)) generation used root
+  pub body : IsBody (length c) (page_at c (FIRST_BODY + spare_of o)) generation used root
   pub lower : generation < o.generation
 
 -- the image opens as this: either the other gate is closed, or its body is older
@@ -78,29 +80,6 @@ pub record OpensAboveOlder (o : Opening) (c : Image) : Type 0 where
   pub stands : Stands o c
   pub older : IsOlder o c
 
--- these pages stand in it one after another
-pub record Holds (at : ℕ) (pages : Image) (c : Image) : Type 0 where
-  pub room : at + length pages ≤ length c
-  pub each : (k : ℕ) → k < length pages → page_at c (at + k) ≡ page_at pages k
-
--- the image opens as the old store, and needs but an open gate to open as the new one
-pub record IsReady (old new : Opening) (c : Image) : Type 0 where
-  pub alone : OpensAlone old c
-  pub other : new.slot ≡ spare_of old
-  pub next : new.generation ≡ old.generation + 1
-  pub room : used_of new ≤ length c
-  pub body : IsBody (length c) (page_at c (2 + new.slot)) new.generation (used_of new) new.root
-  pub pages : (k : ℕ) → k < length new.pages → page_at c (4 + k) ≡ page_at new.pages k
-
--- the new store, made of the old one and the staged pages
-pub record IsNext (old : Opening) (staged : Image) (new : Opening) : Type 0 where
-  pub other : new.slot ≡ spare_of old
-  pub next : new.generation ≡ old.generation + 1
-  pub pages : new.pages ≡ old.pages ++ staged
-  pub generation_fits : new.generation < 2 ^ 48
-  pub used_fits : used_of new < 2 ^ 48
-  pub root_fits : length new.root ≤ 512
-
 -- one or the other
 abbrev pub OpensAsEither : Opening → Opening → Image → Type 0
 OpensAsEither old new c = OpensAs old c ⊎ OpensAs new c
@@ -109,11 +88,3 @@ OpensAsEither old new c = OpensAs old c ⊎ OpensAs new c
 abbrev pub IsAbove : Bool → Opening → Image → Type 0
 IsAbove true o c = OpensAboveOlder o c
 IsAbove false o c = OpensAlone o c
-
--- the commit of these pages and this root, by the numbers that the code keeps
-pub record IsCommit (spare used generation : ℕ) (staged : Image) (root : List ℕ) (old new : Opening) : Type 0 where
-  pub spare_is : spare ≡ spare_of old
-  pub used_is : used ≡ used_of old
-  pub generation_is : generation ≡ old.generation
-  pub step : IsNext old staged new
-  pub root_is : new.root ≡ root

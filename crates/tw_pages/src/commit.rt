@@ -2,28 +2,27 @@
 ghost use Rattle.std.specs.Prelude.{◌≡◌, ◌⊎◌, ◌<◌, ◌≤◌, ◌+◌, ◌-◌, ◌^◌, ℕ, List, length, Some, OnOk, OnErr, IfSome};
 ghost use Rattle.std.specs.Option.{IsSomeAnd};
 ghost use Rattle.tw_disk.specs.Image.{Image};
-ghost use Rattle.tw_base.specs.Faults.{HasCause};
-ghost use Rattle.tw_disk.specs.Disk.{KeepsRoom, LeavesOnly, IsAtRest};
-ghost use Rattle.tw_pages.specs.Store.{Opening, OpensAs, OpensAlone, OpensAboveOlder, OpensAsEither, IsReady, IsAbove, IsCommit, spare_of};
-ghost use Rattle.tw_pages.specs.Told.{StaysTold};
+ghost use Rattle.tw_disk.specs.Disk.{LeavesOnly, IsAtRest, IsRun};
+ghost use Rattle.tw_pages.specs.Store.{Opening, OpensAs, OpensAlone, OpensAboveOlder, OpensAsEither, IsAbove, spare_of};
+ghost use Rattle.tw_pages.specs.CommitSteps.{IsReady, IsCommit};
+ghost use Rattle.tw_disk.specs.declared.limits.TheConstants.{FIRST_PAGE, NUMBER_LIMIT};
+ghost use Rattle.tw_pages.specs.declared.limits.TheConstants.{MOST_ROOT_BYTES};
 
 use crate::phases::{close_spare_gate, open_spare_gate, write_spare_body};
 use crate::staged::write_staged;
-use tw_disk::{Disk, Failed};
+use tw_disk::{Disk, Failed, Page};
 
 // Closes the spare gate where it reads open.
 pub fn see_spare_gate_closed<D: Disk>(disk: &mut D, spare: u64, is_open: bool) -> Result<(), Failed>
     requires low { spare < 2 }
-    requires room { IsSomeAnd (D.count disk.old) (λ n. 4 ≤ n) }
+    requires room { IsSomeAnd (D.view disk.old).count (λ n. FIRST_PAGE ≤ n) }
     ensures closed { OnOk result ((o : Opening) → spare ≡ spare_of o
-        → IsAtRest D.content D.may_leave disk.old (IsAbove is_open o)
-        → IsAtRest D.content D.may_leave disk.new (OpensAlone o)) }
+        → IsAtRest (D.view disk.old) (IsAbove is_open o)
+        → IsAtRest (D.view disk.new) (OpensAlone o)) }
     ensures images { (o : Opening) → spare ≡ spare_of o
-        → IsAtRest D.content D.may_leave disk.old (IsAbove is_open o)
-        → LeavesOnly D.moment D.may_leave D.left_since disk.old disk.new (OpensAs o) }
-    ensures room { KeepsRoom (D.count disk.old) (D.count disk.new) }
-    ensures told { StaysTold (D.content disk.old) (D.content disk.new) }
-    ensures cause { HasCause (D.faults disk.old) (D.faults disk.new) result }
+        → IsAtRest (D.view disk.old) (IsAbove is_open o)
+        → LeavesOnly (D.view disk.old) (D.view disk.new) (OpensAs o) }
+    ensures run { IsRun (D.view disk.old) (D.view disk.new) result }
 {
     if is_open {
         close_spare_gate(disk, spare)?;
@@ -38,26 +37,24 @@ pub fn prepare<D: Disk>(
     is_open: bool,
     used: u64,
     generation: u64,
-    staged: &[[u8; 4096]],
+    staged: &[Page],
     root: &[u8],
 ) -> Result<(), Failed>
     requires low { spare < 2 }
-    requires root { length root.now ≤ 512 }
-    requires used { 4 ≤ used }
-    requires room { IsSomeAnd (D.count disk.old) (λ n. used ≤ n) }
-    requires fits { used + length staged.now < 2 ^ 48 }
-    requires next { generation < 2 ^ 48 }
+    requires root { length root.now ≤ MOST_ROOT_BYTES }
+    requires used { FIRST_PAGE ≤ used }
+    requires room { IsSomeAnd (D.view disk.old).count (λ n. used ≤ n) }
+    requires fits { used + length staged.now < NUMBER_LIMIT }
+    requires next { generation < NUMBER_LIMIT }
     ensures ready { OnOk result ((old new : Opening)
         → IsCommit spare used generation staged.now root.now old new
-        → IsAtRest D.content D.may_leave disk.old (IsAbove is_open old)
-        → IsAtRest D.content D.may_leave disk.new (IsReady old new)) }
+        → IsAtRest (D.view disk.old) (IsAbove is_open old)
+        → IsAtRest (D.view disk.new) (IsReady old new)) }
     ensures images { (old new : Opening) → IsCommit spare used generation staged.now root.now old new
-        → IsAtRest D.content D.may_leave disk.old (IsAbove is_open old)
-        → LeavesOnly D.moment D.may_leave D.left_since disk.old disk.new (OpensAs old) }
-    ensures grown { OnOk result (IsSomeAnd (D.count disk.new) (λ n. used + length staged.now ≤ n)) }
-    ensures room { KeepsRoom (D.count disk.old) (D.count disk.new) }
-    ensures told { StaysTold (D.content disk.old) (D.content disk.new) }
-    ensures cause { HasCause (D.faults disk.old) (D.faults disk.new) result }
+        → IsAtRest (D.view disk.old) (IsAbove is_open old)
+        → LeavesOnly (D.view disk.old) (D.view disk.new) (OpensAs old) }
+    ensures grown { OnOk result (IsSomeAnd (D.view disk.new).count (λ n. used + length staged.now ≤ n)) }
+    ensures run { IsRun (D.view disk.old) (D.view disk.new) result }
 {
     see_spare_gate_closed(disk, spare, is_open)?;
     write_staged(disk, used, staged)?;
@@ -78,26 +75,24 @@ pub fn commit_to<D: Disk>(
     is_open: bool,
     used: u64,
     generation: u64,
-    staged: &[[u8; 4096]],
+    staged: &[Page],
     root: &[u8],
 ) -> Result<(), Failed>
     requires low { spare < 2 }
-    requires root { length root.now ≤ 512 }
-    requires used { 4 ≤ used }
-    requires room { IsSomeAnd (D.count disk.old) (λ n. used ≤ n) }
-    requires fits { used + length staged.now < 2 ^ 48 }
-    requires next { generation < 2 ^ 48 }
+    requires root { length root.now ≤ MOST_ROOT_BYTES }
+    requires used { FIRST_PAGE ≤ used }
+    requires room { IsSomeAnd (D.view disk.old).count (λ n. used ≤ n) }
+    requires fits { used + length staged.now < NUMBER_LIMIT }
+    requires next { generation < NUMBER_LIMIT }
     ensures done { OnOk result ((old new : Opening)
         → IsCommit spare used generation staged.now root.now old new
-        → IsAtRest D.content D.may_leave disk.old (IsAbove is_open old)
-        → IsAtRest D.content D.may_leave disk.new (OpensAboveOlder new)) }
+        → IsAtRest (D.view disk.old) (IsAbove is_open old)
+        → IsAtRest (D.view disk.new) (OpensAboveOlder new)) }
     ensures images { (old new : Opening) → IsCommit spare used generation staged.now root.now old new
-        → IsAtRest D.content D.may_leave disk.old (IsAbove is_open old)
-        → LeavesOnly D.moment D.may_leave D.left_since disk.old disk.new (OpensAsEither old new) }
-    ensures room { KeepsRoom (D.count disk.old) (D.count disk.new) }
-    ensures grown { OnOk result (IsSomeAnd (D.count disk.new) (λ n. used + length staged.now ≤ n)) }
-    ensures told { StaysTold (D.content disk.old) (D.content disk.new) }
-    ensures cause { HasCause (D.faults disk.old) (D.faults disk.new) result }
+        → IsAtRest (D.view disk.old) (IsAbove is_open old)
+        → LeavesOnly (D.view disk.old) (D.view disk.new) (OpensAsEither old new) }
+    ensures grown { OnOk result (IsSomeAnd (D.view disk.new).count (λ n. used + length staged.now ≤ n)) }
+    ensures run { IsRun (D.view disk.old) (D.view disk.new) result }
 {
     prepare(disk, spare, is_open, used, generation, staged, root)?;
     open_spare_gate(disk, spare)?;

@@ -2,29 +2,32 @@
 ghost use Rattle.std.specs.Prelude.{◌≡◌, ◌⊎◌, ◌<◌, ◌≤◌, ℕ, List, length, Some, Err, OnOk, IfOk, IfErr, if◌then◌else◌};
 ghost use Rattle.std.specs.Option.{IsSomeAnd};
 ghost use Rattle.tw_disk.specs.Image.{Image};
-ghost use Rattle.tw_base.specs.Faults.{HasCause, Rose};
-ghost use Rattle.tw_disk.specs.Disk.{LeavesOnly, IsAtRest};
+ghost use Rattle.tw_base.specs.Faults.{Rose};
+ghost use Rattle.tw_disk.specs.Disk.{LeavesOnly, IsAtRest, IsRun};
 ghost use Rattle.tw_pages.specs.Store.{OpensAboveOlder};
-ghost use Rattle.tw_pages.specs.Init.{BothClosed, HasBodies, IsUnmade, first_opening, IsBlankOrNew};
+ghost use Rattle.tw_pages.specs.InitSteps.{BothClosed, HasBodies, IsUnmade};
+ghost use Rattle.tw_pages.specs.Init.{first_opening, IsBlankOrNew};
 ghost use Rattle.tw_pages.specs.Slots.{IsBlank, IsTaken};
-ghost use Rattle.tw_pages.specs.Told.{StaysTold};
+ghost use Rattle.tw_disk.specs.declared.limits.TheConstants.{FIRST_PAGE};
+ghost use Rattle.tw_pages.specs.declared.limits.TheConstants.{MOST_ROOT_BYTES};
 
 use crate::durable::write_pair_durably;
 use crate::gate::is_gate_open;
 use crate::layout::{body, closed_gate, open_gate};
+use crate::limits::FIRST_BODY;
 use crate::open::{StoreFault, settle};
+use tw_disk::limits::FIRST_PAGE;
 use tw_disk::{Disk, Failed};
 
 // Writes both gates closed, for good.
 pub fn write_closed_gates<D: Disk>(disk: &mut D) -> Result<(), Failed>
-    requires { IsSomeAnd (D.count disk.old) (λ n. 0 ≤ n) }
-    ensures closed { OnOk result (IsAtRest D.content D.may_leave disk.old (λ c. length c < 4)
-        → IsAtRest D.content D.may_leave disk.new BothClosed) }
-    ensures images { IsAtRest D.content D.may_leave disk.old (λ c. length c < 4)
-        → LeavesOnly D.moment D.may_leave D.left_since disk.old disk.new (λ c. length c < 4) }
-    ensures grown { OnOk result (IsSomeAnd (D.count disk.new) (λ n. 2 ≤ n)) }
-    ensures told { StaysTold (D.content disk.old) (D.content disk.new) }
-    ensures cause { HasCause (D.faults disk.old) (D.faults disk.new) result }
+    requires { IsSomeAnd (D.view disk.old).count (λ n. 0 ≤ n) }
+    ensures closed { OnOk result (IsAtRest (D.view disk.old) (λ c. length c < FIRST_PAGE)
+        → IsAtRest (D.view disk.new) BothClosed) }
+    ensures images { IsAtRest (D.view disk.old) (λ c. length c < FIRST_PAGE)
+        → LeavesOnly (D.view disk.old) (D.view disk.new) (λ c. length c < FIRST_PAGE) }
+    ensures grown { OnOk result (IsSomeAnd (D.view disk.new).count (λ n. 2 ≤ n)) }
+    ensures run { IsRun (D.view disk.old) (D.view disk.new) result }
 {
     write_pair_durably(disk, 0, &closed_gate(), 1, &closed_gate())?;
     Ok(())
@@ -32,32 +35,36 @@ pub fn write_closed_gates<D: Disk>(disk: &mut D) -> Result<(), Failed>
 
 // Writes both bodies, for good.
 pub fn write_bodies<D: Disk>(disk: &mut D, root: &[u8]) -> Result<(), Failed>
-    requires room { IsSomeAnd (D.count disk.old) (λ n. 2 ≤ n) }
-    requires root { length root.now ≤ 512 }
-    ensures ready { OnOk result (IsAtRest D.content D.may_leave disk.old BothClosed
-        → IsAtRest D.content D.may_leave disk.new (λ c. BothClosed c × HasBodies root.now c)) }
-    ensures images { IsAtRest D.content D.may_leave disk.old BothClosed
-        → LeavesOnly D.moment D.may_leave D.left_since disk.old disk.new BothClosed }
-    ensures grown { OnOk result (IsSomeAnd (D.count disk.new) (λ n. 4 ≤ n)) }
-    ensures told { StaysTold (D.content disk.old) (D.content disk.new) }
-    ensures cause { HasCause (D.faults disk.old) (D.faults disk.new) result }
+    requires room { IsSomeAnd (D.view disk.old).count (λ n. 2 ≤ n) }
+    requires root { length root.now ≤ MOST_ROOT_BYTES }
+    ensures ready { OnOk result (IsAtRest (D.view disk.old) BothClosed
+        → IsAtRest (D.view disk.new) (λ c. BothClosed c × HasBodies root.now c)) }
+    ensures images { IsAtRest (D.view disk.old) BothClosed
+        → LeavesOnly (D.view disk.old) (D.view disk.new) BothClosed }
+    ensures grown { OnOk result (IsSomeAnd (D.view disk.new).count (λ n. FIRST_PAGE ≤ n)) }
+    ensures run { IsRun (D.view disk.old) (D.view disk.new) result }
 {
-    write_pair_durably(disk, 2, &body(1, 4, root), 3, &body(0, 4, root))?;
+    write_pair_durably(
+        disk,
+        FIRST_BODY,
+        &body(1, FIRST_PAGE, root),
+        FIRST_BODY + 1,
+        &body(0, FIRST_PAGE, root),
+    )?;
     Ok(())
 }
 
 // Writes both gates open, for good, which makes the store.
 pub fn write_open_gates<D: Disk>(disk: &mut D) -> Result<(), Failed>
-    requires { IsSomeAnd (D.count disk.old) (λ n. 4 ≤ n) }
-    ensures grown { OnOk result (IsSomeAnd (D.count disk.new) (λ n. 4 ≤ n)) }
+    requires { IsSomeAnd (D.view disk.old).count (λ n. FIRST_PAGE ≤ n) }
+    ensures grown { OnOk result (IsSomeAnd (D.view disk.new).count (λ n. FIRST_PAGE ≤ n)) }
     ensures opened { OnOk result ((root : List ℕ)
-        → IsAtRest D.content D.may_leave disk.old (λ c. BothClosed c × HasBodies root c)
-        → IsAtRest D.content D.may_leave disk.new (OpensAboveOlder (first_opening root))) }
-    ensures images { (root : List ℕ) → IsAtRest D.content D.may_leave disk.old (λ c. BothClosed c
+        → IsAtRest (D.view disk.old) (λ c. BothClosed c × HasBodies root c)
+        → IsAtRest (D.view disk.new) (OpensAboveOlder (first_opening root))) }
+    ensures images { (root : List ℕ) → IsAtRest (D.view disk.old) (λ c. BothClosed c
         × HasBodies root c)
-        → LeavesOnly D.moment D.may_leave D.left_since disk.old disk.new (IsBlankOrNew root) }
-    ensures told { StaysTold (D.content disk.old) (D.content disk.new) }
-    ensures cause { HasCause (D.faults disk.old) (D.faults disk.new) result }
+        → LeavesOnly (D.view disk.old) (D.view disk.new) (IsBlankOrNew root) }
+    ensures run { IsRun (D.view disk.old) (D.view disk.new) result }
 {
     write_pair_durably(disk, 0, &open_gate(), 1, &open_gate())?;
     Ok(())
@@ -65,18 +72,18 @@ pub fn write_open_gates<D: Disk>(disk: &mut D) -> Result<(), Failed>
 
 // Makes what was written stable, refuses a store that is there, and tells whether there are too few pages for one.
 pub fn look<D: Disk>(disk: &mut D) -> Result<bool, StoreFault>
-    ensures unmade { IfOk result (λ short. (c : Image) → D.content disk.old ≡ Some c
-        → IsAtRest D.content D.may_leave disk.new (λ i. (i ≡ c) × IsUnmade short i)) }
-    ensures images { LeavesOnly D.moment D.may_leave D.left_since disk.old disk.new (D.may_leave disk.old) }
-    ensures taken { result ≡ Err StoreFault.Taken → (c : Image) → D.content disk.old ≡ Some c → IsTaken c }
+    ensures unmade { IfOk result (λ short. (c : Image) → (D.view disk.old).content ≡ Some c
+        → IsAtRest (D.view disk.new) (λ i. (i ≡ c) × IsUnmade short i)) }
+    ensures images { LeavesOnly (D.view disk.old) (D.view disk.new) (D.view disk.old).may_leave }
+    ensures taken { result ≡ Err StoreFault.Taken → (c : Image) → (D.view disk.old).content ≡ Some c → IsTaken c }
     ensures answers { IfErr result (λ e. (e ≡ StoreFault.Taken) ⊎ (e ≡ StoreFault.DiskFault)) }
-    ensures content { D.content disk.new ≡ D.content disk.old }
-    ensures room { IfOk result (λ short. IsSomeAnd (D.count disk.new) (λ n. (if short then 0 else 2) ≤ n)) }
-    ensures fault { result ≡ Err StoreFault.DiskFault → Rose (D.faults disk.old) (D.faults disk.new) }
-    ensures later { D.faults disk.old ≤ D.faults disk.new }
+    ensures content { (D.view disk.new).content ≡ (D.view disk.old).content }
+    ensures room { IfOk result (λ short. IsSomeAnd (D.view disk.new).count (λ n. (if short then 0 else 2) ≤ n)) }
+    ensures fault { result ≡ Err StoreFault.DiskFault → Rose (D.view disk.old).faults (D.view disk.new).faults }
+    ensures later { (D.view disk.old).faults ≤ (D.view disk.new).faults }
 {
     let count = settle(disk)?;
-    if count < 4 {
+    if count < FIRST_PAGE {
         return Ok(true);
     }
     if is_gate_open(disk, 0)? {
@@ -90,14 +97,13 @@ pub fn look<D: Disk>(disk: &mut D) -> Result<bool, StoreFault>
 
 // Sees that both gates are closed.
 pub fn see_gates_closed<D: Disk>(disk: &mut D, short: bool) -> Result<(), Failed>
-    requires { IsSomeAnd (D.count disk.old) (λ n. (if short then 0 else 2) ≤ n) }
-    ensures closed { OnOk result (IsAtRest D.content D.may_leave disk.old (IsUnmade short)
-        → IsAtRest D.content D.may_leave disk.new BothClosed) }
-    ensures images { IsAtRest D.content D.may_leave disk.old (IsUnmade short)
-        → LeavesOnly D.moment D.may_leave D.left_since disk.old disk.new IsBlank }
-    ensures room { OnOk result (IsSomeAnd (D.count disk.new) (λ n. 2 ≤ n)) }
-    ensures told { StaysTold (D.content disk.old) (D.content disk.new) }
-    ensures cause { HasCause (D.faults disk.old) (D.faults disk.new) result }
+    requires { IsSomeAnd (D.view disk.old).count (λ n. (if short then 0 else 2) ≤ n) }
+    ensures closed { OnOk result (IsAtRest (D.view disk.old) (IsUnmade short)
+        → IsAtRest (D.view disk.new) BothClosed) }
+    ensures images { IsAtRest (D.view disk.old) (IsUnmade short)
+        → LeavesOnly (D.view disk.old) (D.view disk.new) IsBlank }
+    ensures room { OnOk result (IsSomeAnd (D.view disk.new).count (λ n. 2 ≤ n)) }
+    ensures run { IsRun (D.view disk.old) (D.view disk.new) result }
 {
     if short {
         write_closed_gates(disk)?;
@@ -107,15 +113,14 @@ pub fn see_gates_closed<D: Disk>(disk: &mut D, short: bool) -> Result<(), Failed
 
 // Writes a store where there is none.
 pub fn make<D: Disk>(disk: &mut D, short: bool, root: &[u8]) -> Result<(), Failed>
-    requires room { IsSomeAnd (D.count disk.old) (λ n. (if short then 0 else 2) ≤ n) }
-    requires root { length root.now ≤ 512 }
-    ensures made { OnOk result (IsAtRest D.content D.may_leave disk.old (IsUnmade short)
-        → IsAtRest D.content D.may_leave disk.new (OpensAboveOlder (first_opening root.now))) }
-    ensures images { IsAtRest D.content D.may_leave disk.old (IsUnmade short)
-        → LeavesOnly D.moment D.may_leave D.left_since disk.old disk.new (IsBlankOrNew root.now) }
-    ensures room { OnOk result (IsSomeAnd (D.count disk.new) (λ n. 4 ≤ n)) }
-    ensures told { StaysTold (D.content disk.old) (D.content disk.new) }
-    ensures cause { HasCause (D.faults disk.old) (D.faults disk.new) result }
+    requires room { IsSomeAnd (D.view disk.old).count (λ n. (if short then 0 else 2) ≤ n) }
+    requires root { length root.now ≤ MOST_ROOT_BYTES }
+    ensures made { OnOk result (IsAtRest (D.view disk.old) (IsUnmade short)
+        → IsAtRest (D.view disk.new) (OpensAboveOlder (first_opening root.now))) }
+    ensures images { IsAtRest (D.view disk.old) (IsUnmade short)
+        → LeavesOnly (D.view disk.old) (D.view disk.new) (IsBlankOrNew root.now) }
+    ensures room { OnOk result (IsSomeAnd (D.view disk.new).count (λ n. FIRST_PAGE ≤ n)) }
+    ensures run { IsRun (D.view disk.old) (D.view disk.new) result }
 {
     see_gates_closed(disk, short)?;
     write_bodies(disk, root)?;

@@ -11,6 +11,7 @@ mod gate;
 mod init;
 mod laws;
 mod layout;
+pub mod limits;
 mod open;
 mod paged;
 mod phases;

@@ -4,11 +4,15 @@ ghost use Rattle.std.specs.Option.{IsSomeAnd};
 ghost use Rattle.tw_base.specs.Faults.{HasCause, Rose};
 ghost use Rattle.tw_disk.specs.Image.{Image};
 ghost use Rattle.tw_disk.specs.Disk.{LeavesOnly, IsAtRest, Only};
-ghost use Rattle.tw_pages.specs.Slots.{HoldsSlot, IsFoundIn, IsRefusedFor, HasRoom};
+ghost use Rattle.tw_pages.specs.SlotSteps.{HoldsSlot, IsFoundIn, HasRoom};
+ghost use Rattle.tw_pages.specs.Slots.{IsRefusedFor};
 ghost use Rattle.tw_pages.specs.declared.open.StoreFault.TheVariants.{DiskFault};
+ghost use Rattle.tw_disk.specs.declared.limits.TheConstants.{FIRST_PAGE};
 
 use crate::body::{Body, read_body};
 use crate::gate::is_gate_open;
+use crate::limits::FIRST_BODY;
+use tw_disk::limits::{FIRST_PAGE, PAGE_SIZE};
 use tw_disk::{Disk, Failed};
 
 // What was read of a slot.
@@ -25,22 +29,22 @@ pub enum Slot {
 // Reads a slot: its gate, and its body where the gate reads open.
 pub fn read_slot<D: Disk>(disk: &mut D, slot: u64, count: u64) -> Result<Slot, Failed>
     requires low { slot < 2 }
-    requires count { D.count disk.old ≡ Some count }
-    requires room { 4 ≤ count }
-    ensures slot { IfOk result (λ s. (c : Image) → D.content disk.old ≡ Some c
+    requires count { (D.view disk.old).count ≡ Some count }
+    requires room { FIRST_PAGE ≤ count }
+    ensures slot { IfOk result (λ s. (c : Image) → (D.view disk.old).content ≡ Some c
         → HoldsSlot (length c) slot c s) }
     ensures room { IfOk result (HasRoom count) }
-    ensures count { D.count disk.new ≡ D.count disk.old }
-    ensures content { D.content disk.new ≡ D.content disk.old }
-    ensures images { (c : Image) → D.may_leave disk.new c → D.may_leave disk.old c }
-    ensures time { LeavesOnly D.moment D.may_leave D.left_since disk.old disk.new (D.may_leave disk.old) }
-    ensures cause { HasCause (D.faults disk.old) (D.faults disk.new) result }
+    ensures count { (D.view disk.new).count ≡ (D.view disk.old).count }
+    ensures content { (D.view disk.new).content ≡ (D.view disk.old).content }
+    ensures images { (c : Image) → (D.view disk.new).may_leave c → (D.view disk.old).may_leave c }
+    ensures time { LeavesOnly (D.view disk.old) (D.view disk.new) (D.view disk.old).may_leave }
+    ensures cause { HasCause (D.view disk.old).faults (D.view disk.new).faults result }
 {
     if !is_gate_open(disk, slot)? {
         return Ok(Slot::Closed);
     }
-    let mut page = [0; 4096];
-    disk.read(2 + slot, &mut page)?;
+    let mut page = [0; PAGE_SIZE];
+    disk.read(FIRST_BODY + slot, &mut page)?;
     match read_body(&page, count) {
         Some(body) => Ok(Slot::Holds(body)),
         None => Ok(Slot::Broken),
@@ -79,7 +83,7 @@ pub fn choose(first: Slot, second: Slot) -> Result<Found, StoreFault>
         → IfOk result (λ f. f.body.used ≤ count) }
     ensures answers { IfErr result (λ e. (e ≢ StoreFault.DiskFault) × (e ≢ StoreFault.Taken)
         × (e ≢ StoreFault.NoMemory)) }
-    ensures refused { (c : Image) → 4 ≤ length c → HoldsSlot (length c) 0 c first
+    ensures refused { (c : Image) → FIRST_PAGE ≤ length c → HoldsSlot (length c) 0 c first
         → HoldsSlot (length c) 1 c second → IfErr result (IsRefusedFor c) }
 {
     match (first, second) {
@@ -109,7 +113,7 @@ fn choose_newer(first: Body, second: Body) -> Result<Found, StoreFault>
         → IfOk result (λ f. f.body.used ≤ count) }
     ensures answers { IfErr result (λ e. (e ≢ StoreFault.DiskFault) × (e ≢ StoreFault.Taken)
         × (e ≢ StoreFault.NoMemory)) }
-    ensures refused { (c : Image) → 4 ≤ length c → HoldsSlot (length c) 0 c (Slot.Holds first)
+    ensures refused { (c : Image) → FIRST_PAGE ≤ length c → HoldsSlot (length c) 0 c (Slot.Holds first)
         → HoldsSlot (length c) 1 c (Slot.Holds second) → IfErr result (IsRefusedFor c) }
 {
     if first.generation == second.generation {
@@ -139,12 +143,12 @@ impl From<Failed> for StoreFault {
 
 // The first barrier of `init` and `open`, which makes what the disk reads stable, and the page count.
 pub fn settle<D: Disk>(disk: &mut D) -> Result<u64, Failed>
-    ensures count { IfOk result (λ n. D.count disk.new ≡ Some n) }
-    ensures durable { OnOk result (IfSome (D.content disk.old) (λ c. Only c (D.may_leave disk.new))) }
-    ensures content { D.content disk.new ≡ D.content disk.old }
-    ensures images { (c : Image) → D.may_leave disk.new c → D.may_leave disk.old c }
-    ensures time { LeavesOnly D.moment D.may_leave D.left_since disk.old disk.new (D.may_leave disk.old) }
-    ensures cause { HasCause (D.faults disk.old) (D.faults disk.new) result }
+    ensures count { IfOk result (λ n. (D.view disk.new).count ≡ Some n) }
+    ensures durable { OnOk result (IfSome (D.view disk.old).content (λ c. Only c (D.view disk.new).may_leave)) }
+    ensures content { (D.view disk.new).content ≡ (D.view disk.old).content }
+    ensures images { (c : Image) → (D.view disk.new).may_leave c → (D.view disk.old).may_leave c }
+    ensures time { LeavesOnly (D.view disk.old) (D.view disk.new) (D.view disk.old).may_leave }
+    ensures cause { HasCause (D.view disk.old).faults (D.view disk.new).faults result }
 {
     disk.barrier()?;
     let count = disk.pages()?;
@@ -153,19 +157,19 @@ pub fn settle<D: Disk>(disk: &mut D) -> Result<u64, Failed>
 
 // Makes what was written stable, and finds the slot that counts.
 pub fn find<D: Disk>(disk: &mut D) -> Result<Found, StoreFault>
-    ensures found { IfOk result (λ f. (c : Image) → D.content disk.old ≡ Some c
-        → IsAtRest D.content D.may_leave disk.new (λ i. (i ≡ c) × IsFoundIn i f)) }
-    ensures refused { IfErr result (λ e. (c : Image) → D.content disk.old ≡ Some c
+    ensures found { IfOk result (λ f. (c : Image) → (D.view disk.old).content ≡ Some c
+        → IsAtRest (D.view disk.new) (λ i. (i ≡ c) × IsFoundIn i f)) }
+    ensures refused { IfErr result (λ e. (c : Image) → (D.view disk.old).content ≡ Some c
         → (e ≡ StoreFault.DiskFault) ⊎ IsRefusedFor c e) }
-    ensures room { IfOk result (λ f. (f.slot < 2) × IsSomeAnd (D.count disk.new) (λ n. f.body.used ≤ n)) }
+    ensures room { IfOk result (λ f. (f.slot < 2) × IsSomeAnd (D.view disk.new).count (λ n. f.body.used ≤ n)) }
     ensures answers { IfErr result (λ e. (e ≢ StoreFault.Taken) × (e ≢ StoreFault.NoMemory)) }
-    ensures content { D.content disk.new ≡ D.content disk.old }
-    ensures images { LeavesOnly D.moment D.may_leave D.left_since disk.old disk.new (D.may_leave disk.old) }
-    ensures fault { result ≡ Err StoreFault.DiskFault → Rose (D.faults disk.old) (D.faults disk.new) }
-    ensures later { D.faults disk.old ≤ D.faults disk.new }
+    ensures content { (D.view disk.new).content ≡ (D.view disk.old).content }
+    ensures images { LeavesOnly (D.view disk.old) (D.view disk.new) (D.view disk.old).may_leave }
+    ensures fault { result ≡ Err StoreFault.DiskFault → Rose (D.view disk.old).faults (D.view disk.new).faults }
+    ensures later { (D.view disk.old).faults ≤ (D.view disk.new).faults }
 {
     let count = settle(disk)?;
-    if count < 4 {
+    if count < FIRST_PAGE {
         return Err(StoreFault::Blank);
     }
     let first = read_slot(disk, 0, count)?;

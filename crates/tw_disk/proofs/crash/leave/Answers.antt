@@ -1,8 +1,9 @@
 use Rattle.std.proofs.Common.{◌≡◌, ℕ, [], ap, sym, ◌∙◌, arith, replicate}
 use Rattle.tw_disk.specs.Model.{outcome, spoilt, at_rest}
-use Rattle.tw_disk.specs.Kept.{written_of, earlier}
-use Rattle.tw_disk.specs.Loose.{loose_below, loose_of, loose_is}
-use Rattle.tw_disk.specs.Calls.{now_is}
+use Rattle.tw_disk.specs.KeptCalls.{written_of, earlier}
+use Rattle.tw_disk.proofs.LooseLaws.{loose_below, loose_is}
+use Rattle.tw_disk.specs.LooseSteps.{loose_of}
+use Rattle.tw_disk.specs.MemDiskSteps.{now_is}
 use Rattle.tw_disk.proofs.crash.leave.Goals as goal
 
 pub spoil-requires : goal.spoil-requires

@@ -1,7 +1,7 @@
 use Rattle.std.proofs.Common.{ℕ, [], List, length, ap, ◌∙◌, subst, sym, arith}
 use Rattle.std.proofs.lemmas.List.{length-set}
 use Rattle.tw_disk.specs.Model.{spoilt}
-use Rattle.tw_disk.specs.Loose.{loose_of, AllBelow}
+use Rattle.tw_disk.specs.LooseSteps.{loose_of, AllBelow}
 use Rattle.tw_disk.proofs.Unwinding.{loose-pop, loose-pop_barrier}
 use Rattle.tw_disk.proofs.crash.spoil.Goals as goal
 

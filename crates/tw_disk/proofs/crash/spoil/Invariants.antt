@@ -1,6 +1,6 @@
 use Rattle.std.proofs.Common.{◌≡◌, [], length, vec_len}
 use Rattle.tw_disk.specs.Model.{spoilt}
-use Rattle.tw_disk.specs.Loose.{loose_of, AllBelow}
+use Rattle.tw_disk.specs.LooseSteps.{loose_of, AllBelow}
 use Rattle.tw_disk.proofs.crash.spoil.Given as goal
 
 abbrev pub invariant-loop-call : goal.invariant-loop-call

@@ -1,7 +1,7 @@
 use Rattle.std.proofs.Common.{◌≡◌, ◌<◌, ◌++◌, ◌∷◌, [], ℕ, List, ap, ◌∙◌, subst, sym, refl, length, arith}
 use Rattle.std.proofs.Math.ListN.{set}
 use Rattle.tw_disk.specs.Image.{Image}
-use Rattle.tw_disk.specs.Kept.{AllFit, written_of}
+use Rattle.tw_disk.specs.KeptCalls.{AllFit, written_of}
 use Rattle.tw_disk.specs.declared.call.Call.{Call}
 use Rattle.tw_disk.specs.declared.call.Call.TheVariants.{Overwrite, Append, Barrier}
 use Rattle.tw_disk.proofs.Unwinding.{fits_rest, fits_popped, settled-write, settled-barrier}

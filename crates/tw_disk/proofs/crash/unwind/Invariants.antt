@@ -1,5 +1,5 @@
 use Rattle.std.proofs.Common.{◌≡◌, vec_len}
-use Rattle.tw_disk.specs.Kept.{AllFit, written_of}
+use Rattle.tw_disk.specs.KeptCalls.{AllFit, written_of}
 use Rattle.tw_disk.proofs.crash.unwind.Given as goal
 
 abbrev pub invariant-loop-call : goal.invariant-loop-call

@@ -1,8 +1,8 @@
 use Rattle.std.proofs.Common.{◌≡◌, List, [], ◌∷◌, ◌++◌, length, sym, ap, ◌∙◌, arith}
 use Rattle.tw_disk.specs.declared.call.Call.{Call}
 use Rattle.tw_disk.specs.declared.call.Call.TheVariants.{Append}
-use Rattle.tw_disk.specs.Put.{put-end}
-use Rattle.tw_disk.specs.Calls.{gains_append}
+use Rattle.tw_disk.proofs.Puts.{put-end}
+use Rattle.tw_disk.proofs.KeptCallLaws.{gains_append}
 use Rattle.tw_disk.proofs.memory_disk.append.Goals as goal
 
 pub returns-clause-gains : goal.returns-clause-gains

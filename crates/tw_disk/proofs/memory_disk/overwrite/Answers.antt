@@ -2,8 +2,8 @@ use Rattle.std.proofs.Common.{[], List, ℕ, ap, sym, ◌∙◌, arith}
 use Rattle.std.proofs.Math.ListN.{set}
 use Rattle.std.proofs.lemmas.List.{set-set, set-get_or, get_or-set_same, length-set}
 use Rattle.tw_disk.specs.Model.{Write}
-use Rattle.tw_disk.specs.Put.{put-inside}
-use Rattle.tw_disk.specs.Calls.{gains_overwrite}
+use Rattle.tw_disk.proofs.Puts.{put-inside}
+use Rattle.tw_disk.proofs.KeptCallLaws.{gains_overwrite}
 use Rattle.tw_disk.specs.declared.call.Call.TheVariants.{Overwrite}
 use Rattle.tw_disk.proofs.memory_disk.overwrite.Goals as goal
 

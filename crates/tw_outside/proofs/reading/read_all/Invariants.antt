@@ -1,5 +1,5 @@
 use Rattle.std.proofs.Common.{◌≡◌, ℕ, ◌-◌, ◌≤◌, ◌↔◌, List, length}
-use Rattle.tw_outside.specs.Files.{IsFront}
+use Rattle.tw_outside.specs.Files.{IsFrontOfFile}
 use Rattle.tw_outside.proofs.reading.read_all.Given as goal
 
 abbrev pub invariant-loop-all : goal.invariant-loop-all
@@ -8,7 +8,7 @@ invariant-loop-all g l = record {
   same_names : (other : List ℕ) → g.I.Inputs.may_ask l.inputs other ↔ g.I.Inputs.may_ask l.fn.inputs other;
   later : g.I.Inputs.faults l.fn.inputs ≤ g.I.Inputs.faults l.inputs;
   within : length l.all.items ≤ l.limit;
-  front : IsFront (g.I.Inputs.told l.fn.inputs) l.name l.all.items;
+  front : IsFrontOfFile (g.I.Inputs.told l.fn.inputs) l.name l.all.items;
 }
 
 abbrev pub decreases-loop-all : goal.decreases-loop-all

@@ -1,5 +1,5 @@
 use Rattle.std.proofs.Common.{◌-◌, ◌≤◌, length, take}
-use Rattle.tw_outside.specs.Taken.{Appends}
+use Rattle.tw_outside.specs.TakenBytes.{Appends}
 use Rattle.tw_outside.proofs.writing.write_all.Given as goal
 
 abbrev pub invariant-loop-written : goal.invariant-loop-written

@@ -1,7 +1,8 @@
 use Rattle.std.proofs.Common.{inl, inr}
-use Rattle.tw_disk.specs.Moments.{goes_on, leaves_weaker}
+use Rattle.tw_disk.proofs.Moments.{goes_on, leaves_weaker}
 use Rattle.tw_pages.specs.Slots.{IsBlank}
-use Rattle.tw_pages.specs.Init.{BothClosed, IsBlankOrNew}
+use Rattle.tw_pages.specs.InitSteps.{BothClosed}
+use Rattle.tw_pages.specs.Init.{IsBlankOrNew}
 use Rattle.tw_pages.proofs.init.make.Goals as goal
 
 pub returns-in_err-write_open_gates-clause-images : goal.returns-in_err-write_open_gates-clause-images
@@ -9,10 +10,10 @@ returns-in_err-write_open_gates-clause-images g c = λ rest.
     let P = IsBlankOrNew c.args.root.now in
     let closed = c.in_ok-see_gates_closed.ensures.closed rest in
     let ready = c.in_ok-write_bodies.ensures.ready closed in
-    goes_on g.D.Disk.moment g.D.Disk.may_leave g.D.Disk.left_since c.args.disk.now c.write_bodies.new.disk c.write_open_gates.new.disk P
-    (goes_on g.D.Disk.moment g.D.Disk.may_leave g.D.Disk.left_since c.args.disk.now c.see_gates_closed.new.disk c.write_bodies.new.disk P
-    (leaves_weaker g.D.Disk.moment g.D.Disk.may_leave g.D.Disk.left_since c.args.disk.now c.see_gates_closed.new.disk IsBlank P (λ i blank. inl blank) (c.in_ok-see_gates_closed.ensures.images rest))
-    (leaves_weaker g.D.Disk.moment g.D.Disk.may_leave g.D.Disk.left_since c.see_gates_closed.new.disk c.write_bodies.new.disk BothClosed P (λ i both. inl (inr (both.first, both.second))) (c.in_ok-write_bodies.ensures.images closed)))
+    goes_on (g.D.Disk.view c.args.disk.now) (g.D.Disk.view c.write_bodies.new.disk) (g.D.Disk.view c.write_open_gates.new.disk) P
+    (goes_on (g.D.Disk.view c.args.disk.now) (g.D.Disk.view c.see_gates_closed.new.disk) (g.D.Disk.view c.write_bodies.new.disk) P
+    (leaves_weaker (g.D.Disk.view c.args.disk.now) (g.D.Disk.view c.see_gates_closed.new.disk) IsBlank P (λ i blank. inl blank) (c.in_ok-see_gates_closed.ensures.images rest))
+    (leaves_weaker (g.D.Disk.view c.see_gates_closed.new.disk) (g.D.Disk.view c.write_bodies.new.disk) BothClosed P (λ i both. inl (inr (both.first, both.second))) (c.in_ok-write_bodies.ensures.images closed)))
     (c.write_open_gates.ensures.images c.args.root.now ready)
 
 pub returns-clause-images : goal.returns-clause-images
@@ -20,8 +21,8 @@ returns-clause-images g c = λ rest.
     let P = IsBlankOrNew c.args.root.now in
     let closed = c.in_ok-see_gates_closed.ensures.closed rest in
     let ready = c.in_ok-write_bodies.ensures.ready closed in
-    goes_on g.D.Disk.moment g.D.Disk.may_leave g.D.Disk.left_since c.args.disk.now c.write_bodies.new.disk c.write_open_gates.new.disk P
-    (goes_on g.D.Disk.moment g.D.Disk.may_leave g.D.Disk.left_since c.args.disk.now c.see_gates_closed.new.disk c.write_bodies.new.disk P
-    (leaves_weaker g.D.Disk.moment g.D.Disk.may_leave g.D.Disk.left_since c.args.disk.now c.see_gates_closed.new.disk IsBlank P (λ i blank. inl blank) (c.in_ok-see_gates_closed.ensures.images rest))
-    (leaves_weaker g.D.Disk.moment g.D.Disk.may_leave g.D.Disk.left_since c.see_gates_closed.new.disk c.write_bodies.new.disk BothClosed P (λ i both. inl (inr (both.first, both.second))) (c.in_ok-write_bodies.ensures.images closed)))
+    goes_on (g.D.Disk.view c.args.disk.now) (g.D.Disk.view c.write_bodies.new.disk) (g.D.Disk.view c.write_open_gates.new.disk) P
+    (goes_on (g.D.Disk.view c.args.disk.now) (g.D.Disk.view c.see_gates_closed.new.disk) (g.D.Disk.view c.write_bodies.new.disk) P
+    (leaves_weaker (g.D.Disk.view c.args.disk.now) (g.D.Disk.view c.see_gates_closed.new.disk) IsBlank P (λ i blank. inl blank) (c.in_ok-see_gates_closed.ensures.images rest))
+    (leaves_weaker (g.D.Disk.view c.see_gates_closed.new.disk) (g.D.Disk.view c.write_bodies.new.disk) BothClosed P (λ i both. inl (inr (both.first, both.second))) (c.in_ok-write_bodies.ensures.images closed)))
     (c.in_ok-write_open_gates.ensures.images c.args.root.now ready)

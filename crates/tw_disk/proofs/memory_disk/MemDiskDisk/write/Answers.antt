@@ -1,9 +1,10 @@
-use Rattle.std.proofs.Common.{Some, ℕ, length, ap, ◌∙◌, inr, subst, sym, arith}
+use Rattle.std.proofs.Common.{◌-◌, Some, ℕ, length, ap, ◌∙◌, inr, subst, sym, arith}
 use Rattle.std.specs.Prelude.{Result, Ok, Err, OnOk}
 use Rattle.tw_disk.specs.Image.{Image, Torn}
 use Rattle.tw_disk.specs.Model.{Write}
-use Rattle.tw_disk.specs.Put.{torn_put, length-put}
-use Rattle.tw_disk.specs.Calls.{elapses, write_crash}
+use Rattle.tw_disk.proofs.Puts.{torn_put}
+use Rattle.tw_disk.specs.PutSteps.{length-put}
+use Rattle.tw_disk.proofs.KeptCallLaws.{one_more, one_longer, nothing_else, keeps, write_crash}
 use Rattle.tw_disk.proofs.memory_disk.MemDiskDisk.write.Goals as goal
 
 on_ok : {T E P : Type 0} (r : Result T E) → P → OnOk r P
@@ -11,7 +12,10 @@ on_ok (Ok x) is = is
 on_ok (Err e) is = tt
 
 pub invariant_of-self-in-Ok : goal.invariant_of-self-in-Ok
-invariant_of-self-in-Ok c = record { calls_fit = c.in-Ok.ensures.gains.fits c.args.self.now.calls_fit }
+invariant_of-self-in-Ok c = record {
+  counted = omega (arith, c.in-Ok.ensures.counted, one_longer _ _ _ _ (Write c.args.page c.args.from.now) c.in-Ok.ensures.gains);
+  calls_fit = c.in-Ok.ensures.gains.fits c.args.self.now.calls_fit;
+}
 
 pub returns-in-Ok-clause-torn : goal.returns-in-Ok-clause-torn
 returns-in-Ok-clause-torn c =
@@ -30,4 +34,11 @@ pub returns-in-Ok-clause-crash : goal.returns-in-Ok-clause-crash
 returns-in-Ok-clause-crash c = write_crash _ _ _ _ c.args.self.now.calls_fit c.args.page c.args.from.now c.in-Ok.ensures.gains c.requires
 
 pub returns-in-Ok-clause-time : goal.returns-in-Ok-clause-time
-returns-in-Ok-clause-time c = elapses _ _ _ _ (Write c.args.page c.args.from.now) c.in-Ok.ensures.gains
+returns-in-Ok-clause-time c =
+    let call = Write c.args.page c.args.from.now in
+    let gains = c.in-Ok.ensures.gains in
+    record {
+      later = omega (arith, one_more _ _ _ _ call gains);
+      nothing_else = λ t i le. nothing_else _ _ _ _ call gains (t - c.args.self.now.crashed_at) i;
+      keeps = λ t i le. keeps _ _ _ _ call gains (t - c.args.self.now.crashed_at) i;
+    }

@@ -1,24 +1,13 @@
--- The pages written since the last good barrier, by the kept calls.
-use Rattle.std.specs.Prelude.{◌≡◌, ℕ, ◌<◌, ◌≤◌, List, [], ◌∷◌, ◌++◌, length, refl}
+-- The pages written since the last good barrier are those of the model, and are there.
+use Rattle.std.specs.Prelude.{◌≡◌, ℕ, ◌≤◌, List, [], ◌∷◌, ◌++◌, length, refl}
 use Rattle.std.proofs.Common.{arith}
 use Rattle.std.proofs.lemmas.List.{length-set, length-take}
 use Rattle.tw_disk.specs.Image.{Image}
 use Rattle.tw_disk.specs.Model.{Written, step, after}
-use Rattle.tw_disk.specs.Kept.{earlier, with_bytes, calls_of, AllFit}
+use Rattle.tw_disk.specs.KeptCalls.{earlier, with_bytes, calls_of, AllFit}
 use Rattle.tw_disk.specs.declared.call.Call.{Call}
 use Rattle.tw_disk.specs.declared.call.Call.TheVariants.{Overwrite, Append, Barrier}
-
--- the pages, the last one first, where these were written before
-abbrev pub loose_of : List ℕ → List Call → List ℕ
-loose_of pages [] = pages
-loose_of pages (Overwrite page before ∷ calls) = loose_of (page ∷ pages) calls
-loose_of pages (Append page ∷ calls) = loose_of (page ∷ pages) calls
-loose_of pages (Barrier ∷ calls) = loose_of [] calls
-
--- each is below this number
-abbrev pub AllBelow : ℕ → List ℕ → Type 0
-AllBelow n [] = Unit {0}
-AllBelow n (page ∷ pages) = (page < n) × AllBelow n pages
+use Rattle.tw_disk.specs.LooseSteps.{loose_of, AllBelow}
 
 pub loose_is : (s : Written) (calls : List Call) (image : Image) → (after s (calls_of calls image)).loose ≡ loose_of s.loose calls
 loose_is s [] image = refl

@@ -2,40 +2,15 @@
 use Rattle.std.specs.Prelude.{◌≡◌, ◌≢◌, ◌⊎◌, ℕ, zero, suc, ◌<◌, ◌≤◌, min, List, [], ◌∷◌, ◌++◌, length, take, refl, replicate}
 use Rattle.std.proofs.Common.{arith, subst, sym, ap, ◌∙◌, length-append, inl, inr}
 use Rattle.std.proofs.Math.ListN.{set}
-use Rattle.std.proofs.Math.Seq.{take-length}
 use Rattle.std.proofs.lemmas.Bool.{cases_eq}
 use Rattle.std.proofs.lemmas.List.{length-take, length-set, get_or-take, get_or-set_same, get_or-set_other, ext_get_or, take-append-le, take_all}
 use Rattle.tw_disk.specs.Image.{Image, Torn, page_at}
-use Rattle.tw_disk.specs.Disk.{Elapses}
-use Rattle.tw_disk.specs.Put.{length-put_le, page_at-put_below}
-use Rattle.tw_disk.specs.Model.{DeviceCall, Write, Barrier, Written, IsUntouched, at_rest, step, after, IsImage, Since, spoilt, outcome}
+use Rattle.tw_disk.specs.Model.{DeviceCall, Barrier, Written, IsUntouched, at_rest, step, after, IsImage, Since, spoilt, outcome}
+use Rattle.tw_disk.specs.MemDiskSteps.{IsGrown, grown_after, image_now}
 
 pub after-push : (s : Written) (calls : List DeviceCall) (call : DeviceCall) → after s (calls ++ call ∷ []) ≡ step (after s calls) call
 after-push s [] call = refl
 after-push s (c ∷ calls) call = after-push (step s c) calls call
-
--- what reads give is the settled image but for the pages written since, and no shorter
-pub record IsGrown (s : Written) : Type 0 where
-  pub no_shorter : length s.settled ≤ length s.now
-  pub others : (k : ℕ) → k < length s.settled → IsUntouched s.loose k → page_at s.settled k ≡ page_at s.now k
-
-grown_step : (s : Written) (call : DeviceCall) → IsGrown s → IsGrown (step s call)
-grown_step s (Write page bytes) is = record {
-  no_shorter = omega (arith, is.no_shorter, length-put_le page bytes s.now);
-  others = λ k lt untouched. is.others k lt untouched.1 ∙ sym (page_at-put_below page bytes s.now k (omega (arith, lt, is.no_shorter)) untouched.0);
-}
-grown_step s Barrier is = record { no_shorter = omega arith; others = λ k lt untouched. refl }
-
-grown_from : (s : Written) (calls : List DeviceCall) → IsGrown s → IsGrown (after s calls)
-grown_from s [] is = is
-grown_from s (call ∷ calls) is = grown_from (step s call) calls (grown_step s call is)
-
-pub grown_after : (base : Image) (calls : List DeviceCall) → IsGrown (after (at_rest base) calls)
-grown_after base calls = grown_from (at_rest base) calls (record { no_shorter = omega arith; others = λ k lt untouched. refl })
-
--- a disk as it reads is one of its images
-pub image_now : (s : Written) → IsGrown s → IsImage s s.now
-image_now s is = record { at_least = is.no_shorter; at_most = omega arith; others = λ k lt untouched. refl }
 
 -- and so is what it held at the last good barrier
 pub image_settled : (s : Written) → IsGrown s → IsImage s s.settled
@@ -100,44 +75,42 @@ barrier_only s c image = ext_get_or [] c s.now (omega (arith, image.at_least, im
 pub barrier_image : (s : Written) (c : Image) → length s.settled ≤ length s.now → IsImage (step s Barrier) c → IsImage s c
 barrier_image s c firm image = record { at_least = omega (arith, image.at_least); at_most = image.at_most; others = λ k lt untouched. image.others k lt tt }
 
--- this moment is one of those since an earlier one
-pub since_now : (base : Image) (calls : List DeviceCall) (t : ℕ) (c : Image) → t ≤ length calls → IsImage (after (at_rest base) calls) c → Since base calls t c
-since_now base calls t c le image = record {
-  at = length calls;
-  from = le;
-  to = omega arith;
-  image = subst (λ (l : List DeviceCall). IsImage (after (at_rest base) l) c) (sym (take-length calls)) image;
-}
+-- one call more, which ends at this moment
+module _ (base : Image) (calls : List DeviceCall) (call : DeviceCall) where
+  one_longer : length (calls ++ call ∷ []) ≡ suc (length calls)
+  one_longer = omega (arith, length-append calls (call ∷ []))
 
--- since this moment there is no other
-pub only_now : (base : Image) (calls : List DeviceCall) (c : Image) → Since base calls (length calls) c → IsImage (after (at_rest base) calls) c
-only_now base calls c since = subst (λ (l : List DeviceCall). IsImage (after (at_rest base) l) c) (take_all since.at calls (omega (arith, since.from))) since.image
+  pub nothing_else_push : (t : ℕ) (c : Image) → Since base (calls ++ call ∷ []) t c → Since base calls t c ⊎ IsImage (after (at_rest base) (calls ++ call ∷ [])) c
+  nothing_else_push t c since = split (cases_eq since.at (suc (length calls)))
+    where
+      split : (since.at ≡ suc (length calls)) ⊎ (since.at ≢ suc (length calls)) → Since base calls t c ⊎ IsImage (after (at_rest base) (calls ++ call ∷ [])) c
+      split (inl is) = inr (subst (λ (l : List DeviceCall). IsImage (after (at_rest base) l) c) (take_all since.at (calls ++ call ∷ []) (omega (arith, one_longer))) since.image)
+      split (inr ne) = let le : since.at ≤ length calls = omega (arith, one_longer, since.to) in inl (record {
+        at = since.at;
+        from = since.from;
+        to = le;
+        image = subst (λ (l : List DeviceCall). IsImage (after (at_rest base) l) c) (take-append-le since.at calls (call ∷ []) le) since.image;
+      })
 
--- one call more
-pub elapses_push : (base : Image) (calls : List DeviceCall) (call : DeviceCall) → Elapses (length calls) (length (calls ++ call ∷ [])) (Since base calls) (Since base (calls ++ call ∷ [])) (IsImage (after (at_rest base) (calls ++ call ∷ [])))
-elapses_push base calls call = record {
-  later = omega (arith, size);
-  nothing_else = λ t c le since. split t c since (cases_eq since.at (suc (length calls)));
-  keeps = λ t c le since. record {
+  pub keeps_push : (t : ℕ) (c : Image) → Since base calls t c → Since base (calls ++ call ∷ []) t c
+  keeps_push t c since = record {
     at = since.at;
     from = since.from;
-    to = omega (arith, size, since.to);
+    to = omega (arith, one_longer, since.to);
     image = subst (λ (l : List DeviceCall). IsImage (after (at_rest base) l) c) (sym (take-append-le since.at calls (call ∷ []) since.to)) since.image;
-  };
+  }
+
+-- a disk that was just crashed has this image alone, at each moment from an earlier one on
+pub at_rest_only : (image : Image) (c : Image) → IsImage (at_rest image) c → c ≡ image
+at_rest_only image c is = barrier_only (at_rest image) c is
+
+pub since_rest : (image : Image) (t : ℕ) (c : Image) → Since image [] t c → c ≡ image
+since_rest image t c since = at_rest_only image c (subst (λ (l : List DeviceCall). IsImage (after (at_rest image) l) c) (take_all since.at [] (omega arith)) since.image)
+
+pub rest_since : (image : Image) (t : ℕ) (c : Image) → t ≡ 0 → c ≡ image → Since image [] t c
+rest_since image t c start is = record {
+  at = 0;
+  from = omega (arith, start);
+  to = omega arith;
+  image = subst (λ (i : Image). IsImage (at_rest image) i) (sym is) (image_now (at_rest image) (grown_after image []));
 }
-  where
-    size : length (calls ++ call ∷ []) ≡ suc (length calls)
-    size = omega (arith, length-append calls (call ∷ []))
-
-    split : (t : ℕ) (c : Image) → (since : Since base (calls ++ call ∷ []) t c) → (since.at ≡ suc (length calls)) ⊎ (since.at ≢ suc (length calls)) → Since base calls t c ⊎ IsImage (after (at_rest base) (calls ++ call ∷ [])) c
-    split t c since (inl is) = inr (subst (λ (l : List DeviceCall). IsImage (after (at_rest base) l) c) (take_all since.at (calls ++ call ∷ []) (omega (arith, size))) since.image)
-    split t c since (inr ne) = let le : since.at ≤ length calls = omega (arith, size, since.to) in inl (record {
-      at = since.at;
-      from = since.from;
-      to = le;
-      image = subst (λ (l : List DeviceCall). IsImage (after (at_rest base) l) c) (take-append-le since.at calls (call ∷ []) le) since.image;
-    })
-
--- no call
-pub elapses_same : (base : Image) (calls : List DeviceCall) → Elapses (length calls) (length calls) (Since base calls) (Since base calls) (IsImage (after (at_rest base) calls))
-elapses_same base calls = record { later = omega arith; nothing_else = λ t c le since. inl since; keeps = λ t c le since. since }

@@ -1,7 +1,5 @@
 -- What a disk in memory keeps of its calls: for each what undoes it, so that every earlier image follows from what reads give now.
 use Rattle.std.specs.Prelude.{◌≡◌, suc, ◌<◌, List, [], ◌∷◌, length, take, slice_set, ◌++◌}
-use Rattle.std.specs.Coded.{×_prop, Unit-prop, le_prop}
-use Rattle.std.proofs.Math.Nat.{ℕ_set}
 use Rattle.tw_disk.specs.Image.{Image, page_at}
 use Rattle.tw_disk.specs.Model.{DeviceCall, Write, Written, at_rest, after}
 use Rattle.tw_disk.specs.Model.{Barrier as BarrierCall}
@@ -44,15 +42,6 @@ Fits Barrier image = Unit {0}
 abbrev pub AllFit : List Call → Image → Type 0
 AllFit [] image = Unit {0}
 AllFit (call ∷ calls) image = Fits call (earlier calls image) × AllFit calls image
-
-fits-prop : (call : Call) (image : Image) → IsProp (Fits call image)
-fits-prop (Overwrite page before) image = le_prop
-fits-prop (Append page) image = ℕ_set (length image) (suc page)
-fits-prop Barrier image = Unit-prop
-
-pub all_fit-prop : (calls : List Call) (image : Image) → IsProp (AllFit calls image)
-all_fit-prop [] image = Unit-prop
-all_fit-prop (call ∷ calls) image = ×_prop (fits-prop call (earlier calls image)) (all_fit-prop calls image)
 
 -- the list of kept calls has gained this call, over the same beginning
 pub record Gains (call : DeviceCall) (old_calls : List Call) (old : Image) (new_calls : List Call) (new : Image) : Type 0 where

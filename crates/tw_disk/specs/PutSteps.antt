@@ -1,22 +1,8 @@
--- A page put into an image.
-use Rattle.std.proofs.Common.{◌≡◌, ◌≢◌, ◌⊎◌, inl, inr, ℕ, zero, suc, ◌<◌, ◌≤◌, max, List, [], ◌∷◌, ◌++◌, length, refl, ap, sym, ◌∙◌, arith}
+-- A page put into an image. These lemmas stand in specs/ since the laws of an impl cite them.
+use Rattle.std.proofs.Common.{◌≡◌, ◌≢◌, ◌⊎◌, inl, inr, ℕ, zero, suc, ◌<◌, ◌≤◌, max, List, [], ◌∷◌, length, refl, ap, sym, ◌∙◌, arith}
 use Rattle.std.proofs.lemmas.Bool.{cases_eq}
 use Rattle.std.proofs.lemmas.List.{ext_get_or}
-use Rattle.std.proofs.Math.ListN.{set}
-use Rattle.tw_disk.specs.Image.{Image, Torn, put, page_at}
-
-pub put-end : (i : ℕ) (b : List ℕ) (xs : Image) → length xs ≤ i → put i b xs ≡ xs ++ b ∷ []
-unfolding put
-put-end zero b [] le = refl
-put-end (suc i) b [] le = refl
-put-end zero b (x ∷ xs) le = absurd (omega arith)
-put-end (suc i) b (x ∷ xs) le = ap (λ (l : Image). x ∷ l) (put-end i b xs (omega arith))
-
-pub put-inside : (i : ℕ) (b : List ℕ) (xs : Image) → i < length xs → put i b xs ≡ set xs i b
-unfolding put
-put-inside i b [] lt = absurd (omega arith)
-put-inside zero b (x ∷ xs) lt = refl
-put-inside (suc i) b (x ∷ xs) lt = ap (λ (l : Image). x ∷ l) (put-inside i b xs (omega arith))
+use Rattle.tw_disk.specs.Image.{Image, put, page_at}
 
 pub length-put : (i : ℕ) (b : List ℕ) (xs : Image) → i ≤ length xs → length (put i b xs) ≡ max (length xs) (suc i)
 unfolding put
@@ -39,16 +25,6 @@ page_at-put_other zero b (x ∷ xs) (suc k) le ne = refl
 page_at-put_other (suc i) b [] k le ne = absurd (omega arith)
 page_at-put_other (suc i) b (x ∷ xs) zero le ne = refl
 page_at-put_other (suc i) b (x ∷ xs) (suc k) le ne = page_at-put_other i b xs k (omega arith) (λ e. ne (ap suc e))
-
-pub torn_put : (i : ℕ) (b : List ℕ) (xs : Image) → i ≤ length xs → Torn i xs (put i b xs)
-torn_put i b xs le = record {
-  no_shorter = omega (arith, length-put i b xs le);
-  no_longer = omega (arith, length-put i b xs le);
-  others = λ k lt ne. page_at-put_other i b xs k le ne;
-}
-
-pub torn_same : (i : ℕ) (xs : Image) → Torn i xs xs
-torn_same i xs = record { no_shorter = omega arith; no_longer = omega arith; others = λ k lt ne. refl }
 
 pub length-put_le : (i : ℕ) (b : List ℕ) (xs : Image) → length xs ≤ length (put i b xs)
 unfolding put

@@ -1,17 +1,18 @@
 -- What one call of a disk in memory does, where its list of kept calls gains that call.
-use Rattle.std.specs.Prelude.{◌≡◌, ℕ, ◌≤◌, List, [], ◌∷◌, ◌++◌, length, Some, refl, suc, slice_set}
+use Rattle.std.specs.Prelude.{◌≡◌, ◌⊎◌, ℕ, ◌≤◌, List, [], ◌∷◌, ◌++◌, length, refl, suc}
 use Rattle.std.proofs.Common.{◌-◌, arith, subst, sym, ap, ◌∙◌, length-append, get_or, take}
-use Rattle.std.proofs.lemmas.List.{get_or-take, get_or-set_other, length-set, length-take, get_or-append_right}
+use Rattle.std.proofs.lemmas.List.{get_or-append_right}
 use Rattle.std.proofs.Math.Seq.{take-append_seam}
 use Rattle.tw_disk.specs.Image.{Image, Torn, put, page_at}
-use Rattle.tw_disk.specs.Disk.{Elapses, Only, Follows}
-use Rattle.tw_disk.specs.Put.{torn_put, put-back}
+use Rattle.tw_disk.specs.Disk.{Only, Follows}
 use Rattle.tw_disk.specs.Model.{DeviceCall, Write, Written, at_rest, step, after, IsImage, Since}
 use Rattle.tw_disk.specs.Model.{Barrier as BarrierCall}
-use Rattle.tw_disk.specs.Laws.{after-push, grown_after, image_now, write_follows, barrier_only, barrier_image, elapses_push}
-use Rattle.tw_disk.specs.Kept.{undone, earlier, with_bytes, calls_of, written_of, Fits, AllFit, Gains}
+use Rattle.tw_disk.specs.KeptCalls.{undone, earlier, with_bytes, calls_of, written_of, Fits, AllFit, Gains}
 use Rattle.tw_disk.specs.declared.call.Call.{Call}
-use Rattle.tw_disk.specs.declared.call.Call.TheVariants.{Overwrite, Append, Barrier}
+use Rattle.tw_disk.specs.declared.call.Call.TheVariants.{Append}
+use Rattle.tw_disk.proofs.Puts.{torn_put}
+use Rattle.tw_disk.specs.MemDiskSteps.{grown_after, now_is}
+use Rattle.tw_disk.proofs.ModelLaws.{after-push, write_follows, barrier_only, barrier_image, nothing_else_push, keeps_push, at_rest_only, since_rest, rest_since}
 
 earlier-push : (calls : List Call) (call : Call) (image : Image) → earlier (calls ++ call ∷ []) image ≡ earlier calls (undone call image)
 earlier-push [] call image = refl
@@ -20,6 +21,10 @@ earlier-push (c ∷ calls) call image = ap (λ (i : Image). undone c i) (earlier
 calls_of-push : (calls : List Call) (call : Call) (image : Image) → calls_of (calls ++ call ∷ []) image ≡ calls_of calls (undone call image) ++ with_bytes call image ∷ []
 calls_of-push [] call image = refl
 calls_of-push (c ∷ calls) call image = λ i. with_bytes c (earlier-push calls call image i) ∷ calls_of-push calls call image i
+
+pub length-calls_of : (calls : List Call) (image : Image) → length (calls_of calls image) ≡ length calls
+length-calls_of [] image = refl
+length-calls_of (c ∷ calls) image = ap suc (length-calls_of calls image)
 
 fits-push : (calls : List Call) (call : Call) (image : Image) → AllFit calls (undone call image) → Fits call image → AllFit (calls ++ call ∷ []) image
 fits-push [] call image all fits = (fits, tt)
@@ -34,24 +39,6 @@ pub fits_last : (calls : List Call) (call : Call) (image : Image) → AllFit (ca
 fits_last [] call image all = all.0
 fits_last (c ∷ calls) call image all = fits_last calls call image all.1
 
--- a call that fits leads from what was before it to what is after it
-call_now : (s : Written) (call : Call) (image : Image) → s.now ≡ undone call image → Fits call image → (step s (with_bytes call image)).now ≡ image
-call_now s (Overwrite page before) image is fits =
-    ap (λ (i : Image). put page (page_at image page) i) is
-    ∙ put-back page (slice_set image page before.value) image (omega (arith, length-set image page before.value, fits)) (omega (arith, length-set image page before.value, fits)) (λ k lt ne. get_or-set_other image page k before.value [] ne)
-call_now s (Append page) image is fits =
-    ap (λ (i : Image). put page (page_at image page) i) is
-    ∙ put-back page (undone (Append page) image) image (omega (arith, length-take page image, fits)) (omega (arith, length-take page image, fits)) (λ k lt ne. get_or-take page image k [] (omega (arith, lt, fits, ne)))
-call_now s Barrier image is fits = is
-
-now_from : (s : Written) (calls : List Call) (image : Image) → s.now ≡ earlier calls image → AllFit calls image → (after s (calls_of calls image)).now ≡ image
-now_from s [] image is all = is
-now_from s (call ∷ calls) image is all = now_from (step s (with_bytes call (earlier calls image))) calls image (call_now s call (earlier calls image) is all.0) all.1
-
--- the kept calls lead to what reads give
-pub now_is : (calls : List Call) (image : Image) → AllFit calls image → (written_of calls image).now ≡ image
-now_is calls image all = now_from (at_rest (earlier calls image)) calls image refl all
-
 pub gains_call : (calls new_calls : List Call) (call : Call) (old new : Image) → new_calls ≡ calls ++ call ∷ [] → undone call new ≡ old → Fits call new → Gains (with_bytes call new) calls old new_calls new
 gains_call calls new_calls call old new is back fits = record {
   base = ap (λ (l : List Call). earlier l new) is ∙ earlier-push calls call new ∙ ap (λ (i : Image). earlier calls i) back;
@@ -63,18 +50,28 @@ module _ (old_calls : List Call) (old : Image) (new_calls : List Call) (new : Im
   pub state : written_of new_calls new ≡ step (written_of old_calls old) call
   state = (λ i. after (at_rest (gains.base i)) (gains.calls i)) ∙ after-push (at_rest (earlier old_calls old)) (calls_of old_calls old) call
 
-  pub elapses : Elapses (length (calls_of old_calls old)) (length (calls_of new_calls new)) (Since (earlier old_calls old) (calls_of old_calls old)) (Since (earlier new_calls new) (calls_of new_calls new)) (IsImage (written_of new_calls new))
-  elapses =
+  pub nothing_else : (t : ℕ) (c : Image) → Since (earlier new_calls new) (calls_of new_calls new) t c → Since (earlier old_calls old) (calls_of old_calls old) t c ⊎ IsImage (written_of new_calls new) c
+  nothing_else t c =
       let base = earlier old_calls old in
       let calls = calls_of old_calls old in
-      let P : Image → List DeviceCall → Type 0 = λ b l. Elapses (length calls) (length l) (Since base calls) (Since b l) (IsImage (after (at_rest b) l)) in
-      subst (λ (b : Image). P b (calls_of new_calls new)) (sym gains.base) (subst (λ (l : List DeviceCall). P base l) (sym gains.calls) (elapses_push base calls call))
+      let P : Image → List DeviceCall → Type 0 = λ b l. Since b l t c → Since base calls t c ⊎ IsImage (after (at_rest b) l) c in
+      subst (λ (b : Image). P b (calls_of new_calls new)) (sym gains.base) (subst (λ (l : List DeviceCall). P base l) (sym gains.calls) (nothing_else_push base calls call t c))
+
+  pub keeps : (t : ℕ) (c : Image) → Since (earlier old_calls old) (calls_of old_calls old) t c → Since (earlier new_calls new) (calls_of new_calls new) t c
+  keeps t c =
+      let base = earlier old_calls old in
+      let calls = calls_of old_calls old in
+      let P : Image → List DeviceCall → Type 0 = λ b l. Since base calls t c → Since b l t c in
+      subst (λ (b : Image). P b (calls_of new_calls new)) (sym gains.base) (subst (λ (l : List DeviceCall). P base l) (sym gains.calls) (keeps_push base calls call t c))
 
   stepped : (c : Image) → IsImage (written_of new_calls new) c → IsImage (step (written_of old_calls old) call) c
   stepped c image = subst (λ (s : Written). IsImage s c) state image
 
-  pub time_goes_on : length (calls_of new_calls new) ≡ suc (length (calls_of old_calls old))
-  time_goes_on = ap length gains.calls ∙ omega (arith, length-append (calls_of old_calls old) (call ∷ []))
+  pub one_more : length (calls_of new_calls new) ≡ suc (length (calls_of old_calls old))
+  one_more = ap length gains.calls ∙ omega (arith, length-append (calls_of old_calls old) (call ∷ []))
+
+  pub one_longer : length new_calls ≡ suc (length old_calls)
+  one_longer = sym (length-calls_of new_calls new) ∙ one_more ∙ ap suc (length-calls_of old_calls old)
 
 module _ (old_calls : List Call) (old : Image) (new_calls : List Call) (new : Image) (all : AllFit old_calls old) where
   shorter : length (written_of old_calls old).settled ≤ length (written_of old_calls old).now
@@ -92,16 +89,6 @@ module _ (old_calls : List Call) (old : Image) (new_calls : List Call) (new : Im
   pub barrier_crash : Gains BarrierCall old_calls old new_calls new → (c : Image) → IsImage (written_of new_calls new) c → IsImage (written_of old_calls old) c
   barrier_crash gains c image = barrier_image (written_of old_calls old) c shorter (stepped old_calls old new_calls new BarrierCall gains c image)
 
--- a disk that tells its content tells its page count
-pub told_count : (now c : Image) → Some now ≡ Some c → Some (length now) ≡ Some (length c)
-told_count now c is = let same : now ≡ c = cc in ap (λ (i : Image). Some (length i)) same
-
--- a disk as it reads is one of its images
-pub told_image : (calls : List Call) (now c : Image) → AllFit calls now → Some now ≡ Some c → IsImage (written_of calls now) c
-told_image calls now c all is =
-    let same : now ≡ c = cc in
-    subst (λ (i : Image). IsImage (written_of calls now) i) (now_is calls now all ∙ same) (image_now (written_of calls now) (grown_after (earlier calls now) (calls_of calls now)))
-
 -- a write of a page that was there
 pub gains_overwrite : (calls new_calls : List Call) (call : Call) (page : ℕ) (old new : Image) (bytes : List ℕ) → new_calls ≡ calls ++ call ∷ [] → undone call new ≡ old → Fits call new → with_bytes call new ≡ Write page bytes → Gains (Write page bytes) calls old new_calls new
 gains_overwrite calls new_calls call page old new bytes is back fits with = subst (λ (d : DeviceCall). Gains d calls old new_calls new) with (gains_call calls new_calls call old new is back fits)
@@ -116,3 +103,13 @@ gains_append calls new_calls page old new bytes is added here =
     let last : page_at new page ≡ page_at (old ++ bytes ∷ []) (length old) = λ i. page_at (added i) (here i) in
     let read : page_at new page ≡ bytes = last ∙ get_or-append_right old (bytes ∷ []) (length old) (length old) [] refl (omega arith) ∙ ap (λ (j : ℕ). get_or (bytes ∷ []) j []) start in
     gains_overwrite calls new_calls (Append page) (length old) old new bytes is back size (λ i. Write (here i) (read i))
+
+-- a disk that keeps no call is at rest: a crash leaves what it reads, now or at any moment since the last crash
+pub rested : (calls : List Call) (image c : Image) → calls ≡ [] → IsImage (written_of calls image) c → c ≡ image
+rested calls image c none is = at_rest_only image c (subst (λ (l : List Call). IsImage (written_of l image) c) none is)
+
+pub since_rested : (calls : List Call) (image : Image) (t : ℕ) (c : Image) → calls ≡ [] → Since (earlier calls image) (calls_of calls image) t c → c ≡ image
+since_rested calls image t c none since = since_rest image t c (subst (λ (l : List Call). Since (earlier l image) (calls_of l image) t c) none since)
+
+pub rested_since : (calls : List Call) (image : Image) (t : ℕ) (c : Image) → calls ≡ [] → t ≡ 0 → c ≡ image → Since (earlier calls image) (calls_of calls image) t c
+rested_since calls image t c none start is = subst (λ (l : List Call). Since (earlier l image) (calls_of l image) t c) (sym none) (rest_since image t c start is)
