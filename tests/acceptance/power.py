@@ -79,7 +79,7 @@ class Device:
         """The images after so many of the calls."""
         made = self.calls[:length]
         last = max((i for i, call in enumerate(made) if call[0] == "sync"), default=-1)
-        stable = applied(self.before or b"", [call for call in made[:last] if call[0] == "write"])
+        stable = applied(self.before or b"", [call for call in made[: last + 1] if call[0] == "write"])
         pending = [call for call in made[last + 1 :] if call[0] == "write"]
         if self.before is None and ("name",) not in made:
             yield None
@@ -224,9 +224,21 @@ def without_syncs_it_loses(size):
     return work
 
 
+def each_sync_is_needed(room):
+    """without any one of the syncs behind its writes an append of 1 event is found out"""
+    histories, device = recorded(room.program, 1)
+    calls = device.calls
+    begin = next(i for i, call in enumerate(calls) if call[0] == "write")
+    for i in range(begin, len(calls)):
+        if calls[i] == ("sync",):
+            device.calls = calls[:i] + calls[i + 1 :]
+            if not any(tried(room.program, histories, some_images(device, 1))):
+                raise Wrong(f"  no image showed that call {i} of {[call[0] for call in calls]} is missing")
+
+
 def cases():
     works = [make(size) for make in (loses_nothing, without_syncs_it_loses) for size in (None, *SIZES)]
-    return [case(work, "power") for work in works]
+    return [case(work, "power") for work in (*works, each_sync_is_needed)]
 
 
 def main():

@@ -5,7 +5,8 @@
 
 The cases stand in cases/*.json, those that are counted off in generated.py, those of services in steps.py
 and failing.py, those of the program's edge to the system in edges.py, of programs at one time in beside.py, and of lost power and failing
-system calls in power.py and faults.py; documents.py and cited.py check the documents, installed.py what `make install` copies, and sources.py the sources.
+system calls in power.py and faults.py; documents.py and cited.py check the documents, installed.py what `make install` copies, shown.py the
+examples to copy, and sources.py the sources.
 A case has
 
     name       what it shows
@@ -45,6 +46,7 @@ import installed
 import power
 import reference
 import seen
+import shown
 import sources
 import steps
 
@@ -158,6 +160,7 @@ def all_cases():
     yield from documents.cases()
     yield from cited.cases()
     yield from installed.cases()
+    yield from shown.cases()
     yield from sources.cases()
 
 

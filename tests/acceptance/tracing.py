@@ -1,6 +1,7 @@
 """What the system has to offer for some cases, and the system calls that the program makes on its files, as strace tells them."""
 
 import ctypes
+import functools
 import os
 import re
 import shutil
@@ -25,8 +26,9 @@ def needs(program, package):
     return path
 
 
+@functools.cache
 def needs_tracing():
-    """Skips the case where strace isn't there or may not trace."""
+    """The path of strace; skips the case where strace isn't there or may not trace."""
     strace = needs("strace", "strace")
     done = subprocess.run([strace, "-o", "/dev/null", "-e", "inject=write:retval=0:when=9999", "true"], capture_output=True, timeout=60)
     if done.returncode:
@@ -115,7 +117,7 @@ def under_read_only(folder):
 
 def bare_root(program, folder):
     """Makes the folder one that the program can run in as the root: with its libraries and no device. Answers its path there."""
-    listed = subprocess.run(["ldd", program], capture_output=True, text=True, timeout=60).stdout
+    listed = subprocess.run([needs("ldd", "libc-bin"), program], capture_output=True, text=True, timeout=60).stdout
     for path in [program, *re.findall(r"(/\S+) \(0x", listed)]:
         target = Path(folder) / (path.lstrip("/") if path != program else "timeweave")
         target.parent.mkdir(parents=True, exist_ok=True)
