@@ -11,8 +11,8 @@ use Rattle.std.proofs.lemmas.List.Sums.{prefix_len-le-length}
 use Rattle.std.proofs.lemmas.Bool.Decides.{nat_tests}
 use Rattle.tw_base.specs.declared.thread.Thread.{Thread}
 use Rattle.tw_base.specs.Names.{is_name_text, is_name_byte}
-use Rattle.tw_text.specs.Words.{is_digest, is_number, number_of}
-use Rattle.tw_msg.specs.Anchors.{AllGood, IsFirstBadLine, anchor, digest_word, is_anchor, is_blank, is_good, is_line_feed, is_of, line_at, lines, may_follow, name_word, step_word}
+use Rattle.tw_text.specs.Words.{is_digest, is_number, word_number}
+use Rattle.tw_msg.specs.AnchorsFile.{AllGood, IsFirstBadLine, anchor, digest_word, is_anchor, is_blank, is_good, is_line_feed, is_of, line_at, lines, line_may_follow, name_word, step_word}
 use Rattle.tw_msg.proofs.LineLaws.{lines-first}
 use Rattle.tw_msg.proofs.Reading.{anchor-words, both, not_true, number-pos}
 
@@ -44,13 +44,13 @@ le-mul_some (suc a) b some = omega arith
 first_digit : (d e : ℕ) (ds : List ℕ) → is_number (d ∷ e ∷ ds) ≡ true → d ≡ 48 → ⊥
 first_digit d e ds number zeroth = grind (arith, nat_tests)
 
-number-short : (word : List ℕ) → is_number word ≡ true → number_of word ≤ 0xff_ffff_ffff → length word ≤ 41
+number-short : (word : List ℕ) → is_number word ≡ true → word_number word ≤ 0xff_ffff_ffff → length word ≤ 41
 number-short [] number low = omega arith
 number-short (d ∷ []) number low = omega arith
 number-short (d ∷ e ∷ ds) number low =
     let some : 1 ≤ digit_value d = digit-some d (first_digit d e ds number) in
     let first_value : ℕ = 0 * 10 + digit_value d in
-    let most : first_value * 2 ^ length (e ∷ ds) ≤ number_of (d ∷ e ∷ ds) = doubled first_value (e ∷ ds) in
+    let most : first_value * 2 ^ length (e ∷ ds) ≤ word_number (d ∷ e ∷ ds) = doubled first_value (e ∷ ds) in
     let least : 2 ^ length (e ∷ ds) ≤ first_value * 2 ^ length (e ∷ ds) = le-mul_some first_value (2 ^ length (e ∷ ds)) (omega (arith, some)) in
     elim (cases_lt 40 (length (e ∷ ds))) [
       | inl more ↦
@@ -95,25 +95,25 @@ anchor-short line holds =
 
 -- ---- good lines are few and short
 
-is_anchor-may_follow : (anchors : List Thread) (line : List ℕ) → may_follow anchors line ≡ true → is_anchor line ≡ true
-is_anchor-may_follow anchors line follows =
+is_anchor-line_may_follow : (anchors : List Thread) (line : List ℕ) → line_may_follow anchors line ≡ true → is_anchor line ≡ true
+is_anchor-line_may_follow anchors line follows =
     (both (leb (suc (length anchors)) 64) (is_anchor line) (both (leb (suc (length anchors)) 64 && is_anchor line) (not (list_any (is_of (anchor line).from) anchors)) follows).0).1
 
-few-may_follow : (anchors : List Thread) (line : List ℕ) → may_follow anchors line ≡ true → length anchors < 64
-few-may_follow anchors line follows =
+few-line_may_follow : (anchors : List Thread) (line : List ℕ) → line_may_follow anchors line ≡ true → length anchors < 64
+few-line_may_follow anchors line follows =
     leb-true (suc (length anchors)) 64
     (both (leb (suc (length anchors)) 64) (is_anchor line) (both (leb (suc (length anchors)) 64 && is_anchor line) (not (list_any (is_of (anchor line).from) anchors)) follows).0).0
 
 good-short : (all : List (List ℕ)) (i : ℕ) → is_good all i ≡ true → length (line_at all i) ≤ 127
-good-short all i good = anchor-short (line_at all i) (is_anchor-may_follow (map anchor (take i all)) (line_at all i) good)
+good-short all i good = anchor-short (line_at all i) (is_anchor-line_may_follow (map anchor (take i all)) (line_at all i) good)
 
 good-few : (all : List (List ℕ)) (i : ℕ) → i < length all → is_good all i ≡ true → i < 64
 good-few all i inside good =
-    omega (arith, few-may_follow (map anchor (take i all)) (line_at all i) good, length-map (take i all) anchor, length-take-le i all (omega (arith, inside)))
+    omega (arith, few-line_may_follow (map anchor (take i all)) (line_at all i) good, length-map (take i all) anchor, length-take-le i all (omega (arith, inside)))
 
-long-bad : (anchors : List Thread) (line : List ℕ) → 127 < length line → may_follow anchors line ≡ false
+long-bad : (anchors : List Thread) (line : List ℕ) → 127 < length line → line_may_follow anchors line ≡ false
 long-bad anchors line long =
-    not_true (may_follow anchors line) (λ follows. omega (arith, long, anchor-short line (is_anchor-may_follow anchors line follows)))
+    not_true (line_may_follow anchors line) (λ follows. omega (arith, long, anchor-short line (is_anchor-line_may_follow anchors line follows)))
 
 -- ---- the lines of a front
 
@@ -213,13 +213,13 @@ good_part xs ys k i same below =
     let front : List (List ℕ) = lines xs in
     let taken : take i whole ≡ take i front = sym (take-take i k whole (omega (arith, below))) ∙ ap (take i) same.taken ∙ take-take i k front (omega (arith, below)) in
     let line : line_at whole i ≡ line_at front i = sym (get_or-take k whole i [] below) ∙ ap (λ ls. line_at ls i) same.taken ∙ get_or-take k front i [] below in
-    sym (λ j. may_follow (map anchor (taken j)) (line j))
+    sym (λ j. line_may_follow (map anchor (taken j)) (line j))
 
 bad_part : (xs ys : List ℕ) (k : ℕ) → SameLines xs ys k → is_good (lines xs) k ≡ false → is_good (lines (xs ++ ys)) k ≡ false
 bad_part xs ys k same bad = by same.here
   where
     by : IsHere (lines (xs ++ ys)) (lines xs) k → is_good (lines (xs ++ ys)) k ≡ false
-    by (inl line) = (λ j. may_follow (map anchor (same.taken j)) (line j)) ∙ bad
+    by (inl line) = (λ j. line_may_follow (map anchor (same.taken j)) (line j)) ∙ bad
     by (inr long) = long-bad (map anchor (take k (lines (xs ++ ys)))) (line_at (lines (xs ++ ys)) k) long.1
 
 -- the bytes up to the limit, and the others

@@ -8,6 +8,7 @@ use Rattle.tw_text.specs.declared.command.Command.{Command}
 use Rattle.tw_text.specs.declared.command.Command.TheVariants.{Append, Show, VerifyFile, VerifyOne}
 use Rattle.tw_text.specs.declared.words.WordFault.{WordFault}
 use Rattle.tw_text.specs.declared.words.WordFault.TheVariants.{NoMemory}
+use Rattle.tw_disk.specs.Disk.{DiskView}
 use Rattle.tw_disk.specs.Image.{Image}
 use Rattle.tw_outside.specs.Files.{Files}
 use Rattle.tw_app.specs.declared.outcome.Outcome.{Outcome}
@@ -118,8 +119,8 @@ module _ (words : List (List ℕ)) (c : Command) (made : command_of words ≡ So
   has_outcome told before after found disk_before disk_after outcome comes =
       subst (λ o. MatchOption o (HaveNoForm words outcome) (λ d. ComesTo told before after found disk_before disk_after d outcome)) (sym made) comes
 
-  module _ {D : Type 0} (content : D → Option Image) (may_leave : D → Image → Type 0) (moment : D → ℕ) (left_since : D → ℕ → Image → Type 0) (old new : D) where
-    pub leaves_words : (told : Option Files) (outcome : Outcome) → CommandLeaves content may_leave moment left_since old new told c outcome
-        → Leaves content may_leave moment left_since old new told words outcome
+  module _ {D : Type 0} (view : D → DiskView) (old new : D) where
+    pub leaves_words : (told : Option Files) (outcome : Outcome) → CommandLeaves view old new told c outcome
+        → Leaves view old new told words outcome
     leaves_words told outcome leaves =
-        subst (λ o. MatchOption o (new ≡ old) (λ d. CommandLeaves content may_leave moment left_since old new told d outcome)) (sym made) leaves
+        subst (λ o. MatchOption o (new ≡ old) (λ d. CommandLeaves view old new told d outcome)) (sym made) leaves

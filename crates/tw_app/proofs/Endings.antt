@@ -10,7 +10,7 @@ use Rattle.tw_base.specs.Clash.{OrClash}
 use Rattle.tw_base.specs.Family.{Facts, family_texts}
 use Rattle.tw_base.proofs.FormatLaws.{one_value}
 use Rattle.tw_outside.specs.Files.{Files}
-use Rattle.tw_outside.specs.Taken.{Appends}
+use Rattle.tw_outside.specs.TakenBytes.{Appends}
 use Rattle.tw_text.specs.CommandLine.{command_of}
 use Rattle.tw_text.specs.Reports.{report_text}
 use Rattle.tw_text.specs.declared.command.Command.{Command}

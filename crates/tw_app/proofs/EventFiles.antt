@@ -10,7 +10,8 @@ use Rattle.tw_text.specs.declared.command.Command.TheVariants.{Append}
 use Rattle.tw_app.specs.declared.outcome.Outcome.{Outcome}
 use Rattle.tw_app.specs.declared.outcome.Outcome.TheVariants.{Unreadable}
 use Rattle.tw_app.specs.declared.outcome.BadInput.TheVariants.{BadByte}
-use Rattle.tw_app.specs.Appending.{AreEventsOf, most_events}
+use Rattle.tw_app.specs.declared.limits.TheConstants.{EVENTS_LIMIT}
+use Rattle.tw_app.specs.Appending.{AreEventsOf}
 use Rattle.tw_app.specs.BadInputs.{IsWhereMemory}
 use Rattle.tw_app.specs.Running.{ComesOfFiles}
 use Rattle.tw_app.proofs.Outcomes.{where_memory}
@@ -20,7 +21,7 @@ abbrev pub events_read : ℕ
 events_read = 1048577
 
 -- a file of which no more than the limit was read has no more
-is_whole : (all bytes : List ℕ) → all ≡ take events_read bytes → length all ≤ most_events → all ≡ bytes
+is_whole : (all bytes : List ℕ) → all ≡ take events_read bytes → length all ≤ EVENTS_LIMIT → all ≡ bytes
 is_whole all bytes is short = elim (cases_lt events_read (length bytes)) [
   | inl longer ↦
       let size : length (take events_read bytes) ≡ events_read = length-take-le events_read bytes (omega arith) in
@@ -28,24 +29,24 @@ is_whole all bytes is short = elim (cases_lt events_read (length bytes)) [
   | inr fits ↦ is ∙ take_all events_read bytes fits
 ]
 
-is_longer : (all bytes : List ℕ) → all ≡ take events_read bytes → most_events < length all → most_events < length bytes
+is_longer : (all bytes : List ℕ) → all ≡ take events_read bytes → EVENTS_LIMIT < length all → EVENTS_LIMIT < length bytes
 is_longer all bytes is longer = omega (arith, ap length is, length-take events_read bytes, longer)
 
 module _ (told : Option Files) (file all : List ℕ) (there : IsThere told file) (read : IsReadTo told file events_read all) where
-  pub are_events : (events : List (List ℕ)) → length all ≤ most_events → Spells events_file all events → AreEventsOf told file events
+  pub are_events : (events : List (List ℕ)) → length all ≤ EVENTS_LIMIT → Spells events_file all events → AreEventsOf told file events
   are_events events short spelled = record {
     there = there;
-    short = λ bytes tells. subst (λ (b : List ℕ). length b ≤ most_events) (is_whole all bytes (read bytes tells) short) short;
+    short = λ bytes tells. subst (λ (b : List ℕ). length b ≤ EVENTS_LIMIT) (is_whole all bytes (read bytes tells) short) short;
     spelled = λ bytes tells. subst (λ (b : List ℕ). Spells events_file b events) (is_whole all bytes (read bytes tells) short) spelled;
   }
 
-  pub too_long : (before after : ℕ) (dir : List ℕ) (outcome : Outcome) → most_events < length all → IsWhereMemory (Unreadable (BadByte file most_events)) outcome
+  pub too_long : (before after : ℕ) (dir : List ℕ) (outcome : Outcome) → EVENTS_LIMIT < length all → IsWhereMemory (Unreadable (BadByte file EVENTS_LIMIT)) outcome
       → ComesOfFiles told before after (Append dir file) outcome
   too_long before after dir outcome longer is =
-      where_memory told before after (Append dir file) (Unreadable (BadByte file most_events)) outcome is
+      where_memory told before after (Append dir file) (Unreadable (BadByte file EVENTS_LIMIT)) outcome is
       (λ found disk_before disk_after. (refl, there, λ bytes tells. inl (is_longer all bytes (read bytes tells) longer, refl)))
 
-  pub no_events : (before after : ℕ) (dir : List ℕ) (place : ℕ) (outcome : Outcome) → length all ≤ most_events → SpellsNothing events_file all × IsPlace events_file all place
+  pub no_events : (before after : ℕ) (dir : List ℕ) (place : ℕ) (outcome : Outcome) → length all ≤ EVENTS_LIMIT → SpellsNothing events_file all × IsPlace events_file all place
       → IsWhereMemory (Unreadable (BadByte file place)) outcome → ComesOfFiles told before after (Append dir file) outcome
   no_events before after dir place outcome short none is =
       where_memory told before after (Append dir file) (Unreadable (BadByte file place)) outcome is
@@ -55,7 +56,7 @@ module _ (told : Option Files) (file all : List ℕ) (there : IsThere told file)
         λ bytes tells.
             let whole : all ≡ bytes = is_whole all bytes (read bytes tells) short in
             inr (
-              subst (λ (b : List ℕ). length b ≤ most_events) whole short,
+              subst (λ (b : List ℕ). length b ≤ EVENTS_LIMIT) whole short,
               subst (λ (b : List ℕ). SpellsNothing events_file b) whole none.0,
               subst (λ (b : List ℕ). IsPlace events_file b place) whole none.1,
             ),

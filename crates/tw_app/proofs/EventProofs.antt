@@ -10,7 +10,7 @@ use Rattle.tw_base.specs.Auth.{auth}
 use Rattle.tw_base.specs.History.{History, events_at}
 use Rattle.tw_base.specs.Sound.{IsSound}
 use Rattle.tw_chain.specs.Accepting.{Accepts}
-use Rattle.tw_chain.specs.Making.{MakesExistence}
+use Rattle.tw_skipproof.specs.HistoryProofs.{MakesExistence}
 use Rattle.tw_disk.specs.Image.{Image}
 use Rattle.tw_base.specs.Faults.{Rose}
 use Rattle.tw_skiplist.specs.declared.head.Head.{Head}
@@ -18,7 +18,7 @@ use Rattle.tw_skiplist.specs.declared.info.StepInfo.{StepInfo}
 use Rattle.tw_skiplist.specs.Records.{FindsProof}
 use Rattle.tw_service.specs.declared.refusal.Refusal.{Refusal}
 use Rattle.tw_service.specs.declared.refusal.Refusal.TheVariants as service
-use Rattle.tw_service.specs.Faults.{IsBadPage, IsFault, IsNoEvent, OfBadPage, OfNoEvent}
+use Rattle.tw_service.specs.Refusals.{IsBadPage, IsFault, IsNoEvent, OfBadPage, OfNoEvent}
 use Rattle.tw_service.specs.Finds.{FindsCount, FindsEvent, LacksProof}
 use Rattle.tw_service.specs.Limits.{event_refusal, is_in_order, or_else, order_refusal, proof_refusal}
 use Rattle.tw_service.specs.Machine.{Answers, IsStepOf, Reply}

@@ -13,8 +13,8 @@ use Rattle.tw_base.specs.Sound.{IsSound}
 use Rattle.tw_outside.specs.Files.{Files, IsReadTo, IsThere}
 use Rattle.tw_text.specs.declared.command.Command.TheVariants.{Show}
 use Rattle.tw_chain.specs.Accepting.{Accepts}
-use Rattle.tw_chain.specs.Making.{IsExistenceOf, MakesExistence}
-use Rattle.tw_history.specs.HistoryFile.{most_bytes}
+use Rattle.tw_skipproof.specs.HistoryProofs.{IsExistenceOf, MakesExistence}
+use Rattle.tw_base.specs.declared.limits.TheConstants.{MOST_HISTORY_BYTES}
 use Rattle.tw_history.specs.Refusals.{ReadsHistory}
 use Rattle.tw_history.specs.declared.fault.HistoryFault.{HistoryFault}
 use Rattle.tw_history.specs.declared.fault.HistoryFault.TheVariants.{Malformed, NoMemory, TooLong, Unsound}
@@ -32,7 +32,7 @@ abbrev pub history_read : ℕ
 history_read = 67108865
 
 -- a file of which no more than the limit was read has no more
-is_whole : (all bytes : List ℕ) → all ≡ take history_read bytes → length all ≤ most_bytes → all ≡ bytes
+is_whole : (all bytes : List ℕ) → all ≡ take history_read bytes → length all ≤ MOST_HISTORY_BYTES → all ≡ bytes
 is_whole all bytes is short = elim (cases_lt history_read (length bytes)) [
   | inl longer ↦
       let size : length (take history_read bytes) ≡ history_read = length-take-le history_read bytes (omega arith) in
@@ -40,7 +40,7 @@ is_whole all bytes is short = elim (cases_lt history_read (length bytes)) [
   | inr fits ↦ is ∙ take_all history_read bytes fits
 ]
 
-is_longer : (all bytes : List ℕ) → all ≡ take history_read bytes → most_bytes < length all → most_bytes < length bytes
+is_longer : (all bytes : List ℕ) → all ≡ take history_read bytes → MOST_HISTORY_BYTES < length all → MOST_HISTORY_BYTES < length bytes
 is_longer all bytes is longer = omega (arith, ap length is, length-take history_read bytes, longer)
 
 module _ (told : Option Files) (file all : List ℕ) (there : IsThere told file) (read : IsReadTo told file history_read all) where

@@ -2,8 +2,8 @@
 use Rattle.std.proofs.Common.{◌≡◌, ◌∙◌, ℕ, List, refl, ap, sym, subst, inl, inr, ◌⊎◌, ⊎_elim}
 use Rattle.std.specs.Prelude.{Option, Some, None, MatchOption, ◌≢◌}
 use Rattle.sha2.specs.Sha256.{sha256}
-use Rattle.tw_base.specs.History.{History}
-use Rattle.tw_disk.specs.Disk.{LeavesOnly}
+use Rattle.tw_base.specs.History.{History, with_events}
+use Rattle.tw_disk.specs.Disk.{DiskView, LeavesOnly}
 use Rattle.tw_disk.specs.Image.{Image}
 use Rattle.tw_base.specs.Faults.{Rose}
 use Rattle.tw_outside.specs.Files.{Files}
@@ -29,11 +29,11 @@ use Rattle.tw_app.proofs.AtRest.{no_call_left, old_or_one, one_of, reads_as, unt
 -- ---- a disk that isn't opened
 
 module _ (found : Option Image) (before after : ℕ) (events : List (List ℕ)) (f : StoreFault)
-    (refused : (image : Image) → found ≡ Some image → (f ≡ store.DiskFault) ⊎ IsNotOpenedFor sha256 image f)
+    (refused : (image : Image) → found ≡ Some image → (f ≡ store.DiskFault) ⊎ IsNotOpenedFor image f)
     (answers : (f ≢ store.Taken) × (f ≢ store.NoMemory)) (fault : f ≡ store.DiskFault → Rose before after) where
-  not_opened : (g : StoreFault) → g ≡ f → (g ≡ store.DiskFault → ⊥) → (image : Image) → found ≡ Some image → IsNotOpenedFor sha256 image g
+  not_opened : (g : StoreFault) → g ≡ f → (g ≡ store.DiskFault → ⊥) → (image : Image) → found ≡ Some image → IsNotOpenedFor image g
   not_opened g same other image told =
-      ⊎_elim (λ is. absurd (other (same ∙ is))) (λ why. subst (IsNotOpenedFor sha256 image) (sym same) why) (refused image told)
+      ⊎_elim (λ is. absurd (other (same ∙ is))) (λ why. subst (IsNotOpenedFor image) (sym same) why) (refused image told)
 
   pub unopened_step : (came : Outcome) → came ≡ outcome_of_store f → ComesToStep found before after events came
   unopened_step came is = subst (ComesToStep found before after events) (sym is) (by f refl)
@@ -87,29 +87,31 @@ module _ (told : Option Files) (before after : ℕ) (found : Option Image) (disk
 
 -- ---- what is left
 
-module _ {D : Type 0} (content : D → Option Image) (may_leave : D → Image → Type 0) (moment : D → ℕ) (left_since : D → ℕ → Image → Type 0) where
+module _ {D : Type 0} (view : D → DiskView) where
   module _ (old new : D) where
     -- a disk that reads as a history isn't opened only where it failed
-    pub unopened_leaves : (events : List (List ℕ)) (h : History) → ReadsAs (content old) h → content new ≡ content old
+    pub unopened_leaves : (events : List (List ℕ)) (h : History) → ReadsAs (view old).content h → (view new).content ≡ (view old).content
         → (f : StoreFault) (came : Outcome) → came ≡ outcome_of_store f → f ≡ store.DiskFault
-        → LeavesOnly moment may_leave left_since old new (may_leave old) → LeavesStep content may_leave moment left_since old new events h came
+        → LeavesOnly (view old) (view new) (view old).may_leave → LeavesStep view old new h (with_events h events) came
     unopened_leaves events h reads same f came is fault left =
-        subst (LeavesStep content may_leave moment left_since old new events h) (sym (is ∙ ap outcome_of_store fault))
-        (old_or_one content may_leave moment left_since old new events h left, record { image = reads.image; told = same ∙ reads.told; has = inl reads.stands })
+        subst (LeavesStep view old new h (with_events h events)) (sym (is ∙ ap outcome_of_store fault))
+        (old_or_one view old new (with_events h events) h left, record { image = reads.image; told = same ∙ reads.told; has = inl reads.stands })
 
-    pub leaves_of_step : (as_it_reads : (d : D) (image : Image) → content d ≡ Some image → may_leave d image) → (told : Option Files) (before after : ℕ) (dir file : List ℕ) (events : List (List ℕ)) (came : Outcome) → AreEventsOf told file events
-        → ComesToStep (content old) before after events came
-        → ((h : History) → ReadsAs (content old) h → LeavesStep content may_leave moment left_since old new events h came)
-        → (WritesNothing came → IsLeft content may_leave moment left_since old new)
-        → CommandLeaves content may_leave moment left_since old new told (Append dir file) came
+    pub leaves_of_step : (as_it_reads : (d : D) (image : Image) → (view d).content ≡ Some image → (view d).may_leave image) → (told : Option Files) (before after : ℕ) (dir file : List ℕ) (events : List (List ℕ)) (came : Outcome) → AreEventsOf told file events
+        → ComesToStep (view old).content before after events came
+        → ((h : History) → ReadsAs (view old).content h → LeavesStep view old new h (with_events h events) came)
+        → (WritesNothing came → IsLeft view old new)
+        → CommandLeaves view old new told (Append dir file) came
     leaves_of_step as_it_reads told before after dir file events (Made thread) are comes leaves nothing = (
       events,
       are,
       (
         comes,
         λ h. (
+          with_events h events,
+          refl,
           λ reads. leaves h reads,
-          λ stands. one_of content may_leave moment left_since old new events h stands (leaves h (reads_as content may_leave moment left_since as_it_reads old h stands)).1,
+          λ stands. one_of view old new (with_events h events) h stands (leaves h (reads_as view as_it_reads old h stands)).1,
         ),
       ),
     )
@@ -117,8 +119,10 @@ module _ {D : Type 0} (content : D → Option Image) (may_leave : D → Image �
       events,
       are,
       λ h. (
+        with_events h events,
+        refl,
         λ reads. leaves h reads,
-        λ stands. one_of content may_leave moment left_since old new events h stands (leaves h (reads_as content may_leave moment left_since as_it_reads old h stands)).0,
+        λ stands. one_of view old new (with_events h events) h stands (leaves h (reads_as view as_it_reads old h stands)).0,
       ),
     )
     leaves_of_step as_it_reads told before after dir file events (Refused refusal) are comes leaves nothing = (nothing tt, λ h reads. leaves h reads)
@@ -127,24 +131,24 @@ module _ {D : Type 0} (content : D → Option Image) (may_leave : D → Image �
     leaves_of_step as_it_reads told before after dir file events _ are comes leaves nothing = absurd comes
 
     -- a proof leaves a disk that settles, or that wasn't opened
-    pub leaves_of_proof : (came : Outcome) → IsLeft content may_leave moment left_since old new → Settles content may_leave moment left_since old new
-        → ProofLeaves content may_leave moment left_since old new came
+    pub leaves_of_proof : (came : Outcome) → IsLeft view old new → Settles view old new
+        → ProofLeaves view old new came
     leaves_of_proof (Shown proof) left settles = (left, settles)
     leaves_of_proof (Refused refusal) left settles = (left, settles)
     leaves_of_proof _ left settles = left
 
-    pub unopened_proof_leaves : (f : StoreFault) (came : Outcome) → came ≡ outcome_of_store f → f ≢ store.Taken → IsLeft content may_leave moment left_since old new
-        → ProofLeaves content may_leave moment left_since old new came
-    unopened_proof_leaves f came is not_taken left = subst (ProofLeaves content may_leave moment left_since old new) (sym is) (by f not_taken)
+    pub unopened_proof_leaves : (f : StoreFault) (came : Outcome) → came ≡ outcome_of_store f → f ≢ store.Taken → IsLeft view old new
+        → ProofLeaves view old new came
+    unopened_proof_leaves f came is not_taken left = subst (ProofLeaves view old new) (sym is) (by f not_taken)
       where
-        by : (g : StoreFault) → g ≢ store.Taken → ProofLeaves content may_leave moment left_since old new (outcome_of_store g)
+        by : (g : StoreFault) → g ≢ store.Taken → ProofLeaves view old new (outcome_of_store g)
         by store.Taken not_taken = absurd (not_taken refl)
         by store.Blank not_taken = left
         by (store.NotAStore slot) not_taken = left
         by store.DiskFault not_taken = left
         by store.NoMemory not_taken = left
 
-    pub proof_left : (came : Outcome) → ProofLeaves content may_leave moment left_since old new came → IsLeft content may_leave moment left_since old new
+    pub proof_left : (came : Outcome) → ProofLeaves view old new came → IsLeft view old new
     proof_left (Shown proof) leaves = leaves.0
     proof_left (Refused refusal) leaves = leaves.0
     proof_left (Judged verdict) leaves = leaves
@@ -157,20 +161,20 @@ module _ {D : Type 0} (content : D → Option Image) (may_leave : D → Image �
     proof_left NoMemory leaves = leaves
 
     pub unmade_leaves : (name : List ℕ) (f : StoreFault) (came : Outcome) → came ≡ outcome_of_store f → (f ≡ store.Taken) ⊎ (f ≡ store.DiskFault)
-        → (f ≡ store.Taken → (content new ≡ content old) × LeavesOnly moment may_leave left_since old new (may_leave old))
-        → MayBegin content may_leave moment left_since name old new → Keeps content may_leave moment left_since old new
-        → SparesStore content may_leave moment left_since old new → InitLeaves content may_leave moment left_since old new name came
+        → (f ≡ store.Taken → ((view new).content ≡ (view old).content) × LeavesOnly (view old) (view new) (view old).may_leave)
+        → MayBegin view name old new → Keeps view old new
+        → SparesStore view old new → InitLeaves view old new name came
     unmade_leaves name f came is (inl taken) left begins keeps spares =
-        subst (InitLeaves content may_leave moment left_since old new name) (sym (is ∙ ap outcome_of_store taken)) (left taken)
+        subst (InitLeaves view old new name) (sym (is ∙ ap outcome_of_store taken)) (left taken)
     unmade_leaves name f came is (inr failed) left begins keeps spares =
-        subst (InitLeaves content may_leave moment left_since old new name) (sym (is ∙ ap outcome_of_store failed)) (begins, keeps, spares)
+        subst (InitLeaves view old new name) (sym (is ∙ ap outcome_of_store failed)) (begins, keeps, spares)
 
     -- where there was no memory for the text, what is left is as right for that
-    memory_leaves_of : ((d : D) (image : Image) → left_since d (moment d) image → may_leave d image) → (told : Option Files) (c : Command) (came : Outcome) → TakesMemory came → CommandLeaves content may_leave moment left_since old new told c came
-        → CommandLeaves content may_leave moment left_since old new told c NoMemory
+    memory_leaves_of : ((d : D) (image : Image) → (view d).left_since (view d).moment image → (view d).may_leave image) → (told : Option Files) (c : Command) (came : Outcome) → TakesMemory came → CommandLeaves view old new told c came
+        → CommandLeaves view old new told c NoMemory
     memory_leaves_of only_now told (Init dir name) came takes leaves = by came takes leaves
       where
-        by : (came : Outcome) → TakesMemory came → InitLeaves content may_leave moment left_since old new name came → IsLeft content may_leave moment left_since old new
+        by : (came : Outcome) → TakesMemory came → InitLeaves view old new name came → IsLeft view old new
         by (Judged verdict) takes leaves = leaves
         by (Refused refusal) takes leaves = leaves
         by (Unserved cause) takes leaves = leaves
@@ -179,51 +183,51 @@ module _ {D : Type 0} (content : D → Option Image) (may_leave : D → Image �
         by _ takes leaves = absurd takes
     memory_leaves_of only_now told (Append dir file) came takes leaves = by came takes leaves
       where
-        by : (came : Outcome) → TakesMemory came → AppendLeaves content may_leave moment left_since old new told file came → IsLeft content may_leave moment left_since old new
+        by : (came : Outcome) → TakesMemory came → AppendLeaves view old new told file came → IsLeft view old new
         by (Judged verdict) takes leaves = leaves
         by (Refused refusal) takes leaves = leaves.0
         by (Unserved cause) takes leaves = leaves
-        by (Unreadable bad) takes leaves = untouched_left content may_leave moment left_since old new only_now leaves
+        by (Unreadable bad) takes leaves = untouched_left view old new only_now leaves
         by (BadWords number) takes leaves = leaves
         by _ takes leaves = absurd takes
     memory_leaves_of only_now told (ProveEvent dir step index top) came takes leaves = proof_left came leaves
     memory_leaves_of only_now told _ came takes leaves = leaves
 
-    pub memory_leaves : ((d : D) (image : Image) → left_since d (moment d) image → may_leave d image) → (told : Option Files) (words : List (List ℕ)) (came : Outcome) → Leaves content may_leave moment left_since old new told words came → TakesMemory came
-        → Leaves content may_leave moment left_since old new told words NoMemory
+    pub memory_leaves : ((d : D) (image : Image) → (view d).left_since (view d).moment image → (view d).may_leave image) → (told : Option Files) (words : List (List ℕ)) (came : Outcome) → Leaves view old new told words came → TakesMemory came
+        → Leaves view old new told words NoMemory
     memory_leaves only_now told words came leaves takes = by (command_of words) leaves
       where
-        by : (o : Option Command) → MatchOption o (new ≡ old) (λ c. CommandLeaves content may_leave moment left_since old new told c came)
-            → MatchOption o (new ≡ old) (λ c. CommandLeaves content may_leave moment left_since old new told c NoMemory)
+        by : (o : Option Command) → MatchOption o (new ≡ old) (λ c. CommandLeaves view old new told c came)
+            → MatchOption o (new ≡ old) (λ c. CommandLeaves view old new told c NoMemory)
         by None leaves = leaves
         by (Some c) leaves = memory_leaves_of only_now told c came takes leaves
 
   -- ---- a disk that wasn't touched
 
-  module _ (only_now : (d : D) (image : Image) → left_since d (moment d) image → may_leave d image) (disk : D) where
-    abbrev left_here : IsLeft content may_leave moment left_since disk disk
-    left_here = no_call_left content may_leave moment left_since disk (only_now disk)
+  module _ (only_now : (d : D) (image : Image) → (view d).left_since (view d).moment image → (view d).may_leave image) (disk : D) where
+    abbrev left_here : IsLeft view disk disk
+    left_here = no_call_left view disk (only_now disk)
 
-    pub stop_leaves : (told : Option Files) (dir file : List ℕ) (came : Outcome) → IsStop came → CommandLeaves content may_leave moment left_since disk disk told (Append dir file) came
+    pub stop_leaves : (told : Option Files) (dir file : List ℕ) (came : Outcome) → IsStop came → CommandLeaves view disk disk told (Append dir file) came
     stop_leaves told dir file (Unreadable bad) stop = refl
     stop_leaves told dir file InputFault stop = refl
     stop_leaves told dir file NoMemory stop = left_here
     stop_leaves told dir file _ stop = absurd stop
 
-    no_memory_leaves_of : (told : Option Files) (c : Command) → CommandLeaves content may_leave moment left_since disk disk told c NoMemory
+    no_memory_leaves_of : (told : Option Files) (c : Command) → CommandLeaves view disk disk told c NoMemory
     no_memory_leaves_of told (Init dir name) = left_here
     no_memory_leaves_of told (Append dir file) = left_here
     no_memory_leaves_of told (ProveEvent dir step index top) = left_here
     no_memory_leaves_of told _ = refl
 
-    pub no_memory_leaves : (told : Option Files) (words : List (List ℕ)) → Leaves content may_leave moment left_since disk disk told words NoMemory
+    pub no_memory_leaves : (told : Option Files) (words : List (List ℕ)) → Leaves view disk disk told words NoMemory
     no_memory_leaves told words = by (command_of words)
       where
-        by : (o : Option Command) → MatchOption o (disk ≡ disk) (λ c. CommandLeaves content may_leave moment left_since disk disk told c NoMemory)
+        by : (o : Option Command) → MatchOption o (disk ≡ disk) (λ c. CommandLeaves view disk disk told c NoMemory)
         by None = refl
         by (Some c) = no_memory_leaves_of told c
 
-  pub other_leaves : (disk : D) (told : Option Files) (c : Command) (came : Outcome) → (UsesDisk c → ⊥) → CommandLeaves content may_leave moment left_since disk disk told c came
+  pub other_leaves : (disk : D) (told : Option Files) (c : Command) (came : Outcome) → (UsesDisk c → ⊥) → CommandLeaves view disk disk told c came
   other_leaves disk told (Init dir name) came other = absurd (other tt)
   other_leaves disk told (Append dir file) came other = absurd (other tt)
   other_leaves disk told (ProveEvent dir step index top) came other = absurd (other tt)

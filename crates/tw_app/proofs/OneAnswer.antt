@@ -53,7 +53,7 @@ same_last : (n m : ℕ) → service.NoStep n ≡ service.NoStep m → n ≡ m
 same_last n m is = cc
 
 -- an image isn't opened for one reason at most
-not_opened_once : (image : Image) (f g : StoreFault) → IsNotOpenedFor sha256 image f → IsNotOpenedFor sha256 image g → f ≡ g
+not_opened_once : (image : Image) (f g : StoreFault) → IsNotOpenedFor image f → IsNotOpenedFor image g → f ≡ g
 not_opened_once image f g (inl one) (inl two) = refused_once image f g one two
 not_opened_once image f g (inl one) (inr two) = absurd (not_refused two.0 image two.1 f one)
 not_opened_once image f g (inr one) (inl two) = absurd (not_refused one.0 image one.1 g two)
@@ -65,7 +65,7 @@ module _ (image : Image) where
   record Opened (P : Head → Image → Type 0) : Type 0 where
     name : List ℕ
     head : Head
-    opens : OpensWith sha256 image name head (P head)
+    opens : OpensWith image name head (P head)
 
   -- what two answers say of a service, they say of the same one
   record Both {P Q : Head → Image → Type 0} (a : Opened P) (b : Opened Q) : Type 0 where
@@ -129,7 +129,7 @@ module _ (image : Image) where
 
   module _ (events : List (List ℕ)) (before after : ℕ) where
     abbrev Adds : Head → Image → Type 0
-    Adds h ps = (append_refusal false h.step events ≡ None) × FindsLinks sha256 ps h
+    Adds h ps = (append_refusal false h.step events ≡ None) × FindsLinks ps h
 
     abbrev RefusesBy : ServiceRefusal → Head → Image → Type 0
     RefusesBy r h ps = append_refusal false h.step events ≡ Some r

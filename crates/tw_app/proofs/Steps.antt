@@ -3,14 +3,14 @@ use Rattle.std.proofs.Common.{◌≡◌, ◌∙◌, ℕ, ◌+◌, ◌^◌, ◌-�
 use Rattle.std.specs.Prelude.{Option, Some, None, Result, Ok, Err, IfErr, MatchOption, nat_le, nat_lt, if◌then◌else◌}
 use Rattle.sha2.specs.Sha256.{sha256}
 use Rattle.tw_base.specs.declared.thread.Thread.{Thread}
-use Rattle.tw_base.specs.History.{History, plus}
+use Rattle.tw_base.specs.History.{History, with_events}
+use Rattle.tw_disk.specs.Disk.{DiskView}
 use Rattle.tw_disk.specs.Image.{Image}
 use Rattle.tw_base.specs.Faults.{Rose}
 use Rattle.tw_skiplist.specs.declared.head.Head.{Head}
-use Rattle.tw_skiplist.specs.Keeping.{event_step}
 use Rattle.tw_service.specs.declared.refusal.Refusal.{Refusal}
 use Rattle.tw_service.specs.declared.refusal.Refusal.TheVariants as service
-use Rattle.tw_service.specs.Faults.{IsBadPage, IsFault, OfBadPage}
+use Rattle.tw_service.specs.Refusals.{IsBadPage, IsFault, OfBadPage}
 use Rattle.tw_service.specs.Finds.{FindsLinks, LacksLinks}
 use Rattle.tw_service.specs.Limits.{append_refusal, first_long, bytes_of, length_refusal, limits_refusal}
 use Rattle.tw_service.specs.Machine.{Answers, IsStepOf, last_thread}
@@ -93,14 +93,14 @@ is_thread : (t u : Thread) → OfThread t ≡ OfThread u → t ≡ u
 is_thread t u is = cc
 
 to_longer_by : (table : Option Refusal) (h next : History) (events : List (List ℕ)) (thread : Thread)
-    → MatchOption table ((next ≡ plus h (event_step events)) × (OfThread thread ≡ OfThread (last_thread sha256 next))) (λ r. (next ≡ h) × (OfThread thread ≡ Refused r))
-    → MatchOption table ((plus h (event_step events) ≡ plus h (event_step events)) × (OfThread thread ≡ OfThread (last_thread sha256 (plus h (event_step events)))))
-    (λ r. (plus h (event_step events) ≡ h) × (OfThread thread ≡ Refused r))
+    → MatchOption table ((next ≡ with_events h events) × (OfThread thread ≡ OfThread (last_thread sha256 next))) (λ r. (next ≡ h) × (OfThread thread ≡ Refused r))
+    → MatchOption table ((with_events h events ≡ with_events h events) × (OfThread thread ≡ OfThread (last_thread sha256 (with_events h events))))
+    (λ r. (with_events h events ≡ h) × (OfThread thread ≡ Refused r))
 to_longer_by None h next events thread is = (refl, is.1 ∙ ap (λ (n : History). OfThread (last_thread sha256 n)) is.0)
 to_longer_by (Some r) h next events thread is = let other : OfThread thread ≡ Refused r = is.1 in absurd (cc)
 
 to_longer : (h next : History) (events : List (List ℕ)) (thread : Thread) → IsStepOf sha256 h (Append events) (OfThread thread) next
-    → IsStepOf sha256 h (Append events) (OfThread thread) (plus h (event_step events))
+    → IsStepOf sha256 h (Append events) (OfThread thread) (with_events h events)
 to_longer h next events thread is = to_longer_by (append_refusal false (length h.steps) events) h next events thread is
 
 -- ---- what the service's answer comes to
@@ -109,13 +109,13 @@ module _ (found : Option Image) (before after : ℕ) (events : List (List ℕ)) 
     (OldServes NewServes : History → Type 0) (serves : (h : History) → ReadsAs found h → OldServes h) where
   pub step_done : (thread : Thread) → Table (append_refusal is_broken head.step events) (Ok thread)
       → (thread.from ≡ name) × (thread.step ≡ head.step + 1)
-      → ((h : History) → OldServes h → NewServes (plus h (event_step events)) × (thread ≡ last_thread sha256 (plus h (event_step events))))
+      → ((h : History) → OldServes h → NewServes (with_events h events) × (thread ≡ last_thread sha256 (with_events h events)))
       → (is_broken ≡ false → (h : History) → OldServes h → Answers sha256 h (Append events) (λ t. OfThread t) (Ok thread) NewServes)
-      → ((pages : Image) → told ≡ Some pages → FindsLinks sha256 pages head) → AddsStep found events thread
+      → ((pages : Image) → told ≡ Some pages → FindsLinks pages head) → AddsStep found events thread
   step_done thread table next done machine links = record {
     name = name;
     head = head;
-    opens = opens_with found name head (λ pages. told ≡ Some pages) (λ pages. FindsLinks sha256 pages head) links opens;
+    opens = opens_with found name head (λ pages. told ≡ Some pages) (λ pages. FindsLinks pages head) links opens;
     from = next.0;
     next = next.1;
     allowed = no_refusal (append_refusal false head.step events) thread (subst (λ b. Table (append_refusal b head.step events) (Ok thread)) whole table);
@@ -126,7 +126,7 @@ module _ (found : Option Image) (before after : ℕ) (events : List (List ℕ)) 
   pub step_refused : (r : Refusal) (came : Outcome) → came ≡ outcome_of_refusal r → Table (append_refusal is_broken head.step events) (Err r)
       → (is_broken ≡ false → (h : History) → OldServes h → Answers sha256 h (Append events) (λ t. OfThread t) (Err r) NewServes)
       → (refusal r ≡ Err service.DiskFault → Rose before after) → (IsBadPage r → (h : History) → OldServes h → ⊥)
-      → OfBadPage r (λ page. (pages : Image) → told ≡ Some pages → LacksLinks sha256 pages head page)
+      → OfBadPage r (λ page. (pages : Image) → told ≡ Some pages → LacksLinks pages head page)
       → ComesToStep found before after events came
   step_refused r came is table_then machine fault bad met = subst (ComesToStep found before after events) (sym is) (by r table_then machine fault bad met)
     where
@@ -146,7 +146,7 @@ module _ (found : Option Image) (before after : ℕ) (events : List (List ℕ)) 
       by : (r : Refusal) → Table (append_refusal is_broken head.step events) (Err r)
           → (is_broken ≡ false → (h : History) → OldServes h → Answers sha256 h (Append events) (λ t. OfThread t) (Err r) NewServes)
           → (refusal r ≡ Err service.DiskFault → Rose before after) → (IsBadPage r → (h : History) → OldServes h → ⊥)
-          → OfBadPage r (λ page. (pages : Image) → told ≡ Some pages → LacksLinks sha256 pages head page)
+          → OfBadPage r (λ page. (pages : Image) → told ≡ Some pages → LacksLinks pages head page)
           → ComesToStep found before after events (outcome_of_refusal r)
       by service.Full table machine fault bad met = record { name = name; head = head; opens = only; refused = table_of service.Full table (λ no. no); machine = λ h reads. (machine whole h (serves h reads)).0 }
       by (service.TooMany count) table machine fault bad met =
@@ -165,20 +165,20 @@ module _ (found : Option Image) (before after : ℕ) (events : List (List ℕ)) 
 
 -- ---- what it leaves
 
-module _ {D : Type 0} (content : D → Option Image) (may_leave : D → Image → Type 0) (moment : D → ℕ) (left_since : D → ℕ → Image → Type 0)
-    (old new : D) (events : List (List ℕ)) (h : History) where
+module _ {D : Type 0} (view : D → DiskView)
+    (old new : D) (h next : History) where
   abbrev Kept : Type 0
-  Kept = Rests content may_leave moment left_since new h
+  Kept = Rests view new h
 
-  pub step_leaves : (r : Refusal) (came : Outcome) → came ≡ outcome_of_refusal r → LeavesOldOrOneOf content may_leave moment left_since events old new h × ReadsAsOneOf content may_leave moment left_since events new h
-      → (r ≡ service.DiskFault) ⊎ Kept → LeavesStep content may_leave moment left_since old new events h came
-  step_leaves r came is any kept = subst (LeavesStep content may_leave moment left_since old new events h) (sym is) (by r kept)
+  pub step_leaves : (r : Refusal) (came : Outcome) → came ≡ outcome_of_refusal r → LeavesOldOrOneOf view old new h next × ReadsAsOneOf view new h next
+      → (r ≡ service.DiskFault) ⊎ Kept → LeavesStep view old new h next came
+  step_leaves r came is any kept = subst (LeavesStep view old new h next) (sym is) (by r kept)
     where
       here : (r : Refusal) → (r ≡ service.DiskFault → ⊥) → (r ≡ service.DiskFault) ⊎ Kept → Kept
       here r other (inl same) = absurd (other same)
       here r other (inr kept) = kept
 
-      by : (r : Refusal) → (r ≡ service.DiskFault) ⊎ Kept → LeavesStep content may_leave moment left_since old new events h (outcome_of_refusal r)
+      by : (r : Refusal) → (r ≡ service.DiskFault) ⊎ Kept → LeavesStep view old new h next (outcome_of_refusal r)
       by service.DiskFault kept = any
       by service.Reopen kept = any
       by service.Full kept = here service.Full (λ same. cc) kept
@@ -189,9 +189,9 @@ module _ {D : Type 0} (content : D → Option Image) (may_leave : D → Image �
       by (service.BadPage page) kept = here (service.BadPage page) (λ same. cc) kept
       by service.NoMemory kept = here service.NoMemory (λ same. cc) kept
 
-module _ {D : Type 0} (content : D → Option Image) (may_leave : D → Image → Type 0) (moment : D → ℕ) (left_since : D → ℕ → Image → Type 0) (old new : D) where
+module _ {D : Type 0} (view : D → DiskView) (old new : D) where
   -- what it wrote: nothing, but where there was a disk fault
   pub step_unwritten : (r : Refusal) (came : Outcome) → came ≡ outcome_of_refusal r
-      → (r ≡ service.DiskFault) ⊎ IsLeft content may_leave moment left_since old new → WritesNothing came → IsLeft content may_leave moment left_since old new
+      → (r ≡ service.DiskFault) ⊎ IsLeft view old new → WritesNothing came → IsLeft view old new
   step_unwritten r came is (inr left) nothing = left
   step_unwritten r came is (inl fault) nothing = absurd (subst WritesNothing (is ∙ ap outcome_of_refusal fault) nothing)

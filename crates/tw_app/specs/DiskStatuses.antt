@@ -2,12 +2,14 @@
 use Rattle.std.specs.Prelude.{◌≡◌, ◌⊎◌, ℕ, List, Option, Some}
 use Rattle.tw_base.specs.declared.thread.Thread.{Thread}
 use Rattle.tw_base.specs.History.{History}
-use Rattle.tw_disk.specs.Disk.{LeavesOnly}
+use Rattle.tw_disk.specs.Disk.{DiskView, LeavesOnly}
 use Rattle.tw_disk.specs.Image.{Image}
 use Rattle.sha2.specs.Sha256.{sha256}
 use Rattle.tw_base.specs.Faults.{Rose}
 use Rattle.tw_outside.specs.Files.{Files}
-use Rattle.tw_outside.specs.Taken.{Appends}
+use Rattle.tw_outside.specs.TakenBytes.{Appends}
+use Rattle.tw_service.specs.Machine.{NextOf}
+use Rattle.tw_service.specs.Machine.Call as machine
 use Rattle.tw_service.specs.Stands.{StandsForOneOf}
 use Rattle.tw_text.specs.CommandLine.{command_of}
 use Rattle.tw_text.specs.Lines.{anchor_text, fault_disk_text}
@@ -50,7 +52,7 @@ pub record IsUnservedRun (told : Option Files) (found : Option Image) (words : L
   pub cant : CantServe told found command cause
   pub written : Appends taken_before taken_after (store_text cause)
 
-module _ {D : Type 0} (content : D → Option Image) (may_leave : D → Image → Type 0) (moment : D → ℕ) (left_since : D → ℕ → Image → Type 0) (old new : D) where
+module _ {D : Type 0} (view : D → DiskView) (old new : D) where
   -- status 0 of words that ask for a service: the anchor line of its step 0 was written whole, and the disk stands for its
   -- history, without a step, at rest
   pub record IsMadeRun (words : List (List ℕ)) (taken_before taken_after : Option (List ℕ)) : Type 0 where
@@ -58,8 +60,8 @@ module _ {D : Type 0} (content : D → Option Image) (may_leave : D → Image �
     pub name : List ℕ
     pub thread : Thread
     pub is_command : command_of words ≡ Some (Init dir name)
-    pub makes : MakesService (content old) name thread
-    pub begins : Begins content may_leave moment left_since name old new
+    pub makes : MakesService (view old).content name thread
+    pub begins : Begins view name old new
     pub written : Appends taken_before taken_after (anchor_text thread)
 
   -- status 0 of words that ask for a step: the anchor line of the new step was written whole, and a disk that read as a history, with
@@ -71,24 +73,25 @@ module _ {D : Type 0} (content : D → Option Image) (may_leave : D → Image �
     pub is_command : command_of words ≡ Some (Append dir file)
     pub events : List (List ℕ)
     pub are : AreEventsOf told file events
-    pub added : AddsStep (content old) events thread
-    pub adds : Adds content may_leave moment left_since events old new
+    pub added : AddsStep (view old).content events thread
+    pub adds : Adds view (machine.Append events) old new
     pub written : Appends taken_before taken_after (anchor_text thread)
 
-  -- of a history that the disk read as, each image since is one that a crash might have left before, or, where the file has events,
-  -- stands for it or for it with a step of them; the content is told still, and stands for it, or for one of the two; of a history that
-  -- it stood for for good, each image stands for it, or for one of the two
+  -- Of a history that the disk read as, each image since is one that a crash might have left before, and the content is told still and
+  -- stands for it; or the file has events, and each image stands for it or for the next one, by the machine's adding of them, or is
+  -- one that might have been left before, and the content stands for one of the two. Of a history that it stood for for good, each
+  -- image stands for it, or for one of the two.
   abbrev pub AddsAtMost : (told : Option Files) (file : List ℕ) → Type 0
   AddsAtMost told file = (h : History) →
-      (ReadsAs (content old) h → (LeavesOnly moment may_leave left_since old new (may_leave old) × ReadsAs (content new) h)
-      ⊎ OfEvents told file (λ events. LeavesOldOrOneOf content may_leave moment left_since events old new h × ReadsAsOneOf content may_leave moment left_since events new h))
-      × (Stands content may_leave moment left_since old h → LeavesOnly moment may_leave left_since old new (IsOf h)
-      ⊎ OfEvents told file (λ events. LeavesOnly moment may_leave left_since old new (StandsForOneOf sha256 h.name h events)))
+      (ReadsAs (view old).content h → (LeavesOnly (view old) (view new) (view old).may_leave × ReadsAs (view new).content h)
+      ⊎ OfEvents told file (λ events. (next : History) × NextOf (machine.Append events) h next × LeavesOldOrOneOf view old new h next × ReadsAsOneOf view new h next))
+      × (Stands view old h → LeavesOnly (view old) (view new) (IsOf h)
+      ⊎ OfEvents told file (λ events. (next : History) × NextOf (machine.Append events) h next × LeavesOnly (view old) (view new) (StandsForOneOf sha256 h.name h next)))
 
   -- whatever the status: `init` leaves no image but such that there might have been, blank ones and the empty history, leaves a store
   -- that is there, and keeps a history; `append` at most adds the step; every other command keeps the history in each image
   abbrev pub IsCrashSafe : (told : Option Files) → Command → Type 0
   IsCrashSafe told (Init dir name) =
-      MayBegin content may_leave moment left_since name old new × Keeps content may_leave moment left_since old new × SparesStore content may_leave moment left_since old new
+      MayBegin view name old new × Keeps view old new × SparesStore view old new
   IsCrashSafe told (Append dir file) = AddsAtMost told file
-  IsCrashSafe told _ = Keeps content may_leave moment left_since old new
+  IsCrashSafe told _ = Keeps view old new

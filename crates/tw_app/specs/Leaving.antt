@@ -1,7 +1,9 @@
 -- What a run leaves of its disk, by its command and its outcome.
 use Rattle.std.specs.Prelude.{◌≡◌, ℕ, List, Option, MatchOption}
+use Rattle.tw_disk.specs.Disk.{DiskView}
 use Rattle.tw_disk.specs.Image.{Image}
 use Rattle.tw_outside.specs.Files.{Files}
+use Rattle.tw_service.specs.Machine.Call as machine
 use Rattle.tw_text.specs.CommandLine.{command_of}
 use Rattle.tw_text.specs.declared.command.Command.{Command}
 use Rattle.tw_text.specs.declared.command.Command.TheVariants.{Init, Append, ProveEvent}
@@ -10,30 +12,30 @@ use Rattle.tw_app.specs.declared.outcome.Outcome.TheVariants.{Made, Shown, Refus
 use Rattle.tw_app.specs.Appending.{AddsStep, OfEvents}
 use Rattle.tw_app.specs.Disks.{Adds, Begins, IsLeft, Keeps, KeepsOrAdds, MayBegin, Settles, SparesStore}
 
-module _ {D : Type 0} (content : D → Option Image) (may_leave : D → Image → Type 0) (moment : D → ℕ) (left_since : D → ℕ → Image → Type 0) (old new : D) where
+module _ {D : Type 0} (view : D → DiskView) (old new : D) where
   -- a service is made, or a disk fault came and it may be, but where there was a store, which is left as it was, and a history, which
   -- is kept; at every other outcome the disk is left as it was
   abbrev pub InitLeaves : (name : List ℕ) → Outcome → Type 0
-  InitLeaves name (Made thread) = Begins content may_leave moment left_since name old new
+  InitLeaves name (Made thread) = Begins view name old new
   InitLeaves name DiskFault =
-      MayBegin content may_leave moment left_since name old new × Keeps content may_leave moment left_since old new × SparesStore content may_leave moment left_since old new
-  InitLeaves name _ = IsLeft content may_leave moment left_since old new
+      MayBegin view name old new × Keeps view old new × SparesStore view old new
+  InitLeaves name _ = IsLeft view old new
 
   -- the step is added, or a disk fault came and it may be; where it was refused, nothing was written and the disk became stable; where
   -- the file wasn't read or is none, no device call was made; at every other outcome nothing was written
   abbrev pub AppendLeaves : (told : Option Files) (file : List ℕ) → Outcome → Type 0
-  AppendLeaves told file (Made thread) = OfEvents told file (λ events. AddsStep (content old) events thread × Adds content may_leave moment left_since events old new)
-  AppendLeaves told file DiskFault = OfEvents told file (λ events. KeepsOrAdds content may_leave moment left_since events old new)
-  AppendLeaves told file (Refused refusal) = IsLeft content may_leave moment left_since old new × Settles content may_leave moment left_since old new
+  AppendLeaves told file (Made thread) = OfEvents told file (λ events. AddsStep (view old).content events thread × Adds view (machine.Append events) old new)
+  AppendLeaves told file DiskFault = OfEvents told file (λ events. KeepsOrAdds view (machine.Append events) old new)
+  AppendLeaves told file (Refused refusal) = IsLeft view old new × Settles view old new
   AppendLeaves told file (Unreadable bad) = new ≡ old
   AppendLeaves told file InputFault = new ≡ old
-  AppendLeaves told file _ = IsLeft content may_leave moment left_since old new
+  AppendLeaves told file _ = IsLeft view old new
 
   -- a proof writes nothing, and where it was made or refused, the disk became stable
   abbrev pub ProofLeaves : Outcome → Type 0
-  ProofLeaves (Shown proof) = IsLeft content may_leave moment left_since old new × Settles content may_leave moment left_since old new
-  ProofLeaves (Refused refusal) = IsLeft content may_leave moment left_since old new × Settles content may_leave moment left_since old new
-  ProofLeaves _ = IsLeft content may_leave moment left_since old new
+  ProofLeaves (Shown proof) = IsLeft view old new × Settles view old new
+  ProofLeaves (Refused refusal) = IsLeft view old new × Settles view old new
+  ProofLeaves _ = IsLeft view old new
 
   -- a command without a directory makes no device call
   abbrev pub CommandLeaves : (told : Option Files) → Command → Outcome → Type 0

@@ -6,7 +6,7 @@ use Rattle.tw_base.specs.Anchors.{anchor_of}
 use Rattle.tw_base.specs.Auth.{auth}
 use Rattle.tw_base.specs.History.{History}
 use Rattle.tw_chain.specs.Accepting.{Accepts}
-use Rattle.tw_chain.specs.Making.{MakesExistence}
+use Rattle.tw_skipproof.specs.HistoryProofs.{MakesExistence}
 use Rattle.tw_disk.specs.Image.{Image}
 use Rattle.tw_skiplist.specs.declared.head.Head.{Head}
 use Rattle.tw_service.specs.declared.refusal.Refusal.{Refusal as ServiceRefusal}

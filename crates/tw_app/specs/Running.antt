@@ -4,7 +4,7 @@ use Rattle.tw_base.specs.declared.thread.Thread.{Thread}
 use Rattle.tw_disk.specs.Image.{Image}
 use Rattle.tw_base.specs.Faults.{Rose}
 use Rattle.tw_outside.specs.Files.{Files, IsThere, Tells}
-use Rattle.tw_outside.specs.Taken.{Appends, AppendsPart}
+use Rattle.tw_outside.specs.TakenBytes.{Appends, AppendsPart}
 use Rattle.tw_text.specs.CommandLine.{command_of, forms}
 use Rattle.tw_text.specs.Forms.{IsFirstBad}
 use Rattle.tw_text.specs.declared.command.Command.{Command}

@@ -9,9 +9,9 @@ use Rattle.tw_base.specs.History.{History}
 use Rattle.tw_base.specs.Sound.{IsSound}
 use Rattle.tw_outside.specs.Files.{Files, IsThere, Tells}
 use Rattle.tw_chain.specs.Accepting.{Accepts}
-use Rattle.tw_chain.specs.Making.{MakesExistence}
-use Rattle.tw_history.specs.HistoryFile.{most_bytes}
-use Rattle.tw_history.specs.Layout.{history_layout}
+use Rattle.tw_skipproof.specs.HistoryProofs.{MakesExistence}
+use Rattle.tw_base.specs.declared.limits.TheConstants.{MOST_HISTORY_BYTES}
+use Rattle.tw_base.specs.HistoryLayout.{history_layout}
 use Rattle.tw_history.specs.Refusals.{RefusesEvent}
 use Rattle.tw_history.specs.Rules.{IsFirstBroken}
 use Rattle.tw_history.specs.declared.fault.ShowFault.TheVariants as fault
@@ -20,7 +20,7 @@ use Rattle.tw_app.specs.declared.outcome.Refusal.TheVariants.{NoStep, NoEvent}
 
 -- the bytes are a history file of this sound history
 pub record IsFileOf (bytes : List ℕ) (h : History) : Type 0 where
-  pub short : length bytes ≤ most_bytes
+  pub short : length bytes ≤ MOST_HISTORY_BYTES
   pub spelled : Spells history_layout bytes h
   pub sound : IsSound h
 
@@ -46,10 +46,10 @@ RefusesToShow step index _ h = ⊥
 -- which no history file goes on
 abbrev pub IsBadByte : (bytes : List ℕ) (place : ℕ) → Type 0
 IsBadByte bytes place =
-    ((most_bytes < length bytes) × (place ≡ most_bytes))
-    ⊎ ((length bytes ≤ most_bytes) × SpellsNothing history_layout bytes × IsPlace history_layout bytes place)
+    ((MOST_HISTORY_BYTES < length bytes) × (place ≡ MOST_HISTORY_BYTES))
+    ⊎ ((length bytes ≤ MOST_HISTORY_BYTES) × SpellsNothing history_layout bytes × IsPlace history_layout bytes place)
 
 -- the bytes are the file of a history of which this is the first step that breaks a rule, and the first rule that it breaks
 abbrev pub BreaksRule : (bytes : List ℕ) (step rule : ℕ) → Type 0
 BreaksRule bytes step rule =
-    (length bytes ≤ most_bytes) × ((h : History) × Spells history_layout bytes h × IsFirstBroken h step rule)
+    (length bytes ≤ MOST_HISTORY_BYTES) × ((h : History) × Spells history_layout bytes h × IsFirstBroken h step rule)

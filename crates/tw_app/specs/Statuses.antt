@@ -11,14 +11,14 @@ use Rattle.tw_base.specs.Lists.{In}
 use Rattle.tw_disk.specs.Image.{Image}
 use Rattle.tw_base.specs.Faults.{Rose}
 use Rattle.tw_outside.specs.Files.{Files, IsThere, Tells}
-use Rattle.tw_outside.specs.Taken.{Appends}
+use Rattle.tw_outside.specs.TakenBytes.{Appends}
 use Rattle.tw_text.specs.CommandLine.{command_of, forms}
 use Rattle.tw_text.specs.Forms.{IsFirstBad}
 use Rattle.tw_text.specs.Lines.{fault_input_text, usage_text}
 use Rattle.tw_text.specs.Reports.{rejected_text, report_text}
 use Rattle.tw_text.specs.declared.command.Command.{Command}
-use Rattle.tw_skipproof.specs.declared.existence.ExistenceProof.{ExistenceProof}
-use Rattle.tw_skipproof.specs.Existence.{existence_layout}
+use Rattle.tw_chain.specs.declared.proof.Proof.{Proof}
+use Rattle.tw_chain.specs.Proofs.{proof_layout}
 use Rattle.tw_chain.specs.Accepting.{Accepts, claim_of, held, proof_texts, report_of}
 use Rattle.tw_chain.specs.Reasons.{IsLowest}
 use Rattle.tw_app.specs.declared.outcome.Refusal.{Refusal}
@@ -70,9 +70,9 @@ pub record IsAcceptedRun (told : Option Files) (words : List (List ℕ)) (taken_
   pub there : IsThere told file
   pub accepted : (bytes : List ℕ) → Tells told file bytes →
       (accepts : Accepts sha256 anchors bytes) × Appends taken_before taken_after (report_text (report_of accepts.0))
-  pub binds : (bytes : List ℕ) → Tells told file bytes → (p : ExistenceProof) → Spells existence_layout bytes p
+  pub binds : (bytes : List ℕ) → Tells told file bytes → (p : Proof) → Spells proof_layout bytes p
       → (family : List History) → AllSound family → HasThreads sha256 family (held anchors p)
-      → OrClash sha256 (family_texts sha256 family ++ proof_texts sha256 p) (Facts family (claim_of p))
+      → OrClash sha256 (family_texts sha256 family ++ proof_texts sha256 p) (Facts sha256 family (claim_of p))
 
 -- status 0 of words that ask to show an event: what was written are the bytes of its proof
 pub record IsShownRun (told : Option Files) (found : Option Image) (words : List (List ℕ)) (taken_before taken_after : Option (List ℕ)) : Type 0 where

@@ -1,9 +1,9 @@
 -- What the work on an opened disk comes to: adding a step once its events were read, and proving an event.
 use Rattle.std.specs.Prelude.{ℕ, List, Option}
-use Rattle.tw_base.specs.History.{History, plus}
+use Rattle.tw_base.specs.History.{History}
+use Rattle.tw_disk.specs.Disk.{DiskView}
 use Rattle.tw_disk.specs.Image.{Image}
 use Rattle.tw_base.specs.Faults.{Rose}
-use Rattle.tw_skiplist.specs.Keeping.{event_step}
 use Rattle.tw_app.specs.declared.outcome.Outcome.{Outcome}
 use Rattle.tw_app.specs.declared.outcome.Outcome.TheVariants.{Made, Shown, Refused, Unserved, Unreadable, InputFault, DiskFault, NoMemory}
 use Rattle.tw_app.specs.Appending.{AddsStep, MeetsBadLink, RefusesAs}
@@ -41,10 +41,9 @@ WritesNothing (Made thread) = ⊥
 WritesNothing DiskFault = ⊥
 WritesNothing _ = Unit {0}
 
-module _ {D : Type 0} (content : D → Option Image) (may_leave : D → Image → Type 0) (moment : D → ℕ) (left_since : D → ℕ → Image → Type 0) (old new : D) where
-  -- what it leaves of a disk that read as one that stands for this history, with writes pending or not
-  abbrev pub LeavesStep : (events : List (List ℕ)) → History → Outcome → Type 0
-  LeavesStep events h (Made thread) =
-      Rests content may_leave moment left_since new (plus h (event_step events)) × LeavesOldOrOneOf content may_leave moment left_since events old new h
-  LeavesStep events h DiskFault = LeavesOldOrOneOf content may_leave moment left_since events old new h × ReadsAsOneOf content may_leave moment left_since events new h
-  LeavesStep events h _ = Rests content may_leave moment left_since new h
+module _ {D : Type 0} (view : D → DiskView) (old new : D) where
+  -- what it leaves of a disk that read as one that stands for this history, with writes pending or not, where this is the next one
+  abbrev pub LeavesStep : (h next : History) → Outcome → Type 0
+  LeavesStep h next (Made thread) = Rests view new next × LeavesOldOrOneOf view old new h next
+  LeavesStep h next DiskFault = LeavesOldOrOneOf view old new h next × ReadsAsOneOf view new h next
+  LeavesStep h next _ = Rests view new h

@@ -5,7 +5,7 @@ use Rattle.tw_base.specs.declared.thread.Thread.{Thread}
 use Rattle.tw_outside.specs.Files.{Files, IsThere, Tells}
 use Rattle.tw_text.specs.declared.command.Command.{Command}
 use Rattle.tw_text.specs.declared.command.Command.TheVariants.{VerifyFile, VerifyOne}
-use Rattle.tw_msg.specs.Anchors.{AllGood, IsFirstBadLine, anchor, lines}
+use Rattle.tw_msg.specs.AnchorsFile.{AllGood, IsFirstBadLine, anchor, lines}
 use Rattle.tw_chain.specs.declared.verdict.Verdict.{Verdict}
 use Rattle.tw_chain.specs.Binding.{BindsHistories}
 use Rattle.tw_chain.specs.Reasons.{IsVerdict}

@@ -2,7 +2,7 @@
 
 ghost use Rattle.std.specs.Prelude.{◌≡◌, ◌≤◌, ℕ, List, Option, Some, IfErr, IfOk, false};
 ghost use Rattle.sha2.specs.Sha256.{sha256};
-ghost use Rattle.tw_base.specs.History.{History};
+ghost use Rattle.tw_base.specs.History.{History, with_events};
 ghost use Rattle.tw_disk.specs.Image.{Image};
 ghost use Rattle.tw_service.specs.Serves.{Serves, disk_of, has_failed, head_of, name_of, pages_of};
 ghost use Rattle.tw_text.specs.declared.command.Command.TheVariants.{Append};
@@ -13,20 +13,15 @@ ghost use Rattle.tw_app.specs.Running.{ComesTo, ComesOfFiles};
 ghost use Rattle.tw_app.specs.Stepping.{ComesToStep, IsStop, LeavesStep, WritesNothing};
 
 use crate::bad_input::refuse_byte;
+use crate::limits::{EVENTS_LIMIT, EVENTS_READ};
 use crate::outcome::{Outcome, Worked};
 use crate::service_fault::{outcome_of_refusal, outcome_of_store};
 use std::alloc::Global;
-use tw_base::{EventList, ReadFault as GrammarFault, Sha};
+use tw_base::{EventList, ReadFault, Sha};
 use tw_disk::Disk;
 use tw_msg::read_events;
-use tw_outside::{Inputs, ReadFault, read_all};
+use tw_outside::{Inputs, InputFault, read_all};
 use tw_service::Service;
-
-/// The most bytes that an events file may have.
-const EVENTS_LIMIT: usize = 1_048_576;
-
-/// Of an events file so many bytes are read: one more than it may have.
-const EVENTS_READ: usize = 1_048_577;
 
 /// Adds a step of the events of the named file to the service on the disk. The file is read and
 /// judged before the disk is touched.
@@ -37,9 +32,9 @@ pub(crate) fn append<D: Disk, I: Inputs>(
     file: &str,
 ) -> Worked<D>
     requires { I.may_ask inputs.old file.now }
-    ensures comes { (dir : List ℕ) → ComesTo (I.told inputs.old) (I.faults inputs.old) (I.faults inputs.new) (D.content disk) (D.faults disk) (D.faults result.disk)
+    ensures comes { (dir : List ℕ) → ComesTo (I.told inputs.old) (I.faults inputs.old) (I.faults inputs.new) (D.view disk).content (D.view disk).faults (D.view result.disk).faults
         (Append dir file.now) result.outcome }
-    ensures leaves { (dir : List ℕ) → CommandLeaves D.content D.may_leave D.moment D.left_since disk result.disk (I.told inputs.old) (Append dir file.now) result.outcome }
+    ensures leaves { (dir : List ℕ) → CommandLeaves D.view disk result.disk (I.told inputs.old) (Append dir file.now) result.outcome }
 {
     match read_step(alloc, inputs, file) {
         Ok(events) => append_events(alloc, disk, &events),
@@ -56,25 +51,25 @@ fn read_step<I: Inputs>(alloc: Global, inputs: &mut I, file: &str) -> Result<Eve
 {
     let bytes = match read_all(alloc, inputs, file, EVENTS_READ) {
         Ok(bytes) => bytes,
-        Err(ReadFault::Failed) => return Err(Outcome::InputFault),
-        Err(ReadFault::NoMemory) => return Err(Outcome::NoMemory),
+        Err(InputFault::Failed) => return Err(Outcome::InputFault),
+        Err(InputFault::NoMemory) => return Err(Outcome::NoMemory),
     };
     if bytes.len() > EVENTS_LIMIT {
         return Err(refuse_byte(alloc, file, EVENTS_LIMIT as u64));
     }
     match read_events(alloc, bytes.as_slice()) {
         Ok(events) => Ok(events),
-        Err(GrammarFault::Malformed { place }) => Err(refuse_byte(alloc, file, place)),
-        Err(GrammarFault::NoMemory) => Err(Outcome::NoMemory),
+        Err(ReadFault::Malformed { place }) => Err(refuse_byte(alloc, file, place)),
+        Err(ReadFault::NoMemory) => Err(Outcome::NoMemory),
     }
 }
 
 /// Adds a step of these events to the service on the disk.
 fn append_events<D: Disk>(alloc: Global, disk: D, events: &EventList) -> Worked<D>
-    ensures comes { ComesToStep (D.content disk) (D.faults disk) (D.faults result.disk) events.now result.outcome }
-    ensures leaves { (h : History) → ReadsAs (D.content disk) h
-        → LeavesStep D.content D.may_leave D.moment D.left_since disk result.disk events.now h result.outcome }
-    ensures unwritten { WritesNothing result.outcome → IsLeft D.content D.may_leave D.moment D.left_since disk result.disk }
+    ensures comes { ComesToStep (D.view disk).content (D.view disk).faults (D.view result.disk).faults events.now result.outcome }
+    ensures leaves { (h : History) → ReadsAs (D.view disk).content h
+        → LeavesStep D.view disk result.disk h (with_events h events.now) result.outcome }
+    ensures unwritten { WritesNothing result.outcome → IsLeft D.view disk result.disk }
 {
     match Service::<D, Sha>::open(alloc, disk) {
         Ok(service) => append_to(service, events),
@@ -88,12 +83,12 @@ fn append_events<D: Disk>(alloc: Global, disk: D, events: &EventList) -> Worked<
 /// Adds a step of these events to the service, and gives its disk back.
 fn append_to<D: Disk>(service: Service<D, Sha>, events: &EventList) -> Worked<D>
     requires { has_failed service ≡ false }
-    ensures comes { (found : Option Image) (before : ℕ) → OpensAsServiceWith found (name_of service) (head_of service) (λ ps. pages_of D.content service ≡ Some ps)
-        → ((h : History) → ReadsAs found h → Serves sha256 D.content D.may_leave service h) → before ≤ D.faults (disk_of service)
-        → ComesToStep found before (D.faults result.disk) events.now result.outcome }
-    ensures leaves { (h : History) → Serves sha256 D.content D.may_leave service h
-        → LeavesStep D.content D.may_leave D.moment D.left_since (disk_of service) result.disk events.now h result.outcome }
-    ensures unwritten { WritesNothing result.outcome → IsLeft D.content D.may_leave D.moment D.left_since (disk_of service) result.disk }
+    ensures comes { (found : Option Image) (before : ℕ) → OpensAsServiceWith found (name_of service) (head_of service) (λ ps. pages_of (D.view service).content ≡ Some ps)
+        → ((h : History) → ReadsAs found h → Serves sha256 D.view service h) → before ≤ (D.view (disk_of service)).faults
+        → ComesToStep found before (D.view result.disk).faults events.now result.outcome }
+    ensures leaves { (h : History) → Serves sha256 D.view service h
+        → LeavesStep D.view (disk_of service) result.disk h (with_events h events.now) result.outcome }
+    ensures unwritten { WritesNothing result.outcome → IsLeft D.view (disk_of service) result.disk }
 {
     let mut service = service;
     match service.append(events) {

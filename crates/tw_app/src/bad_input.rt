@@ -7,11 +7,9 @@ ghost use Rattle.tw_app.specs.declared.outcome.BadInput.TheVariants.{BadByte, Ba
 
 use crate::outcome::{BadInput, Outcome};
 use std::alloc::Global;
+use tw_base::limits::MOST_HISTORY_BYTES;
 use tw_base::{Bytes, NoMemory};
 use tw_history::HistoryFault;
-
-/// The most bytes that a history file may have.
-const HISTORY_LIMIT: u64 = 67_108_864;
 
 /// What comes of an anchors file with this first bad line.
 pub(crate) fn refuse_line(alloc: Global, file: &str, line: u64) -> Outcome
@@ -50,7 +48,7 @@ fn outcome_of(file: Bytes, fault: HistoryFault) -> Outcome
     match fault {
         HistoryFault::TooLong { .. } => Outcome::Unreadable(BadInput::BadByte {
             file,
-            place: HISTORY_LIMIT,
+            place: MOST_HISTORY_BYTES,
         }),
         HistoryFault::Malformed { place } => {
             Outcome::Unreadable(BadInput::BadByte { file, place })

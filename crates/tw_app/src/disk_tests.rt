@@ -35,26 +35,8 @@ fn inputs(rt: &impl Abort, alloc: Global) -> MemInputs {
     inputs
 }
 
-/// Runs the words over the disk and these inputs, sees that this status and these bytes come, and
-/// gives the disk back.
-fn expect_on<R: Abort>(
-    rt: &R,
-    alloc: Global,
-    disk: MemDisk,
-    inputs: &mut MemInputs,
-    texts: &[&str],
-    status: u8,
-    bytes: &[u8],
-) -> MemDisk {
-    let words = words(rt, alloc, texts);
-    let mut out = MemSink::new(alloc);
-    let ran = run(alloc, words.as_slice(), disk, inputs, &mut out);
-    assert_eq!(rt; ran.status, status);
-    assert_eq!(rt; out.taken(), bytes);
-    ran.disk
-}
-
-/// The same over the events file alone.
+/// Runs the words over the disk and the events file, sees that this status and these bytes come,
+/// and gives the disk back.
 fn expect<R: Abort>(
     rt: &R,
     alloc: Global,
@@ -63,8 +45,13 @@ fn expect<R: Abort>(
     status: u8,
     bytes: &[u8],
 ) -> MemDisk {
+    let words = words(rt, alloc, texts);
     let mut inputs = inputs(rt, alloc);
-    expect_on(rt, alloc, disk, &mut inputs, texts, status, bytes)
+    let mut out = MemSink::new(alloc);
+    let ran = run(alloc, words.as_slice(), disk, &mut inputs, &mut out);
+    assert_eq!(rt; ran.status, status);
+    assert_eq!(rt; out.taken(), bytes);
+    ran.disk
 }
 
 /// A disk with the service `a`, without a step.
@@ -107,69 +94,6 @@ fn an_event_of_a_service_is_proved(rt: HostRuntime) {
 }
 
 #[test]
-fn a_service_is_made_once(rt: HostRuntime) {
-    let alloc = rt.alloc();
-    let disk = made(&rt, alloc);
-    let again = ["init", "d", "b"];
-    let disk = expect(&rt, alloc, disk, &again, 7, b"refused Taken\n");
-    drop(expect(&rt, alloc, disk, &APPEND, 0, LINE.as_bytes()));
-}
-
-#[test]
-fn a_disk_fault_of_init_leaves_the_service_that_is_there(rt: HostRuntime) {
-    let alloc = rt.alloc();
-    for call in 1u64..3 {
-        let mut disk = made(&rt, alloc);
-        disk.fail_read(call).expect(&rt, "memory");
-        let disk = expect(&rt, alloc, disk, &["init", "d", "b"], 5, b"fault disk\n");
-        drop(expect(&rt, alloc, disk, &APPEND, 0, LINE.as_bytes()));
-    }
-}
-
-#[test]
-fn what_a_service_does_not_have_is_refused(rt: HostRuntime) {
-    let alloc = rt.alloc();
-    let no_step = b"refused NoStep 1\n".as_slice();
-    let no_event = b"refused NoEvent 1\n".as_slice();
-    let mut disk = with_step(&rt, alloc);
-    for (step, index, answer) in [
-        ("0", "0", no_step),
-        ("2", "0", no_step),
-        ("1", "1", no_event),
-        ("1", "4294967296", no_event),
-    ] {
-        let words = ["prove", "d", "event", step, index];
-        let next = expect(&rt, alloc, disk, &words, 7, answer);
-        disk = next;
-    }
-    let under = ["prove", "d", "event", "1", "0", "2"];
-    drop(expect(&rt, alloc, disk, &under, 7, no_step));
-}
-
-#[test]
-fn a_blank_disk_has_no_service(rt: HostRuntime) {
-    let alloc = rt.alloc();
-    let blank = b"store Blank\n";
-    let disk = MemDisk::new(alloc);
-    let disk = expect(&rt, alloc, disk, &APPEND, 8, blank);
-    drop(expect(&rt, alloc, disk, &PROVE, 8, blank));
-}
-
-#[test]
-fn a_file_is_judged_before_the_disk_is_touched(rt: HostRuntime) {
-    let alloc = rt.alloc();
-    let mut inputs = inputs(&rt, alloc);
-    let cut = EVENT.get(..11).expect(&rt, "12 bytes");
-    inputs.put("f", cut).expect(&rt, "memory");
-    let disk = MemDisk::new(alloc);
-    let missing = ["append", "d", "missing"];
-    let disk = expect_on(&rt, alloc, disk, &mut inputs, &missing, 3, b"fault input\n");
-    let bad = b"unreadable f byte 11\n";
-    let disk = expect_on(&rt, alloc, disk, &mut inputs, &["append", "d", "f"], 9, bad);
-    assert_eq!(rt; disk.device_calls(), 0);
-}
-
-#[test]
 fn a_step_stands_that_could_not_be_told(rt: HostRuntime) {
     let alloc = rt.alloc();
     let disk = made(&rt, alloc);
@@ -180,17 +104,6 @@ fn a_step_stands_that_could_not_be_told(rt: HostRuntime) {
     let ran = run(alloc, words.as_slice(), disk, &mut inputs, &mut out);
     assert_eq!(rt; ran.status, 4);
     drop(expect(&rt, alloc, ran.disk, &PROVE, 0, &LEAST_EXISTENCE));
-}
-
-#[test]
-fn a_disk_fault_at_each_call_leaves_the_step_or_none(rt: HostRuntime) {
-    let alloc = rt.alloc();
-    for call in 1u64..9 {
-        let disk = after_fault(&rt, alloc, call);
-        let (status, disk) = status_of(&rt, alloc, disk, &PROVE);
-        assert!(rt; status == 0 || status == 7);
-        drop(disk);
-    }
 }
 
 #[test]
@@ -206,21 +119,6 @@ fn a_crash_at_each_call_leaves_the_step_or_none(rt: HostRuntime) {
             assert!(rt; status == 0 || status == 7);
             let (status, disk) = status_of(&rt, alloc, disk, &APPEND);
             assert_eq!(rt; status, 0);
-            drop(disk);
-        }
-    }
-}
-
-#[test]
-fn what_was_answered_after_a_disk_fault_stands_after_a_crash(rt: HostRuntime) {
-    let alloc = rt.alloc();
-    for call in 1u64..9 {
-        for choice in 0u8..4 {
-            let disk = after_fault(&rt, alloc, call);
-            let (status, mut disk) = status_of(&rt, alloc, disk, &PROVE);
-            disk.crash(choice);
-            let (again, disk) = status_of(&rt, alloc, disk, &PROVE);
-            assert_eq!(rt; again, status);
             drop(disk);
         }
     }

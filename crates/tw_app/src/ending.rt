@@ -4,7 +4,7 @@ ghost use Rattle.std.specs.Prelude.{◌≡◌, ◌⊎◌, ℕ, List, Some, map, 
 ghost use Rattle.tw_base.specs.History.{History};
 ghost use Rattle.tw_base.specs.Lists.{Each};
 ghost use Rattle.tw_base.specs.Faults.{Rose};
-ghost use Rattle.tw_outside.specs.Taken.{Appends, AppendsPart};
+ghost use Rattle.tw_outside.specs.TakenBytes.{Appends, AppendsPart};
 ghost use Rattle.tw_text.specs.CommandLine.{command_of};
 ghost use Rattle.tw_text.specs.declared.command.Command.{Command};
 ghost use Rattle.tw_text.specs.Lines.{anchor_text, no_memory_text};
@@ -103,9 +103,9 @@ fn run_to_the_end<D: Disk, I: Inputs, S: Sink>(
     out: &mut S,
 ) -> Ran<D>
     requires { IfSome (command_of (map string_bytes words.now)) (λ command. Each (I.may_ask inputs.old) (files_of command)) }
-    ensures { Ends (I.told inputs.old) (I.faults inputs.old) (I.faults inputs.new) (D.content disk) (D.faults disk) (D.faults result.disk)
+    ensures { Ends (I.told inputs.old) (I.faults inputs.old) (I.faults inputs.new) (D.view disk).content (D.view disk).faults (D.view result.disk).faults
         (map string_bytes words.now) (S.taken out.old) (S.taken out.new) (S.faults out.old) (S.faults out.new)
-        (Leaves D.content D.may_leave D.moment D.left_since disk result.disk (I.told inputs.old) (map string_bytes words.now)) result.status }
+        (Leaves D.view disk result.disk (I.told inputs.old) (map string_bytes words.now)) result.status }
 {
     let Worked { outcome, disk } = follow_words(alloc, words, disk, inputs);
     let status = conclude(alloc, &outcome, out);
@@ -140,48 +140,48 @@ pub fn run<D: Disk, I: Inputs, S: Sink>(
     out: &mut S,
 ) -> Ran<D>
     requires { IfSome (command_of (map string_bytes words.now)) (λ command. Each (I.may_ask inputs.old) (files_of command)) }
-    ensures ends { Ends (I.told inputs.old) (I.faults inputs.old) (I.faults inputs.new) (D.content disk) (D.faults disk) (D.faults result.disk)
+    ensures ends { Ends (I.told inputs.old) (I.faults inputs.old) (I.faults inputs.new) (D.view disk).content (D.view disk).faults (D.view result.disk).faults
         (map string_bytes words.now) (S.taken out.old) (S.taken out.new) (S.faults out.old) (S.faults out.new)
-        (Leaves D.content D.may_leave D.moment D.left_since disk result.disk (I.told inputs.old) (map string_bytes words.now)) result.status }
+        (Leaves D.view disk result.disk (I.told inputs.old) (map string_bytes words.now)) result.status }
 
     // Status 0, by what the words ask for.
     ensures built { result.status ≡ 0 → AreBuilt (map string_bytes words.now) }
     ensures accepted { result.status ≡ 0 → AskForVerdict (map string_bytes words.now)
         → IsAcceptedRun (I.told inputs.old) (map string_bytes words.now) (S.taken out.old) (S.taken out.new) }
     ensures shown { result.status ≡ 0 → AskForEvent (map string_bytes words.now)
-        → IsShownRun (I.told inputs.old) (D.content disk) (map string_bytes words.now) (S.taken out.old) (S.taken out.new) }
+        → IsShownRun (I.told inputs.old) (D.view disk).content (map string_bytes words.now) (S.taken out.old) (S.taken out.new) }
     ensures initialised { result.status ≡ 0 → AskForService (map string_bytes words.now)
-        → IsMadeRun D.content D.may_leave D.moment D.left_since disk result.disk (map string_bytes words.now) (S.taken out.old) (S.taken out.new) }
+        → IsMadeRun D.view disk result.disk (map string_bytes words.now) (S.taken out.old) (S.taken out.new) }
     ensures appended { result.status ≡ 0 → AskForStep (map string_bytes words.now)
-        → IsAppendedRun D.content D.may_leave D.moment D.left_since disk result.disk (I.told inputs.old) (map string_bytes words.now) (S.taken out.old) (S.taken out.new) }
+        → IsAppendedRun D.view disk result.disk (I.told inputs.old) (map string_bytes words.now) (S.taken out.old) (S.taken out.new) }
     ensures proved { result.status ≡ 0 → AskForProof (map string_bytes words.now)
-        → IsProvedRun (D.content disk) (map string_bytes words.now) (S.taken out.old) (S.taken out.new) }
+        → IsProvedRun (D.view disk).content (map string_bytes words.now) (S.taken out.old) (S.taken out.new) }
 
     // The other statuses.
     ensures rejected { result.status ≡ 1 → IsRejectedRun (I.told inputs.old) (map string_bytes words.now) (S.taken out.old) (S.taken out.new) }
     ensures usage { result.status ≡ 2 → IsUsageRun (map string_bytes words.now) (S.taken out.old) (S.taken out.new) }
     ensures input_fault { result.status ≡ 3 → IsFaultRun (I.faults inputs.old) (I.faults inputs.new) (map string_bytes words.now) (S.taken out.old) (S.taken out.new) }
     ensures output_fault { result.status ≡ 4 → Rose (S.faults out.old) (S.faults out.new) }
-    ensures disk_fault { result.status ≡ 5 → IsDiskFaultRun (I.told inputs.old) (D.faults disk) (D.faults result.disk) (map string_bytes words.now) (S.taken out.old) (S.taken out.new) }
+    ensures disk_fault { result.status ≡ 5 → IsDiskFaultRun (I.told inputs.old) (D.view disk).faults (D.view result.disk).faults (map string_bytes words.now) (S.taken out.old) (S.taken out.new) }
     ensures no_memory { result.status ≡ 6 → Appends (S.taken out.old) (S.taken out.new) no_memory_text }
-    ensures refused { result.status ≡ 7 → IsRefusedRun (I.told inputs.old) (D.content disk) (map string_bytes words.now) (S.taken out.old) (S.taken out.new) }
-    ensures store { result.status ≡ 8 → IsUnservedRun (I.told inputs.old) (D.content disk) (map string_bytes words.now) (S.taken out.old) (S.taken out.new) }
-    ensures complete { (h : History) → ReadsAs (D.content disk) h → result.status ≡ 8 → ⊥ }
+    ensures refused { result.status ≡ 7 → IsRefusedRun (I.told inputs.old) (D.view disk).content (map string_bytes words.now) (S.taken out.old) (S.taken out.new) }
+    ensures store { result.status ≡ 8 → IsUnservedRun (I.told inputs.old) (D.view disk).content (map string_bytes words.now) (S.taken out.old) (S.taken out.new) }
+    ensures complete { (h : History) → ReadsAs (D.view disk).content h → result.status ≡ 8 → ⊥ }
     ensures unreadable { result.status ≡ 9 → IsUnreadableRun (I.told inputs.old) (map string_bytes words.now) (S.taken out.old) (S.taken out.new) }
     ensures statuses { IsStatus result.status }
 
     // The disk: whatever the status, a crash at any moment leaves the history or the longer one; a command without a directory
     // hands the disk back as it is.
     ensures crash { (command : Command) → command_of (map string_bytes words.now) ≡ Some command
-        → IsCrashSafe D.content D.may_leave D.moment D.left_since disk result.disk (I.told inputs.old) command }
+        → IsCrashSafe D.view disk result.disk (I.told inputs.old) command }
     ensures kept { (result.status ≡ 0 → ⊥) → (result.status ≡ 4 → ⊥) → (result.status ≡ 5 → ⊥)
-        → AskForDisk (map string_bytes words.now) → Keeps D.content D.may_leave D.moment D.left_since disk result.disk }
+        → AskForDisk (map string_bytes words.now) → Keeps D.view disk result.disk }
     ensures unwritten { (result.status ≡ 0 → ⊥) → (result.status ≡ 4 → ⊥) → (result.status ≡ 5 → ⊥)
-        → AskForDisk (map string_bytes words.now) → IsLeft D.content D.may_leave D.moment D.left_since disk result.disk }
-    ensures proving { AskForProof (map string_bytes words.now) → IsLeft D.content D.may_leave D.moment D.left_since disk result.disk }
-    ensures settled { (result.status ≡ 0 → AskForProof (map string_bytes words.now) → Settles D.content D.may_leave D.moment D.left_since disk result.disk)
+        → AskForDisk (map string_bytes words.now) → IsLeft D.view disk result.disk }
+    ensures proving { AskForProof (map string_bytes words.now) → IsLeft D.view disk result.disk }
+    ensures settled { (result.status ≡ 0 → AskForProof (map string_bytes words.now) → Settles D.view disk result.disk)
         × (result.status ≡ 7 → AskForStep (map string_bytes words.now) ⊎ AskForProof (map string_bytes words.now)
-        → Settles D.content D.may_leave D.moment D.left_since disk result.disk) }
+        → Settles D.view disk result.disk) }
     ensures untouched { (AskForDisk (map string_bytes words.now) → ⊥) → result.disk ≡ disk }
 {
     run_to_the_end(alloc, words, disk, inputs, out)

@@ -27,9 +27,9 @@ pub(crate) fn follow_words<D: Disk, I: Inputs>(
     inputs: &mut I,
 ) -> Worked<D>
     requires { IfSome (command_of (map string_bytes words.now)) (λ command. Each (I.may_ask inputs.old) (files_of command)) }
-    ensures comes { HasOutcome (I.told inputs.old) (I.faults inputs.old) (I.faults inputs.new) (D.content disk) (D.faults disk) (D.faults result.disk)
+    ensures comes { HasOutcome (I.told inputs.old) (I.faults inputs.old) (I.faults inputs.new) (D.view disk).content (D.view disk).faults (D.view result.disk).faults
         (map string_bytes words.now) result.outcome }
-    ensures leaves { Leaves D.content D.may_leave D.moment D.left_since disk result.disk (I.told inputs.old) (map string_bytes words.now) result.outcome }
+    ensures leaves { Leaves D.view disk result.disk (I.told inputs.old) (map string_bytes words.now) result.outcome }
 {
     match read_words(alloc, words) {
         Ok(command) => follow(alloc, &command, words, disk, inputs),
@@ -54,8 +54,8 @@ fn follow<D: Disk, I: Inputs>(
 ) -> Worked<D>
     requires command { command_of (map string_bytes words.now) ≡ Some command.now }
     requires files { Each (I.may_ask inputs.old) (files_of command.now) }
-    ensures comes { ComesTo (I.told inputs.old) (I.faults inputs.old) (I.faults inputs.new) (D.content disk) (D.faults disk) (D.faults result.disk) command.now result.outcome }
-    ensures leaves { CommandLeaves D.content D.may_leave D.moment D.left_since disk result.disk (I.told inputs.old) command.now result.outcome }
+    ensures comes { ComesTo (I.told inputs.old) (I.faults inputs.old) (I.faults inputs.new) (D.view disk).content (D.view disk).faults (D.view result.disk).faults command.now result.outcome }
+    ensures leaves { CommandLeaves D.view disk result.disk (I.told inputs.old) command.now result.outcome }
 {
     match command {
         Command::Init { dir: _, name } => make(alloc, disk, *name),

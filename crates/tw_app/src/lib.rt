@@ -6,6 +6,7 @@ mod bad_input;
 mod ending;
 mod following;
 mod laws;
+mod limits;
 mod making;
 mod outcome;
 mod pair;

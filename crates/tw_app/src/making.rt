@@ -19,9 +19,9 @@ use tw_service::Service;
 /// Makes a service of this name on the disk.
 pub(crate) fn make<D: Disk>(alloc: Global, disk: D, name: Name) -> Worked<D>
     ensures comes { (told : Option Files) (before after : ℕ) (dir : List ℕ)
-        → ComesTo told before after (D.content disk) (D.faults disk) (D.faults result.disk) (Init dir name) result.outcome }
+        → ComesTo told before after (D.view disk).content (D.view disk).faults (D.view result.disk).faults (Init dir name) result.outcome }
     ensures leaves { (told : Option Files) (dir : List ℕ)
-        → CommandLeaves D.content D.may_leave D.moment D.left_since disk result.disk told (Init dir name) result.outcome }
+        → CommandLeaves D.view disk result.disk told (Init dir name) result.outcome }
 {
     match Service::<D, Sha>::init(alloc, disk, name) {
         Ok(service) => Worked {

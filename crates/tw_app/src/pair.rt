@@ -5,7 +5,7 @@ ghost use Rattle.tw_base.specs.Faults.{Rose};
 ghost use Rattle.tw_outside.specs.Files.{IsReadTo, IsThere};
 
 use std::alloc::Global;
-use tw_outside::{Inputs, ReadFault, read_all};
+use tw_outside::{Inputs, InputFault, read_all};
 
 /// What was read of two files.
 #[derive(Drop)]
@@ -21,10 +21,10 @@ pub(crate) fn read_pair<I: Inputs>(
     first: &str,
     second: &str,
     limit: usize,
-) -> Result<Pair, ReadFault>
+) -> Result<Pair, InputFault>
     requires first { I.may_ask inputs.old first.now }
     requires second { I.may_ask inputs.old second.now }
-    ensures failed { result ≡ Err ReadFault.Failed → Rose (I.faults inputs.old) (I.faults inputs.new) }
+    ensures failed { result ≡ Err InputFault.Failed → Rose (I.faults inputs.old) (I.faults inputs.new) }
     ensures first_there { OnOk result (IsThere (I.told inputs.old) first.now) }
     ensures second_there { OnOk result (IsThere (I.told inputs.old) second.now) }
     ensures first_read { IfOk result (λ pair. IsReadTo (I.told inputs.old) first.now limit pair.first.items) }

@@ -30,9 +30,9 @@ pub(crate) fn prove<D: Disk>(
     top: Option<u64>,
 ) -> Worked<D>
     ensures comes { (told : Option Files) (before after : ℕ) (dir : List ℕ)
-        → ComesTo told before after (D.content disk) (D.faults disk) (D.faults result.disk) (ProveEvent dir step index top) result.outcome }
+        → ComesTo told before after (D.view disk).content (D.view disk).faults (D.view result.disk).faults (ProveEvent dir step index top) result.outcome }
     ensures leaves { (told : Option Files) (dir : List ℕ)
-        → CommandLeaves D.content D.may_leave D.moment D.left_since disk result.disk told (ProveEvent dir step index top) result.outcome }
+        → CommandLeaves D.view disk result.disk told (ProveEvent dir step index top) result.outcome }
 {
     match Service::<D, Sha>::open(alloc, disk) {
         Ok(service) => prove_by(service, step, index, top),
@@ -47,11 +47,11 @@ pub(crate) fn prove<D: Disk>(
 /// 2^32 - 1, so such an index is refused as that one is.
 fn prove_by<D: Disk>(service: Service<D, Sha>, step: u64, index: u64, top: Option<u64>) -> Worked<D>
     requires { has_failed service ≡ false }
-    ensures comes { (found : Option Image) (before : ℕ) → OpensAsServiceWith found (name_of service) (head_of service) (λ ps. pages_of D.content service ≡ Some ps)
-        → ((h : History) → ReadsAs found h → Serves sha256 D.content D.may_leave service h) → before ≤ D.faults (disk_of service)
-        → ComesToProof found before (D.faults result.disk) step index top result.outcome }
-    ensures leaves { IsLeft D.content D.may_leave D.moment D.left_since (disk_of service) result.disk }
-    ensures rests { (h : History) → Serves sha256 D.content D.may_leave service h → Rests D.content D.may_leave D.moment D.left_since result.disk h }
+    ensures comes { (found : Option Image) (before : ℕ) → OpensAsServiceWith found (name_of service) (head_of service) (λ ps. pages_of (D.view service).content ≡ Some ps)
+        → ((h : History) → ReadsAs found h → Serves sha256 D.view service h) → before ≤ (D.view (disk_of service)).faults
+        → ComesToProof found before (D.view result.disk).faults step index top result.outcome }
+    ensures leaves { IsLeft D.view (disk_of service) result.disk }
+    ensures rests { (h : History) → Serves sha256 D.view service h → Rests D.view result.disk h }
 {
     let mut service = service;
     let top = top_for(top, service.steps());

@@ -8,14 +8,12 @@ ghost use Rattle.tw_app.specs.Running.{ComesOfFiles};
 ghost use Rattle.tw_app.specs.Showing.{ProvesEvent};
 
 use crate::bad_input::refuse_history;
+use crate::limits::HISTORY_READ;
 use crate::outcome::{Outcome, Refusal};
 use std::alloc::Global;
 use tw_base::{Bytes, Sha};
 use tw_history::{History, ShowFault, read_history, show_event};
-use tw_outside::{Inputs, ReadFault, read_all};
-
-/// Of a history file so many bytes are read: one more than it may have.
-const HISTORY_READ: usize = 67_108_865;
+use tw_outside::{Inputs, InputFault, read_all};
 
 /// Shows the event of this index in this step of the named history.
 pub(crate) fn show<I: Inputs>(
@@ -30,8 +28,8 @@ pub(crate) fn show<I: Inputs>(
 {
     let bytes = match read_all(alloc, inputs, file, HISTORY_READ) {
         Ok(bytes) => bytes,
-        Err(ReadFault::Failed) => return Outcome::InputFault,
-        Err(ReadFault::NoMemory) => return Outcome::NoMemory,
+        Err(InputFault::Failed) => return Outcome::InputFault,
+        Err(InputFault::NoMemory) => return Outcome::NoMemory,
     };
     let history = match read_history(alloc, bytes.as_slice()) {
         Ok(history) => history,

@@ -4,6 +4,7 @@ ghost use Rattle.std.specs.Prelude.{◌≡◌, ◌∷◌, []};
 ghost use Rattle.tw_text.specs.declared.command.Command.TheVariants.{VerifyFile, VerifyOne};
 ghost use Rattle.tw_app.specs.Running.{ComesOfFiles};
 
+use crate::limits::PROOF_READ;
 use crate::bad_input::refuse_line;
 use crate::outcome::Outcome;
 use crate::pair::read_pair;
@@ -11,10 +12,7 @@ use std::alloc::Global;
 use tw_base::{NoMemory, Sha, Thread};
 use tw_chain::verify;
 use tw_msg::{AnchorFault, read_anchors};
-use tw_outside::{Inputs, ReadFault, read_all};
-
-/// Of a proof or an anchors file so many bytes are read.
-const FILE_LIMIT: usize = 5_242_880;
+use tw_outside::{Inputs, InputFault, read_all};
 
 /// Judges the named proof under one anchor.
 pub(crate) fn verify_one<I: Inputs>(
@@ -26,10 +24,10 @@ pub(crate) fn verify_one<I: Inputs>(
     requires { I.may_ask inputs.old proof.now }
     ensures { ComesOfFiles (I.told inputs.old) (I.faults inputs.old) (I.faults inputs.new) (VerifyOne proof.now anchor.from anchor.step anchor.auth) result }
 {
-    let bytes = match read_all(alloc, inputs, proof, FILE_LIMIT) {
+    let bytes = match read_all(alloc, inputs, proof, PROOF_READ) {
         Ok(bytes) => bytes,
-        Err(ReadFault::Failed) => return Outcome::InputFault,
-        Err(ReadFault::NoMemory) => return Outcome::NoMemory,
+        Err(InputFault::Failed) => return Outcome::InputFault,
+        Err(InputFault::NoMemory) => return Outcome::NoMemory,
     };
     match verify::<Sha>(alloc, bytes.as_slice(), &[anchor]) {
         Ok(verdict) => Outcome::Judged(verdict),
@@ -49,10 +47,10 @@ pub(crate) fn verify_file<I: Inputs>(
     requires anchors { I.may_ask inputs.old anchors.now }
     ensures { ComesOfFiles (I.told inputs.old) (I.faults inputs.old) (I.faults inputs.new) (VerifyFile proof.now anchors.now) result }
 {
-    let pair = match read_pair(alloc, inputs, anchors, proof, FILE_LIMIT) {
+    let pair = match read_pair(alloc, inputs, anchors, proof, PROOF_READ) {
         Ok(pair) => pair,
-        Err(ReadFault::Failed) => return Outcome::InputFault,
-        Err(ReadFault::NoMemory) => return Outcome::NoMemory,
+        Err(InputFault::Failed) => return Outcome::InputFault,
+        Err(InputFault::NoMemory) => return Outcome::NoMemory,
     };
     let held = match read_anchors(alloc, pair.first.as_slice()) {
         Ok(held) => held,

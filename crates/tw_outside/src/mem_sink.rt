@@ -1,9 +1,9 @@
 // A sink in memory.
 ghost use Rattle.std.specs.Prelude.{◌≡◌, ◌++◌, ◌∷◌, [], length, OnOk, OnErr, IfOk, IsErr, IsTrue};
-ghost use Rattle.tw_outside.specs.PlannedFailures.{fails_next, after_call};
+ghost use Rattle.tw_base.specs.PlannedFailures.{fails_next, after_call};
 ghost use Rattle.tw_base.specs.Faults.{HasCause};
 
-use crate::failing::FailingCalls;
+use tw_base::FailingCalls;
 use crate::sink::Sink;
 use std::alloc::Global;
 use tw_base::{Failed, NoMemory};

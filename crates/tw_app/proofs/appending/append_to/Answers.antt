@@ -1,7 +1,6 @@
 use Rattle.std.proofs.Common.{sym, subst, inl, inr, ⊎_elim}
 use Rattle.sha2.specs.Sha256.{sha256}
-use Rattle.tw_base.specs.History.{plus}
-use Rattle.tw_skiplist.specs.Keeping.{event_step}
+use Rattle.tw_base.specs.History.{with_events}
 use Rattle.tw_base.specs.Faults.{Rose}
 use Rattle.tw_service.specs.Serves.{Serves, disk_of, pages_of}
 use Rattle.tw_app.specs.Disks.{IsLeft, LeavesOldOrOneOf, ReadsAsOneOf}
@@ -12,8 +11,8 @@ use Rattle.tw_app.proofs.appending.append_to.Goals as goal
 pub returns-in-Ok-clause-comes : goal.returns-in-Ok-clause-comes
 returns-in-Ok-clause-comes g c = λ found before opens serves le.
     let d = g.D.Disk in
-    step_done found before 0 c.args.events.now c.args.service.is_broken c.args.service.name c.args.service.head (pages_of d.content c.args.service) opens c.requires
-    (Serves sha256 d.content d.may_leave c.args.service) (Serves sha256 d.content d.may_leave c.append.new.self) serves
+    step_done found before 0 c.args.events.now c.args.service.is_broken c.args.service.name c.args.service.head (pages_of (d.view c.args.service).content) opens c.requires
+    (Serves sha256 d.view c.args.service) (Serves sha256 d.view c.append.new.self) serves
     c.in-Ok.thread c.in-Ok.ensures.table c.in-Ok.ensures.next c.in-Ok.ensures.done c.in-Ok.ensures.machine c.in-Ok.ensures.found
 
 pub returns-in-Ok-clause-leaves : goal.returns-in-Ok-clause-leaves
@@ -23,20 +22,20 @@ returns-in-Ok-clause-leaves g c = λ h served.
     let new = c.append.new.self in
     let events = c.args.events.now in
     let done = c.in-Ok.ensures.done h served in
-    let longer = plus h (event_step events) in (
-      own_rest d.content d.may_leave d.moment d.left_since c.close.result new.name longer (c.close.ensures.stands longer done.0),
-      subst (λ disk. LeavesOldOrOneOf d.content d.may_leave d.moment d.left_since events (disk_of old) disk h) (sym c.close.ensures.disk)
-          (named_one_of d.content d.may_leave d.moment d.left_since (disk_of old) (disk_of new) old.name events h served.has.named (c.in-Ok.ensures.any_moment h served)),
+    let next = with_events h events in (
+      own_rest d.view c.close.result new.name next (c.close.ensures.stands next done.0),
+      subst (λ disk. LeavesOldOrOneOf d.view (disk_of old) disk h next) (sym c.close.ensures.disk)
+          (named_one_of d.view (disk_of old) (disk_of new) old.name next h served.has.named (c.in-Ok.ensures.any_moment h served)),
     )
 
 pub returns-in-Err-clause-comes : goal.returns-in-Err-clause-comes
 returns-in-Err-clause-comes g c = λ found before opens serves le.
     let d = g.D.Disk in
-    step_refused found before (d.faults c.close-in-Err.result) c.args.events.now c.args.service.is_broken c.args.service.name c.args.service.head (pages_of d.content c.args.service) opens c.requires
-    (Serves sha256 d.content d.may_leave c.args.service) (Serves sha256 d.content d.may_leave c.append.new.self) serves
+    step_refused found before (d.view c.close-in-Err.result).faults c.args.events.now c.args.service.is_broken c.args.service.name c.args.service.head (pages_of (d.view c.args.service).content) opens c.requires
+    (Serves sha256 d.view c.args.service) (Serves sha256 d.view c.append.new.self) serves
     c.in-Err.refusal c.outcome_of_refusal.result c.outcome_of_refusal.ensures c.in-Err.ensures.table c.in-Err.ensures.machine
-    (λ is. rose_since before (d.faults (disk_of c.args.service)) (d.faults c.close-in-Err.result) le
-    (subst (λ disk. Rose (d.faults (disk_of c.args.service)) (d.faults disk)) (sym c.close-in-Err.ensures.disk) (c.in-Err.ensures.fault is)))
+    (λ is. rose_since before (d.view (disk_of c.args.service)).faults (d.view c.close-in-Err.result).faults le
+    (subst (λ disk. Rose (d.view (disk_of c.args.service)).faults (d.view disk).faults) (sym c.close-in-Err.ensures.disk) (c.in-Err.ensures.fault is)))
     c.in-Err.ensures.good c.in-Err.ensures.bad
 
 pub returns-in-Err-clause-leaves : goal.returns-in-Err-clause-leaves
@@ -45,15 +44,16 @@ returns-in-Err-clause-leaves g c = λ h served.
     let old = c.args.service in
     let new = c.append.new.self in
     let events = c.args.events.now in
-    step_leaves d.content d.may_leave d.moment d.left_since (disk_of old) c.close-in-Err.result events h c.in-Err.refusal c.outcome_of_refusal.result c.outcome_of_refusal.ensures
+    let next = with_events h events in
+    step_leaves d.view (disk_of old) c.close-in-Err.result h next c.in-Err.refusal c.outcome_of_refusal.result c.outcome_of_refusal.ensures
     (subst
-    (λ disk. LeavesOldOrOneOf d.content d.may_leave d.moment d.left_since events (disk_of old) disk h × ReadsAsOneOf d.content d.may_leave d.moment d.left_since events disk h)
+    (λ disk. LeavesOldOrOneOf d.view (disk_of old) disk h next × ReadsAsOneOf d.view disk h next)
     (sym c.close-in-Err.ensures.disk) (
-      named_one_of d.content d.may_leave d.moment d.left_since (disk_of old) (disk_of new) old.name events h served.has.named (c.in-Err.ensures.any_moment h served),
-      named_reads d.content d.may_leave d.moment d.left_since (disk_of new) old.name events h served.has.named (c.in-Err.ensures.told h served),
+      named_one_of d.view (disk_of old) (disk_of new) old.name next h served.has.named (c.in-Err.ensures.any_moment h served),
+      named_reads d.view (disk_of new) old.name next h served.has.named (c.in-Err.ensures.told h served),
     ))
     (⊎_elim (λ is. inl is)
-    (λ keeps. inr (own_rest d.content d.may_leave d.moment d.left_since c.close-in-Err.result new.name h (c.close-in-Err.ensures.stands h (keeps h served).0)))
+    (λ keeps. inr (own_rest d.view c.close-in-Err.result new.name h (c.close-in-Err.ensures.stands h (keeps h served).0)))
     c.in-Err.ensures.refused)
 
 pub returns-in-Err-clause-unwritten : goal.returns-in-Err-clause-unwritten
@@ -61,6 +61,6 @@ returns-in-Err-clause-unwritten g c = λ nothing.
     let d = g.D.Disk in
     let old = c.args.service in
     let new = c.append.new.self in
-    subst (λ disk. IsLeft d.content d.may_leave d.moment d.left_since (disk_of old) disk) (sym c.close-in-Err.ensures.disk)
-    (step_unwritten d.content d.may_leave d.moment d.left_since (disk_of old) (disk_of new) c.in-Err.refusal c.outcome_of_refusal.result c.outcome_of_refusal.ensures
-    (⊎_elim (λ is. inl is) (λ same. inr (same_left d.content d.may_leave d.moment d.left_since g.met.D.Disk.only_now old new same)) c.in-Err.ensures.unwritten) nothing)
+    subst (λ disk. IsLeft d.view (disk_of old) disk) (sym c.close-in-Err.ensures.disk)
+    (step_unwritten d.view (disk_of old) (disk_of new) c.in-Err.refusal c.outcome_of_refusal.result c.outcome_of_refusal.ensures
+    (⊎_elim (λ is. inl is) (λ same. inr (same_left d.view g.met.D.Disk.only_now old new same)) c.in-Err.ensures.unwritten) nothing)

@@ -8,8 +8,8 @@ returns g c =
     let d = g.D.Disk in
     let told = g.I.Inputs.told c.args.inputs.now in
     let disk = c.follow_words-outcome.result.disk in
-    ends_by told _ _ (d.content c.args.disk) _ _ _ (g.S.Sink.taken c.args.out.now) (g.S.Sink.taken c.conclude-status.new.out) _ _
-    (Leaves d.content d.may_leave d.moment d.left_since c.args.disk disk told _) c.conclude-status.result
+    ends_by told _ _ (d.view c.args.disk).content _ _ _ (g.S.Sink.taken c.args.out.now) (g.S.Sink.taken c.conclude-status.new.out) _ _
+    (Leaves d.view c.args.disk disk told _) c.conclude-status.result
     c.follow_words-outcome.result.outcome c.follow_words-outcome.ensures.comes c.follow_words-outcome.ensures.leaves
-    (memory_leaves d.content d.may_leave d.moment d.left_since c.args.disk disk g.met.D.Disk.only_now told _ c.follow_words-outcome.result.outcome c.follow_words-outcome.ensures.leaves)
+    (memory_leaves d.view c.args.disk disk g.met.D.Disk.only_now told _ c.follow_words-outcome.result.outcome c.follow_words-outcome.ensures.leaves)
     c.conclude-status.ensures

@@ -15,14 +15,14 @@ returns-in-Init-clause-comes g c =
     let told = g.I.Inputs.told c.args.inputs.now in
     let faults = g.I.Inputs.faults c.args.inputs.now in
     let d = g.D.Disk in
-    subst (λ command. ComesTo told faults faults (d.content c.args.disk) (d.faults c.args.disk) (d.faults c.make.result.disk) command c.make.result.outcome) (sym c.in-Init.is)
+    subst (λ command. ComesTo told faults faults (d.view c.args.disk).content (d.view c.args.disk).faults (d.view c.make.result.disk).faults command c.make.result.outcome) (sym c.in-Init.is)
     (c.make.ensures.comes told faults faults c.in-Init.dir)
 
 pub returns-in-Init-clause-leaves : goal.returns-in-Init-clause-leaves
 returns-in-Init-clause-leaves g c =
     let told = g.I.Inputs.told c.args.inputs.now in
     let d = g.D.Disk in
-    subst (λ command. CommandLeaves d.content d.may_leave d.moment d.left_since c.args.disk c.make.result.disk told command c.make.result.outcome) (sym c.in-Init.is)
+    subst (λ command. CommandLeaves d.view c.args.disk c.make.result.disk told command c.make.result.outcome) (sym c.in-Init.is)
     (c.make.ensures.leaves told c.in-Init.dir)
 
 pub returns-in-Append-clause-comes : goal.returns-in-Append-clause-comes
@@ -30,7 +30,7 @@ returns-in-Append-clause-comes g c =
     let told = g.I.Inputs.told c.args.inputs.now in
     let d = g.D.Disk in
     of_append _ c.args.command.now c.requires.command
-    (λ command. ComesTo told (g.I.Inputs.faults c.args.inputs.now) (g.I.Inputs.faults c.append.new.inputs) (d.content c.args.disk) (d.faults c.args.disk) (d.faults c.append.result.disk) command c.append.result.outcome)
+    (λ command. ComesTo told (g.I.Inputs.faults c.args.inputs.now) (g.I.Inputs.faults c.append.new.inputs) (d.view c.args.disk).content (d.view c.args.disk).faults (d.view c.append.result.disk).faults command c.append.result.outcome)
     c.in-Append.dir c.in-Append.file c.word.result.now c.in-Append.is c.word.ensures (c.append.ensures.comes c.in-Append.dir)
 
 pub returns-in-Append-clause-leaves : goal.returns-in-Append-clause-leaves
@@ -38,7 +38,7 @@ returns-in-Append-clause-leaves g c =
     let told = g.I.Inputs.told c.args.inputs.now in
     let d = g.D.Disk in
     of_append _ c.args.command.now c.requires.command
-    (λ command. CommandLeaves d.content d.may_leave d.moment d.left_since c.args.disk c.append.result.disk told command c.append.result.outcome)
+    (λ command. CommandLeaves d.view c.args.disk c.append.result.disk told command c.append.result.outcome)
     c.in-Append.dir c.in-Append.file c.word.result.now c.in-Append.is c.word.ensures (c.append.ensures.leaves c.in-Append.dir)
 
 pub returns-in-ProveEvent-clause-comes : goal.returns-in-ProveEvent-clause-comes
@@ -46,18 +46,18 @@ returns-in-ProveEvent-clause-comes g c =
     let told = g.I.Inputs.told c.args.inputs.now in
     let faults = g.I.Inputs.faults c.args.inputs.now in
     let d = g.D.Disk in
-    subst (λ command. ComesTo told faults faults (d.content c.args.disk) (d.faults c.args.disk) (d.faults c.prove.result.disk) command c.prove.result.outcome) (sym c.in-ProveEvent.is)
+    subst (λ command. ComesTo told faults faults (d.view c.args.disk).content (d.view c.args.disk).faults (d.view c.prove.result.disk).faults command c.prove.result.outcome) (sym c.in-ProveEvent.is)
     (c.prove.ensures.comes told faults faults c.in-ProveEvent.dir)
 
 pub returns-in-ProveEvent-clause-leaves : goal.returns-in-ProveEvent-clause-leaves
 returns-in-ProveEvent-clause-leaves g c =
     let told = g.I.Inputs.told c.args.inputs.now in
     let d = g.D.Disk in
-    subst (λ command. CommandLeaves d.content d.may_leave d.moment d.left_since c.args.disk c.prove.result.disk told command c.prove.result.outcome) (sym c.in-ProveEvent.is)
+    subst (λ command. CommandLeaves d.view c.args.disk c.prove.result.disk told command c.prove.result.outcome) (sym c.in-ProveEvent.is)
     (c.prove.ensures.leaves told c.in-ProveEvent.dir)
 
 pub returns-in_default : goal.returns-in_default
 returns-in_default g c = record {
-  comes = c.follow_files.ensures (g.D.Disk.content c.args.disk) (g.D.Disk.faults c.args.disk) (g.D.Disk.faults c.args.disk);
-  leaves = other_leaves g.D.Disk.content g.D.Disk.may_leave g.D.Disk.moment g.D.Disk.left_since c.args.disk (g.I.Inputs.told c.args.inputs.now) c.args.command.now c.follow_files.result (search rules);
+  comes = c.follow_files.ensures (g.D.Disk.view c.args.disk).content (g.D.Disk.view c.args.disk).faults (g.D.Disk.view c.args.disk).faults;
+  leaves = other_leaves g.D.Disk.view c.args.disk (g.I.Inputs.told c.args.inputs.now) c.args.command.now c.follow_files.result (search rules);
 }

@@ -5,15 +5,15 @@ use Rattle.tw_app.proofs.following.follow_words.Goals as goal
 pub returns-in-Ok-clause-comes : goal.returns-in-Ok-clause-comes
 returns-in-Ok-clause-comes g c =
     has_outcome _ c.in-Ok.command (read_command _ c.in-Ok.command c.in-Ok.ensures.form c.in-Ok.ensures.no_form)
-    (g.I.Inputs.told c.args.inputs.now) _ _ (g.D.Disk.content c.args.disk) _ _ c.follow.result.outcome c.follow.ensures.comes
+    (g.I.Inputs.told c.args.inputs.now) _ _ (g.D.Disk.view c.args.disk).content _ _ c.follow.result.outcome c.follow.ensures.comes
 
 pub returns-in-Ok-clause-leaves : goal.returns-in-Ok-clause-leaves
 returns-in-Ok-clause-leaves g c =
     let d = g.D.Disk in
     leaves_words _ c.in-Ok.command (read_command _ c.in-Ok.command c.in-Ok.ensures.form c.in-Ok.ensures.no_form)
-    d.content d.may_leave d.moment d.left_since c.args.disk c.follow.result.disk (g.I.Inputs.told c.args.inputs.now) c.follow.result.outcome c.follow.ensures.leaves
+    d.view c.args.disk c.follow.result.disk (g.I.Inputs.told c.args.inputs.now) c.follow.result.outcome c.follow.ensures.leaves
 
 pub returns-in-Err-NoMemory-clause-leaves : goal.returns-in-Err-NoMemory-clause-leaves
 returns-in-Err-NoMemory-clause-leaves g c =
     let d = g.D.Disk in
-    no_memory_leaves d.content d.may_leave d.moment d.left_since g.met.D.Disk.only_now c.args.disk (g.I.Inputs.told c.args.inputs.now) _
+    no_memory_leaves d.view g.met.D.Disk.only_now c.args.disk (g.I.Inputs.told c.args.inputs.now) _

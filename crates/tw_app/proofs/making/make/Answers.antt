@@ -20,26 +20,26 @@ returns-in-Ok-clause-leaves g c = λ told dir.
     let name = c.args.name in
     let disk = c.args.disk in
     let first = no_history name in
-    let rests = λ (image : Image) (told_image : d.content disk ≡ Some image).
-    own_rest d.content d.may_leave d.moment d.left_since c.close.result c.in-Ok.service.name first (c.close.ensures.stands first (c.in-Ok.ensures.served image told_image)) in (
+    let rests = λ (image : Image) (told_image : (d.view disk).content ≡ Some image).
+    own_rest d.view c.close.result c.in-Ok.service.name first (c.close.ensures.stands first (c.in-Ok.ensures.served image told_image)) in (
       λ image told_image. (
-        subst (λ now. LeavesOnly d.moment d.may_leave d.left_since disk now (IsOldOrBegun d.content d.may_leave d.moment d.left_since name disk)) (sym c.close.ensures.disk)
+        subst (λ now. LeavesOnly (d.view disk) (d.view now) (IsOldOrBegun d.view name disk)) (sym c.close.ensures.disk)
             (c.in-Ok.ensures.any_moment image told_image),
-        rests_begun d.content d.may_leave d.moment d.left_since g.met.D.Disk.as_it_reads disk c.close.result name (rests image told_image),
+        rests_begun d.view g.met.D.Disk.as_it_reads disk c.close.result name (rests image told_image),
       ),
       rests,
     )
 
 pub returns-in-Err-clause-comes : goal.returns-in-Err-clause-comes
 returns-in-Err-clause-comes g c = λ told before after dir.
-    unmade told before after (g.D.Disk.content c.args.disk) (g.D.Disk.faults c.args.disk) (g.D.Disk.faults c.in-Err.disk) dir c.args.name c.in-Err.fault
+    unmade told before after (g.D.Disk.view c.args.disk).content (g.D.Disk.view c.args.disk).faults (g.D.Disk.view c.in-Err.disk).faults dir c.args.name c.in-Err.fault
     c.outcome_of_store.result c.outcome_of_store.ensures c.in-Err.ensures.answers c.in-Err.ensures.taken c.in-Err.ensures.fault
 
 pub returns-in-Err-clause-leaves : goal.returns-in-Err-clause-leaves
 returns-in-Err-clause-leaves g c = λ told dir.
     let d = g.D.Disk in
-    unmade_leaves d.content d.may_leave d.moment d.left_since c.args.disk c.in-Err.disk c.args.name c.in-Err.fault
+    unmade_leaves d.view c.args.disk c.in-Err.disk c.args.name c.in-Err.fault
     c.outcome_of_store.result c.outcome_of_store.ensures c.in-Err.ensures.answers c.in-Err.ensures.unchanged
     (λ image told_image. (c.in-Err.ensures.any_moment_err image told_image, c.in-Err.ensures.told image told_image))
-    (held_keeps d.content d.may_leave d.moment d.left_since g.met.D.Disk.as_it_reads c.args.disk c.in-Err.disk c.in-Err.ensures.held)
+    (held_keeps d.view g.met.D.Disk.as_it_reads c.args.disk c.in-Err.disk c.in-Err.ensures.held)
     (λ image told_image taken. let held = c.in-Err.ensures.held image told_image taken in (held.0 ∙ sym told_image, held.1))

@@ -6,30 +6,30 @@ use Rattle.tw_app.proofs.proving.prove.Goals as goal
 
 pub returns-in-Ok-clause-comes : goal.returns-in-Ok-clause-comes
 returns-in-Ok-clause-comes g c = λ told before after dir.
-    comes_of_proof told before after (g.D.Disk.content c.args.disk) (g.D.Disk.faults c.args.disk) (g.D.Disk.faults c.prove_by.result.disk) dir
+    comes_of_proof told before after (g.D.Disk.view c.args.disk).content (g.D.Disk.view c.args.disk).faults (g.D.Disk.view c.prove_by.result.disk).faults dir
     c.args.step c.args.index c.args.top c.prove_by.result.outcome
-    (c.prove_by.ensures.comes (g.D.Disk.content c.args.disk) (g.D.Disk.faults c.args.disk)
+    (c.prove_by.ensures.comes (g.D.Disk.view c.args.disk).content (g.D.Disk.view c.args.disk).faults
     c.in-Ok.ensures.opened (λ h reads. c.in-Ok.ensures.served reads.image h.name h reads.told reads.stands) c.in-Ok.ensures.later)
 
 pub returns-in-Ok-clause-leaves : goal.returns-in-Ok-clause-leaves
 returns-in-Ok-clause-leaves g c = λ told dir.
     let d = g.D.Disk in
     let mid = disk_of c.in-Ok.service in
-    leaves_of_proof d.content d.may_leave d.moment d.left_since c.args.disk c.prove_by.result.disk c.prove_by.result.outcome
-    (left_on d.content d.may_leave d.moment d.left_since c.args.disk mid c.prove_by.result.disk
+    leaves_of_proof d.view c.args.disk c.prove_by.result.disk c.prove_by.result.outcome
+    (left_on d.view c.args.disk mid c.prove_by.result.disk
     (c.in-Ok.ensures.unchanged, c.in-Ok.ensures.any_moment)
     c.prove_by.ensures.leaves)
     (λ h reads. c.prove_by.ensures.rests h (c.in-Ok.ensures.served reads.image h.name h reads.told reads.stands))
 
 pub returns-in-Err-clause-comes : goal.returns-in-Err-clause-comes
 returns-in-Err-clause-comes g c = λ told before after dir.
-    comes_of_proof told before after (g.D.Disk.content c.args.disk) (g.D.Disk.faults c.args.disk) (g.D.Disk.faults c.in-Err.disk) dir
+    comes_of_proof told before after (g.D.Disk.view c.args.disk).content (g.D.Disk.view c.args.disk).faults (g.D.Disk.view c.in-Err.disk).faults dir
     c.args.step c.args.index c.args.top c.outcome_of_store.result
-    (unopened_proof (g.D.Disk.content c.args.disk) (g.D.Disk.faults c.args.disk) (g.D.Disk.faults c.in-Err.disk) [] c.in-Err.fault
+    (unopened_proof (g.D.Disk.view c.args.disk).content (g.D.Disk.view c.args.disk).faults (g.D.Disk.view c.in-Err.disk).faults [] c.in-Err.fault
     c.in-Err.ensures.refused c.in-Err.ensures.answers c.in-Err.ensures.fault c.args.step c.args.index c.args.top c.outcome_of_store.result c.outcome_of_store.ensures)
 
 pub returns-in-Err-clause-leaves : goal.returns-in-Err-clause-leaves
 returns-in-Err-clause-leaves g c = λ told dir.
     let d = g.D.Disk in
-    unopened_proof_leaves d.content d.may_leave d.moment d.left_since c.args.disk c.in-Err.disk c.in-Err.fault c.outcome_of_store.result c.outcome_of_store.ensures
+    unopened_proof_leaves d.view c.args.disk c.in-Err.disk c.in-Err.fault c.outcome_of_store.result c.outcome_of_store.ensures
     c.in-Err.ensures.answers.0 (c.in-Err.ensures.unchanged, c.in-Err.ensures.any_moment_err)
