@@ -11,8 +11,7 @@ use crate::call::Call;
 use crate::crash::leave;
 use crate::{Disk, Page};
 use std::alloc::Global;
-use tw_base::{Failed, NoMemory};
-use tw_base::FailingCalls;
+use tw_base::{Failed, FailingCalls, NoMemory};
 
 /// A disk in memory, which tells its content and keeps all its writes and barriers since it was made or crashed.
 ///

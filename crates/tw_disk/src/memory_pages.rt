@@ -6,8 +6,7 @@ ghost use Rattle.tw_disk.specs.declared.limits.TheConstants.{FIRST_PAGE, NUMBER_
 use crate::limits::{FIRST_PAGE, PAGE_SIZE};
 use crate::{Page, Pages};
 use std::alloc::Global;
-use tw_base::{Failed, NoMemory};
-use tw_base::FailingCalls;
+use tw_base::{Failed, FailingCalls, NoMemory};
 
 /// Pages in memory, which tell their list and count their reads.
 #[derive(Drop)]

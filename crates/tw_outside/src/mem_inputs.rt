@@ -5,11 +5,10 @@ ghost use Rattle.tw_base.specs.PlannedFailures.{fails_next, after_call};
 ghost use Rattle.tw_base.specs.Faults.{HasCause};
 ghost use Rattle.tw_outside.specs.Files.{Came};
 
-use tw_base::FailingCalls;
 use crate::inputs::Inputs;
 use std::alloc::Global;
 use std::collections::VecDeque;
-use tw_base::{Failed, NoMemory};
+use tw_base::{Failed, FailingCalls, NoMemory};
 
 #[derive(Drop)]
 struct StoredFile {
