@@ -2,7 +2,7 @@
 
 ghost use Rattle.std.specs.Prelude.{◌≡◌, ◌<◌, ◌≤◌, ◌+◌, ◌-◌, ◌*◌, ◌^◌, ℕ, None, Some, IfOk, OnOk};
 ghost use Rattle.tw_base.specs.Faults.{Rose};
-ghost use Rattle.tw_disk.specs.Untold.{no_content};
+ghost use Rattle.tw_disk.specs.DiskSteps.{no_content};
 
 use crate::access::Access;
 use crate::again::again;
@@ -137,17 +137,14 @@ impl<R: Files<File = File> + Alloc> FileDisk<'_, R> {
 }
 
 impl<R: Files<File = File> + Alloc> Disk for FileDisk<'_, R> {
-    ghost content = { λ _. None };
-
-    ghost count = { λ disk. disk.count };
-
-    ghost may_leave = { λ _ _. ⊥ };
-
-    ghost moment = { λ _. 0 };
-
-    ghost left_since = { λ _ _ _. ⊥ };
-
-    ghost faults = { λ disk. disk.faults };
+    ghost view = { λ disk. record {
+        content = None;
+        count = disk.count;
+        may_leave = λ _. ⊥;
+        moment = 0;
+        left_since = λ _ _. ⊥;
+        faults = disk.faults;
+    } };
 
     ghost count_is_told = { λ disk c is. no_content c _ is };
 
