@@ -128,27 +128,6 @@ fn a_disk_that_is_read(rt: HostRuntime) -> Result<(), Fail> {
 }
 
 #[test]
-fn a_lock_is_held_until_the_disk_is_dropped(rt: HostRuntime) -> Result<(), Fail> {
-    let path = "tw_hostio_test_lock/disk";
-    make_folder(&rt, "tw_hostio_test_lock")?;
-    let mut disk = FileDisk::new(&rt, path, Access::Write);
-    put(&mut disk, 0, 5)?;
-    let beside = fs::open(&rt, path)?;
-    assert!(rt; beside.try_lock_shared().is_err());
-    drop(disk);
-    assert!(rt; beside.try_lock_shared().is_ok());
-
-    let mut reader = FileDisk::new(&rt, path, Access::Read);
-    assert_eq!(rt; bytes_at(&mut reader, 0)?, Some((5, 5)));
-    beside.unlock()?;
-    assert!(rt; beside.try_lock().is_err());
-    drop(reader);
-    assert!(rt; beside.try_lock().is_ok());
-    fs::remove_dir_all(&rt, "tw_hostio_test_lock")?;
-    Ok(())
-}
-
-#[test]
 fn files_are_inputs(rt: HostRuntime) -> Result<(), Fail> {
     let path = "tw_hostio_test_inputs/file";
     make_folder(&rt, "tw_hostio_test_inputs")?;
@@ -191,21 +170,5 @@ fn a_disk_in_the_folder_at_hand(rt: HostRuntime) -> Result<(), Fail> {
     let mut again = FileDisk::new(&rt, path, Access::Read);
     assert_eq!(rt; bytes_at(&mut again, 0)?, Some((5, 5)));
     fs::remove_file(&rt, path)?;
-    Ok(())
-}
-
-#[test]
-fn a_link_to_a_file_in_another_folder(rt: HostRuntime) -> Result<(), Fail> {
-    make_folder(&rt, "tw_hostio_test_link")?;
-    fs::create_dir(&rt, "tw_hostio_test_link/there")?;
-    let link = "tw_hostio_test_link/disk";
-    std::os::unix::fs::symlink(&rt, "there/disk", link)?;
-    let mut none = FileDisk::new(&rt, link, Access::Read);
-    assert_eq!(rt; none.pages()?, 0);
-    let mut disk = FileDisk::new(&rt, link, Access::Write);
-    put(&mut disk, 0, 5)?;
-    disk.barrier()?;
-    assert_eq!(rt; size_of(&rt, "tw_hostio_test_link/there/disk"), Some(4096));
-    fs::remove_dir_all(&rt, "tw_hostio_test_link")?;
     Ok(())
 }
