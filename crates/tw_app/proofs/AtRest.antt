@@ -71,9 +71,12 @@ module _ {D : Type 0} (view : D → DiskView) where
     reads_as d h stands = record { image = stands.image; told = stands.told; stands = content_stands d h stands }
 
     -- a disk that rests with the longer history, or with a new one, reads as it
-    pub rests_reads : (d : D) (next : History) (h : History) → Rests view d (next)
-        → ReadsAsOneOf view d h next
-    rests_reads d next h rests = record { image = rests.stands.image; told = rests.stands.told; has = inr (content_stands d next rests.stands) }
+    pub rests_reads : (d : D) (next : History) (h : History) → next.name ≡ h.name → Rests view d next → ReadsAsOneOf view d h next
+    rests_reads d next h named rests = record {
+      image = rests.stands.image;
+      told = rests.stands.told;
+      has = inr (subst (λ (n : List ℕ). StandsFor sha256 rests.stands.image n next) named (content_stands d next rests.stands));
+    }
 
     pub rests_begun : (old d : D) (name : List ℕ) → Rests view d (no_history name)
         → Reads (view d) (IsOldOrBegun view name old)

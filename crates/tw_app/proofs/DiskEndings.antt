@@ -300,7 +300,7 @@ module _ {D : Type 0} (view : D → DiskView)
   append_safe : (file : List ℕ) (outcome : Outcome) → AppendLeaves view old new told file outcome
       → AddsAtMost view old new told file
   append_safe file (Made thread) left = λ h. (
-    λ reads. let adds = left.2.1 h in let made = adds.2 reads in inr (left.0, left.1, (adds.0, adds.1, made.1, rests_reads view as_it_reads new adds.0 h made.0)),
+    λ reads. let adds = left.2.1 h in let made = adds.2 reads in inr (left.0, left.1, (adds.0, adds.1, made.1, rests_reads view as_it_reads new adds.0 h (ap (λ (n : History). n.name) adds.1) made.0)),
     λ stands. let adds = left.2.1 h in inr (left.0, left.1, (adds.0, adds.1, adds.3 stands)),
   )
   append_safe file DiskFault left = λ h. (

@@ -15,7 +15,7 @@ use Rattle.tw_text.specs.CommandLine.{command_of}
 use Rattle.tw_text.specs.Reports.{report_text}
 use Rattle.tw_text.specs.declared.command.Command.{Command}
 use Rattle.tw_text.specs.declared.command.Command.TheVariants.{Append, Init, ProveEvent, Show, VerifyFile, VerifyOne}
-use Rattle.tw_skipproof.specs.Existence.{existence_layout}
+use Rattle.tw_chain.specs.Proofs.{proof_layout}
 use Rattle.tw_chain.specs.declared.verdict.Verdict.{Verdict}
 use Rattle.tw_chain.specs.declared.verdict.Verdict.TheVariants.{Yes, No}
 use Rattle.tw_chain.specs.Accepting.{Accepts, claim_of, proof_texts}
@@ -137,9 +137,9 @@ module _ (told : Option Files) (before after : ℕ) (found : Option Image) (disk
         binds = λ bytes tells p spelled family sound has.
             let is = judges.judged.is_verdict bytes tells in
             let accepts : Accepts sha256 judges.anchors bytes = is.0 in
-            let same : accepts.0 ≡ p = one_value existence_layout bytes accepts.0 p accepts.1 spelled in
+            let same : accepts.0 ≡ p = one_value proof_layout bytes accepts.0 p accepts.1 spelled in
             let claim : report.claim ≡ claim_of p = ap (λ (r : Report). r.claim) is.1 ∙ ap claim_of same in
-            let Claims : Claim → Type 0 = λ c. OrClash sha256 (family_texts sha256 family ++ proof_texts sha256 p) (Facts family c) in
+            let Claims : Claim → Type 0 = λ c. OrClash sha256 (family_texts sha256 family ++ proof_texts sha256 p) (Facts sha256 family c) in
             subst Claims claim (judges.judged.binds bytes tells p spelled family sound has);
       }
   accepted_by (No reason) of ended = absurd (omega (arith, ended.0))

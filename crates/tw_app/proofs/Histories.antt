@@ -9,10 +9,16 @@ use Rattle.tw_base.specs.declared.thread.Thread.{Thread}
 use Rattle.tw_base.specs.Anchors.{anchor_of}
 use Rattle.tw_base.specs.Auth.{auth}
 use Rattle.tw_base.specs.History.{History, Step, events_at, events_of, step_at}
+use Rattle.tw_base.proofs.SoundEvents.{sound-may_record}
 use Rattle.tw_base.specs.Sound.{IsSound}
 use Rattle.tw_outside.specs.Files.{Files, IsReadTo, IsThere}
 use Rattle.tw_text.specs.declared.command.Command.TheVariants.{Show}
-use Rattle.tw_chain.specs.Accepting.{Accepts}
+use Rattle.tw_base.specs.Formats.{Spells}
+use Rattle.tw_base.proofs.FormatLaws.{one_value}
+use Rattle.tw_skipproof.specs.declared.existence.ExistenceProof.{ExistenceProof}
+use Rattle.tw_skipproof.specs.Acceptance.{IsAcceptedUnder}
+use Rattle.tw_skipproof.specs.Existence.{existence_layout}
+use Rattle.tw_chain.proofs.Completeness.{Accepts-made}
 use Rattle.tw_skipproof.specs.HistoryProofs.{IsExistenceOf, MakesExistence}
 use Rattle.tw_base.specs.declared.limits.TheConstants.{MOST_HISTORY_BYTES}
 use Rattle.tw_history.specs.Refusals.{ReadsHistory}
@@ -78,12 +84,7 @@ module _ (told : Option Files) (file all : List ℕ) (there : IsThere told file)
 -- ---- an index of more than 32 bits
 
 pub few_events : (h : History) (step : ℕ) → IsSound h → length (events_at h step) ≤ 1024
-few_events h zero sound = omega arith
-few_events h (suc i) sound = by (step_at h (suc i)) refl
-  where
-    by : (o : Option Step) → step_at h (suc i) ≡ o → length (events_of o) ≤ 1024
-    by None is = omega arith
-    by (Some s) is = (sound.steps i s is).event_count
+few_events h step sound = (sound-may_record h step sound).are.count
 
 pub makes_at : (h : History) (step index top : ℕ) (bytes : List ℕ) → IsSound h → MakesExistence sha256 h step (min index 4294967295) top bytes
     → MakesExistence sha256 h step index top bytes
@@ -98,13 +99,23 @@ makes_at h step index top bytes sound makes = elim (cases_lt 4294967295 index) [
       subst (λ i. MakesExistence sha256 h step i top bytes) same makes
 ]
 
+module _ (h : History) (step at : ℕ) (bytes : List ℕ) (makes : MakesExistence sha256 h step at (length h.steps) bytes) where
+  -- the step isn't above the last one, since the proof is accepted under its authenticator
+  in_order : (p : ExistenceProof) × Spells existence_layout bytes p × IsAcceptedUnder sha256 (auth sha256 h (length h.steps)) p → step ≤ length h.steps
+  in_order own =
+      let same : own.0 ≡ makes.0 = one_value existence_layout bytes own.0 makes.0 own.1 makes.1 in
+      let order : makes.0.at.step ≤ makes.0.at.top = subst (λ (p : ExistenceProof). p.at.step ≤ p.at.top) same own.2.order in
+      omega (arith, order, makes.2.at_step, makes.2.at_top)
+
 pub shown_at : (h : History) (step index at : ℕ) → IsSound h → at ≡ min index 4294967295 → (result : Result (List ℕ) ShowFault)
     → IfOk result (MakesExistence sha256 h step at (length h.steps))
-    → IfOk result (λ bytes. (anchors : List Thread) (anchor : Thread) → anchor_of anchors h.name (length h.steps) ≡ Some anchor
-    → anchor.auth ≡ auth sha256 h (length h.steps) → Accepts sha256 anchors bytes)
+    → IfOk result (λ bytes. (p : ExistenceProof) × Spells existence_layout bytes p × IsAcceptedUnder sha256 (auth sha256 h (length h.steps)) p)
     → IfOk result (λ bytes. ProvesEvent step index bytes h)
-shown_at h step index at sound is (Ok bytes) makes accepted = record {
-  makes = makes_at h step index (length h.steps) bytes sound (subst (λ i. MakesExistence sha256 h step i (length h.steps) bytes) is makes);
-  accepted = accepted;
-}
+shown_at h step index at sound is (Ok bytes) makes accepted =
+    let own = makes_at h step index (length h.steps) bytes sound (subst (λ i. MakesExistence sha256 h step i (length h.steps) bytes) is makes) in
+    record {
+      makes = own;
+      accepted = λ anchors anchor held reached.
+          Accepts-made sha256 h step index (length h.steps) bytes anchors anchor (in_order h step at bytes makes accepted) own held reached;
+    }
 shown_at h step index at sound is (Err fault) makes accepted = tt

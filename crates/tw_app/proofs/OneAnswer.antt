@@ -29,6 +29,7 @@ use Rattle.tw_app.specs.declared.outcome.StoreCause.{StoreCause}
 use Rattle.tw_app.specs.declared.outcome.StoreCause.TheVariants.{Blank, NotAStore, BadPage}
 use Rattle.tw_app.specs.Agreeing.{Agrees, TellsContent}
 use Rattle.tw_app.specs.Appending.{AddsStep, MeetsBadLink, RefusesAs, RefusesEvents}
+use Rattle.tw_app.proofs.Openings.{opens_also, opens_only}
 use Rattle.tw_app.specs.Disks.{IsUnserved}
 use Rattle.tw_app.specs.Proving.{MeetsBadPage, Proves, RefusesProof, top_of}
 use Rattle.tw_app.specs.ServiceFaults.{outcome_of_refusal}
@@ -80,14 +81,14 @@ module _ (image : Image) where
   both {P} {Q} a b =
       let o = a.opens in
       let p = b.opens in
-      let same = one_service sha256 length-sha256 image a.name b.name a.head b.head o.0.pages p.0.pages (o.0, o.1, o.2, refl) (p.0, p.1, p.2, refl) in
+      let same = one_service image a.name b.name a.head b.head o.opening.pages p.opening.pages (opens_also (λ ps. ps ≡ o.opening.pages) o refl) (opens_also (λ ps. ps ≡ p.opening.pages) p refl) in
       record {
         names = same.0;
         heads = same.1;
-        pages = o.0.pages;
+        pages = o.opening.pages;
         few = same.3;
-        first = o.3;
-        second = subst (λ (h : Head). Q h o.0.pages) (sym same.1) (subst (λ (ps : Image). Q b.head ps) (sym same.2) p.3);
+        first = o.pages;
+        second = subst (λ (h : Head). Q h o.opening.pages) (sym same.1) (subst (λ (ps : Image). Q b.head ps) (sym same.2) p.pages);
       }
 
   -- ---- reasons why nothing is served
@@ -106,8 +107,8 @@ module _ (image : Image) where
 
     -- where the image opens, it is for a page
     of_page : {P : Head → Image → Type 0} (a : Opened P) (cause : StoreCause) → IsUnserved Meets (Some image) cause → OfPage cause
-    of_page a Blank is = absurd (opens_never_refused sha256 image a.name a.head fault.Blank (a.opens.0, a.opens.1, a.opens.2) (is image refl))
-    of_page a (NotAStore slot) is = absurd (opens_never_refused sha256 image a.name a.head (fault.NotAStore slot) (a.opens.0, a.opens.1, a.opens.2) (is image refl))
+    of_page a Blank is = absurd (opens_never_refused image a.name a.head fault.Blank (opens_only a.opens) (is image refl))
+    of_page a (NotAStore slot) is = absurd (opens_never_refused image a.name a.head (fault.NotAStore slot) (opens_only a.opens) (is image refl))
     of_page a (BadPage page) is = record { page = page; is = refl; opened = met page is }
 
     one_cause : ((page other : ℕ) → Opened (Met page) → Opened (Met other) → page ≡ other) → (one other : StoreCause)
@@ -135,10 +136,10 @@ module _ (image : Image) where
     RefusesBy r h ps = append_refusal false h.step events ≡ Some r
 
     adds : (thread : Thread) → AddsStep (Some image) events thread → Opened Adds
-    adds thread a = record { name = a.name; head = a.head; opens = (let o = a.opens image refl in (o.0, o.1, o.2, (a.allowed, o.3))) }
+    adds thread a = record { name = a.name; head = a.head; opens = (let o = a.opens image refl in opens_also _ o (a.allowed, o.pages)) }
 
     refuses : (r : ServiceRefusal) → RefusesEvents (Some image) events r → Opened (RefusesBy r)
-    refuses r a = record { name = a.name; head = a.head; opens = (let o = a.opens image refl in (o.0, o.1, o.2, a.refused)) }
+    refuses r a = record { name = a.name; head = a.head; opens = (let o = a.opens image refl in opens_also _ o a.refused) }
 
     record OfTable (r : Refusal) : Type 0 where
       of : ServiceRefusal
@@ -172,12 +173,12 @@ module _ (image : Image) where
     bad_after_adds a cause is =
         let of = of_page (MeetsBadLink events) a cause is in
         let b = both a of.opened in
-        links_or_bad (sha256 empty_tree_text) b.pages b.few (head_ref a.head) a.head.step b.first.1.0 of.page b.first.1.1 b.second.1
+        links_or_bad b.pages b.few (head_ref a.head) a.head.step b.first.1.0 of.page b.first.1.1 b.second.1
 
     one_link : (page other : ℕ) → Opened (Met (MeetsBadLink events) page) → Opened (Met (MeetsBadLink events) other) → page ≡ other
     one_link page other one two =
         let b = both one two in
-        one_bad_link (sha256 empty_tree_text) b.pages b.few (head_ref one.head) one.head.step page other b.first.1 b.second.1
+        one_bad_link b.pages b.few (head_ref one.head) one.head.step page other b.first.1 b.second.1
 
     made_once : (one other : Thread) → AddsStep (Some image) events one → AddsStep (Some image) events other → (one.from ≡ other.from) × (one.step ≡ other.step)
     unfolding adds
@@ -239,13 +240,13 @@ module _ (image : Image) where
     Bad page = Met (MeetsBadPage step index top) page
 
     proves : (proof : List ℕ) → Proves (Some image) step index top proof → Opened HasEvent
-    proves proof a = record { name = a.name; head = a.head; opens = (let o = a.opens image refl in (o.0, o.1, o.2, (a.allowed, o.3))) }
+    proves proof a = record { name = a.name; head = a.head; opens = (let o = a.opens image refl in opens_also _ o (a.allowed, o.pages)) }
 
     counts : (n : ℕ) → RefusesProof (Some image) step index top (NoEvent n) → Opened (HasCount n)
-    counts n a = record { name = a.0.name; head = a.0.head; opens = (let o = a.1 image refl in (o.0, o.1, o.2, (a.0.table, o.3))) }
+    counts n a = record { name = a.0.name; head = a.0.head; opens = (let o = a.1 image refl in opens_also _ o (a.0.table, o.pages)) }
 
     misses : (last : ℕ) → RefusesProof (Some image) step index top (NoStep last) → Opened (HasNoStep last)
-    misses last a = record { name = a.0.name; head = a.0.head; opens = (let o = a.0.opens image refl in (o.0, o.1, o.2, a.0.table)) }
+    misses last a = record { name = a.0.name; head = a.0.head; opens = (let o = a.0.opens image refl in opens_also _ o a.0.table) }
 
     abbrev RefusesProofBy : Refusal → Type 0
     RefusesProofBy r = RefusesProof (Some image) step index top r

@@ -9,7 +9,7 @@ use Rattle.tw_base.specs.Faults.{Rose}
 use Rattle.tw_outside.specs.Files.{Files}
 use Rattle.tw_outside.specs.TakenBytes.{Appends}
 use Rattle.tw_service.specs.Machine.{NextOf}
-use Rattle.tw_service.specs.Machine.Call as machine
+use Rattle.tw_service.specs.Machine.Call.{Append as AppendCall}
 use Rattle.tw_service.specs.Stands.{StandsForOneOf}
 use Rattle.tw_text.specs.CommandLine.{command_of}
 use Rattle.tw_text.specs.Lines.{anchor_text, fault_disk_text}
@@ -74,7 +74,7 @@ module _ {D : Type 0} (view : D → DiskView) (old new : D) where
     pub events : List (List ℕ)
     pub are : AreEventsOf told file events
     pub added : AddsStep (view old).content events thread
-    pub adds : Adds view (machine.Append events) old new
+    pub adds : Adds view (AppendCall events) old new
     pub written : Appends taken_before taken_after (anchor_text thread)
 
   -- Of a history that the disk read as, each image since is one that a crash might have left before, and the content is told still and
@@ -84,9 +84,9 @@ module _ {D : Type 0} (view : D → DiskView) (old new : D) where
   abbrev pub AddsAtMost : (told : Option Files) (file : List ℕ) → Type 0
   AddsAtMost told file = (h : History) →
       (ReadsAs (view old).content h → (LeavesOnly (view old) (view new) (view old).may_leave × ReadsAs (view new).content h)
-      ⊎ OfEvents told file (λ events. (next : History) × NextOf (machine.Append events) h next × LeavesOldOrOneOf view old new h next × ReadsAsOneOf view new h next))
+      ⊎ OfEvents told file (λ events. (next : History) × NextOf (AppendCall events) h next × LeavesOldOrOneOf view old new h next × ReadsAsOneOf view new h next))
       × (Stands view old h → LeavesOnly (view old) (view new) (IsOf h)
-      ⊎ OfEvents told file (λ events. (next : History) × NextOf (machine.Append events) h next × LeavesOnly (view old) (view new) (StandsForOneOf sha256 h.name h next)))
+      ⊎ OfEvents told file (λ events. (next : History) × NextOf (AppendCall events) h next × LeavesOnly (view old) (view new) (StandsForOneOf sha256 h.name h next)))
 
   -- whatever the status: `init` leaves no image but such that there might have been, blank ones and the empty history, leaves a store
   -- that is there, and keeps a history; `append` at most adds the step; every other command keeps the history in each image

@@ -3,7 +3,7 @@ use Rattle.std.specs.Prelude.{◌≡◌, ℕ, List, Option, MatchOption}
 use Rattle.tw_disk.specs.Disk.{DiskView}
 use Rattle.tw_disk.specs.Image.{Image}
 use Rattle.tw_outside.specs.Files.{Files}
-use Rattle.tw_service.specs.Machine.Call as machine
+use Rattle.tw_service.specs.Machine.Call.{Append as AppendCall}
 use Rattle.tw_text.specs.CommandLine.{command_of}
 use Rattle.tw_text.specs.declared.command.Command.{Command}
 use Rattle.tw_text.specs.declared.command.Command.TheVariants.{Init, Append, ProveEvent}
@@ -24,8 +24,8 @@ module _ {D : Type 0} (view : D → DiskView) (old new : D) where
   -- the step is added, or a disk fault came and it may be; where it was refused, nothing was written and the disk became stable; where
   -- the file wasn't read or is none, no device call was made; at every other outcome nothing was written
   abbrev pub AppendLeaves : (told : Option Files) (file : List ℕ) → Outcome → Type 0
-  AppendLeaves told file (Made thread) = OfEvents told file (λ events. AddsStep (view old).content events thread × Adds view (machine.Append events) old new)
-  AppendLeaves told file DiskFault = OfEvents told file (λ events. KeepsOrAdds view (machine.Append events) old new)
+  AppendLeaves told file (Made thread) = OfEvents told file (λ events. AddsStep (view old).content events thread × Adds view (AppendCall events) old new)
+  AppendLeaves told file DiskFault = OfEvents told file (λ events. KeepsOrAdds view (AppendCall events) old new)
   AppendLeaves told file (Refused refusal) = IsLeft view old new × Settles view old new
   AppendLeaves told file (Unreadable bad) = new ≡ old
   AppendLeaves told file InputFault = new ≡ old

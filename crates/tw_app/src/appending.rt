@@ -83,7 +83,7 @@ fn append_events<D: Disk>(alloc: Global, disk: D, events: &EventList) -> Worked<
 /// Adds a step of these events to the service, and gives its disk back.
 fn append_to<D: Disk>(service: Service<D, Sha>, events: &EventList) -> Worked<D>
     requires { has_failed service ≡ false }
-    ensures comes { (found : Option Image) (before : ℕ) → OpensAsServiceWith found (name_of service) (head_of service) (λ ps. pages_of (D.view service).content ≡ Some ps)
+    ensures comes { (found : Option Image) (before : ℕ) → OpensAsServiceWith found (name_of service) (head_of service) (λ ps. pages_of D.view service ≡ Some ps)
         → ((h : History) → ReadsAs found h → Serves sha256 D.view service h) → before ≤ (D.view (disk_of service)).faults
         → ComesToStep found before (D.view result.disk).faults events.now result.outcome }
     ensures leaves { (h : History) → Serves sha256 D.view service h

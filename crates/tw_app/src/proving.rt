@@ -47,7 +47,7 @@ pub(crate) fn prove<D: Disk>(
 /// 2^32 - 1, so such an index is refused as that one is.
 fn prove_by<D: Disk>(service: Service<D, Sha>, step: u64, index: u64, top: Option<u64>) -> Worked<D>
     requires { has_failed service ≡ false }
-    ensures comes { (found : Option Image) (before : ℕ) → OpensAsServiceWith found (name_of service) (head_of service) (λ ps. pages_of (D.view service).content ≡ Some ps)
+    ensures comes { (found : Option Image) (before : ℕ) → OpensAsServiceWith found (name_of service) (head_of service) (λ ps. pages_of D.view service ≡ Some ps)
         → ((h : History) → ReadsAs found h → Serves sha256 D.view service h) → before ≤ (D.view (disk_of service)).faults
         → ComesToProof found before (D.view result.disk).faults step index top result.outcome }
     ensures leaves { IsLeft D.view (disk_of service) result.disk }

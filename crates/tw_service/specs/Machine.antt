@@ -26,12 +26,20 @@ pub data Reply : Type 0 where
 abbrev pub last_thread : (dig : List ℕ → List ℕ) → History → Thread
 last_thread dig h = record { from = h.name; step = length h.steps; auth = auth dig h (length h.steps) }
 
+-- the next state of a call that isn't refused
+abbrev pub NextOf : Call → (h next : History) → Type 0
+NextOf (Append events) h next = next ≡ with_events h events
+NextOf (ProveEvent step index top) h next = next ≡ h
+NextOf CountSteps h next = next ≡ h
+NextOf TellHead h next = next ≡ h
+NextOf TellName h next = next ≡ h
+
 module _ (dig : List ℕ → List ℕ) where
   -- the machine in the state h answers the call with this reply and goes on in the next state
   abbrev pub IsStepOf : (h : History) → Call → Reply → (next : History) → Type 0
   IsStepOf h (Append events) reply next =
       MatchOption (append_refusal false (length h.steps) events)
-      ((next ≡ with_events h events) × (reply ≡ OfThread (last_thread dig next)))
+      (NextOf (Append events) h next × (reply ≡ OfThread (last_thread dig next)))
       (λ refusal. (next ≡ h) × (reply ≡ Refused refusal))
   IsStepOf h (ProveEvent step index top) reply next =
       (next ≡ h) × MatchOption (proof_refusal false h step index top)

@@ -11,7 +11,7 @@ use Rattle.tw_app.proofs.appending.append_to.Goals as goal
 pub returns-in-Ok-clause-comes : goal.returns-in-Ok-clause-comes
 returns-in-Ok-clause-comes g c = λ found before opens serves le.
     let d = g.D.Disk in
-    step_done found before 0 c.args.events.now c.args.service.is_broken c.args.service.name c.args.service.head (pages_of (d.view c.args.service).content) opens c.requires
+    step_done found before 0 c.args.events.now c.args.service.is_broken c.args.service.root.name c.args.service.root.head (pages_of d.view c.args.service) opens c.requires
     (Serves sha256 d.view c.args.service) (Serves sha256 d.view c.append.new.self) serves
     c.in-Ok.thread c.in-Ok.ensures.table c.in-Ok.ensures.next c.in-Ok.ensures.done c.in-Ok.ensures.machine c.in-Ok.ensures.found
 
@@ -23,15 +23,15 @@ returns-in-Ok-clause-leaves g c = λ h served.
     let events = c.args.events.now in
     let done = c.in-Ok.ensures.done h served in
     let next = with_events h events in (
-      own_rest d.view c.close.result new.name next (c.close.ensures.stands next done.0),
+      own_rest d.view c.close.result new.root.name next (c.close.ensures.stands next done.0),
       subst (λ disk. LeavesOldOrOneOf d.view (disk_of old) disk h next) (sym c.close.ensures.disk)
-          (named_one_of d.view (disk_of old) (disk_of new) old.name next h served.has.named (c.in-Ok.ensures.any_moment h served)),
+          (named_one_of d.view (disk_of old) (disk_of new) old.root.name next h served.has.named (c.in-Ok.ensures.any_moment h served)),
     )
 
 pub returns-in-Err-clause-comes : goal.returns-in-Err-clause-comes
 returns-in-Err-clause-comes g c = λ found before opens serves le.
     let d = g.D.Disk in
-    step_refused found before (d.view c.close-in-Err.result).faults c.args.events.now c.args.service.is_broken c.args.service.name c.args.service.head (pages_of (d.view c.args.service).content) opens c.requires
+    step_refused found before (d.view c.close-in-Err.result).faults c.args.events.now c.args.service.is_broken c.args.service.root.name c.args.service.root.head (pages_of d.view c.args.service) opens c.requires
     (Serves sha256 d.view c.args.service) (Serves sha256 d.view c.append.new.self) serves
     c.in-Err.refusal c.outcome_of_refusal.result c.outcome_of_refusal.ensures c.in-Err.ensures.table c.in-Err.ensures.machine
     (λ is. rose_since before (d.view (disk_of c.args.service)).faults (d.view c.close-in-Err.result).faults le
@@ -49,11 +49,11 @@ returns-in-Err-clause-leaves g c = λ h served.
     (subst
     (λ disk. LeavesOldOrOneOf d.view (disk_of old) disk h next × ReadsAsOneOf d.view disk h next)
     (sym c.close-in-Err.ensures.disk) (
-      named_one_of d.view (disk_of old) (disk_of new) old.name next h served.has.named (c.in-Err.ensures.any_moment h served),
-      named_reads d.view (disk_of new) old.name next h served.has.named (c.in-Err.ensures.told h served),
+      named_one_of d.view (disk_of old) (disk_of new) old.root.name next h served.has.named (c.in-Err.ensures.any_moment h served),
+      named_reads d.view (disk_of new) old.root.name next h served.has.named (c.in-Err.ensures.told h served),
     ))
     (⊎_elim (λ is. inl is)
-    (λ keeps. inr (own_rest d.view c.close-in-Err.result new.name h (c.close-in-Err.ensures.stands h (keeps h served).0)))
+    (λ keeps. inr (own_rest d.view c.close-in-Err.result new.root.name h (c.close-in-Err.ensures.stands h (keeps h served).0)))
     c.in-Err.ensures.refused)
 
 pub returns-in-Err-clause-unwritten : goal.returns-in-Err-clause-unwritten
