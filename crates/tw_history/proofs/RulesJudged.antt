@@ -1,22 +1,20 @@
 -- When a step keeps each of the rules, and what is known once it keeps them all.
-use Rattle.std.proofs.Common.{◌≡◌, ◌≢◌, ◌↔◌, ℕ, suc, zero, ◌+◌, ◌<◌, ◌≤◌, ◌^◌, List, [], ◌∷◌, ◌++◌, length, get_or, map, refl, ap, sym, subst, ◌∙◌, arith, Option, Some, None, Result, Ok, Err, add-one, Bool, IsTrue, inl, inr}
+use Rattle.std.proofs.Common.{◌≡◌, ◌≢◌, ◌↔◌, ℕ, suc, zero, ◌+◌, ◌<◌, ◌≤◌, List, [], ◌∷◌, ◌++◌, length, get_or, map, refl, ap, sym, subst, ◌∙◌, arith, Option, Some, None, Result, Ok, Err, add-one, Bool, IsTrue, inl, inr}
 use Rattle.std.specs.Prelude.{option_and_then, option_map, IfSome, MatchOption, MatchResult, IsErrAnd}
 use Rattle.std.specs.Option.{option_to_list}
 use Rattle.std.proofs.lemmas.Bool.{cases_lt}
 use Rattle.std.proofs.lemmas.List.{get_or-map, length-append, length-map}
-use Rattle.tw_base.specs.declared.limits.TheConstants.{LAST_STEP, MOST_EVENT_BYTES}
+use Rattle.tw_base.specs.declared.limits.TheConstants.{LAST_STEP}
 use Rattle.tw_base.specs.declared.thread.Thread.{Thread}
 use Rattle.tw_base.specs.declared.thread.Entry.{Entry}
 use Rattle.tw_base.specs.Lists.{Each, In}
 use Rattle.tw_base.specs.Names.{IsName}
-use Rattle.tw_base.specs.History.{History, Node, Step, entry_at, events_of, fresh_of, received, root_of, step_at, thread_of}
+use Rattle.tw_base.specs.History.{History, Node, Step, entry_at, fresh_of, received, root_of, step_at, thread_of}
 use Rattle.tw_base.specs.Rules.{NodesFit}
 use Rattle.tw_base.specs.Sound.{IsSound, IsSoundStep}
 use Rattle.tw_base.specs.Tree.{Tree, branch, entries, forest, new_trees, planted, tree}
 use Rattle.tw_base.specs.Tree.Tree.{Empty}
 use Rattle.tw_base.proofs.ListLemmas.{Each-append}
-use Rattle.tw_base.specs.declared.content.Content.{Content}
-use Rattle.tw_base.specs.declared.content.Content.TheVariants.{Events, Received}
 use Rattle.tw_history.specs.declared.step.Step.{Step as StepOfTable}
 use Rattle.tw_history.specs.declared.step.Node.{Node as NodeOfTable}
 use Rattle.tw_history.specs.declared.fault.HistoryFault.{HistoryFault}
@@ -24,7 +22,7 @@ use Rattle.tw_history.specs.declared.fault.HistoryFault.TheVariants.{Malformed, 
 use Rattle.tw_history.specs.declared.soundness.summary.Summary.{Summary}
 use Rattle.tw_history.specs.declared.soundness.Judged.{Judged}
 use Rattle.tw_history.specs.JudgingSteps.{IsGreatest, HasJudged, IsLater, TellsFirst, greatest_of, summary_of}
-use Rattle.tw_history.specs.Tables.{IsInRange, IsTable, node_of, step_of, steps_of_table}
+use Rattle.tw_history.specs.Tables.{IsTable, node_of, step_of, steps_of_table}
 use Rattle.tw_history.specs.Refusals.{TellsRule}
 use Rattle.tw_base.specs.Rules.{KeepsRule, Rule, rule_number}
 use Rattle.tw_base.specs.Rules.Rule.{NodesAreKnown, TreesRise, HoldsAllThreads, IsOfAnother, StepsRise, EventsFit}

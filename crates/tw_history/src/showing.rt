@@ -158,7 +158,7 @@ fn written<H: Hasher>(
 }
 
 /// The bytes of the proof that the event of this index, from 0 on, stands in this step of the
-/// history, with the history's last step as its top. It is accepted by whoever holds the
+/// history, with the history's last step as its top. It is accepted under the history's
 /// authenticator of that last step. NoStep comes exactly where the history has no such step, and
 /// NoEvent where the step has no such event. Each text that the proof stands on is hashed once; the
 /// memory is linear in the history.
@@ -169,6 +169,7 @@ pub fn show_event<H: Hasher>(
     index: u32,
 ) -> Result<Bytes, ShowFault>
     ensures shown { IfOk result (MakesExistence H.dig history.now step index (length history.now.steps)) }
+    ensures inside { OnOk result ((0 < step) × (step ≤ length history.now.steps)) }
     ensures accepted { IfOk result (λ bytes. (p : ExistenceProof) × Spells existence_layout bytes p
         × IsAcceptedUnder H.dig (auth H.dig history.now (length history.now.steps)) p) }
     ensures refused { IfErr result (RefusesEvent history.now step index) }

@@ -1,4 +1,4 @@
-use Rattle.std.proofs.Common.{◌≡◌, suc, ◌++◌, ◌<◌, ap, sym, subst, ◌∙◌, arith, length}
+use Rattle.std.proofs.Common.{suc, ◌++◌, ◌<◌, ap, sym, subst, ◌∙◌, arith, length}
 use Rattle.tw_history.specs.JudgingSteps.{IsGreatest, greatest_of}
 use Rattle.std.specs.Option.{option_to_list}
 use Rattle.tw_base.specs.History.{History, Step, received}
