@@ -25,3 +25,4 @@ pub mod Formats
 pub mod Fields
 pub mod Anchors
 pub mod Faults
+pub mod PlannedFailures

@@ -2,7 +2,7 @@
 ghost use Rattle.std.specs.Prelude.{◌≡◌, ◌⊎◌, ◌↔◌, ◌<◌, ◌≤◌, ◌+◌, ◌-◌, ◌^◌, ◌++◌, ◌∷◌, [], ℕ, min, length, Some, None, false, vec_len, OnOk, OnErr, IsOk, IsErr, IsTrue};
 ghost use Rattle.tw_disk.specs.Image.{put, page_at};
 ghost use Rattle.tw_base.specs.Faults.{HasCause, Rose};
-ghost use Rattle.tw_outside.specs.PlannedFailures.{fails_next, after_call};
+ghost use Rattle.tw_base.specs.PlannedFailures.{fails_next, after_call};
 ghost use Rattle.tw_disk.specs.Model.{Write, Barrier, IsImage, Since};
 ghost use Rattle.tw_disk.specs.KeptCalls.{earlier, calls_of, written_of, AllFit, Gains};
 ghost use Rattle.tw_disk.specs.MemDiskSteps.{all_fit-prop};
@@ -11,8 +11,7 @@ use crate::call::Call;
 use crate::crash::leave;
 use crate::{Disk, Page};
 use std::alloc::Global;
-use tw_base::{Failed, NoMemory};
-use tw_outside::FailingCalls;
+use tw_base::{Failed, FailingCalls, NoMemory};
 
 /// A disk in memory, which tells its content and keeps all its writes and barriers since it was made or crashed.
 ///

@@ -1,13 +1,12 @@
 // A list of pages in memory.
 ghost use Rattle.std.specs.Prelude.{◌≡◌, ◌↔◌, ◌<◌, ◌≤◌, ◌+◌, ◌-◌, ◌^◌, ◌++◌, ◌∷◌, [], ℕ, min, length, drop, replicate, Some, IfOk, OnOk, OnErr, IsOk, IsErr, IsTrue};
-ghost use Rattle.tw_outside.specs.PlannedFailures.{fails_next, after_call};
+ghost use Rattle.tw_base.specs.PlannedFailures.{fails_next, after_call};
 ghost use Rattle.tw_disk.specs.declared.limits.TheConstants.{FIRST_PAGE, NUMBER_LIMIT, PAGE_SIZE};
 
 use crate::limits::{FIRST_PAGE, PAGE_SIZE};
 use crate::{Page, Pages};
 use std::alloc::Global;
-use tw_base::{Failed, NoMemory};
-use tw_outside::FailingCalls;
+use tw_base::{Failed, FailingCalls, NoMemory};
 
 /// Pages in memory, which tell their list and count their reads.
 #[derive(Drop)]

@@ -1,4 +1,3 @@
 pub mod Files
 pub mod TakenBytes
-pub mod PlannedFailures
 pub mod Memory

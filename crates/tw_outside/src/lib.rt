@@ -2,7 +2,6 @@
 //! A call that fails has made a count of faults rise, so that a failure is never an answer of the caller's own making.
 #![tactic(auto)]
 
-mod failing;
 mod inputs;
 mod mem_inputs;
 mod mem_sink;
@@ -10,7 +9,6 @@ mod reading;
 mod sink;
 mod writing;
 
-pub use failing::FailingCalls;
 pub use inputs::Inputs;
 pub use mem_inputs::MemInputs;
 pub use mem_sink::MemSink;

@@ -1,15 +1,14 @@
 // Inputs in memory.
 ghost use Rattle.std.specs.Prelude.{◌≡◌, ◌≤◌, ◌++◌, ◌∷◌, [], ◌⊎◌, ◌↔◌, ℕ, List, length, OnOk, OnErr, IfOk, IsErr, IsNone, IsTrue};
 ghost use Rattle.std.specs.FinMap as map_of;
-ghost use Rattle.tw_outside.specs.PlannedFailures.{fails_next, after_call};
+ghost use Rattle.tw_base.specs.PlannedFailures.{fails_next, after_call};
 ghost use Rattle.tw_base.specs.Faults.{HasCause};
 ghost use Rattle.tw_outside.specs.Files.{Came};
 
-use crate::failing::FailingCalls;
 use crate::inputs::Inputs;
 use std::alloc::Global;
 use std::collections::VecDeque;
-use tw_base::{Failed, NoMemory};
+use tw_base::{Failed, FailingCalls, NoMemory};
 
 #[derive(Drop)]
 struct StoredFile {

@@ -1,12 +1,11 @@
 // A sink in memory.
 ghost use Rattle.std.specs.Prelude.{◌≡◌, ◌++◌, ◌∷◌, [], length, OnOk, OnErr, IfOk, IsErr, IsTrue};
-ghost use Rattle.tw_outside.specs.PlannedFailures.{fails_next, after_call};
+ghost use Rattle.tw_base.specs.PlannedFailures.{fails_next, after_call};
 ghost use Rattle.tw_base.specs.Faults.{HasCause};
 
-use crate::failing::FailingCalls;
 use crate::sink::Sink;
 use std::alloc::Global;
-use tw_base::{Failed, NoMemory};
+use tw_base::{Failed, FailingCalls, NoMemory};
 
 /// A sink in memory, which tells what it has taken. It takes each piece whole, or nothing of it.
 /// A write fails where it is one of those that are to fail, or where there is no memory for the piece.

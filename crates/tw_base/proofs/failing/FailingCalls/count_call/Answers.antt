@@ -1,7 +1,7 @@
 use Rattle.std.proofs.Common.{◌-◌, get_or, arith}
 use Rattle.std.proofs.lemmas.List.{get_or_default}
 use Rattle.std.proofs.lemmas.List.Edits.{map_over_more}
-use Rattle.tw_outside.proofs.failing.FailingCalls.count_call.Goals as goal
+use Rattle.tw_base.proofs.failing.FailingCalls.count_call.Goals as goal
 
 pub loop-number-preserved : goal.loop-number-preserved
 loop-number-preserved c =

@@ -1,5 +1,5 @@
 use Rattle.std.proofs.Common.{◌≡◌, ◌-◌, ◌++◌, map, take, drop}
-use Rattle.tw_outside.proofs.failing.FailingCalls.count_call.Given as goal
+use Rattle.tw_base.proofs.failing.FailingCalls.count_call.Given as goal
 
 abbrev pub invariant-loop-number : goal.invariant-loop-number
 invariant-loop-number l =

@@ -1,10 +1,10 @@
 // The calls of an object in memory that are to fail.
 ghost use Rattle.std.specs.Prelude.{◌≡◌, ◌++◌, ◌∷◌, [], OnOk, OnErr};
-ghost use Rattle.tw_outside.specs.PlannedFailures.{fails_next, after_call};
+ghost use Rattle.tw_base.specs.PlannedFailures.{fails_next, after_call};
 
+use crate::NoMemory;
 use std::alloc::Global;
 use std::marker::Model;
-use tw_base::NoMemory;
 
 /// The calls of an object in memory that are to fail, by their numbers counted from now: 1 is the next call. 0 is no call.
 /// Contracts see the list of these numbers.
