@@ -9,7 +9,6 @@ mod reading;
 mod sink;
 mod writing;
 
-pub use tw_base::FailingCalls;
 pub use inputs::Inputs;
 pub use mem_inputs::MemInputs;
 pub use mem_sink::MemSink;

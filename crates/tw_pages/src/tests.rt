@@ -30,14 +30,16 @@ fn commit_byte(store: &mut Store<MemDisk>, byte: u8) -> Result<(), CommitFault> 
     store.commit(&[byte])
 }
 
-// The disk of a store with one page, committed with the root record 2.
+// The disk of a store with one page, committed with the root record 2: ten device calls make the store, and seven the commit.
 fn disk_of_a_page(rt: &impl Abort, alloc: Global) -> MemDisk {
     let Ok(mut store) = Store::init(alloc, MemDisk::new(alloc), &[1]) else {
         panic!(rt; "no store");
     };
     assert_eq!(rt; stage_byte(&mut store, 7), Ok(4));
     assert_eq!(rt; commit_byte(&mut store, 2), Ok(()));
-    store.close()
+    let disk = store.close();
+    assert_eq!(rt; disk.device_calls(), 17);
+    disk
 }
 
 #[test]
