@@ -4,9 +4,12 @@ ghost use Rattle.std.specs.Prelude.{◌≡◌, ◌<◌, ◌≤◌, ◌+◌, ◌-
 ghost use Rattle.tw_base.specs.Faults.{Rose};
 ghost use Rattle.tw_disk.specs.Untold.{no_content};
 
-use std::fs::{self, OpenFile as _, OpenOptions};
-use std::io::{self, Read as _, Seek as _, SeekFrom, Write as _};
-use std::path::Path;
+use crate::access::Access;
+use crate::again::again;
+use crate::opening::{open_to_read, open_to_write};
+use std::fs::File;
+use std::io;
+use std::os::unix::fs::FileExt as _;
 use std::rt::Files;
 use tw_base::Failed;
 use tw_disk::Disk;
@@ -14,28 +17,35 @@ use tw_disk::Disk;
 /// The bytes of a page.
 const PAGE: u64 = 4096;
 
-/// A disk over the file of a path, which is opened at the first call and made where there is none; its folder has to be there.
+/// A disk over the file of a path, which is opened at the first call that needs it; its folder has to be there.
 ///
 /// Page n is the file's bytes from 4,096 n on. The page count is told from the first good `pages` on: the file's size divided by
-/// 4,096 and rounded down, and one more after each good write at the count. A barrier syncs the file. An error of the file, or
-/// its end within a page, counts as a fault. The disk tells no content.
+/// 4,096 and rounded down, and one more after each good write at the count. An error of the file, or its end within a page, counts
+/// as a fault. The disk tells no content.
 ///
-/// That a real file behaves as the disk model says, and that nobody else writes it, is trusted.
+/// By `Access::Write` the file is made where there is none, its folder is synced as it is opened, and a barrier syncs the file.
+/// By `Access::Read` a file that isn't there has no pages, a write counts a fault, and a barrier does nothing. The disk holds the
+/// file's advisory lock from its opening until the disk is dropped, alone or together with others that read, and waits for it; where
+/// the lock can't be had for another reason, that counts as a fault.
+///
+/// That a real file behaves as the disk model says, and that nobody else writes it who doesn't take the lock, is trusted.
 #[derive(Drop)]
 pub struct FileDisk<'a, R: Files> {
     rt: &'a R,
     path: &'a str,
-    file: Option<R::File>,
+    access: Access,
+    file: Option<File>,
     count: Option<u64>,
     faults: u64,
 }
 
 impl<'a, R: Files> FileDisk<'a, R> {
     /// The disk over the file of this path. No file is opened yet.
-    pub fn new(rt: &'a R, path: &'a str) -> Self {
+    pub fn new(rt: &'a R, path: &'a str, access: Access) -> Self {
         FileDisk {
             rt,
             path,
+            access,
             file: None,
             count: None,
             faults: 0,
@@ -53,7 +63,80 @@ impl<'a, R: Files> FileDisk<'a, R> {
     }
 }
 
-impl<R: Files> Disk for FileDisk<'_, R> {
+impl<R: Files<File = File> + Alloc> FileDisk<'_, R> {
+    /// Opens the file where it isn't open yet; one that isn't there and is only to be read stays none.
+    fn open(&mut self) -> io::Result<()>
+        ensures access { self.new.access ≡ self.old.access }
+        ensures count { self.new.count ≡ self.old.count }
+        ensures faults { self.new.faults ≡ self.old.faults }
+    {
+        if self.file.is_none() {
+            self.file = match self.access {
+                Access::Read => open_to_read(self.rt, self.path)?,
+                Access::Write => Some(open_to_write(self.rt, self.path)?),
+            };
+        }
+        Ok(())
+    }
+
+    /// How many whole pages the file has; an error where it is a folder.
+    fn count_pages(&mut self) -> io::Result<u64>
+        ensures count { self.new.count ≡ self.old.count }
+        ensures faults { self.new.faults ≡ self.old.faults }
+    {
+        self.open()?;
+        let Some(file) = &self.file else {
+            return Ok(0);
+        };
+        let metadata = again(|| file.metadata())?;
+        if metadata.is_dir() {
+            return Err(io::Error::from(io::ErrorKind::IsADirectory));
+        }
+        Ok(metadata.len() / PAGE)
+    }
+
+    /// Reads a page whole.
+    fn read_page(&mut self, page: u64, into: &mut [u8; 4096]) -> io::Result<()>
+        ensures count { self.new.count ≡ self.old.count }
+        ensures faults { self.new.faults ≡ self.old.faults }
+    {
+        let place = place_of(page)?;
+        self.open()?;
+        match &self.file {
+            Some(file) => file.read_exact_at(into, place),
+            None => Err(io::Error::from(io::ErrorKind::NotFound)),
+        }
+    }
+
+    /// Writes a page whole; an error where the file is only to be read.
+    fn write_page(&mut self, page: u64, from: &[u8; 4096]) -> io::Result<()>
+        ensures fits { OnOk result (page + 1 < 2 ^ 64) }
+        ensures access { OnOk result (self.old.access ≡ Access.Write) }
+        ensures count { self.new.count ≡ self.old.count }
+        ensures faults { self.new.faults ≡ self.old.faults }
+    {
+        let place = place_of(page)?;
+        self.open()?;
+        match (self.access, &self.file) {
+            (Access::Write, Some(file)) => file.write_all_at(from, place),
+            _ => Err(io::Error::from(io::ErrorKind::PermissionDenied)),
+        }
+    }
+
+    /// Makes stable what was written to the file; where it is only read, nothing was.
+    fn sync(&mut self) -> io::Result<()>
+        ensures count { self.new.count ≡ self.old.count }
+        ensures faults { self.new.faults ≡ self.old.faults }
+    {
+        self.open()?;
+        match (self.access, &self.file) {
+            (Access::Write, Some(file)) => file.sync_all(),
+            _ => Ok(()),
+        }
+    }
+}
+
+impl<R: Files<File = File> + Alloc> Disk for FileDisk<'_, R> {
     ghost content = { λ _. None };
 
     ghost count = { λ disk. disk.count };
@@ -78,7 +161,7 @@ impl<R: Files> Disk for FileDisk<'_, R> {
         if let Some(count) = self.count {
             return Ok(count);
         }
-        match count_pages(self.rt, self.path, &mut self.file) {
+        match self.count_pages() {
             Ok(count) => {
                 self.count = Some(count);
                 Ok(count)
@@ -88,14 +171,14 @@ impl<R: Files> Disk for FileDisk<'_, R> {
     }
 
     fn read(&mut self, page: u64, into: &mut [u8; 4096]) -> Result<(), Failed> {
-        match read_page(self.rt, self.path, &mut self.file, page, into) {
+        match self.read_page(page, into) {
             Ok(()) => Ok(()),
             Err(_) => Err(self.fault()),
         }
     }
 
     fn write(&mut self, page: u64, from: &[u8; 4096]) -> Result<(), Failed> {
-        match write_page(self.rt, self.path, &mut self.file, page, from) {
+        match self.write_page(page, from) {
             Ok(()) => {
                 if self.count == Some(page) {
                     self.count = Some(page + 1);
@@ -107,85 +190,11 @@ impl<R: Files> Disk for FileDisk<'_, R> {
     }
 
     fn barrier(&mut self) -> Result<(), Failed> {
-        match sync(self.rt, self.path, &mut self.file) {
+        match self.sync() {
             Ok(()) => Ok(()),
             Err(_) => Err(self.fault()),
         }
     }
-}
-
-/// The file of a disk, opened where it isn't open yet.
-fn opened<'f, R: Files>(
-    rt: &R,
-    path: &str,
-    file: &'f mut Option<R::File>,
-) -> io::Result<&'f mut R::File> {
-    if file.is_none() {
-        *file = Some(open(rt, path)?);
-    }
-    match file {
-        Some(file) => Ok(file),
-        None => unreachable!(),
-    }
-}
-
-/// Opens the file, and makes it where there is none. While it has no whole page its folder is synced too, so that no page is
-/// written into a file whose name a crash might still take away.
-fn open<R: Files>(rt: &R, path: &str) -> io::Result<R::File> {
-    let file = OpenOptions::new()
-        .read(true)
-        .write(true)
-        .create(true)
-        .open(rt, path)?;
-    if file.metadata()?.len() < PAGE {
-        fs::open(rt, folder_of(path))?.sync_all()?;
-    }
-    Ok(file)
-}
-
-/// The folder that the file of this path lies in.
-fn folder_of(path: &str) -> &str {
-    match Path::new(path).parent() {
-        Some(folder) if !folder.as_str().is_empty() => folder.as_str(),
-        _ => ".",
-    }
-}
-
-/// How many whole pages the file has.
-fn count_pages<R: Files>(rt: &R, path: &str, file: &mut Option<R::File>) -> io::Result<u64> {
-    let size = opened(rt, path, file)?.metadata()?.len();
-    Ok(size / PAGE)
-}
-
-/// Reads a page whole.
-fn read_page<R: Files>(
-    rt: &R,
-    path: &str,
-    file: &mut Option<R::File>,
-    page: u64,
-    into: &mut [u8; 4096],
-) -> io::Result<()> {
-    let place = place_of(page)?;
-    let file = opened(rt, path, file)?;
-    file.seek(SeekFrom::Start(place))?;
-    file.read_exact(into)
-}
-
-/// Writes a page whole.
-fn write_page<R: Files>(
-    rt: &R,
-    path: &str,
-    file: &mut Option<R::File>,
-    page: u64,
-    from: &[u8; 4096],
-) -> io::Result<()>
-    ensures { OnOk result (page + 1 < 2 ^ 64) }
-{
-    let place = place_of(page)?;
-    let file = opened(rt, path, file)?;
-    file.seek(SeekFrom::Start(place))?;
-    file.write_all(from)?;
-    Ok(())
 }
 
 /// The place in the file at which a page begins.
@@ -197,9 +206,4 @@ fn place_of(page: u64) -> io::Result<u64>
         Some(place) => Ok(place),
         None => Err(io::Error::from(io::ErrorKind::FileTooLarge)),
     }
-}
-
-/// Makes stable what was written to the file.
-fn sync<R: Files>(rt: &R, path: &str, file: &mut Option<R::File>) -> io::Result<()> {
-    opened(rt, path, file)?.sync_all()
 }

@@ -5,12 +5,16 @@
 //! trusted, and so these are a few lines each.
 #![tactic(auto)]
 
+mod access;
+mod again;
 mod file_disk;
 mod host_inputs;
 mod host_sink;
+mod opening;
 #[cfg(test)]
 mod tests;
 
+pub use access::Access;
 pub use file_disk::FileDisk;
 pub use host_inputs::HostInputs;
 pub use host_sink::HostSink;

@@ -1,4 +1,4 @@
-use crate::{FileDisk, HostInputs, HostSink};
+use crate::{Access, FileDisk, HostInputs, HostSink};
 use std::fs;
 use std::rt::Files;
 use std::test::Fail;
@@ -47,7 +47,7 @@ fn a_disk_lies_in_its_file(rt: HostRuntime) -> Result<(), Fail> {
     make_folder(&rt, "tw_hostio_test")?;
 
     // made by the first call, and not before
-    let mut disk = FileDisk::new(&rt, path);
+    let mut disk = FileDisk::new(&rt, path, Access::Write);
     assert_eq!(rt; size_of(&rt, path), None);
     disk.barrier()?;
     assert_eq!(rt; size_of(&rt, path), Some(0));
@@ -63,7 +63,7 @@ fn a_disk_lies_in_its_file(rt: HostRuntime) -> Result<(), Fail> {
     assert_eq!(rt; size_of(&rt, path), Some(3 * 4096));
 
     // no folder, no file
-    let mut nowhere = FileDisk::new(&rt, "tw_hostio_test/nowhere/disk");
+    let mut nowhere = FileDisk::new(&rt, "tw_hostio_test/nowhere/disk", Access::Write);
     assert_eq!(rt; nowhere.pages(), Err(Failed));
     assert_eq!(rt; nowhere.barrier(), Err(Failed));
     fs::remove_dir_all(&rt, "tw_hostio_test")?;
@@ -74,25 +74,56 @@ fn a_disk_lies_in_its_file(rt: HostRuntime) -> Result<(), Fail> {
 fn a_file_that_changed_is_opened_again(rt: HostRuntime) -> Result<(), Fail> {
     let path = "tw_hostio_test_again/disk";
     make_folder(&rt, "tw_hostio_test_again")?;
-    let mut disk = FileDisk::new(&rt, path);
+    let mut disk = FileDisk::new(&rt, path, Access::Write);
     put(&mut disk, 0, 5)?;
     put(&mut disk, 1, 6)?;
     put(&mut disk, 2, 7)?;
 
-    // the bytes of half a page at its end are no page, and are written over
+    // the first disk's count stands; a read of a page that is gone is a fault
     fs::write(&rt, path, [9; 4096 + 100].as_slice())?;
-    let mut again = FileDisk::new(&rt, path);
+    assert_eq!(rt; disk.pages()?, 3);
+    assert_eq!(rt; bytes_at(&mut disk, 0)?, Some((9, 9)));
+    assert_eq!(rt; bytes_at(&mut disk, 2), Err(Failed));
+    drop(disk);
+
+    // the bytes of half a page at its end are no page, and are written over
+    let mut again = FileDisk::new(&rt, path, Access::Write);
     assert_eq!(rt; again.pages()?, 1);
     assert_eq!(rt; bytes_at(&mut again, 0)?, Some((9, 9)));
     put(&mut again, 1, 4)?;
     assert_eq!(rt; bytes_at(&mut again, 1)?, Some((4, 4)));
     assert_eq!(rt; size_of(&rt, path), Some(2 * 4096));
-
-    // the first disk's count stands; a read of a page that is gone is a fault
-    assert_eq!(rt; disk.pages()?, 3);
-    assert_eq!(rt; bytes_at(&mut disk, 1)?, Some((4, 4)));
-    assert_eq!(rt; bytes_at(&mut disk, 2), Err(Failed));
     fs::remove_dir_all(&rt, "tw_hostio_test_again")?;
+    Ok(())
+}
+
+#[test]
+fn a_disk_that_is_read(rt: HostRuntime) -> Result<(), Fail> {
+    let path = "tw_hostio_test_read/disk";
+    make_folder(&rt, "tw_hostio_test_read")?;
+
+    // without a file there are no pages, and none is made
+    let mut none = FileDisk::new(&rt, path, Access::Read);
+    none.barrier()?;
+    assert_eq!(rt; none.pages()?, 0);
+    assert_eq!(rt; put(&mut none, 0, 5), Err(Failed));
+    assert_eq!(rt; size_of(&rt, path), None);
+    drop(none);
+
+    // two read at once, and neither writes
+    fs::write(&rt, path, [9; 4096].as_slice())?;
+    let mut one = FileDisk::new(&rt, path, Access::Read);
+    let mut other = FileDisk::new(&rt, path, Access::Read);
+    assert_eq!(rt; bytes_at(&mut one, 0)?, Some((9, 9)));
+    assert_eq!(rt; bytes_at(&mut other, 0)?, Some((9, 9)));
+    assert_eq!(rt; put(&mut one, 1, 5), Err(Failed));
+    other.barrier()?;
+    assert_eq!(rt; size_of(&rt, path), Some(4096));
+
+    // no folder, no disk
+    let mut nowhere = FileDisk::new(&rt, "tw_hostio_test_read/nowhere/disk", Access::Read);
+    assert_eq!(rt; nowhere.pages(), Err(Failed));
+    fs::remove_dir_all(&rt, "tw_hostio_test_read")?;
     Ok(())
 }
 
@@ -106,10 +137,23 @@ fn files_are_inputs(rt: HostRuntime) -> Result<(), Fail> {
     assert_eq!(rt; inputs.read(path, 2 * 4096 - 10, &mut into)?, 10);
     assert_eq!(rt; into[9], 4);
     assert_eq!(rt; inputs.read(path, 2 * 4096, &mut into)?, 0);
+
+    // it stays the file that was opened, also where asked to go back, until another one is asked for
+    fs::rename(&rt, path, "tw_hostio_test_inputs/old")?;
+    fs::write(&rt, path, [5; 4096].as_slice())?;
+    assert_eq!(rt; inputs.read(path, 1, &mut into)?, 100);
+    assert_eq!(rt; (into[0], into[99]), (4, 4));
+    assert_eq!(rt;
+        inputs.read("tw_hostio_test_inputs/old", 0, &mut into)?,
+        100
+    );
+    assert_eq!(rt; inputs.read(path, 0, &mut into)?, 100);
+    assert_eq!(rt; (into[0], into[99]), (5, 5));
     assert_eq!(rt;
         inputs.read("tw_hostio_test_inputs/other", 0, &mut into),
         Err(Failed)
     );
+    assert_eq!(rt; inputs.read(path, 0, &mut into)?, 100);
     assert_eq!(rt; HostSink::new(&rt).write(b"")?, 0);
     fs::remove_dir_all(&rt, "tw_hostio_test_inputs")?;
     Ok(())
@@ -119,10 +163,11 @@ fn files_are_inputs(rt: HostRuntime) -> Result<(), Fail> {
 fn a_disk_in_the_folder_at_hand(rt: HostRuntime) -> Result<(), Fail> {
     let path = "tw_hostio_test_disk";
     let _ = fs::remove_file(&rt, path);
-    let mut disk = FileDisk::new(&rt, path);
+    let mut disk = FileDisk::new(&rt, path, Access::Write);
     put(&mut disk, 0, 5)?;
     disk.barrier()?;
-    let mut again = FileDisk::new(&rt, path);
+    drop(disk);
+    let mut again = FileDisk::new(&rt, path, Access::Read);
     assert_eq!(rt; bytes_at(&mut again, 0)?, Some((5, 5)));
     fs::remove_file(&rt, path)?;
     Ok(())
