@@ -8,7 +8,7 @@ PROOF = crates/timeweave/data/p
 AUTH = 9f9cc8f6baef592ed6bf90b106ebe7b882f59a1cc9803a6d1eef6974da5f87ed
 OTHER = 0f9cc8f6baef592ed6bf90b106ebe7b882f59a1cc9803a6d1eef6974da5f87ed
 
-.PHONY: build demo test check bench install
+.PHONY: build demo test check crash bench install
 
 # Builds the program, and runs it once. Only a proved program is built: the first build on a machine proves every crate
 # below it first, which takes long; later ones prove what changed.
@@ -35,6 +35,10 @@ check: | $(PROGRAM)
 
 $(PROGRAM):
 	$(MAKE) build
+
+# Tries all that a loss of power may leave of a store on the built program, of which `make check` tries some.
+crash: | $(PROGRAM)
+	python3 tests/acceptance/power.py $(PROGRAM)
 
 # Measures the built program beside other programs, prints what it found, and writes bench/RESULTS.md and its picture.
 bench: | $(PROGRAM)

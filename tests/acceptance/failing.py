@@ -49,8 +49,9 @@ def read_only_folder(room):
     folder.mkdir()
     folder.chmod(0o555)
     room.put("e", events_file([b"x"]))
-    for words in ("init d ro", "append d e", "prove d event 1 0"):
+    for words in ("init d ro", "append d e"):
         room.expect(words, 5, b"fault disk\n", limit=plain_rights)
+    room.expect("prove d event 1 0", 8, b"store Blank\n", limit=plain_rights)
     if in_folder(room):
         raise Wrong(f"  in a read-only folder were made: {in_folder(room)}")
     folder.chmod(0o755)
@@ -66,9 +67,11 @@ def read_only_folder(room):
 def read_only_files(room):
     """a store and an events file that may not be opened so"""
     store = room.made("ro", [[b"x"]])
+    for mode, commands in ((0o444, ("init d ro", "append d e")), (0o000, ("init d ro", "append d e", "prove d event 1 0"))):
+        (room.folder / "d/timeline.tw").chmod(mode)
+        for words in commands:
+            room.expect(words, 5, b"fault disk\n", limit=plain_rights)
     (room.folder / "d/timeline.tw").chmod(0o444)
-    for words in ("init d ro", "append d e", "prove d event 1 0"):
-        room.expect(words, 5, b"fault disk\n", limit=plain_rights)
     room.expect_store(store.file())
     (room.folder / "e").chmod(0o000)
     for words in ("append d e", "verify e ro 1 " + "0" * 64, "show e 1 0"):

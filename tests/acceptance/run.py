@@ -4,7 +4,9 @@
     python3 tests/acceptance/run.py --texts        documents and sources alone, but for the tutorial; it needs no built program
 
 The cases stand in cases/*.json, those that are counted off in generated.py, those of services in steps.py
-and failing.py; documents.py and cited.py check the documents, installed.py what `make install` copies, and sources.py the sources.
+and failing.py, those of the program's edge to the system in edges.py, of programs at one time in beside.py, and of lost power and failing
+system calls in power.py and faults.py; documents.py and cited.py check the documents, installed.py what `make install` copies, shown.py the
+examples to copy, and sources.py the sources.
 A case has
 
     name       what it shows
@@ -17,7 +19,8 @@ A case has
                reads), "short" (a file that takes five bytes), or a pipe (the default)
     memory     at most so many bytes of memory
 
-The last line is `N passed, N failed`; before it each case that failed is told with its command.
+The last line is `N passed, N failed`; before it each case that failed is told with its command, and each that was skipped, since what it
+needs isn't there, with what that is.
 """
 
 import contextlib
@@ -32,13 +35,18 @@ import tempfile
 from concurrent.futures import ThreadPoolExecutor
 from pathlib import Path
 
+import beside
 import cited
 import documents
+import edges
 import failing
+import faults
 import generated
 import installed
+import power
 import reference
 import seen
+import shown
 import sources
 import steps
 
@@ -145,9 +153,14 @@ def all_cases():
     yield from generated.cases()
     yield from steps.cases()
     yield from failing.cases()
+    yield from edges.cases()
+    yield from beside.cases()
+    yield from power.cases()
+    yield from faults.cases()
     yield from documents.cases()
     yield from cited.cases()
     yield from installed.cases()
+    yield from shown.cases()
     yield from sources.cases()
 
 
@@ -156,7 +169,10 @@ def told(cases, found):
     failed = [(case, wrong) for case, wrong in zip(cases, found) if wrong]
     for case, wrong in failed:
         print(f"FAILED {case['name']}\n{wrong}")
-    print(f"{len(cases) - len(failed)} passed, {len(failed)} failed")
+    for name in sorted(steps.SKIPPED):
+        print(f"skipped {name}")
+    print(f"{len(steps.SKIPPED)} skipped")
+    print(f"{len(cases) - len(failed) - len(steps.SKIPPED)} passed, {len(failed)} failed")
     return 1 if failed else 0
 
 

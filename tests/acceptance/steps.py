@@ -13,9 +13,16 @@ from stores import PAGE, Store, events_file
 
 LIMIT = 1048576
 
+# The cases that couldn't be run here, each with what it needs.
+SKIPPED = []
+
 
 class Wrong(Exception):
     """The program did something else."""
+
+
+class Skipped(Exception):
+    """The case needs what isn't to be had here."""
 
 
 class Room:
@@ -31,10 +38,10 @@ class Room:
     def store(self):
         return (self.folder / "d/timeline.tw").read_bytes()
 
-    def run(self, *words, limit=None, to=subprocess.PIPE):
+    def run(self, *words, limit=None, to=subprocess.PIPE, **settings):
+        settings = {"stdin": subprocess.DEVNULL, "cwd": self.folder} | settings
         done = subprocess.run(
-            [self.program, *words], cwd=self.folder, stdout=to, stderr=subprocess.PIPE, stdin=subprocess.DEVNULL,
-            preexec_fn=limit, timeout=60,
+            [self.program, *words], stdout=to, stderr=subprocess.PIPE, preexec_fn=limit, timeout=60, **settings,
         )
         seen.note(done.returncode, done.stdout or b"")
         return done.returncode, done.stdout or b"", done.stderr
@@ -72,11 +79,17 @@ def case(work, group="steps"):
                 return str(wrong)
             except subprocess.TimeoutExpired:
                 return "  it ran for longer than a minute"
+            except Skipped as missing:
+                SKIPPED.append(f"{group}: {first_line(work)}: {missing}")
             except subprocess.SubprocessError as failure:
                 return f"  it couldn't be run: {failure}"
         return None
 
-    return {"name": f"{group}: {(work.__doc__ or work.__name__).splitlines()[0]}", "check": check}
+    return {"name": f"{group}: {first_line(work)}", "check": check}
+
+
+def first_line(work):
+    return (work.__doc__ or work.__name__).splitlines()[0]
 
 
 def some_steps(seed, count):
