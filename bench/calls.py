@@ -6,8 +6,8 @@ from pathlib import Path
 
 HERE = Path(__file__).resolve().parent
 
-# The program's first calls of its own open the null device, which keeps the numbers of the standard streams.
-BEGINNING = 'openat(AT_FDCWD, "/dev/null", O_RDONLY'
+# The program's first calls of its own see whether the standard streams are open.
+BEGINNING = "fcntl(0, F_DUPFD_CLOEXEC"
 
 
 def built(folder):
@@ -30,17 +30,28 @@ def word(line):
     opened = re.match(r'openat\(AT_FDCWD, "(.*)", (\S+?)[,)].*= (\d+)$', line)
     if opened:
         return f"open {opened[3]} {'w' if 'O_RDWR' in opened[2] else 'r'} {opened[1]}"
+    copied = re.match(r"fcntl\((\d+), F_DUPFD_CLOEXEC, 3\) += (\d+)$", line)
+    if copied:
+        return f"copy {copied[2]} {copied[1]}"
+    locked = re.match(r"flock\((\d+), LOCK_(SH|EX)\)", line)
+    if locked:
+        return f"lock {locked[1]} {'x' if locked[2] == 'EX' else 's'}"
+    looked = re.match(r'(?:lstat|newfstatat|statx)\((?:AT_FDCWD, )?"(.+?)",', line)
+    if looked:
+        return f"look 0 {looked[1]}"
     for pattern, name in (
         (r"lseek\((\d+), (\d+), SEEK_SET\)", "seek"),
         (r"read\((\d+), .*, (\d+)\) += \d+$", "read"),
         (r"write\((\d+), .*, (\d+)\) += \d+$", "write"),
-        (r"(?:fstat|newfstatat|statx)\((\d+)()", "stat"),
-        (r"(?:fsync|fdatasync)\((\d+)()\)", "sync"),
-        (r"close\((\d+)()\)", "close"),
+        (r"pread64\((\d+), .*, (\d+), (\d+)\) += \d+$", "get"),
+        (r"pwrite64\((\d+), .*, (\d+), (\d+)\) += \d+$", "put"),
+        (r"(?:fstat|newfstatat|statx)\((\d+)", "stat"),
+        (r"(?:fsync|fdatasync)\((\d+)\)", "sync"),
+        (r"close\((\d+)\)", "close"),
     ):
         found = re.match(pattern, line)
         if found:
-            return f"{name} {found[1]} {found[2]}".strip()
+            return " ".join([name, *filter(None, found.groups())])
     return None
 
 
@@ -51,4 +62,4 @@ def same_calls(program, words, folder):
 
 def pages_read(words, folder):
     """How many whole pages the command reads; only the store is read by pages."""
-    return sum(bool(re.search(r"^read\(.*= 4096$", line)) for line in traced(words, folder))
+    return sum(bool(re.search(r"^pread64\(.*= 4096$", line)) for line in traced(words, folder))
