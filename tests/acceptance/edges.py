@@ -60,7 +60,9 @@ def no_devices(room):
     room.put("e", events_file([b"x"]))
     room.put("p", LEAST)
     proof = reference.proof_bytes(store.line, 1, 0, 1)
-    for words, output in (("init d bare", store.anchor(0)), ("append d e", store.anchor(1)), ("prove d event 1 0", proof), (f"verify p a 1 {HEX}", LEAST_TEXT)):
+    for words, output in (
+        ("init d bare", store.anchor(0)), ("append d e", store.anchor(1)), ("prove d event 1 0", proof), (f"verify p a 1 {HEX}", LEAST_TEXT),
+    ):
         found = run_apart(inner, *words.split(), limit=in_root(room.folder), cwd=None)
         expect(found, (0, output, b""), f"timeweave {words}, in a root without /dev")
     room.expect_store(store.file())
@@ -103,7 +105,8 @@ def folder_synced(room):
     room.put("e", events_file([b"x"]))
     for words in ("init d name", "append d e", "append d e"):
         status, _, calls = calls_of(room.program, words.split(), room.folder)
-        expect((status, syncs_before_writes(calls, room.folder / "d")), (0, True), f"the status of timeweave {words}, and whether it syncs the folder first")
+        found = status, syncs_before_writes(calls, room.folder / "d")
+        expect(found, (0, True), f"the status of timeweave {words}, and whether it syncs the folder first")
     for words in ("prove d event 1 0", "prove d event 9 0"):
         _, _, calls = calls_of(room.program, words.split(), room.folder)
         expect([call.name for call in calls if "sync" in call.name], [], f"the syncs of timeweave {words}")
@@ -146,10 +149,9 @@ def read_only_mount(room):
     """a store on a read-only mount is proved from; `append` and `init` answer `fault disk` and change nothing"""
     store = room.made("ro", [[b"x"]])
     limit = under_read_only(room.folder / "d")
-    expect(run_apart(room, "append", "d", "e", limit=limit), (5, b"fault disk\n", b""), "timeweave append d e, where d is mounted read-only")
-    expect(run_apart(room, "init", "d", "ro", limit=limit), (5, b"fault disk\n", b""), "timeweave init d ro, where d is mounted read-only")
-    proof = reference.proof_bytes(store.line, 1, 0, 1)
-    expect(run_apart(room, "prove", "d", "event", "1", "0", limit=limit), (0, proof, b""), "timeweave prove d event 1 0, where d is mounted read-only")
+    fault, proof = (5, b"fault disk\n", b""), (0, reference.proof_bytes(store.line, 1, 0, 1), b"")
+    for words, wanted in (("append d e", fault), ("init d ro", fault), ("prove d event 1 0", proof)):
+        expect(run_apart(room, *words.split(), limit=limit), wanted, f"timeweave {words}, where d is mounted read-only")
     room.expect_store(store.file())
 
 
@@ -205,8 +207,10 @@ def pipes(room):
         ("show /dev/stdin 1 999", history, reference.proof_bytes(longer.line, 1, 999, 1)),
     ):
         expect(from_pipe(room, words, data), (0, output, b""), f"timeweave {words}, from a pipe")
-    expect(from_pipe(room, "append d /dev/stdin", bytes(3 * LIMIT)), (9, f"unreadable /dev/stdin byte {LIMIT}\n".encode(), b""), "timeweave append d /dev/stdin, from a long pipe")
-    expect(from_pipe(room, "verify /dev/stdin /dev/stdin", anchors), (3, b"fault input\n", b""), "timeweave verify /dev/stdin /dev/stdin, which asks to go back in a pipe")
+    too_long = (9, f"unreadable /dev/stdin byte {LIMIT}\n".encode(), b"")
+    expect(from_pipe(room, "append d /dev/stdin", bytes(3 * LIMIT)), too_long, "timeweave append d /dev/stdin, from a long pipe")
+    twice = from_pipe(room, "verify /dev/stdin /dev/stdin", anchors)
+    expect(twice, (3, b"fault input\n", b""), "timeweave verify /dev/stdin /dev/stdin, which asks to go back in a pipe")
     os.mkfifo(room.folder / "f")
     writer = threading.Thread(target=(room.folder / "f").write_bytes, args=(LEAST,))
     writer.start()
@@ -237,7 +241,8 @@ def replaced(room):
     room.put("other", bytes(2_000_000))
     # (each read waits for a moment; the file is replaced after the first)
     record = room.folder / "calls"
-    command = [needs_tracing(), "-qq", "-o", record, "-P", str(room.folder / "h"), "-e", "inject=read:delay_exit=2000", room.program, "show", "h", "1", "0"]
+    slowly = [needs_tracing(), "-qq", "-o", record, "-P", str(room.folder / "h"), "-e", "inject=read:delay_exit=2000"]
+    command = [*slowly, room.program, "show", "h", "1", "0"]
     running = subprocess.Popen(command, cwd=room.folder, stdout=subprocess.PIPE, stderr=subprocess.DEVNULL, stdin=subprocess.DEVNULL)
     while running.poll() is None and not (record.exists() and b"read" in record.read_bytes()):
         time.sleep(0.01)
@@ -274,7 +279,9 @@ def interrupted(room):
     room.put("p", LEAST)
     proof = reference.proof_bytes(store.line, 1, 0, 1)
     wrong = []
-    for words, output in (("init d eintr", store.anchor(0)), ("append d e", store.anchor(1)), ("prove d event 1 0", proof), (f"verify p a 1 {HEX}", LEAST_TEXT)):
+    for words, output in (
+        ("init d eintr", store.anchor(0)), ("append d e", store.anchor(1)), ("prove d event 1 0", proof), (f"verify p a 1 {HEX}", LEAST_TEXT),
+    ):
         kept = (room.folder / "d/timeline.tw").read_bytes() if (room.folder / "d/timeline.tw").exists() else None
         _, _, calls = calls_of(room.program, words.split(), room.folder)
         for name, when, where in interruptible(calls, room.folder):

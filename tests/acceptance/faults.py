@@ -3,13 +3,13 @@ finds each step that was told. A short count is made by short_count.c, since str
 
 import os
 import subprocess
+from pathlib import Path
 
 import power
 import reference
 from edges import HEX, LEAST, LEAST_TEXT
 from steps import Room, Wrong, case
 from tracing import calls_of, needs, own_calls
-from pathlib import Path
 
 HERE = Path(__file__).resolve().parent
 ERRORS = ("EIO", "ENOSPC", "EINTR")

@@ -137,14 +137,7 @@ impl<R: Files<File = File> + Alloc> FileDisk<'_, R> {
 }
 
 impl<R: Files<File = File> + Alloc> Disk for FileDisk<'_, R> {
-    ghost view = { λ disk. record {
-        content = None;
-        count = disk.count;
-        may_leave = λ _. ⊥;
-        moment = 0;
-        left_since = λ _ _. ⊥;
-        faults = disk.faults;
-    } };
+    ghost view = { λ disk. record { content = None; count = disk.count; may_leave = λ _. ⊥; moment = 0; left_since = λ _ _. ⊥; faults = disk.faults } };
 
     ghost count_is_told = { λ disk c is. no_content c _ is };
 
