@@ -2,13 +2,12 @@
 use Rattle.std.proofs.Common.{◌≡◌, ℕ, List, Result, Ok, Err, arith, inl, subst, sym}
 use Rattle.std.specs.Result.{IsErrAnd}
 use Rattle.tw_disk.specs.Image.{Image}
-use Rattle.tw_base.specs.Texts.{empty_tree_text}
 use Rattle.tw_skiplist.specs.declared.fault.ListFault.{ListFault}
 use Rattle.tw_skiplist.specs.declared.fault.ListFault.TheVariants.{NoStep, BadPage, DiskFault, NoMemory}
 use Rattle.tw_skiplist.specs.declared.head.Head.{Head}
 use Rattle.tw_skiplist.specs.declared.head.StepRef.{StepRef}
 use Rattle.tw_skiplist.specs.Answers.{IfBadPage, NeverNoStep, NoStepUnless}
-use Rattle.tw_skiplist.specs.Reading.{MeetsBadPage, MeetsBadPageAbove}
+use Rattle.tw_skiplist.specs.StepWalks.{MeetsBadPage, MeetsBadPageAbove}
 use Rattle.tw_skiplist.specs.Records.{FindsBadPageVia, head_ref}
 
 -- an answer that says of its page what is more
@@ -37,8 +36,8 @@ no_step_on DiskFault last P never there = there
 no_step_on NoMemory last P never there = there
 
 -- a walk that meets a bad page above its end meets it, with its end read or not
-pub met_above : (empty : List ℕ) (ps : Image) (first : StepRef) (from to page : ℕ) → MeetsBadPageAbove empty ps first from to page → MeetsBadPage empty ps first from to page
-met_above empty ps first from to page meets = record {
+pub met_above : (ps : Image) (first : StepRef) (from to page : ℕ) → MeetsBadPageAbove ps first from to page → MeetsBadPage ps first from to page
+met_above ps first from to page meets = record {
   link = meets.link;
   at = meets.at;
   recorded = omega (arith, meets.above);
@@ -48,8 +47,8 @@ met_above empty ps first from to page meets = record {
 }
 
 -- the walk down to the top is the first half of the way to a step
-pub met_on_the_way : (dig : List ℕ → List ℕ) (ps : Image) (head : Head) (top i : ℕ) (empty : List ℕ) (first : StepRef) → empty ≡ dig empty_tree_text → first ≡ head_ref head
-    → (page : ℕ) → MeetsBadPageAbove empty ps first head.step top page → FindsBadPageVia dig ps head top i page
-met_on_the_way dig ps head top i empty first empty_is first_is page meets =
-    let met = met_above empty ps first head.step top page meets in
-    inl (subst (λ (e : List ℕ). MeetsBadPage e ps (head_ref head) head.step top page) empty_is (subst (λ (f : StepRef). MeetsBadPage empty ps f head.step top page) first_is met))
+pub met_on_the_way : (ps : Image) (head : Head) (top i : ℕ) (first : StepRef) → first ≡ head_ref head
+    → (page : ℕ) → MeetsBadPageAbove ps first head.step top page → FindsBadPageVia ps head top i page
+met_on_the_way ps head top i first first_is page meets =
+    let met = met_above ps first head.step top page meets in
+    inl (subst (λ (f : StepRef). MeetsBadPage ps f head.step top page) first_is met)

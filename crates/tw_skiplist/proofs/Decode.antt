@@ -6,9 +6,10 @@ use Rattle.std.proofs.lemmas.Nat.{from_be_bytes-to_be_bytes_8, from_be_bytes-to_
 use Rattle.tw_skiplist.specs.declared.head.StepRef.{StepRef}
 use Rattle.tw_skiplist.specs.declared.fields.StepFields.{StepFields}
 use Rattle.tw_disk.specs.PageBytes.{padded}
-use Rattle.tw_skiplist.specs.Bytes.{step_bytes, links_bytes, step_front}
+use Rattle.tw_skiplist.specs.FieldSteps.{fields_in, link_in, links_in}
+use Rattle.tw_skiplist.specs.StepBytes.{links_bytes, step_front, step_page_bytes}
+use Rattle.tw_skiplist.specs.StepPages.{AllSized, HasWidths, IsStepPage, link_of, no_ref}
 use Rattle.tw_base.specs.Levels.{top_level}
-use Rattle.tw_skiplist.specs.Reading.{AllSized, HasWidths, IsStepPage, fields_in, link_in, link_of, links_in, no_ref}
 
 -- ---- one more link
 
@@ -53,49 +54,53 @@ length-links_in page (suc level) = length_push (links_in page level) (link_in pa
 
 pub ruleset links_read = (links_in-first, links_in-more, length-links_in)
 
-module _ (step : ℕ) (f : StepFields) (links : List StepRef) (root_size : length f.event_root ≡ 32) (archive_size : length f.archive ≡ 32) (auth_size : length f.auth ≡ 32) where
+module _ (step : ℕ) (f : StepFields) (links : List StepRef) (root_size : length f.event_root ≡ 32) (archive_size : length f.archive.label ≡ 32) (auth_size : length f.auth ≡ 32) where
   abbrev page : List ℕ
-  page = step_bytes step f links
+  page = step_page_bytes step f links
 
   pub count_field : take 4 (drop 10 page) ≡ to_be_bytes w32 f.count
-  unfolding step_bytes
+  unfolding step_page_bytes
   count_field = refl
 
   pub size_field : take 4 (drop 14 page) ≡ to_be_bytes w32 f.stream.size
-  unfolding step_bytes
+  unfolding step_page_bytes
   size_field = refl
 
   pub first_field : take 8 (drop 18 page) ≡ to_be_bytes w64 f.stream.page
-  unfolding step_bytes
+  unfolding step_page_bytes
   first_field = refl
 
   abbrev zeros : List ℕ
   zeros = replicate (4096 - length (step_front step f (length links) ++ links_bytes links)) 0
 
   -- what follows the numbers
-  behind : drop 26 page ≡ f.event_root ++ (f.archive ++ (replicate 64 0 ++ (f.auth ++ (length links ∷ (links_bytes links ++ zeros)))))
-  unfolding step_bytes
+  behind : drop 26 page ≡ f.event_root ++ (f.archive.label ++ (to_be_bytes w64 f.archive.page ++ (replicate 56 0 ++ (f.auth ++ (length links ∷ (links_bytes links ++ zeros))))))
+  unfolding step_page_bytes
   behind =
-      append_assoc (f.event_root ++ f.archive ++ replicate 64 0 ++ f.auth ++ length links ∷ []) (links_bytes links) zeros
-      ∙ append_assoc (f.event_root ++ f.archive ++ replicate 64 0 ++ f.auth) (length links ∷ []) (links_bytes links ++ zeros)
-      ∙ append_assoc (f.event_root ++ f.archive ++ replicate 64 0) f.auth _
-      ∙ append_assoc (f.event_root ++ f.archive) (replicate 64 0) _
-      ∙ append_assoc f.event_root f.archive _
+      append_assoc (f.event_root ++ f.archive.label ++ to_be_bytes w64 f.archive.page ++ replicate 56 0 ++ f.auth ++ length links ∷ []) (links_bytes links) zeros
+      ∙ append_assoc (f.event_root ++ f.archive.label ++ to_be_bytes w64 f.archive.page ++ replicate 56 0 ++ f.auth) (length links ∷ []) (links_bytes links ++ zeros)
+      ∙ append_assoc (f.event_root ++ f.archive.label ++ to_be_bytes w64 f.archive.page ++ replicate 56 0) f.auth _
+      ∙ append_assoc (f.event_root ++ f.archive.label ++ to_be_bytes w64 f.archive.page) (replicate 56 0) _
+      ∙ append_assoc (f.event_root ++ f.archive.label) (to_be_bytes w64 f.archive.page) _
+      ∙ append_assoc f.event_root f.archive.label _
 
   pub event_root_field : take 32 (drop 26 page) ≡ f.event_root
   event_root_field = ap (take 32) behind ∙ take_at f.event_root _ 32 root_size
 
-  behind_root : drop 58 page ≡ f.archive ++ (replicate 64 0 ++ (f.auth ++ (length links ∷ (links_bytes links ++ zeros))))
+  behind_root : drop 58 page ≡ f.archive.label ++ (to_be_bytes w64 f.archive.page ++ (replicate 56 0 ++ (f.auth ++ (length links ∷ (links_bytes links ++ zeros)))))
   behind_root = sym (drop-drop 32 26 page) ∙ ap (drop 32) behind ∙ drop_at f.event_root _ 32 root_size
 
-  pub archive_field : take 32 (drop 58 page) ≡ f.archive
-  archive_field = ap (take 32) behind_root ∙ take_at f.archive _ 32 archive_size
+  pub label_field : take 32 (drop 58 page) ≡ f.archive.label
+  label_field = ap (take 32) behind_root ∙ take_at f.archive.label _ 32 archive_size
 
-  behind_archive : drop 90 page ≡ replicate 64 0 ++ (f.auth ++ (length links ∷ (links_bytes links ++ zeros)))
-  behind_archive = sym (drop-drop 32 58 page) ∙ ap (drop 32) behind_root ∙ drop_at f.archive _ 32 archive_size
+  behind_label : drop 90 page ≡ to_be_bytes w64 f.archive.page ++ (replicate 56 0 ++ (f.auth ++ (length links ∷ (links_bytes links ++ zeros))))
+  behind_label = sym (drop-drop 32 58 page) ∙ ap (drop 32) behind_root ∙ drop_at f.archive.label _ 32 archive_size
+
+  pub archive_page_field : take 8 (drop 90 page) ≡ to_be_bytes w64 f.archive.page
+  archive_page_field = ap (take 8) behind_label
 
   behind_zeros : drop 154 page ≡ f.auth ++ (length links ∷ (links_bytes links ++ zeros))
-  behind_zeros = sym (drop-drop 64 90 page) ∙ ap (drop 64) behind_archive
+  behind_zeros = sym (drop-drop 64 90 page) ∙ ap (drop 64) behind_label
 
   pub auth_field : take 32 (drop 154 page) ≡ f.auth
   auth_field = ap (take 32) behind_zeros ∙ take_at f.auth _ 32 auth_size
@@ -125,42 +130,42 @@ sized_at (x ∷ ls) (suc k) d p l = sized_at ls k d p.1 (omega arith)
 
 module _ (step : ℕ) (f : StepFields) (links : List StepRef) (widths : HasWidths f links) where
   module _ (level : ℕ) (d : StepRef) (l : level < length links) (small : (get_or links level d).page < 2 ^ 64) where
-    at_link : (rest : List ℕ) × (drop (187 + 40 * level) (step_bytes step f links) ≡ to_be_bytes w64 (get_or links level d).page ++ ((get_or links level d).auth ++ rest))
+    at_link : (rest : List ℕ) × (drop (187 + 40 * level) (step_page_bytes step f links) ≡ to_be_bytes w64 (get_or links level d).page ++ ((get_or links level d).auth ++ rest))
     at_link = (
       links_bytes (drop (suc level) links) ++ zeros step f links widths.event_root widths.archive widths.auth,
-      sym (drop-drop (40 * level) 187 (step_bytes step f links))
+      sym (drop-drop (40 * level) 187 (step_page_bytes step f links))
           ∙ ap (drop (40 * level)) (behind_front step f links widths.event_root widths.archive widths.auth)
           ∙ links_from links level _ d widths.each_link l,
     )
 
-    pub link_read : link_in (step_bytes step f links) level ≡ get_or links level d
+    pub link_read : link_in (step_page_bytes step f links) level ≡ get_or links level d
     link_read =
         let at = at_link in
-        let page : from_be_bytes w64 (take 8 (drop (187 + 40 * level) (step_bytes step f links))) ≡ (get_or links level d).page =
+        let page : from_be_bytes w64 (take 8 (drop (187 + 40 * level) (step_page_bytes step f links))) ≡ (get_or links level d).page =
         ap (λ (t : List ℕ). from_be_bytes w64 (take 8 t)) at.1 ∙ from_be_bytes-to_be_bytes_8 (get_or links level d).page small in
-        let auth : take 32 (drop (195 + 40 * level) (step_bytes step f links)) ≡ (get_or links level d).auth =
-        ap (λ (n : ℕ). take 32 (drop n (step_bytes step f links))) (let e : 195 + 40 * level ≡ 187 + 40 * level + 8 = omega arith in e)
-        ∙ ap (take 32) (sym (drop-drop 8 (187 + 40 * level) (step_bytes step f links)))
+        let auth : take 32 (drop (195 + 40 * level) (step_page_bytes step f links)) ≡ (get_or links level d).auth =
+        ap (λ (n : ℕ). take 32 (drop n (step_page_bytes step f links))) (let e : 195 + 40 * level ≡ 187 + 40 * level + 8 = omega arith in e)
+        ∙ ap (take 32) (sym (drop-drop 8 (187 + 40 * level) (step_page_bytes step f links)))
         ∙ ap (λ (t : List ℕ). take 32 (drop 8 t)) at.1
         ∙ take_at (get_or links level d).auth at.0 32 (sized_at links level d widths.each_link l) in
         (λ j. record { page = page j; auth = auth j })
 
-  links_read_to : ((level : ℕ) → level < length links → (link_of links level).page < 2 ^ 64) → (count : ℕ) → count ≤ length links → links_in (step_bytes step f links) count ≡ take count links
+  links_read_to : ((level : ℕ) → level < length links → (link_of links level).page < 2 ^ 64) → (count : ℕ) → count ≤ length links → links_in (step_page_bytes step f links) count ≡ take count links
   unfolding links_in
   links_read_to small zero l = refl
   links_read_to small (suc level) l =
       let under : level < length links = omega arith in
-      ap (λ (ls : List StepRef). ls ++ link_in (step_bytes step f links) level ∷ []) (links_read_to small level (omega arith))
+      ap (λ (ls : List StepRef). ls ++ link_in (step_page_bytes step f links) level ∷ []) (links_read_to small level (omega arith))
       ∙ ap (λ (k : StepRef). take level links ++ k ∷ []) (link_read level no_ref under (small level under))
       ∙ sym (take_more links level no_ref under)
       ∙ ap (λ (n : ℕ). take n links) (let e : level + 1 ≡ suc level = omega arith in e)
 
-  pub all_links_read : ((level : ℕ) → level < length links → (link_of links level).page < 2 ^ 64) → links_in (step_bytes step f links) (length links) ≡ links
+  pub all_links_read : ((level : ℕ) → level < length links → (link_of links level).page < 2 ^ 64) → links_in (step_page_bytes step f links) (length links) ≡ links
   all_links_read small = links_read_to small (length links) (omega arith) ∙ take_all (length links) links (omega arith)
 
 -- ---- a page tells its fields and its links
 
-module _ (empty : List ℕ) (page step : ℕ) (f : StepFields) (links : List StepRef) (bytes : List ℕ) (fits : page < 2 ^ 64) (is : IsStepPage empty page step f links bytes) where
+module _ (page step : ℕ) (f : StepFields) (links : List StepRef) (bytes : List ℕ) (fits : page < 2 ^ 64) (is : IsStepPage page step f links bytes) where
   pub fields_read : fields_in bytes ≡ f
   fields_read =
       let rules = is.field_rules in
@@ -172,9 +177,11 @@ module _ (empty : List ℕ) (page step : ℕ) (f : StepFields) (links : List Ste
       let first : from_be_bytes w64 (take 8 (drop 18 bytes)) ≡ f.stream.page =
       ap (λ (p : List ℕ). from_be_bytes w64 (take 8 (drop 18 p))) is.bytes_are ∙ ap (from_be_bytes w64) (first_field step f links w.event_root w.archive w.auth) ∙ from_be_bytes-to_be_bytes_8 f.stream.page (omega (arith, rules.first, fits)) in
       let root : take 32 (drop 26 bytes) ≡ f.event_root = ap (λ (p : List ℕ). take 32 (drop 26 p)) is.bytes_are ∙ event_root_field step f links w.event_root w.archive w.auth in
-      let archive : take 32 (drop 58 bytes) ≡ f.archive = ap (λ (p : List ℕ). take 32 (drop 58 p)) is.bytes_are ∙ archive_field step f links w.event_root w.archive w.auth in
+      let label : take 32 (drop 58 bytes) ≡ f.archive.label = ap (λ (p : List ℕ). take 32 (drop 58 p)) is.bytes_are ∙ label_field step f links w.event_root w.archive w.auth in
+      let tree : from_be_bytes w64 (take 8 (drop 90 bytes)) ≡ f.archive.page =
+      ap (λ (p : List ℕ). from_be_bytes w64 (take 8 (drop 90 p))) is.bytes_are ∙ ap (from_be_bytes w64) (archive_page_field step f links w.event_root w.archive w.auth) ∙ from_be_bytes-to_be_bytes_8 f.archive.page (omega (arith, rules.archive, fits)) in
       let auth : take 32 (drop 154 bytes) ≡ f.auth = ap (λ (p : List ℕ). take 32 (drop 154 p)) is.bytes_are ∙ auth_field step f links w.event_root w.archive w.auth in
-      (λ j. record { count = count j; stream = record { page = first j; size = size j }; event_root = root j; archive = archive j; auth = auth j })
+      (λ j. record { count = count j; stream = record { page = first j; size = size j }; event_root = root j; archive = record { page = tree j; label = label j }; auth = auth j })
 
   pub links_read_all : links_in bytes (suc (top_level step)) ≡ links
   links_read_all =
@@ -182,8 +189,8 @@ module _ (empty : List ℕ) (page step : ℕ) (f : StepFields) (links : List Ste
       ∙ all_links_read step f links is.widths (λ level l. let below = (is.link_rules level l).below in omega (arith, below, fits))
 
   -- so the fields and links that are found in the bytes are these
-  pub found_is : (g : StepFields) (others : List StepRef) → g ≡ fields_in bytes → others ≡ links_in bytes (suc (top_level step)) → IsStepPage empty page step g others bytes
+  pub found_is : (g : StepFields) (others : List StepRef) → g ≡ fields_in bytes → others ≡ links_in bytes (suc (top_level step)) → IsStepPage page step g others bytes
   found_is g others fields_are links_are =
       let same : f ≡ g = sym (fields_are ∙ fields_read) in
       let same_links : links ≡ others = sym (links_are ∙ links_read_all) in
-      subst (λ (x : StepFields). IsStepPage empty page step x others bytes) same (subst (λ (x : List StepRef). IsStepPage empty page step f x bytes) same_links is)
+      subst (λ (x : StepFields). IsStepPage page step x others bytes) same (subst (λ (x : List StepRef). IsStepPage page step f x bytes) same_links is)

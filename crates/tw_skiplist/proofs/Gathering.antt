@@ -5,27 +5,31 @@ use Rattle.std.proofs.lemmas.List.{map_push, length_push}
 use Rattle.std.proofs.lemmas.Nat.{pow_pos}
 use Rattle.std.proofs.Math.Nat.{pow-suc}
 use Rattle.tw_disk.specs.Image.{Image}
-use Rattle.tw_base.specs.Texts.{authenticator_text, datum_text, empty_tree_text, link_text}
+use Rattle.tw_base.specs.declared.root.Root.{Root}
+use Rattle.tw_base.specs.Texts.{authenticator_text, datum_text, link_text}
 use Rattle.tw_base.specs.EventTree.{event_root}
-use Rattle.tw_base.specs.History.{History, Step, events_at, events_of, plus, root_of}
-use Rattle.tw_base.specs.Tree.{forest, tree}
-use Rattle.tw_base.specs.Tree.Tree.{Empty}
+use Rattle.tw_base.specs.History.{History, Step, events_at, root_of, step_at, with_events}
 use Rattle.tw_base.specs.Levels.{top_level}
 use Rattle.tw_base.specs.Auth.{auth, auths, datum_text_at, link_texts, tree_label}
 use Rattle.tw_base.proofs.Auths.{auth-suc, auths-at}
 use Rattle.tw_base.proofs.Levels.{divides-less, divides-minus, top_level-divides, top_level-greatest}
-use Rattle.tw_base.proofs.Plus.{auths-plus, forest-first, step_at-new}
+use Rattle.tw_base.proofs.Plus.{auths-plus}
 use Rattle.tw_skiplist.specs.declared.head.Head.{Head}
 use Rattle.tw_skiplist.specs.declared.head.StepRef.{StepRef}
 use Rattle.tw_skiplist.specs.declared.fields.StepFields.{StepFields}
-use Rattle.tw_skiplist.specs.Bytes.{event_pages, step_bytes, stream}
+use Rattle.tw_skiplist.specs.Appended.{IsPieceCount, IsPut}
+use Rattle.tw_base.specs.Limits.{MayRecord}
+use Rattle.tw_skiplist.specs.Keeping.{event_step}
+use Rattle.tw_skiplist.specs.GatherSteps.{HasLinks, LeadsNowhere}
+use Rattle.tw_skiplist.specs.Keeping.{Keeps, archive_at, KeepsSteps, Place, fields_at, link_to, links_at, links_to, place_of}
+use Rattle.tw_skiplist.specs.StepBytes.{event_pages, step_page_bytes, stream}
+use Rattle.tw_skiplist.specs.StepPages.{HasLink, IsNoStepAt, IsStepAt}
 use Rattle.tw_skiplist.specs.Infos.{Added}
-use Rattle.tw_skiplist.specs.Keeping.{IsWithinLimits, Keeps, KeepsSteps, Place, event_step, fields_at, link_to, links_at, links_to, place_of}
-use Rattle.tw_skiplist.specs.Links.{HasLinks, IsPieceCount, IsPut, LeadsNowhere}
-use Rattle.tw_skiplist.specs.Reading.{HasLink, IsNoStepAt, IsStepAt}
+use Rattle.tw_skiplist.proofs.EventHistories.{new_datum, new_events, same_tree}
 use Rattle.tw_skiplist.proofs.Kept.{kept_page, link_leads, power-le}
 use Rattle.tw_skiplist.proofs.Growing.{below_head}
 use Rattle.tw_skiplist.proofs.Plus.{KeepsSteps-plus, place_of-new}
+use Rattle.tw_skiplist.specs.declared.limits.TheConstants.{MOST_PIECE_BYTES, MOST_STREAM_BYTES}
 
 -- the step that a lower link of a step leads to has a link of that level itself
 module _ (step level : ℕ) (some : 0 < step) (small : step < 2 ^ 40) (lower : level < top_level step) where
@@ -75,17 +79,17 @@ module _ (dig : List ℕ → List ℕ) where
     -- a bad page is met where no history is kept
     pub bad_link : (ps : Image) (first link : StepRef) (from level : ℕ) → from + 1 < 2 ^ 40 → level < top_level (from + 1)
         → ((h : History) (places : List Place) → KeepsSteps dig ps h places → from ≡ length h.steps → first ≡ link_to dig h places from → link ≡ link_to dig h places (from + 1 - 2 ^ level))
-        → IsNoStepAt (dig empty_tree_text) ps link.page (from + 1 - 2 ^ level) → LeadsNowhere dig ps first from
+        → IsNoStepAt ps link.page (from + 1 - 2 ^ level) → LeadsNowhere dig ps first from
     bad_link ps first link from level small lower leads bad = λ h places kept last first_is.
         let at : ℕ = from + 1 - 2 ^ level in
         let some = earlier_some (from + 1) level (omega arith) small lower in
         let is = kept_page dig size h places ps kept at some (omega (arith, last, pow_pos level)) in
         bad (fields_at dig h places at) (links_at dig h places at)
-        (subst (λ (k : StepRef). IsStepAt (dig empty_tree_text) ps k.page at (fields_at dig h places at) (links_at dig h places at)) (sym (leads h places kept last first_is)) is)
+        (subst (λ (k : StepRef). IsStepAt ps k.page at (fields_at dig h places at) (links_at dig h places at)) (sym (leads h places kept last first_is)) is)
 
     pub next_link : (ps : Image) (first link next : StepRef) (from level : ℕ) → from + 1 < 2 ^ 40 → level < top_level (from + 1)
         → ((h : History) (places : List Place) → KeepsSteps dig ps h places → from ≡ length h.steps → first ≡ link_to dig h places from → link ≡ link_to dig h places (from + 1 - 2 ^ level))
-        → HasLink (dig empty_tree_text) ps link.page (from + 1 - 2 ^ level) level next
+        → HasLink ps link.page (from + 1 - 2 ^ level) level next
         → (h : History) (places : List Place) → KeepsSteps dig ps h places → from ≡ length h.steps → first ≡ link_to dig h places from → next ≡ link_to dig h places (from + 1 - 2 ^ (level + 1))
     next_link ps first link next from level small lower leads has h places kept last first_is =
         let at : ℕ = from + 1 - 2 ^ level in
@@ -95,32 +99,11 @@ module _ (dig : List ℕ → List ℕ) where
 
     -- ---- the step that was put
 
-    module _ (h : History) (events : List (List ℕ)) where
-      abbrev longer : History
-      longer = plus h (event_step events)
-
-      abbrev n : ℕ
-      n = length h.steps
-
-      new_tree : tree longer (suc n) ≡ Empty
-      unfolding tree
-      new_tree = ap (λ (o : Option Step). get_or (forest longer (suc n)) (root_of o) Empty) (step_at-new h (event_step events)) ∙ forest-first longer (suc n)
-
-      empty_label : tree_label dig (tree longer (suc n)) ≡ dig empty_tree_text
-      unfolding tree_label
-      empty_label = ap (tree_label dig) new_tree
-
-      pub new_datum : datum_text_at dig longer (suc n) ≡ datum_text (event_root dig events) (dig empty_tree_text) (length events)
-      unfolding datum_text_at
-      new_datum =
-          ap (λ (o : Option Step). datum_text (event_root dig (events_of o)) (tree_label dig (tree longer (suc n))) (length (events_of o))) (step_at-new h (event_step events))
-          ∙ ap (λ (l : List ℕ). datum_text (event_root dig events) l (length events)) empty_label
-
-    module _ (ps : Image) (h : History) (events : List (List ℕ)) (head new : Head) (keeps : Keeps dig ps h head) (short : head.step + 1 < 2 ^ 40) (limits : IsWithinLimits events)
-        (bytes datum root archive : List ℕ) (count used : ℕ) (links : List StepRef) (labels : List (List ℕ)) (now : Option Image)
-        (used_is : used ≡ 4 + length ps) (room : used < 2 ^ 47) (bytes_are : bytes ≡ stream events) (bytes_size : length bytes ≤ 69632)
-        (root_is : root ≡ event_root dig events) (archive_is : archive ≡ dig empty_tree_text) (count_is : count ≡ length events)
-        (datum_is : datum ≡ dig (datum_text root archive count))
+    module _ (ps : Image) (h : History) (events : List (List ℕ)) (head new : Head) (keeps : Keeps dig ps h head) (short : head.step + 1 < 2 ^ 40) (limits : MayRecord events)
+        (bytes datum root : List ℕ) (archive : Root) (count used : ℕ) (links : List StepRef) (labels : List (List ℕ)) (now : Option Image)
+        (used_is : used ≡ 4 + length ps) (room : used < 2 ^ 47) (bytes_are : bytes ≡ stream events) (bytes_size : length bytes ≤ MOST_STREAM_BYTES)
+        (root_is : root ≡ event_root dig events) (archive_is : archive ≡ archive_at dig h (length h.steps)) (count_is : count ≡ length events)
+        (datum_is : datum ≡ dig (datum_text root archive.label count))
         (has : HasLinks dig ps (record { page = head.page; auth = head.auth }) head.step datum links labels (suc (top_level (head.step + 1))))
         (auth_is : new.auth ≡ dig (authenticator_text (head.step + 1) labels))
         (put : IsPut ps (head.step + 1) bytes count root archive links now new) where
@@ -128,7 +111,10 @@ module _ (dig : List ℕ → List ℕ) where
       last_step = length h.steps
 
       abbrev longer_history : History
-      longer_history = plus h (event_step events)
+      longer_history = with_events h events
+
+      abbrev last : Step
+      last = event_step (root_of (step_at h last_step)) events
 
       abbrev first_link : StepRef
       first_link = record { page = head.page; auth = head.auth }
@@ -143,10 +129,10 @@ module _ (dig : List ℕ → List ℕ) where
       both = has h keeps.places keeps.keeps keeps.step first_is
 
       datum_of : datum ≡ dig (datum_text_at dig longer_history (suc last_step))
-      datum_of = datum_is ∙ (λ j. dig (datum_text (root_is j) (archive_is j) (count_is j))) ∙ ap dig (sym (new_datum h events))
+      datum_of = datum_is ∙ (λ j. dig (datum_text (root_is j) (archive_is j).label (count_is j))) ∙ ap dig (sym (new_datum h events dig))
 
       auths_of : auths dig h head.step ≡ auths dig longer_history last_step
-      auths_of = ap (λ (i : ℕ). auths dig h i) keeps.step ∙ sym (auths-plus h (event_step events) dig last_step (omega arith))
+      auths_of = ap (λ (i : ℕ). auths dig h i) keeps.step ∙ sym (auths-plus h last dig last_step (omega arith))
 
       label_of : new.auth ≡ auth dig longer_history (suc last_step)
       label_of =
@@ -164,17 +150,17 @@ module _ (dig : List ℕ → List ℕ) where
       put_fields = record { count = count; stream = record { page = put.first; size = length bytes }; event_root = root; archive = archive; auth = new.auth }
 
       here : place_of more_places (suc last_step) ≡ place
-      here = place_of-new dig h keeps.places (event_step events) place keeps.keeps.count
+      here = place_of-new dig h keeps.places last place keeps.keeps.count
 
       fields_of : put_fields ≡ fields_at dig longer_history more_places (suc last_step)
       fields_of =
-          let same : events ≡ events_at longer_history (suc last_step) = sym (ap events_of (step_at-new h (event_step events))) in
+          let same : events ≡ events_at longer_history (suc last_step) = sym (new_events h events) in
           let stream_is : bytes ≡ stream (events_at longer_history (suc last_step)) = bytes_are ∙ ap stream same in
           (λ j. record {
             count = (count_is ∙ ap (λ (es : List (List ℕ)). length es) same) j;
             stream = record { page = (ap (λ (p : Place). p.first) (sym here)) j; size = length (stream_is j) };
             event_root = (root_is ∙ ap (event_root dig) same) j;
-            archive = archive_is j;
+            archive = (archive_is ∙ (λ k. record { page = 0; label = tree_label dig (sym (same_tree h events) k) })) j;
             auth = label_of j;
           })
 
@@ -184,7 +170,7 @@ module _ (dig : List ℕ → List ℕ) where
       few : put.pieces ≤ 18
       few = elim_few put.pieces put.piece_count.needed
         where
-          elim_few : (count : ℕ) → ((number : ℕ) → number < count → 4085 * number < length bytes) → count ≤ 18
+          elim_few : (count : ℕ) → ((number : ℕ) → number < count → MOST_PIECE_BYTES * number < length bytes) → count ≤ 18
           elim_few zero needed = omega arith
           elim_few (suc k) needed = let last = needed k (omega arith) in omega (arith, last, bytes_size)
 
@@ -192,19 +178,19 @@ module _ (dig : List ℕ → List ℕ) where
       added =
           let size_is : length bytes ≡ length (stream events) = ap (λ (b : List ℕ). length b) bytes_are in
           let page_is = put.page_is in
-          let longer_is : length longer_history.steps ≡ suc last_step = length_push h.steps (event_step events) ∙ omega arith in
+          let longer_is : length longer_history.steps ≡ suc last_step = length_push h.steps last ∙ omega arith in
           let rises : (place_of keeps.places last_step).page < new.page = let under = below_head dig ps h keeps.places keeps.keeps in omega (arith, under, page_is) in
           let kept = KeepsSteps-plus dig ps h keeps.places events keeps.keeps (omega (arith, short, keeps.step)) limits put.pieces put.first new.page
           (subst (λ (n : ℕ). IsPieceCount n put.pieces) size_is put.piece_count)
           (λ none. put.none (size_is ∙ none)) (λ some. put.some (omega (arith, some, size_is)))
           page_is (omega (arith, page_is, used_is, room, few)) rises put_fields links fields_of links_of in
           let pieces : Image = event_pages (suc last_step) (stream events) put.pieces in
-          let page : List ℕ = step_bytes (suc last_step) put_fields links in
+          let page : List ℕ = step_page_bytes (suc last_step) put_fields links in
           let grown : Image = pieces ++ page ∷ [] in
           record {
             more = grown;
             told = put.told
-                ∙ (λ j. Some ((ps ++ event_pages (next j) (bytes_are j) put.pieces) ++ step_bytes (next j) put_fields links ∷ []))
+                ∙ (λ j. Some ((ps ++ event_pages (next j) (bytes_are j) put.pieces) ++ step_page_bytes (next j) put_fields links ∷ []))
                 ∙ ap (λ (x : Image). Some x) (append_assoc ps pieces (page ∷ []));
             keeps = record {
               places = more_places;

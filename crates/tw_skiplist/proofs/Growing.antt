@@ -5,13 +5,14 @@ use Rattle.tw_disk.specs.Image.{Image, page_at}
 use Rattle.tw_base.specs.History.{History, Step}
 use Rattle.tw_base.specs.Auth.{auth}
 use Rattle.tw_skiplist.specs.declared.head.Head.{Head}
-use Rattle.tw_skiplist.specs.Keeping.{Place, KeepsStream, KeepsStep, KeepsSteps, Keeps, no_place, place_of}
+use Rattle.tw_skiplist.specs.Keeping.{Keeps, KeepsStep, KeepsSteps, KeepsStream, Place, no_place, place_of}
+use Rattle.tw_skiplist.specs.declared.limits.TheConstants.{MOST_PIECE_BYTES}
 
 pub page_grows : (pages more : Image) (k : ℕ) (bytes : List ℕ) → k < length pages → page_at pages k ≡ bytes → page_at (pages ++ more) k ≡ bytes
 page_grows pages more k bytes l is = get_or_append_left pages more [] k l ∙ is
 
 -- a number of an event page is of a stream that isn't empty
-pub has_bytes : (number n : ℕ) → 4085 * number < n → 0 < n
+pub has_bytes : (number n : ℕ) → MOST_PIECE_BYTES * number < n → 0 < n
 has_bytes number n l = omega arith
 
 pub KeepsStream-grows : (pages more : Image) (step first page : ℕ) (bytes : List ℕ) → page < 4 + length pages → KeepsStream pages step first page bytes → KeepsStream (pages ++ more) step first page bytes

@@ -7,20 +7,21 @@ use Rattle.std.proofs.lemmas.List.Sums.{sum_by-cons}
 use Rattle.std.proofs.lemmas.Nat.{pow_pos}
 use Rattle.std.proofs.Math.Nat.{pow-le-pow_right, mod-eq_of_lt}
 use Rattle.tw_disk.specs.Image.{Image}
-use Rattle.tw_base.specs.Texts.{empty_tree_text}
 use Rattle.tw_base.specs.History.{History, events_at}
 use Rattle.tw_base.specs.Levels.{top_level}
+use Rattle.tw_base.specs.Tree.{tree}
 use Rattle.tw_base.proofs.Levels.{top_level-divides}
 use Rattle.tw_base.proofs.EventTrees.{length-event_root}
-use Rattle.tw_base.proofs.Sizes.{auth-size}
+use Rattle.tw_base.proofs.Sizes.{auth-size, tree_label-size}
 use Rattle.tw_skipproof.specs.Paths.{hop_level}
 use Rattle.tw_skipproof.proofs.Hops.{hop_level-le, hop-below}
 use Rattle.tw_skiplist.specs.declared.head.StepRef.{StepRef}
 use Rattle.tw_skiplist.specs.declared.fields.StepFields.{StepFields}
-use Rattle.tw_skiplist.specs.Bytes.{stream}
-use Rattle.tw_skiplist.specs.Keeping.{Place, KeepsStep, KeepsSteps, fields_at, link_to, links_at, links_to, place_of}
-use Rattle.tw_skiplist.specs.Reading.{AllSized, HasLink, IsStepAt, LiesBelow, MeetsBadPage, Walks, link_of, no_ref}
-use Rattle.tw_skiplist.specs.Reading.Walks.{here, on}
+use Rattle.tw_skiplist.specs.Keeping.{KeepsStep, KeepsSteps, Place, fields_at, link_to, links_at, links_to, place_of}
+use Rattle.tw_skiplist.specs.StepBytes.{stream}
+use Rattle.tw_skiplist.specs.StepPages.{AllSized, HasLink, IsStepAt, LiesBelow, link_of, no_ref}
+use Rattle.tw_skiplist.specs.StepWalks.{MeetsBadPage, Walks}
+use Rattle.tw_skiplist.specs.StepWalks.Walks.{here, on}
 use Rattle.tw_skiplist.proofs.Decode.{AllSized-push, fields_read, links_read_all}
 
 -- ---- the stream of a step's events
@@ -131,7 +132,7 @@ module _ (dig : List ℕ → List ℕ) (size : (text : List ℕ) → length (dig
           );
         }
 
-    kept_next : (k : ℕ) → k < length h.steps → IsStepAt (dig empty_tree_text) ps (page (suc k)) (suc k) (fields_at dig h places (suc k)) (links_at dig h places (suc k))
+    kept_next : (k : ℕ) → k < length h.steps → IsStepAt ps (page (suc k)) (suc k) (fields_at dig h places (suc k)) (links_at dig h places (suc k))
     kept_next k l =
         let s = kept.steps k l in
         record {
@@ -142,42 +143,42 @@ module _ (dig : List ℕ → List ℕ) (size : (text : List ℕ) → length (dig
             link_count = length-links_to (suc k) (suc (top_level (suc k)));
             widths = record {
               event_root = length-event_root dig size (events_at h (suc k));
-              archive = size empty_tree_text;
+              archive = tree_label-size dig size (tree h (suc k));
               auth = auth-size dig size h (suc k);
               each_link = AllSized-links_to (suc k) (suc (top_level (suc k)));
             };
             field_rules = record {
-              count = s.limits.count;
-              size = omega (arith, length-stream (events_at h (suc k)), s.limits.count, s.limits.bytes);
+              count = s.limits.are.count;
+              size = omega (arith, length-stream (events_at h (suc k)), s.limits.are.count, s.limits.fit);
               none = (s.stream.none, no_bytes k s);
               first = first_below k s;
-              archive = refl;
+              archive = omega (arith, s.low);
             };
             link_rules = λ level under. link_rules k level l (omega (arith, under, length-links_to (suc k) (suc (top_level (suc k)))));
           };
         }
 
     -- a step's page is the page of that step
-    pub kept_page : (i : ℕ) → 0 < i → i ≤ length h.steps → IsStepAt (dig empty_tree_text) ps (page i) i (fields_at dig h places i) (links_at dig h places i)
+    pub kept_page : (i : ℕ) → 0 < i → i ≤ length h.steps → IsStepAt ps (page i) i (fields_at dig h places i) (links_at dig h places i)
     kept_page zero p l = absurd (omega arith)
     kept_page (suc k) p l = kept_next k (omega arith)
 
     -- and of no other fields and links
-    module _ (i : ℕ) (some : 0 < i) (within : i ≤ length h.steps) (f : StepFields) (links : List StepRef) (is : IsStepAt (dig empty_tree_text) ps (page i) i f links) where
+    module _ (i : ℕ) (some : 0 < i) (within : i ≤ length h.steps) (f : StepFields) (links : List StepRef) (is : IsStepAt ps (page i) i f links) where
       fits : page i < 2 ^ 64
       fits = omega (arith, small_page i within)
 
       pub fields_are : f ≡ fields_at dig h places i
-      fields_are = sym (fields_read _ (page i) i f links _ fits is.is) ∙ fields_read _ (page i) i _ _ _ fits (kept_page i some within).is
+      fields_are = sym (fields_read (page i) i f links _ fits is.is) ∙ fields_read (page i) i _ _ _ fits (kept_page i some within).is
 
       pub links_are : links ≡ links_at dig h places i
-      links_are = sym (links_read_all _ (page i) i f links _ fits is.is) ∙ links_read_all _ (page i) i _ _ _ fits (kept_page i some within).is
+      links_are = sym (links_read_all (page i) i f links _ fits is.is) ∙ links_read_all (page i) i _ _ _ fits (kept_page i some within).is
 
     -- where a link of the page leads
     pub link_leads : (link next : StepRef) (i level : ℕ) → 0 < i → i ≤ length h.steps → level ≤ top_level i → link ≡ link_to dig h places i
-        → HasLink (dig empty_tree_text) ps link.page i level next → next ≡ link_to dig h places (i - 2 ^ level)
+        → HasLink ps link.page i level next → next ≡ link_to dig h places (i - 2 ^ level)
     link_leads link next i level some within fine link_is has =
-        let is = subst (λ (k : StepRef). IsStepAt (dig empty_tree_text) ps k.page i has.fields has.links) link_is has.is in
+        let is = subst (λ (k : StepRef). IsStepAt ps k.page i has.fields has.links) link_is has.is in
         has.next_is ∙ ap (λ (ls : List StepRef). link_of ls level) (links_are i some within has.fields has.links is)
         ∙ get_or-links_to no_ref i (suc (top_level i)) level (omega (arith, fine))
 
@@ -188,7 +189,7 @@ module _ (dig : List ℕ → List ℕ) (size : (text : List ℕ) → length (dig
       pub high : at ≤ from
 
     pub walk_leads : (first : StepRef) (from to : ℕ) (link : StepRef) (at : ℕ) → to ≤ from → from ≤ length h.steps → first ≡ link_to dig h places from
-        → Walks (dig empty_tree_text) ps first from to link at → Leads from to link at
+        → Walks ps first from to link at → Leads from to link at
     walk_leads first from to _ _ order within first_is here = record { link_is = first_is; low = order; high = omega arith }
     walk_leads first from to _ _ order within first_is (on link at next walks under has) =
         let so_far = walk_leads first from to link at order within first_is walks in
@@ -200,9 +201,9 @@ module _ (dig : List ℕ → List ℕ) (size : (text : List ℕ) → length (dig
 
     -- a walk meets no bad page
     pub no_bad_page : (first : StepRef) (from to page : ℕ) → to ≤ from → from ≤ length h.steps → first ≡ link_to dig h places from
-        → MeetsBadPage (dig empty_tree_text) ps first from to page → ⊥
+        → MeetsBadPage ps first from to page → ⊥
     no_bad_page first from to page order within first_is meets =
         let leads = walk_leads first from to meets.link meets.at order within first_is meets.walks in
         let is = kept_page meets.at meets.recorded (omega (arith, leads.high, within)) in
         meets.bad (fields_at dig h places meets.at) (links_at dig h places meets.at)
-        (subst (λ (k : StepRef). IsStepAt (dig empty_tree_text) ps k.page meets.at (fields_at dig h places meets.at) (links_at dig h places meets.at)) (sym leads.link_is) is)
+        (subst (λ (k : StepRef). IsStepAt ps k.page meets.at (fields_at dig h places meets.at) (links_at dig h places meets.at)) (sym leads.link_is) is)

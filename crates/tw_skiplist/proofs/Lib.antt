@@ -13,3 +13,4 @@ pub mod Shapes
 pub mod Sounding
 pub mod Spelling
 pub mod Streams
+pub mod EventHistories

@@ -5,17 +5,19 @@ use Rattle.std.proofs.lemmas.Bool.{cases_lt}
 use Rattle.std.proofs.lemmas.List.{ext_get_or, take_all}
 use Rattle.std.proofs.lemmas.Option.{get_or_from_slice_get}
 use Rattle.tw_disk.specs.Image.{Image}
-use Rattle.tw_base.specs.History.{History, events_at, step_at}
-use Rattle.tw_base.specs.Texts.{empty_tree_text}
+use Rattle.tw_base.specs.History.{History, events_at, root_of, step_at}
 use Rattle.tw_base.specs.Levels.{top_level}
 use Rattle.tw_skiplist.specs.declared.head.Head.{Head}
 use Rattle.tw_skiplist.specs.declared.head.StepRef.{StepRef}
 use Rattle.tw_skiplist.specs.declared.fields.StepFields.{StepFields}
-use Rattle.tw_skiplist.specs.Bytes.{piece, stream}
-use Rattle.tw_skiplist.specs.Keeping.{Keeps, KeepsSteps, KeepsStream, Place, event_step, fields_at, links_at, place_of}
-use Rattle.tw_skiplist.specs.Reading.{IsStepAt, link_of, no_ref}
+use Rattle.tw_skiplist.specs.Keeping.{event_step}
+use Rattle.tw_skiplist.specs.Keeping.{Keeps, KeepsSteps, KeepsStream, Place, fields_at, links_at, place_of}
+use Rattle.tw_skiplist.specs.StepBytes.{piece, stream}
+use Rattle.tw_skiplist.specs.StepPages.{IsStepAt, link_of, no_ref}
+use Rattle.tw_skiplist.proofs.EventHistories.{roots_none}
 use Rattle.tw_skiplist.proofs.Kept.{fields_are, get_or-links_to, kept_page, links_are}
 use Rattle.tw_skiplist.proofs.Spelling.{piece_read, spells_one, take_on}
+use Rattle.tw_skiplist.specs.declared.limits.TheConstants.{MOST_PIECE_BYTES}
 
 -- ---- a stream is known by its pieces
 
@@ -25,28 +27,28 @@ past zero (x ∷ xs) l = absurd (omega arith)
 past (suc n) [] l = refl
 past (suc n) (x ∷ xs) l = past n xs (omega arith)
 
-same_pieces : (s t : List ℕ) → length s ≡ length t → ((number : ℕ) → 4085 * number < length s → piece s number ≡ piece t number) → (count : ℕ) → take (4085 * count) s ≡ take (4085 * count) t
+same_pieces : (s t : List ℕ) → length s ≡ length t → ((number : ℕ) → MOST_PIECE_BYTES * number < length s → piece s number ≡ piece t number) → (count : ℕ) → take (MOST_PIECE_BYTES * count) s ≡ take (MOST_PIECE_BYTES * count) t
 same_pieces s t size same zero = refl
 same_pieces s t size same (suc number) =
-    let e : 4085 * number + 4085 ≡ 4085 * suc number = omega arith in
-    let one : piece s number ≡ piece t number = elim (cases_lt (4085 * number) (length s)) [
+    let e : MOST_PIECE_BYTES * number + MOST_PIECE_BYTES ≡ MOST_PIECE_BYTES * suc number = omega arith in
+    let one : piece s number ≡ piece t number = elim (cases_lt (MOST_PIECE_BYTES * number) (length s)) [
       | inl less ↦ same number less
-      | inr more ↦ ap (take 4085) (past (4085 * number) s more ∙ sym (past (4085 * number) t (omega (arith, more, size))))
+      | inr more ↦ ap (take MOST_PIECE_BYTES) (past (MOST_PIECE_BYTES * number) s more ∙ sym (past (MOST_PIECE_BYTES * number) t (omega (arith, more, size))))
     ] in
-    ap (λ (n : ℕ). take n s) (sym e) ∙ sym (take_on (4085 * number) 4085 s)
+    ap (λ (n : ℕ). take n s) (sym e) ∙ sym (take_on (MOST_PIECE_BYTES * number) MOST_PIECE_BYTES s)
     ∙ (λ j. same_pieces s t size same number j ++ one j)
-    ∙ take_on (4085 * number) 4085 t ∙ ap (λ (n : ℕ). take n t) e
+    ∙ take_on (MOST_PIECE_BYTES * number) MOST_PIECE_BYTES t ∙ ap (λ (n : ℕ). take n t) e
 
 same_stream : (ps : Image) (step first page : ℕ) (s t : List ℕ) → length s ≡ length t → KeepsStream ps step first page s → KeepsStream ps step first page t → s ≡ t
 same_stream ps step first page s t size one two =
-    let each = λ (number : ℕ) (l : 4085 * number < length s).
+    let each = λ (number : ℕ) (l : MOST_PIECE_BYTES * number < length s).
     let n : ℕ = length (piece s number) in
-    let sizes : length (piece t number) ≡ n = length-take 4085 (drop (4085 * number) t)
-    ∙ (let e : min 4085 (length (drop (4085 * number) t)) ≡ min 4085 (length (drop (4085 * number) s)) = omega (arith, length-drop (4085 * number) s, length-drop (4085 * number) t, size) in e)
-    ∙ sym (length-take 4085 (drop (4085 * number) s)) in
+    let sizes : length (piece t number) ≡ n = length-take MOST_PIECE_BYTES (drop (MOST_PIECE_BYTES * number) t)
+    ∙ (let e : min MOST_PIECE_BYTES (length (drop (MOST_PIECE_BYTES * number) t)) ≡ min MOST_PIECE_BYTES (length (drop (MOST_PIECE_BYTES * number) s)) = omega (arith, length-drop (MOST_PIECE_BYTES * number) s, length-drop (MOST_PIECE_BYTES * number) t, size) in e)
+    ∙ sym (length-take MOST_PIECE_BYTES (drop (MOST_PIECE_BYTES * number) s)) in
     let is : piece s number ≡ piece t number =
     sym (piece_read step number n _ (piece s number) (one.pieces number l) refl) ∙ piece_read step number n _ (piece t number) (two.pieces number (omega (arith, l, size))) sizes in is in
-    sym (take_all (4085 * length s) s (omega arith)) ∙ same_pieces s t size each (length s) ∙ take_all (4085 * length s) t (omega (arith, size))
+    sym (take_all (MOST_PIECE_BYTES * length s) s (omega arith)) ∙ same_pieces s t size each (length s) ∙ take_all (MOST_PIECE_BYTES * length s) t (omega (arith, size))
 
 -- ---- two histories on the same pages
 
@@ -55,8 +57,8 @@ module _ (dig : List ℕ → List ℕ) (size : (text : List ℕ) → length (dig
     (last : (place_of places n).page ≡ (place_of others n).page) where
   -- where the pages of a step are the same, so are its fields and links
   module _ (k : ℕ) (l : k < n) (same : (place_of places (suc k)).page ≡ (place_of others (suc k)).page) where
-    own : IsStepAt (dig empty_tree_text) ps (place_of places (suc k)).page (suc k) (fields_at dig g others (suc k)) (links_at dig g others (suc k))
-    own = subst (λ (p : ℕ). IsStepAt (dig empty_tree_text) ps p (suc k) (fields_at dig g others (suc k)) (links_at dig g others (suc k))) (sym same) (kept_page dig size g others ps kept_too (suc k) (omega arith) (omega (arith, l, n_is_too)))
+    own : IsStepAt ps (place_of places (suc k)).page (suc k) (fields_at dig g others (suc k)) (links_at dig g others (suc k))
+    own = subst (λ (p : ℕ). IsStepAt ps p (suc k) (fields_at dig g others (suc k)) (links_at dig g others (suc k))) (sym same) (kept_page dig size g others ps kept_too (suc k) (omega arith) (omega (arith, l, n_is_too)))
 
     same_fields : fields_at dig g others (suc k) ≡ fields_at dig h places (suc k)
     same_fields = fields_are dig size h places ps kept (suc k) (omega arith) (omega (arith, l, n_is)) _ _ own
@@ -86,9 +88,12 @@ module _ (dig : List ℕ → List ℕ) (size : (text : List ℕ) → length (dig
         spells_one (stream (events_at g (suc k))) (length (events_at g (suc k))) (events_at h (suc k)) (events_at g (suc k))
         (record { stream_is = streams; count_is = sym counts; limits = one.limits }) (record { stream_is = refl; count_is = refl; limits = two.limits })
 
+    same_root : root_of (step_at h k) ≡ root_of (step_at g k)
+    same_root = roots_none dig ps h places kept k (omega (arith, l, n_is)) ∙ sym (roots_none dig ps g others kept_too k (omega (arith, l, n_is_too)))
+
     same_step : step_at h (suc k) ≡ step_at g (suc k)
     same_step =
-        (kept.steps k (omega (arith, l, n_is))).events_only ∙ ap (λ (es : List (List ℕ)). Some (event_step es)) same_events
+        (kept.steps k (omega (arith, l, n_is))).events_only ∙ (λ j. Some (event_step (same_root j) (same_events j)))
         ∙ sym (kept_too.steps k (omega (arith, l, n_is_too))).events_only
 
   same_pages : (k d : ℕ) → k + d ≡ n → (place_of places k).page ≡ (place_of others k).page
@@ -96,11 +101,11 @@ module _ (dig : List ℕ → List ℕ) (size : (text : List ℕ) → length (dig
   same_pages k (suc d) e = page_before k (omega (arith, e)) (same_pages (suc k) d (omega (arith, e)))
 
   same_steps : h.steps ≡ g.steps
-  same_steps = ext_get_or (event_step []) h.steps g.steps (sym n_is ∙ n_is_too) (λ k l.
+  same_steps = ext_get_or (event_step 0 []) h.steps g.steps (sym n_is ∙ n_is_too) (λ k l.
       let less : k < n = omega (arith, l, n_is) in
       let step = same_step k less (same_pages (suc k) (n - suc k) (omega (arith, less))) in
       let two = (kept_too.steps k (omega (arith, less, n_is_too))).events_only in
-      get_or_from_slice_get h.steps k (event_step (events_at g (suc k))) (event_step []) (step ∙ two) ∙ sym (get_or_from_slice_get g.steps k (event_step (events_at g (suc k))) (event_step []) two))
+      get_or_from_slice_get h.steps k (event_step (root_of (step_at g k)) (events_at g (suc k))) (event_step 0 []) (step ∙ two) ∙ sym (get_or_from_slice_get g.steps k (event_step (root_of (step_at g k)) (events_at g (suc k))) (event_step 0 []) two))
 
   pub same_history : h.name ≡ g.name → h ≡ g
   same_history e = (λ j. record { name = e j; steps = same_steps j })

@@ -4,18 +4,23 @@ use Rattle.std.proofs.lemmas.Bool.{cases_lt}
 use Rattle.std.proofs.lemmas.List.{length_push, get_or_push, get_or_append_left, get_or-append_right}
 use Rattle.std.proofs.lemmas.Nat.{pow_pos}
 use Rattle.tw_disk.specs.Image.{Image, page_at}
-use Rattle.tw_base.specs.Texts.{empty_tree_text}
 use Rattle.tw_base.specs.EventTree.{event_root}
-use Rattle.tw_base.specs.History.{History, Step, events_at, events_of, plus}
+use Rattle.tw_base.specs.History.{History, Step, events_at, events_of, plus, root_of, step_at}
 use Rattle.tw_base.specs.Levels.{top_level}
-use Rattle.tw_base.proofs.Plus.{auth-plus, step_at-new, step_at-plus}
+use Rattle.tw_base.specs.Auth.{tree_label}
+use Rattle.tw_base.proofs.Plus.{auth-plus, step_at-new, step_at-plus, tree-plus}
 use Rattle.tw_skiplist.specs.declared.head.StepRef.{StepRef}
 use Rattle.tw_skiplist.specs.declared.fields.StepFields.{StepFields}
-use Rattle.tw_skiplist.specs.Bytes.{event_bytes, event_pages, piece, step_bytes, stream}
-use Rattle.tw_skiplist.specs.Keeping.{IsWithinLimits, KeepsStep, KeepsSteps, KeepsStream, Place, event_step, fields_at, link_to, links_at, links_to, no_place, place_of}
-use Rattle.tw_skiplist.specs.Links.{IsPieceCount}
+use Rattle.tw_skiplist.specs.Appended.{IsPieceCount}
+use Rattle.tw_base.specs.Limits.{MayRecord}
+use Rattle.tw_base.specs.History.{with_events}
+use Rattle.tw_skiplist.specs.Keeping.{event_step}
+use Rattle.tw_skiplist.specs.Keeping.{KeepsStep, KeepsSteps, KeepsStream, Place, fields_at, link_to, links_at, links_to, no_place, place_of}
+use Rattle.tw_skiplist.specs.StepBytes.{event_page_bytes, event_pages, piece, step_page_bytes, stream}
+use Rattle.tw_skiplist.proofs.EventHistories.{new_events}
 use Rattle.tw_skiplist.proofs.Growing.{KeepsStep-grows, has_bytes}
 use Rattle.tw_skiplist.proofs.Streams.{length-event_pages, page_at-event_pages}
+use Rattle.tw_skiplist.specs.declared.limits.TheConstants.{MOST_PIECE_BYTES}
 
 module _ (dig : List ℕ → List ℕ) (h : History) (places : List Place) (s : Step) (place : Place) (count : length places ≡ suc (length h.steps)) where
   abbrev longer : History
@@ -52,7 +57,7 @@ module _ (dig : List ℕ → List ℕ) (h : History) (places : List Place) (s : 
         count = length (events j);
         stream = record { page = (here j).first; size = length (stream (events j)) };
         event_root = event_root dig (events j);
-        archive = dig empty_tree_text;
+        archive = record { page = 0; label = tree_label dig (tree-plus h s i l j) };
         auth = label j;
       })
 
@@ -61,29 +66,33 @@ module _ (dig : List ℕ → List ℕ) (h : History) (places : List Place) (s : 
       let here : place_of places (suc i) ≡ place_of more (suc i) = sym (place_of-plus (suc i) l) in
       let before : place_of places i ≡ place_of more i = sym (place_of-plus i (omega (arith, l))) in
       let events : events_at h (suc i) ≡ events_at longer (suc i) = sym (events_at-plus (suc i) l) in
+      let root : root_of (step_at h i) ≡ root_of (step_at longer i) = ap root_of (sym (step_at-plus h s i (omega (arith, l)))) in
       record {
-        events_only = step_at-plus h s (suc i) l ∙ k.events_only ∙ ap (λ (es : List (List ℕ)). Some (event_step es)) events;
-        limits = subst IsWithinLimits events k.limits;
+        events_only = step_at-plus h s (suc i) l ∙ k.events_only ∙ (λ j. Some (event_step (root j) (events j)));
+        limits = subst MayRecord events k.limits;
         low = subst (λ (p : Place). 4 ≤ p.page) here k.low;
         rising = subst (λ (p : Place). p.page < (place_of more (suc i)).page) before (subst (λ (p : Place). (place_of places i).page < p.page) here k.rising);
         below = subst (λ (p : Place). p.page < 4 + length pages) here k.below;
         small = subst (λ (p : Place). p.page < 2 ^ 48) here k.small;
         bytes = ap (λ (p : Place). page_at pages (p.page - 4)) (sym here) ∙ k.bytes
-            ∙ (λ j. step_bytes (suc i) (sym (fields_at-plus (suc i) l) j) (sym (links_to-plus (suc i) (suc (top_level (suc i))) (omega (arith, l))) j));
+            ∙ (λ j. step_page_bytes (suc i) (sym (fields_at-plus (suc i) l) j) (sym (links_to-plus (suc i) (suc (top_level (suc i))) (omega (arith, l))) j));
         stream = subst (λ (p : Place). KeepsStream pages (suc i) p.first p.page (stream (events_at longer (suc i)))) here
             (subst (λ (es : List (List ℕ)). KeepsStream pages (suc i) (place_of places (suc i)).first (place_of places (suc i)).page (stream es)) events k.stream);
       }
 
 -- one more step of events, with its event pages and its step page
 module _ (dig : List ℕ → List ℕ) (pages : Image) (h : History) (places : List Place) (events : List (List ℕ)) (kept : KeepsSteps dig pages h places)
-    (short : length h.steps + 1 < 2 ^ 40) (limits : IsWithinLimits events) (count first page : ℕ) (pieces : IsPieceCount (length (stream events)) count)
+    (short : length h.steps + 1 < 2 ^ 40) (limits : MayRecord events) (count first page : ℕ) (pieces : IsPieceCount (length (stream events)) count)
     (none : length (stream events) ≡ 0 → first ≡ 0) (some : 0 < length (stream events) → first ≡ 4 + length pages)
     (page_is : page ≡ 4 + length pages + count) (small : page < 2 ^ 48) (rises : (place_of places (length h.steps)).page < page) where
   abbrev n : ℕ
   n = length h.steps
 
   abbrev new_history : History
-  new_history = plus h (event_step events)
+  new_history = with_events h events
+
+  abbrev added : Step
+  added = event_step (root_of (step_at h n)) events
 
   abbrev place : Place
   place = record { page = page; first = first }
@@ -94,12 +103,9 @@ module _ (dig : List ℕ → List ℕ) (pages : Image) (h : History) (places : L
   abbrev event_images : Image
   event_images = event_pages (suc n) (stream events) count
 
-  pub new_events : events_at new_history (suc n) ≡ events
-  new_events = ap events_of (step_at-new h (event_step events))
-
   module _ (f : StepFields) (links : List StepRef) (fields_are : f ≡ fields_at dig new_history new_places (suc n)) (links_are : links ≡ links_at dig h places (suc n)) where
     abbrev last : List ℕ
-    last = step_bytes (suc n) f links
+    last = step_page_bytes (suc n) f links
 
     abbrev grown : Image
     grown = (pages ++ event_images) ++ last ∷ []
@@ -111,14 +117,14 @@ module _ (dig : List ℕ → List ℕ) (pages : Image) (h : History) (places : L
     size = omega (arith, length_push (pages ++ event_images) last, before_last)
 
     -- the event pages in the grown list
-    event_page_at : (number : ℕ) → number < count → page_at grown (length pages + number) ≡ event_bytes (suc n) number (piece (stream events) number)
+    event_page_at : (number : ℕ) → number < count → page_at grown (length pages + number) ≡ event_page_bytes (suc n) number (piece (stream events) number)
     event_page_at number l =
         get_or_append_left (pages ++ event_images) (last ∷ []) [] (length pages + number) (omega (arith, before_last, l))
         ∙ get_or-append_right pages event_images (length pages) (length pages + number) [] refl (omega arith)
         ∙ ap (λ (k : ℕ). page_at event_images k) (let e : length pages + number - length pages ≡ number = omega arith in e)
         ∙ page_at-event_pages (suc n) (stream events) count number l
 
-    within : (number : ℕ) → 4085 * number < length (stream events) → number < count
+    within : (number : ℕ) → MOST_PIECE_BYTES * number < length (stream events) → number < count
     within number l = omega (arith, l, pieces.all)
 
     new_stream : KeepsStream grown (suc n) first page (stream events)
@@ -133,33 +139,34 @@ module _ (dig : List ℕ → List ℕ) (pages : Image) (h : History) (places : L
 
     new_step : KeepsStep dig grown new_history new_places n
     new_step =
-        let here : place ≡ place_of new_places (suc n) = sym (place_of-new dig h places (event_step events) place kept.count) in
-        let before : place_of places n ≡ place_of new_places n = sym (place_of-plus dig h places (event_step events) place kept.count n (omega arith)) in
-        let same : events ≡ events_at new_history (suc n) = sym new_events in
+        let here : place ≡ place_of new_places (suc n) = sym (place_of-new dig h places added place kept.count) in
+        let before : place_of places n ≡ place_of new_places n = sym (place_of-plus dig h places added place kept.count n (omega arith)) in
+        let same : events ≡ events_at new_history (suc n) = sym (new_events h events) in
+        let root : root_of (step_at h n) ≡ root_of (step_at new_history n) = ap root_of (sym (step_at-plus h added n (omega arith))) in
         record {
-          events_only = step_at-new h (event_step events) ∙ ap (λ (es : List (List ℕ)). Some (event_step es)) same;
-          limits = subst IsWithinLimits same limits;
+          events_only = step_at-new h added ∙ (λ j. Some (event_step (root j) (same j)));
+          limits = subst MayRecord same limits;
           low = subst (λ (p : Place). 4 ≤ p.page) here (omega (arith, page_is));
           rising = subst (λ (p : Place). p.page < (place_of new_places (suc n)).page) before (subst (λ (p : Place). (place_of places n).page < p.page) here rises);
           below = subst (λ (p : Place). p.page < 4 + length grown) here (omega (arith, size, page_is));
           small = subst (λ (p : Place). p.page < 2 ^ 48) here small;
           bytes = ap (λ (p : Place). page_at grown (p.page - 4)) (sym here)
               ∙ get_or_push (pages ++ event_images) last [] (page - 4) (omega (arith, before_last, page_is))
-              ∙ (λ j. step_bytes (suc n) (fields_are j) ((links_are ∙ sym (links_to-plus dig h places (event_step events) place kept.count (suc n) (suc (top_level (suc n))) (omega arith))) j));
+              ∙ (λ j. step_page_bytes (suc n) (fields_are j) ((links_are ∙ sym (links_to-plus dig h places added place kept.count (suc n) (suc (top_level (suc n))) (omega arith))) j));
           stream = subst (λ (p : Place). KeepsStream grown (suc n) p.first p.page (stream (events_at new_history (suc n)))) here
               (subst (λ (es : List (List ℕ)). KeepsStream grown (suc n) first page (stream es)) same new_stream);
         }
 
     pub KeepsSteps-plus : KeepsSteps dig grown new_history new_places
     KeepsSteps-plus = record {
-      count = omega (arith, length_push places place, kept.count, length_push h.steps (event_step events));
-      nowhere = place_of-plus dig h places (event_step events) place kept.count 0 (omega arith) ∙ kept.nowhere;
-      short = omega (arith, short, length_push h.steps (event_step events));
+      count = omega (arith, length_push places place, kept.count, length_push h.steps added);
+      nowhere = place_of-plus dig h places added place kept.count 0 (omega arith) ∙ kept.nowhere;
+      short = omega (arith, short, length_push h.steps added);
       steps = λ i l. elim (cases_lt i n) [
-        | inl less ↦ KeepsStep-plus dig h places (event_step events) place kept.count grown i (omega (arith, less))
+        | inl less ↦ KeepsStep-plus dig h places added place kept.count grown i (omega (arith, less))
             (KeepsStep-grows dig (pages ++ event_images) (last ∷ []) h places i (KeepsStep-grows dig pages event_images h places i (kept.steps i less)))
         | inr past ↦ (
-            let e : n ≡ i = omega (arith, l, past, length_push h.steps (event_step events)) in
+            let e : n ≡ i = omega (arith, l, past, length_push h.steps added) in
             subst (λ (k : ℕ). KeepsStep dig grown new_history new_places k) e new_step)
       ];
     }

@@ -16,13 +16,13 @@ use Rattle.tw_base.specs.Levels.{top_level}
 use Rattle.tw_base.specs.Auth.{auths, datum_text_at, link_texts, tree_label}
 use Rattle.tw_base.proofs.Auths.{auths-at}
 use Rattle.tw_base.proofs.Plus.{forest-first}
-use Rattle.tw_skipproof.specs.Making.{labels_at}
+use Rattle.tw_skipproof.specs.HistoryProofs.{labels_at}
 use Rattle.tw_skipproof.specs.declared.path.Link.{Link}
 use Rattle.tw_skiplist.specs.declared.head.StepRef.{StepRef}
 use Rattle.tw_skiplist.specs.declared.info.StepInfo.{StepInfo}
 use Rattle.tw_skiplist.specs.Infos.{IsInfoOf}
 use Rattle.tw_skiplist.specs.Keeping.{KeepsSteps, Place, fields_at, links_at, place_of}
-use Rattle.tw_skiplist.specs.Reading.{HasLink, IsStepAt, link_of, no_ref}
+use Rattle.tw_skiplist.specs.StepPages.{HasLink, IsStepAt, link_of, no_ref}
 use Rattle.tw_skiplist.specs.Records.{HasHop, TellsInfo, info_record, link_record, other_labels, page_datum, page_labels}
 use Rattle.tw_skiplist.proofs.Kept.{fields_are, get_or-links_to, length-links_to, links_are}
 
@@ -87,23 +87,15 @@ module _ (dig : List ℕ → List ℕ) where
       ∙ ap (λ (k : ℕ). remove (page_labels dig step datum links k) without) (let e : suc level ≡ level + 1 = omega arith in e)
 
   -- a hop has its link
-  pub hop_link : (empty : List ℕ) (ps : Image) (page step level : ℕ) (link : Link) (next : StepRef) → HasHop dig empty ps page step level link next → HasLink empty ps page step level next
-  hop_link empty ps page step level link next has = record { fields = has.fields; links = has.links; is = has.is; next_is = has.next_is }
+  pub hop_link : (ps : Image) (page step level : ℕ) (link : Link) (next : StepRef) → HasHop dig ps page step level link next → HasLink ps page step level next
+  hop_link ps page step level link next has = record { fields = has.fields; links = has.links; is = has.is; next_is = has.next_is }
 
   -- ---- of a history that the pages keep
 
   module _ (size : (text : List ℕ) → length (dig text) ≡ 32) (h : History) (places : List Place) (ps : Image) (kept : KeepsSteps dig ps h places) where
-    kept_tree : (k : ℕ) → k < length h.steps → tree h (suc k) ≡ Empty
-    unfolding tree
-    kept_tree k l = ap (λ (o : Option Step). get_or (forest h (suc k)) (root_of o) Empty) (kept.steps k l).events_only ∙ forest-first h (suc k)
-
-    kept_label : (k : ℕ) → k < length h.steps → tree_label dig (tree h (suc k)) ≡ dig empty_tree_text
-    unfolding tree_label
-    kept_label k l = ap (tree_label dig) (kept_tree k l)
-
-    kept_datum : (k : ℕ) → k < length h.steps → page_datum dig (fields_at dig h places (suc k)) ≡ dig (datum_text_at dig h (suc k))
+    kept_datum : (k : ℕ) → page_datum dig (fields_at dig h places (suc k)) ≡ dig (datum_text_at dig h (suc k))
     unfolding datum_text_at
-    kept_datum k l = ap (λ (a : List ℕ). dig (datum_text (event_root dig (events_at h (suc k))) a (length (events_at h (suc k))))) (sym (kept_label k l))
+    kept_datum k = refl
 
     labels_to : (k : ℕ) (datum : List ℕ) (count : ℕ) → count ≤ suc (top_level (suc k))
         → page_labels dig (suc k) datum (links_at dig h places (suc k)) count ≡ map dig (link_texts dig datum (auths dig h k) (suc k) count)
@@ -120,28 +112,28 @@ module _ (dig : List ℕ → List ℕ) where
         → page_labels dig (suc k) (page_datum dig (fields_at dig h places (suc k))) (links_at dig h places (suc k)) (length (links_at dig h places (suc k))) ≡ labels_at dig h (suc k)
     kept_labels k l =
         let before : k ≡ suc k - 1 = omega arith in
-        (λ j. page_labels dig (suc k) (kept_datum k l j) (links_at dig h places (suc k)) (length-links_to dig size h places (suc k) (suc (top_level (suc k))) j))
+        (λ j. page_labels dig (suc k) (kept_datum k j) (links_at dig h places (suc k)) (length-links_to dig size h places (suc k) (suc (top_level (suc k))) j))
         ∙ labels_to k (dig (datum_text_at dig h (suc k))) (suc (top_level (suc k))) (omega arith)
         ∙ ap (λ (n : ℕ). map dig (link_texts dig (dig (datum_text_at dig h (suc k))) (auths dig h n) (suc k) (suc (top_level (suc k))))) before
 
     -- the record of a link is the history's
     pub record_of : (page i level : ℕ) (link : Link) (next : StepRef) → 0 < i → i ≤ length h.steps → page ≡ (place_of places i).page
-        → HasHop dig (dig empty_tree_text) ps page i level link next → (link.datum ≡ dig (datum_text_at dig h i)) × (link.others ≡ remove (labels_at dig h i) level)
+        → HasHop dig ps page i level link next → (link.datum ≡ dig (datum_text_at dig h i)) × (link.others ≡ remove (labels_at dig h i) level)
     record_of page zero level link next some within page_is has = absurd (omega arith)
     record_of page (suc k) level link next some within page_is has =
-        let is = subst (λ (p : ℕ). IsStepAt (dig empty_tree_text) ps p (suc k) has.fields has.links) page_is has.is in
+        let is = subst (λ (p : ℕ). IsStepAt ps p (suc k) has.fields has.links) page_is has.is in
         let f = fields_are dig size h places ps kept (suc k) some within has.fields has.links is in
         let ls = links_are dig size h places ps kept (suc k) some within has.fields has.links is in
         let rec : link ≡ link_record dig (suc k) (fields_at dig h places (suc k)) (links_at dig h places (suc k)) level = has.record_is ∙ (λ j. link_record dig (suc k) (f j) (ls j) level) in (
-          ap (λ (x : Link). x.datum) rec ∙ kept_datum k (omega (arith, within)),
+          ap (λ (x : Link). x.datum) rec ∙ kept_datum k,
           ap (λ (x : Link). x.others) rec ∙ ap (λ (xs : List (List ℕ)). remove xs level) (kept_labels k (omega (arith, within))),
         )
 
     -- what a page tells is the history's
-    pub info_of : (page i : ℕ) (info : StepInfo) → 0 < i → i ≤ length h.steps → page ≡ (place_of places i).page → TellsInfo dig (dig empty_tree_text) ps page i info → IsInfoOf dig ps h i info
+    pub info_of : (page i : ℕ) (info : StepInfo) → 0 < i → i ≤ length h.steps → page ≡ (place_of places i).page → TellsInfo dig ps page i info → IsInfoOf dig ps h i info
     info_of page zero info some within page_is tells = absurd (omega arith)
     info_of page (suc k) info some within page_is tells =
-        let is = subst (λ (p : ℕ). IsStepAt (dig empty_tree_text) ps p (suc k) tells.fields tells.links) page_is tells.is in
+        let is = subst (λ (p : ℕ). IsStepAt ps p (suc k) tells.fields tells.links) page_is tells.is in
         let f = fields_are dig size h places ps kept (suc k) some within tells.fields tells.links is in
         let ls = links_are dig size h places ps kept (suc k) some within tells.fields tells.links is in
         let s = kept.steps k (omega (arith, within)) in
@@ -153,11 +145,12 @@ module _ (dig : List ℕ → List ℕ) where
           short = omega (arith, within, kept.short);
           event_root = refl;
           count = refl;
+          archive = refl;
           auth = refl;
           opening = record {
             binds = record {
               event_root = refl;
-              archive_root = kept_label k (omega (arith, within));
+              archive_root = refl;
               count = refl;
               prev = sym (ap (λ (x : StepRef). x.auth) first);
             };

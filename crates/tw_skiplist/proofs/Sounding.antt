@@ -10,10 +10,14 @@ use Rattle.tw_base.specs.Names.{IsName}
 use Rattle.tw_base.specs.History.{History, Step, Node, entry_at, entry_to, events_at, fresh_of, received, root_of, step_at, thread_of}
 use Rattle.tw_base.specs.Tree.{IsRising, Tree, entries, forest, planted, tree}
 use Rattle.tw_base.specs.Tree.Tree.{Empty}
+use Rattle.tw_base.specs.Rules.{KeepsRule, Rule}
+use Rattle.tw_base.specs.Rules.Rule.{NodesAreKnown, TreesRise, HoldsAllThreads, IsOfAnother, StepsRise, EventsFit}
 use Rattle.tw_base.specs.Sound.{IsSound, IsSoundStep}
 use Rattle.tw_base.proofs.Plus.{forest-first}
 use Rattle.tw_skiplist.specs.declared.head.Head.{Head}
-use Rattle.tw_skiplist.specs.Keeping.{Keeps, KeepsSteps, Place, event_step}
+use Rattle.tw_skiplist.proofs.EventHistories.{roots_none}
+use Rattle.tw_skiplist.specs.Keeping.{event_step}
+use Rattle.tw_skiplist.specs.Keeping.{Keeps, KeepsSteps, Place}
 
 some_tree : (h : History) (i : ℕ) → 0 < length (forest h i)
 unfolding forest
@@ -31,6 +35,9 @@ abbrev thread_entry : ℕ → Option Step → Option Entry
 thread_entry k o = option_and_then (λ t. Some (record { thread = t; archived = k })) (thread_of o)
 
 module _ (dig : List ℕ → List ℕ) (ps : Image) (h : History) (places : List Place) (kept : KeepsSteps dig ps h places) where
+  abbrev step_of : ℕ → Step
+  step_of k = event_step (root_of (step_at h k)) (events_at h (suc k))
+
   entry_none : (k : ℕ) → k < length h.steps → entry_at h (suc k) ≡ None
   entry_none k l = ap (λ (o : Option Step). thread_entry (suc k) o) (kept.steps k l).events_only
 
@@ -41,24 +48,21 @@ module _ (dig : List ℕ → List ℕ) (ps : Image) (h : History) (places : List
 
   tree_empty : (k : ℕ) → k < length h.steps → tree h (suc k) ≡ Empty
   unfolding tree
-  tree_empty k l = ap (λ (o : Option Step). get_or (forest h (suc k)) (root_of o) Empty) (kept.steps k l).events_only ∙ forest-first h (suc k)
+  tree_empty k l = ap (λ (r : ℕ). get_or (forest h (suc k)) r Empty) (roots_none dig ps h places kept (suc k) (omega (arith, l))) ∙ forest-first h (suc k)
 
-  sound_step : (k : ℕ) → k < length h.steps → IsSoundStep h k (event_step (events_at h (suc k)))
-  sound_step k l =
-      let s = kept.steps k l in
-      record {
-        nodes = tt;
-        root = some_tree h (suc k);
-        rising_trees = subst (λ (ts : List Tree). Each (λ t. IsRising (entries t)) ts)
-            (sym (no_new_trees (entry_to h (suc k)) (forest h k) (fresh_of (step_at h (suc k))) (ap fresh_of s.events_only))) tt;
-        all_threads = ap (λ (t : Tree). length (entries t)) (tree_empty k l) ∙ ap (λ (es : List Entry). length es) (sym (received_none (suc k) (omega (arith, l))));
-        not_own = tt;
-        rising_steps = tt;
-        event_bytes = s.limits.bytes;
-        event_count = s.limits.count;
-        event_sizes = s.limits.sizes;
-        thread = tt;
-      }
+  sound_rule : (k : ℕ) → k < length h.steps → (rule : Rule) → KeepsRule h k (step_of k) rule
+  sound_rule k l NodesAreKnown = (tt, omega (arith, some_tree h (suc k), roots_none dig ps h places kept k (omega (arith, l))))
+  sound_rule k l TreesRise =
+      subst (λ (ts : List Tree). Each (λ t. IsRising (entries t)) ts)
+      (sym (no_new_trees (entry_to h (suc k)) (forest h k) (fresh_of (step_at h (suc k))) (ap fresh_of (kept.steps k l).events_only))) tt
+  sound_rule k l HoldsAllThreads =
+      ap (λ (t : Tree). length (entries t)) (tree_empty k l) ∙ ap (λ (es : List Entry). length es) (sym (received_none (suc k) (omega (arith, l))))
+  sound_rule k l IsOfAnother = tt
+  sound_rule k l StepsRise = tt
+  sound_rule k l EventsFit = (kept.steps k l).limits.fit
+
+  sound_step : (k : ℕ) → k < length h.steps → IsSoundStep h k (step_of k)
+  sound_step k l = record { rules = sound_rule k l; limits = (kept.steps k l).limits.are }
 
   step_within : (k : ℕ) (s : Step) → step_at h (suc k) ≡ Some s → k < length h.steps
   step_within k s is = slice_get_within h.steps k s is
@@ -66,9 +70,9 @@ module _ (dig : List ℕ → List ℕ) (ps : Image) (h : History) (places : List
   sound_steps : (k : ℕ) (s : Step) → step_at h (suc k) ≡ Some s → IsSoundStep h k s
   sound_steps k s is =
       let l = step_within k s is in
-      let same : event_step (events_at h (suc k)) ≡ s = let both : Some (event_step (events_at h (suc k))) ≡ Some s = sym (kept.steps k l).events_only ∙ is in cc in
+      let same : step_of k ≡ s = let both : Some (step_of k) ≡ Some s = sym (kept.steps k l).events_only ∙ is in cc in
       subst (λ (x : Step). IsSoundStep h k x) same (sound_step k l)
 
 module _ (dig : List ℕ → List ℕ) where
   pub keeps_sound : (ps : Image) (h : History) (head : Head) → Keeps dig ps h head → IsName h.name → IsSound h
-  keeps_sound ps h head k name = record { name = name; length = k.keeps.short; steps = sound_steps dig ps h k.places k.keeps }
+  keeps_sound ps h head k name = record { name = name; length = omega (arith, k.keeps.short); steps = sound_steps dig ps h k.places k.keeps }

@@ -3,21 +3,32 @@ use Rattle.std.proofs.Common.{◌≡◌, ℕ, suc, zero, ◌+◌, ◌<◌, ◌�
 use Rattle.std.specs.Int.{to_be_bytes, from_be_bytes, w32}
 use Rattle.std.proofs.lemmas.List.{take_at, drop-drop, append-nil}
 use Rattle.std.proofs.lemmas.Nat.{from_be_bytes-to_be_bytes_4}
+use Rattle.tw_base.specs.Bytes.{AreBytes}
+use Rattle.tw_base.specs.declared.limits.TheConstants.{MOST_EVENT_BYTES}
 use Rattle.tw_base.specs.Lists.{Each}
+use Rattle.tw_base.proofs.ByteLemmas.{AreBytes-back, AreBytes-front}
 use Rattle.tw_base.proofs.TextFields.{halves}
-use Rattle.tw_skiplist.specs.Bytes.{event_bytes, stream}
-use Rattle.tw_skiplist.specs.Events.{HasEventAt, IsNoEventAt, SpellsEvents}
+use Rattle.tw_skiplist.specs.Events.{SpellsEvents}
+use Rattle.tw_skiplist.specs.ScanSteps.{HasEventAt, IsNoEventAt}
+use Rattle.tw_skiplist.specs.StepBytes.{event_page_bytes, stream}
 use Rattle.tw_skiplist.proofs.Streams.{stream-append}
 
 abbrev pub AllShort : List (List ℕ) → Type 0
-AllShort events = Each (λ event. length event ≤ 1024) events
+AllShort events = Each (λ event. length event ≤ MOST_EVENT_BYTES) events
 
 -- an event behind its length, and what follows it
-pub event-fields : (a b x y : List ℕ) → length a ≤ 1024 → length b ≤ 1024 → to_be_bytes w32 (length a) ++ (a ++ x) ≡ to_be_bytes w32 (length b) ++ (b ++ y) → (a ≡ b) × (x ≡ y)
+pub event-fields : (a b x y : List ℕ) → length a ≤ MOST_EVENT_BYTES → length b ≤ MOST_EVENT_BYTES → to_be_bytes w32 (length a) ++ (a ++ x) ≡ to_be_bytes w32 (length b) ++ (b ++ y) → (a ≡ b) × (x ≡ y)
 event-fields a b x y p q same =
     let size : length a ≡ length b =
     sym (from_be_bytes-to_be_bytes_4 (length a) (omega arith)) ∙ ap (λ (t : List ℕ). from_be_bytes w32 (take 4 t)) same ∙ from_be_bytes-to_be_bytes_4 (length b) (omega arith) in
     halves a b x y size (ap (drop 4) same)
+
+-- events that bytes spell are lists of bytes
+pub spelled_bytes : (events : List (List ℕ)) → AreBytes (stream events) → Each AreBytes events
+spelled_bytes [] all = tt
+spelled_bytes (e ∷ es) all =
+    let rest = AreBytes-back (to_be_bytes w32 (length e)) (e ++ stream es) all in
+    (AreBytes-front e (stream es) rest, spelled_bytes es (AreBytes-back e (stream es) rest))
 
 -- events that a stream begins with are the first of its events
 pub record Begins (xs es : List (List ℕ)) (rest : List ℕ) : Type 0 where
@@ -41,7 +52,7 @@ length-none (x ∷ xs) e = absurd (omega arith)
 -- a stream spells one list of events of a count at most
 pub spells_one : (bytes : List ℕ) (count : ℕ) (xs es : List (List ℕ)) → SpellsEvents bytes count xs → SpellsEvents bytes count es → xs ≡ es
 spells_one bytes count xs es one two =
-    let on = begins xs es [] one.limits.sizes two.limits.sizes (omega (arith, one.count_is, two.count_is)) (append-nil (stream xs) ∙ one.stream_is ∙ sym two.stream_is) in
+    let on = begins xs es [] one.limits.are.sizes two.limits.are.sizes (omega (arith, one.count_is, two.count_is)) (append-nil (stream xs) ∙ one.stream_is ∙ sym two.stream_is) in
     let none : on.more ≡ [] = length-none on.more (omega (arith, ap (λ (l : List (List ℕ)). length l) on.all, length-append xs on.more, one.count_is, two.count_is)) in
     sym (on.all ∙ ap (λ (m : List (List ℕ)). xs ++ m) none ∙ append-nil xs)
 
@@ -50,7 +61,7 @@ spells_one bytes count xs es one two =
 module _ (bytes : List ℕ) (count at index : ℕ) (events es : List (List ℕ)) (so_far : stream events ≡ take at bytes) (within : at ≤ length bytes) (count_is : length events ≡ index)
     (sizes : AllShort events) (spells : SpellsEvents bytes count es) (more_to_come : index ≤ count) where
   pub rest_of : Begins events es (drop at bytes)
-  rest_of = begins events es (drop at bytes) sizes spells.limits.sizes (omega (arith, count_is, spells.count_is, more_to_come))
+  rest_of = begins events es (drop at bytes) sizes spells.limits.are.sizes (omega (arith, count_is, spells.count_is, more_to_come))
       (ap (λ (t : List ℕ). t ++ drop at bytes) so_far ∙ take_drop at bytes ∙ sym spells.stream_is)
     where
       take_drop : (n : ℕ) (xs : List ℕ) → take n xs ++ drop n xs ≡ xs
@@ -61,7 +72,7 @@ module _ (bytes : List ℕ) (count at index : ℕ) (events es : List (List ℕ))
   -- where no event stands although some are to come, the bytes spell none
   pub no_event : index < count → IsNoEventAt bytes at → ⊥
   no_event less none = first rest_of.more (omega (arith, less, count_is, spells.count_is, ap (λ (l : List (List ℕ)). length l) rest_of.all, length-append events rest_of.more)) rest_of.rest_is
-      (each_of events rest_of.more (subst AllShort rest_of.all spells.limits.sizes))
+      (each_of events rest_of.more (subst AllShort rest_of.all spells.limits.are.sizes))
     where
       each_of : (xs ys : List (List ℕ)) → AllShort (xs ++ ys) → AllShort ys
       each_of [] ys all = all
@@ -80,7 +91,7 @@ module _ (bytes : List ℕ) (count at index : ℕ) (events es : List (List ℕ))
 
 -- ---- one more event
 
-Each-push : (xs : List (List ℕ)) (x : List ℕ) → AllShort xs → length x ≤ 1024 → AllShort (xs ++ x ∷ [])
+Each-push : (xs : List (List ℕ)) (x : List ℕ) → AllShort xs → length x ≤ MOST_EVENT_BYTES → AllShort (xs ++ x ∷ [])
 Each-push [] x all short = (short, tt)
 Each-push (y ∷ xs) x all short = (all.0, Each-push xs x all.1 short)
 
@@ -112,6 +123,6 @@ module _ (bytes : List ℕ) (at size : ℕ) (events : List (List ℕ)) (event : 
 
 -- ---- the piece that stands in an event page
 
-pub piece_read : (step number count : ℕ) (page bytes : List ℕ) → page ≡ event_bytes step number bytes → length bytes ≡ count → take count (drop 11 page) ≡ bytes
-unfolding event_bytes
+pub piece_read : (step number count : ℕ) (page bytes : List ℕ) → page ≡ event_page_bytes step number bytes → length bytes ≡ count → take count (drop 11 page) ≡ bytes
+unfolding event_page_bytes
 piece_read step number count page bytes is size = ap (λ (p : List ℕ). take count (drop 11 p)) is ∙ take_at bytes _ count size

@@ -7,7 +7,8 @@ use Rattle.std.proofs.lemmas.Bool.{cases_lt}
 use Rattle.std.proofs.lemmas.List.{take_all, take_more, length_push, get_or_push, get_or_append_left, append-nil}
 use Rattle.tw_base.specs.Lists.{Each}
 use Rattle.tw_disk.specs.Image.{Image, page_at}
-use Rattle.tw_skiplist.specs.Bytes.{event_bytes, event_pages, piece, stream}
+use Rattle.tw_skiplist.specs.StepBytes.{event_page_bytes, event_pages, piece, stream}
+use Rattle.tw_skiplist.specs.declared.limits.TheConstants.{MOST_PIECE_BYTES}
 
 pub Each-at : (P : List ℕ → Type 0) (xs : List (List ℕ)) (i : ℕ) (d : List ℕ) → Each P xs → i < length xs → P (get_or xs i d)
 Each-at P [] i d all l = absurd (omega arith)
@@ -27,20 +28,20 @@ stream-more xs i d l =
     ∙ ap (λ (t : List ℕ). stream (take i xs) ++ (to_be_bytes w32 (length (get_or xs i d)) ++ t)) (append-nil (get_or xs i d))
 
 -- a piece is cut off at the stream's end
-pub taken : (xs : List ℕ) (n : ℕ) → n ≡ length xs → take (min n 4085) xs ≡ take 4085 xs
+pub taken : (xs : List ℕ) (n : ℕ) → n ≡ length xs → take (min n MOST_PIECE_BYTES) xs ≡ take MOST_PIECE_BYTES xs
 taken xs n is =
-    elim (cases_lt 4085 n) [
-      | inl more ↦ ap (λ (k : ℕ). take k xs) (let e : min n 4085 ≡ 4085 = omega arith in e)
+    elim (cases_lt MOST_PIECE_BYTES n) [
+      | inl more ↦ ap (λ (k : ℕ). take k xs) (let e : min n MOST_PIECE_BYTES ≡ MOST_PIECE_BYTES = omega arith in e)
       | inr less ↦ (
-          let e : min n 4085 ≡ n = omega arith in
-          ap (λ (k : ℕ). take k xs) e ∙ take_all n xs (omega (arith, is)) ∙ sym (take_all 4085 xs (omega (arith, is, less))))
+          let e : min n MOST_PIECE_BYTES ≡ n = omega arith in
+          ap (λ (k : ℕ). take k xs) e ∙ take_all n xs (omega (arith, is)) ∙ sym (take_all MOST_PIECE_BYTES xs (omega (arith, is, less))))
     ]
 
 pub event_pages-first : (step : ℕ) (bytes : List ℕ) → event_pages step bytes 0 ≡ []
 unfolding event_pages
 event_pages-first step bytes = refl
 
-pub event_pages-more : (step : ℕ) (bytes : List ℕ) (number : ℕ) → event_pages step bytes (number + 1) ≡ event_pages step bytes number ++ event_bytes step number (piece bytes number) ∷ []
+pub event_pages-more : (step : ℕ) (bytes : List ℕ) (number : ℕ) → event_pages step bytes (number + 1) ≡ event_pages step bytes number ++ event_page_bytes step number (piece bytes number) ∷ []
 unfolding event_pages
 event_pages-more step bytes number = ap (event_pages step bytes) (let e : number + 1 ≡ suc number = omega arith in e)
 
@@ -50,7 +51,7 @@ length-event_pages step bytes zero = refl
 length-event_pages step bytes (suc number) = length_push (event_pages step bytes number) _ ∙ omega (arith, length-event_pages step bytes number)
 
 -- the event page of a number
-pub page_at-event_pages : (step : ℕ) (bytes : List ℕ) (count number : ℕ) → number < count → page_at (event_pages step bytes count) number ≡ event_bytes step number (piece bytes number)
+pub page_at-event_pages : (step : ℕ) (bytes : List ℕ) (count number : ℕ) → number < count → page_at (event_pages step bytes count) number ≡ event_page_bytes step number (piece bytes number)
 unfolding event_pages
 page_at-event_pages step bytes zero number l = absurd (omega arith)
 page_at-event_pages step bytes (suc last) number l =
@@ -58,8 +59,8 @@ page_at-event_pages step bytes (suc last) number l =
       | inl less ↦ get_or_append_left (event_pages step bytes last) _ [] number (omega (arith, less, length-event_pages step bytes last)) ∙ page_at-event_pages step bytes last number less
       | inr more ↦ (
           let e : last ≡ number = omega (arith, l, more) in
-          get_or_push (event_pages step bytes last) (event_bytes step last (piece bytes last)) [] number (length-event_pages step bytes last ∙ e)
-          ∙ ap (λ (k : ℕ). event_bytes step k (piece bytes k)) e)
+          get_or_push (event_pages step bytes last) (event_page_bytes step last (piece bytes last)) [] number (length-event_pages step bytes last ∙ e)
+          ∙ ap (λ (k : ℕ). event_page_bytes step k (piece bytes k)) e)
     ]
 
 -- ---- pages that may be told, with more behind them

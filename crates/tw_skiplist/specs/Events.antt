@@ -1,21 +1,21 @@
 -- Reading the events of a step from its event pages.
-use Rattle.std.specs.Prelude.{◌≡◌, ℕ, suc, zero, ◌+◌, ◌-◌, ◌*◌, ◌<◌, ◌≤◌, ◌⊎◌, min, List, [], ◌++◌, length, take, drop}
-use Rattle.std.specs.Int.{to_be_bytes, w32}
+use Rattle.std.specs.Prelude.{◌≡◌, ℕ, suc, zero, ◌+◌, ◌-◌, ◌*◌, ◌<◌, ◌≤◌, ◌⊎◌, min, List, [], ◌++◌, length}
 use Rattle.tw_disk.specs.Image.{Image, page_at}
 use Rattle.tw_skiplist.specs.declared.info.StepInfo.{StepInfo}
-use Rattle.tw_skiplist.specs.Bytes.{event_bytes, stream}
-use Rattle.tw_skiplist.specs.Keeping.{IsWithinLimits}
+use Rattle.tw_skiplist.specs.declared.limits.TheConstants.{MOST_PIECE_BYTES, MOST_STREAM_BYTES}
+use Rattle.tw_base.specs.Limits.{MayRecord}
+use Rattle.tw_skiplist.specs.StepBytes.{event_page_bytes, stream}
 
 -- how many bytes of a stream of this size the event page of this number has
 abbrev pub piece_size : (size number : ℕ) → ℕ
-piece_size size number = min (size - 4085 * number) 4085
+piece_size size number = min (size - MOST_PIECE_BYTES * number) MOST_PIECE_BYTES
 
 -- the page of this number is one of the pages, and the event page of that number of the step, with this piece of a stream of
 -- this size
 pub record IsEventPageAt (pages : Image) (page step number size : ℕ) (bytes : List ℕ) : Type 0 where
   pub low : 4 ≤ page
   pub below : page < 4 + length pages
-  pub bytes_are : page_at pages (page - 4) ≡ event_bytes step number bytes
+  pub bytes_are : page_at pages (page - 4) ≡ event_page_bytes step number bytes
   pub size_is : length bytes ≡ piece_size size number
 
 abbrev pub IsNoEventPageAt : Image → (page step number size : ℕ) → Type 0
@@ -24,14 +24,14 @@ IsNoEventPageAt pages page step number size = (bytes : List ℕ) → IsEventPage
 -- the event pages from this one on, in their order, have these bytes, up to the number told
 pub data HasPieces (pages : Image) (first step size : ℕ) : (number : ℕ) → List ℕ → Type 0 where
   none : HasPieces pages first step size 0 []
-  more : (number : ℕ) (before bytes : List ℕ) → HasPieces pages first step size number before → 4085 * number < size
+  more : (number : ℕ) (before bytes : List ℕ) → HasPieces pages first step size number before → MOST_PIECE_BYTES * number < size
       → IsEventPageAt pages (first + number) step number size bytes → HasPieces pages first step size (suc number) (before ++ bytes)
 
 -- the events are spelled by the bytes, as many as the count, within the limits of a step
 pub record SpellsEvents (bytes : List ℕ) (count : ℕ) (events : List (List ℕ)) : Type 0 where
   pub stream_is : stream events ≡ bytes
   pub count_is : length events ≡ count
-  pub limits : IsWithinLimits events
+  pub limits : MayRecord events
 
 -- ---- the events of an info
 
@@ -39,7 +39,7 @@ pub record SpellsEvents (bytes : List ℕ) (count : ℕ) (events : List (List �
 pub record HasStream (pages : Image) (info : StepInfo) (bytes : List ℕ) : Type 0 where
   pub number : ℕ
   pub pieces : HasPieces pages info.stream.page info.step info.stream.size number bytes
-  pub all : info.stream.size ≤ 4085 * number
+  pub all : info.stream.size ≤ MOST_PIECE_BYTES * number
 
 -- the event pages have a stream that spells these events
 pub record FindsEvents (pages : Image) (info : StepInfo) (events : List (List ℕ)) : Type 0 where
@@ -52,7 +52,7 @@ pub record MeetsBadPiece (pages : Image) (info : StepInfo) (page : ℕ) : Type 0
   pub number : ℕ
   pub before : List ℕ
   pub pieces : HasPieces pages info.stream.page info.step info.stream.size number before
-  pub needed : 4085 * number < info.stream.size
+  pub needed : MOST_PIECE_BYTES * number < info.stream.size
   pub page_is : page ≡ info.stream.page + number
   pub bad : IsNoEventPageAt pages (info.stream.page + number) info.step number info.stream.size
 
@@ -71,15 +71,4 @@ pub record MisspellsEvents (pages : Image) (info : StepInfo) (page : ℕ) : Type
 -- why this page is told: the step's page has a stream longer than any step's, an event page isn't of its kind, or the stream
 -- doesn't spell the events
 abbrev pub FindsNoEvents : Image → StepInfo → (page : ℕ) → Type 0
-FindsNoEvents pages info page = ((69632 < info.stream.size) × (page ≡ info.page)) ⊎ MeetsBadPiece pages info page ⊎ MisspellsEvents pages info page
-
--- ---- an event in a stream
-
--- an event of this size, at most 1,024 bytes, stands at the place behind its length
-pub record HasEventAt (bytes : List ℕ) (at size : ℕ) : Type 0 where
-  pub few : size ≤ 1024
-  pub room : at + 4 + size ≤ length bytes
-  pub length_is : take 4 (drop at bytes) ≡ to_be_bytes w32 size
-
-abbrev pub IsNoEventAt : (bytes : List ℕ) → (at : ℕ) → Type 0
-IsNoEventAt bytes at = (event rest : List ℕ) → drop at bytes ≡ to_be_bytes w32 (length event) ++ (event ++ rest) → length event ≤ 1024 → ⊥
+FindsNoEvents pages info page = ((MOST_STREAM_BYTES < info.stream.size) × (page ≡ info.page)) ⊎ MeetsBadPiece pages info page ⊎ MisspellsEvents pages info page

@@ -4,11 +4,12 @@ use Rattle.tw_disk.specs.Image.{Image}
 use Rattle.tw_base.specs.EventTree.{event_root}
 use Rattle.tw_base.specs.History.{History, events_at}
 use Rattle.tw_base.specs.Auth.{auth}
-use Rattle.tw_skipproof.specs.Making.{IsOpeningOf}
+use Rattle.tw_skipproof.specs.HistoryProofs.{IsOpeningOf}
 use Rattle.tw_skiplist.specs.declared.head.Head.{Head}
 use Rattle.tw_skiplist.specs.declared.info.StepInfo.{StepInfo}
-use Rattle.tw_skiplist.specs.Bytes.{stream}
-use Rattle.tw_skiplist.specs.Keeping.{IsWithinLimits, Keeps, KeepsStream}
+use Rattle.tw_base.specs.Limits.{MayRecord}
+use Rattle.tw_skiplist.specs.StepBytes.{stream}
+use Rattle.tw_skiplist.specs.Keeping.{Keeps, KeepsStream, archive_at}
 
 -- the info is of this step of the history, and the pages keep the step's events where it says
 pub record IsInfoOf (dig : List ℕ → List ℕ) (pages : Image) (h : History) (i : ℕ) (info : StepInfo) : Type 0 where
@@ -16,9 +17,10 @@ pub record IsInfoOf (dig : List ℕ → List ℕ) (pages : Image) (h : History) 
   pub short : i < 2 ^ 40
   pub event_root : info.event_root ≡ event_root dig (events_at h i)
   pub count : info.count ≡ length (events_at h i)
+  pub archive : info.archive ≡ archive_at dig h i
   pub auth : info.auth ≡ auth dig h i
   pub opening : IsOpeningOf dig h i info.opening
-  pub limits : IsWithinLimits (events_at h i)
+  pub limits : MayRecord (events_at h i)
   pub page_below : info.page < 4 + length pages
   pub stream_size : info.stream.size ≡ length (stream (events_at h i))
   pub stream : KeepsStream pages i info.stream.page info.page (stream (events_at h i))

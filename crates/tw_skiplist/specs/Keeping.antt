@@ -1,29 +1,23 @@
 -- Pages that keep a history of events.
-use Rattle.std.specs.Prelude.{◌≡◌, ℕ, suc, zero, ◌+◌, ◌-◌, ◌*◌, ◌^◌, ◌<◌, ◌≤◌, List, [], ◌∷◌, ◌++◌, length, slice_index_or, sum_by, Some}
+use Rattle.std.specs.Prelude.{◌≡◌, ℕ, suc, zero, ◌+◌, ◌-◌, ◌*◌, ◌^◌, ◌<◌, ◌≤◌, List, [], ◌∷◌, ◌++◌, length, slice_index_or, Some}
 use Rattle.tw_disk.specs.Image.{Image, page_at}
-use Rattle.tw_base.specs.Lists.{Each}
-use Rattle.tw_base.specs.Texts.{empty_tree_text}
+use Rattle.tw_base.specs.declared.content.Content.TheVariants.{Events}
+use Rattle.tw_base.specs.declared.root.Root.{Root}
 use Rattle.tw_base.specs.EventTree.{event_root}
-use Rattle.tw_base.specs.History.{History, Step, step_at, events_at}
-use Rattle.tw_base.specs.History.Content.{Events}
+use Rattle.tw_base.specs.History.{History, Step, events_at, root_of, step_at}
+use Rattle.tw_base.specs.Limits.{MayRecord}
 use Rattle.tw_base.specs.Levels.{top_level}
-use Rattle.tw_base.specs.Auth.{auth}
+use Rattle.tw_base.specs.Tree.{tree}
+use Rattle.tw_base.specs.Auth.{auth, tree_label}
 use Rattle.tw_skiplist.specs.declared.head.Head.{Head}
 use Rattle.tw_skiplist.specs.declared.head.StepRef.{StepRef}
 use Rattle.tw_skiplist.specs.declared.fields.StepFields.{StepFields}
-use Rattle.tw_skiplist.specs.Bytes.{step_bytes, event_bytes, stream, piece}
+use Rattle.tw_skiplist.specs.declared.limits.TheConstants.{MOST_PIECE_BYTES}
+use Rattle.tw_skiplist.specs.StepBytes.{step_page_bytes, event_page_bytes, stream, piece}
 
--- ---- histories of events
-
--- a step of these events: it adds no node, and the archive stays empty
-abbrev pub event_step : List (List ℕ) → Step
-event_step events = record { content = Events events; fresh = []; root = 0 }
-
--- the limits of the events of a step
-pub record IsWithinLimits (events : List (List ℕ)) : Type 0 where
-  pub count : length events ≤ 1024
-  pub sizes : Each (λ event. length event ≤ 1024) events
-  pub bytes : sum_by (λ event. length event) events ≤ 65536
+-- a step of these events, which adds no node; the archive has this root
+abbrev pub event_step : (root : ℕ) → List (List ℕ) → Step
+event_step root events = record { content = Events events; fresh = []; root = root }
 
 -- ---- where steps are kept
 
@@ -43,10 +37,14 @@ place_of places i = slice_index_or places i no_place
 pub record KeepsStream (pages : Image) (step first page : ℕ) (bytes : List ℕ) : Type 0 where
   pub none : length bytes ≡ 0 → first ≡ 0
   pub low : 0 < length bytes → 4 ≤ first
-  pub below : (number : ℕ) → 4085 * number < length bytes → first + number < page
-  pub pieces : (number : ℕ) → 4085 * number < length bytes → page_at pages (first + number - 4) ≡ event_bytes step number (piece bytes number)
+  pub below : (number : ℕ) → MOST_PIECE_BYTES * number < length bytes → first + number < page
+  pub pieces : (number : ℕ) → MOST_PIECE_BYTES * number < length bytes → page_at pages (first + number - 4) ≡ event_page_bytes step number (piece bytes number)
 
 module _ (dig : List ℕ → List ℕ) where
+  -- the archive after step i, of a history of events: it has no page, and the label of its tree
+  abbrev pub archive_at : History → ℕ → Root
+  archive_at h i = record { page = 0; label = tree_label dig (tree h i) }
+
   module _ (h : History) (places : List Place) where
     abbrev pub link_to : ℕ → StepRef
     link_to i = record { page = (place_of places i).page; auth = auth dig h i }
@@ -66,19 +64,20 @@ module _ (dig : List ℕ → List ℕ) where
       count = length (events_at h i);
       stream = record { page = (place_of places i).first; size = length (stream (events_at h i)) };
       event_root = event_root dig (events_at h i);
-      archive = dig empty_tree_text;
+      archive = archive_at h i;
       auth = auth dig h i;
     }
 
-  -- the pages keep step k + 1 of the history, which is one of events, at its place above that of step k
+  -- the pages keep step k + 1 of the history, which is one of events and has the root of the step before it, at its place above
+  -- that of step k
   pub record KeepsStep (pages : Image) (h : History) (places : List Place) (k : ℕ) : Type 0 where
-    pub events_only : step_at h (suc k) ≡ Some (event_step (events_at h (suc k)))
-    pub limits : IsWithinLimits (events_at h (suc k))
+    pub events_only : step_at h (suc k) ≡ Some (event_step (root_of (step_at h k)) (events_at h (suc k)))
+    pub limits : MayRecord (events_at h (suc k))
     pub low : 4 ≤ (place_of places (suc k)).page
     pub rising : (place_of places k).page < (place_of places (suc k)).page
     pub below : (place_of places (suc k)).page < 4 + length pages
     pub small : (place_of places (suc k)).page < 2 ^ 48
-    pub bytes : page_at pages ((place_of places (suc k)).page - 4) ≡ step_bytes (suc k) (fields_at h places (suc k)) (links_at h places (suc k))
+    pub bytes : page_at pages ((place_of places (suc k)).page - 4) ≡ step_page_bytes (suc k) (fields_at h places (suc k)) (links_at h places (suc k))
     pub stream : KeepsStream pages (suc k) (place_of places (suc k)).first (place_of places (suc k)).page (stream (events_at h (suc k)))
 
   -- the pages keep each step of the history at these places

@@ -1,8 +1,12 @@
-pub mod Bytes
+pub mod StepBytes
 pub mod Keeping
-pub mod Reading
+pub mod StepPages
+pub mod StepWalks
 pub mod Records
-pub mod Links
+pub mod Appended
 pub mod Events
 pub mod Infos
 pub mod Answers
+pub mod FieldSteps
+pub mod ScanSteps
+pub mod GatherSteps

@@ -3,28 +3,33 @@
 ghost use Rattle.std.specs.Prelude.{◌≡◌, ℕ, suc, ◌+◌, ◌<◌, ◌≤◌, ◌^◌, ◌++◌, ◌∷◌, [], List, length, Some, IfOk, OnErr};
 ghost use Rattle.tw_disk.specs.Image.{Image};
 ghost use Rattle.tw_disk.specs.Pages.{OnlyReads};
-ghost use Rattle.tw_base.specs.History.{History, plus};
+ghost use Rattle.tw_base.specs.History.{History};
 ghost use Rattle.tw_base.specs.Levels.{top_level as top_level_of};
-ghost use Rattle.tw_base.specs.Texts.{authenticator_text, empty_tree_text, link_text};
+ghost use Rattle.tw_base.specs.Texts.{authenticator_text, link_text};
 ghost use Rattle.tw_skiplist.specs.Answers.{FaultsRise, IfBadPage, NeverNoStep, NotDiskFault};
 ghost use Rattle.tw_skiplist.specs.Infos.{Added};
-ghost use Rattle.tw_skiplist.specs.Keeping.{IsWithinLimits, Keeps, event_step};
-ghost use Rattle.tw_skiplist.specs.Reading.{Gathers, GathersBadPage, link_of};
+ghost use Rattle.tw_base.specs.Limits.{MayRecord};
+ghost use Rattle.tw_base.specs.History.{with_events};
+ghost use Rattle.tw_skiplist.specs.GatherSteps.{HasLinks, LeadsNowhere};
+ghost use Rattle.tw_skiplist.specs.Keeping.{Keeps, archive_at};
+ghost use Rattle.tw_skiplist.specs.StepPages.{link_of};
+ghost use Rattle.tw_skiplist.specs.StepWalks.{Gathers, GathersBadPage};
 ghost use Rattle.tw_skiplist.specs.Records.{head_ref, page_labels};
 ghost use Rattle.tw_skiplist.specs.declared.head.StepRef.{StepRef};
-ghost use Rattle.tw_skiplist.specs.Links.{Extends, HasLinks, IsAppended, IsPut, LeadsNowhere};
+ghost use Rattle.tw_skiplist.specs.Appended.{Extends, IsAppended, IsPut};
 
 use crate::fault::ListFault;
 use crate::fields::{StepFields, StreamRef};
 use crate::head::{Head, StepRef};
-use crate::page::{power, step_page};
+use crate::limits::{MOST_LINKS, MOST_STREAM_BYTES};
+use crate::page::step_page;
 use crate::pieces::{stage_pieces, stream_of};
 use crate::walking::follow;
 use arrayvec::ArrayVec;
 use std::alloc::Global;
 use tw_base::{
-    Bytes, Digest, EventList, Hasher, NoMemory, authenticator, datum, empty_tree, link_label,
-    top_level,
+    Bytes, Digest, EventList, Hasher, NoMemory, Root, authenticator, datum, link_label,
+    power_of_two, top_level,
 };
 use tw_disk::Pages;
 use tw_events::event_root;
@@ -48,8 +53,8 @@ impl Links {
     }
 
     fn add<H: Hasher>(&mut self, link: &StepRef, step: u64, level: u8, datum: &Digest)
-        requires links { length self.old.links.items < 40 }
-        requires labels { length self.old.labels.items < 40 }
+        requires links { length self.old.links.items < MOST_LINKS }
+        requires labels { length self.old.labels.items < MOST_LINKS }
         ensures links { self.new.links.items ≡ self.old.links.items ++ link.now ∷ [] }
         ensures labels { self.new.labels.items ≡ self.old.labels.items ++ H.dig (link_text step level datum.now link.now.auth) ∷ [] }
         ensures link_count { length self.new.links.items ≡ length self.old.links.items + 1 }
@@ -65,23 +70,21 @@ impl Links {
 // of a step for each link but the last.
 fn gather<P: Pages, H: Hasher>(
     pages: &mut P,
-    empty: &Digest,
     first: &StepRef,
     from: u64,
     datum: &Digest,
 ) -> Result<Links, ListFault>
     requires step { from + 1 < 2 ^ 40 }
-    requires empty { empty.now ≡ H.dig empty_tree_text }
     ensures links { IfOk result (λ l. (ps : Image) → P.list pages.old ≡ Some ps →
         HasLinks H.dig ps first.now from datum.now l.links.items l.labels.items (suc (top_level_of (from + 1)))) }
     ensures count { IfOk result (λ l. length l.links.items ≡ suc (top_level_of (from + 1))) }
     ensures labels { IfOk result (λ l. l.labels.items ≡ page_labels H.dig (from + 1) datum.now l.links.items (length l.links.items)) }
     ensures gathered { IfOk result (λ l. (ps : Image) → P.list pages.old ≡ Some ps → (level : ℕ) → level < length l.links.items →
-        Gathers empty.now ps first.now from level (link_of l.links.items level)) }
-    ensures sizes { IfOk result (λ l. (length l.links.items ≤ 40) × (length l.labels.items ≤ 40)) }
+        Gathers ps first.now from level (link_of l.links.items level)) }
+    ensures sizes { IfOk result (λ l. (length l.links.items ≤ MOST_LINKS) × (length l.labels.items ≤ MOST_LINKS)) }
     ensures found { IfOk result (λ _. (ps : Image) → P.list pages.old ≡ Some ps →
-        (last : StepRef) × Gathers empty.now ps first.now from (top_level_of (from + 1)) last) }
-    ensures bad { IfBadPage result (λ p. (ps : Image) → P.list pages.old ≡ Some ps → GathersBadPage empty.now ps first.now from p) }
+        (last : StepRef) × Gathers ps first.now from (top_level_of (from + 1)) last) }
+    ensures bad { IfBadPage result (λ p. (ps : Image) → P.list pages.old ≡ Some ps → GathersBadPage ps first.now from p) }
     ensures good { IfBadPage result (λ _. (ps : Image) → P.list pages.old ≡ Some ps → LeadsNowhere H.dig ps first.now from) }
     ensures no_step { NeverNoStep result }
     ensures kept { OnlyReads P.used_count P.list P.same P.unbroken pages.old pages.new (NotDiskFault result) }
@@ -93,19 +96,19 @@ fn gather<P: Pages, H: Hasher>(
     let mut link = *first;
     for level in 0..top {
         links.add::<H>(&link, step, level, datum);
-        link = follow(pages, empty, &link, step - power(level), level)?;
+        link = follow(pages, &link, step - power_of_two(level), level)?;
     }
     links.add::<H>(&link, step, top, datum);
     Ok(links)
 }
 
-// What a step of events records.
+// What the page of a step of events has besides its links: the stream, number and root of the events, and the archive.
 #[derive(Drop)]
-struct Content {
+struct Recorded {
     stream: Bytes,
     count: u32,
     event_root: Digest,
-    archive: Digest,
+    archive: Root,
 }
 
 // The first event page of a stream of that many bytes, where so many pages are used.
@@ -120,15 +123,15 @@ fn first_page(used: u64, size: usize) -> u64
 fn put_step<P: Pages, H: Hasher>(
     pages: &mut P,
     step: u64,
-    content: &Content,
+    recorded: &Recorded,
     links: &Links,
 ) -> Result<Head, NoMemory>
     requires used { P.used_count pages.old < 2 ^ 47 }
-    requires size { length content.now.stream ≤ 69632 }
-    requires links { length links.now.links.items ≤ 40 }
-    requires labels { length links.now.labels.items ≤ 40 }
+    requires size { length recorded.now.stream ≤ MOST_STREAM_BYTES }
+    requires links { length links.now.links.items ≤ MOST_LINKS }
+    requires labels { length links.now.labels.items ≤ MOST_LINKS }
     ensures put { IfOk result (λ new. (ps : Image) → P.list pages.old ≡ Some ps →
-        IsPut ps step content.now.stream content.now.count content.now.event_root content.now.archive links.now.links.items (P.list pages.new) new) }
+        IsPut ps step recorded.now.stream recorded.now.count recorded.now.event_root recorded.now.archive links.now.links.items (P.list pages.new) new) }
     ensures left { OnErr result ((ps : Image) → P.list pages.old ≡ Some ps → Extends ps (P.list pages.new)) }
     ensures auth { IfOk result (λ new. new.auth ≡ H.dig (authenticator_text step links.now.labels.items)) }
     ensures step { IfOk result (λ new. new.step ≡ step) }
@@ -140,27 +143,28 @@ fn put_step<P: Pages, H: Hasher>(
     ensures faults { P.faults pages.new ≡ P.faults pages.old }
 {
     let auth = authenticator::<H>(step, links.labels.as_slice());
-    let stream = content.stream.as_slice();
+    let stream = recorded.stream.as_slice();
     let first = first_page(pages.used(), stream.len());
     stage_pieces(pages, step, stream)?;
     let fields = StepFields {
-        count: content.count,
+        count: recorded.count,
         stream: StreamRef {
             page: first,
             size: stream.len() as u32,
         },
-        event_root: content.event_root,
-        archive: content.archive,
+        event_root: recorded.event_root,
+        archive: recorded.archive,
         auth,
     };
     let page = pages.stage(&step_page(step, &fields, links.links.as_slice()))?;
     Ok(Head { step, auth, page })
 }
 
-/// Adds a step of these events to the history whose head is given, and answers the new head. It
-/// stages the event pages and then the step page, at most 19 pages in all. Where the pages are told,
-/// the step's links are those that they themselves lead to from the head, and its authenticator is
-/// that of the links' labels.
+/// Adds a step of these events to the history whose head is given, and answers the new head. The
+/// step's archive is the one that is handed in: that of the head's step, since events change nothing
+/// of it. It stages the event pages and then the step page, at most 19 pages in all. Where the pages
+/// are told, the step's links are those that they themselves lead to from the head, and its
+/// authenticator is that of the links' labels.
 ///
 /// Conditions: the head's step is below 2^40 - 1, fewer than 2^47 pages are used, and the events are
 /// within the limits of a step: at most 1,024, each at most 1,024 bytes, together at most 65,536.
@@ -172,45 +176,43 @@ pub fn append<P: Pages, H: Hasher>(
     pages: &mut P,
     head: &Head,
     events: &EventList,
+    archive: &Root,
 ) -> Result<Head, ListFault>
     requires step { head.now.step + 1 < 2 ^ 40 }
     requires used { P.used_count pages.old < 2 ^ 47 }
-    requires limits { IsWithinLimits events.now }
+    requires limits { MayRecord events.now }
     ensures added { IfOk result (λ new. (ps : Image) (h : History) → P.list pages.old ≡ Some ps → Keeps H.dig ps h head.now →
-        Added H.dig ps (plus h (event_step events.now)) (P.list pages.new) new) }
-    ensures put { IfOk result (λ new. (ps : Image) → P.list pages.old ≡ Some ps → IsAppended H.dig ps head.now events.now (P.list pages.new) new) }
+        archive.now ≡ archive_at H.dig h (length h.steps) → Added H.dig ps (with_events h events.now) (P.list pages.new) new) }
+    ensures put { IfOk result (λ new. (ps : Image) → P.list pages.old ≡ Some ps →
+        IsAppended H.dig ps head.now events.now archive.now (P.list pages.new) new) }
     ensures left { OnErr result ((ps : Image) → P.list pages.old ≡ Some ps → Extends ps (P.list pages.new)) }
     ensures step { IfOk result (λ new. new.step ≡ head.now.step + 1) }
     ensures page { IfOk result (λ new. P.used_count pages.new ≡ new.page + 1) }
     ensures used { P.used_count pages.old ≤ P.used_count pages.new }
     ensures few { P.used_count pages.new ≤ P.used_count pages.old + 19 }
     ensures found { IfOk result (λ _. (ps : Image) → P.list pages.old ≡ Some ps →
-        (last : StepRef) × Gathers (H.dig empty_tree_text) ps (head_ref head.now) head.now.step (top_level_of (head.now.step + 1)) last) }
+        (last : StepRef) × Gathers ps (head_ref head.now) head.now.step (top_level_of (head.now.step + 1)) last) }
     ensures bad { IfBadPage result (λ p. (ps : Image) → P.list pages.old ≡ Some ps →
-        GathersBadPage (H.dig empty_tree_text) ps (head_ref head.now) head.now.step p) }
+        GathersBadPage ps (head_ref head.now) head.now.step p) }
     ensures good { IfBadPage result (λ _. (ps : Image) (h : History) → P.list pages.old ≡ Some ps → Keeps H.dig ps h head.now → ⊥) }
     ensures no_step { NeverNoStep result }
     ensures same { P.same pages.old pages.new }
     ensures unbroken { NotDiskFault result → P.unbroken pages.old → P.unbroken pages.new }
     ensures faults { FaultsRise (P.faults pages.old) (P.faults pages.new) result }
 {
-    let Ok(stream) = stream_of(alloc, events) else {
-        return Err(ListFault::NoMemory);
-    };
-    let content = Content {
+    let stream = stream_of(alloc, events)?;
+    let recorded = Recorded {
         stream,
         count: events.len() as u32,
         event_root: event_root::<H>(events),
-        archive: empty_tree::<H>(),
+        archive: *archive,
     };
     let first = StepRef {
         page: head.page,
         auth: head.auth,
     };
-    let datum = datum::<H>(&content.event_root, &content.archive, content.count);
-    let links = gather::<P, H>(pages, &content.archive, &first, head.step, &datum)?;
-    match put_step::<P, H>(pages, head.step + 1, &content, &links) {
-        Err(_) => Err(ListFault::NoMemory),
-        Ok(new) => Ok(new),
-    }
+    let datum = datum::<H>(&recorded.event_root, &archive.label, recorded.count);
+    let links = gather::<P, H>(pages, &first, head.step, &datum)?;
+    let new = put_step::<P, H>(pages, head.step + 1, &recorded, &links)?;
+    Ok(new)
 }

@@ -4,12 +4,15 @@ ghost use Rattle.std.specs.Prelude.{◌≡◌, ℕ, ◌+◌, ◌-◌, ◌*◌, �
 ghost use Rattle.tw_disk.specs.Image.{Image};
 ghost use Rattle.tw_disk.specs.Pages.{OnlyReads};
 ghost use Rattle.tw_skiplist.specs.Answers.{FaultsRise, IfBadPage, NeverNoStep, NotDiskFault};
-ghost use Rattle.tw_skiplist.specs.Events.{HasEventAt, HasStream, IsEventPageAt, IsNoEventAt, IsNoEventPageAt, MeetsBadPiece, SpellsEvents, last_page};
+ghost use Rattle.tw_skiplist.specs.ScanSteps.{HasEventAt, IsNoEventAt};
+ghost use Rattle.tw_skiplist.specs.Events.{HasStream, IsEventPageAt, IsNoEventPageAt, MeetsBadPiece, SpellsEvents, last_page};
 
 use crate::fault::ListFault;
 use crate::info::StepInfo;
+use crate::limits::{MOST_PIECE_BYTES, MOST_STREAM_BYTES};
 use crate::page::is_event_page;
 use std::alloc::Global;
+use tw_base::limits::{MOST_EVENT_BYTES, MOST_EVENTS, MOST_STEP_BYTES};
 use tw_base::{Bytes, EventList, NoMemory};
 use tw_disk::{Pages, u32_at};
 
@@ -22,7 +25,7 @@ fn add_piece<P: Pages>(
     size: u32,
     into: &mut Bytes,
 ) -> Result<(), ListFault>
-    requires { 4085 * number < size }
+    requires { MOST_PIECE_BYTES * number < size }
     ensures piece { OnOk result ((ps : Image) → P.list pages.old ≡ Some ps →
         (bytes : List ℕ) × (into.new ≡ into.old ++ bytes) × IsEventPageAt ps page step number size bytes) }
     ensures next { OnOk result (page + 1 < 2 ^ 64) }
@@ -34,16 +37,14 @@ fn add_piece<P: Pages>(
     if page < 4 || page >= pages.used() {
         return Err(ListFault::BadPage { page });
     }
-    let count = (size as usize - 4085 * number as usize).min(4085);
+    let count = (size as u64 - MOST_PIECE_BYTES * number as u64).min(MOST_PIECE_BYTES) as usize;
     let mut bytes = [0; 4096];
     match pages.read(page, &mut bytes) {
         Err(_) => Err(ListFault::DiskFault),
         Ok(()) => {
             if is_event_page(&bytes, step, number, count) {
-                match into.extend_from_slice(&bytes[11..11 + count]) {
-                    Err(_) => Err(ListFault::NoMemory),
-                    Ok(()) => Ok(()),
-                }
+                into.extend_from_slice(&bytes[11..11 + count])?;
+                Ok(())
             } else {
                 Err(ListFault::BadPage { page })
             }
@@ -65,7 +66,7 @@ pub(crate) fn read_stream<P: Pages>(
     pages: &mut P,
     info: &StepInfo,
 ) -> Result<StreamRead, ListFault>
-    requires { info.now.stream.size ≤ 69632 }
+    requires { info.now.stream.size ≤ MOST_STREAM_BYTES }
     ensures pieces { IfOk result (λ r. (ps : Image) → P.list pages.old ≡ Some ps →
         (has : HasStream ps info.now r.bytes) × (r.last ≡ last_page info.now has.number)) }
     ensures bad { IfBadPage result (λ p. (ps : Image) → P.list pages.old ≡ Some ps → MeetsBadPiece ps info.now p) }
@@ -78,7 +79,7 @@ pub(crate) fn read_stream<P: Pages>(
     let mut page = info.stream.page;
     let mut last = info.page;
     let mut number = 0u16;
-    while 4085 * (number as u32) < size {
+    while MOST_PIECE_BYTES * (number as u64) < size as u64 {
         add_piece(pages, page, info.step, number, size, &mut bytes)?;
         last = page;
         page += 1;
@@ -98,20 +99,10 @@ fn event_size(bytes: &[u8], at: usize) -> Option<usize>
         return None;
     }
     let size = u32_at(bytes, at) as usize;
-    if size > 1024 || bytes.len() - at - 4 < size {
+    if size as u64 > MOST_EVENT_BYTES || bytes.len() - at - 4 < size {
         return None;
     }
     Some(size)
-}
-
-fn copy_event(alloc: Global, bytes: &[u8], at: usize, size: usize) -> Result<Bytes, NoMemory>
-    requires { at + size ≤ length bytes.now }
-    ensures { IfOk result (λ event. event ≡ take size (drop at bytes.now)) }
-{
-    match Vec::from_slice(alloc, &bytes[at..at + size]) {
-        Ok(items) => Ok(Bytes::from_vec(items)),
-        Err(_) => Err(NoMemory),
-    }
 }
 
 /// The events that the bytes spell, as many as the count, if they spell any within the limits of
@@ -124,7 +115,7 @@ pub(crate) fn read_events(
     ensures { IfOk result (λ found. MatchOption found ((events : List (List ℕ)) → SpellsEvents bytes.now count events → ⊥)
         (λ events. SpellsEvents bytes.now count events)) }
 {
-    if count > 1024 {
+    if count as u64 > MOST_EVENTS {
         return Ok(None);
     }
     let mut events = EventList::new(alloc);
@@ -133,10 +124,11 @@ pub(crate) fn read_events(
         let Some(size) = event_size(bytes, at) else {
             return Ok(None);
         };
-        events.push(copy_event(alloc, bytes, at + 4, size)?)?;
+        let event = Bytes::from_slice(alloc, &bytes[at + 4..at + 4 + size])?;
+        events.push(event)?;
         at += 4 + size;
     }
-    if at != bytes.len() || at > 4 * count as usize + 65536 {
+    if at != bytes.len() || at as u64 > 4 * count as u64 + MOST_STEP_BYTES {
         return Ok(None);
     }
     Ok(Some(events))

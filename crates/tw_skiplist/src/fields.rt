@@ -1,6 +1,6 @@
 // The fields of a step page.
 
-use tw_base::Digest;
+use tw_base::{Digest, Root};
 
 /// Where the events of a step stand: the first of its event pages, which follow one another, and
 /// the length in bytes of what they hold. A step of no events has page 0 and length 0.
@@ -16,6 +16,6 @@ pub(crate) struct StepFields {
     pub count: u32,
     pub stream: StreamRef,
     pub event_root: Digest,
-    pub archive: Digest,
+    pub archive: Root,
     pub auth: Digest,
 }

@@ -9,6 +9,7 @@ mod fields;
 mod head;
 mod info;
 mod laws;
+pub mod limits;
 mod page;
 mod pieces;
 mod reading;

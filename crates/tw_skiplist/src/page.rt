@@ -6,13 +6,16 @@ ghost use Rattle.tw_base.specs.Levels.{top_level as top_level_of};
 ghost use Rattle.tw_disk.specs.PageBytes.{padded};
 ghost use Rattle.tw_skiplist.specs.declared.fields.StepFields.{StepFields};
 ghost use Rattle.tw_skiplist.specs.declared.head.StepRef.{StepRef};
-ghost use Rattle.tw_skiplist.specs.Bytes.{event_bytes, step_bytes, step_front, step_numbers};
-ghost use Rattle.tw_skiplist.specs.Reading.{HasWidths, IsStepPage, KeepsFieldRules, KeepsLinkRules, LiesBelow, fields_in, link_in, links_in};
+ghost use Rattle.tw_skiplist.specs.FieldSteps.{fields_in, link_in, links_in};
+ghost use Rattle.tw_skiplist.specs.StepBytes.{event_page_bytes, step_page_bytes, step_front, step_numbers};
+ghost use Rattle.tw_skiplist.specs.StepPages.{HasWidths, IsStepPage, KeepsFieldRules, KeepsLinkRules, LiesBelow};
 
 use crate::fields::{StepFields, StreamRef};
 use crate::head::StepRef;
+use crate::limits::{MOST_LINKS, MOST_PIECE_BYTES, MOST_STREAM_BYTES};
 use arrayvec::ArrayVec;
-use tw_base::{Digest, top_level};
+use tw_base::limits::MOST_EVENTS;
+use tw_base::{Digest, Root, power_of_two, top_level};
 use tw_disk::{append_at, digest_at, u32_at, u64_at};
 
 // ---- writing
@@ -53,13 +56,14 @@ fn front(step: u64, fields: &StepFields, links: u8) -> [u8; 4096]
     ensures bytes { result ≡ padded (step_front step fields.now links) }
     ensures size { length (step_front step fields.now links) ≡ 187 }
     ensures event_root { length fields.now.event_root ≡ 32 }
-    ensures archive { length fields.now.archive ≡ 32 }
+    ensures archive { length fields.now.archive.label ≡ 32 }
     ensures auth { length fields.now.auth ≡ 32 }
 {
     let mut page = numbers(step, fields);
     append_digest(&mut page, 26, &fields.event_root);
-    append_digest(&mut page, 58, &fields.archive);
-    append_at(&mut page, 90, &[0; 64]);
+    append_digest(&mut page, 58, &fields.archive.label);
+    append_at(&mut page, 90, &fields.archive.page.to_be_bytes());
+    append_at(&mut page, 98, &[0; 56]);
     append_digest(&mut page, 154, &fields.auth);
     append_at(&mut page, 186, &[links]);
     page
@@ -68,8 +72,8 @@ fn front(step: u64, fields: &StepFields, links: u8) -> [u8; 4096]
 /// The page of a step of events.
 #[tactic(auto, using(crate::proofs::Decode::more))]
 pub(crate) fn step_page(step: u64, fields: &StepFields, links: &[StepRef]) -> [u8; 4096]
-    requires { length links.now ≤ 40 }
-    ensures bytes { result ≡ step_bytes step fields.now links.now }
+    requires { length links.now ≤ MOST_LINKS }
+    ensures bytes { result ≡ step_page_bytes step fields.now links.now }
     ensures widths { HasWidths fields.now links.now }
 {
     let mut page = front(step, fields, links.len() as u8);
@@ -83,8 +87,8 @@ pub(crate) fn step_page(step: u64, fields: &StepFields, links: &[StepRef]) -> [u
 
 /// The event page of this number within a step.
 pub(crate) fn event_page(step: u64, number: u16, piece: &[u8]) -> [u8; 4096]
-    requires { length piece.now ≤ 4085 }
-    ensures { result ≡ event_bytes step number piece.now }
+    requires { length piece.now ≤ MOST_PIECE_BYTES }
+    ensures { result ≡ event_page_bytes step number piece.now }
 {
     let mut page = [0; 4096];
     append_at(&mut page, 0, &[2]);
@@ -113,13 +117,16 @@ fn fields_at(page: &[u8; 4096]) -> StepFields
             size: u32_at(page, 14),
         },
         event_root: digest_at(page, 26),
-        archive: digest_at(page, 58),
+        archive: Root {
+            page: u64_at(page, 90),
+            label: digest_at(page, 58),
+        },
         auth: digest_at(page, 154),
     }
 }
 
 fn link_at(page: &[u8; 4096], level: u8) -> StepRef
-    requires { level < 40 }
+    requires { level < MOST_LINKS }
     ensures { result ≡ link_in page.now level }
 {
     let at = 187 + 40 * level as usize;
@@ -132,7 +139,7 @@ fn link_at(page: &[u8; 4096], level: u8) -> StepRef
 // The links of the levels below the count.
 #[tactic(auto, using(crate::proofs::Decode::links_read))]
 fn links_at(page: &[u8; 4096], count: u8) -> ArrayVec<StepRef, 40>
-    requires { count ≤ 40 }
+    requires { count ≤ MOST_LINKS }
     ensures links { result.items ≡ links_in page.now count }
     ensures size { length result.items ≡ count }
 {
@@ -143,33 +150,25 @@ fn links_at(page: &[u8; 4096], count: u8) -> ArrayVec<StepRef, 40>
     links
 }
 
-/// A power of two.
-pub(crate) fn power(level: u8) -> u64
-    requires { level < 64 }
-    ensures { result ≡ 2 ^ level }
+fn keeps_field_rules(page: u64, fields: &StepFields) -> bool
+    ensures { IsTrue result ↔ KeepsFieldRules page fields.now }
 {
-    1 << level
-}
-
-fn keeps_field_rules(empty: &Digest, page: u64, fields: &StepFields) -> bool
-    ensures { IsTrue result ↔ KeepsFieldRules empty.now page fields.now }
-{
-    fields.count <= 1024
-        && fields.stream.size <= 69632
+    fields.count as u64 <= MOST_EVENTS
+        && fields.stream.size as u64 <= MOST_STREAM_BYTES
         && (fields.stream.size == 0) == (fields.stream.page == 0)
         && fields.stream.page < page
-        && fields.archive == *empty
+        && fields.archive.page < page
 }
 
 fn lies_below(page: u64, step: u64, level: u8, link: &StepRef) -> bool
-    requires { level < 40 }
+    requires { level < MOST_LINKS }
     ensures { IsTrue result ↔ LiesBelow page step level link.now }
 {
-    link.page < page && (step == power(level)) == (link.page == 0)
+    link.page < page && (step == power_of_two(level)) == (link.page == 0)
 }
 
 fn keeps_link_rules(page: u64, step: u64, links: &[StepRef]) -> bool
-    requires { length links.now ≤ 40 }
+    requires { length links.now ≤ MOST_LINKS }
     ensures { IsTrue result ↔ KeepsLinkRules page step links.now }
 {
     for level in 0..links.len() {
@@ -181,33 +180,28 @@ fn keeps_link_rules(page: u64, step: u64, links: &[StepRef]) -> bool
 }
 
 // Whether the bytes are the step's page with what was found in them, and stand where they may.
-fn is_page(page: u64, step: u64, empty: &Digest, bytes: &[u8; 4096], found: &StepPage) -> bool
+fn is_page(page: u64, step: u64, bytes: &[u8; 4096], found: &StepPage) -> bool
     requires { length found.now.links.items ≡ suc (top_level_of step) }
-    ensures { IsTrue result ↔ IsStepPage empty.now page step found.now.fields found.now.links.items bytes.now }
+    ensures { IsTrue result ↔ IsStepPage page step found.now.fields found.now.links.items bytes.now }
 {
     *bytes == step_page(step, &found.fields, found.links.as_slice())
-        && keeps_field_rules(empty, page, &found.fields)
+        && keeps_field_rules(page, &found.fields)
         && keeps_link_rules(page, step, found.links.as_slice())
 }
 
 /// The fields and links of the page of this step, where the bytes are one that may stand in the page
-/// of this number; `empty` is the label of the empty archive.
-pub(crate) fn read_step_page(
-    page: u64,
-    step: u64,
-    empty: &Digest,
-    bytes: &[u8; 4096],
-) -> Option<StepPage>
+/// of this number.
+pub(crate) fn read_step_page(page: u64, step: u64, bytes: &[u8; 4096]) -> Option<StepPage>
     requires { step < 2 ^ 40 }
     ensures { MatchOption result
-        ((f : StepFields) (links : List StepRef) → IsStepPage empty.now page step f links bytes.now → ⊥)
-        (λ p. IsStepPage empty.now page step p.fields p.links.items bytes.now) }
+        ((f : StepFields) (links : List StepRef) → IsStepPage page step f links bytes.now → ⊥)
+        (λ p. IsStepPage page step p.fields p.links.items bytes.now) }
 {
     let found = StepPage {
         fields: fields_at(bytes),
         links: links_at(bytes, top_level(step) + 1),
     };
-    if is_page(page, step, empty, bytes, &found) {
+    if is_page(page, step, bytes, &found) {
         Some(found)
     } else {
         None
@@ -217,8 +211,8 @@ pub(crate) fn read_step_page(
 /// Whether the bytes are the event page of this number of the step with so many bytes of its stream,
 /// those that stand in it.
 pub(crate) fn is_event_page(bytes: &[u8; 4096], step: u64, number: u16, count: usize) -> bool
-    requires { count ≤ 4085 }
-    ensures { IsTrue result ↔ (bytes.now ≡ event_bytes step number (take count (drop 11 bytes.now))) }
+    requires { count ≤ MOST_PIECE_BYTES }
+    ensures { IsTrue result ↔ (bytes.now ≡ event_page_bytes step number (take count (drop 11 bytes.now))) }
 {
     *bytes == event_page(step, number, &bytes[11..11 + count])
 }

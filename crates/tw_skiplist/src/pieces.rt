@@ -5,10 +5,11 @@ ghost use Rattle.std.specs.Int.{to_be_bytes, w32};
 ghost use Rattle.std.specs.Option.{option_map};
 ghost use Rattle.tw_base.specs.Lists.{Each};
 ghost use Rattle.tw_disk.specs.Image.{Image};
-ghost use Rattle.tw_skiplist.specs.Bytes.{event_bytes, event_pages, piece, stream};
-ghost use Rattle.tw_skiplist.specs.Keeping.{IsWithinLimits};
-ghost use Rattle.tw_skiplist.specs.Links.{Extends, IsPieceCount};
+ghost use Rattle.tw_skiplist.specs.Appended.{Extends, IsPieceCount};
+ghost use Rattle.tw_base.specs.Limits.{MayRecord};
+ghost use Rattle.tw_skiplist.specs.StepBytes.{event_page_bytes, event_pages, piece, stream};
 
+use crate::limits::{MOST_EVENT_PAGES, MOST_PIECE_BYTES, MOST_STREAM_BYTES};
 use crate::page::event_page;
 use std::alloc::Global;
 use tw_base::{Bytes, EventList, NoMemory};
@@ -26,9 +27,9 @@ fn put_event(into: &mut Bytes, event: &Bytes) -> Result<(), NoMemory>
 
 /// Each event behind its length.
 pub(crate) fn stream_of(alloc: Global, events: &EventList) -> Result<Bytes, NoMemory>
-    requires { IsWithinLimits events.now }
+    requires { MayRecord events.now }
     ensures stream { IfOk result (λ bytes. bytes ≡ stream events.now) }
-    ensures size { IfOk result (λ bytes. length bytes ≤ 69632) }
+    ensures size { IfOk result (λ bytes. length bytes ≤ MOST_STREAM_BYTES) }
 {
     let mut bytes = Bytes::new(alloc);
     let items = events.as_slice();
@@ -40,18 +41,18 @@ pub(crate) fn stream_of(alloc: Global, events: &EventList) -> Result<Bytes, NoMe
 
 // The piece of this number.
 fn piece_of(stream: &[u8], number: u16) -> &[u8]
-    requires { 4085 * number ≤ length stream.now }
+    requires { MOST_PIECE_BYTES * number ≤ length stream.now }
     ensures piece { result.now ≡ piece stream.now number }
-    ensures size { length result.now ≤ 4085 }
+    ensures size { length result.now ≤ MOST_PIECE_BYTES }
 {
-    let rest = &stream[4085 * number as usize..];
-    &rest[..rest.len().min(4085)]
+    let rest = &stream[(MOST_PIECE_BYTES * number as u64) as usize..];
+    &rest[..rest.len().min(MOST_PIECE_BYTES as usize)]
 }
 
 // The event page of this number.
 fn piece_page(step: u64, stream: &[u8], number: u16) -> [u8; 4096]
-    requires { 4085 * number ≤ length stream.now }
-    ensures { result ≡ event_bytes step number (piece stream.now number) }
+    requires { MOST_PIECE_BYTES * number ≤ length stream.now }
+    ensures { result ≡ event_page_bytes step number (piece stream.now number) }
 {
     event_page(step, number, piece_of(stream, number))
 }
@@ -63,19 +64,19 @@ pub(crate) fn stage_pieces<P: Pages>(
     stream: &[u8],
 ) -> Result<u16, NoMemory>
     requires used { P.used_count pages.old < 2 ^ 47 }
-    requires size { length stream.now ≤ 69632 }
+    requires size { length stream.now ≤ MOST_STREAM_BYTES }
     ensures list { IfOk result (λ count. P.list pages.new ≡ option_map (λ ps. ps ++ event_pages step stream.now count) (P.list pages.old)) }
     ensures left { OnErr result ((ps : Image) → P.list pages.old ≡ Some ps → Extends ps (P.list pages.new)) }
     ensures count { IfOk result (λ count. IsPieceCount (length stream.now) count) }
     ensures used { IfOk result (λ count. P.used_count pages.new ≡ P.used_count pages.old + count) }
-    ensures few { P.used_count pages.new ≤ P.used_count pages.old + 18 }
+    ensures few { P.used_count pages.new ≤ P.used_count pages.old + MOST_EVENT_PAGES }
     ensures grown { P.used_count pages.old ≤ P.used_count pages.new }
     ensures same { P.same pages.old pages.new }
     ensures unbroken { P.unbroken pages.old → P.unbroken pages.new }
     ensures faults { P.faults pages.new ≡ P.faults pages.old }
 {
     let mut count = 0u16;
-    while 4085 * (count as usize) < stream.len() {
+    while MOST_PIECE_BYTES * (count as u64) < stream.len() as u64 {
         pages.stage(&piece_page(step, stream, count))?;
         count += 1;
     }

@@ -4,15 +4,15 @@ ghost use Rattle.std.specs.Prelude.{◌≡◌, ℕ, ◌+◌, ◌*◌, ◌<◌, �
 ghost use Rattle.tw_disk.specs.Image.{Image};
 ghost use Rattle.tw_disk.specs.Pages.{OnlyReads};
 ghost use Rattle.tw_base.specs.History.{History, events_at};
-ghost use Rattle.tw_skipproof.specs.Making.{IsPathOf};
+ghost use Rattle.tw_skipproof.specs.HistoryProofs.{IsPathOf};
 ghost use Rattle.tw_skiplist.specs.Answers.{FaultsRise, IfBadPage, NeverNoStep, NoStepUnless, NotDiskFault};
 ghost use Rattle.tw_skiplist.specs.declared.info.StepInfo.{StepInfo};
 ghost use Rattle.tw_skiplist.specs.Events.{FindsEvents, FindsNoEvents};
 ghost use Rattle.tw_skiplist.specs.Infos.{IsInfoOf};
-ghost use Rattle.tw_base.specs.Texts.{empty_tree_text};
 ghost use Rattle.tw_skiplist.specs.declared.head.StepRef.{StepRef};
-ghost use Rattle.tw_skiplist.specs.Keeping.{IsWithinLimits, Keeps};
-ghost use Rattle.tw_skiplist.specs.Reading.{WalksVia};
+ghost use Rattle.tw_base.specs.Limits.{MayRecord};
+ghost use Rattle.tw_skiplist.specs.Keeping.{Keeps};
+ghost use Rattle.tw_skiplist.specs.StepWalks.{WalksVia};
 ghost use Rattle.tw_skiplist.specs.Records.{FindsBadPage, FindsBadPageOfPath, FindsBadPageVia, FindsInfo, FindsPath, FindsProof, head_ref};
 
 use crate::collecting::{Collected, collect, collect_proof, find_info};
@@ -20,9 +20,10 @@ use crate::event_pages::{StreamRead, read_events, read_stream};
 use crate::fault::ListFault;
 use crate::head::{Head, StepRef};
 use crate::info::{StepInfo, StepProof};
+use crate::limits::MOST_STREAM_BYTES;
 use crate::walking::descend;
 use std::alloc::Global;
-use tw_base::{EventList, Hasher, empty_tree};
+use tw_base::{EventList, Hasher};
 use tw_disk::Pages;
 use tw_skipproof::Path;
 
@@ -52,7 +53,7 @@ pub fn step<P: Pages, H: Hasher>(
     ensures info { IfOk result (λ info. (ps : Image) (h : History) → P.list pages.old ≡ Some ps → Keeps H.dig ps h head.now →
         IsInfoOf H.dig ps h i info) }
     ensures found { IfOk result (λ info. (ps : Image) → P.list pages.old ≡ Some ps → FindsInfo H.dig ps head.now i info) }
-    ensures bad { IfBadPage result (λ p. (ps : Image) → P.list pages.old ≡ Some ps → FindsBadPage H.dig ps head.now i p) }
+    ensures bad { IfBadPage result (λ p. (ps : Image) → P.list pages.old ≡ Some ps → FindsBadPage ps head.now i p) }
     ensures good { IfBadPage result (λ _. (ps : Image) (h : History) → P.list pages.old ≡ Some ps → Keeps H.dig ps h head.now → ⊥) }
     ensures no_step { NoStepUnless result head.now.step ((1 ≤ i) × (i ≤ head.now.step)) }
     ensures kept { OnlyReads P.used_count P.list P.same P.unbroken pages.old pages.new (NotDiskFault result) }
@@ -62,8 +63,7 @@ pub fn step<P: Pages, H: Hasher>(
     if i == 0 || i > last {
         return Err(ListFault::NoStep { last });
     }
-    let empty = empty_tree::<H>();
-    find_info::<P, H>(alloc, pages, &empty, &link_to_head(head), last, i)
+    find_info::<P, H>(alloc, pages, &link_to_head(head), last, i)
 }
 
 /// The path from the step n down to the step i, of the history whose head is given (a step below
@@ -87,9 +87,9 @@ pub fn path<P: Pages, H: Hasher>(
         IsPathOf H.dig h path.links n i) }
     ensures bound { IfOk result (λ path. (digits : ℕ) → n < 2 ^ digits → length path.links ≤ 2 * digits) }
     ensures found { IfOk result (λ _. (ps : Image) → P.list pages.old ≡ Some ps →
-        (last : StepRef) × WalksVia (H.dig empty_tree_text) ps (head_ref head.now) head.now.step n i last) }
+        (last : StepRef) × WalksVia ps (head_ref head.now) head.now.step n i last) }
     ensures recorded { IfOk result (λ path. (ps : Image) → P.list pages.old ≡ Some ps → FindsPath H.dig ps head.now n i path.links) }
-    ensures bad { IfBadPage result (λ p. (ps : Image) → P.list pages.old ≡ Some ps → FindsBadPageOfPath H.dig ps head.now n i p) }
+    ensures bad { IfBadPage result (λ p. (ps : Image) → P.list pages.old ≡ Some ps → FindsBadPageOfPath ps head.now n i p) }
     ensures good { IfBadPage result (λ _. (ps : Image) (h : History) → P.list pages.old ≡ Some ps → Keeps H.dig ps h head.now → ⊥) }
     ensures no_step { NoStepUnless result head.now.step ((i ≤ n) × (n ≤ head.now.step)) }
     ensures kept { OnlyReads P.used_count P.list P.same P.unbroken pages.old pages.new (NotDiskFault result) }
@@ -99,9 +99,8 @@ pub fn path<P: Pages, H: Hasher>(
     if i > n || n > last {
         return Err(ListFault::NoStep { last });
     }
-    let empty = empty_tree::<H>();
-    let link = descend(pages, &empty, &link_to_head(head), last, n)?;
-    let Collected { links, last: _ } = collect::<P, H>(alloc, pages, &empty, &link, n, i)?;
+    let link = descend(pages, &link_to_head(head), last, n)?;
+    let Collected { links, last: _ } = collect::<P, H>(alloc, pages, &link, n, i)?;
     Ok(Path { links })
 }
 
@@ -127,7 +126,7 @@ pub fn prove<P: Pages, H: Hasher>(
         IsInfoOf H.dig ps h i proof.info) }
     ensures found { IfOk result (λ proof. (ps : Image) → P.list pages.old ≡ Some ps → FindsProof H.dig ps head.now top i proof.info) }
     ensures recorded { IfOk result (λ proof. (ps : Image) → P.list pages.old ≡ Some ps → FindsPath H.dig ps head.now top i proof.path.links) }
-    ensures bad { IfBadPage result (λ p. (ps : Image) → P.list pages.old ≡ Some ps → FindsBadPageVia H.dig ps head.now top i p) }
+    ensures bad { IfBadPage result (λ p. (ps : Image) → P.list pages.old ≡ Some ps → FindsBadPageVia ps head.now top i p) }
     ensures good { IfBadPage result (λ _. (ps : Image) (h : History) → P.list pages.old ≡ Some ps → Keeps H.dig ps h head.now → ⊥) }
     ensures no_step { NoStepUnless result head.now.step ((1 ≤ i) × (i ≤ top) × (top ≤ head.now.step)) }
     ensures kept { OnlyReads P.used_count P.list P.same P.unbroken pages.old pages.new (NotDiskFault result) }
@@ -137,9 +136,8 @@ pub fn prove<P: Pages, H: Hasher>(
     if i == 0 || i > top || top > last {
         return Err(ListFault::NoStep { last });
     }
-    let empty = empty_tree::<H>();
-    let link = descend(pages, &empty, &link_to_head(head), last, top)?;
-    collect_proof::<P, H>(alloc, pages, &empty, &link, top, i)
+    let link = descend(pages, &link_to_head(head), last, top)?;
+    collect_proof::<P, H>(alloc, pages, &link, top, i)
 }
 
 /// The events of a step that `step` or `prove` told of the same pages, from its event pages alone.
@@ -156,7 +154,7 @@ pub fn events_of<P: Pages>(
 ) -> Result<EventList, ListFault>
     ensures events { IfOk result (λ events. (dig : List ℕ → List ℕ) (ps : Image) (h : History) (i : ℕ) → P.list pages.old ≡ Some ps →
         IsInfoOf dig ps h i info.now → events ≡ events_at h i) }
-    ensures counted { IfOk result (λ events. IsWithinLimits events × (length events ≡ info.now.count)) }
+    ensures counted { IfOk result (λ events. MayRecord events × (length events ≡ info.now.count)) }
     ensures found { IfOk result (λ events. (ps : Image) → P.list pages.old ≡ Some ps → FindsEvents ps info.now events) }
     ensures bad { IfBadPage result (λ p. (ps : Image) → P.list pages.old ≡ Some ps → FindsNoEvents ps info.now p) }
     ensures good { IfBadPage result (λ _. (dig : List ℕ → List ℕ) (ps : Image) (h : History) (i : ℕ) → P.list pages.old ≡ Some ps →
@@ -165,14 +163,13 @@ pub fn events_of<P: Pages>(
     ensures kept { OnlyReads P.used_count P.list P.same P.unbroken pages.old pages.new (NotDiskFault result) }
     ensures faults { FaultsRise (P.faults pages.old) (P.faults pages.new) result }
 {
-    if info.stream.size > 69632 {
+    if info.stream.size as u64 > MOST_STREAM_BYTES {
         return Err(ListFault::BadPage { page: info.page });
     }
     let StreamRead { bytes, last } = read_stream(alloc, pages, info)?;
-    match read_events(alloc, bytes.as_slice(), info.count) {
-        Err(_) => Err(ListFault::NoMemory),
-        Ok(None) => Err(ListFault::BadPage { page: last }),
-        Ok(Some(events)) => Ok(events),
+    match read_events(alloc, bytes.as_slice(), info.count)? {
+        None => Err(ListFault::BadPage { page: last }),
+        Some(events) => Ok(events),
     }
 }
 
@@ -192,7 +189,7 @@ pub fn events<P: Pages, H: Hasher>(
         events ≡ events_at h i) }
     ensures found { IfOk result (λ events. (ps : Image) → P.list pages.old ≡ Some ps → (info : StepInfo) × FindsInfo H.dig ps head.now i info × FindsEvents ps info events) }
     ensures bad { IfBadPage result (λ p. (ps : Image) → P.list pages.old ≡ Some ps →
-        FindsBadPage H.dig ps head.now i p ⊎ ((info : StepInfo) × FindsInfo H.dig ps head.now i info × FindsNoEvents ps info p)) }
+        FindsBadPage ps head.now i p ⊎ ((info : StepInfo) × FindsInfo H.dig ps head.now i info × FindsNoEvents ps info p)) }
     ensures good { IfBadPage result (λ _. (ps : Image) (h : History) → P.list pages.old ≡ Some ps → Keeps H.dig ps h head.now → ⊥) }
     ensures no_step { NoStepUnless result head.now.step ((1 ≤ i) × (i ≤ head.now.step)) }
     ensures kept { OnlyReads P.used_count P.list P.same P.unbroken pages.old pages.new (NotDiskFault result) }

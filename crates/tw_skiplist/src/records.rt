@@ -2,11 +2,12 @@
 
 ghost use Rattle.std.specs.Prelude.{◌≡◌, ℕ, suc, ◌+◌, ◌<◌, ◌≤◌, ◌^◌, ◌++◌, ◌∷◌, [], ◌==◌, List, length, remove, Some, IfOk, OnOk, if◌then◌else◌};
 ghost use Rattle.tw_base.specs.Texts.{link_text};
-ghost use Rattle.tw_skiplist.specs.Reading.{link_of};
+ghost use Rattle.tw_skiplist.specs.StepPages.{link_of};
 ghost use Rattle.tw_skiplist.specs.Records.{info_record, link_record, opening_record, other_labels, page_datum};
 
 use crate::head::StepRef;
 use crate::info::StepInfo;
+use crate::limits::MOST_LINKS;
 use crate::page::StepPage;
 use std::alloc::Global;
 use tw_base::{Digest, Hasher, Labels, NoMemory, datum, link_label};
@@ -30,7 +31,7 @@ fn push_other<H: Hasher>(
     links: &[StepRef],
 ) -> Result<(), NoMemory>
     requires inside { level < length links.now }
-    requires few { level < 40 }
+    requires few { level < MOST_LINKS }
     ensures { OnOk result (labels.new ≡ (if level == without then labels.old else labels.old ++ H.dig (link_text step level datum.now (link_of links.now level).auth) ∷ [])) }
 {
     if level == without {
@@ -49,7 +50,7 @@ fn labels_without<H: Hasher>(
     links: &[StepRef],
     without: u8,
 ) -> Result<Labels, NoMemory>
-    requires { length links.now ≤ 40 }
+    requires { length links.now ≤ MOST_LINKS }
     ensures { IfOk result (λ labels. labels ≡ other_labels H.dig step datum.now links.now without) }
 {
     let mut labels = Labels::with_capacity(alloc, links.len())?;
@@ -63,7 +64,7 @@ fn datum_of<H: Hasher>(page: &StepPage) -> Digest
     ensures { result ≡ page_datum H.dig page.now.fields }
 {
     let fields = &page.fields;
-    datum::<H>(&fields.event_root, &fields.archive, fields.count)
+    datum::<H>(&fields.event_root, &fields.archive.label, fields.count)
 }
 
 /// The record that a path has of the step's link of this level.
@@ -73,7 +74,7 @@ pub(crate) fn link_of_page<H: Hasher>(
     page: &StepPage,
     level: u8,
 ) -> Result<Link, NoMemory>
-    requires { length page.now.links.items ≤ 40 }
+    requires { length page.now.links.items ≤ MOST_LINKS }
     ensures { IfOk result (λ link. link ≡ link_record H.dig step page.now.fields page.now.links.items level) }
 {
     let datum = datum_of::<H>(page);
@@ -87,7 +88,7 @@ fn opening_of_page<H: Hasher>(
     page: &StepPage,
 ) -> Result<Opening, NoMemory>
     requires some { 0 < length page.now.links.items }
-    requires few { length page.now.links.items ≤ 40 }
+    requires few { length page.now.links.items ≤ MOST_LINKS }
     ensures { IfOk result (λ opening. opening ≡ opening_record H.dig step page.now.fields page.now.links.items) }
 {
     let datum = datum_of::<H>(page);
@@ -95,7 +96,7 @@ fn opening_of_page<H: Hasher>(
     let others = labels_without::<H>(alloc, step, &datum, links, 0)?;
     Ok(Opening {
         event_root: page.fields.event_root,
-        archive_root: page.fields.archive,
+        archive_root: page.fields.archive.label,
         count: page.fields.count,
         prev: link_at(links, 0).auth,
         others,
@@ -110,7 +111,7 @@ pub(crate) fn info_of_page<H: Hasher>(
     page: &StepPage,
 ) -> Result<StepInfo, NoMemory>
     requires some { 0 < length page.now.links.items }
-    requires few { length page.now.links.items ≤ 40 }
+    requires few { length page.now.links.items ≤ MOST_LINKS }
     ensures { IfOk result (λ info. info ≡ info_record H.dig number step page.now.fields page.now.links.items) }
 {
     let opening = opening_of_page::<H>(alloc, step, page)?;
@@ -119,6 +120,7 @@ pub(crate) fn info_of_page<H: Hasher>(
         page: number,
         event_root: page.fields.event_root,
         count: page.fields.count,
+        archive: page.fields.archive,
         auth: page.fields.auth,
         opening,
         stream: page.fields.stream,

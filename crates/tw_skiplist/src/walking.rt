@@ -5,27 +5,27 @@ ghost use Rattle.tw_disk.specs.Image.{Image};
 ghost use Rattle.tw_disk.specs.Pages.{OnlyReads};
 ghost use Rattle.tw_base.specs.Levels.{top_level};
 ghost use Rattle.tw_skiplist.specs.Answers.{FaultsRise, IfBadPage, NeverNoStep, NotDiskFault};
-ghost use Rattle.tw_skiplist.specs.Reading.{HasLink, IsNoStepAt, IsStepAt, MeetsBadPageAbove, Walks, link_of};
+ghost use Rattle.tw_skiplist.specs.StepPages.{HasLink, IsNoStepAt, IsStepAt, link_of};
+ghost use Rattle.tw_skiplist.specs.StepWalks.{MeetsBadPageAbove, Walks};
 
 use crate::fault::ListFault;
 use crate::head::StepRef;
-use crate::page::{StepPage, power, read_step_page};
+use crate::page::{StepPage, read_step_page};
 use crate::records::link_at;
-use tw_base::Digest;
+use tw_base::power_of_two;
 use tw_disk::Pages;
 use tw_skipproof::next_hop;
 
-/// Reads the page of a step (below 2^40); `empty` is the label of the empty archive.
+/// Reads the page of a step (below 2^40).
 pub(crate) fn read_step<P: Pages>(
     pages: &mut P,
     page: u64,
     step: u64,
-    empty: &Digest,
 ) -> Result<StepPage, ListFault>
     requires { step < 2 ^ 40 }
-    ensures is { IfOk result (λ s. (ps : Image) → P.list pages.old ≡ Some ps → IsStepAt empty.now ps page step s.fields s.links.items) }
+    ensures is { IfOk result (λ s. (ps : Image) → P.list pages.old ≡ Some ps → IsStepAt ps page step s.fields s.links.items) }
     ensures link_count { IfOk result (λ s. length s.links.items ≡ suc (top_level step)) }
-    ensures bad { IfBadPage result (λ p. (p ≡ page) × ((ps : Image) → P.list pages.old ≡ Some ps → IsNoStepAt empty.now ps page step)) }
+    ensures bad { IfBadPage result (λ p. (p ≡ page) × ((ps : Image) → P.list pages.old ≡ Some ps → IsNoStepAt ps page step)) }
     ensures no_step { NeverNoStep result }
     ensures kept { OnlyReads P.used_count P.list P.same P.unbroken pages.old pages.new (NotDiskFault result) }
     ensures faults { FaultsRise (P.faults pages.old) (P.faults pages.new) result }
@@ -36,7 +36,7 @@ pub(crate) fn read_step<P: Pages>(
     let mut bytes = [0; 4096];
     match pages.read(page, &mut bytes) {
         Err(_) => Err(ListFault::DiskFault),
-        Ok(()) => match read_step_page(page, step, empty, &bytes) {
+        Ok(()) => match read_step_page(page, step, &bytes) {
             Some(found) => Ok(found),
             None => Err(ListFault::BadPage { page }),
         },
@@ -46,20 +46,19 @@ pub(crate) fn read_step<P: Pages>(
 /// The link of a level that the page of a step (below 2^40) has.
 pub(crate) fn follow<P: Pages>(
     pages: &mut P,
-    empty: &Digest,
     link: &StepRef,
     at: u64,
     level: u8,
 ) -> Result<StepRef, ListFault>
     requires step { at < 2 ^ 40 }
     requires level { level ≤ top_level at }
-    ensures next { IfOk result (λ next. (ps : Image) → P.list pages.old ≡ Some ps → HasLink empty.now ps link.now.page at level next) }
-    ensures bad { IfBadPage result (λ p. (p ≡ link.now.page) × ((ps : Image) → P.list pages.old ≡ Some ps → IsNoStepAt empty.now ps link.now.page at)) }
+    ensures next { IfOk result (λ next. (ps : Image) → P.list pages.old ≡ Some ps → HasLink ps link.now.page at level next) }
+    ensures bad { IfBadPage result (λ p. (p ≡ link.now.page) × ((ps : Image) → P.list pages.old ≡ Some ps → IsNoStepAt ps link.now.page at)) }
     ensures no_step { NeverNoStep result }
     ensures kept { OnlyReads P.used_count P.list P.same P.unbroken pages.old pages.new (NotDiskFault result) }
     ensures faults { FaultsRise (P.faults pages.old) (P.faults pages.new) result }
 {
-    let page = read_step(pages, link.page, at, empty)?;
+    let page = read_step(pages, link.page, at)?;
     Ok(link_at(page.links.as_slice(), level))
 }
 
@@ -67,15 +66,14 @@ pub(crate) fn follow<P: Pages>(
 /// link that leads to the step `to`. It reads the pages of the steps above `to`.
 pub(crate) fn descend<P: Pages>(
     pages: &mut P,
-    empty: &Digest,
     first: &StepRef,
     from: u64,
     to: u64,
 ) -> Result<StepRef, ListFault>
     requires below { to ≤ from }
     requires step { from < 2 ^ 40 }
-    ensures walks { IfOk result (λ link. (ps : Image) → P.list pages.old ≡ Some ps → Walks empty.now ps first.now from to link to) }
-    ensures bad { IfBadPage result (λ p. (ps : Image) → P.list pages.old ≡ Some ps → MeetsBadPageAbove empty.now ps first.now from to p) }
+    ensures walks { IfOk result (λ link. (ps : Image) → P.list pages.old ≡ Some ps → Walks ps first.now from to link to) }
+    ensures bad { IfBadPage result (λ p. (ps : Image) → P.list pages.old ≡ Some ps → MeetsBadPageAbove ps first.now from to p) }
     ensures no_step { NeverNoStep result }
     ensures kept { OnlyReads P.used_count P.list P.same P.unbroken pages.old pages.new (NotDiskFault result) }
     ensures faults { FaultsRise (P.faults pages.old) (P.faults pages.new) result }
@@ -84,8 +82,8 @@ pub(crate) fn descend<P: Pages>(
     let mut at = from;
     while at > to {
         let level = next_hop(at, to);
-        link = follow(pages, empty, &link, at, level)?;
-        at -= power(level);
+        link = follow(pages, &link, at, level)?;
+        at -= power_of_two(level);
     }
     Ok(link)
 }

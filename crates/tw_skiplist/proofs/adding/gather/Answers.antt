@@ -1,12 +1,13 @@
 use Rattle.std.proofs.Common.{◌≡◌, ◌<◌, ◌≤◌, ◌^◌, ◌+◌, ◌-◌, ℕ, suc, List, length, ap, sym, ◌∙◌, subst, arith, Some}
 use Rattle.tw_disk.specs.Image.{Image}
-use Rattle.tw_disk.specs.Pages.{only_reads_itself, only_reads_on}
+use Rattle.tw_disk.proofs.ReadingLaws.{only_reads_itself, only_reads_on}
 use Rattle.tw_base.specs.Levels.{top_level as top_level_of}
 use Rattle.tw_base.specs.History.{History}
+use Rattle.tw_skiplist.specs.GatherSteps.{HasLinks, LeadsNowhere}
 use Rattle.tw_skiplist.specs.Keeping.{KeepsSteps, Place, link_to}
-use Rattle.tw_skiplist.specs.Links.{HasLinks, LeadsNowhere}
-use Rattle.tw_skiplist.specs.Reading.Gathers.{next, start}
-use Rattle.tw_skiplist.specs.Reading.{Gathers, GathersBadPage, HasLink, IsNoStepAt, link_of}
+use Rattle.tw_skiplist.specs.StepPages.{HasLink, IsNoStepAt, link_of}
+use Rattle.tw_skiplist.specs.StepWalks.{Gathers, GathersBadPage}
+use Rattle.tw_skiplist.specs.StepWalks.Gathers.{next, start}
 use Rattle.tw_skiplist.specs.Records.{page_labels}
 use Rattle.tw_skiplist.specs.declared.head.StepRef.{StepRef}
 use Rattle.tw_skiplist.proofs.Appending.{each_push, labels_on, page_labels-first}
@@ -31,11 +32,11 @@ loop-level-init g c = record {
 pub overflow_sub-step : goal.overflow_sub-step
 overflow_sub-step g c =
     let le = power-le (c.args.from + 1) c.loop-level.level (omega arith) c.requires.step (omega (arith, c.loop-level-test.true, c.top_level-top.ensures.value)) in
-    omega (arith, le, c.power.ensures)
+    omega (arith, le, c.power_of_two.ensures)
 
 pub follow-requires-clause-level : goal.follow-requires-clause-level
 follow-requires-clause-level g c =
-    subst (λ (p : ℕ). c.loop-level.level ≤ top_level_of (c.args.from + 1 - p)) (sym c.power.ensures)
+    subst (λ (p : ℕ). c.loop-level.level ≤ top_level_of (c.args.from + 1 - p)) (sym c.power_of_two.ensures)
     (level_fits (c.args.from + 1) c.loop-level.level (omega arith) c.requires.step (omega (arith, c.loop-level-test.true, c.top_level-top.ensures.value)))
 
 pub loop-level-preserved : goal.loop-level-preserved
@@ -48,18 +49,17 @@ loop-level-preserved g c =
     record {
       link = λ ps told.
           let has = c.in_ok-link.ensures.next ps (inv.kept.list_kept ∙ told) in
-          let has_level = subst (λ (p : ℕ). HasLink c.args.empty.now ps c.loop-level.link.page (from + 1 - p) level c.in_ok-link.link) c.power.ensures has in
-          next_link dig g.met.H.Hasher.size ps c.args.first.now c.loop-level.link c.in_ok-link.link from level c.requires.step lower (inv.link ps told)
-          (subst (λ (e : List ℕ). HasLink e ps c.loop-level.link.page (from + 1 - 2 ^ level) level c.in_ok-link.link) c.requires.empty has_level);
+          let has_level = subst (λ (p : ℕ). HasLink ps c.loop-level.link.page (from + 1 - p) level c.in_ok-link.link) c.power_of_two.ensures has in
+          next_link dig g.met.H.Hasher.size ps c.args.first.now c.loop-level.link c.in_ok-link.link from level c.requires.step lower (inv.link ps told) has_level;
       links = λ ps told. HasLinks-more dig ps c.args.first.now c.loop-level.link from c.args.datum.now c.loop-level.links.links.items c.add.new.self.links.items c.loop-level.links.labels.items c.add.new.self.labels.items
           level (inv.link ps told) c.add.ensures.links c.add.ensures.labels (inv.links ps told);
       gathers = λ ps told.
-          let has = subst (λ (p : ℕ). HasLink c.args.empty.now ps c.loop-level.link.page (from + 1 - p) level c.in_ok-link.link) c.power.ensures (c.in_ok-link.ensures.next ps (inv.kept.list_kept ∙ told)) in
+          let has = subst (λ (p : ℕ). HasLink ps c.loop-level.link.page (from + 1 - p) level c.in_ok-link.link) c.power_of_two.ensures (c.in_ok-link.ensures.next ps (inv.kept.list_kept ∙ told)) in
           let e : suc level ≡ level + 1 = omega arith in
-          subst (λ (n : ℕ). Gathers c.args.empty.now ps c.args.first.now from n c.in_ok-link.link) e (next level c.loop-level.link c.in_ok-link.link (inv.gathers ps told) has);
+          subst (λ (n : ℕ). Gathers ps c.args.first.now from n c.in_ok-link.link) e (next level c.loop-level.link c.in_ok-link.link (inv.gathers ps told) has);
       gathered = λ ps told.
-          subst (λ (ls : List StepRef). (k : ℕ) → k < level + 1 → Gathers c.args.empty.now ps c.args.first.now from k (link_of ls k)) (sym c.add.ensures.links)
-          (each_push c.loop-level.links.links.items c.loop-level.link level inv.link_count (λ k l. Gathers c.args.empty.now ps c.args.first.now from k l) (inv.gathered ps told) (inv.gathers ps told));
+          subst (λ (ls : List StepRef). (k : ℕ) → k < level + 1 → Gathers ps c.args.first.now from k (link_of ls k)) (sym c.add.ensures.links)
+          (each_push c.loop-level.links.links.items c.loop-level.link level inv.link_count (λ k l. Gathers ps c.args.first.now from k l) (inv.gathered ps told) (inv.gathers ps told));
       labels = labels_on dig (from + 1) c.args.datum.now c.loop-level.links.links.items c.add.new.self.links.items c.loop-level.links.labels.items c.add.new.self.labels.items c.loop-level.link level
           inv.link_count inv.labels c.add.ensures.links c.add.ensures.labels;
       link_count = omega (arith, c.add.ensures.link_count, inv.link_count);
@@ -75,12 +75,11 @@ returns-in_err-link-clause-good g c =
     let level = c.loop-level.level in
     let from = c.args.from in
     let lower : level < top_level_of (from + 1) = omega (arith, c.loop-level-test.true, c.top_level-top.ensures.value) in
-    let bad = λ (ps : Image) (told : g.P.Pages.list c.args.pages.now ≡ Some ps) (no : IsNoStepAt c.args.empty.now ps c.loop-level.link.page (from + 1 - c.power.result)).
+    let bad = λ (ps : Image) (told : g.P.Pages.list c.args.pages.now ≡ Some ps) (no : IsNoStepAt ps c.loop-level.link.page (from + 1 - c.power_of_two.result)).
     bad_link dig g.met.H.Hasher.size ps c.args.first.now c.loop-level.link from level c.requires.step lower (inv.link ps told)
-    (subst (λ (e : List ℕ). IsNoStepAt e ps c.loop-level.link.page (from + 1 - 2 ^ level)) c.requires.empty
-    (subst (λ (p : ℕ). IsNoStepAt c.args.empty.now ps c.loop-level.link.page (from + 1 - p)) c.power.ensures no)) in
+    (subst (λ (p : ℕ). IsNoStepAt ps c.loop-level.link.page (from + 1 - p)) c.power_of_two.ensures no) in
     bad_page_passed c.from_residual.result c.in_err-link.field-0.0
-    (λ p. (p ≡ c.loop-level.link.page) × ((ps : Image) → g.P.Pages.list c.loop-level.pages ≡ Some ps → IsNoStepAt c.args.empty.now ps c.loop-level.link.page (from + 1 - c.power.result)))
+    (λ p. (p ≡ c.loop-level.link.page) × ((ps : Image) → g.P.Pages.list c.loop-level.pages ≡ Some ps → IsNoStepAt ps c.loop-level.link.page (from + 1 - c.power_of_two.result)))
     (λ _. (ps : Image) → g.P.Pages.list c.args.pages.now ≡ Some ps → LeadsNowhere dig ps c.args.first.now from)
     c.from_residual.ensures.1
     (λ page at ps told. bad ps told (at.1 ps (inv.kept.list_kept ∙ told))) c.in_err-link.ensures.bad
@@ -109,8 +108,8 @@ returns-in_err-link-clause-bad g c =
     let link = c.loop-level.link in
     let lower : level < top_level_of (from + 1) = omega (arith, c.loop-level-test.true, c.top_level-top.ensures.value) in
     bad_page_passed c.from_residual.result c.in_err-link.field-0.0
-    (λ p. (p ≡ link.page) × ((ps : Image) → g.P.Pages.list c.loop-level.pages ≡ Some ps → IsNoStepAt c.args.empty.now ps link.page (from + 1 - c.power.result)))
-    (λ p. (ps : Image) → g.P.Pages.list c.args.pages.now ≡ Some ps → GathersBadPage c.args.empty.now ps c.args.first.now from p)
+    (λ p. (p ≡ link.page) × ((ps : Image) → g.P.Pages.list c.loop-level.pages ≡ Some ps → IsNoStepAt ps link.page (from + 1 - c.power_of_two.result)))
+    (λ p. (ps : Image) → g.P.Pages.list c.args.pages.now ≡ Some ps → GathersBadPage ps c.args.first.now from p)
     c.from_residual.ensures.1
     (λ p at ps told. record {
       level = level;
@@ -118,7 +117,7 @@ returns-in_err-link-clause-bad g c =
       gathers = inv.gathers ps told;
       lower = lower;
       page_is = at.0;
-      bad = subst (λ (q : ℕ). IsNoStepAt c.args.empty.now ps link.page (from + 1 - q)) c.power.ensures (at.1 ps (inv.kept.list_kept ∙ told));
+      bad = subst (λ (q : ℕ). IsNoStepAt ps link.page (from + 1 - q)) c.power_of_two.ensures (at.1 ps (inv.kept.list_kept ∙ told));
     })
     c.in_err-link.ensures.bad
 
@@ -126,7 +125,7 @@ pub returns-clause-found : goal.returns-clause-found
 returns-clause-found g c = λ ps told.
     let from = c.args.from in
     let end : c.loop-level.level ≡ top_level_of (from + 1) = omega (arith, c.loop-level-test.false, c.loop-level.auto.level-end, c.top_level-top.ensures.value) in
-    (c.loop-level.link, subst (λ (l : ℕ). Gathers c.args.empty.now ps c.args.first.now from l c.loop-level.link) end (c.loop-level.invariant.gathers ps told))
+    (c.loop-level.link, subst (λ (l : ℕ). Gathers ps c.args.first.now from l c.loop-level.link) end (c.loop-level.invariant.gathers ps told))
 
 pub returns-clause-count : goal.returns-clause-count
 returns-clause-count g c =
@@ -150,5 +149,5 @@ returns-clause-gathered g c = λ ps told k l.
     let from = c.args.from in
     let level = c.loop-level.level in
     let under : k < level + 1 = omega (arith, l, c.add-2.ensures.link_count, inv.link_count) in
-    subst (λ (ls : List StepRef). Gathers c.args.empty.now ps c.args.first.now from k (link_of ls k)) (sym c.add-2.ensures.links)
-    (each_push c.loop-level.links.links.items c.loop-level.link level inv.link_count (λ k l. Gathers c.args.empty.now ps c.args.first.now from k l) (inv.gathered ps told) (inv.gathers ps told) k under)
+    subst (λ (ls : List StepRef). Gathers ps c.args.first.now from k (link_of ls k)) (sym c.add-2.ensures.links)
+    (each_push c.loop-level.links.links.items c.loop-level.link level inv.link_count (λ k l. Gathers ps c.args.first.now from k l) (inv.gathered ps told) (inv.gathers ps told) k under)

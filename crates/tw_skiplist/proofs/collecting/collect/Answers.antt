@@ -1,16 +1,16 @@
 use Rattle.std.proofs.Common.{◌≡◌, ◌<◌, ◌-◌, ◌^◌, ◌++◌, ◌∷◌, [], ℕ, List, length, ap, sym, ◌∙◌, subst, arith, Some}
 use Rattle.tw_disk.specs.Image.{Image}
-use Rattle.tw_disk.specs.Pages.{only_reads_itself, only_reads_on}
+use Rattle.tw_disk.proofs.ReadingLaws.{only_reads_itself, only_reads_on}
 use Rattle.tw_base.specs.Levels.{top_level}
 use Rattle.tw_base.proofs.Levels.{top_level-below}
-use Rattle.tw_skipproof.specs.Making.{IsPathOf}
+use Rattle.tw_skipproof.specs.HistoryProofs.{IsPathOf}
 use Rattle.tw_skipproof.specs.Paths.{HasShape, hop, hop_level}
 use Rattle.tw_skipproof.specs.declared.path.Link.{Link}
 use Rattle.tw_skipproof.proofs.Hops.{hop_level-le, hop_level-short}
-use Rattle.tw_skipproof.proofs.Making.{LeadsTo, leads-end, leads-further}
+use Rattle.tw_skipproof.proofs.OwnPaths.{LeadsTo, leads-end, leads-further}
 use Rattle.tw_skiplist.specs.declared.head.StepRef.{StepRef}
-use Rattle.tw_skiplist.specs.Reading.{Walks}
-use Rattle.tw_skiplist.specs.Reading.Walks.{here, on}
+use Rattle.tw_skiplist.specs.StepWalks.{Walks}
+use Rattle.tw_skiplist.specs.StepWalks.Walks.{here, on}
 use Rattle.tw_skiplist.specs.Records.{HasHop, WalksAlong}
 use Rattle.tw_skiplist.specs.Records.WalksAlong.{here as no_link, on as one_more}
 use Rattle.tw_skiplist.proofs.Kept.{walk_leads}
@@ -22,7 +22,7 @@ pub loop-at-init : goal.loop-at-init
 loop-at-init g c = record {
   walks = λ ps told. here;
   along = λ ps told.
-      subst (λ (ls : List Link). WalksAlong g.H.Hasher.dig c.args.empty.now ps c.args.first.now c.args.from c.args.to ls c.args.first.now c.args.from) (sym c.new-links.ensures) no_link;
+      subst (λ (ls : List Link). WalksAlong g.H.Hasher.dig ps c.args.first.now c.args.from c.args.to ls c.args.first.now c.args.from) (sym c.new-links.ensures) no_link;
   leads = λ ps h places told kept within first_is rest is. subst (λ (ls : List Link). IsPathOf g.H.Hasher.dig h (ls ++ rest) c.args.from c.args.to) (sym c.new-links.ensures) is;
   shapes = λ rest shape. subst (λ (ls : List Link). HasShape (ls ++ rest) c.args.from c.args.to) (sym c.new-links.ensures) shape;
   low = c.requires.below;
@@ -34,8 +34,8 @@ loop-at-init g c = record {
 pub hop_at-requires-clause-level : goal.hop_at-requires-clause-level
 hop_at-requires-clause-level g c = let within = hop_level-le c.loop-at.at c.args.to in omega (arith, within, c.next_hop-level.ensures.level)
 
-pub power-at-requires : goal.power-at-requires
-power-at-requires g c =
+pub power_of_two-at-requires : goal.power_of_two-at-requires
+power_of_two-at-requires g c =
     let within = hop_level-le c.loop-at.at c.args.to in
     let few = top_level-below c.loop-at.at (omega (arith, c.loop-at.invariant.high, c.requires.step)) in
     omega (arith, within, few, c.next_hop-level.ensures.level)
@@ -52,23 +52,23 @@ loop-at-preserved g c =
     let next = c.in_ok-link.field-0.next in
     let level = c.next_hop-level.ensures.level in
     let under : to < at = omega (arith, c.loop-at-test.true) in
-    let power : c.power-at.result ≡ 2 ^ hop_level at to = c.power-at.ensures ∙ ap (λ (l : ℕ). 2 ^ l) level in
+    let power : c.power_of_two-at.result ≡ 2 ^ hop_level at to = c.power_of_two-at.ensures ∙ ap (λ (l : ℕ). 2 ^ l) level in
     let short = hop_level-short at to under in
     let hops = λ (ps : Image) (told : g.P.Pages.list c.args.pages.now ≡ Some ps).
-    let has : HasHop dig c.args.empty.now ps c.loop-at.last.page at (hop_level at to) link next =
-    subst (λ (l : ℕ). HasHop dig c.args.empty.now ps c.loop-at.last.page at l link next) level (c.in_ok-link.ensures.hop ps (inv.kept.list_kept ∙ told)) in has in
+    let has : HasHop dig ps c.loop-at.last.page at (hop_level at to) link next =
+    subst (λ (l : ℕ). HasHop dig ps c.loop-at.last.page at l link next) level (c.in_ok-link.ensures.hop ps (inv.kept.list_kept ∙ told)) in has in
     record {
       walks = λ ps told.
-          subst (λ (p : ℕ). Walks c.args.empty.now ps first from to next (at - p)) (sym power)
-          (on c.loop-at.last at next (inv.walks ps told) under (hop_link dig c.args.empty.now ps c.loop-at.last.page at (hop_level at to) link next (hops ps told)));
+          subst (λ (p : ℕ). Walks ps first from to next (at - p)) (sym power)
+          (on c.loop-at.last at next (inv.walks ps told) under (hop_link dig ps c.loop-at.last.page at (hop_level at to) link next (hops ps told)));
       along = λ ps told.
-          subst (λ (p : ℕ). WalksAlong dig c.args.empty.now ps first from to c.push.new.self next (at - p)) (sym power)
-          (subst (λ (ls : List Link). WalksAlong dig c.args.empty.now ps first from to ls next (hop at to)) (sym c.in_ok-push.ensures.ok)
+          subst (λ (p : ℕ). WalksAlong dig ps first from to c.push.new.self next (at - p)) (sym power)
+          (subst (λ (ls : List Link). WalksAlong dig ps first from to ls next (hop at to)) (sym c.in_ok-push.ensures.ok)
           (one_more c.loop-at.links c.loop-at.last at link next (inv.along ps told) under (hops ps told)));
       leads = λ ps h places told kept within first_is.
-          let walks = subst (λ (e : List ℕ). Walks e ps first from to c.loop-at.last at) c.requires.empty (inv.walks ps told) in
+          let walks = inv.walks ps told in
           let leads = walk_leads dig g.met.H.Hasher.size h places ps kept first from to c.loop-at.last at c.requires.below within first_is walks in
-          let has = subst (λ (e : List ℕ). HasHop dig e ps c.loop-at.last.page at (hop_level at to) link next) c.requires.empty (hops ps told) in
+          let has = hops ps told in
           let record_is = record_of dig g.met.H.Hasher.size h places ps kept c.loop-at.last.page at (hop_level at to) link next (omega (arith, under)) (omega (arith, leads.high, within))
           (ap (λ (x : StepRef). x.page) leads.link_is) has in
           let so_far : LeadsTo dig h c.loop-at.links from at to = inv.leads ps h places told kept within first_is in

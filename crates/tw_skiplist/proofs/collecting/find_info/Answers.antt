@@ -1,7 +1,8 @@
 use Rattle.std.proofs.Common.{◌≡◌, ◌∙◌, Some}
 use Rattle.std.proofs.lemmas.Result.{err_from_is_err_and}
 use Rattle.tw_disk.specs.Image.{Image}
-use Rattle.tw_skiplist.specs.Reading.{IsNoStepAt, MeetsBadPage, MeetsBadPageAbove}
+use Rattle.tw_skiplist.specs.StepPages.{IsNoStepAt}
+use Rattle.tw_skiplist.specs.StepWalks.{MeetsBadPage, MeetsBadPageAbove}
 use Rattle.tw_skiplist.proofs.BadPages.{IfBadPage-weaker, bad_page_on, met_above}
 use Rattle.tw_skiplist.proofs.collecting.find_info.Goals as goal
 
@@ -11,9 +12,9 @@ returns-in_err-link-clause-bad g c =
     let p = err_from_is_err_and c.from_residual.result c.from_residual.ensures.1 in
     rw (p.1, p.2)
     (bad_page_on c.in_err-link.field-0.0
-    (λ p. (ps : Image) → list c.args.pages.now ≡ Some ps → MeetsBadPageAbove c.args.empty.now ps c.args.first.now c.args.from c.args.to p)
-    (λ p. (ps : Image) → list c.args.pages.now ≡ Some ps → MeetsBadPage c.args.empty.now ps c.args.first.now c.args.from c.args.to p)
-    (λ p met ps told. met_above c.args.empty.now ps c.args.first.now c.args.from c.args.to p (met ps told))
+    (λ p. (ps : Image) → list c.args.pages.now ≡ Some ps → MeetsBadPageAbove ps c.args.first.now c.args.from c.args.to p)
+    (λ p. (ps : Image) → list c.args.pages.now ≡ Some ps → MeetsBadPage ps c.args.first.now c.args.from c.args.to p)
+    (λ p met ps told. met_above ps c.args.first.now c.args.from c.args.to p (met ps told))
     c.in_err-link.ensures.bad)
 
 pub returns-clause-bad : goal.returns-clause-bad
@@ -21,8 +22,8 @@ returns-clause-bad g c =
     let list = g.P.Pages.list in
     let link = c.in_ok-link.link in
     IfBadPage-weaker c.read_info.result
-    (λ p. (p ≡ link.page) × ((ps : Image) → list c.descend.new.pages ≡ Some ps → IsNoStepAt c.args.empty.now ps link.page c.args.to))
-    (λ p. (ps : Image) → list c.args.pages.now ≡ Some ps → MeetsBadPage c.args.empty.now ps c.args.first.now c.args.from c.args.to p)
+    (λ p. (p ≡ link.page) × ((ps : Image) → list c.descend.new.pages ≡ Some ps → IsNoStepAt ps link.page c.args.to))
+    (λ p. (ps : Image) → list c.args.pages.now ≡ Some ps → MeetsBadPage ps c.args.first.now c.args.from c.args.to p)
     (λ p at ps told. record {
       link = link;
       at = c.args.to;

@@ -2,7 +2,7 @@ use Rattle.std.proofs.Common.{List, length, ap, ◌∙◌}
 use Rattle.tw_base.specs.Levels.{top_level}
 use Rattle.tw_skipproof.specs.declared.path.Link.{Link}
 use Rattle.tw_skiplist.specs.declared.head.StepRef.{StepRef}
-use Rattle.tw_skiplist.specs.Reading.{link_of}
+use Rattle.tw_skiplist.specs.StepPages.{link_of}
 use Rattle.tw_skiplist.specs.Records.{page_datum}
 use Rattle.tw_skiplist.proofs.Recording.{length-other_labels}
 use Rattle.tw_skiplist.proofs.collecting.hop_at.Goals as goal

@@ -3,7 +3,7 @@ use Rattle.std.specs.Int.{from_be_bytes, w32}
 use Rattle.std.proofs.lemmas.List.{get_or-drop, length-take-le}
 use Rattle.std.proofs.lemmas.Nat.{be_bytes_4, from_be_bytes-to_be_bytes_4}
 use Rattle.tw_skiplist.proofs.event_pages.event_size.Goals as goal
-use Rattle.tw_skiplist.proofs.event_pages.event_size.Goals.{then-size-gt1024-via-then-size-gt1024, then-size-gt1024-via-else-size-gt1024+then-bytes-at}
+use Rattle.tw_skiplist.proofs.event_pages.event_size.Goals.{then-size-gt-MOST_EVENT_BYTES-via-then-size-gt-MOST_EVENT_BYTES, then-size-gt-MOST_EVENT_BYTES-via-else-size-gt-MOST_EVENT_BYTES+then-bytes-at}
 
 -- the first of some bytes are bytes
 first_fit : (n : ℕ) (bs : List ℕ) → ((i : ℕ) → get_or bs i 0 < 256) → (i : ℕ) → get_or (take n bs) i 0 < 256
@@ -27,14 +27,14 @@ returns-then-bytes-at-lt4 c = λ event rest is short.
     let size : length (drop c.args.at c.args.bytes.now) ≡ 4 + length (event ++ rest) = ap (λ (t : List ℕ). length t) is ∙ omega arith in
     omega (arith, size, length-drop c.args.at c.args.bytes.now, c.if-bytes-at-lt4.true)
 
-pub returns-then-size-gt1024 : goal.returns-then-size-gt1024
-returns-then-size-gt1024 c = λ event rest is short.
+pub returns-then-size-gt-MOST_EVENT_BYTES : goal.returns-then-size-gt-MOST_EVENT_BYTES
+returns-then-size-gt-MOST_EVENT_BYTES c = λ event rest is short.
     let size : length (drop c.args.at c.args.bytes.now) ≡ 4 + length (event ++ rest) = ap (λ (t : List ℕ). length t) is ∙ omega arith in
     let same : c.u32_at-size.result ≡ length event =
     c.u32_at-size.ensures ∙ ap (λ (t : List ℕ). from_be_bytes w32 (take 4 t)) is ∙ from_be_bytes-to_be_bytes_4 (length event) (omega (arith, short)) in
     let all = length-drop c.args.at c.args.bytes.now in
     let both = length-append event rest in
-    elim c.then-size-gt1024.branch [
-      | then-size-gt1024-via-then-size-gt1024 w ↦ omega (arith, w.if-size-gt1024.true, same, short)
-      | then-size-gt1024-via-else-size-gt1024+then-bytes-at w ↦ omega (arith, w.if-bytes-at.true, same, size, all, both)
+    elim c.then-size-gt-MOST_EVENT_BYTES.branch [
+      | then-size-gt-MOST_EVENT_BYTES-via-then-size-gt-MOST_EVENT_BYTES w ↦ omega (arith, w.if-size-gt-MOST_EVENT_BYTES.true, same, short)
+      | then-size-gt-MOST_EVENT_BYTES-via-else-size-gt-MOST_EVENT_BYTES+then-bytes-at w ↦ omega (arith, w.if-bytes-at.true, same, size, all, both)
     ]

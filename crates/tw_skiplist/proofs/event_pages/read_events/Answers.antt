@@ -1,8 +1,10 @@
-use Rattle.std.proofs.Common.{◌≡◌, ℕ, List, ap, sym, ◌∙◌, arith, subst, length, length-take}
+use Rattle.std.proofs.Common.{◌≡◌, ◌+◌, ◌-◌, ℕ, List, ap, sym, ◌∙◌, arith, subst, length, length-take, take, drop}
 use Rattle.std.proofs.lemmas.List.{length_push, take_all}
-use Rattle.tw_skiplist.specs.Bytes.{stream}
+use Rattle.tw_skiplist.specs.StepBytes.{stream}
 use Rattle.tw_skiplist.proofs.Kept.{length-stream}
-use Rattle.tw_skiplist.proofs.Spelling.{AllShort, all_taken, more_sizes, more_taken, no_event}
+use Rattle.tw_base.specs.Bytes.{AreBytes}
+use Rattle.tw_base.proofs.ByteLemmas.{AreBytes-from}
+use Rattle.tw_skiplist.proofs.Spelling.{AllShort, all_taken, more_sizes, more_taken, no_event, spelled_bytes}
 use Rattle.tw_skiplist.proofs.event_pages.read_events.Goals as goal
 use Rattle.tw_skiplist.proofs.event_pages.read_events.Goals.{then-at-bytes-via-then-at-bytes, then-at-bytes-via-else-at-bytes+then-at-count}
 
@@ -18,14 +20,16 @@ loop-index-preserved c =
     let bytes = c.args.bytes.now in
     let at = c.loop-index.at in
     let size = c.in-Some.size in
-    let event = c.in_ok-copy_event.field-0 in
+    let event = c.in_ok-event.event in
     let has = c.in-Some.ensures in
+    let event_is : event ≡ take size (drop (at + 4) bytes) =
+    c.in_ok-event.ensures ∙ ap (λ (n : ℕ). take n (drop (at + 4) bytes)) (let e : (at + 4 + size) - (at + 4) ≡ size = omega arith in e) in
     let pushed = c.in_ok-push.ensures.ok in
     record {
-      so_far = ap stream pushed ∙ more_taken bytes at size c.loop-index.events event inv.so_far has c.in_ok-copy_event.ensures;
+      so_far = ap stream pushed ∙ more_taken bytes at size c.loop-index.events event inv.so_far has event_is;
       within = omega (arith, has.room);
       count = ap (λ (es : List (List ℕ)). length es) pushed ∙ length_push c.loop-index.events event ∙ omega (arith, inv.count);
-      sizes = subst AllShort (sym pushed) (more_sizes bytes at size c.loop-index.events event inv.so_far has c.in_ok-copy_event.ensures inv.sizes);
+      sizes = subst AllShort (sym pushed) (more_sizes bytes at size c.loop-index.events event inv.so_far has event_is inv.sizes);
     }
 
 pub returns-then-at-bytes : goal.returns-then-at-bytes
@@ -38,7 +42,7 @@ returns-then-at-bytes c = λ es spells.
     let size : length (stream es) ≡ length c.args.bytes.now = ap (λ (t : List ℕ). length t) spells.stream_is in
     elim c.then-at-bytes.branch [
       | then-at-bytes-via-then-at-bytes w ↦ w.if-at-bytes.true taken.0
-      | then-at-bytes-via-else-at-bytes+then-at-count w ↦ omega (arith, w.if-at-count.true, sum, size, taken.0, spells.count_is, spells.limits.bytes)
+      | then-at-bytes-via-else-at-bytes+then-at-count w ↦ omega (arith, w.if-at-count.true, sum, size, taken.0, spells.count_is, spells.limits.fit)
     ]
 
 pub returns : goal.returns
@@ -50,12 +54,16 @@ returns c =
     let end : c.loop-index.at ≡ length bytes = omega (arith, c.if-at-bytes.false) in
     let sum = length-stream events in
     let size : length (stream events) ≡ c.loop-index.at = ap (λ (t : List ℕ). length t) inv.so_far ∙ length-take c.loop-index.at bytes ∙ omega (arith, inv.within) in
+    let spelt : stream events ≡ bytes = inv.so_far ∙ take_all c.loop-index.at bytes (omega (arith, end)) in
     record {
-      stream_is = inv.so_far ∙ take_all c.loop-index.at bytes (omega (arith, end));
+      stream_is = spelt;
       count_is = inv.count ∙ done;
       limits = record {
-        count = omega (arith, inv.count, done, c.if-count-gt1024.false);
-        sizes = inv.sizes;
-        bytes = omega (arith, sum, size, inv.count, done, c.if-at-count.false);
+        are = record {
+          count = omega (arith, inv.count, done, c.if-count-gt-MOST_EVENTS.false);
+          sizes = inv.sizes;
+          bytes = spelled_bytes events (subst AreBytes (sym spelt) (AreBytes-from bytes (λ i. omega (arith, c.type_inv.bytes i))));
+        };
+        fit = omega (arith, sum, size, inv.count, done, c.if-at-count.false);
       };
     }

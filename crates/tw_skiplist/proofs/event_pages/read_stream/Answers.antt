@@ -1,5 +1,5 @@
 use Rattle.std.proofs.Common.{◌≡◌, ◌+◌, ◌++◌, ℕ, suc, List, ap, sym, ◌∙◌, subst, arith, refl}
-use Rattle.tw_disk.specs.Pages.{only_reads_itself, only_reads_on}
+use Rattle.tw_disk.proofs.ReadingLaws.{only_reads_itself, only_reads_on}
 use Rattle.tw_skiplist.specs.Events.{HasPieces, IsEventPageAt, last_page}
 use Rattle.tw_skiplist.specs.Events.HasPieces.{none, more}
 use Rattle.tw_skiplist.proofs.event_pages.read_stream.Goals as goal

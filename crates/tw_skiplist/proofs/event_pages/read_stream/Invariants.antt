@@ -3,6 +3,7 @@ use Rattle.tw_disk.specs.Image.{Image}
 use Rattle.tw_disk.specs.Pages.{OnlyReads}
 use Rattle.tw_skiplist.specs.Events.{HasPieces, last_page}
 use Rattle.tw_skiplist.proofs.event_pages.read_stream.Given as goal
+use Rattle.tw_skiplist.specs.declared.limits.TheConstants.{MOST_PIECE_BYTES}
 
 abbrev pub invariant-loop-number : goal.invariant-loop-number
 invariant-loop-number g l = record {
@@ -15,4 +16,4 @@ invariant-loop-number g l = record {
 }
 
 abbrev pub decreases-loop-number : goal.decreases-loop-number
-decreases-loop-number g l = l.size - 4085 * l.number
+decreases-loop-number g l = l.size - MOST_PIECE_BYTES * l.number

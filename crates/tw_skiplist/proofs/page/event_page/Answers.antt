@@ -1,11 +1,11 @@
 use Rattle.std.proofs.Common.{◌++◌, ◌∷◌, [], List, ℕ, ap, ◌∙◌, refl}
 use Rattle.std.specs.Int.{to_be_bytes, w16, w64}
 use Rattle.tw_disk.specs.PageBytes.{padded}
-use Rattle.tw_skiplist.specs.Bytes.{event_bytes}
+use Rattle.tw_skiplist.specs.StepBytes.{event_page_bytes}
 use Rattle.tw_skiplist.proofs.page.event_page.Goals as goal
 
 pub returns : goal.returns
-unfolding event_bytes
+unfolding event_page_bytes
 returns c =
     let one = 2 ∷ to_be_bytes w64 c.args.step in
     let two = one ++ to_be_bytes w16 c.args.number in

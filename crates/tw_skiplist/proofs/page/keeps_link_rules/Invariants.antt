@@ -1,5 +1,5 @@
 use Rattle.std.proofs.Common.{ℕ, ◌<◌}
-use Rattle.tw_skiplist.specs.Reading.{LiesBelow, link_of}
+use Rattle.tw_skiplist.specs.StepPages.{LiesBelow, link_of}
 use Rattle.tw_skiplist.proofs.page.keeps_link_rules.Given as goal
 
 abbrev pub invariant-loop-level : goal.invariant-loop-level

@@ -1,5 +1,5 @@
 use Rattle.std.proofs.Common.{◌≡◌, length}
-use Rattle.tw_skiplist.specs.Reading.{links_in}
+use Rattle.tw_skiplist.specs.FieldSteps.{links_in}
 use Rattle.tw_skiplist.proofs.page.links_at.Given as goal
 
 abbrev pub invariant-loop-level : goal.invariant-loop-level

@@ -3,8 +3,8 @@ use Rattle.std.proofs.lemmas.List.{append-nil, take_all}
 use Rattle.std.specs.Int.{to_be_bytes, w64}
 use Rattle.tw_skiplist.specs.declared.head.StepRef.{StepRef}
 use Rattle.tw_disk.specs.PageBytes.{padded}
-use Rattle.tw_skiplist.specs.Bytes.{step_front, step_bytes, links_bytes}
-use Rattle.tw_skiplist.specs.Reading.{AllSized}
+use Rattle.tw_skiplist.specs.StepBytes.{links_bytes, step_front, step_page_bytes}
+use Rattle.tw_skiplist.specs.StepPages.{AllSized}
 use Rattle.tw_skiplist.proofs.Decode.{filled_link, length-links_bytes-more, AllSized-more}
 use Rattle.tw_skiplist.proofs.page.step_page.Goals as goal
 
@@ -30,7 +30,7 @@ loop-link-preserved c =
     )
 
 pub returns-clause-bytes : goal.returns-clause-bytes
-unfolding step_bytes
+unfolding step_page_bytes
 returns-clause-bytes c = c.loop-link.invariant.0 ∙ ap (λ (ls : List StepRef). padded (step_front c.args.step c.args.fields.now (length c.args.links.now) ++ links_bytes ls))
     (take_all c.loop-link.link-index c.args.links.now (omega (arith, c.loop-link-test.false)))
 

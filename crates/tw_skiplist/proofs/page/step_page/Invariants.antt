@@ -1,7 +1,7 @@
 use Rattle.std.proofs.Common.{◌≡◌, ◌+◌, ◌*◌, ◌++◌, take, length}
 use Rattle.tw_disk.specs.PageBytes.{padded}
-use Rattle.tw_skiplist.specs.Bytes.{step_front, links_bytes}
-use Rattle.tw_skiplist.specs.Reading.{AllSized}
+use Rattle.tw_skiplist.specs.StepBytes.{links_bytes, step_front}
+use Rattle.tw_skiplist.specs.StepPages.{AllSized}
 use Rattle.tw_skiplist.proofs.page.step_page.Given as goal
 
 abbrev pub invariant-loop-link : goal.invariant-loop-link

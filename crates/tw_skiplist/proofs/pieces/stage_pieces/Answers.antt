@@ -1,8 +1,9 @@
 use Rattle.std.proofs.Common.{◌≡◌, ◌*◌, ◌<◌, ◌++◌, ◌∷◌, [], ℕ, List, length, refl, ap, sym, ◌∙◌, arith, subst, inl, inr}
 use Rattle.std.proofs.lemmas.Bool.{cases_lt}
-use Rattle.tw_skiplist.specs.Bytes.{event_pages}
+use Rattle.tw_skiplist.specs.StepBytes.{event_pages}
 use Rattle.tw_skiplist.proofs.Streams.{event_pages-first, event_pages-more, option_ap, option_more, option_same}
 use Rattle.tw_skiplist.proofs.pieces.stage_pieces.Goals as goal
+use Rattle.tw_skiplist.specs.declared.limits.TheConstants.{MOST_PIECE_BYTES}
 
 pub loop-count-init : goal.loop-count-init
 loop-count-init g c = record {
@@ -25,7 +26,7 @@ loop-count-preserved g c =
           ∙ option_ap (g.P.Pages.list c.args.pages.now) (ap (λ (p : List ℕ). event_pages c.args.step c.args.stream.now count ++ p ∷ []) c.piece_page.ensures ∙ sym (event_pages-more c.args.step c.args.stream.now count));
       needed = λ number l. elim (cases_lt number count) [
         | inl less ↦ inv.needed number less
-        | inr more ↦ (let e : count ≡ number = omega (arith, l, more) in subst (λ (k : ℕ). 4085 * k < length c.args.stream.now) e (omega (arith, c.loop-count-test.true)))
+        | inr more ↦ (let e : count ≡ number = omega (arith, l, more) in subst (λ (k : ℕ). MOST_PIECE_BYTES * k < length c.args.stream.now) e (omega (arith, c.loop-count-test.true)))
       ];
       used = omega (arith, c.in_ok-stage.ensures.used, inv.used);
       few = omega (arith, c.loop-count-test.true, c.requires.size);

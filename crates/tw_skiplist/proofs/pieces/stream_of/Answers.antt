@@ -1,7 +1,7 @@
 use Rattle.std.proofs.Common.{◌≡◌, ◌++◌, List, ℕ, ap, ◌∙◌, sym, length, take, arith}
 use Rattle.std.proofs.lemmas.List.{take_all}
 use Rattle.std.specs.Int.{to_be_bytes, w32}
-use Rattle.tw_skiplist.specs.Bytes.{stream}
+use Rattle.tw_skiplist.specs.StepBytes.{stream}
 use Rattle.tw_skiplist.proofs.Kept.{length-stream}
 use Rattle.tw_skiplist.proofs.Streams.{stream-more}
 use Rattle.tw_skiplist.proofs.pieces.stream_of.Goals as goal
@@ -21,4 +21,4 @@ returns-clause-size c =
     let items = c.as_slice-items.result.now in
     let whole : take c.loop-event.event-index items ≡ items = take_all c.loop-event.event-index items (omega (arith, c.loop-event-test.false)) in
     let is : c.loop-event.bytes ≡ stream c.args.events.now = c.loop-event.invariant ∙ ap stream whole ∙ ap stream c.as_slice-items.ensures in
-    omega (arith, ap length is, length-stream c.args.events.now, c.requires.count, c.requires.bytes)
+    omega (arith, ap length is, length-stream c.args.events.now, c.requires.are.count, c.requires.fit)

@@ -14,8 +14,8 @@ match_none o P Q is holds = subst (λ (x : Option (List (List ℕ))). MatchOptio
 match_some : (o : Option (List (List ℕ))) (v : List (List ℕ)) (P : Type 0) (Q : List (List ℕ) → Type 0) → o ≡ Some v → MatchOption o P Q → Q v
 match_some o v P Q is holds = subst (λ (x : Option (List (List ℕ))). MatchOption x P Q) is holds
 
-pub returns-then-info-gt69632-clause-good : goal.returns-then-info-gt69632-clause-good
-returns-then-info-gt69632-clause-good g c = λ dig ps h i told is. finds_some dig ps h i c.args.info.now is c.args.info.now.page (inl (omega (arith, c.if-info-gt69632.true), refl))
+pub returns-then-info-gt-MOST_STREAM_BYTES-clause-good : goal.returns-then-info-gt-MOST_STREAM_BYTES-clause-good
+returns-then-info-gt-MOST_STREAM_BYTES-clause-good g c = λ dig ps h i told is. finds_some dig ps h i c.args.info.now is c.args.info.now.page (inl (omega (arith, c.if-info-gt-MOST_STREAM_BYTES.true), refl))
 
 pub returns-in_err-bytes-clause-good : goal.returns-in_err-bytes-clause-good
 returns-in_err-bytes-clause-good g c =
@@ -29,7 +29,7 @@ returns-in_err-bytes-clause-good g c =
     c.in_err-bytes.ensures.bad
 
 -- the stream was read, and nothing is spelled
-misspelt : goal.returns-in-Ok-None-clause-bad
+misspelt : goal.returns-in-None-clause-bad
 misspelt g c = λ ps told.
     let has = c.in_ok-bytes.ensures.pieces ps told in
     let info = c.args.info.now in
@@ -39,24 +39,24 @@ misspelt g c = λ ps told.
       bytes = bytes;
       has = has.0;
       page_is = has.1;
-      nothing = λ events spells. match_none c.in-Ok-None.field-0 _ _ c.in-Ok-None.field-0-is c.in-Ok-None.ensures events (subst (λ (b : List ℕ). SpellsEvents b info.count events) (sym same) spells);
+      nothing = λ events spells. match_none c.in_ok-read_events.field-0 _ _ c.in-None.is c.in_ok-read_events.ensures events (subst (λ (b : List ℕ). SpellsEvents b info.count events) (sym same) spells);
     }))
 
-pub returns-in-Ok-None-clause-bad : goal.returns-in-Ok-None-clause-bad
-returns-in-Ok-None-clause-bad g c = misspelt g c
+pub returns-in-None-clause-bad : goal.returns-in-None-clause-bad
+returns-in-None-clause-bad g c = misspelt g c
 
-pub returns-in-Ok-None-clause-good : goal.returns-in-Ok-None-clause-good
-returns-in-Ok-None-clause-good g c = λ dig ps h i told is. finds_some dig ps h i c.args.info.now is c.in_ok-bytes.field-0.last (misspelt g c ps told)
+pub returns-in-None-clause-good : goal.returns-in-None-clause-good
+returns-in-None-clause-good g c = λ dig ps h i told is. finds_some dig ps h i c.args.info.now is c.in_ok-bytes.field-0.last (misspelt g c ps told)
 
 pub returns-clause-events : goal.returns-clause-events
 returns-clause-events g c = λ dig ps h i told is.
     let has = c.in_ok-bytes.ensures.pieces ps told in
     let info = c.args.info.now in
-    events_are dig ps h i info is c.in-Ok-Some.events (record {
+    events_are dig ps h i info is c.in-Some.events (record {
       bytes = c.in_ok-bytes.field-0.bytes;
       has = has.0;
-      spells = subst (λ (b : List ℕ). SpellsEvents b info.count c.in-Ok-Some.events) c.as_slice.ensures (match_some c.in-Ok-Some.field-0 c.in-Ok-Some.events _ _ c.in-Ok-Some.field-0-is c.in-Ok-Some.ensures);
+      spells = subst (λ (b : List ℕ). SpellsEvents b info.count c.in-Some.events) c.as_slice.ensures (match_some c.in_ok-read_events.field-0 c.in-Some.events _ _ c.in-Some.is c.in_ok-read_events.ensures);
     })
 
 pub returns-clause-counted : goal.returns-clause-counted
-returns-clause-counted g c = let spelt = match_some c.in-Ok-Some.field-0 c.in-Ok-Some.events _ _ c.in-Ok-Some.field-0-is c.in-Ok-Some.ensures in (spelt.limits, spelt.count_is)
+returns-clause-counted g c = let spelt = match_some c.in_ok-read_events.field-0 c.in-Some.events _ _ c.in-Some.is c.in_ok-read_events.ensures in (spelt.limits, spelt.count_is)

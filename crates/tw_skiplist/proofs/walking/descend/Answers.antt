@@ -1,10 +1,11 @@
 use Rattle.std.proofs.Common.{◌≡◌, ◌<◌, ◌-◌, ◌^◌, ℕ, ap, sym, ◌∙◌, subst, arith}
-use Rattle.tw_disk.specs.Pages.{only_reads_itself, only_reads_on}
+use Rattle.tw_disk.proofs.ReadingLaws.{only_reads_itself, only_reads_on}
 use Rattle.tw_base.proofs.Levels.{top_level-below}
 use Rattle.tw_skipproof.specs.Paths.{hop_level}
 use Rattle.tw_skipproof.proofs.Hops.{hop_level-le, hop_level-short}
-use Rattle.tw_skiplist.specs.Reading.{HasLink, Walks}
-use Rattle.tw_skiplist.specs.Reading.Walks.{here, on}
+use Rattle.tw_skiplist.specs.StepPages.{HasLink}
+use Rattle.tw_skiplist.specs.StepWalks.{Walks}
+use Rattle.tw_skiplist.specs.StepWalks.Walks.{here, on}
 use Rattle.tw_skiplist.proofs.walking.descend.Goals as goal
 
 pub loop-at-init : goal.loop-at-init
@@ -19,8 +20,8 @@ loop-at-init g c = record {
 pub follow-requires-clause-level : goal.follow-requires-clause-level
 follow-requires-clause-level g c = let within = hop_level-le c.loop-at.at c.args.to in omega (arith, within, c.next_hop-level.ensures.level)
 
-pub power-at-requires : goal.power-at-requires
-power-at-requires g c =
+pub power_of_two-at-requires : goal.power_of_two-at-requires
+power_of_two-at-requires g c =
     let within = hop_level-le c.loop-at.at c.args.to in
     let few = top_level-below c.loop-at.at (omega (arith, c.loop-at.invariant.high, c.requires.step)) in
     omega (arith, within, few, c.next_hop-level.ensures.level)
@@ -32,13 +33,13 @@ loop-at-preserved g c =
     let to = c.args.to in
     let level = c.next_hop-level.ensures.level in
     let under : to < at = omega (arith, c.loop-at-test.true) in
-    let power : c.power-at.result ≡ 2 ^ hop_level at to = c.power-at.ensures ∙ ap (λ (l : ℕ). 2 ^ l) level in
+    let power : c.power_of_two-at.result ≡ 2 ^ hop_level at to = c.power_of_two-at.ensures ∙ ap (λ (l : ℕ). 2 ^ l) level in
     let short = hop_level-short at to under in
     record {
       walks = λ ps told.
-          let next : HasLink c.args.empty.now ps c.loop-at.link.page at (hop_level at to) c.in_ok-link.link =
-          subst (λ (l : ℕ). HasLink c.args.empty.now ps c.loop-at.link.page at l c.in_ok-link.link) level (c.in_ok-link.ensures.next ps (inv.kept.list_kept ∙ told)) in
-          subst (λ (p : ℕ). Walks c.args.empty.now ps c.args.first.now c.args.from to c.in_ok-link.link (at - p)) (sym power) (on c.loop-at.link at c.in_ok-link.link (inv.walks ps told) under next);
+          let next : HasLink ps c.loop-at.link.page at (hop_level at to) c.in_ok-link.link =
+          subst (λ (l : ℕ). HasLink ps c.loop-at.link.page at l c.in_ok-link.link) level (c.in_ok-link.ensures.next ps (inv.kept.list_kept ∙ told)) in
+          subst (λ (p : ℕ). Walks ps c.args.first.now c.args.from to c.in_ok-link.link (at - p)) (sym power) (on c.loop-at.link at c.in_ok-link.link (inv.walks ps told) under next);
       low = omega (arith, short, power, under);
       high = omega (arith, inv.high);
       kept = only_reads_on g.P.Pages.used_count g.P.Pages.list g.P.Pages.same g.P.Pages.unbroken _ _ _ _ _ _ g.met.P.Pages.same_on (λ good. tt) (λ good. tt) inv.kept c.in_ok-link.ensures.kept;

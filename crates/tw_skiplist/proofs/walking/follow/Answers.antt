@@ -1,6 +1,6 @@
 use Rattle.std.proofs.Common.{List, ap, ◌∙◌}
 use Rattle.tw_skiplist.specs.declared.head.StepRef.{StepRef}
-use Rattle.tw_skiplist.specs.Reading.{link_of}
+use Rattle.tw_skiplist.specs.StepPages.{link_of}
 use Rattle.tw_skiplist.proofs.walking.follow.Goals as goal
 
 pub returns-clause-next : goal.returns-clause-next

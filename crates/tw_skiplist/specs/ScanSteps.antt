@@ -1,0 +1,13 @@
+-- An event in a stream that is taken apart: steps of the proof that a stream's events are read where it spells some.
+use Rattle.std.specs.Prelude.{◌≡◌, ℕ, ◌+◌, ◌≤◌, List, ◌++◌, length, take, drop}
+use Rattle.std.specs.Int.{to_be_bytes, w32}
+use Rattle.tw_base.specs.declared.limits.TheConstants.{MOST_EVENT_BYTES}
+
+-- an event of this size, at most that of an event, stands at the place behind its length
+pub record HasEventAt (bytes : List ℕ) (at size : ℕ) : Type 0 where
+  pub few : size ≤ MOST_EVENT_BYTES
+  pub room : at + 4 + size ≤ length bytes
+  pub length_is : take 4 (drop at bytes) ≡ to_be_bytes w32 size
+
+abbrev pub IsNoEventAt : (bytes : List ℕ) → (at : ℕ) → Type 0
+IsNoEventAt bytes at = (event rest : List ℕ) → drop at bytes ≡ to_be_bytes w32 (length event) ++ (event ++ rest) → length event ≤ MOST_EVENT_BYTES → ⊥

@@ -1,0 +1,67 @@
+-- Which pages are step pages.
+use Rattle.std.specs.Prelude.{◌≡◌, ℕ, suc, ◌+◌, ◌-◌, ◌^◌, ◌<◌, ◌≤◌, ◌↔◌, List, [], ◌∷◌, length, slice_index_or}
+use Rattle.tw_disk.specs.Image.{Image, page_at}
+use Rattle.tw_base.specs.Levels.{top_level}
+use Rattle.tw_base.specs.declared.limits.TheConstants.{MOST_EVENTS}
+use Rattle.tw_skiplist.specs.declared.head.StepRef.{StepRef}
+use Rattle.tw_skiplist.specs.declared.fields.StepFields.{StepFields}
+use Rattle.tw_skiplist.specs.declared.limits.TheConstants.{MOST_STREAM_BYTES}
+use Rattle.tw_skiplist.specs.StepBytes.{step_page_bytes}
+
+abbrev pub no_ref : StepRef
+no_ref = record { page = 0; auth = [] }
+
+abbrev pub link_of : List StepRef → (level : ℕ) → StepRef
+link_of links level = slice_index_or links level no_ref
+
+-- the numbers are within their ranges; the first event page lies below the page, and is 0 exactly where the stream has no bytes;
+-- the page of the archive's root, 0 for none, lies below the page too
+pub record KeepsFieldRules (page : ℕ) (f : StepFields) : Type 0 where
+  pub count : f.count ≤ MOST_EVENTS
+  pub size : f.stream.size ≤ MOST_STREAM_BYTES
+  pub none : f.stream.size ≡ 0 ↔ f.stream.page ≡ 0
+  pub first : f.stream.page < page
+  pub archive : f.archive.page < page
+
+-- a link at this level leads to a page below the page, which is 0 exactly where the link leads to step 0
+pub record LiesBelow (page step level : ℕ) (link : StepRef) : Type 0 where
+  pub below : link.page < page
+  pub genesis : step ≡ 2 ^ level ↔ link.page ≡ 0
+
+abbrev pub KeepsLinkRules : (page step : ℕ) → List StepRef → Type 0
+KeepsLinkRules page step links = (level : ℕ) → level < length links → LiesBelow page step level (link_of links level)
+
+-- digests have 32 bytes
+abbrev pub AllSized : List StepRef → Type 0
+AllSized [] = Unit {0}
+AllSized (l ∷ ls) = (length l.auth ≡ 32) × AllSized ls
+
+pub record HasWidths (f : StepFields) (links : List StepRef) : Type 0 where
+  pub event_root : length f.event_root ≡ 32
+  pub archive : length f.archive.label ≡ 32
+  pub auth : length f.auth ≡ 32
+  pub each_link : AllSized links
+
+-- the bytes are the page of this step with these fields and links, and stand in the page of this number
+pub record IsStepPage (page step : ℕ) (f : StepFields) (links : List StepRef) (bytes : List ℕ) : Type 0 where
+  pub bytes_are : bytes ≡ step_page_bytes step f links
+  pub link_count : length links ≡ suc (top_level step)
+  pub widths : HasWidths f links
+  pub field_rules : KeepsFieldRules page f
+  pub link_rules : KeepsLinkRules page step links
+
+-- the page of this number is one of the pages, and the page of this step
+pub record IsStepAt (pages : Image) (page step : ℕ) (f : StepFields) (links : List StepRef) : Type 0 where
+  pub low : 4 ≤ page
+  pub below : page < 4 + length pages
+  pub is : IsStepPage page step f links (page_at pages (page - 4))
+
+abbrev pub IsNoStepAt : Image → (page step : ℕ) → Type 0
+IsNoStepAt pages page step = (f : StepFields) (links : List StepRef) → IsStepAt pages page step f links → ⊥
+
+-- the page is that of the step, and this is its link of that level
+pub record HasLink (pages : Image) (page step level : ℕ) (next : StepRef) : Type 0 where
+  pub fields : StepFields
+  pub links : List StepRef
+  pub is : IsStepAt pages page step fields links
+  pub next_is : next ≡ link_of links level
