@@ -2,11 +2,11 @@
 use Rattle.std.proofs.Common.{◌≡◌, ◌⊎◌, ℕ, ◌-◌, ◌^◌, ◌<◌, List, length, refl, ap, sym, ◌∙◌, subst, inl, inr, Bool, true, false}
 use Rattle.std.specs.Prelude.{IfOk, Ok, Option, Some, None, Result, Err, MatchOption, if◌then◌else◌, nat_le, nat_lt}
 use Rattle.std.proofs.lemmas.Bool.{lt-ltb}
-use Rattle.tw_base.specs.History.{History, events_at, plus}
-use Rattle.tw_chain.specs.Making.{MakesExistence}
+use Rattle.tw_base.specs.History.{History, events_at, with_events}
+use Rattle.tw_skipproof.specs.HistoryProofs.{MakesExistence}
 use Rattle.tw_base.specs.declared.thread.Thread.{Thread}
-use Rattle.tw_skiplist.specs.Keeping.{event_step}
-use Rattle.tw_service.specs.Faults.{IsBadPage, IsFault, IsNoEvent, OfNoEvent}
+use Rattle.tw_base.specs.declared.limits.TheConstants.{LAST_STEP, MOST_EVENTS, MOST_STEP_BYTES}
+use Rattle.tw_service.specs.Refusals.{IsBadPage, IsFault, IsNoEvent, OfNoEvent}
 use Rattle.tw_service.specs.Limits.{append_refusal, bytes_of, event_refusal, first_long, is_in_order, length_refusal, limits_refusal, or_else, order_refusal, proof_refusal}
 use Rattle.tw_service.specs.Machine.{Answers, Call, IsStepOf, Reply, last_thread}
 use Rattle.tw_service.specs.Machine.Call.{Append, ProveEvent}
@@ -44,13 +44,13 @@ is_told_length n = (λ is. is, λ is. cc)
 
 lengths_told : (o : Option (List ℕ)) (bytes : ℕ) → Of IsTold (length_refusal o bytes)
 lengths_told (Some event) bytes = is_told_length (length event)
-lengths_told None bytes = of_if IsTold (nat_lt 65536 bytes) (Some (TooLong bytes)) None (is_told_length bytes) tt
+lengths_told None bytes = of_if IsTold (nat_lt MOST_STEP_BYTES bytes) (Some (TooLong bytes)) None (is_told_length bytes) tt
 
 pub append_told : (steps : ℕ) (events : List (List ℕ)) → Of IsTold (append_refusal false steps events)
 unfolding append_refusal limits_refusal
 append_told steps events =
-    of_if IsTold (nat_le (2 ^ 40 - 1) steps) (Some Full) (limits_refusal events) ((λ is. is), (λ is. cc))
-    (of_if IsTold (nat_lt 1024 (length events)) (Some (TooMany (length events))) (length_refusal (first_long events) (bytes_of events)) (is_told_count (length events)) (lengths_told (first_long events) (bytes_of events)))
+    of_if IsTold (nat_le LAST_STEP steps) (Some Full) (limits_refusal events) ((λ is. is), (λ is. cc))
+    (of_if IsTold (nat_lt MOST_EVENTS (length events)) (Some (TooMany (length events))) (length_refusal (first_long events) (bytes_of events)) (is_told_count (length events)) (lengths_told (first_long events) (bytes_of events)))
 
 of_weaker : (P Q : Refusal → Type 0) → ((r : Refusal) → P r → Q r) → (o : Option Refusal) → Of P o → Of Q o
 of_weaker P Q step None all = tt
@@ -125,11 +125,11 @@ module _ (dig : List ℕ → List ℕ) {T : Type 0} (h : History) (call : Call) 
 
 module _ (dig : List ℕ → List ℕ) (h : History) (events : List (List ℕ)) where
   pub append_refused : (r : Refusal) → Some r ≡ append_refusal false (length h.steps) events → IsStepOf dig h (Append events) (Refused r) h
-  append_refused r is = subst (λ o. MatchOption o ((h ≡ plus h (event_step events)) × (Refused r ≡ OfThread (last_thread dig h))) (λ refusal. (h ≡ h) × (Refused r ≡ Refused refusal))) is (refl, refl)
+  append_refused r is = subst (λ o. MatchOption o ((h ≡ with_events h events) × (Refused r ≡ OfThread (last_thread dig h))) (λ refusal. (h ≡ h) × (Refused r ≡ Refused refusal))) is (refl, refl)
 
-  pub append_done : (t : Thread) → None ≡ append_refusal false (length h.steps) events → t ≡ last_thread dig (plus h (event_step events)) → IsStepOf dig h (Append events) (OfThread t) (plus h (event_step events))
+  pub append_done : (t : Thread) → None ≡ append_refusal false (length h.steps) events → t ≡ last_thread dig (with_events h events) → IsStepOf dig h (Append events) (OfThread t) (with_events h events)
   append_done t is same =
-      subst (λ o. MatchOption o ((plus h (event_step events) ≡ plus h (event_step events)) × (OfThread t ≡ OfThread (last_thread dig (plus h (event_step events))))) (λ refusal. (plus h (event_step events) ≡ h) × (OfThread t ≡ Refused refusal))) is
+      subst (λ o. MatchOption o ((with_events h events ≡ with_events h events) × (OfThread t ≡ OfThread (last_thread dig (with_events h events)))) (λ refusal. (with_events h events ≡ h) × (OfThread t ≡ Refused refusal))) is
       (refl, ap OfThread same)
 
 -- ---- proving an event

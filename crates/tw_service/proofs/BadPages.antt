@@ -4,7 +4,7 @@ use Rattle.std.specs.Prelude.{Err}
 use Rattle.tw_skiplist.specs.Answers.{IfBadPage}
 use Rattle.tw_skiplist.specs.declared.fault.ListFault.{ListFault}
 use Rattle.tw_skiplist.specs.declared.fault.ListFault.TheVariants as list
-use Rattle.tw_service.specs.Faults.{IsBadPage, IsFault, OfBadPage, OfNoEvent, refusal_of}
+use Rattle.tw_service.specs.Refusals.{IsBadPage, IsFault, OfBadPage, OfNoEvent, refusal_of}
 use Rattle.tw_service.specs.declared.refusal.Refusal.{Refusal}
 use Rattle.tw_service.specs.declared.refusal.Refusal.TheVariants.{NoEvent, BadPage}
 

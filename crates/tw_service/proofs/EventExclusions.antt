@@ -6,7 +6,8 @@ use Rattle.std.proofs.lemmas.Bool.{cases_lt}
 use Rattle.std.proofs.lemmas.List.{append_cancel_left, take_at}
 use Rattle.tw_disk.specs.Image.{Image}
 use Rattle.tw_skiplist.specs.declared.info.StepInfo.{StepInfo}
-use Rattle.tw_skiplist.specs.Bytes.{event_bytes}
+use Rattle.tw_skiplist.specs.declared.limits.TheConstants.{MOST_PIECE_BYTES, MOST_STREAM_BYTES}
+use Rattle.tw_skiplist.specs.StepBytes.{event_page_bytes}
 use Rattle.tw_skiplist.specs.Events.{FindsEvents, FindsNoEvents, HasPieces, HasStream, IsEventPageAt, MeetsBadPiece, SpellsEvents, last_page}
 use Rattle.tw_skiplist.specs.Events.HasPieces.{none, more}
 
@@ -18,8 +19,8 @@ head_bytes step number = 2 ∷ (to_be_bytes w64 step ++ to_be_bytes w16 number)
 abbrev zeros : (step number : ℕ) → List ℕ → List ℕ
 zeros step number bytes = replicate (4096 - length (head_bytes step number ++ bytes)) 0
 
-laid : (step number : ℕ) (bytes : List ℕ) → event_bytes step number bytes ≡ head_bytes step number ++ (bytes ++ zeros step number bytes)
-unfolding event_bytes
+laid : (step number : ℕ) (bytes : List ℕ) → event_page_bytes step number bytes ≡ head_bytes step number ++ (bytes ++ zeros step number bytes)
+unfolding event_page_bytes
 laid step number bytes = append_assoc (head_bytes step number) bytes (zeros step number bytes)
 
 one_piece : (pages : Image) (page step number size : ℕ) (bytes other : List ℕ) → IsEventPageAt pages page step number size bytes → IsEventPageAt pages page step number size other → bytes ≡ other
@@ -61,7 +62,7 @@ module _ (pages : Image) (info : StepInfo) where
 
   record Piece (number : ℕ) : Type 0 where
     bytes : List ℕ
-    needed : 4085 * number < info.stream.size
+    needed : MOST_PIECE_BYTES * number < info.stream.size
     is : Page number bytes
 
   piece_below : (count : ℕ) (bytes : List ℕ) → Pieces count bytes → (number : ℕ) → number < count → Piece number
@@ -72,7 +73,7 @@ module _ (pages : Image) (info : StepInfo) where
   ]
 
   -- a stream has one number of pages
-  no_fewer : (one two : ℕ) (bytes : List ℕ) → info.stream.size ≤ 4085 * one → Pieces two bytes → one < two → ⊥
+  no_fewer : (one two : ℕ) (bytes : List ℕ) → info.stream.size ≤ MOST_PIECE_BYTES * one → Pieces two bytes → one < two → ⊥
   no_fewer one two bytes all pieces less = let piece = piece_below two bytes pieces one less in omega (arith, all, piece.needed)
 
   one_number : (bytes other : List ℕ) (one : HasStream pages info bytes) (two : HasStream pages info other) → one.number ≡ two.number
@@ -95,7 +96,7 @@ module _ (pages : Image) (info : StepInfo) where
       let piece = piece_below has.number bytes has.pieces met.number less in
       met.bad piece.bytes piece.is
 
-  pub events_or_none : (events : List (List ℕ)) (page : ℕ) → info.stream.size ≤ 69632 → FindsEvents pages info events → FindsNoEvents pages info page → ⊥
+  pub events_or_none : (events : List (List ℕ)) (page : ℕ) → info.stream.size ≤ MOST_STREAM_BYTES → FindsEvents pages info events → FindsNoEvents pages info page → ⊥
   events_or_none events page short finds (inl long) = omega (arith, short, long.0)
   events_or_none events page short finds (inr (inl met)) = no_bad_piece finds.bytes page finds.has met
   events_or_none events page short finds (inr (inr lacks)) =
@@ -112,7 +113,7 @@ module _ (pages : Image) (info : StepInfo) where
     ]
   ]
 
-  pub one_page : (page other : ℕ) → info.stream.size ≤ 69632 → FindsNoEvents pages info page → FindsNoEvents pages info other → page ≡ other
+  pub one_page : (page other : ℕ) → info.stream.size ≤ MOST_STREAM_BYTES → FindsNoEvents pages info page → FindsNoEvents pages info other → page ≡ other
   one_page page other short (inl long) two = absurd (omega (arith, short, long.0))
   one_page page other short (inr one) (inl long) = absurd (omega (arith, short, long.0))
   one_page page other short (inr (inl one)) (inr (inl two)) = one_piece_page page other one two

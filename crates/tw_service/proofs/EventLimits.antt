@@ -7,19 +7,20 @@ use Rattle.std.proofs.lemmas.List.Sums.{sum_by-cons}
 use Rattle.std.proofs.lemmas.Option.{get_or_from_slice_get}
 use Rattle.tw_base.specs.Lists.{Each}
 use Rattle.tw_base.proofs.ListLemmas.{Each-get_or}
-use Rattle.tw_skiplist.specs.Keeping.{IsWithinLimits}
+use Rattle.tw_base.specs.declared.limits.TheConstants.{MOST_EVENT_BYTES}
+use Rattle.tw_base.specs.Limits.{MayRecord}
 use Rattle.tw_service.specs.Limits.{bytes_of, first_long}
 
 -- where no event is longer than 1,024 bytes, each is at most so long
-pub none_long : (events : List (List ℕ)) → first_long events ≡ None → Each (λ event. length event ≤ 1024) events
+pub none_long : (events : List (List ℕ)) → first_long events ≡ None → Each (λ event. length event ≤ MOST_EVENT_BYTES) events
 none_long [] none = tt
 none_long (event ∷ events) none =
-    let cases : (b : Bool) → nat_lt 1024 (length event) ≡ b → (if b then Some event else first_long events) ≡ None → Each (λ e. length e ≤ 1024) (event ∷ events) =
-    elim [ true ↦ λ is some. cc | false ↦ λ is rest. (ltb-false 1024 (length event) is, none_long events rest) ] in
-    cases (nat_lt 1024 (length event)) refl none
+    let cases : (b : Bool) → nat_lt MOST_EVENT_BYTES (length event) ≡ b → (if b then Some event else first_long events) ≡ None → Each (λ e. length e ≤ MOST_EVENT_BYTES) (event ∷ events) =
+    elim [ true ↦ λ is some. cc | false ↦ λ is rest. (ltb-false MOST_EVENT_BYTES (length event) is, none_long events rest) ] in
+    cases (nat_lt MOST_EVENT_BYTES (length event)) refl none
 
 -- and together they have at most so many bytes
-pub bytes-short : (events : List (List ℕ)) → Each (λ event. length event ≤ 1024) events → bytes_of events ≤ 1024 * length events
+pub bytes-short : (events : List (List ℕ)) → Each (λ event. length event ≤ MOST_EVENT_BYTES) events → bytes_of events ≤ MOST_EVENT_BYTES * length events
 bytes-short [] short = lit≤ tt
 bytes-short (event ∷ events) short = omega (arith, short.0, bytes-short events short.1, sum_by-cons (λ (e : List ℕ). length e) event events)
 
@@ -27,10 +28,10 @@ no_first : (o : Option (List ℕ)) → option_map (λ event. length event) o ≡
 no_first None none = refl
 no_first (Some event) none = cc
 
-pub short_events : (events : List (List ℕ)) (o : Option ℕ) → o ≡ option_map (λ event. length event) (first_long events) → o ≡ None → Each (λ event. length event ≤ 1024) events
+pub short_events : (events : List (List ℕ)) (o : Option ℕ) → o ≡ option_map (λ event. length event) (first_long events) → o ≡ None → Each (λ event. length event ≤ MOST_EVENT_BYTES) events
 short_events events o is none = none_long events (no_first (first_long events) (sym is ∙ none))
 
 -- an event among events within the limits
-pub event_short : (events : List (List ℕ)) (index : ℕ) (event : List ℕ) → IsWithinLimits events → slice_get events index ≡ Some event → length event ≤ 1024
+pub event_short : (events : List (List ℕ)) (index : ℕ) (event : List ℕ) → MayRecord events → slice_get events index ≡ Some event → length event ≤ MOST_EVENT_BYTES
 event_short events index event limits there =
-    subst (λ e. length e ≤ 1024) (get_or_from_slice_get events index event [] there) (Each-get_or (λ e. length e ≤ 1024) events index [] (lit≤ tt) limits.sizes)
+    subst (λ e. length e ≤ MOST_EVENT_BYTES) (get_or_from_slice_get events index event [] there) (Each-get_or (λ e. length e ≤ MOST_EVENT_BYTES) events index [] (lit≤ tt) limits.are.sizes)

@@ -5,15 +5,14 @@ use Rattle.tw_base.specs.EventTree.{audit_path}
 use Rattle.tw_base.specs.Formats.{Spells}
 use Rattle.tw_base.specs.History.{History, events_at}
 use Rattle.tw_base.specs.Sound.{IsSound}
-use Rattle.tw_chain.specs.Making.{IsExistenceOf, MakesExistence}
-use Rattle.tw_chain.proofs.Completeness.{within-made}
+use Rattle.tw_skipproof.proofs.ExistenceOf.{within-made}
 use Rattle.tw_disk.specs.Image.{Image}
 use Rattle.tw_skiplist.specs.Infos.{IsInfoOf}
 use Rattle.tw_skiplist.specs.declared.info.StepProof.{StepProof}
-use Rattle.tw_skipproof.specs.Existence.{IsWithinLimits, existence_layout}
-use Rattle.tw_skipproof.specs.Making.{IsPathOf}
+use Rattle.tw_skipproof.specs.Existence.{IsExistenceInRange, existence_layout}
+use Rattle.tw_skipproof.specs.HistoryProofs.{IsExistenceOf, IsPathOf, MakesExistence}
 use Rattle.tw_skipproof.specs.Writing.{IsShaped}
-use Rattle.tw_service.specs.Made.{made_of}
+use Rattle.tw_service.specs.MadeSteps.{made_of}
 
 module _ (dig : List ℕ → List ℕ) (ps : Image) (h : History) (step : ℕ) (name : List ℕ) (top index : ℕ) (proof : StepProof) (events : List (List ℕ)) (event : List ℕ) (path : List (List ℕ))
     (named : h.name ≡ name) (links : IsPathOf dig h proof.path.links top step) (info : IsInfoOf dig ps h step proof.info) (same : events ≡ events_at h step)
@@ -31,7 +30,7 @@ module _ (dig : List ℕ → List ℕ) (ps : Image) (h : History) (step : ℕ) (
   }
 
   pub makes : (bytes : List ℕ) → IsSound h → step ≤ top → top ≤ length h.steps
-      → (IsWithinLimits (made_of name top index proof event path) → IsShaped (made_of name top index proof event path) → Spells existence_layout bytes (made_of name top index proof event path))
+      → (IsExistenceInRange (made_of name top index proof event path) → IsShaped (made_of name top index proof event path) → Spells existence_layout bytes (made_of name top index proof event path))
       → MakesExistence dig h step index top bytes
   makes bytes sound order has spelled =
       let within = within-made dig h step index top (made_of name top index proof event path) is_existence sound order has in

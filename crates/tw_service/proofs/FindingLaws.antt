@@ -1,12 +1,12 @@
 -- What a service's calls find in pages and what these lack exclude one another.
 use Rattle.std.proofs.Common.{◌≡◌, ◌∙◌, ℕ, ◌+◌, ◌-◌, ◌^◌, ◌<◌, ◌≤◌, List, length, ap, sym, subst, arith, inl, inr}
 use Rattle.tw_disk.specs.Image.{Image, page_at}
-use Rattle.tw_base.specs.Texts.{empty_tree_text}
 use Rattle.tw_skiplist.specs.declared.head.Head.{Head}
 use Rattle.tw_skiplist.specs.declared.head.StepRef.{StepRef}
 use Rattle.tw_skiplist.specs.declared.info.StepInfo.{StepInfo}
 use Rattle.tw_skiplist.specs.Events.{FindsNoEvents}
 use Rattle.tw_skiplist.specs.Records.{FindsBadPageVia, FindsProof, TellsInfo, head_ref, info_record}
+use Rattle.tw_skiplist.specs.declared.limits.TheConstants.{MOST_STREAM_BYTES}
 use Rattle.tw_skiplist.proofs.Decode.{fields_read, links_read_all}
 use Rattle.tw_service.specs.Finds.{FindsCount, FindsEvent, LacksEvents, LacksProof}
 use Rattle.tw_service.proofs.EventExclusions.{events_or_none, one_page}
@@ -14,29 +14,29 @@ use Rattle.tw_service.proofs.Exclusions.{meets_none_via, one_bad_via, one_end_vi
 
 module _ (dig : List ℕ → List ℕ) (pages : Image) (few : 4 + length pages ≤ 2 ^ 64) where
   -- a page tells one info
-  one_told : (page step : ℕ) (one two : StepInfo) → TellsInfo dig (dig empty_tree_text) pages page step one → TellsInfo dig (dig empty_tree_text) pages page step two → one ≡ two
+  one_told : (page step : ℕ) (one two : StepInfo) → TellsInfo dig pages page step one → TellsInfo dig pages page step two → one ≡ two
   one_told page step one two a b =
       let fits : page < 2 ^ 64 = omega (arith, a.is.below, few) in
       let bytes = page_at pages (page - 4) in
       let fields =
-      sym (fields_read (dig empty_tree_text) page step a.fields a.links bytes fits a.is.is) ∙ fields_read (dig empty_tree_text) page step b.fields b.links bytes fits b.is.is in
+      sym (fields_read page step a.fields a.links bytes fits a.is.is) ∙ fields_read page step b.fields b.links bytes fits b.is.is in
       let links =
-      sym (links_read_all (dig empty_tree_text) page step a.fields a.links bytes fits a.is.is) ∙ links_read_all (dig empty_tree_text) page step b.fields b.links bytes fits b.is.is in
+      sym (links_read_all page step a.fields a.links bytes fits a.is.is) ∙ links_read_all page step b.fields b.links bytes fits b.is.is in
       a.info_is ∙ (λ j. info_record dig page step (fields j) (links j)) ∙ sym b.info_is
 
   module _ (head : Head) (step top : ℕ) where
     one_info : (one two : StepInfo) → FindsProof dig pages head top step one → FindsProof dig pages head top step two → one ≡ two
     one_info one two a b =
-        let link = one_end_via (dig empty_tree_text) pages few (head_ref head) head.step top step a.link b.link a.walks b.walks in
-        one_told b.link.page step one two (subst (λ (l : StepRef). TellsInfo dig (dig empty_tree_text) pages l.page step one) link a.tells) b.tells
+        let link = one_end_via pages few (head_ref head) head.step top step a.link b.link a.walks b.walks in
+        one_told b.link.page step one two (subst (λ (l : StepRef). TellsInfo dig pages l.page step one) link a.tells) b.tells
 
-    short : (info : StepInfo) → FindsProof dig pages head top step info → info.stream.size ≤ 69632
+    short : (info : StepInfo) → FindsProof dig pages head top step info → info.stream.size ≤ MOST_STREAM_BYTES
     short info finds = omega (arith, ap (λ (i : StepInfo). i.stream.size) finds.tells.info_is, finds.tells.is.is.field_rules.size)
 
     -- where the step is found, no page of another kind is met
-    no_bad_page : (info : StepInfo) (page : ℕ) → FindsProof dig pages head top step info → FindsBadPageVia dig pages head top step page → ⊥
+    no_bad_page : (info : StepInfo) (page : ℕ) → FindsProof dig pages head top step info → FindsBadPageVia pages head top step page → ⊥
     no_bad_page info page finds met =
-        meets_none_via (dig empty_tree_text) pages few (head_ref head) head.step top step finds.link page finds.walks
+        meets_none_via pages few (head_ref head) head.step top step finds.link page finds.walks
         (λ bad. bad finds.tells.fields finds.tells.links finds.tells.is) met
 
     module _ (index : ℕ) where
@@ -65,7 +65,7 @@ module _ (dig : List ℕ → List ℕ) (pages : Image) (few : 4 + length pages �
       one_count count other one two = sym one.count_is ∙ ap (λ (i : StepInfo). i.count) (one_info one.info two.info one.finds two.finds) ∙ two.count_is
 
       pub one_bad : (page other : ℕ) → LacksProof dig pages head step index top page → LacksProof dig pages head step index top other → page ≡ other
-      one_bad page other (inl one) (inl two) = one_bad_via (dig empty_tree_text) pages few (head_ref head) head.step top step page other one two
+      one_bad page other (inl one) (inl two) = one_bad_via pages few (head_ref head) head.step top step page other one two
       one_bad page other (inl one) (inr two) = absurd (no_bad_page two.info page two.finds one)
       one_bad page other (inr one) (inl two) = absurd (no_bad_page one.info other one.finds two)
       one_bad page other (inr one) (inr two) =

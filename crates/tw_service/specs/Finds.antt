@@ -2,27 +2,27 @@
 use Rattle.std.specs.Prelude.{◌≡◌, ◌⊎◌, ℕ, ◌+◌, ◌<◌, ◌≤◌, List}
 use Rattle.tw_disk.specs.Image.{Image}
 use Rattle.tw_base.specs.Levels.{top_level}
-use Rattle.tw_base.specs.Texts.{empty_tree_text}
 use Rattle.tw_skiplist.specs.declared.head.Head.{Head}
 use Rattle.tw_skiplist.specs.declared.head.StepRef.{StepRef}
 use Rattle.tw_skiplist.specs.declared.info.StepInfo.{StepInfo}
 use Rattle.tw_skiplist.specs.Events.{FindsEvents, FindsNoEvents}
-use Rattle.tw_skiplist.specs.Reading.{Gathers, GathersBadPage}
+use Rattle.tw_skiplist.specs.StepWalks.{Gathers, GathersBadPage}
 use Rattle.tw_skiplist.specs.Records.{FindsBadPageVia, FindsProof, head_ref}
 
-module _ (dig : List ℕ → List ℕ) (pages : Image) (head : Head) where
-  -- ---- adding a step
+-- ---- adding a step
 
+module _ (pages : Image) (head : Head) where
   -- the pages have each link of the next step: the walk for them, from the head on, comes to the one of the top level
   abbrev pub FindsLinks : Type 0
-  FindsLinks = (last : StepRef) × Gathers (dig empty_tree_text) pages (head_ref head) head.step (top_level (head.step + 1)) last
+  FindsLinks = (last : StepRef) × Gathers pages (head_ref head) head.step (top_level (head.step + 1)) last
 
   -- that walk comes to this page first that isn't the page of the step that the link to it leads to
   abbrev pub LacksLinks : (page : ℕ) → Type 0
-  LacksLinks page = GathersBadPage (dig empty_tree_text) pages (head_ref head) head.step page
+  LacksLinks page = GathersBadPage pages (head_ref head) head.step page
 
-  -- ---- proving an event
+-- ---- proving an event
 
+module _ (dig : List ℕ → List ℕ) (pages : Image) (head : Head) where
   module _ (step index top : ℕ) where
     -- the walk from the head by the top comes to the step's page, which tells of an event at the index; the event pages spell the
     -- events
@@ -50,4 +50,4 @@ module _ (dig : List ℕ → List ℕ) (pages : Image) (head : Head) where
 
     -- it comes to this page first that isn't the page of its step; or it comes to the step's page, whose events aren't there
     abbrev pub LacksProof : (page : ℕ) → Type 0
-    LacksProof page = FindsBadPageVia dig pages head top step page ⊎ LacksEvents page
+    LacksProof page = FindsBadPageVia pages head top step page ⊎ LacksEvents page

@@ -4,16 +4,17 @@ use Rattle.tw_base.specs.History.{History}
 use Rattle.tw_base.specs.Sound.{IsSound}
 use Rattle.tw_disk.specs.Image.{Image}
 use Rattle.tw_pages.specs.declared.store.Store.{Store}
-use Rattle.tw_pages.specs.Kept.{IsKept, opening_of, staged_of}
-use Rattle.tw_skiplist.specs.declared.head.Head.{Head}
+use Rattle.tw_pages.specs.StoreValue.{IsKept, opening_of, staged_of}
 use Rattle.tw_skiplist.specs.Keeping.{Keeps}
-use Rattle.tw_service.specs.Stands.{HasRoot}
+use Rattle.tw_service.specs.declared.root.RootRecord.{RootRecord}
+use Rattle.tw_service.specs.Stands.{HasRoot, TellsArchive}
 
--- the store, over this content of its disk, keeps this history of this name under this head, and nothing is staged
-pub record KeepsHistory {D : Type 0} {g : _} (dig : List ℕ → List ℕ) (store : Store D g) (name : List ℕ) (head : Head) (h : History) (image : Image) : Type 0 where
+-- the store, over this content of its disk, keeps this history under this root record, and nothing is staged
+pub record KeepsHistory {D : Type 0} {g : _} (dig : List ℕ → List ℕ) (store : Store D g) (root : RootRecord) (h : History) (image : Image) : Type 0 where
   pub sound : IsSound h
-  pub named : h.name ≡ name
+  pub named : h.name ≡ root.name
   pub kept : IsKept store image
   pub clean : staged_of store ≡ []
-  pub root : HasRoot dig (opening_of store image) name head
-  pub keeps : Keeps dig (opening_of store image).pages h head
+  pub has : HasRoot (opening_of store image) root
+  pub tells : TellsArchive dig h root
+  pub keeps : Keeps dig (opening_of store image).pages h root.head

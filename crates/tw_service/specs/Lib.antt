@@ -1,10 +1,10 @@
-pub mod EventSteps
+pub mod EventsOnly
 pub mod Roots
 pub mod Stands
-pub mod Faults
+pub mod Refusals
 pub mod Finds
 pub mod Limits
 pub mod Machine
-pub mod Made
+pub mod MadeSteps
 pub mod Keeps
 pub mod Serves

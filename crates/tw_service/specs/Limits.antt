@@ -1,5 +1,6 @@
 -- The tables of refusals, whose lines are tried in their order.
-use Rattle.std.specs.Prelude.{ℕ, ◌-◌, ◌^◌, List, length, Bool, true, false, ◌&&◌, nat_le, nat_lt, if◌then◌else◌, find, sum_by, Option, Some, None}
+use Rattle.std.specs.Prelude.{ℕ, List, length, Bool, true, false, ◌&&◌, nat_le, nat_lt, if◌then◌else◌, find, sum_by, Option, Some, None}
+use Rattle.tw_base.specs.declared.limits.TheConstants.{LAST_STEP, MOST_EVENTS, MOST_EVENT_BYTES, MOST_STEP_BYTES}
 use Rattle.tw_base.specs.History.{History, events_at}
 use Rattle.tw_service.specs.declared.refusal.Refusal.{Refusal}
 use Rattle.tw_service.specs.declared.refusal.Refusal.TheVariants.{NoStep, NoEvent, TooMany, TooLong, Full, Reopen}
@@ -8,7 +9,7 @@ use Rattle.tw_service.specs.declared.refusal.Refusal.TheVariants.{NoStep, NoEven
 
 -- the first event that is longer than 1,024 bytes
 abbrev pub first_long : List (List ℕ) → Option (List ℕ)
-first_long events = find (λ event. nat_lt 1024 (length event)) events
+first_long events = find (λ event. nat_lt MOST_EVENT_BYTES (length event)) events
 
 -- the bytes of all events
 abbrev pub bytes_of : List (List ℕ) → ℕ
@@ -16,17 +17,17 @@ bytes_of events = sum_by (λ event. length event) events
 
 abbrev pub length_refusal : (long : Option (List ℕ)) → (bytes : ℕ) → Option Refusal
 length_refusal (Some event) bytes = Some (TooLong (length event))
-length_refusal None bytes = if nat_lt 65536 bytes then Some (TooLong bytes) else None
+length_refusal None bytes = if nat_lt MOST_STEP_BYTES bytes then Some (TooLong bytes) else None
 
 -- events beyond the limits of a step: more than 1,024; one longer than 1,024 bytes, the first such one; more than 65,536 bytes in all
 unfoldable pub limits_refusal : List (List ℕ) → Option Refusal
 limits_refusal events =
-    if nat_lt 1024 (length events) then Some (TooMany (length events)) else length_refusal (first_long events) (bytes_of events)
+    if nat_lt MOST_EVENTS (length events) then Some (TooMany (length events)) else length_refusal (first_long events) (bytes_of events)
 
 -- a call before met a disk fault; there is no further step; the events are beyond the limits
 unfoldable pub append_refusal : (is_broken : Bool) → (steps : ℕ) → List (List ℕ) → Option Refusal
 append_refusal true steps events = Some Reopen
-append_refusal false steps events = if nat_le (2 ^ 40 - 1) steps then Some Full else limits_refusal events
+append_refusal false steps events = if nat_le LAST_STEP steps then Some Full else limits_refusal events
 
 -- ---- proving an event
 

@@ -2,9 +2,8 @@
 use Rattle.std.specs.Prelude.{◌≡◌, ℕ, List, length, Result, Ok, Err, MatchOption, false}
 use Rattle.tw_base.specs.declared.thread.Thread.{Thread}
 use Rattle.tw_base.specs.Auth.{auth}
-use Rattle.tw_base.specs.History.{History, plus}
-use Rattle.tw_chain.specs.Making.{MakesExistence}
-use Rattle.tw_skiplist.specs.Keeping.{event_step}
+use Rattle.tw_base.specs.History.{History, with_events}
+use Rattle.tw_skipproof.specs.HistoryProofs.{MakesExistence}
 use Rattle.tw_service.specs.declared.refusal.Refusal.{Refusal}
 use Rattle.tw_service.specs.declared.refusal.Refusal.TheVariants.{NoStep, NoEvent, TooMany, TooLong, Full, BadPage, DiskFault, Reopen, NoMemory}
 use Rattle.tw_service.specs.Limits.{append_refusal, proof_refusal}
@@ -32,7 +31,7 @@ module _ (dig : List ℕ → List ℕ) where
   abbrev pub IsStepOf : (h : History) → Call → Reply → (next : History) → Type 0
   IsStepOf h (Append events) reply next =
       MatchOption (append_refusal false (length h.steps) events)
-      ((next ≡ plus h (event_step events)) × (reply ≡ OfThread (last_thread dig next)))
+      ((next ≡ with_events h events) × (reply ≡ OfThread (last_thread dig next)))
       (λ refusal. (next ≡ h) × (reply ≡ Refused refusal))
   IsStepOf h (ProveEvent step index top) reply next =
       (next ≡ h) × MatchOption (proof_refusal false h step index top)

@@ -1,6 +1,6 @@
 -- Which history an image stands for, and why an image is opened as none.
-use Rattle.std.specs.Prelude.{◌≡◌, ◌⊎◌, ℕ, List, []}
-use Rattle.tw_base.specs.History.{History, plus}
+use Rattle.std.specs.Prelude.{◌≡◌, ◌⊎◌, ℕ, List, [], length}
+use Rattle.tw_base.specs.History.{History, received}
 use Rattle.tw_base.specs.Sound.{IsSound}
 use Rattle.tw_disk.specs.Image.{Image}
 use Rattle.tw_pages.specs.Store.{Opening, OpensAs, used_of}
@@ -8,26 +8,48 @@ use Rattle.tw_pages.specs.Slots.{IsBlank, IsRefusedFor}
 use Rattle.tw_pages.specs.declared.open.StoreFault.{StoreFault}
 use Rattle.tw_pages.specs.declared.open.StoreFault.TheVariants.{NotAStore}
 use Rattle.tw_skiplist.specs.declared.head.Head.{Head}
-use Rattle.tw_skiplist.specs.Keeping.{Keeps, event_step}
+use Rattle.tw_skiplist.specs.Keeping.{Keeps, archive_at}
+use Rattle.tw_service.specs.declared.root.RootRecord.{RootRecord}
 use Rattle.tw_service.specs.Roots.{IsAllowed, root_bytes}
 
 -- the history of this name that has no step
 abbrev pub no_history : (name : List ℕ) → History
 no_history name = record { name = name; steps = [] }
 
+-- ---- images that open as a service
+
+-- the store's root record is this one, and is allowed in it
+pub record HasRoot (o : Opening) (r : RootRecord) : Type 0 where
+  pub bytes : o.root ≡ root_bytes r
+  pub allowed : IsAllowed (used_of o) o.generation r
+
+-- the image opens as a store whose root record has this name and head, and P holds of the store's pages
+pub record OpensWith (image : Image) (name : List ℕ) (head : Head) (P : Image → Type 0) : Type 0 where
+  pub opening : Opening
+  pub opens : OpensAs opening image
+  pub root : RootRecord
+  pub has : HasRoot opening root
+  pub named : root.name ≡ name
+  pub headed : root.head ≡ head
+  pub pages : P opening.pages
+
+-- the same, of any pages
+abbrev pub OpensFor : Image → (name : List ℕ) → Head → Type 0
+OpensFor image name head = OpensWith image name head (λ pages. Unit {0})
+
+-- why an image isn't opened: it opens as no store, or its root record is none of a service
+abbrev pub IsNotOpenedFor : Image → StoreFault → Type 0
+IsNotOpenedFor image fault =
+    IsRefusedFor image fault
+    ⊎ ((o : Opening) × OpensAs o image × ((r : RootRecord) → HasRoot o r → ⊥) × (fault ≡ NotAStore o.slot))
+
+-- ---- images that stand for a history
+
 module _ (dig : List ℕ → List ℕ) where
-  -- the store's root record is this one, and is allowed in it
-  pub record HasRoot (o : Opening) (name : List ℕ) (head : Head) : Type 0 where
-    pub bytes : o.root ≡ root_bytes dig name head
-    pub allowed : IsAllowed (used_of o) o.generation name head
-
-  -- the image opens as a store whose root record is that of this name and head
-  abbrev pub OpensFor : Image → (name : List ℕ) → Head → Type 0
-  OpensFor image name head = (o : Opening) × OpensAs o image × HasRoot o name head
-
-  -- the same, and P holds of the store's pages
-  abbrev pub OpensWith : Image → (name : List ℕ) → Head → (Image → Type 0) → Type 0
-  OpensWith image name head P = (o : Opening) × OpensAs o image × HasRoot o name head × P o.pages
+  -- the root record tells the history's archive, and how many threads the history received
+  pub record TellsArchive (h : History) (r : RootRecord) : Type 0 where
+    pub archive : r.archive ≡ archive_at dig h (length h.steps)
+    pub threads : r.threads ≡ length (received h (length h.steps))
 
   -- the image opens as a store that keeps this history of this name
   pub record StandsFor (image : Image) (name : List ℕ) (h : History) : Type 0 where
@@ -35,20 +57,16 @@ module _ (dig : List ℕ → List ℕ) where
     pub named : h.name ≡ name
     pub opening : Opening
     pub opens : OpensAs opening image
-    pub head : Head
-    pub root : HasRoot opening name head
-    pub keeps : Keeps dig opening.pages h head
+    pub root : RootRecord
+    pub has : HasRoot opening root
+    pub of_name : root.name ≡ name
+    pub tells : TellsArchive h root
+    pub keeps : Keeps dig opening.pages h root.head
 
-  -- for the history, or for the one with a step of these events
-  abbrev pub StandsForOneOf : (name : List ℕ) → History → (events : List (List ℕ)) → Image → Type 0
-  StandsForOneOf name h events image = StandsFor image name h ⊎ StandsFor image name (plus h (event_step events))
+  -- for the history, or for the next one
+  abbrev pub StandsForOneOf : (name : List ℕ) → (h next : History) → Image → Type 0
+  StandsForOneOf name h next image = StandsFor image name h ⊎ StandsFor image name next
 
   -- nothing was made, or the history of this name that has no step
   abbrev pub IsBlankOrNew : (name : List ℕ) → Image → Type 0
   IsBlankOrNew name image = IsBlank image ⊎ StandsFor image name (no_history name)
-
-  -- why an image isn't opened: it opens as no store, or its root record is none of a service
-  abbrev pub IsNotOpenedFor : Image → StoreFault → Type 0
-  IsNotOpenedFor image fault =
-      IsRefusedFor image fault
-      ⊎ ((o : Opening) × OpensAs o image × ((name : List ℕ) (head : Head) → HasRoot o name head → ⊥) × (fault ≡ NotAStore o.slot))

@@ -1,31 +1,40 @@
-// The lines of the tables of refusals that need no page.
+// The limits of stores, and the lines of the tables of refusals that need no page.
 
 ghost use Rattle.std.specs.Prelude.{◌≡◌, ◌+◌, ◌≤◌, ◌<◌, ◌^◌, length, false, IfSome, IsNone};
 ghost use Rattle.std.specs.Option.{option_map};
+ghost use Rattle.tw_base.specs.Bytes.{AreBytes};
 ghost use Rattle.tw_base.specs.Lists.{Each};
-ghost use Rattle.tw_service.specs.Faults.{OfNoEvent};
+ghost use Rattle.tw_service.specs.Refusals.{OfNoEvent};
 ghost use Rattle.tw_service.specs.Limits.{bytes_of, first_long, append_refusal as append_refusal_of, event_refusal as event_refusal_of, limits_refusal as limits_refusal_of, order_refusal as order_refusal_of};
-ghost use Rattle.tw_skiplist.specs.Keeping.{IsWithinLimits};
+ghost use Rattle.tw_base.specs.Limits.{MayRecord};
 
 use crate::refusal::Refusal;
+use tw_base::limits::{LAST_STEP, MOST_EVENT_BYTES, MOST_EVENTS, MOST_STEP_BYTES};
 use tw_base::{Bytes, EventList};
 
-/// The most events of a step.
-const MOST_EVENTS: u64 = 1024;
+/// The bytes of a root record.
+pub const ROOT_BYTES: u64 = 112;
 
-/// The most bytes of an event.
-const MOST_EVENT_BYTES: usize = 1024;
+/// The most pages that a step adds to a store; one of events adds at most 19.
+pub const MOST_PAGES_OF_A_STEP: u64 = 64;
 
-/// The most bytes of a step's events together.
-const MOST_BYTES: u64 = 65536;
+/// The length of an event.
+fn event_size(event: &[u8]) -> u64
+    ensures value { result ≡ length event.now }
+    ensures bytes { AreBytes event.now }
+{
+    event.len() as u64
+}
 
 /// The length of the first event that is longer than 1,024 bytes.
 fn first_long_length(events: &[Bytes]) -> Option<u64>
-    ensures { result ≡ option_map (λ event. length event) (first_long events.now) }
+    ensures answer { result ≡ option_map (λ event. length event) (first_long events.now) }
+    ensures bytes { IsNone result → Each AreBytes events.now }
 {
     for event in events {
-        if event.len() > MOST_EVENT_BYTES {
-            return Some(event.len() as u64);
+        let size = event_size(event.as_slice());
+        if size > MOST_EVENT_BYTES {
+            return Some(size);
         }
     }
     None
@@ -47,7 +56,7 @@ fn total_bytes(events: &[Bytes]) -> u64
 #[tactic(auto, unfolding(crate::specs::Limits::limits_refusal))]
 pub(crate) fn limits_refusal(events: &EventList) -> Option<Refusal>
     ensures answer { result ≡ limits_refusal_of events.now }
-    ensures within { IsNone result → IsWithinLimits events.now }
+    ensures within { IsNone result → MayRecord events.now }
 {
     let count = events.len() as u64;
     if count > MOST_EVENTS {
@@ -57,7 +66,7 @@ pub(crate) fn limits_refusal(events: &EventList) -> Option<Refusal>
         return Some(Refusal::TooLong { bytes });
     }
     let bytes = total_bytes(events.as_slice());
-    if bytes > MOST_BYTES {
+    if bytes > MOST_STEP_BYTES {
         return Some(Refusal::TooLong { bytes });
     }
     None
@@ -66,16 +75,16 @@ pub(crate) fn limits_refusal(events: &EventList) -> Option<Refusal>
 /// The refusal of one more step of these events, by the table of `append`.
 #[tactic(auto, unfolding(crate::specs::Limits::append_refusal))]
 pub(crate) fn append_refusal(is_broken: bool, steps: u64, events: &EventList) -> Option<Refusal>
-    requires { steps < 2 ^ 40 }
+    requires { steps ≤ LAST_STEP }
     ensures answer { result ≡ append_refusal_of is_broken steps events.now }
-    ensures room { IsNone result → steps + 1 < 2 ^ 40 }
-    ensures within { IsNone result → IsWithinLimits events.now }
+    ensures room { IsNone result → steps < LAST_STEP }
+    ensures within { IsNone result → MayRecord events.now }
     ensures whole { IsNone result → is_broken ≡ false }
 {
     if is_broken {
         return Some(Refusal::Reopen);
     }
-    if steps >= (1 << 40) - 1 {
+    if steps >= LAST_STEP {
         return Some(Refusal::Full);
     }
     limits_refusal(events)

@@ -2,22 +2,23 @@
 
 ghost use Rattle.std.specs.Prelude.{◌≡◌, ◌⊎◌, ℕ, ◌<◌, ◌≤◌, ◌^◌, length, slice_get, IfOk, IfErr, Some, Err};
 ghost use Rattle.tw_base.specs.History.{History, events_at};
+ghost use Rattle.tw_base.specs.Limits.{MayRecord};
 ghost use Rattle.tw_base.specs.Sound.{IsSound};
-ghost use Rattle.tw_chain.specs.Making.{MakesExistence};
 ghost use Rattle.tw_base.specs.Faults.{Rose};
 ghost use Rattle.tw_disk.specs.Image.{Image};
 ghost use Rattle.tw_disk.specs.Pages.{OnlyReads};
 ghost use Rattle.tw_skiplist.specs.Infos.{IsInfoOf};
-ghost use Rattle.tw_skiplist.specs.Keeping.{IsWithinLimits, Keeps};
-ghost use Rattle.tw_skipproof.specs.Making.{IsPathOf};
-ghost use Rattle.tw_service.specs.Faults.{IsBadPage, IsFault, IsNoEvent, OfBadPage, OfNoEvent};
+ghost use Rattle.tw_skiplist.specs.Keeping.{Keeps};
+ghost use Rattle.tw_skipproof.specs.HistoryProofs.{IsPathOf, MakesExistence};
+ghost use Rattle.tw_service.specs.Refusals.{IsBadPage, IsFault, IsNoEvent, OfBadPage, OfNoEvent};
 ghost use Rattle.tw_service.specs.Finds.{FindsCount, FindsEvent, LacksProof};
 ghost use Rattle.tw_service.specs.Limits.{event_refusal as event_refusal_of};
-ghost use Rattle.tw_service.specs.Made.{made_of};
+ghost use Rattle.tw_service.specs.MadeSteps.{made_of};
 
 use crate::limits::event_refusal;
 use crate::refusal::Refusal;
 use std::alloc::Global;
+use tw_base::limits::LAST_STEP;
 use tw_base::{Bytes, EventList, Hasher, Labels, Name, NoMemory};
 use tw_disk::Pages;
 use tw_events::event_path;
@@ -69,7 +70,7 @@ fn write_proof<H: Hasher>(
 ) -> Result<Bytes, NoMemory>
     requires index { index < proof.info.count }
     requires count { length events ≡ proof.info.count }
-    requires limits { IsWithinLimits events }
+    requires limits { MayRecord events }
     ensures made { IfOk result (λ bytes. (ps : Image) (h : History) (step : ℕ) → IsSound h → h.name ≡ name.now → step ≤ top → top ≤ length h.steps →
         IsPathOf H.dig h proof.path.links top step → IsInfoOf H.dig ps h step proof.info → events ≡ events_at h step → MakesExistence H.dig h step index top bytes) }
 {
@@ -89,7 +90,7 @@ pub(crate) fn make_proof<P: Pages, H: Hasher>(
     index: u32,
     top: u64,
 ) -> Result<Bytes, Refusal>
-    requires short { head.now.step < 2 ^ 40 }
+    requires short { head.now.step ≤ LAST_STEP }
     requires from { 1 ≤ step }
     requires order { step ≤ top }
     requires last { top ≤ head.now.step }

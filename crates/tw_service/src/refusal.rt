@@ -1,7 +1,7 @@
 // Why a service refuses a call.
 
 ghost use Rattle.std.specs.Prelude.{◌≡◌, ◌↔◌, IsTrue};
-ghost use Rattle.tw_service.specs.Faults.{refusal_of};
+ghost use Rattle.tw_service.specs.Refusals.{refusal_of};
 
 use tw_base::NoMemory;
 use tw_skiplist::ListFault;

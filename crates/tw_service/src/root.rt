@@ -4,23 +4,24 @@ ghost use Rattle.std.specs.Prelude.{◌≡◌, ℕ, ◌+◌, ◌-◌, ◌*◌, �
 ghost use Rattle.std.specs.Int.{to_be_bytes, w64};
 ghost use Rattle.arrayvec.specs.ArrayVec.{array_vec_len};
 ghost use Rattle.tw_base.specs.Names.{IsName};
-ghost use Rattle.tw_skiplist.specs.declared.head.Head.{Head};
-ghost use Rattle.tw_service.specs.Roots.{FitsStore, IsAllowed, archive_bytes, root_bytes};
+ghost use Rattle.tw_service.specs.declared.root.RootRecord.{RootRecord};
+ghost use Rattle.tw_service.specs.Roots.{FitsStore, HasLastPage, IsAllowed, root_bytes};
 
+use crate::limits::{MOST_PAGES_OF_A_STEP, ROOT_BYTES};
 use arrayvec::ArrayVec;
-use tw_base::{Digest, Hasher, Name, empty_tree, read_name};
+use tw_base::limits::LAST_STEP;
+use tw_base::{Digest, Name, Root, put, read_name};
 use tw_disk::{digest_at, u64_at};
 use tw_skiplist::Head;
 
-/// Puts the bytes at the record's end.
-fn put(text: &mut ArrayVec<u8, 112>, bytes: &[u8])
-    requires { array_vec_len text.old + length bytes.now ≤ 112 }
-    ensures { text.new.items ≡ text.old.items ++ bytes.now }
-{
-    match text.try_extend_from_slice(bytes) {
-        Ok(()) => {}
-        Err(_) => unreachable!(),
-    }
+/// What the root record of a service says: its name, its head, the archive after its last step, and
+/// how many threads it received.
+#[derive(Drop)]
+pub(crate) struct RootRecord {
+    pub name: Name,
+    pub head: Head,
+    pub archive: Root,
+    pub threads: u64,
 }
 
 /// Puts a number of eight bytes at the record's end.
@@ -40,30 +41,23 @@ fn put_digest(text: &mut ArrayVec<u8, 112>, digest: &Digest)
     put(text, &digest.0);
 }
 
-/// Puts an empty archive at the record's end.
-fn put_archive<H: Hasher>(text: &mut ArrayVec<u8, 112>)
-    requires { array_vec_len text.old ≤ 64 }
-    ensures value { text.new.items ≡ text.old.items ++ archive_bytes H.dig }
-    ensures size { array_vec_len text.new ≡ array_vec_len text.old + 48 }
-{
-    put_number(text, 0);
-    put_digest(text, &empty_tree::<H>());
-    put_number(text, 0);
-}
-
-/// The root record of a service of this name and this head.
+/// The bytes of a root record.
 #[tactic(auto, unfolding(crate::specs::Roots::root_bytes))]
-pub(crate) fn root_record<H: Hasher>(name: &Name, head: &Head) -> ArrayVec<u8, 112>
-    ensures bytes { result.items ≡ root_bytes H.dig name.now head.now }
-    ensures size { length result.items ≡ 112 }
-    ensures name { IsName name.now }
+pub(crate) fn root_record(root: &RootRecord) -> ArrayVec<u8, 112>
+    ensures bytes { result.items ≡ root_bytes root.now }
+    ensures size { length result.items ≡ ROOT_BYTES }
+    ensures name { IsName root.now.name }
+    ensures auth { length root.now.head.auth ≡ 32 }
+    ensures label { length root.now.archive.label ≡ 32 }
 {
     let mut text: ArrayVec<u8, 112> = ArrayVec::new();
-    put(&mut text, name.as_bytes());
-    put_number(&mut text, head.step);
-    put_digest(&mut text, &head.auth);
-    put_number(&mut text, head.page);
-    put_archive::<H>(&mut text);
+    put(&mut text, root.name.as_bytes());
+    put_number(&mut text, root.head.step);
+    put_digest(&mut text, &root.head.auth);
+    put_number(&mut text, root.head.page);
+    put_number(&mut text, root.archive.page);
+    put_digest(&mut text, &root.archive.label);
+    put_number(&mut text, root.threads);
     text
 }
 
@@ -78,52 +72,64 @@ fn name_at_front(bytes: &[u8]) -> Option<Name>
     }
 }
 
-/// What a root record says.
-#[derive(Drop)]
-pub(crate) struct RootRecord {
-    pub name: Name,
-    pub head: Head,
+/// Whether a page may be the last one of so many things in a store of so many used pages.
+fn is_last_page(used: u64, count: u64, page: u64) -> bool
+    ensures { IsTrue result ↔ HasLastPage used count page }
+{
+    if count == 0 {
+        page == 0
+    } else {
+        4 <= page && page < used
+    }
 }
 
-/// Whether the head may stand in the root record of a store of so many used pages and of this
-/// generation.
-fn fits_store(head: &Head, used: u64, generation: u64) -> bool
+/// Whether the record may be the root record of a store of so many used pages and of this generation.
+fn fits_store(root: &RootRecord, used: u64, generation: u64) -> bool
     requires used { used < 2 ^ 48 }
     requires generation { generation < 2 ^ 48 }
-    ensures { IsTrue result ↔ FitsStore used generation head.now }
+    ensures { IsTrue result ↔ FitsStore used generation root.now }
 {
-    if head.step >= 1 << 40 || used > 4 + 64 * head.step || generation > head.step + 1 {
-        return false;
-    }
-    if head.step == 0 {
-        return head.page == 0;
-    }
-    4 <= head.page && head.page < used
+    let steps = root.head.step;
+    steps <= LAST_STEP
+        && used <= 4 + MOST_PAGES_OF_A_STEP * steps
+        && generation <= steps + 1
+        && root.threads <= steps
+        && is_last_page(used, steps, root.head.page)
+        && is_last_page(used, root.threads, root.archive.page)
 }
 
 /// The root record that the bytes are, in a store of so many used pages and of this generation; None
 /// exactly where they are none that is allowed there.
-pub(crate) fn read_root<H: Hasher>(bytes: &[u8], used: u64, generation: u64) -> Option<RootRecord>
+pub(crate) fn read_root(bytes: &[u8], used: u64, generation: u64) -> Option<RootRecord>
     requires used { used < 2 ^ 48 }
     requires generation { generation < 2 ^ 48 }
-    ensures { MatchOption result ((name : List ℕ) (head : Head) → bytes.now ≡ root_bytes H.dig name head → IsAllowed used generation name head → ⊥)
-        (λ r. (bytes.now ≡ root_bytes H.dig r.name r.head) × IsAllowed used generation r.name r.head) }
+    ensures { MatchOption result ((r : RootRecord) → bytes.now ≡ root_bytes r → IsAllowed used generation r → ⊥)
+        (λ r. (bytes.now ≡ root_bytes r) × IsAllowed used generation r) }
 {
-    if bytes.len() != 112 {
+    if bytes.len() as u64 != ROOT_BYTES {
         return None;
     }
     let Some(name) = name_at_front(bytes) else {
         return None;
     };
-    let step = u64_at(bytes, 16);
-    let auth = digest_at(bytes, 24);
-    let page = u64_at(bytes, 56);
-    let head = Head { step, auth, page };
-    if !fits_store(&head, used, generation) {
+    let root = RootRecord {
+        name,
+        head: Head {
+            step: u64_at(bytes, 16),
+            auth: digest_at(bytes, 24),
+            page: u64_at(bytes, 56),
+        },
+        archive: Root {
+            page: u64_at(bytes, 64),
+            label: digest_at(bytes, 72),
+        },
+        threads: u64_at(bytes, 104),
+    };
+    if !fits_store(&root, used, generation) {
         return None;
     }
-    if root_record::<H>(&name, &head).as_slice() != bytes {
+    if root_record(&root).as_slice() != bytes {
         return None;
     }
-    Some(RootRecord { name, head })
+    Some(root)
 }

@@ -1,16 +1,19 @@
 // Services.
 ghost use Rattle.std.specs.Prelude.{◌≡◌, ◌<◌, ◌≤◌, ◌+◌, ◌*◌, ◌^◌, ◌⊎◌, [], true, false};
-ghost use Rattle.tw_pages.specs.Kept.{generation_of, is_broken as store_is_broken, staged_of};
+ghost use Rattle.tw_pages.specs.StoreValue.{generation_of, is_broken as store_is_broken, root_of, staged_of};
 ghost use Rattle.tw_pages.specs.Same.{count_of};
+ghost use Rattle.tw_base.specs.declared.limits.TheConstants.{LAST_STEP};
+ghost use Rattle.tw_service.specs.declared.limits.TheConstants.{MOST_PAGES_OF_A_STEP};
+ghost use Rattle.tw_service.specs.Roots.{root_bytes};
 
 use crate::adding::add_step;
 use crate::limits::{append_refusal, order_refusal};
 use crate::proving::make_proof;
 use crate::refusal::{Refusal, is_disk_fault};
-use crate::root::{read_root, root_record};
+use crate::root::{RootRecord, read_root, root_record};
 use std::alloc::Global;
 use std::marker::PhantomData;
-use tw_base::{Bytes, EventList, Hasher, Name, Thread, genesis};
+use tw_base::{Bytes, EventList, Hasher, Name, Root, Thread, empty_tree, genesis};
 use tw_disk::{Disk, Pages};
 use tw_pages::{Store, StoreFault};
 use tw_skiplist::Head;
@@ -20,13 +23,13 @@ use tw_skiplist::Head;
 pub struct Service<D: Disk, H: Hasher> {
     alloc: Global,
     store: Store<D>,
-    name: Name,
-    head: Head,
+    root: RootRecord,
     is_broken: bool,
     hasher: PhantomData<H>,
-    ghost short: { head.step < 2 ^ 40 },
-    ghost few_pages: { count_of store ≤ 4 + 64 * head.step },
-    ghost few_commits: { generation_of store ≤ head.step + 1 },
+    ghost short: { root.head.step ≤ LAST_STEP },
+    ghost recorded: { root_of store ≡ root_bytes root },
+    ghost few_pages: { count_of store ≤ 4 + MOST_PAGES_OF_A_STEP * root.head.step },
+    ghost few_commits: { generation_of store ≤ root.head.step + 1 },
     ghost clean: { staged_of store ≡ [] },
     ghost tells_faults: { is_broken ≡ false → store_is_broken store ≡ false },
 }
@@ -35,23 +38,22 @@ impl<D: Disk, H: Hasher> Service<D, H> {
     ghost use Rattle.std.specs.Prelude.{◌↔◌, ◌≢◌, ℕ, length, List, Some, None, Ok, Err, IfOk, IfErr, IsErrAnd, IsTrue, OnErr, MatchOption, MatchResult};
     ghost use Rattle.tw_base.specs.Anchors.{anchor_of};
     ghost use Rattle.tw_base.specs.Auth.{auth};
-    ghost use Rattle.tw_base.specs.History.{History, events_at, plus};
+    ghost use Rattle.tw_base.specs.History.{History, events_at, with_events};
     ghost use Rattle.tw_base.specs.declared.thread.Thread.{Thread as ThreadOf};
     ghost use Rattle.tw_chain.specs.Accepting.{Accepts};
-    ghost use Rattle.tw_chain.specs.Making.{MakesExistence};
+    ghost use Rattle.tw_skipproof.specs.HistoryProofs.{MakesExistence};
     ghost use Rattle.tw_base.specs.Faults.{Rose};
     ghost use Rattle.tw_disk.specs.Disk.{IsAtRest, LeavesOnly, Reads};
     ghost use Rattle.tw_disk.specs.Image.{Image};
     ghost use Rattle.tw_pages.specs.Slots.{IsTaken};
     ghost use Rattle.tw_pages.specs.declared.open.StoreFault.{StoreFault as Fault};
-    ghost use Rattle.tw_skiplist.specs.Keeping.{event_step};
-    ghost use Rattle.tw_service.specs.Faults.{IsBadPage, IsFault, IsNoEvent, OfBadPage, OfNoEvent};
+    ghost use Rattle.tw_service.specs.Refusals.{IsBadPage, IsFault, IsNoEvent, OfBadPage, OfNoEvent};
     ghost use Rattle.tw_service.specs.Finds.{FindsCount, FindsEvent, FindsLinks, LacksLinks, LacksProof};
     ghost use Rattle.tw_service.specs.Limits.{append_refusal as append_refusal_of, order_refusal as order_refusal_of, proof_refusal};
     ghost use Rattle.tw_service.specs.Machine.{Answers, IsStepOf, last_thread};
     ghost use Rattle.tw_service.specs.Machine.Call.{Append, CountSteps, ProveEvent, TellHead, TellName};
     ghost use Rattle.tw_service.specs.Machine.Reply.{OfName, OfNumber, OfProof, OfThread};
-    ghost use Rattle.tw_service.specs.Serves.{HasSameDisk, Serves, disk_of, has_failed, head_of, name_of, pages_of, steps_of, thread_of};
+    ghost use Rattle.tw_service.specs.Serves.{HasSameDisk, Serves, archive_of, disk_of, has_failed, head_of, name_of, pages_of, steps_of, thread_of, threads_of};
     ghost use Rattle.tw_service.specs.Stands.{IsBlankOrNew, IsNotOpenedFor, OpensWith, StandsFor, StandsForOneOf, no_history};
 
     /// Makes a service of this name, without a step, on a disk that has no store.
@@ -63,52 +65,59 @@ impl<D: Disk, H: Hasher> Service<D, H> {
     /// what a crash might have left before; and so reads a disk that told its content and is given back.
     pub fn init(alloc: Global, disk: D, name: Name) -> Result<Service<D, H>, (D, StoreFault)>
         // The empty history of the name, at rest.
-        ensures served { IfOk result (λ s. (c : Image) → D.content disk ≡ Some c
-            → Serves H.dig D.content D.may_leave s (no_history name)) }
+        ensures served { IfOk result (λ s. (c : Image) → (D.view disk).content ≡ Some c
+            → Serves H.dig D.view s (no_history name)) }
         ensures thread { IfOk result (λ s. (name_of s ≡ name) × (steps_of s ≡ 0) × (has_failed s ≡ false)) }
 
         // Taken exactly where there is something, a disk fault excepted.
-        ensures taken { IfErr result (λ e. e.1 ≡ StoreFault.Taken → (c : Image) → D.content disk ≡ Some c
+        ensures taken { IfErr result (λ e. e.1 ≡ StoreFault.Taken → (c : Image) → (D.view disk).content ≡ Some c
             → IsTaken c) }
-        ensures exact { (c : Image) → D.content disk ≡ Some c → IsTaken c
+        ensures exact { (c : Image) → (D.view disk).content ≡ Some c → IsTaken c
             → IsErrAnd result (λ e. (e.1 ≡ StoreFault.Taken) ⊎ (e.1 ≡ StoreFault.DiskFault)) }
-        ensures unchanged { IfErr result (λ e. e.1 ≡ StoreFault.Taken → (D.content e.0 ≡ D.content disk)
-            × LeavesOnly D.moment D.may_leave D.left_since disk e.0 (D.may_leave disk)) }
+        ensures unchanged { IfErr result (λ e. e.1 ≡ StoreFault.Taken → ((D.view e.0).content ≡ (D.view disk).content)
+            × LeavesOnly (D.view disk) (D.view e.0) ((D.view disk).may_leave)) }
         ensures answers { IfErr result (λ e. (e.1 ≡ StoreFault.Taken) ⊎ (e.1 ≡ StoreFault.DiskFault)) }
-        ensures fault { IfErr result (λ e. e.1 ≡ StoreFault.DiskFault → Rose (D.faults disk) (D.faults e.0)) }
-        ensures later { MatchResult result (λ s. D.faults disk ≤ D.faults (disk_of s)) (λ e. D.faults disk ≤ D.faults e.0) }
+        ensures fault { IfErr result (λ e. e.1 ≡ StoreFault.DiskFault → Rose ((D.view disk).faults) ((D.view e.0).faults)) }
+        ensures later { MatchResult result (λ s. (D.view disk).faults ≤ (D.view (disk_of s)).faults) (λ e. (D.view disk).faults ≤ (D.view e.0).faults) }
 
         // Where there is something, nothing changes, a disk fault or not.
-        ensures held { (c : Image) → D.content disk ≡ Some c → IsTaken c
-            → IfErr result (λ e. (D.content e.0 ≡ Some c)
-            × LeavesOnly D.moment D.may_leave D.left_since disk e.0 (D.may_leave disk)) }
+        ensures held { (c : Image) → (D.view disk).content ≡ Some c → IsTaken c
+            → IfErr result (λ e. ((D.view e.0).content ≡ Some c)
+            × LeavesOnly (D.view disk) (D.view e.0) ((D.view disk).may_leave)) }
 
         // Each image that a crash since the start may leave is one that it might have left before, or blank, or stands for the empty history.
-        ensures any_moment { IfOk result (λ s. (c : Image) → D.content disk ≡ Some c
-            → LeavesOnly D.moment D.may_leave D.left_since disk (disk_of s) (λ i. D.may_leave disk i
+        ensures any_moment { IfOk result (λ s. (c : Image) → (D.view disk).content ≡ Some c
+            → LeavesOnly (D.view disk) (D.view (disk_of s)) (λ i. (D.view disk).may_leave i
             ⊎ IsBlankOrNew H.dig name i)) }
-        ensures any_moment_err { IfErr result (λ e. (c : Image) → D.content disk ≡ Some c
-            → LeavesOnly D.moment D.may_leave D.left_since disk e.0 (λ i. D.may_leave disk i
+        ensures any_moment_err { IfErr result (λ e. (c : Image) → (D.view disk).content ≡ Some c
+            → LeavesOnly (D.view disk) (D.view e.0) (λ i. (D.view disk).may_leave i
             ⊎ IsBlankOrNew H.dig name i)) }
 
         // A disk that is given back tells its content still, which is one of these images.
-        ensures told { IfErr result (λ e. (c : Image) → D.content disk ≡ Some c
-            → Reads D.content e.0 (λ i. D.may_leave disk i ⊎ IsBlankOrNew H.dig name i)) }
+        ensures told { IfErr result (λ e. (c : Image) → (D.view disk).content ≡ Some c
+            → Reads (D.view e.0) (λ i. (D.view disk).may_leave i ⊎ IsBlankOrNew H.dig name i)) }
     {
         let auth = genesis::<H>(&name);
-        let head = Head {
-            step: 0,
-            auth,
-            page: 0,
+        let root = RootRecord {
+            name,
+            head: Head {
+                step: 0,
+                auth,
+                page: 0,
+            },
+            archive: Root {
+                page: 0,
+                label: empty_tree::<H>(),
+            },
+            threads: 0,
         };
-        let root = root_record::<H>(&name, &head);
-        match Store::init(alloc, disk, root.as_slice()) {
+        let bytes = root_record(&root);
+        match Store::init(alloc, disk, bytes.as_slice()) {
             Err((disk, fault)) => Err((disk, fault)),
             Ok(store) => Ok(Service {
                 alloc,
                 store,
-                name,
-                head,
+                root,
                 is_broken: false,
                 hasher: PhantomData,
             }),
@@ -123,33 +132,33 @@ impl<D: Disk, H: Hasher> Service<D, H> {
     /// as before.
     pub fn open(alloc: Global, disk: D) -> Result<Service<D, H>, (D, StoreFault)>
         // A disk that reads as one that stands for a history is opened as it, at rest.
-        ensures served { (c : Image) (of : List ℕ) (h : History) → D.content disk ≡ Some c → StandsFor H.dig c of h
-            → MatchResult result (λ s. Serves H.dig D.content D.may_leave s h) (λ e. e.1 ≡ StoreFault.DiskFault) }
-        ensures stable { IfOk result (λ s. (c : Image) → D.content disk ≡ Some c
-            → IsAtRest D.content D.may_leave (disk_of s) (λ i. i ≡ c)) }
+        ensures served { (c : Image) (of : List ℕ) (h : History) → (D.view disk).content ≡ Some c → StandsFor H.dig c of h
+            → MatchResult result (λ s. Serves H.dig D.view s h) (λ e. e.1 ≡ StoreFault.DiskFault) }
+        ensures stable { IfOk result (λ s. (c : Image) → (D.view disk).content ≡ Some c
+            → IsAtRest (D.view (disk_of s)) (λ i. i ≡ c)) }
         ensures whole { IfOk result (λ s. has_failed s ≡ false) }
 
         // Whatever is opened has the root record of a service, whose name and head are the value's, and the value's pages.
-        ensures opened { IfOk result (λ s. (c : Image) → D.content disk ≡ Some c
-            → OpensWith H.dig c (name_of s) (head_of s) (λ ps. pages_of D.content s ≡ Some ps)) }
+        ensures opened { IfOk result (λ s. (c : Image) → (D.view disk).content ≡ Some c
+            → OpensWith c (name_of s) (head_of s) (λ ps. pages_of D.view s ≡ Some ps)) }
 
         // Each refusal exactly where its reason stands, a disk fault excepted.
-        ensures refused { IfErr result (λ e. (c : Image) → D.content disk ≡ Some c
-            → (e.1 ≡ StoreFault.DiskFault) ⊎ IsNotOpenedFor H.dig c e.1) }
-        ensures exact { (c : Image) (fault : Fault) → D.content disk ≡ Some c → IsNotOpenedFor H.dig c fault
+        ensures refused { IfErr result (λ e. (c : Image) → (D.view disk).content ≡ Some c
+            → (e.1 ≡ StoreFault.DiskFault) ⊎ IsNotOpenedFor c e.1) }
+        ensures exact { (c : Image) (fault : Fault) → (D.view disk).content ≡ Some c → IsNotOpenedFor c fault
             → IsErrAnd result (λ e. (e.1 ≡ fault) ⊎ (e.1 ≡ StoreFault.DiskFault)) }
-        ensures unchanged { MatchResult result (λ s. D.content (disk_of s) ≡ D.content disk) (λ e. D.content e.0 ≡ D.content disk) }
+        ensures unchanged { MatchResult result (λ s. (D.view (disk_of s)).content ≡ (D.view disk).content) (λ e. (D.view e.0).content ≡ (D.view disk).content) }
         ensures answers { IfErr result (λ e. (e.1 ≢ StoreFault.Taken) × (e.1 ≢ StoreFault.NoMemory)) }
-        ensures fault { IfErr result (λ e. e.1 ≡ StoreFault.DiskFault → Rose (D.faults disk) (D.faults e.0)) }
-        ensures later { MatchResult result (λ s. D.faults disk ≤ D.faults (disk_of s)) (λ e. D.faults disk ≤ D.faults e.0) }
+        ensures fault { IfErr result (λ e. e.1 ≡ StoreFault.DiskFault → Rose ((D.view disk).faults) ((D.view e.0).faults)) }
+        ensures later { MatchResult result (λ s. (D.view disk).faults ≤ (D.view (disk_of s)).faults) (λ e. (D.view disk).faults ≤ (D.view e.0).faults) }
 
         // It writes nothing.
-        ensures any_moment { IfOk result (λ s. LeavesOnly D.moment D.may_leave D.left_since disk (disk_of s) (D.may_leave disk)) }
-        ensures any_moment_err { IfErr result (λ e. LeavesOnly D.moment D.may_leave D.left_since disk e.0 (D.may_leave disk)) }
+        ensures any_moment { IfOk result (λ s. LeavesOnly (D.view disk) (D.view (disk_of s)) ((D.view disk).may_leave)) }
+        ensures any_moment_err { IfErr result (λ e. LeavesOnly (D.view disk) (D.view e.0) ((D.view disk).may_leave)) }
     {
         match Store::open(alloc, disk) {
             Err((disk, fault)) => Err((disk, fault)),
-            Ok(store) => match read_root::<H>(store.root(), store.used(), store.generation()) {
+            Ok(store) => match read_root(store.root(), store.used(), store.generation()) {
                 None => {
                     let slot = store.slot();
                     Err((store.close(), StoreFault::NotAStore { slot }))
@@ -157,8 +166,7 @@ impl<D: Disk, H: Hasher> Service<D, H> {
                 Some(root) => Ok(Service {
                     alloc,
                     store,
-                    name: root.name,
-                    head: root.head,
+                    root,
                     is_broken: false,
                     hasher: PhantomData,
                 }),
@@ -169,45 +177,44 @@ impl<D: Disk, H: Hasher> Service<D, H> {
     /// The number of steps.
     pub fn steps(&self) -> u64
         ensures value { result ≡ steps_of self.now }
-        ensures served { (h : History) → Serves H.dig D.content D.may_leave self.now h → result ≡ length h.steps }
-        ensures machine { (h : History) → Serves H.dig D.content D.may_leave self.now h → IsStepOf H.dig h CountSteps (OfNumber result) h }
+        ensures served { (h : History) → Serves H.dig D.view self.now h → result ≡ length h.steps }
+        ensures machine { (h : History) → Serves H.dig D.view self.now h → IsStepOf H.dig h CountSteps (OfNumber result) h }
     {
-        self.head.step
+        self.root.head.step
     }
 
     /// The thread of the last step; where there is no step, step 0 with the authenticator of the name.
     pub fn head(&self) -> Thread
         ensures value { result ≡ thread_of self.now }
-        ensures served { (h : History) → Serves H.dig D.content D.may_leave self.now h → result ≡ last_thread H.dig h }
-        ensures machine { (h : History) → Serves H.dig D.content D.may_leave self.now h → IsStepOf H.dig h TellHead (OfThread result) h }
+        ensures served { (h : History) → Serves H.dig D.view self.now h → result ≡ last_thread H.dig h }
+        ensures machine { (h : History) → Serves H.dig D.view self.now h → IsStepOf H.dig h TellHead (OfThread result) h }
     {
         Thread {
-            from: self.name,
-            step: self.head.step,
-            auth: self.head.auth,
+            from: self.root.name,
+            step: self.root.head.step,
+            auth: self.root.head.auth,
         }
     }
 
     /// The name.
     pub fn name(&self) -> Name
         ensures value { result ≡ name_of self.now }
-        ensures served { (h : History) → Serves H.dig D.content D.may_leave self.now h → result ≡ h.name }
-        ensures machine { (h : History) → Serves H.dig D.content D.may_leave self.now h → IsStepOf H.dig h TellName (OfName result) h }
+        ensures served { (h : History) → Serves H.dig D.view self.now h → result ≡ h.name }
+        ensures machine { (h : History) → Serves H.dig D.view self.now h → IsStepOf H.dig h TellName (OfName result) h }
     {
-        self.name
+        self.root.name
     }
 
     /// Gives the disk back. Where a history was served, the disk stands for it, at rest.
     pub fn close(self) -> D
         ensures disk { result ≡ disk_of self }
-        ensures stands { (h : History) → Serves H.dig D.content D.may_leave self h
-            → IsAtRest D.content D.may_leave result (λ i. StandsFor H.dig i (name_of self) h) }
+        ensures stands { (h : History) → Serves H.dig D.view self h
+            → IsAtRest (D.view result) (λ i. StandsFor H.dig i (name_of self) h) }
     {
         let Service {
             alloc: _,
             store,
-            name: _,
-            head: _,
+            root: _,
             is_broken: _,
             hasher: _,
         } = self;
@@ -231,50 +238,51 @@ impl<D: Disk, H: Hasher> Service<D, H> {
             (IfErr result IsFault) (λ refusal. result ≡ Err refusal) }
 
         // After Ok the longer history is served, at rest, and the answer is its last thread.
-        ensures done { IfOk result (λ thread. (h : History) → Serves H.dig D.content D.may_leave self.old h
-            → Serves H.dig D.content D.may_leave self.new (plus h (event_step events.now))
-            × (thread ≡ last_thread H.dig (plus h (event_step events.now)))) }
+        ensures done { IfOk result (λ thread. (h : History) → Serves H.dig D.view self.old h
+            → Serves H.dig D.view self.new (with_events h events.now)
+            × (thread ≡ last_thread H.dig (with_events h events.now))) }
         ensures thread { IfOk result (λ thread. thread ≡ thread_of self.new) }
+        ensures archive { (archive_of self.new ≡ archive_of self.old) × (threads_of self.new ≡ threads_of self.old) }
         ensures next { IfOk result (λ thread. (thread.from ≡ name_of self.old) × (thread.step ≡ steps_of self.old + 1)) }
 
         // Each image that a crash since the start may leave stands for the history before or for the longer one.
-        ensures any_moment { (h : History) → Serves H.dig D.content D.may_leave self.old h
-            → LeavesOnly D.moment D.may_leave D.left_since (disk_of self.old) (disk_of self.new)
-            (StandsForOneOf H.dig (name_of self.old) h events.now) }
+        ensures any_moment { (h : History) → Serves H.dig D.view self.old h
+            → LeavesOnly (D.view (disk_of self.old)) (D.view (disk_of self.new))
+            (StandsForOneOf H.dig (name_of self.old) h (with_events h events.now)) }
 
         // Whatever the answer, the disk tells its content still, which stands for one of the two.
-        ensures told { (h : History) → Serves H.dig D.content D.may_leave self.old h
-            → Reads D.content (disk_of self.new) (StandsForOneOf H.dig (name_of self.old) h events.now) }
+        ensures told { (h : History) → Serves H.dig D.view self.old h
+            → Reads (D.view (disk_of self.new)) (StandsForOneOf H.dig (name_of self.old) h (with_events h events.now)) }
 
         // After a refusal but DiskFault the history is served as before, and nothing was written.
         ensures refused { IfErr result (λ refusal. (refusal ≡ Refusal.DiskFault)
-            ⊎ ((h : History) → Serves H.dig D.content D.may_leave self.old h → Serves H.dig D.content D.may_leave self.new h
-            × LeavesOnly D.moment D.may_leave D.left_since (disk_of self.old) (disk_of self.new) (λ i. StandsFor H.dig i (name_of self.old) h))) }
+            ⊎ ((h : History) → Serves H.dig D.view self.old h → Serves H.dig D.view self.new h
+            × LeavesOnly (D.view (disk_of self.old)) (D.view (disk_of self.new)) (λ i. StandsFor H.dig i (name_of self.old) h))) }
         ensures unwritten { IfErr result (λ refusal. (refusal ≡ Refusal.DiskFault)
-            ⊎ HasSameDisk D.content D.may_leave D.moment D.left_since self.old self.new) }
+            ⊎ HasSameDisk D.view self.old self.new) }
 
         // What the value tells of itself after a refusal is as before, but that a disk fault is remembered.
         ensures kept { OnErr result ((head_of self.new ≡ head_of self.old) × (name_of self.new ≡ name_of self.old)) }
         ensures broken { IsTrue (has_failed self.new) ↔ (IsTrue (has_failed self.old) ⊎ (result ≡ Err Refusal.DiskFault)) }
-        ensures fault { result ≡ Err Refusal.DiskFault → Rose (D.faults (disk_of self.old)) (D.faults (disk_of self.new)) }
-        ensures later { D.faults (disk_of self.old) ≤ D.faults (disk_of self.new) }
+        ensures fault { result ≡ Err Refusal.DiskFault → Rose ((D.view (disk_of self.old)).faults) ((D.view (disk_of self.new)).faults) }
+        ensures later { (D.view (disk_of self.old)).faults ≤ (D.view (disk_of self.new)).faults }
         // Whatever the pages are: after Ok they have each link of the new step, and BadPage tells the first page met that isn't its
         // step's; where they keep a history it never comes.
-        ensures found { IfOk result (λ _. (ps : Image) → pages_of D.content self.old ≡ Some ps → FindsLinks H.dig ps (head_of self.old)) }
-        ensures bad { IfErr result (λ refusal. OfBadPage refusal (λ page. (ps : Image) → pages_of D.content self.old ≡ Some ps
-            → LacksLinks H.dig ps (head_of self.old) page)) }
-        ensures good { IfErr result (λ refusal. IsBadPage refusal → (h : History) → Serves H.dig D.content D.may_leave self.old h → ⊥) }
+        ensures found { IfOk result (λ _. (ps : Image) → pages_of D.view self.old ≡ Some ps → FindsLinks ps (head_of self.old)) }
+        ensures bad { IfErr result (λ refusal. OfBadPage refusal (λ page. (ps : Image) → pages_of D.view self.old ≡ Some ps
+            → LacksLinks ps (head_of self.old) page)) }
+        ensures good { IfErr result (λ refusal. IsBadPage refusal → (h : History) → Serves H.dig D.view self.old h → ⊥) }
 
         // The call is a step of the machine.
-        ensures machine { has_failed self.old ≡ false → (h : History) → Serves H.dig D.content D.may_leave self.old h
-            → Answers H.dig h (Append events.now) (λ thread. OfThread thread) result (Serves H.dig D.content D.may_leave self.new) }
+        ensures machine { has_failed self.old ≡ false → (h : History) → Serves H.dig D.view self.old h
+            → Answers H.dig h (Append events.now) (λ thread. OfThread thread) result (Serves H.dig D.view self.new) }
     {
-        if let Some(refusal) = append_refusal(self.is_broken, self.head.step, events) {
+        if let Some(refusal) = append_refusal(self.is_broken, self.root.head.step, events) {
             return Err(refusal);
         }
-        match add_step::<D, H>(self.alloc, &mut self.store, &self.name, &self.head, events) {
-            Ok(head) => {
-                self.head = head;
+        match add_step::<D, H>(self.alloc, &mut self.store, &self.root, events) {
+            Ok(next) => {
+                self.root = next;
                 Ok(self.head())
             }
             Err(refusal) => {
@@ -297,41 +305,42 @@ impl<D: Disk, H: Hasher> Service<D, H> {
             (IfErr result (λ refusal. IsFault refusal ⊎ IsNoEvent refusal)) (λ refusal. result ≡ Err refusal) }
 
         // The history's own proof, which is accepted under the history's own authenticator of the top.
-        ensures made { IfOk result (λ bytes. (h : History) → Serves H.dig D.content D.may_leave self.old h
+        ensures made { IfOk result (λ bytes. (h : History) → Serves H.dig D.view self.old h
             → MakesExistence H.dig h step index top bytes) }
-        ensures accepted { IfOk result (λ bytes. (h : History) → Serves H.dig D.content D.may_leave self.old h
+        ensures accepted { IfOk result (λ bytes. (h : History) → Serves H.dig D.view self.old h
             → (anchors : List ThreadOf) (anchor : ThreadOf) → anchor_of anchors h.name top ≡ Some anchor → anchor.auth ≡ auth H.dig h top
             → Accepts H.dig anchors bytes) }
 
         // The call is a step of the machine, which changes nothing.
-        ensures machine { has_failed self.old ≡ false → (h : History) → Serves H.dig D.content D.may_leave self.old h
-            → Answers H.dig h (ProveEvent step index top) (λ bytes. OfProof bytes) result (Serves H.dig D.content D.may_leave self.new) }
-        ensures same { (h : History) → Serves H.dig D.content D.may_leave self.old h → Serves H.dig D.content D.may_leave self.new h
-            × LeavesOnly D.moment D.may_leave D.left_since (disk_of self.old) (disk_of self.new) (λ i. StandsFor H.dig i (name_of self.old) h) }
-        ensures unwritten { HasSameDisk D.content D.may_leave D.moment D.left_since self.old self.new }
+        ensures machine { has_failed self.old ≡ false → (h : History) → Serves H.dig D.view self.old h
+            → Answers H.dig h (ProveEvent step index top) (λ bytes. OfProof bytes) result (Serves H.dig D.view self.new) }
+        ensures same { (h : History) → Serves H.dig D.view self.old h → Serves H.dig D.view self.new h
+            × LeavesOnly (D.view (disk_of self.old)) (D.view (disk_of self.new)) (λ i. StandsFor H.dig i (name_of self.old) h) }
+        ensures unwritten { HasSameDisk D.view self.old self.new }
         ensures kept { (head_of self.new ≡ head_of self.old) × (name_of self.new ≡ name_of self.old) }
+        ensures archive { (archive_of self.new ≡ archive_of self.old) × (threads_of self.new ≡ threads_of self.old) }
         ensures broken { IsTrue (has_failed self.new) ↔ (IsTrue (has_failed self.old) ⊎ (result ≡ Err Refusal.DiskFault)) }
-        ensures fault { result ≡ Err Refusal.DiskFault → Rose (D.faults (disk_of self.old)) (D.faults (disk_of self.new)) }
-        ensures later { D.faults (disk_of self.old) ≤ D.faults (disk_of self.new) }
+        ensures fault { result ≡ Err Refusal.DiskFault → Rose ((D.view (disk_of self.old)).faults) ((D.view (disk_of self.new)).faults) }
+        ensures later { (D.view (disk_of self.old)).faults ≤ (D.view (disk_of self.new)).faults }
         // Whatever the pages are: after Ok they have the step, with an event at the index; NoEvent tells how many the step's page
         // counts, and BadPage the first page met that isn't of its kind, or the last one read where the event pages don't spell the
         // step's events; where they keep a history it never comes.
-        ensures found { IfOk result (λ _. (ps : Image) → pages_of D.content self.old ≡ Some ps
+        ensures found { IfOk result (λ _. (ps : Image) → pages_of D.view self.old ≡ Some ps
             → FindsEvent H.dig ps (head_of self.old) step index top) }
-        ensures count { IfErr result (λ refusal. OfNoEvent refusal (λ count. (ps : Image) → pages_of D.content self.old ≡ Some ps
+        ensures count { IfErr result (λ refusal. OfNoEvent refusal (λ count. (ps : Image) → pages_of D.view self.old ≡ Some ps
             → FindsCount H.dig ps (head_of self.old) step index top count)) }
-        ensures bad { IfErr result (λ refusal. OfBadPage refusal (λ page. (ps : Image) → pages_of D.content self.old ≡ Some ps
+        ensures bad { IfErr result (λ refusal. OfBadPage refusal (λ page. (ps : Image) → pages_of D.view self.old ≡ Some ps
             → LacksProof H.dig ps (head_of self.old) step index top page)) }
-        ensures good { IfErr result (λ refusal. IsBadPage refusal → (h : History) → Serves H.dig D.content D.may_leave self.old h → ⊥) }
+        ensures good { IfErr result (λ refusal. IsBadPage refusal → (h : History) → Serves H.dig D.view self.old h → ⊥) }
     {
-        if let Some(refusal) = order_refusal(self.is_broken, self.head.step, step, top) {
+        if let Some(refusal) = order_refusal(self.is_broken, self.root.head.step, step, top) {
             return Err(refusal);
         }
         match make_proof::<Store<D>, H>(
             self.alloc,
             &mut self.store,
-            &self.name,
-            &self.head,
+            &self.root.name,
+            &self.root.head,
             step,
             index,
             top,

@@ -1,4 +1,3 @@
-use Rattle.tw_base.specs.Texts.{empty_tree_text}
 use Rattle.tw_skiplist.specs.Records.{head_ref}
 use Rattle.tw_service.proofs.Exclusions.{links_or_bad, one_bad_link}
 use Rattle.tw_service.proofs.FindingLaws.{count_or_bad, event_or_bad, event_or_count, one_bad, one_count}
@@ -6,13 +5,13 @@ use Rattle.tw_service.proofs.Standing.{one_service}
 use Rattle.tw_service.proofs.laws.finding_laws.Goals as goal
 
 pub returns-clause-one_service : goal.returns-clause-one_service
-returns-clause-one_service g c = one_service g.H.Hasher.dig g.met.H.Hasher.size
+returns-clause-one_service g c = one_service
 
 pub returns-clause-links : goal.returns-clause-links
-returns-clause-links g c = λ ps head page few all met. links_or_bad (g.H.Hasher.dig empty_tree_text) ps few (head_ref head) head.step all.0 page all.1 met
+returns-clause-links g c = λ ps head page few all met. links_or_bad ps few (head_ref head) head.step all.0 page all.1 met
 
 pub returns-clause-one_link : goal.returns-clause-one_link
-returns-clause-one_link g c = λ ps head page other few one two. one_bad_link (g.H.Hasher.dig empty_tree_text) ps few (head_ref head) head.step page other one two
+returns-clause-one_link g c = λ ps head page other few one two. one_bad_link ps few (head_ref head) head.step page other one two
 
 pub returns-clause-event : goal.returns-clause-event
 returns-clause-event g c = λ ps head step index top page few event lacks. event_or_bad g.H.Hasher.dig ps few head step top index page event lacks

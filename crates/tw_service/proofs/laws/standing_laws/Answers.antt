@@ -11,4 +11,4 @@ pub returns-clause-never_refused : goal.returns-clause-never_refused
 returns-clause-never_refused g c = stands_opened g.H.Hasher.dig
 
 pub returns-clause-opened : goal.returns-clause-opened
-returns-clause-opened g c = opens_never_refused g.H.Hasher.dig
+returns-clause-opened g c = opens_never_refused

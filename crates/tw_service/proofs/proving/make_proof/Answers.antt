@@ -1,7 +1,7 @@
 use Rattle.std.proofs.Common.{◌∙◌, List, ℕ, ap, arith, inl, inr, refl, sym}
-use Rattle.tw_disk.specs.Pages.{only_reads_on}
+use Rattle.tw_disk.proofs.ReadingLaws.{only_reads_on}
 use Rattle.tw_skiplist.specs.declared.info.StepProof.{StepProof}
-use Rattle.tw_service.specs.Faults.{IsNoEvent}
+use Rattle.tw_service.specs.Refusals.{IsNoEvent}
 use Rattle.tw_service.specs.Limits.{event_refusal}
 use Rattle.tw_service.proofs.Answering.{event_told, is_bad_fault, is_disk_fault, no_event_told, of_some}
 use Rattle.tw_service.proofs.BadPages.{bad_page, bad_told, no_bad_page, no_count, of_count}

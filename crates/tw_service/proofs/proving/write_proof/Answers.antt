@@ -1,6 +1,6 @@
 use Rattle.std.proofs.Common.{ap, arith, length, subst}
 use Rattle.tw_base.specs.Formats.{Spells}
-use Rattle.tw_skipproof.specs.Existence.{IsWithinLimits as IsWithinRanges, existence_layout}
+use Rattle.tw_skipproof.specs.Existence.{IsExistenceInRange, existence_layout}
 use Rattle.tw_skipproof.specs.Writing.{IsShaped}
 use Rattle.tw_skipproof.specs.declared.existence.ExistenceProof.{ExistenceProof}
 use Rattle.tw_service.proofs.Answering.{if_ok}
@@ -19,5 +19,5 @@ returns g c = record {
       if_ok c.write_existence.result _ _ (λ bytes spelled ps h step sound named order has links info same.
       makes g.H.Hasher.dig ps h step c.args.name.now c.args.top c.args.index c.args.proof c.args.events c.take_event-event.result c.in_ok-path.path
       named links info same c.take_event-event.ensures c.in_ok-path.ensures.path bytes sound order has
-      (subst (λ p. IsWithinRanges p → IsShaped p → Spells existence_layout bytes p) c.existence_of-made.ensures spelled)) c.write_existence.ensures.spelled;
+      (subst (λ p. IsExistenceInRange p → IsShaped p → Spells existence_layout bytes p) c.existence_of-made.ensures spelled)) c.write_existence.ensures.spelled;
 }

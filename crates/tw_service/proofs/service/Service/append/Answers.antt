@@ -1,11 +1,10 @@
 use Rattle.std.proofs.Common.{◌∙◌, ℕ, Bool, ap, inl, inr, length, ⊎_elim, sym}
 use Rattle.std.specs.Prelude.{false}
-use Rattle.tw_base.specs.History.{plus}
+use Rattle.tw_base.specs.History.{with_events}
 use Rattle.tw_base.specs.declared.thread.Thread.{Thread}
-use Rattle.tw_pages.specs.Same.{is_same_itself}
-use Rattle.tw_skiplist.specs.Keeping.{event_step}
+use Rattle.tw_pages.specs.SameSteps.{is_same_itself}
 use Rattle.tw_disk.specs.Disk.{IsAtRest}
-use Rattle.tw_pages.specs.Kept.{disk_of}
+use Rattle.tw_pages.specs.StoreValue.{disk_of}
 use Rattle.tw_service.specs.Keeps.{KeepsHistory}
 use Rattle.tw_service.specs.Limits.{append_refusal}
 use Rattle.tw_service.specs.Machine.Call.{Append}
@@ -21,35 +20,35 @@ returns-in-Some-clause-refused g c = inr (λ h served.
     let d = g.D.Disk in
     let s = c.args.self.now in (
       served,
-      same_leaves d.content d.may_leave d.moment d.left_since g.met.D.Disk.only_now g.H.Hasher.dig s.store s.store _ (is_same_itself d.content d.may_leave d.moment d.left_since s.store)
-          (λ i left. rest_stands d.content d.may_leave d.moment d.left_since g.met.D.Disk.only_now g.H.Hasher.dig s.store s.name s.head h served i left),
+      same_leaves d.view g.met.D.Disk.only_now g.H.Hasher.dig s.store s.store _ (is_same_itself d.view s.store)
+          (λ i left. rest_stands d.view g.met.D.Disk.only_now g.H.Hasher.dig s.store s.root h served i left),
     ))
 
 pub returns-in-Some-clause-broken : goal.returns-in-Some-clause-broken
 returns-in-Some-clause-broken g c =
-    let no_fault = of_some NoFault _ c.in-Some.refusal (sym c.in-Some.is ∙ c.append_refusal.ensures.answer) (append_no_fault c.args.self.now.is_broken c.args.self.now.head.step c.args.events.now) in
+    let no_fault = of_some NoFault _ c.in-Some.refusal (sym c.in-Some.is ∙ c.append_refusal.ensures.answer) (append_no_fault c.args.self.now.is_broken c.args.self.now.root.head.step c.args.events.now) in
     (λ failed. inl failed, λ either. ⊎_elim (λ failed. failed) (λ is. absurd (no_fault (is_disk_fault Thread c.in-Some.refusal is))) either)
 
 pub returns-in-Some-clause-fault : goal.returns-in-Some-clause-fault
 returns-in-Some-clause-fault g c =
-    let no_fault = of_some NoFault _ c.in-Some.refusal (sym c.in-Some.is ∙ c.append_refusal.ensures.answer) (append_no_fault c.args.self.now.is_broken c.args.self.now.head.step c.args.events.now) in
+    let no_fault = of_some NoFault _ c.in-Some.refusal (sym c.in-Some.is ∙ c.append_refusal.ensures.answer) (append_no_fault c.args.self.now.is_broken c.args.self.now.root.head.step c.args.events.now) in
     λ is. absurd (no_fault (is_disk_fault Thread c.in-Some.refusal is))
 
 pub returns-in-Some-clause-good : goal.returns-in-Some-clause-good
 returns-in-Some-clause-good g c =
-    let no_fault = of_some NoFault _ c.in-Some.refusal (sym c.in-Some.is ∙ c.append_refusal.ensures.answer) (append_no_fault c.args.self.now.is_broken c.args.self.now.head.step c.args.events.now) in
+    let no_fault = of_some NoFault _ c.in-Some.refusal (sym c.in-Some.is ∙ c.append_refusal.ensures.answer) (append_no_fault c.args.self.now.is_broken c.args.self.now.root.head.step c.args.events.now) in
     λ bad h served. no_fault (is_bad_fault c.in-Some.refusal bad)
 
 pub returns-in-Some-clause-bad : goal.returns-in-Some-clause-bad
 returns-in-Some-clause-bad g c =
-    no_bad_page _ c.in-Some.refusal (of_some NoFault _ c.in-Some.refusal (sym c.in-Some.is ∙ c.append_refusal.ensures.answer) (append_no_fault c.args.self.now.is_broken c.args.self.now.head.step c.args.events.now))
+    no_bad_page _ c.in-Some.refusal (of_some NoFault _ c.in-Some.refusal (sym c.in-Some.is ∙ c.append_refusal.ensures.answer) (append_no_fault c.args.self.now.is_broken c.args.self.now.root.head.step c.args.events.now))
 
 pub returns-in-Some-clause-machine : goal.returns-in-Some-clause-machine
 returns-in-Some-clause-machine g c = λ whole h served.
     let s = c.args.self.now in
     let events = c.args.events.now in
-    let is = sym c.in-Some.is ∙ c.append_refusal.ensures.answer ∙ ap (λ (b : Bool). append_refusal b s.head.step events) whole ∙ ap (λ (n : ℕ). append_refusal false n events) served.has.keeps.step in
-    answers_refusal g.H.Hasher.dig h (Append events) (λ (t : Thread). OfThread t) (Serves g.H.Hasher.dig g.D.Disk.content g.D.Disk.may_leave s) c.in-Some.refusal
+    let is = sym c.in-Some.is ∙ c.append_refusal.ensures.answer ∙ ap (λ (b : Bool). append_refusal b s.root.head.step events) whole ∙ ap (λ (n : ℕ). append_refusal false n events) served.has.keeps.step in
+    answers_refusal g.H.Hasher.dig h (Append events) (λ (t : Thread). OfThread t) (Serves g.H.Hasher.dig g.D.Disk.view s) c.in-Some.refusal
     (of_some IsTold _ c.in-Some.refusal is (append_told (length h.steps) events)) (append_refused g.H.Hasher.dig h events c.in-Some.refusal is) served
 
 pub returns-in-Ok-clause-any_moment : goal.returns-in-Ok-clause-any_moment
@@ -59,9 +58,9 @@ pub returns-in-Ok-clause-machine : goal.returns-in-Ok-clause-machine
 returns-in-Ok-clause-machine g c = λ whole h served.
     let s = c.args.self.now in
     let events = c.args.events.now in
-    let is = sym c.in_default.is ∙ c.append_refusal.ensures.answer ∙ ap (λ (b : Bool). append_refusal b s.head.step events) whole ∙ ap (λ (n : ℕ). append_refusal false n events) served.has.keeps.step in
+    let is = sym c.in_default.is ∙ c.append_refusal.ensures.answer ∙ ap (λ (b : Bool). append_refusal b s.root.head.step events) whole ∙ ap (λ (n : ℕ). append_refusal false n events) served.has.keeps.step in
     let done = c.in-Ok.ensures.done h served in
-    (plus h (event_step events), append_done g.H.Hasher.dig h events c.head.result is (c.head.ensures.served (plus h (event_step events)) done), done)
+    (with_events h events, append_done g.H.Hasher.dig h events c.head.result is (c.head.ensures.served (with_events h events) done), done)
 
 pub returns-in-Err-clause-any_moment : goal.returns-in-Err-clause-any_moment
 returns-in-Err-clause-any_moment g c = λ h served. c.in-Err.ensures.any_moment h served
@@ -71,17 +70,17 @@ returns-in-Err-clause-refused g c =
     let d = g.D.Disk in
     let s = c.args.self.now in
     ⊎_elim (λ fault. inl fault) (λ same. inr (λ h served. (
-      still_keeps d.content d.may_leave d.moment d.left_since g.met.D.Disk.only_now g.H.Hasher.dig s.store c.add_step.new.store s.name s.head h same c.in-Err.ensures.clean served,
-      same_leaves d.content d.may_leave d.moment d.left_since g.met.D.Disk.only_now g.H.Hasher.dig s.store c.add_step.new.store _ same
-          (λ i left. rest_stands d.content d.may_leave d.moment d.left_since g.met.D.Disk.only_now g.H.Hasher.dig s.store s.name s.head h served i left),
+      still_keeps d.view g.met.D.Disk.only_now g.H.Hasher.dig s.store c.add_step.new.store s.root h same c.in-Err.ensures.clean served,
+      same_leaves d.view g.met.D.Disk.only_now g.H.Hasher.dig s.store c.add_step.new.store _ same
+          (λ i left. rest_stands d.view g.met.D.Disk.only_now g.H.Hasher.dig s.store s.root h served i left),
     ))) c.in-Err.ensures.same
 
 pub returns-in-Err-clause-machine : goal.returns-in-Err-clause-machine
 returns-in-Err-clause-machine g c = λ whole h served.
     let d = g.D.Disk in
     let s = c.args.self.now in
-    answers_fault g.H.Hasher.dig h (Append c.args.events.now) (λ (t : Thread). OfThread t) (λ k. IsAtRest d.content d.may_leave (disk_of c.add_step.new.store) (KeepsHistory g.H.Hasher.dig c.add_step.new.store s.name s.head k)) c.in-Err.refusal c.in-Err.ensures.answers (λ bad. c.in-Err.ensures.good bad h served)
-    (⊎_elim (λ fault. inl fault) (λ same. inr (still_keeps d.content d.may_leave d.moment d.left_since g.met.D.Disk.only_now g.H.Hasher.dig s.store c.add_step.new.store s.name s.head h same c.in-Err.ensures.clean served)) c.in-Err.ensures.same)
+    answers_fault g.H.Hasher.dig h (Append c.args.events.now) (λ (t : Thread). OfThread t) (λ k. IsAtRest (d.view (disk_of c.add_step.new.store)) (KeepsHistory g.H.Hasher.dig c.add_step.new.store s.root k)) c.in-Err.refusal c.in-Err.ensures.answers (λ bad. c.in-Err.ensures.good bad h served)
+    (⊎_elim (λ fault. inl fault) (λ same. inr (still_keeps d.view g.met.D.Disk.only_now g.H.Hasher.dig s.store c.add_step.new.store s.root h same c.in-Err.ensures.clean served)) c.in-Err.ensures.same)
 
 pub returns-in-Ok-clause-told : goal.returns-in-Ok-clause-told
 returns-in-Ok-clause-told g c = λ h served. c.in-Ok.ensures.told h served
@@ -93,4 +92,11 @@ pub returns-in-Some-clause-told : goal.returns-in-Some-clause-told
 returns-in-Some-clause-told g c = λ h served.
     let d = g.D.Disk in
     let s = c.args.self.now in
-    same_tells d.content d.may_leave d.moment d.left_since g.met.D.Disk.only_now g.H.Hasher.dig s.store s.store s.name s.head h c.args.events.now (is_same_itself d.content d.may_leave d.moment d.left_since s.store) served
+    same_tells d.view g.met.D.Disk.only_now g.H.Hasher.dig s.store s.store s.root h (with_events h c.args.events.now) (is_same_itself d.view s.store) served
+
+pub returns-in-Some-clause-any_moment : goal.returns-in-Some-clause-any_moment
+returns-in-Some-clause-any_moment g c = λ h served.
+    let d = g.D.Disk in
+    let s = c.args.self.now in
+    same_leaves d.view g.met.D.Disk.only_now g.H.Hasher.dig s.store s.store _ (is_same_itself d.view s.store)
+    (λ i left. inl (rest_stands d.view g.met.D.Disk.only_now g.H.Hasher.dig s.store s.root h served i left))

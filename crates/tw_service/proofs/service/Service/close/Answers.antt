@@ -8,5 +8,5 @@ pub returns-clause-stands : goal.returns-clause-stands
 returns-clause-stands g c = λ h served.
     let d = g.D.Disk in
     let s = c.args.self in
-    subst (λ disk. IsAtRest d.content d.may_leave disk (λ i. StandsFor g.H.Hasher.dig i s.name h)) (sym c.close.ensures)
-    (rest_for_good d.content d.may_leave d.moment d.left_since g.met.D.Disk.only_now g.H.Hasher.dig s.store s.name s.head h served)
+    subst (λ disk. IsAtRest (d.view disk) (λ i. StandsFor g.H.Hasher.dig i s.root.name h)) (sym c.close.ensures)
+    (rest_for_good d.view g.met.D.Disk.only_now g.H.Hasher.dig s.store s.root h served)

@@ -4,20 +4,20 @@ use Rattle.tw_service.proofs.service.Service.init.Goals as goal
 
 pub returns-in-Ok-clause-served : goal.returns-in-Ok-clause-served
 returns-in-Ok-clause-served g c = λ i told.
-    serves_none g.H.Hasher.dig g.met.H.Hasher.size c.args.name c.root_record-root.ensures.name _ refl refl c.genesis-auth.ensures g.D.Disk.content g.D.Disk.may_leave c.in-Ok.store c.as_slice.result.now
-    (c.as_slice.ensures.value ∙ c.root_record-root.ensures.bytes) c.in-Ok.ensures.clean.0 (c.in-Ok.ensures.made i told)
+    serves_none g.H.Hasher.dig g.met.H.Hasher.size _ c.root_record-bytes.ensures.name refl refl c.genesis-auth.ensures refl c.empty_tree.ensures refl g.D.Disk.view c.in-Ok.store c.as_slice.result.now
+    (c.as_slice.ensures.value ∙ c.root_record-bytes.ensures.bytes) c.in-Ok.ensures.clean.0 (c.in-Ok.ensures.made i told)
 
 pub returns-in-Ok-clause-any_moment : goal.returns-in-Ok-clause-any_moment
 returns-in-Ok-clause-any_moment g c = λ i told.
-    leaves_none g.H.Hasher.dig g.met.H.Hasher.size c.args.name c.root_record-root.ensures.name _ refl refl c.genesis-auth.ensures g.D.Disk.moment g.D.Disk.may_leave g.D.Disk.left_since c.args.disk _ c.as_slice.result.now
-    (c.as_slice.ensures.value ∙ c.root_record-root.ensures.bytes) (c.in-Ok.ensures.any_moment i told)
+    leaves_none g.H.Hasher.dig g.met.H.Hasher.size _ c.root_record-bytes.ensures.name refl refl c.genesis-auth.ensures refl c.empty_tree.ensures refl (g.D.Disk.view c.args.disk) _ c.as_slice.result.now
+    (c.as_slice.ensures.value ∙ c.root_record-bytes.ensures.bytes) (c.in-Ok.ensures.any_moment i told)
 
 pub returns-in-Err-clause-any_moment_err : goal.returns-in-Err-clause-any_moment_err
 returns-in-Err-clause-any_moment_err g c = λ i told.
-    leaves_none g.H.Hasher.dig g.met.H.Hasher.size c.args.name c.root_record-root.ensures.name _ refl refl c.genesis-auth.ensures g.D.Disk.moment g.D.Disk.may_leave g.D.Disk.left_since c.args.disk c.in-Err.disk c.as_slice.result.now
-    (c.as_slice.ensures.value ∙ c.root_record-root.ensures.bytes) (c.in-Err.ensures.any_moment_err i told)
+    leaves_none g.H.Hasher.dig g.met.H.Hasher.size _ c.root_record-bytes.ensures.name refl refl c.genesis-auth.ensures refl c.empty_tree.ensures refl (g.D.Disk.view c.args.disk) (g.D.Disk.view c.in-Err.disk) c.as_slice.result.now
+    (c.as_slice.ensures.value ∙ c.root_record-bytes.ensures.bytes) (c.in-Err.ensures.any_moment_err i told)
 
 pub returns-in-Err-clause-told : goal.returns-in-Err-clause-told
 returns-in-Err-clause-told g c = λ i told.
-    tells_none g.H.Hasher.dig g.met.H.Hasher.size c.args.name c.root_record-root.ensures.name _ refl refl c.genesis-auth.ensures g.D.Disk.content g.D.Disk.may_leave c.args.disk c.in-Err.disk c.as_slice.result.now
-    (c.as_slice.ensures.value ∙ c.root_record-root.ensures.bytes) (c.in-Err.ensures.told i told)
+    tells_none g.H.Hasher.dig g.met.H.Hasher.size _ c.root_record-bytes.ensures.name refl refl c.genesis-auth.ensures refl c.empty_tree.ensures refl (g.D.Disk.view c.args.disk) (g.D.Disk.view c.in-Err.disk) c.as_slice.result.now
+    (c.as_slice.ensures.value ∙ c.root_record-bytes.ensures.bytes) (c.in-Err.ensures.told i told)

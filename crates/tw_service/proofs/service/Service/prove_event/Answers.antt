@@ -2,9 +2,9 @@ use Rattle.std.proofs.Common.{◌∙◌, List, ℕ, Bool, ap, inl, inr, length, 
 use Rattle.std.specs.Prelude.{false, is_some}
 use Rattle.tw_chain.proofs.Completeness.{Accepts-made}
 use Rattle.tw_disk.specs.Disk.{IsAtRest}
-use Rattle.tw_pages.specs.Kept.{disk_of}
-use Rattle.tw_pages.specs.Same.{is_same_itself}
-use Rattle.tw_service.specs.Faults.{OfNoEvent}
+use Rattle.tw_pages.specs.StoreValue.{disk_of}
+use Rattle.tw_pages.specs.SameSteps.{is_same_itself}
+use Rattle.tw_service.specs.Refusals.{OfNoEvent}
 use Rattle.tw_service.specs.Keeps.{KeepsHistory}
 use Rattle.tw_service.specs.Limits.{order_refusal}
 use Rattle.tw_service.specs.Machine.Call.{ProveEvent}
@@ -18,95 +18,95 @@ pub returns-in-Some-clause-machine : goal.returns-in-Some-clause-machine
 returns-in-Some-clause-machine g c = λ whole h served.
     let d = g.D.Disk in
     let s = c.args.self.now in
-    let is = sym c.in-Some.is ∙ c.order_refusal.ensures.answer ∙ ap (λ (b : Bool). order_refusal b s.head.step c.args.step c.args.top) whole ∙ ap (λ (n : ℕ). order_refusal false n c.args.step c.args.top) served.has.keeps.step in
-    answers_refusal g.H.Hasher.dig h (ProveEvent c.args.step c.args.index c.args.top) (λ (b : List ℕ). OfProof b) (λ k. IsAtRest d.content d.may_leave (disk_of s.store) (KeepsHistory g.H.Hasher.dig s.store s.name s.head k)) c.in-Some.refusal
+    let is = sym c.in-Some.is ∙ c.order_refusal.ensures.answer ∙ ap (λ (b : Bool). order_refusal b s.root.head.step c.args.step c.args.top) whole ∙ ap (λ (n : ℕ). order_refusal false n c.args.step c.args.top) served.has.keeps.step in
+    answers_refusal g.H.Hasher.dig h (ProveEvent c.args.step c.args.index c.args.top) (λ (b : List ℕ). OfProof b) (λ k. IsAtRest (d.view (disk_of s.store)) (KeepsHistory g.H.Hasher.dig s.store s.root k)) c.in-Some.refusal
     (of_some IsTold _ c.in-Some.refusal is (order_told (length h.steps) c.args.step c.args.top)) (proof_disordered g.H.Hasher.dig h c.args.step c.args.index c.args.top c.in-Some.refusal is) served
 
 pub returns-in-Some-clause-same : goal.returns-in-Some-clause-same
 returns-in-Some-clause-same g c = λ h served.
     let d = g.D.Disk in
     let s = c.args.self.now in
-    (served, read_leaves d.content d.may_leave d.moment d.left_since g.met.D.Disk.only_now g.H.Hasher.dig s.store s.store s.name s.head h (is_same_itself d.content d.may_leave d.moment d.left_since s.store) served)
+    (served, read_leaves d.view g.met.D.Disk.only_now g.H.Hasher.dig s.store s.store s.root h (is_same_itself d.view s.store) served)
 
 pub returns-in-Some-clause-broken : goal.returns-in-Some-clause-broken
 returns-in-Some-clause-broken g c =
     let d = g.D.Disk in
     let s = c.args.self.now in
-    let no_fault = of_some NoFault _ c.in-Some.refusal (sym c.in-Some.is ∙ c.order_refusal.ensures.answer) (order_no_fault s.is_broken s.head.step c.args.step c.args.top) in
+    let no_fault = of_some NoFault _ c.in-Some.refusal (sym c.in-Some.is ∙ c.order_refusal.ensures.answer) (order_no_fault s.is_broken s.root.head.step c.args.step c.args.top) in
     (λ failed. inl failed, λ either. ⊎_elim (λ failed. failed) (λ is. absurd (no_fault (is_disk_fault (List ℕ) c.in-Some.refusal is))) either)
 
 pub returns-in-Some-clause-fault : goal.returns-in-Some-clause-fault
 returns-in-Some-clause-fault g c =
     let d = g.D.Disk in
     let s = c.args.self.now in
-    let no_fault = of_some NoFault _ c.in-Some.refusal (sym c.in-Some.is ∙ c.order_refusal.ensures.answer) (order_no_fault s.is_broken s.head.step c.args.step c.args.top) in
+    let no_fault = of_some NoFault _ c.in-Some.refusal (sym c.in-Some.is ∙ c.order_refusal.ensures.answer) (order_no_fault s.is_broken s.root.head.step c.args.step c.args.top) in
     λ is. absurd (no_fault (is_disk_fault (List ℕ) c.in-Some.refusal is))
 
 pub returns-in-Some-clause-good : goal.returns-in-Some-clause-good
 returns-in-Some-clause-good g c =
     let d = g.D.Disk in
     let s = c.args.self.now in
-    let no_fault = of_some NoFault _ c.in-Some.refusal (sym c.in-Some.is ∙ c.order_refusal.ensures.answer) (order_no_fault s.is_broken s.head.step c.args.step c.args.top) in
+    let no_fault = of_some NoFault _ c.in-Some.refusal (sym c.in-Some.is ∙ c.order_refusal.ensures.answer) (order_no_fault s.is_broken s.root.head.step c.args.step c.args.top) in
     λ bad h served. no_fault (is_bad_fault c.in-Some.refusal bad)
 
 pub returns-in-Some-clause-bad : goal.returns-in-Some-clause-bad
 returns-in-Some-clause-bad g c =
     let s = c.args.self.now in
-    no_bad_page _ c.in-Some.refusal (of_some NoFault _ c.in-Some.refusal (sym c.in-Some.is ∙ c.order_refusal.ensures.answer) (order_no_fault s.is_broken s.head.step c.args.step c.args.top))
+    no_bad_page _ c.in-Some.refusal (of_some NoFault _ c.in-Some.refusal (sym c.in-Some.is ∙ c.order_refusal.ensures.answer) (order_no_fault s.is_broken s.root.head.step c.args.step c.args.top))
 
 pub returns-in-Some-clause-count : goal.returns-in-Some-clause-count
 returns-in-Some-clause-count g c =
     let s = c.args.self.now in
-    of_some (λ r. OfNoEvent r _) _ c.in-Some.refusal (sym c.in-Some.is ∙ c.order_refusal.ensures.answer) (order_counts _ s.is_broken s.head.step c.args.step c.args.top)
+    of_some (λ r. OfNoEvent r _) _ c.in-Some.refusal (sym c.in-Some.is ∙ c.order_refusal.ensures.answer) (order_counts _ s.is_broken s.root.head.step c.args.step c.args.top)
 
 pub returns-in-Ok-clause-made : goal.returns-in-Ok-clause-made
 returns-in-Ok-clause-made g c = λ h served.
     let d = g.D.Disk in
     let s = c.args.self.now in
-    let list = told_list d.content d.may_leave d.moment d.left_since g.met.D.Disk.only_now g.H.Hasher.dig s.store s.name s.head h served in
+    let list = told_list d.view g.met.D.Disk.only_now g.H.Hasher.dig s.store s.root h served in
     c.in-Ok.ensures.made _ h list served.has.keeps served.has.sound served.has.named
 
 pub returns-in-Ok-clause-accepted : goal.returns-in-Ok-clause-accepted
 returns-in-Ok-clause-accepted g c = λ h served anchors anchor held reached.
     let d = g.D.Disk in
     let s = c.args.self.now in
-    let list = told_list d.content d.may_leave d.moment d.left_since g.met.D.Disk.only_now g.H.Hasher.dig s.store s.name s.head h served in
+    let list = told_list d.view g.met.D.Disk.only_now g.H.Hasher.dig s.store s.root h served in
     Accepts-made g.H.Hasher.dig h c.args.step c.args.index c.args.top c.in-Ok.bytes anchors anchor (c.order_refusal.ensures.order (ap is_some c.in_default.is)).1 (c.in-Ok.ensures.made _ h list served.has.keeps served.has.sound served.has.named) held reached
 
 pub returns-in-Ok-clause-machine : goal.returns-in-Ok-clause-machine
 returns-in-Ok-clause-machine g c = λ whole h served.
     let d = g.D.Disk in
     let s = c.args.self.now in
-    let list = told_list d.content d.may_leave d.moment d.left_since g.met.D.Disk.only_now g.H.Hasher.dig s.store s.name s.head h served in
-    let is = sym c.in_default.is ∙ c.order_refusal.ensures.answer ∙ ap (λ (b : Bool). order_refusal b s.head.step c.args.step c.args.top) whole ∙ ap (λ (n : ℕ). order_refusal false n c.args.step c.args.top) served.has.keeps.step in
-    (h, proof_made g.H.Hasher.dig h c.args.step c.args.index c.args.top c.in-Ok.bytes is (c.in-Ok.ensures.event _ h list served.has.keeps) (c.in-Ok.ensures.made _ h list served.has.keeps served.has.sound served.has.named), read_keeps d.content d.may_leave d.moment d.left_since g.met.D.Disk.only_now g.H.Hasher.dig s.store c.make_proof.new.pages s.name s.head h c.in-Ok.ensures.kept.same_kept c.in-Ok.ensures.kept.used_kept served)
+    let list = told_list d.view g.met.D.Disk.only_now g.H.Hasher.dig s.store s.root h served in
+    let is = sym c.in_default.is ∙ c.order_refusal.ensures.answer ∙ ap (λ (b : Bool). order_refusal b s.root.head.step c.args.step c.args.top) whole ∙ ap (λ (n : ℕ). order_refusal false n c.args.step c.args.top) served.has.keeps.step in
+    (h, proof_made g.H.Hasher.dig h c.args.step c.args.index c.args.top c.in-Ok.bytes is (c.in-Ok.ensures.event _ h list served.has.keeps) (c.in-Ok.ensures.made _ h list served.has.keeps served.has.sound served.has.named), read_keeps d.view g.met.D.Disk.only_now g.H.Hasher.dig s.store c.make_proof.new.pages s.root h c.in-Ok.ensures.kept.same_kept c.in-Ok.ensures.kept.used_kept served)
 
 pub returns-in-Ok-clause-same : goal.returns-in-Ok-clause-same
 returns-in-Ok-clause-same g c = λ h served.
     let d = g.D.Disk in
     let s = c.args.self.now in
-    (read_keeps d.content d.may_leave d.moment d.left_since g.met.D.Disk.only_now g.H.Hasher.dig s.store c.make_proof.new.pages s.name s.head h c.in-Ok.ensures.kept.same_kept c.in-Ok.ensures.kept.used_kept served, read_leaves d.content d.may_leave d.moment d.left_since g.met.D.Disk.only_now g.H.Hasher.dig s.store c.make_proof.new.pages s.name s.head h c.in-Ok.ensures.kept.same_kept served)
+    (read_keeps d.view g.met.D.Disk.only_now g.H.Hasher.dig s.store c.make_proof.new.pages s.root h c.in-Ok.ensures.kept.same_kept c.in-Ok.ensures.kept.used_kept served, read_leaves d.view g.met.D.Disk.only_now g.H.Hasher.dig s.store c.make_proof.new.pages s.root h c.in-Ok.ensures.kept.same_kept served)
 
 pub returns-in-Err-clause-same : goal.returns-in-Err-clause-same
 returns-in-Err-clause-same g c = λ h served.
     let d = g.D.Disk in
     let s = c.args.self.now in
-    (read_keeps d.content d.may_leave d.moment d.left_since g.met.D.Disk.only_now g.H.Hasher.dig s.store c.make_proof.new.pages s.name s.head h c.in-Err.ensures.kept.same_kept c.in-Err.ensures.kept.used_kept served, read_leaves d.content d.may_leave d.moment d.left_since g.met.D.Disk.only_now g.H.Hasher.dig s.store c.make_proof.new.pages s.name s.head h c.in-Err.ensures.kept.same_kept served)
+    (read_keeps d.view g.met.D.Disk.only_now g.H.Hasher.dig s.store c.make_proof.new.pages s.root h c.in-Err.ensures.kept.same_kept c.in-Err.ensures.kept.used_kept served, read_leaves d.view g.met.D.Disk.only_now g.H.Hasher.dig s.store c.make_proof.new.pages s.root h c.in-Err.ensures.kept.same_kept served)
 
 pub returns-in-Err-clause-good : goal.returns-in-Err-clause-good
 returns-in-Err-clause-good g c = λ bad h served.
     let d = g.D.Disk in
     let s = c.args.self.now in
-    let list = told_list d.content d.may_leave d.moment d.left_since g.met.D.Disk.only_now g.H.Hasher.dig s.store s.name s.head h served in
+    let list = told_list d.view g.met.D.Disk.only_now g.H.Hasher.dig s.store s.root h served in
     c.in-Err.ensures.good bad _ h list served.has.keeps
 
 pub returns-in-Err-clause-machine : goal.returns-in-Err-clause-machine
 returns-in-Err-clause-machine g c = λ whole h served.
     let d = g.D.Disk in
     let s = c.args.self.now in
-    let list = told_list d.content d.may_leave d.moment d.left_since g.met.D.Disk.only_now g.H.Hasher.dig s.store s.name s.head h served in
-    let is = sym c.in_default.is ∙ c.order_refusal.ensures.answer ∙ ap (λ (b : Bool). order_refusal b s.head.step c.args.step c.args.top) whole ∙ ap (λ (n : ℕ). order_refusal false n c.args.step c.args.top) served.has.keeps.step in
-    let still = read_keeps d.content d.may_leave d.moment d.left_since g.met.D.Disk.only_now g.H.Hasher.dig s.store c.make_proof.new.pages s.name s.head h c.in-Err.ensures.kept.same_kept c.in-Err.ensures.kept.used_kept served in
-    ⊎_elim (λ fault. answers_fault g.H.Hasher.dig h (ProveEvent c.args.step c.args.index c.args.top) (λ (b : List ℕ). OfProof b) (λ k. IsAtRest d.content d.may_leave (disk_of c.make_proof.new.pages) (KeepsHistory g.H.Hasher.dig c.make_proof.new.pages s.name s.head k)) c.in-Err.refusal fault (λ bad. c.in-Err.ensures.good bad _ h list served.has.keeps) (inr still))
-    (λ none. answers_refusal g.H.Hasher.dig h (ProveEvent c.args.step c.args.index c.args.top) (λ (b : List ℕ). OfProof b) (λ k. IsAtRest d.content d.may_leave (disk_of c.make_proof.new.pages) (KeepsHistory g.H.Hasher.dig c.make_proof.new.pages s.name s.head k)) c.in-Err.refusal (no_event_told c.in-Err.refusal none) (proof_without_event g.H.Hasher.dig h c.args.step c.args.index c.args.top c.in-Err.refusal is (c.in-Err.ensures.no_event _ h list served.has.keeps none)) still)
+    let list = told_list d.view g.met.D.Disk.only_now g.H.Hasher.dig s.store s.root h served in
+    let is = sym c.in_default.is ∙ c.order_refusal.ensures.answer ∙ ap (λ (b : Bool). order_refusal b s.root.head.step c.args.step c.args.top) whole ∙ ap (λ (n : ℕ). order_refusal false n c.args.step c.args.top) served.has.keeps.step in
+    let still = read_keeps d.view g.met.D.Disk.only_now g.H.Hasher.dig s.store c.make_proof.new.pages s.root h c.in-Err.ensures.kept.same_kept c.in-Err.ensures.kept.used_kept served in
+    ⊎_elim (λ fault. answers_fault g.H.Hasher.dig h (ProveEvent c.args.step c.args.index c.args.top) (λ (b : List ℕ). OfProof b) (λ k. IsAtRest (d.view (disk_of c.make_proof.new.pages)) (KeepsHistory g.H.Hasher.dig c.make_proof.new.pages s.root k)) c.in-Err.refusal fault (λ bad. c.in-Err.ensures.good bad _ h list served.has.keeps) (inr still))
+    (λ none. answers_refusal g.H.Hasher.dig h (ProveEvent c.args.step c.args.index c.args.top) (λ (b : List ℕ). OfProof b) (λ k. IsAtRest (d.view (disk_of c.make_proof.new.pages)) (KeepsHistory g.H.Hasher.dig c.make_proof.new.pages s.root k)) c.in-Err.refusal (no_event_told c.in-Err.refusal none) (proof_without_event g.H.Hasher.dig h c.args.step c.args.index c.args.top c.in-Err.refusal is (c.in-Err.ensures.no_event _ h list served.has.keeps none)) still)
     c.in-Err.ensures.answers
