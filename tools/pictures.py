@@ -149,7 +149,8 @@ def pages():
     lines += more + ["", f"page {first + 1}, the step page of step 2"]
     more, at = dumped(store.pages[first - 3], [
         (1, "1, a step page"), (8, "step 2"), (1, "1, a step of events"), (4, "two events"), (4, "their stream has 17 bytes"),
-        (8, f"first event page, {first}"), (32, "event root"), (32, "archive label"), (64, "zeros"), (32, "authenticator of step 2"),
+        (8, f"first event page, {first}"), (32, "event root"), (32, "archive label"), (8, "the archive has no page"), (56, "zeros"),
+        (32, "authenticator of step 2"),
         (1, "two links"), (8, f"level 0: step 1, page {store.step_pages[1]}"), (32, "its authenticator"), (8, "level 1: step 0, which has no page"),
         (32, "its authenticator"), (PAGE - 267, "zeros"),
     ])

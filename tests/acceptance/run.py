@@ -3,7 +3,7 @@
     python3 tests/acceptance/run.py [PROGRAM]      `make check` calls it so
     python3 tests/acceptance/run.py --texts        documents and sources alone, but for the tutorial; it needs no built program
 
-The cases stand in cases/*.json, those that are counted off in generated.py, those of services in steps.py
+The cases stand in cases/*.json, those that are counted off in generated.py, those of services in steps.py, pages.py
 and failing.py; documents.py and cited.py check the documents, installed.py what `make install` copies, and sources.py the sources.
 A case has
 
@@ -37,6 +37,7 @@ import documents
 import failing
 import generated
 import installed
+import pages
 import reference
 import seen
 import sources
@@ -144,6 +145,7 @@ def all_cases():
             yield {**case, "name": f"{path.stem}: {case['name']}"}
     yield from generated.cases()
     yield from steps.cases()
+    yield from pages.cases()
     yield from failing.cases()
     yield from documents.cases()
     yield from cited.cases()

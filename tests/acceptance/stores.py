@@ -16,11 +16,18 @@ def events_file(events):
     return b"TWE1" + be(len(events), 4) + b"".join(be(len(event), 4) + event for event in events)
 
 
-class Store:
-    """The store of a service after steps of these events."""
+NO_ARCHIVE = (0, reference.EMPTY_TREE)
 
-    def __init__(self, name, steps):
-        self.line = reference.Timeline(name, steps)
+
+class Store:
+    """The store of a service after steps of these events. archives[i - 1] has the page and the label of the archive in the page of
+    step i, which is the empty one where no archives are given; `kept` has those of root records, by their number of steps, with
+    the number of threads, where they aren't empty."""
+
+    def __init__(self, name, steps, archives=None):
+        self.archives = archives or [NO_ARCHIVE] * len(steps)
+        self.line = reference.Timeline(name, steps, [label for _, label in self.archives])
+        self.kept = {}
         self.pages = []
         self.step_pages = [0]
         self.used = [4]
@@ -33,19 +40,21 @@ class Store:
         first = 4 + len(self.pages)
         for number, place in enumerate(range(0, len(stream), PIECE)):
             self.pages.append(page(b"\x02" + be(step, 8) + be(number, 2) + stream[place : place + PIECE]))
+        archive, label = self.archives[step - 1]
         links = [step - 2**level for level in range(reference.top_level(step) + 1)]
         self.step_pages.append(4 + len(self.pages))
         self.pages.append(page(
             b"\x01" + be(step, 8) + b"\x01" + be(len(events), 4) + be(len(stream), 4) + be(first if stream else 0, 8)
-            + reference.event_root(events) + reference.EMPTY_TREE + bytes(8) + bytes(16 + 8 + 32) + self.line.auths[step]
+            + reference.event_root(events) + label + be(archive, 8) + bytes(16 + 8 + 32) + self.line.auths[step]
             + be(len(links), 1) + b"".join(be(self.step_pages[below], 8) + self.line.auths[below] for below in links)
         ))
         self.used.append(4 + len(self.pages))
 
     def root(self, steps):
+        archive, label, threads = self.kept.get(steps, (*NO_ARCHIVE, 0))
         return (
             padded(self.line.name) + be(steps, 8) + self.line.auths[steps] + be(self.step_pages[steps], 8)
-            + bytes(8) + reference.EMPTY_TREE + bytes(8)
+            + be(archive, 8) + label + be(threads, 8)
         )
 
     def body(self, generation, steps):

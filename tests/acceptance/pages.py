@@ -1,0 +1,100 @@
+"""Acceptance cases of stores whose step pages, event pages or root record were changed byte by byte, and of archives that are kept."""
+
+import reference
+from reference import be
+from steps import case
+from stores import NO_ARCHIVE, PAGE, Store, events_file
+
+LABEL = bytes(range(32))
+
+
+def changed(data, page, place, new):
+    """The bytes with others at this place of a page."""
+    at = page * PAGE + place
+    return data[:at] + new + data[at + len(new) :]
+
+
+def four_steps(room):
+    """Makes a service of four steps of one event each; their pages are 5, 7, 9 and 11, those of their events 4, 6, 8 and 10."""
+    return room.made("page", [[b"a"], [b"b"], [b"c"], [b"d"]])
+
+
+def step_pages(room):
+    """step pages that aren't of their kind"""
+    four_steps(room)
+    good = room.store()
+    # the links of step 4 stand from place 187 on, of 40 bytes each: to step 3, to step 2 and to step 0
+    for place, new in (
+        (0, b"\x02"), (1, be(5, 8)), (9, b"\x02"), (10, be(1025, 4)), (14, be(69633, 4)), (18, bytes(8)), (18, be(11, 8)),
+        (90, be(11, 8)), (90, be(2**63, 8)), (98, b"a"), (121, b"\x01"), (153, b"\x01"), (186, b"\x04"),
+        (187, bytes(8)), (187, be(11, 8)), (227, bytes(8)), (267, be(1, 8)), (267, be(5, 8)), (307, b"\x01"), (4095, b"\x01"),
+    ):
+        (room.folder / "d/timeline.tw").write_bytes(changed(good, 11, place, new))
+        for words in ("prove d event 4 0", "prove d event 1 0"):
+            room.expect(words, 8, b"store BadPage 11\n")
+
+
+def pages_that_are_named(room):
+    """pages that are told by their own number, when they are come to"""
+    store = four_steps(room)
+    good = room.store()
+    whole = reference.proof_bytes(store.line, 4, 0, 4)
+    for page in (1, 2, 3, 7, 10, 12, 2**40):
+        link = changed(good, 11, 187, be(page, 8))
+        (room.folder / "d/timeline.tw").write_bytes(link)
+        if page < 11:
+            room.expect("prove d event 4 0", 0, whole)
+        room.expect("prove d event 3 0", 8, f"store BadPage {page if page < 11 else 11}\n".encode())
+    for page in (1, 2, 3, 5, 8):
+        (room.folder / "d/timeline.tw").write_bytes(changed(good, 11, 18, be(page, 8)))
+        room.expect("prove d event 4 0", 8, f"store BadPage {page}\n".encode())
+    # the event page of step 4: kind, step, number, an event's length, and the byte behind the stream
+    for place, new in ((0, b"\x01"), (1, be(3, 8)), (9, be(1, 2)), (11, bytes(4)), (11, be(2, 4)), (16, b"\x01")):
+        (room.folder / "d/timeline.tw").write_bytes(changed(good, 10, place, new))
+        room.expect("prove d event 4 0", 8, b"store BadPage 10\n")
+
+
+def step_pages_with_archives(room):
+    """step pages with any label and any lower page of an archive are taken"""
+    store = four_steps(room)
+    good = room.store()
+    for page in (1, 3, 10):
+        (room.folder / "d/timeline.tw").write_bytes(changed(good, 11, 90, be(page, 8)))
+        room.expect("prove d event 4 0", 0, reference.proof_bytes(store.line, 4, 0, 4))
+    (room.folder / "d/timeline.tw").write_bytes(changed(good, 11, 58, LABEL))
+    other = reference.Timeline("page", store.line.steps, [reference.EMPTY_TREE] * 3 + [LABEL])
+    room.expect("prove d event 4 0", 0, reference.proof_bytes(other, 4, 0, 4))
+
+
+def root_records(room):
+    """root records with an archive that isn't allowed"""
+    room.made("root", [[b"a"], [b"b"], [b"c"]])
+    good = room.store()
+    # the record of 3 steps stands in page 3 from place 26 on, its archive's page, label and number of threads from place 90 on
+    for page, threads in ((4, 0), (9, 0), (0, 1), (1, 1), (3, 1), (10, 1), (2**40, 3), (4, 4), (4, 2**40)):
+        data = changed(good, 3, 90, be(page, 8) + LABEL + be(threads, 8))
+        (room.folder / "d/timeline.tw").write_bytes(data)
+        for words in ("append d e", "prove d event 1 0"):
+            room.expect(words, 8, b"store NotAStore 1\n")
+        room.expect_store(data)
+
+
+def archives_kept(room):
+    """stores whose root record has an archive are served, and an append keeps it"""
+    steps = [[b"a"], [b"b"], [b"c"], [b"d"]]
+    room.put("last", events_file(steps[3]))
+    store = room.made("root", steps[:3])
+    good = room.store()
+    for archive in ((0, LABEL, 0), (4, LABEL, 1), (9, reference.EMPTY_TREE, 3)):
+        page, label, threads = archive
+        (room.folder / "d/timeline.tw").write_bytes(changed(good, 3, 90, be(page, 8) + label + be(threads, 8)))
+        room.expect("prove d event 1 0", 0, reference.proof_bytes(store.line, 1, 0, 3))
+        longer = Store("root", steps, [NO_ARCHIVE] * 3 + [(page, label)])
+        longer.kept = {3: archive, 4: archive}
+        room.expect("append d last", 0, longer.anchor(4))
+        room.expect_store(longer.file())
+        room.expect("prove d event 2 0", 0, reference.proof_bytes(longer.line, 2, 0, 4))
+
+
+def cases():
+    return [case(work, "pages") for work in (step_pages, pages_that_are_named, step_pages_with_archives, root_records, archives_kept)]
