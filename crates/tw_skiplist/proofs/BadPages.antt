@@ -1,5 +1,5 @@
 -- What BadPage says, from one answer to another.
-use Rattle.std.proofs.Common.{◌≡◌, ℕ, List, Result, Ok, Err, arith, inl, subst, sym}
+use Rattle.std.proofs.Common.{◌≡◌, ℕ, Result, Ok, Err, arith, inl, subst, sym}
 use Rattle.std.specs.Result.{IsErrAnd}
 use Rattle.tw_disk.specs.Image.{Image}
 use Rattle.tw_skiplist.specs.declared.fault.ListFault.{ListFault}

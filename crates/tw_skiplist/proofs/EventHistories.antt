@@ -1,5 +1,5 @@
 -- Histories whose steps are all steps of events, and one with one more.
-use Rattle.std.proofs.Common.{◌≡◌, ℕ, suc, zero, ◌<◌, ◌≤◌, List, [], ◌++◌, length, get_or, refl, ap, sym, ◌∙◌, arith, Option}
+use Rattle.std.proofs.Common.{◌≡◌, ℕ, suc, zero, ◌≤◌, List, [], ◌++◌, length, get_or, refl, ap, ◌∙◌, arith, Option}
 use Rattle.std.proofs.lemmas.List.{append-nil}
 use Rattle.tw_base.specs.Texts.{datum_text}
 use Rattle.tw_base.specs.EventTree.{event_root}

@@ -5,6 +5,7 @@ use Rattle.std.proofs.lemmas.List.{map_push, length_push}
 use Rattle.std.proofs.lemmas.Nat.{pow_pos}
 use Rattle.std.proofs.Math.Nat.{pow-suc}
 use Rattle.tw_disk.specs.Image.{Image}
+use Rattle.tw_base.specs.declared.limits.TheConstants.{LAST_STEP}
 use Rattle.tw_base.specs.declared.root.Root.{Root}
 use Rattle.tw_base.specs.Texts.{authenticator_text, datum_text, link_text}
 use Rattle.tw_base.specs.EventTree.{event_root}
@@ -99,7 +100,7 @@ module _ (dig : List ℕ → List ℕ) where
 
     -- ---- the step that was put
 
-    module _ (ps : Image) (h : History) (events : List (List ℕ)) (head new : Head) (keeps : Keeps dig ps h head) (short : head.step + 1 < 2 ^ 40) (limits : MayRecord events)
+    module _ (ps : Image) (h : History) (events : List (List ℕ)) (head new : Head) (keeps : Keeps dig ps h head) (short : head.step < LAST_STEP) (limits : MayRecord events)
         (bytes datum root : List ℕ) (archive : Root) (count used : ℕ) (links : List StepRef) (labels : List (List ℕ)) (now : Option Image)
         (used_is : used ≡ 4 + length ps) (room : used < 2 ^ 47) (bytes_are : bytes ≡ stream events) (bytes_size : length bytes ≤ MOST_STREAM_BYTES)
         (root_is : root ≡ event_root dig events) (archive_is : archive ≡ archive_at dig h (length h.steps)) (count_is : count ≡ length events)

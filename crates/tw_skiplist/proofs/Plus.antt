@@ -4,6 +4,7 @@ use Rattle.std.proofs.lemmas.Bool.{cases_lt}
 use Rattle.std.proofs.lemmas.List.{length_push, get_or_push, get_or_append_left, get_or-append_right}
 use Rattle.std.proofs.lemmas.Nat.{pow_pos}
 use Rattle.tw_disk.specs.Image.{Image, page_at}
+use Rattle.tw_base.specs.declared.limits.TheConstants.{LAST_STEP}
 use Rattle.tw_base.specs.EventTree.{event_root}
 use Rattle.tw_base.specs.History.{History, Step, events_at, events_of, plus, root_of, step_at}
 use Rattle.tw_base.specs.Levels.{top_level}
@@ -82,7 +83,7 @@ module _ (dig : List ℕ → List ℕ) (h : History) (places : List Place) (s : 
 
 -- one more step of events, with its event pages and its step page
 module _ (dig : List ℕ → List ℕ) (pages : Image) (h : History) (places : List Place) (events : List (List ℕ)) (kept : KeepsSteps dig pages h places)
-    (short : length h.steps + 1 < 2 ^ 40) (limits : MayRecord events) (count first page : ℕ) (pieces : IsPieceCount (length (stream events)) count)
+    (short : length h.steps < LAST_STEP) (limits : MayRecord events) (count first page : ℕ) (pieces : IsPieceCount (length (stream events)) count)
     (none : length (stream events) ≡ 0 → first ≡ 0) (some : 0 < length (stream events) → first ≡ 4 + length pages)
     (page_is : page ≡ 4 + length pages + count) (small : page < 2 ^ 48) (rises : (place_of places (length h.steps)).page < page) where
   abbrev n : ℕ

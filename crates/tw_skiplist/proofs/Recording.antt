@@ -1,5 +1,5 @@
 -- The records of paths and openings that pages make, and those of the history that the pages keep.
-use Rattle.std.proofs.Common.{◌≡◌, ℕ, suc, zero, ◌+◌, ◌-◌, ◌^◌, ◌<◌, ◌≤◌, List, [], ◌∷◌, ◌++◌, length, get_or, drop, refl, ap, sym, ◌∙◌, arith, inl, inr, subst, Option}
+use Rattle.std.proofs.Common.{◌≡◌, ℕ, suc, zero, ◌+◌, ◌-◌, ◌^◌, ◌<◌, ◌≤◌, List, [], ◌∷◌, ◌++◌, length, get_or, drop, refl, ap, sym, ◌∙◌, arith, inl, inr, subst}
 use Rattle.std.specs.Prelude.{map, remove, ◌==◌, if◌then◌else◌}
 use Rattle.std.proofs.lemmas.Bool.{cases_lt}
 use Rattle.std.proofs.lemmas.Bool.Decides.{eqb_tells}
@@ -7,15 +7,11 @@ use Rattle.std.proofs.lemmas.List.{length_push, map_push}
 use Rattle.std.proofs.lemmas.List.Edits.{length-remove, remove-append_left}
 use Rattle.std.proofs.lemmas.Nat.{pow_pos}
 use Rattle.tw_disk.specs.Image.{Image}
-use Rattle.tw_base.specs.Texts.{datum_text, empty_tree_text, link_text}
-use Rattle.tw_base.specs.EventTree.{event_root}
-use Rattle.tw_base.specs.History.{History, Step, events_at, root_of}
-use Rattle.tw_base.specs.Tree.{forest, tree}
-use Rattle.tw_base.specs.Tree.Tree.{Empty}
+use Rattle.tw_base.specs.Texts.{link_text}
+use Rattle.tw_base.specs.History.{History}
 use Rattle.tw_base.specs.Levels.{top_level}
-use Rattle.tw_base.specs.Auth.{auths, datum_text_at, link_texts, tree_label}
+use Rattle.tw_base.specs.Auth.{auths, datum_text_at, link_texts}
 use Rattle.tw_base.proofs.Auths.{auths-at}
-use Rattle.tw_base.proofs.Plus.{forest-first}
 use Rattle.tw_skipproof.specs.HistoryProofs.{labels_at}
 use Rattle.tw_skipproof.specs.declared.path.Link.{Link}
 use Rattle.tw_skiplist.specs.declared.head.StepRef.{StepRef}

@@ -1,5 +1,6 @@
 -- What one more step puts behind the pages.
 use Rattle.std.specs.Prelude.{◌≡◌, ℕ, suc, ◌+◌, ◌*◌, ◌<◌, ◌≤◌, List, [], ◌∷◌, ◌++◌, length, Option, Some}
+use Rattle.tw_disk.specs.declared.limits.TheConstants.{FIRST_PAGE}
 use Rattle.tw_disk.specs.Image.{Image}
 use Rattle.tw_base.specs.declared.root.Root.{Root}
 use Rattle.tw_base.specs.EventTree.{event_root}
@@ -24,9 +25,9 @@ pub record IsPut (before : Image) (step : ℕ) (bytes : List ℕ) (count : ℕ) 
   pub pieces : ℕ
   pub piece_count : IsPieceCount (length bytes) pieces
   pub none : length bytes ≡ 0 → first ≡ 0
-  pub some : 0 < length bytes → first ≡ 4 + length before
+  pub some : 0 < length bytes → first ≡ FIRST_PAGE + length before
   pub step_is : new.step ≡ step
-  pub page_is : new.page ≡ 4 + length before + pieces
+  pub page_is : new.page ≡ FIRST_PAGE + length before + pieces
   pub told : now ≡ Some ((before ++ event_pages step bytes pieces)
       ++ step_page_bytes step (record { count = count; stream = record { page = first; size = length bytes }; event_root = root; archive = archive; auth = new.auth }) links ∷ [])
 

@@ -1,5 +1,6 @@
 -- Reading the events of a step from its event pages.
 use Rattle.std.specs.Prelude.{◌≡◌, ℕ, suc, zero, ◌+◌, ◌-◌, ◌*◌, ◌<◌, ◌≤◌, ◌⊎◌, min, List, [], ◌++◌, length}
+use Rattle.tw_disk.specs.declared.limits.TheConstants.{FIRST_PAGE}
 use Rattle.tw_disk.specs.Image.{Image, page_at}
 use Rattle.tw_skiplist.specs.declared.info.StepInfo.{StepInfo}
 use Rattle.tw_skiplist.specs.declared.limits.TheConstants.{MOST_PIECE_BYTES, MOST_STREAM_BYTES}
@@ -13,9 +14,9 @@ piece_size size number = min (size - MOST_PIECE_BYTES * number) MOST_PIECE_BYTES
 -- the page of this number is one of the pages, and the event page of that number of the step, with this piece of a stream of
 -- this size
 pub record IsEventPageAt (pages : Image) (page step number size : ℕ) (bytes : List ℕ) : Type 0 where
-  pub low : 4 ≤ page
-  pub below : page < 4 + length pages
-  pub bytes_are : page_at pages (page - 4) ≡ event_page_bytes step number bytes
+  pub low : FIRST_PAGE ≤ page
+  pub below : page < FIRST_PAGE + length pages
+  pub bytes_are : page_at pages (page - FIRST_PAGE) ≡ event_page_bytes step number bytes
   pub size_is : length bytes ≡ piece_size size number
 
 abbrev pub IsNoEventPageAt : Image → (page step number size : ℕ) → Type 0

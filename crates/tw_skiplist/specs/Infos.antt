@@ -1,6 +1,8 @@
 -- What the calls answer of a history that the pages keep.
-use Rattle.std.specs.Prelude.{◌≡◌, ℕ, ◌+◌, ◌<◌, ◌^◌, List, ◌++◌, length, Option, Some}
+use Rattle.std.specs.Prelude.{◌≡◌, ℕ, ◌+◌, ◌<◌, ◌≤◌, List, ◌++◌, length, Option, Some}
+use Rattle.tw_disk.specs.declared.limits.TheConstants.{FIRST_PAGE}
 use Rattle.tw_disk.specs.Image.{Image}
+use Rattle.tw_base.specs.declared.limits.TheConstants.{LAST_STEP}
 use Rattle.tw_base.specs.EventTree.{event_root}
 use Rattle.tw_base.specs.History.{History, events_at}
 use Rattle.tw_base.specs.Auth.{auth}
@@ -14,14 +16,14 @@ use Rattle.tw_skiplist.specs.Keeping.{Keeps, KeepsStream, archive_at}
 -- the info is of this step of the history, and the pages keep the step's events where it says
 pub record IsInfoOf (dig : List ℕ → List ℕ) (pages : Image) (h : History) (i : ℕ) (info : StepInfo) : Type 0 where
   pub step : info.step ≡ i
-  pub short : i < 2 ^ 40
+  pub short : i ≤ LAST_STEP
   pub event_root : info.event_root ≡ event_root dig (events_at h i)
   pub count : info.count ≡ length (events_at h i)
   pub archive : info.archive ≡ archive_at dig h i
   pub auth : info.auth ≡ auth dig h i
   pub opening : IsOpeningOf dig h i info.opening
   pub limits : MayRecord (events_at h i)
-  pub page_below : info.page < 4 + length pages
+  pub page_below : info.page < FIRST_PAGE + length pages
   pub stream_size : info.stream.size ≡ length (stream (events_at h i))
   pub stream : KeepsStream pages i info.stream.page info.page (stream (events_at h i))
 

@@ -1,7 +1,9 @@
 -- Pages that keep a history of events.
 use Rattle.std.specs.Prelude.{◌≡◌, ℕ, suc, zero, ◌+◌, ◌-◌, ◌*◌, ◌^◌, ◌<◌, ◌≤◌, List, [], ◌∷◌, ◌++◌, length, slice_index_or, Some}
+use Rattle.tw_disk.specs.declared.limits.TheConstants.{FIRST_PAGE, NUMBER_LIMIT}
 use Rattle.tw_disk.specs.Image.{Image, page_at}
 use Rattle.tw_base.specs.declared.content.Content.TheVariants.{Events}
+use Rattle.tw_base.specs.declared.limits.TheConstants.{LAST_STEP}
 use Rattle.tw_base.specs.declared.root.Root.{Root}
 use Rattle.tw_base.specs.EventTree.{event_root}
 use Rattle.tw_base.specs.History.{History, Step, events_at, root_of, step_at}
@@ -36,9 +38,9 @@ place_of places i = slice_index_or places i no_place
 -- the event pages from this one on, all below the step page, keep the stream; a stream of no bytes has no page
 pub record KeepsStream (pages : Image) (step first page : ℕ) (bytes : List ℕ) : Type 0 where
   pub none : length bytes ≡ 0 → first ≡ 0
-  pub low : 0 < length bytes → 4 ≤ first
+  pub low : 0 < length bytes → FIRST_PAGE ≤ first
   pub below : (number : ℕ) → MOST_PIECE_BYTES * number < length bytes → first + number < page
-  pub pieces : (number : ℕ) → MOST_PIECE_BYTES * number < length bytes → page_at pages (first + number - 4) ≡ event_page_bytes step number (piece bytes number)
+  pub pieces : (number : ℕ) → MOST_PIECE_BYTES * number < length bytes → page_at pages (first + number - FIRST_PAGE) ≡ event_page_bytes step number (piece bytes number)
 
 module _ (dig : List ℕ → List ℕ) where
   -- the archive after step i, of a history of events: it has no page, and the label of its tree
@@ -73,18 +75,18 @@ module _ (dig : List ℕ → List ℕ) where
   pub record KeepsStep (pages : Image) (h : History) (places : List Place) (k : ℕ) : Type 0 where
     pub events_only : step_at h (suc k) ≡ Some (event_step (root_of (step_at h k)) (events_at h (suc k)))
     pub limits : MayRecord (events_at h (suc k))
-    pub low : 4 ≤ (place_of places (suc k)).page
+    pub low : FIRST_PAGE ≤ (place_of places (suc k)).page
     pub rising : (place_of places k).page < (place_of places (suc k)).page
-    pub below : (place_of places (suc k)).page < 4 + length pages
-    pub small : (place_of places (suc k)).page < 2 ^ 48
-    pub bytes : page_at pages ((place_of places (suc k)).page - 4) ≡ step_page_bytes (suc k) (fields_at h places (suc k)) (links_at h places (suc k))
+    pub below : (place_of places (suc k)).page < FIRST_PAGE + length pages
+    pub small : (place_of places (suc k)).page < NUMBER_LIMIT
+    pub bytes : page_at pages ((place_of places (suc k)).page - FIRST_PAGE) ≡ step_page_bytes (suc k) (fields_at h places (suc k)) (links_at h places (suc k))
     pub stream : KeepsStream pages (suc k) (place_of places (suc k)).first (place_of places (suc k)).page (stream (events_at h (suc k)))
 
   -- the pages keep each step of the history at these places
   pub record KeepsSteps (pages : Image) (h : History) (places : List Place) : Type 0 where
     pub count : length places ≡ suc (length h.steps)
     pub nowhere : place_of places 0 ≡ no_place
-    pub short : length h.steps < 2 ^ 40
+    pub short : length h.steps ≤ LAST_STEP
     pub steps : (k : ℕ) → k < length h.steps → KeepsStep pages h places k
 
   -- the pages, of which the first has number 4, keep the history whose head this is

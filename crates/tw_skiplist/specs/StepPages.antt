@@ -1,5 +1,6 @@
 -- Which pages are step pages.
 use Rattle.std.specs.Prelude.{◌≡◌, ℕ, suc, ◌+◌, ◌-◌, ◌^◌, ◌<◌, ◌≤◌, ◌↔◌, List, [], ◌∷◌, length, slice_index_or}
+use Rattle.tw_disk.specs.declared.limits.TheConstants.{FIRST_PAGE}
 use Rattle.tw_disk.specs.Image.{Image, page_at}
 use Rattle.tw_base.specs.Levels.{top_level}
 use Rattle.tw_base.specs.declared.limits.TheConstants.{MOST_EVENTS}
@@ -52,9 +53,9 @@ pub record IsStepPage (page step : ℕ) (f : StepFields) (links : List StepRef) 
 
 -- the page of this number is one of the pages, and the page of this step
 pub record IsStepAt (pages : Image) (page step : ℕ) (f : StepFields) (links : List StepRef) : Type 0 where
-  pub low : 4 ≤ page
-  pub below : page < 4 + length pages
-  pub is : IsStepPage page step f links (page_at pages (page - 4))
+  pub low : FIRST_PAGE ≤ page
+  pub below : page < FIRST_PAGE + length pages
+  pub is : IsStepPage page step f links (page_at pages (page - FIRST_PAGE))
 
 abbrev pub IsNoStepAt : Image → (page step : ℕ) → Type 0
 IsNoStepAt pages page step = (f : StepFields) (links : List StepRef) → IsStepAt pages page step f links → ⊥

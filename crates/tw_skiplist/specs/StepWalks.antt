@@ -1,5 +1,5 @@
 -- In which order walks down the links, and the links of one more step, read pages.
-use Rattle.std.specs.Prelude.{◌≡◌, ℕ, suc, ◌+◌, ◌-◌, ◌^◌, ◌<◌, ◌⊎◌, List}
+use Rattle.std.specs.Prelude.{◌≡◌, ℕ, suc, ◌+◌, ◌-◌, ◌^◌, ◌<◌, ◌⊎◌}
 use Rattle.tw_disk.specs.Image.{Image}
 use Rattle.tw_base.specs.Levels.{top_level}
 use Rattle.tw_skipproof.specs.Paths.{hop, hop_level}

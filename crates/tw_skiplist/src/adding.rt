@@ -3,13 +3,12 @@
 ghost use Rattle.std.specs.Prelude.{◌≡◌, ℕ, suc, ◌+◌, ◌<◌, ◌≤◌, ◌^◌, ◌++◌, ◌∷◌, [], List, length, Some, IfOk, OnErr};
 ghost use Rattle.tw_disk.specs.Image.{Image};
 ghost use Rattle.tw_disk.specs.Pages.{OnlyReads};
-ghost use Rattle.tw_base.specs.History.{History};
+ghost use Rattle.tw_base.specs.History.{History, with_events};
+ghost use Rattle.tw_base.specs.Limits.{MayRecord};
 ghost use Rattle.tw_base.specs.Levels.{top_level as top_level_of};
 ghost use Rattle.tw_base.specs.Texts.{authenticator_text, link_text};
 ghost use Rattle.tw_skiplist.specs.Answers.{FaultsRise, IfBadPage, NeverNoStep, NotDiskFault};
 ghost use Rattle.tw_skiplist.specs.Infos.{Added};
-ghost use Rattle.tw_base.specs.Limits.{MayRecord};
-ghost use Rattle.tw_base.specs.History.{with_events};
 ghost use Rattle.tw_skiplist.specs.GatherSteps.{HasLinks, LeadsNowhere};
 ghost use Rattle.tw_skiplist.specs.Keeping.{Keeps, archive_at};
 ghost use Rattle.tw_skiplist.specs.StepPages.{link_of};
@@ -27,6 +26,7 @@ use crate::pieces::{stage_pieces, stream_of};
 use crate::walking::follow;
 use arrayvec::ArrayVec;
 use std::alloc::Global;
+use tw_base::limits::LAST_STEP;
 use tw_base::{
     Bytes, Digest, EventList, Hasher, NoMemory, Root, authenticator, datum, link_label,
     power_of_two, top_level,
@@ -178,7 +178,7 @@ pub fn append<P: Pages, H: Hasher>(
     events: &EventList,
     archive: &Root,
 ) -> Result<Head, ListFault>
-    requires step { head.now.step + 1 < 2 ^ 40 }
+    requires step { head.now.step < LAST_STEP }
     requires used { P.used_count pages.old < 2 ^ 47 }
     requires limits { MayRecord events.now }
     ensures added { IfOk result (λ new. (ps : Image) (h : History) → P.list pages.old ≡ Some ps → Keeps H.dig ps h head.now →

@@ -14,6 +14,7 @@ use crate::page::is_event_page;
 use std::alloc::Global;
 use tw_base::limits::{MOST_EVENT_BYTES, MOST_EVENTS, MOST_STEP_BYTES};
 use tw_base::{Bytes, EventList, NoMemory};
+use tw_disk::limits::FIRST_PAGE;
 use tw_disk::{Pages, u32_at};
 
 // Reads the event page of this number of the step, and appends its piece of a stream of this size.
@@ -34,7 +35,7 @@ fn add_piece<P: Pages>(
     ensures kept { OnlyReads P.used_count P.list P.same P.unbroken pages.old pages.new (NotDiskFault result) }
     ensures faults { FaultsRise (P.faults pages.old) (P.faults pages.new) result }
 {
-    if page < 4 || page >= pages.used() {
+    if page < FIRST_PAGE || page >= pages.used() {
         return Err(ListFault::BadPage { page });
     }
     let count = (size as u64 - MOST_PIECE_BYTES * number as u64).min(MOST_PIECE_BYTES) as usize;

@@ -1,6 +1,7 @@
 // The laws of pages that keep a history, on which the service builds.
 
 ghost use Rattle.std.specs.Prelude.{◌≡◌, ℕ, ◌+◌, ◌<◌, ◌≤◌, List, [], ◌++◌, length};
+ghost use Rattle.tw_disk.specs.declared.limits.TheConstants.{FIRST_PAGE};
 ghost use Rattle.tw_disk.specs.Image.{Image};
 ghost use Rattle.tw_base.specs.Auth.{auth};
 ghost use Rattle.tw_base.specs.History.{History};
@@ -19,7 +20,7 @@ pub fn keeping_laws<H: Hasher>()
     ensures first { (ps : Image) (h : History) (head : Head) → h.steps ≡ [] → head.step ≡ 0 → head.auth ≡ auth H.dig h 0 → head.page ≡ 0 → Keeps H.dig ps h head }
     ensures more { (ps more : Image) (h : History) (head : Head) → Keeps H.dig ps h head → Keeps H.dig (ps ++ more) h head }
     ensures no_page { (ps : Image) (h : History) (head : Head) → Keeps H.dig ps h head → head.step ≡ 0 → head.page ≡ 0 }
-    ensures page { (ps : Image) (h : History) (head : Head) → Keeps H.dig ps h head → 0 < head.step → (4 ≤ head.page) × (head.page < 4 + length ps) }
+    ensures page { (ps : Image) (h : History) (head : Head) → Keeps H.dig ps h head → 0 < head.step → (FIRST_PAGE ≤ head.page) × (head.page < FIRST_PAGE + length ps) }
     ensures one { (ps : Image) (h g : History) (head : Head) → Keeps H.dig ps h head → Keeps H.dig ps g head → h.name ≡ g.name → h ≡ g }
     ensures sound { (ps : Image) (h : History) (head : Head) → Keeps H.dig ps h head → IsName h.name → IsSound h }
 {}

@@ -23,6 +23,7 @@ use crate::info::{StepInfo, StepProof};
 use crate::limits::MOST_STREAM_BYTES;
 use crate::walking::descend;
 use std::alloc::Global;
+use tw_base::limits::LAST_STEP;
 use tw_base::{EventList, Hasher};
 use tw_disk::Pages;
 use tw_skipproof::Path;
@@ -49,7 +50,7 @@ pub fn step<P: Pages, H: Hasher>(
     head: &Head,
     i: u64,
 ) -> Result<StepInfo, ListFault>
-    requires { head.now.step < 2 ^ 40 }
+    requires { head.now.step ≤ LAST_STEP }
     ensures info { IfOk result (λ info. (ps : Image) (h : History) → P.list pages.old ≡ Some ps → Keeps H.dig ps h head.now →
         IsInfoOf H.dig ps h i info) }
     ensures found { IfOk result (λ info. (ps : Image) → P.list pages.old ≡ Some ps → FindsInfo H.dig ps head.now i info) }
@@ -82,7 +83,7 @@ pub fn path<P: Pages, H: Hasher>(
     n: u64,
     i: u64,
 ) -> Result<Path, ListFault>
-    requires { head.now.step < 2 ^ 40 }
+    requires { head.now.step ≤ LAST_STEP }
     ensures path { IfOk result (λ path. (ps : Image) (h : History) → P.list pages.old ≡ Some ps → Keeps H.dig ps h head.now →
         IsPathOf H.dig h path.links n i) }
     ensures bound { IfOk result (λ path. (digits : ℕ) → n < 2 ^ digits → length path.links ≤ 2 * digits) }
@@ -118,7 +119,7 @@ pub fn prove<P: Pages, H: Hasher>(
     top: u64,
     i: u64,
 ) -> Result<StepProof, ListFault>
-    requires { head.now.step < 2 ^ 40 }
+    requires { head.now.step ≤ LAST_STEP }
     ensures path { IfOk result (λ proof. (ps : Image) (h : History) → P.list pages.old ≡ Some ps → Keeps H.dig ps h head.now →
         IsPathOf H.dig h proof.path.links top i) }
     ensures bound { IfOk result (λ proof. (digits : ℕ) → top < 2 ^ digits → length proof.path.links ≤ 2 * digits) }
@@ -184,7 +185,7 @@ pub fn events<P: Pages, H: Hasher>(
     head: &Head,
     i: u64,
 ) -> Result<EventList, ListFault>
-    requires { head.now.step < 2 ^ 40 }
+    requires { head.now.step ≤ LAST_STEP }
     ensures events { IfOk result (λ events. (ps : Image) (h : History) → P.list pages.old ≡ Some ps → Keeps H.dig ps h head.now →
         events ≡ events_at h i) }
     ensures found { IfOk result (λ events. (ps : Image) → P.list pages.old ≡ Some ps → (info : StepInfo) × FindsInfo H.dig ps head.now i info × FindsEvents ps info events) }

@@ -14,6 +14,7 @@ use crate::page::{StepPage, read_step_page};
 use crate::records::link_at;
 use tw_base::power_of_two;
 use tw_disk::Pages;
+use tw_disk::limits::FIRST_PAGE;
 use tw_skipproof::next_hop;
 
 /// Reads the page of a step (below 2^40).
@@ -30,7 +31,7 @@ pub(crate) fn read_step<P: Pages>(
     ensures kept { OnlyReads P.used_count P.list P.same P.unbroken pages.old pages.new (NotDiskFault result) }
     ensures faults { FaultsRise (P.faults pages.old) (P.faults pages.new) result }
 {
-    if page < 4 || page >= pages.used() {
+    if page < FIRST_PAGE || page >= pages.used() {
         return Err(ListFault::BadPage { page });
     }
     let mut bytes = [0; 4096];

@@ -1,11 +1,10 @@
-use Rattle.std.proofs.Common.{◌≡◌, ◌≤◌, ◌∙◌, ℕ, List, Some, arith, subst}
+use Rattle.std.proofs.Common.{◌≡◌, ◌≤◌, ◌∙◌, Some, arith, subst}
 use Rattle.tw_disk.specs.Image.{Image}
 use Rattle.tw_skipproof.proofs.Greedy.{few_links}
 use Rattle.tw_base.specs.History.{History}
 use Rattle.tw_skiplist.specs.declared.head.StepRef.{StepRef}
 use Rattle.tw_skiplist.specs.Keeping.{Keeps}
 use Rattle.tw_skiplist.specs.StepWalks.{MeetsBadPageAbove, WalksVia}
-use Rattle.tw_skiplist.specs.Records.{head_ref}
 use Rattle.tw_skiplist.proofs.BadPages.{bad_page_passed, met_above}
 use Rattle.tw_skiplist.proofs.Finding.{found_path, meets_none, meets_none_further, middle_is, top_within}
 use Rattle.tw_skiplist.proofs.reading.path.Goals as goal
