@@ -3,7 +3,6 @@ use Rattle.std.proofs.Common.{◌≡◌, ℕ, ◌≤◌, List, [], length, refl,
 use Rattle.tw_disk.specs.Image.{Image}
 use Rattle.tw_disk.specs.Disk.{DiskView, IsAtRest, LeavesOnly, Reads}
 use Rattle.tw_disk.proofs.Moments.{leaves_weaker}
-use Rattle.tw_base.specs.declared.root.Root.{Root}
 use Rattle.tw_base.specs.Auth.{auth, auths, tree_label}
 use Rattle.tw_base.specs.History.{received}
 use Rattle.tw_base.specs.Names.{IsName}

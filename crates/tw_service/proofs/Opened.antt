@@ -1,5 +1,5 @@
 -- What is opened of an image.
-use Rattle.std.proofs.Common.{◌≡◌, ℕ, ◌^◌, ◌<◌, List, [], ◌++◌, length, refl, ap, sym, ◌∙◌, subst, inl, inr, ⊎_elim, Bool, true, false}
+use Rattle.std.proofs.Common.{◌≡◌, ℕ, ◌^◌, ◌<◌, List, [], ◌++◌, refl, ap, sym, ◌∙◌, subst, inr, ⊎_elim}
 use Rattle.std.proofs.lemmas.List.{append-nil}
 use Rattle.std.specs.Option.{option_map}
 use Rattle.std.specs.Prelude.{Option, Some}
@@ -8,7 +8,7 @@ use Rattle.tw_disk.specs.Disk.{DiskView, IsAtRest}
 use Rattle.tw_base.specs.History.{History}
 use Rattle.tw_pages.specs.StoreValue.{IsKept, disk_of, opening_of, root_of, slot_of, staged_of}
 use Rattle.tw_pages.specs.Same.{list_of, pages_of}
-use Rattle.tw_pages.specs.Store.{IsAbove, Opening, OpensAs, used_of}
+use Rattle.tw_pages.specs.Store.{Opening, OpensAs, used_of}
 use Rattle.tw_pages.specs.declared.open.StoreFault.{StoreFault}
 use Rattle.tw_pages.specs.declared.open.StoreFault.TheVariants.{NotAStore}
 use Rattle.tw_pages.specs.declared.store.Store.{Store}

@@ -1,13 +1,12 @@
 -- Root records that are read.
-use Rattle.std.proofs.Common.{◌≡◌, ℕ, ◌+◌, ◌^◌, ◌<◌, ◌≤◌, List, length, take, drop, refl, ap, sym, ◌∙◌, arith, subst, inl, inr}
+use Rattle.std.proofs.Common.{◌≡◌, ℕ, ◌^◌, ◌<◌, List, length, take, drop, refl, ap, sym, ◌∙◌, arith, subst, inl, inr}
 use Rattle.std.specs.Prelude.{Ok, Err}
 use Rattle.std.proofs.lemmas.List.{take_at, take-append-drop}
 use Rattle.tw_base.specs.Formats.{read_at}
 use Rattle.tw_base.specs.Fields.{name}
 use Rattle.tw_base.specs.Names.{IsName}
 use Rattle.tw_base.proofs.FormatLaws.{read_at-spells, read_at-word}
-use Rattle.std.specs.Prelude.{IsTrue, nat_eq, nat_lt, ◌↔◌, ◌*◌}
-use Rattle.std.proofs.lemmas.Bool.{cases_lt, eqb-true, eq-eqb, ltb-true, lt-ltb}
+use Rattle.std.proofs.lemmas.Bool.{cases_lt}
 use Rattle.std.specs.Int.{from_be_bytes, w64}
 use Rattle.tw_base.proofs.Naming.{IsName-size}
 use Rattle.tw_service.specs.declared.root.RootRecord.{RootRecord}

@@ -1,5 +1,5 @@
 -- From what a store says of its images to what they stand for.
-use Rattle.std.proofs.Common.{◌≡◌, ℕ, suc, ◌+◌, ◌-◌, ◌*◌, ◌<◌, ◌≤◌, List, [], ◌∷◌, ◌++◌, length, refl, ap, sym, ◌∙◌, arith, subst, inl, inr, ⊎_elim, Bool}
+use Rattle.std.proofs.Common.{◌≡◌, ℕ, suc, ◌+◌, ◌*◌, ◌<◌, ◌≤◌, List, [], ◌∷◌, ◌++◌, length, refl, ap, sym, ◌∙◌, arith, subst, inl, inr, ⊎_elim, Bool}
 use Rattle.std.specs.Prelude.{Option, Some}
 use Rattle.std.specs.Option.{option_map}
 use Rattle.std.proofs.lemmas.List.{append-nil, length_push}
@@ -18,11 +18,10 @@ use Rattle.tw_pages.specs.Same.{IsSameStore, count_of, pages_of}
 use Rattle.tw_pages.specs.Store.{IsAbove, Opening, OpensAs, OpensAsEither, used_of}
 use Rattle.tw_pages.specs.declared.store.Store.{Store}
 use Rattle.tw_pages.proofs.StillKept.{kept_opens, same_leaves as store_leaves, same_opens}
-use Rattle.tw_skiplist.specs.declared.head.Head.{Head}
 use Rattle.tw_skiplist.specs.Infos.{Added}
 use Rattle.tw_skiplist.specs.Keeping.{Keeps, archive_at, event_step}
 use Rattle.tw_skiplist.proofs.EventHistories.{same_tree}
-use Rattle.tw_skiplist.proofs.Growing.{head_page, no_head_page}
+use Rattle.tw_skiplist.proofs.Growing.{head_page}
 use Rattle.tw_service.specs.declared.limits.TheConstants.{MOST_PAGES_OF_A_STEP}
 use Rattle.tw_service.specs.declared.root.RootRecord.{RootRecord}
 use Rattle.tw_service.specs.Keeps.{KeepsHistory}

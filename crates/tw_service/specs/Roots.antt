@@ -3,6 +3,7 @@ use Rattle.std.specs.Prelude.{◌≡◌, ℕ, ◌+◌, ◌*◌, ◌<◌, ◌≤�
 use Rattle.std.specs.Int.{to_be_bytes, w64}
 use Rattle.tw_base.specs.declared.limits.TheConstants.{LAST_STEP}
 use Rattle.tw_base.specs.Names.{IsName}
+use Rattle.tw_disk.specs.declared.limits.TheConstants.{FIRST_PAGE}
 use Rattle.tw_service.specs.declared.limits.TheConstants.{MOST_PAGES_OF_A_STEP}
 use Rattle.tw_service.specs.declared.root.RootRecord.{RootRecord}
 
@@ -16,7 +17,7 @@ root_bytes r =
 -- the last page of so many things: 0 exactly where there are none, else a page of a store of so many used pages
 pub record HasLastPage (used count page : ℕ) : Type 0 where
   pub none : count ≡ 0 → page ≡ 0
-  pub some : 0 < count → (4 ≤ page) × (page < used)
+  pub some : 0 < count → (FIRST_PAGE ≤ page) × (page < used)
 
 -- the record may be the root record of a store of so many used pages and of this generation
 pub record FitsStore (used generation : ℕ) (r : RootRecord) : Type 0 where
@@ -24,7 +25,7 @@ pub record FitsStore (used generation : ℕ) (r : RootRecord) : Type 0 where
   pub steps : HasLastPage used r.head.step r.head.page
   pub threads : HasLastPage used r.threads r.archive.page
   pub few_threads : r.threads ≤ r.head.step
-  pub few_pages : used ≤ 4 + MOST_PAGES_OF_A_STEP * r.head.step
+  pub few_pages : used ≤ FIRST_PAGE + MOST_PAGES_OF_A_STEP * r.head.step
   pub few_commits : generation ≤ r.head.step + 1
 
 -- the same, with a name and digests of their widths; the label isn't restricted

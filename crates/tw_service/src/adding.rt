@@ -21,6 +21,7 @@ use std::alloc::Global;
 use tw_base::limits::LAST_STEP;
 use tw_base::{EventList, Hasher};
 use tw_disk::Disk;
+use tw_disk::limits::FIRST_PAGE;
 use tw_pages::Store;
 use tw_skiplist::append;
 
@@ -34,7 +35,7 @@ pub(crate) fn add_step<D: Disk, H: Hasher>(
     events: &EventList,
 ) -> Result<RootRecord, Refusal>
     requires step { root.now.head.step < LAST_STEP }
-    requires pages { count_of store.old ≤ 4 + MOST_PAGES_OF_A_STEP * root.now.head.step }
+    requires pages { count_of store.old ≤ FIRST_PAGE + MOST_PAGES_OF_A_STEP * root.now.head.step }
     requires commits { generation_of store.old ≤ root.now.head.step + 1 }
     requires limits { MayRecord events.now }
     requires whole { is_broken store.old ≡ false }
@@ -42,8 +43,8 @@ pub(crate) fn add_step<D: Disk, H: Hasher>(
     ensures rest { IfOk result (λ next. (next.name ≡ root.now.name) × (next.archive ≡ root.now.archive) × (next.threads ≡ root.now.threads)) }
     ensures recorded { IfOk result (λ next. root_of store.new ≡ root_bytes next) }
     ensures recorded_err { IfErr result (λ _. root_of store.new ≡ root_of store.old) }
-    ensures pages { IfOk result (λ next. count_of store.new ≤ 4 + MOST_PAGES_OF_A_STEP * next.head.step) }
-    ensures pages_err { IfErr result (λ _. count_of store.new ≤ 4 + MOST_PAGES_OF_A_STEP * root.now.head.step) }
+    ensures pages { IfOk result (λ next. count_of store.new ≤ FIRST_PAGE + MOST_PAGES_OF_A_STEP * next.head.step) }
+    ensures pages_err { IfErr result (λ _. count_of store.new ≤ FIRST_PAGE + MOST_PAGES_OF_A_STEP * root.now.head.step) }
     ensures commits { IfOk result (λ next. generation_of store.new ≤ next.head.step + 1) }
     ensures commits_err { IfErr result (λ _. generation_of store.new ≤ root.now.head.step + 1) }
     ensures whole { (result ≡ Err Refusal.DiskFault) ⊎ (is_broken store.new ≡ false) }

@@ -114,10 +114,7 @@ pub(crate) fn make_proof<P: Pages, H: Hasher>(
             Some(refusal) => Err(refusal),
             None => match events_of(alloc, pages, &proof.info) {
                 Err(fault) => Err(Refusal::from(fault)),
-                Ok(events) => match write_proof::<H>(alloc, name, top, index, proof, events) {
-                    Err(_) => Err(Refusal::NoMemory),
-                    Ok(bytes) => Ok(bytes),
-                },
+                Ok(events) => Ok(write_proof::<H>(alloc, name, top, index, proof, events)?),
             },
         },
     }

@@ -11,6 +11,7 @@ use crate::limits::{MOST_PAGES_OF_A_STEP, ROOT_BYTES};
 use arrayvec::ArrayVec;
 use tw_base::limits::LAST_STEP;
 use tw_base::{Digest, Name, Root, put, read_name};
+use tw_disk::limits::{FIRST_PAGE, NUMBER_LIMIT};
 use tw_disk::{digest_at, u64_at};
 use tw_skiplist::Head;
 
@@ -79,19 +80,19 @@ fn is_last_page(used: u64, count: u64, page: u64) -> bool
     if count == 0 {
         page == 0
     } else {
-        4 <= page && page < used
+        FIRST_PAGE <= page && page < used
     }
 }
 
 /// Whether the record may be the root record of a store of so many used pages and of this generation.
 fn fits_store(root: &RootRecord, used: u64, generation: u64) -> bool
-    requires used { used < 2 ^ 48 }
-    requires generation { generation < 2 ^ 48 }
+    requires used { used < NUMBER_LIMIT }
+    requires generation { generation < NUMBER_LIMIT }
     ensures { IsTrue result ↔ FitsStore used generation root.now }
 {
     let steps = root.head.step;
     steps <= LAST_STEP
-        && used <= 4 + MOST_PAGES_OF_A_STEP * steps
+        && used <= FIRST_PAGE + MOST_PAGES_OF_A_STEP * steps
         && generation <= steps + 1
         && root.threads <= steps
         && is_last_page(used, steps, root.head.page)
@@ -101,8 +102,8 @@ fn fits_store(root: &RootRecord, used: u64, generation: u64) -> bool
 /// The root record that the bytes are, in a store of so many used pages and of this generation; None
 /// exactly where they are none that is allowed there.
 pub(crate) fn read_root(bytes: &[u8], used: u64, generation: u64) -> Option<RootRecord>
-    requires used { used < 2 ^ 48 }
-    requires generation { generation < 2 ^ 48 }
+    requires used { used < NUMBER_LIMIT }
+    requires generation { generation < NUMBER_LIMIT }
     ensures { MatchOption result ((r : RootRecord) → bytes.now ≡ root_bytes r → IsAllowed used generation r → ⊥)
         (λ r. (bytes.now ≡ root_bytes r) × IsAllowed used generation r) }
 {

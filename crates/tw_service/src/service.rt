@@ -3,6 +3,7 @@ ghost use Rattle.std.specs.Prelude.{◌≡◌, ◌<◌, ◌≤◌, ◌+◌, ◌*
 ghost use Rattle.tw_pages.specs.StoreValue.{generation_of, is_broken as store_is_broken, root_of, staged_of};
 ghost use Rattle.tw_pages.specs.Same.{count_of};
 ghost use Rattle.tw_base.specs.declared.limits.TheConstants.{LAST_STEP};
+ghost use Rattle.tw_disk.specs.declared.limits.TheConstants.{FIRST_PAGE};
 ghost use Rattle.tw_service.specs.declared.limits.TheConstants.{MOST_PAGES_OF_A_STEP};
 ghost use Rattle.tw_service.specs.Roots.{root_bytes};
 
@@ -28,7 +29,7 @@ pub struct Service<D: Disk, H: Hasher> {
     hasher: PhantomData<H>,
     ghost short: { root.head.step ≤ LAST_STEP },
     ghost recorded: { root_of store ≡ root_bytes root },
-    ghost few_pages: { count_of store ≤ 4 + MOST_PAGES_OF_A_STEP * root.head.step },
+    ghost few_pages: { count_of store ≤ FIRST_PAGE + MOST_PAGES_OF_A_STEP * root.head.step },
     ghost few_commits: { generation_of store ≤ root.head.step + 1 },
     ghost clean: { staged_of store ≡ [] },
     ghost tells_faults: { is_broken ≡ false → store_is_broken store ≡ false },

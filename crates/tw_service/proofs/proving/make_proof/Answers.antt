@@ -65,14 +65,14 @@ returns-in-Err-events_of-clause-bad g c =
 pub returns-in-Err-events_of-clause-count : goal.returns-in-Err-events_of-clause-count
 returns-in-Err-events_of-clause-count g c = no_count _ c.in-Err-events_of.fault c.from-in-Err-events_of.result c.from-in-Err-events_of.ensures
 
-pub returns-in-Ok-write_proof-clause-made : goal.returns-in-Ok-write_proof-clause-made
-returns-in-Ok-write_proof-clause-made g c = λ ps h list keeps sound named.
+pub returns-in_ok-write_proof-in-Ok-events_of-clause-made : goal.returns-in_ok-write_proof-in-Ok-events_of-clause-made
+returns-in_ok-write_proof-in-Ok-events_of-clause-made g c = λ ps h list keeps sound named.
     let info = c.in-Ok.ensures.info ps h list keeps in
-    c.in-Ok-write_proof.ensures.made ps h c.args.step sound named c.requires.order (omega (arith, c.requires.last, keeps.step)) (c.in-Ok.ensures.path ps h list keeps) info
+    c.in_ok-write_proof-in-Ok-events_of.ensures.made ps h c.args.step sound named c.requires.order (omega (arith, c.requires.last, keeps.step)) (c.in-Ok.ensures.path ps h list keeps) info
     (c.in-Ok-events_of.ensures.events g.H.Hasher.dig ps h c.args.step (c.in-Ok.ensures.kept.list_kept ∙ list) info)
 
-pub returns-in-Ok-write_proof-clause-found : goal.returns-in-Ok-write_proof-clause-found
-returns-in-Ok-write_proof-clause-found g c = λ ps list. record {
+pub returns-in_ok-write_proof-in-Ok-events_of-clause-found : goal.returns-in_ok-write_proof-in-Ok-events_of-clause-found
+returns-in_ok-write_proof-in-Ok-events_of-clause-found g c = λ ps list. record {
   info = c.in-Ok.proof.info;
   finds = c.in-Ok.ensures.found ps list;
   below = c.in-None.ensures.below refl;
@@ -80,7 +80,7 @@ returns-in-Ok-write_proof-clause-found g c = λ ps list. record {
   spelled = c.in-Ok-events_of.ensures.found ps (c.in-Ok.ensures.kept.list_kept ∙ list);
 }
 
-pub returns-in-Ok-write_proof-clause-kept : goal.returns-in-Ok-write_proof-clause-kept
-returns-in-Ok-write_proof-clause-kept g c =
+pub returns-in_ok-write_proof-in-Ok-events_of-clause-kept : goal.returns-in_ok-write_proof-in-Ok-events_of-clause-kept
+returns-in_ok-write_proof-in-Ok-events_of-clause-kept g c =
     only_reads_on g.P.Pages.used_count g.P.Pages.list g.P.Pages.same g.P.Pages.unbroken c.args.pages.now c.prove.new.pages c.events_of.new.pages _ _ _
     g.met.P.Pages.same_on (λ _. tt) (λ _. tt) c.in-Ok.ensures.kept c.in-Ok-events_of.ensures.kept

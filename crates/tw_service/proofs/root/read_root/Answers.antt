@@ -1,6 +1,6 @@
 use Rattle.std.proofs.Common.{◌≡◌, rules, ap, ◌∙◌, subst, sym}
 use Rattle.tw_service.specs.Roots.{FitsStore, root_bytes}
-use Rattle.tw_service.proofs.RootReading.{bytes-size, front_is_name, name-is, record-is}
+use Rattle.tw_service.proofs.RootReading.{bytes-size, front_is_name, record-is}
 use Rattle.tw_service.proofs.root.read_root.Goals as goal
 
 pub returns-then-bytes-ne-ROOT_BYTES : goal.returns-then-bytes-ne-ROOT_BYTES
