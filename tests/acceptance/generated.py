@@ -227,6 +227,9 @@ def broken_by_hand():
     yield 4, "an own thread", [thread(own, [(0, 1, 0)], 1)]
     yield 5, "a thread below an earlier one", [thread(b5, [(0, 1, 0)], 1), thread(b4, [(0, 2, 1)], 2)]
     yield 6, "too many bytes of events", [reference.Step([bytes(1024)] * 64 + [b"x"])]
+    yield 6, "65 events of 1,024 bytes", [reference.Step([bytes(1024)] * 65)]
+    yield 1, "a root above the nodes, and too many bytes of events", [reference.Step([bytes(1024)] * 65, root=1)]
+    yield 3, "an entry lost, and too many bytes of events", [thread(b5, [(0, 1, 0)], 1), reference.Step([bytes(1024)] * 65)]
 
 
 def swapped_labels():
