@@ -75,19 +75,19 @@ in_order last step top q other table = by (order_refusal false last step top) re
 
 -- ---- an index of more than 32 bits
 
-least-lt : (index n : ℕ) → n ≤ 1024 → nat_lt (min index 4294967295) n ≡ nat_lt index n
+least-lt : (index n : ℕ) → n < 4294967296 → nat_lt (min index 4294967295) n ≡ nat_lt index n
 least-lt index n few = elim (cases_lt 4294967295 index) [
   | inl more ↦ grind (arith, nat_tests)
   | inr less ↦ let same : min index 4294967295 ≡ index = omega (arith, less) in ap (λ (i : ℕ). nat_lt i n) same
 ]
 
-same_event : (count index : ℕ) → count ≤ 1024 → event_refusal count (min index 4294967295) ≡ event_refusal count index
+same_event : (count index : ℕ) → count < 4294967296 → event_refusal count (min index 4294967295) ≡ event_refusal count index
 unfolding event_refusal
 same_event count index few = ap (λ (b : Bool). if b then None else Some (service.NoEvent count)) (least-lt index count few)
 
 same_table : (h : History) (step index top : ℕ) → IsSound h → proof_refusal false h step (min index 4294967295) top ≡ proof_refusal false h step index top
 same_table h step index top sound =
-    ap (λ (o : Option Refusal). or_else (order_refusal false (length h.steps) step top) o) (same_event (length (events_at h step)) index (few_events h step sound))
+    ap (λ (o : Option Refusal). or_else (order_refusal false (length h.steps) step top) o) (same_event (length (events_at h step)) index (omega (arith, few_events h step sound)))
 
 module _ (h : History) (step index top : ℕ) (sound : IsSound h) where
   abbrev At : (at : ℕ) → Reply → Option Refusal → Type 0
@@ -103,10 +103,10 @@ module _ (h : History) (step index top : ℕ) (sound : IsSound h) where
 
 -- ---- what the pages have of an event of an index of more than 32 bits
 
-few_told : (pages : Image) (head : Head) (top step : ℕ) (info : StepInfo) → FindsProof sha256 pages head top step info → info.count ≤ 1024
-few_told pages head top step info finds = omega (arith, ap (λ (i : StepInfo). i.count) finds.tells.info_is, finds.tells.is.is.field_rules.count)
+few_told : (pages : Image) (head : Head) (top step : ℕ) (info : StepInfo) → FindsProof sha256 pages head top step info → info.count < 4294967296
+few_told pages head top step info finds = omega (arith, ap (λ (i : StepInfo). i.count) finds.tells.info_is, finds.tells.is.is.widths.count)
 
-below_least : (index count : ℕ) → count ≤ 1024 → min index 4294967295 < count → index < count
+below_least : (index count : ℕ) → count < 4294967296 → min index 4294967295 < count → index < count
 below_least index count few below = omega (arith, few, below)
 
 module _ (pages : Image) (head : Head) (step index top : ℕ) where

@@ -20,7 +20,7 @@ use std::alloc::Global;
 use tw_base::{EventList, ReadFault, Sha};
 use tw_disk::Disk;
 use tw_msg::read_events;
-use tw_outside::{Inputs, InputFault, read_all};
+use tw_outside::{InputFault, Inputs, read_all};
 use tw_service::Service;
 
 /// Adds a step of the events of the named file to the service on the disk. The file is read and

@@ -5,7 +5,7 @@ ghost use Rattle.tw_base.specs.Faults.{Rose};
 ghost use Rattle.tw_outside.specs.Files.{IsReadTo, IsThere};
 
 use std::alloc::Global;
-use tw_outside::{Inputs, InputFault, read_all};
+use tw_outside::{InputFault, Inputs, read_all};
 
 /// What was read of two files.
 #[derive(Drop)]

@@ -13,7 +13,7 @@ use crate::outcome::{Outcome, Refusal};
 use std::alloc::Global;
 use tw_base::{Bytes, Sha};
 use tw_history::{History, ShowFault, read_history, show_event};
-use tw_outside::{Inputs, InputFault, read_all};
+use tw_outside::{InputFault, Inputs, read_all};
 
 /// Shows the event of this index in this step of the named history.
 pub(crate) fn show<I: Inputs>(

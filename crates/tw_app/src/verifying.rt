@@ -4,15 +4,15 @@ ghost use Rattle.std.specs.Prelude.{◌≡◌, ◌∷◌, []};
 ghost use Rattle.tw_text.specs.declared.command.Command.TheVariants.{VerifyFile, VerifyOne};
 ghost use Rattle.tw_app.specs.Running.{ComesOfFiles};
 
-use crate::limits::PROOF_READ;
 use crate::bad_input::refuse_line;
+use crate::limits::PROOF_READ;
 use crate::outcome::Outcome;
 use crate::pair::read_pair;
 use std::alloc::Global;
 use tw_base::{NoMemory, Sha, Thread};
 use tw_chain::verify;
 use tw_msg::{AnchorFault, read_anchors};
-use tw_outside::{Inputs, InputFault, read_all};
+use tw_outside::{InputFault, Inputs, read_all};
 
 /// Judges the named proof under one anchor.
 pub(crate) fn verify_one<I: Inputs>(

@@ -11,7 +11,7 @@ use Rattle.tw_base.specs.HistoryLayout.{node_layout, step_layout}
 
 unfoldable pub event_at : List ℕ → ℕ → Result (Placed (List ℕ)) ℕ
 event_at whole at = do
-  size ← read_at (number 4 0 MOST_EVENTS) whole at
+  size ← read_at (number 4 0 MOST_EVENT_BYTES) whole at
   read_at (bytes size.value) whole size.after
 
 unfoldable pub events_at : List ℕ → ℕ → Result (Placed Content) ℕ

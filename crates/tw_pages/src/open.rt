@@ -58,7 +58,7 @@ pub enum StoreFault {
     Taken,
     /// There are fewer than four pages, or both gates read closed: nothing was made yet.
     Blank,
-    /// A gate reads open, and the body of the lowest such slot that fails isn't of its grammar; or both bodies have one generation (slot 1).
+    /// A gate reads open, and the body of the lowest such slot that fails isn't of its grammar; or both gates read open over bodies of one generation (slot 1).
     NotAStore { slot: u8 },
     /// A device call failed; the disk's count of faults rose in this call.
     DiskFault,

@@ -171,7 +171,7 @@ module _ (page step : ℕ) (f : StepFields) (links : List StepRef) (bytes : List
       let rules = is.field_rules in
       let w = is.widths in
       let count : from_be_bytes w32 (take 4 (drop 10 bytes)) ≡ f.count =
-      ap (λ (p : List ℕ). from_be_bytes w32 (take 4 (drop 10 p))) is.bytes_are ∙ ap (from_be_bytes w32) (count_field step f links w.event_root w.archive w.auth) ∙ from_be_bytes-to_be_bytes_4 f.count (omega (arith, rules.count)) in
+      ap (λ (p : List ℕ). from_be_bytes w32 (take 4 (drop 10 p))) is.bytes_are ∙ ap (from_be_bytes w32) (count_field step f links w.event_root w.archive w.auth) ∙ from_be_bytes-to_be_bytes_4 f.count w.count in
       let size : from_be_bytes w32 (take 4 (drop 14 bytes)) ≡ f.stream.size =
       ap (λ (p : List ℕ). from_be_bytes w32 (take 4 (drop 14 p))) is.bytes_are ∙ ap (from_be_bytes w32) (size_field step f links w.event_root w.archive w.auth) ∙ from_be_bytes-to_be_bytes_4 f.stream.size (omega (arith, rules.size)) in
       let first : from_be_bytes w64 (take 8 (drop 18 bytes)) ≡ f.stream.page =

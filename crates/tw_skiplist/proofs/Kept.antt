@@ -142,13 +142,13 @@ module _ (dig : List ℕ → List ℕ) (size : (text : List ℕ) → length (dig
             bytes_are = s.bytes;
             link_count = length-links_to (suc k) (suc (top_level (suc k)));
             widths = record {
+              count = omega (arith, s.limits.are.count);
               event_root = length-event_root dig size (events_at h (suc k));
               archive = tree_label-size dig size (tree h (suc k));
               auth = auth-size dig size h (suc k);
               each_link = AllSized-links_to (suc k) (suc (top_level (suc k)));
             };
             field_rules = record {
-              count = s.limits.are.count;
               size = omega (arith, length-stream (events_at h (suc k)), s.limits.are.count, s.limits.fit);
               none = (s.stream.none, no_bytes k s);
               first = first_below k s;

@@ -1,9 +1,8 @@
--- Which pages are step pages.
+-- Which pages are the pages of steps of events.
 use Rattle.std.specs.Prelude.{◌≡◌, ℕ, suc, ◌+◌, ◌-◌, ◌^◌, ◌<◌, ◌≤◌, ◌↔◌, List, [], ◌∷◌, length, slice_index_or}
 use Rattle.tw_disk.specs.declared.limits.TheConstants.{FIRST_PAGE}
 use Rattle.tw_disk.specs.Image.{Image, page_at}
 use Rattle.tw_base.specs.Levels.{top_level}
-use Rattle.tw_base.specs.declared.limits.TheConstants.{MOST_EVENTS}
 use Rattle.tw_skiplist.specs.declared.head.StepRef.{StepRef}
 use Rattle.tw_skiplist.specs.declared.fields.StepFields.{StepFields}
 use Rattle.tw_skiplist.specs.declared.limits.TheConstants.{MOST_STREAM_BYTES}
@@ -18,7 +17,6 @@ link_of links level = slice_index_or links level no_ref
 -- the numbers are within their ranges; the first event page lies below the page, and is 0 exactly where the stream has no bytes;
 -- the page of the archive's root, 0 for none, lies below the page too
 pub record KeepsFieldRules (page : ℕ) (f : StepFields) : Type 0 where
-  pub count : f.count ≤ MOST_EVENTS
   pub size : f.stream.size ≤ MOST_STREAM_BYTES
   pub none : f.stream.size ≡ 0 ↔ f.stream.page ≡ 0
   pub first : f.stream.page < page
@@ -38,6 +36,7 @@ AllSized [] = Unit {0}
 AllSized (l ∷ ls) = (length l.auth ≡ 32) × AllSized ls
 
 pub record HasWidths (f : StepFields) (links : List StepRef) : Type 0 where
+  pub count : f.count < 2 ^ 32
   pub event_root : length f.event_root ≡ 32
   pub archive : length f.archive.label ≡ 32
   pub auth : length f.auth ≡ 32

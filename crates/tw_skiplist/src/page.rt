@@ -14,7 +14,6 @@ use crate::fields::{StepFields, StreamRef};
 use crate::head::StepRef;
 use crate::limits::{MOST_LINKS, MOST_PIECE_BYTES, MOST_STREAM_BYTES};
 use arrayvec::ArrayVec;
-use tw_base::limits::MOST_EVENTS;
 use tw_base::{Digest, Root, power_of_two, top_level};
 use tw_disk::{append_at, digest_at, u32_at, u64_at};
 
@@ -39,7 +38,8 @@ fn append_link(page: &mut [u8; 4096], at: usize, link: &StepRef)
 
 // The fields before the digests.
 fn numbers(step: u64, fields: &StepFields) -> [u8; 4096]
-    ensures { result ≡ padded (step_numbers step fields.now) }
+    ensures bytes { result ≡ padded (step_numbers step fields.now) }
+    ensures count { fields.now.count < 2 ^ 32 }
 {
     let mut page = [0; 4096];
     append_at(&mut page, 0, &[1]);
@@ -55,6 +55,7 @@ fn numbers(step: u64, fields: &StepFields) -> [u8; 4096]
 fn front(step: u64, fields: &StepFields, links: u8) -> [u8; 4096]
     ensures bytes { result ≡ padded (step_front step fields.now links) }
     ensures size { length (step_front step fields.now links) ≡ 187 }
+    ensures count { fields.now.count < 2 ^ 32 }
     ensures event_root { length fields.now.event_root ≡ 32 }
     ensures archive { length fields.now.archive.label ≡ 32 }
     ensures auth { length fields.now.auth ≡ 32 }
@@ -153,8 +154,7 @@ fn links_at(page: &[u8; 4096], count: u8) -> ArrayVec<StepRef, 40>
 fn keeps_field_rules(page: u64, fields: &StepFields) -> bool
     ensures { IsTrue result ↔ KeepsFieldRules page fields.now }
 {
-    fields.count as u64 <= MOST_EVENTS
-        && fields.stream.size as u64 <= MOST_STREAM_BYTES
+    fields.stream.size as u64 <= MOST_STREAM_BYTES
         && (fields.stream.size == 0) == (fields.stream.page == 0)
         && fields.stream.page < page
         && fields.archive.page < page

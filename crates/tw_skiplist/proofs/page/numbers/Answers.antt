@@ -3,8 +3,8 @@ use Rattle.std.specs.Int.{to_be_bytes, w64, w32}
 use Rattle.tw_disk.specs.PageBytes.{padded}
 use Rattle.tw_skiplist.proofs.page.numbers.Goals as goal
 
-pub returns : goal.returns
-returns c =
+pub returns-clause-bytes : goal.returns-clause-bytes
+returns-clause-bytes c =
     let f = c.args.fields.now in
     let one = 1 ∷ to_be_bytes w64 c.args.step in
     let two = one ++ 1 ∷ [] in

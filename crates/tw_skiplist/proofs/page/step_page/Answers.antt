@@ -36,6 +36,7 @@ returns-clause-bytes c = c.loop-link.invariant.0 ∙ ap (λ (ls : List StepRef).
 
 pub returns-clause-widths : goal.returns-clause-widths
 returns-clause-widths c = record {
+  count = c.front-page.ensures.count;
   event_root = c.front-page.ensures.event_root;
   archive = c.front-page.ensures.archive;
   auth = c.front-page.ensures.auth;
