@@ -25,13 +25,18 @@ def step_pages(room):
     good = room.store()
     # the links of step 4 stand from place 187 on, of 40 bytes each: to step 3, to step 2 and to step 0
     for place, new in (
-        (0, b"\x02"), (1, be(5, 8)), (9, b"\x02"), (10, be(1025, 4)), (14, be(69633, 4)), (18, bytes(8)), (18, be(11, 8)),
+        (0, b"\x02"), (1, be(5, 8)), (9, b"\x02"), (14, be(69633, 4)), (18, bytes(8)), (18, be(11, 8)),
         (90, be(11, 8)), (90, be(2**63, 8)), (98, b"a"), (121, b"\x01"), (153, b"\x01"), (186, b"\x04"),
         (187, bytes(8)), (187, be(11, 8)), (227, bytes(8)), (267, be(1, 8)), (267, be(5, 8)), (307, b"\x01"), (4095, b"\x01"),
     ):
         (room.folder / "d/timeline.tw").write_bytes(changed(good, 11, place, new))
         for words in ("prove d event 4 0", "prove d event 1 0"):
             room.expect(words, 8, b"store BadPage 11\n")
+    # a number of events that the stream doesn't have is found out where the stream is read
+    for count in (2, 1025, 2**32 - 1):
+        (room.folder / "d/timeline.tw").write_bytes(changed(good, 11, 10, be(count, 4)))
+        room.expect("prove d event 4 0", 8, b"store BadPage 10\n")
+        room.expect(f"prove d event 4 {count}", 7, f"refused NoEvent {count}\n".encode())
 
 
 def pages_that_are_named(room):
@@ -67,12 +72,14 @@ def step_pages_with_archives(room):
 
 
 def root_records(room):
-    """root records with an archive that isn't allowed"""
+    """root records that aren't allowed"""
     room.made("root", [[b"a"], [b"b"], [b"c"]])
     good = room.store()
-    # the record of 3 steps stands in page 3 from place 26 on, its archive's page, label and number of threads from place 90 on
-    for page, threads in ((4, 0), (9, 0), (0, 1), (1, 1), (3, 1), (10, 1), (2**40, 3), (4, 4), (4, 2**40)):
-        data = changed(good, 3, 90, be(page, 8) + LABEL + be(threads, 8))
+    # the record of 3 steps stands in page 3 from place 26 on: the service, the last step from place 42 on, its page from place 82 on,
+    # its archive's page, label and number of threads from place 90 on
+    heads = [changed(good, 3, 42, be(step, 8)) for step in (0, 2**40)] + [changed(good, 3, 82, be(page, 8)) for page in (0, 3, 10, 2**40)]
+    archives = (4, 0), (9, 0), (0, 1), (1, 1), (3, 1), (10, 1), (2**40, 3), (4, 4), (4, 2**40)
+    for data in heads + [changed(good, 3, 90, be(page, 8) + LABEL + be(threads, 8)) for page, threads in archives]:
         (room.folder / "d/timeline.tw").write_bytes(data)
         for words in ("append d e", "prove d event 1 0"):
             room.expect(words, 8, b"store NotAStore 1\n")
