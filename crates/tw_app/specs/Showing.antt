@@ -11,7 +11,7 @@ use Rattle.tw_outside.specs.Files.{Files, IsThere, Tells}
 use Rattle.tw_chain.specs.Accepting.{Accepts}
 use Rattle.tw_skipproof.specs.HistoryProofs.{MakesExistence}
 use Rattle.tw_base.specs.declared.limits.TheConstants.{MOST_HISTORY_BYTES}
-use Rattle.tw_base.specs.HistoryLayout.{history_layout}
+use Rattle.tw_base.specs.HistoryCodec.{history_layout}
 use Rattle.tw_history.specs.Refusals.{RefusesEvent}
 use Rattle.tw_history.specs.Rules.{IsFirstBroken}
 use Rattle.tw_history.specs.declared.fault.ShowFault.TheVariants as fault

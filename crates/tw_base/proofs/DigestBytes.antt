@@ -1,41 +1,21 @@
--- Digests are 32 bytes, which spell a digest.
-use Rattle.std.proofs.Common.{◌≡◌, ℕ, suc, zero, ◌-◌, ◌<◌, ◌≤◌, List, [], ◌∷◌, ◌++◌, length, refl, sym, ap, ◌∙◌, subst, arith, inl, inr}
+-- Digests are 32 bytes.
+use Rattle.std.proofs.Common.{◌≡◌, ℕ, suc, zero, ◌-◌, ◌<◌, ◌≤◌, List, [], ◌∷◌, length, refl, sym, ap, ◌∙◌, subst, arith, inl, inr}
 use Rattle.std.specs.Prelude.{map, drop, remove}
 use Rattle.std.proofs.lemmas.Bool.{cases_lt}
-use Rattle.std.proofs.lemmas.List.{append-nil}
 use Rattle.tw_base.specs.Auth.{auth, auths, tree_label}
 use Rattle.tw_base.specs.Bytes.{AreBytes}
 use Rattle.tw_base.specs.EventTree.{audit_path, event_root, largest_power_below, left_half, right_half}
-use Rattle.tw_base.specs.Fields.{bytes, digest, repeated}
-use Rattle.tw_base.specs.Formats.{Spells, then_by}
-use Rattle.tw_base.specs.Formats.Format.{Done}
 use Rattle.tw_base.specs.History.{History}
 use Rattle.tw_base.specs.Lists.{Each}
-use Rattle.tw_base.specs.Texts.{joined}
 use Rattle.tw_base.specs.Tree.{Tree}
 use Rattle.tw_base.specs.Tree.Tree.{Empty, Branch}
 use Rattle.tw_base.proofs.Auths.{auth-suc}
 use Rattle.tw_base.proofs.AuditPaths.{few-events}
-use Rattle.tw_base.proofs.ByteLemmas.{AreBytes-at}
 use Rattle.tw_base.proofs.EventTrees.{audit_path-left, audit_path-right, by_halves, event_root-more, event_root-none, event_root-one, length-left_half, length-right_half}
-use Rattle.tw_base.proofs.FieldLaws.{bytes-spells}
-use Rattle.tw_base.proofs.FormatLaws.{spells_then}
 use Rattle.tw_base.proofs.ListLemmas.{Each-append}
 
 abbrev pub IsDigest : List ℕ → Type 0
 IsDigest d = (length d ≡ 32) × AreBytes d
-
-pub digest_spelled : (d : List ℕ) → IsDigest d → Spells digest d d
-digest_spelled d is = let P : ℕ → Type 0 = λ n. Spells (bytes n) d d in subst P is.0 (bytes-spells d (AreBytes-at d is.1))
-
-pub digests_spelled : (ds : List (List ℕ)) → Each IsDigest ds → Spells (repeated (length ds) digest) (joined ds) ds
-unfolding repeated
-digests_spelled [] all = refl
-digests_spelled (d ∷ ds) all =
-    let P : List ℕ → Type 0 = λ w. Spells (then_by (repeated (length ds) digest) (λ xs. Done (d ∷ xs))) w (d ∷ ds) in
-    let rest : P (joined ds ++ []) = spells_then (repeated (length ds) digest) (λ xs. Done (d ∷ xs)) (joined ds) [] ds (d ∷ ds) (digests_spelled ds all.1) refl in
-    spells_then digest (λ x. then_by (repeated (length ds) digest) (λ xs. Done (x ∷ xs))) d (joined ds) d (d ∷ ds) (digest_spelled d all.0)
-    (subst P (append-nil (joined ds)) rest)
 
 pub Each-drop : {X : Type 0} (P : X → Type 0) (n : ℕ) (xs : List X) → Each P xs → Each P (drop n xs)
 Each-drop P zero xs all = all

@@ -628,8 +628,3 @@ labels-spelled_more labels i label l is so_far one =
     let P : List ℕ → Type 0 = λ w. Spells (repeated (i + 1) digest) w (take i labels ++ label ∷ []) in
     let Q : List (List ℕ) → Type 0 = λ ls. Spells (repeated (i + 1) digest) (joined (take (i + 1) labels)) ls in
     subst Q (sym items) (subst P (sym word) more)
-
--- the spellings of labels, one after another
-pub flat_map-labels : (labels : List (List ℕ)) → flat_map (λ label. label) labels ≡ joined labels
-flat_map-labels [] = refl
-flat_map-labels (label ∷ labels) = ap (λ w. label ++ w) (flat_map-labels labels)

@@ -145,3 +145,8 @@ module _ {Y : Type 0} where
   IsWholeTo bytes after (Ok value) result =
       (after < length bytes → result ≡ Err (Malformed after)) × (length bytes ≤ after → result ≡ Ok value)
   IsWholeTo bytes after (Err fault) result = result ≡ Err fault
+
+  -- what a reader read from the front, with the place after it
+  abbrev pub IsFrontTo : (after : ℕ) → Result Y ReadFault → Result (Y × ℕ) ReadFault → Type 0
+  IsFrontTo after (Ok value) result = result ≡ Ok (value, after)
+  IsFrontTo after (Err fault) result = result ≡ Err fault

@@ -17,8 +17,6 @@ pub mod Sound
 pub mod Levels
 pub mod Auth
 pub mod HistoryTexts
-pub mod HistoryFile
-pub mod HistoryLayout
 pub mod Family
 pub mod Reasons
 pub mod Formats
@@ -26,3 +24,7 @@ pub mod Fields
 pub mod Anchors
 pub mod Faults
 pub mod PlannedFailures
+pub mod Codecs
+pub mod Taking
+pub mod HistoryCodec
+pub mod Resuming

@@ -1,6 +1,6 @@
 // Readers of whole files.
 
-ghost use Rattle.tw_base.specs.Formats.{IsWholeOf, IsWholeTo};
+ghost use Rattle.tw_base.specs.Formats.{IsFrontTo, IsWholeOf, IsWholeTo};
 
 use crate::failure::ReadFault;
 
@@ -24,5 +24,15 @@ pub fn whole_to<T: Drop>(
     match read {
         Ok(_) if after < bytes.len() as u64 => Err(ReadFault::Malformed { place: after }),
         read => read,
+    }
+}
+
+/// The answer for a front of the bytes: what was read there, and the place after it.
+pub fn front_to<T: Drop>(after: u64, read: Result<T, ReadFault>) -> Result<(T, u64), ReadFault>
+    ensures { IsFrontTo after read result }
+{
+    match read {
+        Ok(value) => Ok((value, after)),
+        Err(fault) => Err(fault),
     }
 }

@@ -4,8 +4,10 @@
 mod anchor;
 mod byte_string;
 mod content;
+mod content_taking;
 mod digest;
 mod ending;
+mod event_taking;
 mod event_tree;
 mod failing;
 mod failure;
@@ -22,17 +24,21 @@ mod name;
 mod path_sides;
 mod placing;
 mod report;
+mod resuming;
 mod root;
 mod sequence;
 mod side;
+mod taking;
 mod thread;
 mod writers;
 
 pub use anchor::find_anchor;
 pub use byte_string::read_bytes;
 pub use content::Content;
+pub use content_taking::{take_content, take_thread};
 pub use digest::{Digest, is_same_digest};
-pub use ending::{whole, whole_to};
+pub use ending::{front_to, whole, whole_to};
+pub use event_taking::{take_events, take_events_within};
 pub use event_tree::{audit_path_laws, event_root_laws};
 pub use failing::FailingCalls;
 pub use failure::{Failed, NoMemory, ReadFault};
@@ -51,8 +57,13 @@ pub use name::{Name, is_name_byte};
 pub use path_sides::{path_length, sides_of};
 pub use placing::malformed;
 pub use report::{Claim, Hop, Reason, Report, Seen};
+pub use resuming::{Attempt, Resumed, Segments, missed, read_pieces};
 pub use root::Root;
 pub use sequence::{Bytes, EventList, Sequence};
 pub use side::Side;
+pub use taking::{
+    take_bytes, take_digest, take_labels, take_name, take_number, take_sized, take_slice,
+    take_text, take_zeros,
+};
 pub use thread::{Entries, Entry, Key, Place, Thread, Threads, compare_keys, entry_key};
-pub use writers::{put_bytes, put_digest, put_labels, put_name, put_number};
+pub use writers::{put_bytes, put_digest, put_labels, put_name, put_number, put_sized, put_text};

@@ -1,9 +1,12 @@
 // The writers of a file's fields: each appends the bytes that the field's reader reads as the value.
 // Numbers are big-endian. After want of memory nothing was appended, but by `put_labels`.
+#![tactic(auto, unfolding(crate::specs::Codecs::bytes_codec, crate::specs::Codecs::labels_codec, crate::specs::Codecs::name_codec, crate::specs::Codecs::number_codec, crate::specs::Codecs::sized_codec, crate::specs::Codecs::text_codec))]
 
 ghost use Rattle.std.specs.Prelude.{◌≡◌, ℕ, ◌^◌, ◌<◌, ◌≤◌, ◌++◌, length, take, OnOk, OnErr};
+ghost use Rattle.tw_base.specs.Codecs.{bytes_codec, digest_codec, labels_codec, name_codec, number_codec, sized_codec, text_codec};
 ghost use Rattle.tw_base.specs.Fields.{bytes as any_bytes, digest as digest_format, name as name_format, number, number_bytes, repeated};
 ghost use Rattle.tw_base.specs.Formats.{Spells};
+ghost use Rattle.tw_base.specs.Taking.{Puts};
 ghost use Rattle.tw_base.specs.Texts.{joined};
 
 use crate::digest::Digest;
@@ -19,6 +22,7 @@ pub fn put_number(into: &mut Bytes, value: u64, width: u8) -> Result<(), NoMemor
     ensures ok { OnOk result (into.new ≡ into.old ++ number_bytes width value) }
     ensures err { OnErr result (into.new ≡ into.old) }
     ensures spelled { (least most : ℕ) → least ≤ value → value ≤ most → most < 256 ^ width → Spells (number width least most) (number_bytes width value) value }
+    ensures puts { (least most : ℕ) → least ≤ value → value ≤ most → Puts (number_codec width least most) value into.old into.new result }
 {
     let bytes = value.to_be_bytes();
     into.extend_from_slice(&bytes[8 - width as usize..])
@@ -29,6 +33,7 @@ pub fn put_name(into: &mut Bytes, name: &Name) -> Result<(), NoMemory>
     ensures ok { OnOk result (into.new ≡ into.old ++ name.now) }
     ensures err { OnErr result (into.new ≡ into.old) }
     ensures spelled { Spells name_format name.now name.now }
+    ensures puts { Puts name_codec name.now into.old into.new result }
 {
     into.extend_from_slice(name.as_bytes())
 }
@@ -38,6 +43,7 @@ pub fn put_digest(into: &mut Bytes, digest: &Digest) -> Result<(), NoMemory>
     ensures ok { OnOk result (into.new ≡ into.old ++ digest.now) }
     ensures err { OnErr result (into.new ≡ into.old) }
     ensures spelled { Spells digest_format digest.now digest.now }
+    ensures puts { Puts digest_codec digest.now into.old into.new result }
 {
     put_bytes(into, &digest.0)
 }
@@ -48,6 +54,7 @@ pub fn put_labels(into: &mut Bytes, labels: &Labels) -> Result<(), NoMemory>
     ensures ok { OnOk result (into.new ≡ into.old ++ joined labels.now) }
     ensures err { OnErr result ((n : ℕ) × (into.new ≡ into.old ++ joined (take n labels.now))) }
     ensures spelled { OnOk result (Spells (repeated (length labels.now) digest_format) (joined labels.now) labels.now) }
+    ensures puts { Puts (labels_codec (length labels.now)) labels.now into.old into.new result }
 {
     for label in labels.as_slice() {
         put_digest(into, label)?;
@@ -60,8 +67,27 @@ pub fn put_bytes(into: &mut Bytes, bytes: &[u8]) -> Result<(), NoMemory>
     ensures ok { OnOk result (into.new ≡ into.old ++ bytes.now) }
     ensures err { OnErr result (into.new ≡ into.old) }
     ensures spelled { Spells (any_bytes (length bytes.now)) bytes.now bytes.now }
+    ensures puts { Puts (bytes_codec (length bytes.now)) bytes.now into.old into.new result }
 {
     into.extend_from_slice(bytes)
+}
+
+/// Appends the text.
+pub fn put_text(into: &mut Bytes, text: &[u8]) -> Result<(), NoMemory>
+    ensures { Puts (text_codec text.now) text.now into.old into.new result }
+{
+    put_bytes(into, text)
+}
+
+/// Appends the number of the bytes in `width` bytes (at most 8), and the bytes.
+pub fn put_sized(into: &mut Bytes, bytes: &[u8], width: u8) -> Result<(), NoMemory>
+    requires width { width ≤ 8 }
+    requires fits { length bytes.now < 256 ^ width }
+    ensures { (least most : ℕ) → least ≤ length bytes.now → length bytes.now ≤ most →
+        Puts (sized_codec width least most) bytes.now into.old into.new result }
+{
+    put_number(into, bytes.len() as u64, width)?;
+    put_bytes(into, bytes)
 }
 
 #[cfg(test)]

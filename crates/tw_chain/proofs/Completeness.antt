@@ -12,13 +12,13 @@ use Rattle.tw_base.specs.Sound.{IsSound}
 use Rattle.tw_skipproof.specs.declared.existence.ExistenceProof.{ExistenceProof}
 use Rattle.tw_skipproof.specs.Acceptance.{IsAcceptedUnder}
 use Rattle.tw_skipproof.specs.HistoryProofs.{IsExistenceOf, MakesExistence}
-use Rattle.tw_skipproof.specs.Writing.{existence_bytes}
+use Rattle.tw_skipproof.specs.Existence.{existence_bytes}
 use Rattle.tw_skipproof.proofs.ExistenceOf.{accepted-made, spelled-made}
 use Rattle.tw_chain.specs.declared.proof.Proof.TheVariants.{Exists}
 use Rattle.tw_chain.specs.Accepting.{Accepts, IsAccepted, claim_of}
 use Rattle.tw_chain.specs.Claiming.{claim_at}
 use Rattle.tw_chain.specs.Proofs.{proof_layout}
-use Rattle.tw_chain.proofs.ProofLayout.{from_existence}
+use Rattle.tw_chain.proofs.ProofCodec.{from_existence}
 
 same_event : (one other : List ℕ) → Some one ≡ Some other → one ≡ other
 same_event one other e = cc

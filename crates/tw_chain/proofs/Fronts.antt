@@ -5,10 +5,13 @@ use Rattle.std.proofs.lemmas.Bool.{cases_lt}
 use Rattle.std.proofs.lemmas.List.{length-append, length-take-le, take-take, take_all}
 use Rattle.tw_base.specs.declared.thread.Thread.{Thread}
 use Rattle.tw_base.specs.Formats.{IsFront, IsPlace, Spells, SpellsNothing}
-use Rattle.tw_skipproof.proofs.ExistenceSizes.{existence-size}
+use Rattle.tw_base.proofs.CodecSizes.{word-size}
+use Rattle.tw_skipproof.specs.Codecs.{existence_codec}
+use Rattle.tw_skipproof.proofs.LawfulCodecs.{existence-lawful}
+use Rattle.tw_skipproof.proofs.Shapes.{existence-most}
 use Rattle.tw_chain.specs.declared.proof.Proof.{Proof}
 use Rattle.tw_chain.specs.Proofs.{proof_layout}
-use Rattle.tw_chain.proofs.ProofLayout.{to_existence}
+use Rattle.tw_chain.proofs.ProofCodec.{to_existence}
 use Rattle.tw_chain.specs.declared.verdict.Verdict.{Verdict}
 use Rattle.tw_chain.specs.declared.verdict.Verdict.TheVariants.{Yes, No}
 use Rattle.tw_chain.specs.Binding.{BindsHistories}
@@ -16,7 +19,7 @@ use Rattle.tw_chain.specs.Reasons.{IsOfLaterKind, IsVerdict, Stands}
 use Rattle.tw_chain.proofs.Verdicts.{later_kind, malformed_bytes}
 
 proof-size : (bytes : List ℕ) (q : Proof) → Spells proof_layout bytes q → length bytes ≤ 56497
-proof-size bytes q spelled = let is = to_existence bytes q spelled in existence-size bytes is.proof is.spells
+proof-size bytes q spelled = let is = to_existence bytes q spelled in word-size existence_codec existence-lawful 56497 existence-most bytes is.proof is.spells
 
 module _ (limit : ℕ) (above : 56497 < limit) (bytes : List ℕ) where
   spells_nothing : limit < length bytes → SpellsNothing proof_layout bytes

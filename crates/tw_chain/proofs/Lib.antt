@@ -1,4 +1,4 @@
-pub mod ProofLayout
+pub mod ProofCodec
 pub mod Lowest
 pub mod ClaimHolds
 pub mod Verdicts

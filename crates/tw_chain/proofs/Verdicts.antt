@@ -2,20 +2,22 @@
 use Rattle.std.proofs.Common.{◌≡◌, ℕ, ◌≤◌, List, [], ◌∷◌, ◌++◌, take, refl, sym, ap, ◌∙◌, subst, arith, inl, inr}
 use Rattle.tw_base.specs.declared.thread.Thread.{Thread}
 use Rattle.tw_base.specs.declared.report.Reason.{Reason}
-use Rattle.tw_base.specs.declared.report.Reason.TheVariants.{Malformed, BadOrder, NotHeld, BadPath, BadOpening, BadEvent, BadTree, Carried, Unbuilt}
+use Rattle.tw_base.specs.declared.report.Reason.TheVariants.{Malformed, Unbuilt}
 use Rattle.tw_base.specs.declared.report.Report.{Report}
 use Rattle.tw_base.specs.Formats.{Format, Spells, SpellsNothing, IsPlace}
-use Rattle.tw_base.specs.Fields.{text}
 use Rattle.tw_base.specs.Clash.{OrClash}
 use Rattle.tw_base.specs.Family.{AllSound, Facts, HasThreads, family_texts}
 use Rattle.tw_base.specs.History.{History}
-use Rattle.tw_base.proofs.FormatLaws.{one_value, then_spells}
-use Rattle.tw_base.proofs.FieldLaws.{text-word}
+use Rattle.tw_base.proofs.FormatLaws.{one_value}
+use Rattle.tw_base.proofs.CodecLaws.{written-as}
 use Rattle.tw_base.specs.Reasons.{IsNoHigher}
-use Rattle.tw_skipproof.specs.Existence.{existence_layout, existence_magic}
+use Rattle.tw_base.specs.Codecs.{behind, by_kind, cased, number_codec}
+use Rattle.tw_base.specs.Fields.{number_bytes}
+use Rattle.tw_skipproof.specs.Codecs.{existence_magic}
 use Rattle.tw_chain.specs.declared.proof.Proof.{Proof}
-use Rattle.tw_chain.specs.Proofs.{proof_layout}
-use Rattle.tw_chain.proofs.ProofLayout.{to_existence}
+use Rattle.tw_chain.specs.declared.proof.Proof.TheVariants.{Exists}
+use Rattle.tw_chain.specs.Proofs.{proof_codec, proof_layout}
+use Rattle.tw_chain.proofs.ProofCodec.{proof-lawful}
 use Rattle.tw_chain.specs.declared.verdict.Verdict.TheVariants.{Yes, No}
 use Rattle.tw_chain.specs.Accepting.{IsAccepted, claim_of, held, proof_texts, report_of}
 use Rattle.tw_chain.specs.Binding.{BindsHistories}
@@ -23,12 +25,8 @@ use Rattle.tw_chain.specs.Reasons.{IsLowestAgainst, IsOfLaterKind, IsVerdict, St
 
 -- bytes that spell an existence proof begin with its magic
 begins : (bytes : List ℕ) (q : Proof) → Spells proof_layout bytes q → take 5 bytes ≡ existence_magic
-unfolding existence_layout
-begins bytes q s =
-    let is = to_existence bytes q s in
-    let parts = then_spells (text existence_magic) _ bytes is.proof is.spells in
-    let word = text-word existence_magic parts.0 parts.2 parts.4 in
-    ap (take 5) (parts.3 ∙ ap (λ m. m ++ parts.1) word)
+unfolding proof_codec behind by_kind cased number_codec number_bytes
+begins bytes (Exists p) s = ap (take 5) (written-as proof_codec proof-lawful bytes (Exists p) s)
 
 -- no reason is below Malformed at this place, where none but Malformed at that place stands
 malformed_least : (place : ℕ) (other : Reason) → (other ≡ Malformed place) → IsNoHigher (Malformed place) other

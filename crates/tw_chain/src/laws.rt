@@ -4,16 +4,17 @@ ghost use Rattle.std.specs.Prelude.{◌≡◌, ℕ, ◌≤◌, List, length, Som
 ghost use Rattle.tw_base.specs.declared.thread.Thread.{Thread};
 ghost use Rattle.tw_base.specs.Anchors.{anchor_of};
 ghost use Rattle.tw_base.specs.Auth.{auth};
+ghost use Rattle.tw_base.specs.Codecs.{IsUnambiguous};
 ghost use Rattle.tw_base.specs.Formats.{Spells};
 ghost use Rattle.tw_base.specs.History.{History, events_at};
 ghost use Rattle.tw_base.specs.Sound.{IsSound};
 ghost use Rattle.tw_skipproof.specs.declared.existence.ExistenceProof.{ExistenceProof};
 ghost use Rattle.tw_skipproof.specs.HistoryProofs.{IsExistenceOf, MakesExistence};
-ghost use Rattle.tw_skipproof.specs.Writing.{existence_bytes};
+ghost use Rattle.tw_skipproof.specs.Existence.{existence_bytes};
 ghost use Rattle.tw_chain.specs.declared.proof.Proof.TheVariants.{Exists};
 ghost use Rattle.tw_chain.specs.Accepting.{Accepts, IsAccepted, claim_of};
 ghost use Rattle.tw_chain.specs.Claiming.{claim_at};
-ghost use Rattle.tw_chain.specs.Proofs.{proof_layout};
+ghost use Rattle.tw_chain.specs.Proofs.{proof_codec, proof_layout};
 
 use tw_base::Hasher;
 
@@ -35,4 +36,10 @@ pub fn completeness_laws<H: Hasher>()
         IsSound h → step ≤ top → top ≤ length h.steps → IsExistenceOf H.dig h step index top p →
         anchor_of anchors h.name top ≡ Some anchor → anchor.auth ≡ auth H.dig h top →
         Spells proof_layout (existence_bytes p) (Exists p) × Accepts H.dig anchors (existence_bytes p) }
+{}
+
+/// The words of proofs: each has one value, a value has one spelling, and no word is the front of a
+/// longer one.
+pub fn proof_laws()
+    ensures { IsUnambiguous proof_codec }
 {}

@@ -8,7 +8,7 @@ mod laws;
 mod proof;
 mod verdict;
 
-pub use laws::completeness_laws;
+pub use laws::{completeness_laws, proof_laws};
 pub use proof::{Proof, read_proof};
 pub use verdict::{Verdict, verify};
 

@@ -1,31 +1,51 @@
 -- How many bytes events, nodes and steps have.
-use Rattle.std.proofs.Common.{◌≡◌, ℕ, ◌+◌, ◌*◌, List, [], ◌∷◌, ◌++◌, length, map, take, drop, sum_by, refl, ap, arith}
+use Rattle.std.proofs.Common.{◌≡◌, ℕ, ◌+◌, ◌*◌, List, [], ◌∷◌, ◌++◌, length, map, take, drop, flat_map, sum_by, refl, ap, arith}
 use Rattle.std.proofs.lemmas.List.{length-append, length-drop, length-map, length-take}
 use Rattle.std.proofs.lemmas.List.Sums.{sum_by-cons}
+use Rattle.tw_base.specs.declared.content.Content.TheVariants.{Events, Received}
 use Rattle.tw_base.specs.declared.thread.Thread.{Thread}
+use Rattle.tw_base.specs.Codecs.{behind, by_kind, bytes_codec, cased, counted, many, name_codec, number_codec, pair, seen, sized_codec}
 use Rattle.tw_base.specs.Fields.{number_bytes}
 use Rattle.tw_base.specs.History.{History, Node}
-use Rattle.tw_base.specs.declared.content.Content.TheVariants.{Events, Received}
-use Rattle.tw_base.specs.Texts.{joined}
+use Rattle.tw_base.specs.HistoryCodec.{content_codec, event_codec, history_bytes, history_codec, history_magic, node_codec, step_codec, thread_codec}
 use Rattle.tw_base.proofs.NumberLaws.{length-number_bytes}
 use Rattle.tw_history.specs.declared.step.Node.{Node as TableNode}
 use Rattle.tw_history.specs.declared.step.Step.{Step}
-use Rattle.tw_base.specs.HistoryFile.{content_bytes, event_bytes, history_bytes, node_bytes, step_bytes}
 use Rattle.tw_history.specs.Tables.{node_of, step_of, steps_of_table}
 use Rattle.tw_history.specs.WritingSteps.{step_size}
 
-pub event-size : (event : List ℕ) → length (event_bytes event) ≡ 4 + length event
+pub event-size : (event : List ℕ) → length (event_codec.write event) ≡ 4 + length event
+unfolding sized_codec
 event-size event = omega (arith, length-append (number_bytes 4 (length event)) event, length-number_bytes 4 (length event))
 
-pub events-size : (events : List (List ℕ)) → length (content_bytes (Events events)) ≡ 5 + length (joined (map event_bytes events))
+pub events-size : (events : List (List ℕ)) → length (content_codec.write (Events events)) ≡ 5 + length (flat_map event_codec.write events)
+unfolding content_codec by_kind cased counted many number_codec
 events-size events =
-    omega (arith, length-append (number_bytes 4 (length events)) (joined (map event_bytes events)), length-number_bytes 4 (length events))
+    let all : List ℕ = flat_map event_codec.write events in
+    omega (
+      arith,
+      length-append (number_bytes 1 1) (number_bytes 4 (length events) ++ all),
+      length-append (number_bytes 4 (length events)) all,
+      length-number_bytes 1 1,
+      length-number_bytes 4 (length events),
+    )
 
-pub thread-size : (t : Thread) → length t.from ≡ 16 → length t.auth ≡ 32 → length (content_bytes (Received t)) ≡ 57
+pub thread-size : (t : Thread) → length t.from ≡ 16 → length t.auth ≡ 32 → length (content_codec.write (Received t)) ≡ 57
+unfolding content_codec by_kind cased number_codec thread_codec seen pair name_codec bytes_codec
 thread-size t from auth =
-    omega (arith, length-append t.from (number_bytes 8 t.step ++ t.auth), length-append (number_bytes 8 t.step) t.auth, length-number_bytes 8 t.step, from, auth)
+    omega (
+      arith,
+      length-append (number_bytes 1 2) (t.from ++ (number_bytes 8 t.step ++ t.auth)),
+      length-append t.from (number_bytes 8 t.step ++ t.auth),
+      length-append (number_bytes 8 t.step) t.auth,
+      length-number_bytes 1 2,
+      length-number_bytes 8 t.step,
+      from,
+      auth,
+    )
 
-node-size : (n : Node) → length (node_bytes n) ≡ 16
+node-size : (n : Node) → length (node_codec.write n) ≡ 16
+unfolding node_codec seen pair number_codec
 node-size n =
     omega (
       arith,
@@ -36,21 +56,22 @@ node-size n =
       length-number_bytes 4 n.right,
     )
 
-nodes-size : (nodes : List Node) → length (joined (map node_bytes nodes)) ≡ 16 * length nodes
+nodes-size : (nodes : List Node) → length (flat_map node_codec.write nodes) ≡ 16 * length nodes
 nodes-size [] = refl
-nodes-size (n ∷ nodes) = omega (arith, length-append (node_bytes n) (joined (map node_bytes nodes)), node-size n, nodes-size nodes)
+nodes-size (n ∷ nodes) = omega (arith, length-append (node_codec.write n) (flat_map node_codec.write nodes), node-size n, nodes-size nodes)
 
-step-size : (s : Step) (fresh : List TableNode) → length fresh ≡ s.fresh → length (step_bytes (step_of s fresh)) ≡ step_size s
+step-size : (s : Step) (fresh : List TableNode) → length fresh ≡ s.fresh → length (step_codec.write (step_of s fresh)) ≡ step_size s
+unfolding step_codec seen pair counted by_kind many number_codec
 step-size s fresh count =
-    let content : List ℕ = content_bytes s.content in
+    let content : List ℕ = content_codec.write s.content in
     let number : List ℕ = number_bytes 2 (length (map node_of fresh)) in
-    let nodes : List ℕ = joined (map node_bytes (map node_of fresh)) in
+    let nodes : List ℕ = flat_map node_codec.write (map node_of fresh) in
     let root : List ℕ = number_bytes 4 s.root in
     omega (
       arith,
-      length-append content (number ++ (nodes ++ root)),
-      length-append number (nodes ++ root),
-      length-append nodes root,
+      length-append content ((number ++ nodes) ++ root),
+      length-append (number ++ nodes) root,
+      length-append number nodes,
       length-number_bytes 2 (length (map node_of fresh)),
       length-number_bytes 4 s.root,
       nodes-size (map node_of fresh),
@@ -59,7 +80,7 @@ step-size s fresh count =
     )
 
 pub steps-size : (steps : List Step) (nodes : List TableNode) → sum_by (λ s. s.fresh) steps ≡ length nodes
-    → length (joined (map step_bytes (steps_of_table steps nodes))) ≡ sum_by step_size steps
+    → length (flat_map step_codec.write (steps_of_table steps nodes)) ≡ sum_by step_size steps
 steps-size [] nodes counted = refl
 steps-size (s ∷ steps) nodes counted =
     let sum = sum_by-cons (λ s. s.fresh) s steps in
@@ -67,7 +88,7 @@ steps-size (s ∷ steps) nodes counted =
     let count : length (take s.fresh nodes) ≡ s.fresh = omega (arith, counted, sum, length-take s.fresh nodes) in
     omega (
       arith,
-      length-append (step_bytes (step_of s (take s.fresh nodes))) (joined (map step_bytes (steps_of_table steps (drop s.fresh nodes)))),
+      length-append (step_codec.write (step_of s (take s.fresh nodes))) (flat_map step_codec.write (steps_of_table steps (drop s.fresh nodes))),
       step-size s (take s.fresh nodes) count,
       steps-size steps (drop s.fresh nodes) left,
       sum_by-cons step_size s steps,
@@ -75,15 +96,17 @@ steps-size (s ∷ steps) nodes counted =
 
 pub history-size : (h : History) (steps : List Step) (nodes : List TableNode) → h.steps ≡ steps_of_table steps nodes → sum_by (λ s. s.fresh) steps ≡ length nodes → length h.name ≡ 16
     → length (history_bytes h) ≡ 28 + sum_by step_size steps
+unfolding history_codec seen behind pair counted by_kind many number_codec name_codec
 history-size h steps nodes is counted name =
     let number : List ℕ = number_bytes 8 (length h.steps) in
-    let all : List ℕ = joined (map step_bytes h.steps) in
+    let all : List ℕ = flat_map step_codec.write h.steps in
     omega (
       arith,
+      length-append history_magic (h.name ++ (number ++ all)),
       length-append h.name (number ++ all),
       length-append number all,
       length-number_bytes 8 (length h.steps),
       name,
-      ap (λ ss. length (joined (map step_bytes ss))) is,
+      ap (λ ss. length (flat_map step_codec.write ss)) is,
       steps-size steps nodes counted,
     )

@@ -12,7 +12,7 @@ use Rattle.tw_skipproof.specs.declared.existence.ExistenceProof.{ExistenceProof}
 use Rattle.tw_skipproof.specs.Existence.{IsExistenceInRange}
 use Rattle.tw_skipproof.specs.Openings.{IsOpeningAt}
 use Rattle.tw_skipproof.specs.Paths.{HasShape}
-use Rattle.tw_skipproof.specs.Writing.{IsShaped}
+use Rattle.tw_skipproof.specs.Existence.{IsShaped}
 use Rattle.tw_skipproof.specs.HistoryProofs.{IsExistenceOf}
 use Rattle.tw_skipproof.proofs.OwnPaths.{opening-of, path-of}
 use Rattle.tw_history.proofs.TableSteps.{Each-inside}

@@ -1,9 +1,8 @@
 pub mod TableLaws
-pub mod ReadingLaws
 pub mod TableReading
-pub mod LayoutLaws
+pub mod FileFits
 pub mod WritingLaws
-pub mod SpellingLaws
+pub mod Judging
 pub mod ByteCounts
 pub mod TableSteps
 pub mod LinkLabels

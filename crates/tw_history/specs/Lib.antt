@@ -3,7 +3,6 @@ pub mod FileRanges
 pub mod HistoryOf
 pub mod Rules
 pub mod Refusals
-pub mod Reading
 pub mod WritingSteps
 pub mod PassSteps
 pub mod JudgingSteps

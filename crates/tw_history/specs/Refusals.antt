@@ -4,7 +4,7 @@ use Rattle.tw_base.specs.declared.limits.TheConstants.{MOST_HISTORY_BYTES}
 use Rattle.tw_base.specs.Formats.{IsPlace, Spells, SpellsNothing}
 use Rattle.tw_base.specs.History.{History, events_at}
 use Rattle.tw_base.specs.Sound.{IsSound}
-use Rattle.tw_base.specs.HistoryLayout.{history_layout}
+use Rattle.tw_base.specs.HistoryCodec.{history_layout}
 use Rattle.tw_history.specs.Rules.{IsFirstBroken}
 use Rattle.tw_history.specs.declared.fault.HistoryFault.{HistoryFault}
 use Rattle.tw_history.specs.declared.fault.HistoryFault.TheVariants.{Malformed, NoMemory, TooLong, Unsound}

@@ -10,7 +10,6 @@ mod lookup;
 mod pass;
 mod path_links;
 mod reading;
-mod reading_content;
 mod reading_steps;
 mod showing;
 mod sizes;

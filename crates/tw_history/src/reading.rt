@@ -1,38 +1,40 @@
 // Reading history files.
 
-ghost use Rattle.std.specs.Prelude.{◌≡◌, MatchResult};
-ghost use Rattle.tw_base.specs.Formats.{GivesWithEnd, ReadsAs};
-ghost use Rattle.tw_base.specs.HistoryLayout.{history_layout};
-ghost use Rattle.tw_history.specs.Reading.{history_at as history_at_of};
+ghost use Rattle.std.specs.Prelude.{◌≡◌, ◌≤◌, length, MatchResult};
+ghost use Rattle.tw_base.specs.Formats.{ReadsAs};
+ghost use Rattle.tw_base.specs.HistoryCodec.{history_codec, history_layout};
 ghost use Rattle.tw_base.specs.Sound.{IsSound};
+ghost use Rattle.tw_base.specs.Taking.{Takes};
 ghost use Rattle.tw_history.specs.Refusals.{ReadsHistory, TellsRule};
 
 use crate::fault::HistoryFault;
 use crate::history::History;
-use crate::reading_steps::{Table, steps_at};
+use crate::reading_steps::{Table, take_steps};
 use crate::soundness::is_sound;
 use crate::writing::MAGIC;
 use std::alloc::Global;
-use tw_base::limits::{LAST_STEP, MOST_HISTORY_BYTES};
-use tw_base::{ReadFault, malformed, read_name, read_number, read_text, whole};
+use tw_base::limits::MOST_HISTORY_BYTES;
+use tw_base::{ReadFault, take_name, take_text, whole_to};
 
-/// The history at the front of the bytes, and the place after it.
-#[tactic(auto, unfolding(crate::specs::Reading::history_at))]
-fn history_at(alloc: Global, bytes: &[u8]) -> Result<(History, u64), ReadFault>
-    ensures { GivesWithEnd (λ h. h) result (history_at_of bytes.now 0) }
+/// Takes a history, sound or not.
+#[tactic(auto, unfolding(tw_base::specs::Codecs::behind, tw_base::specs::Codecs::pair, tw_base::specs::Codecs::seen, tw_base::specs::HistoryCodec::history_codec))]
+fn take_history(alloc: Global, bytes: &[u8], at: &mut u64) -> Result<History, ReadFault>
+    requires { at.old ≤ length bytes.now }
+    ensures { Takes history_codec (λ h. h) bytes.now at.old at.new result }
 {
-    malformed(read_text(bytes, 0, &MAGIC))?;
-    let name = malformed(read_name(bytes, 4))?;
-    let count = malformed(read_number(bytes, 20, 8, 0, LAST_STEP))?;
-    let (Table { steps, nodes }, after) = steps_at(alloc, bytes, 28, count)?;
-    Ok((History::new(name, steps, nodes), after))
+    take_text(bytes, at, &MAGIC)?;
+    let name = take_name(bytes, at)?;
+    let Table { steps, nodes } = take_steps(alloc, bytes, at)?;
+    Ok(History::new(name, steps, nodes))
 }
 
 /// The history that the bytes spell, sound or not.
 pub(crate) fn read_table(alloc: Global, bytes: &[u8]) -> Result<History, ReadFault>
     ensures { ReadsAs (λ h. h) history_layout bytes.now result }
 {
-    whole(bytes, history_at(alloc, bytes))
+    let mut at = 0;
+    let read = take_history(alloc, bytes, &mut at);
+    whole_to(bytes, at, read)
 }
 
 /// The sound history that the bytes spell. It comes exactly where they are a history file of a sound

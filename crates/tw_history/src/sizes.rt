@@ -1,9 +1,8 @@
 // How many bytes the file of a history has.
 
-ghost use Rattle.std.specs.Prelude.{◌≡◌, ◌+◌, ◌*◌, ◌<◌, ◌≤◌, ◌^◌, length, map, sum_by};
+ghost use Rattle.std.specs.Prelude.{◌≡◌, ◌+◌, ◌*◌, ◌<◌, ◌≤◌, ◌^◌, length, sum_by};
 ghost use Rattle.tw_base.specs.Lists.{Each};
-ghost use Rattle.tw_base.specs.Texts.{joined};
-ghost use Rattle.tw_base.specs.HistoryFile.{content_bytes, event_bytes, history_bytes};
+ghost use Rattle.tw_base.specs.HistoryCodec.{content_codec, event_codec, history_bytes};
 ghost use Rattle.tw_history.specs.Tables.{IsInRange};
 ghost use Rattle.tw_history.specs.WritingSteps.{step_size as step_size_of};
 ghost use Rattle.tw_base.specs.declared.limits.TheConstants.{LAST_STEP, MOST_EVENTS, MOST_EVENT_BYTES};
@@ -46,7 +45,7 @@ fn step_size(step: &Step) -> u64
 /// The number of bytes of the content behind its kind.
 fn content_size(content: &Content) -> u64
     requires { IsInRange content.now }
-    ensures size { result ≡ length (content_bytes content.now) }
+    ensures size { result ≡ length (content_codec.write content.now) }
     ensures small { result < 2 ^ 21 }
 {
     match content {
@@ -63,7 +62,7 @@ fn content_size(content: &Content) -> u64
 fn events_size(events: &[Bytes]) -> u64
     requires few { length events.now ≤ MOST_EVENTS }
     requires sizes { Each (λ event. length event ≤ MOST_EVENT_BYTES) events.now }
-    ensures size { result ≡ length (joined (map event_bytes events.now)) }
+    ensures size { result ≡ sum_by (λ event. length (event_codec.write event)) events.now }
     ensures small { result ≤ 1028 * length events.now }
 {
     let mut size = 0;
@@ -76,7 +75,7 @@ fn events_size(events: &[Bytes]) -> u64
 /// The number of bytes of the event behind its length.
 fn event_size(event: &Bytes) -> u64
     requires { length event.now ≤ MOST_EVENT_BYTES }
-    ensures size { result ≡ length (event_bytes event.now) }
+    ensures size { result ≡ length (event_codec.write event.now) }
     ensures small { result ≤ 1028 }
 {
     4 + event.len() as u64

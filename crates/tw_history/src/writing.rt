@@ -1,16 +1,12 @@
 // Writing history files.
 
-ghost use Rattle.std.specs.Prelude.{◌≡◌, ◌<◌, ◌≤◌, ◌^◌, [], ◌++◌, length, map, sum_by, IfOk, IfErr, OnOk};
-ghost use Rattle.tw_base.specs.Fields.{sized_bytes};
-ghost use Rattle.tw_base.specs.Formats.{Spells};
-ghost use Rattle.tw_base.specs.Lists.{Each};
-ghost use Rattle.tw_base.specs.Texts.{joined};
-ghost use Rattle.tw_base.specs.HistoryFile.{content_bytes, event_bytes, history_bytes, node_bytes, step_bytes};
-ghost use Rattle.tw_base.specs.HistoryLayout.{content_layout, history_layout, node_layout, step_layout};
-ghost use Rattle.tw_history.specs.Tables.{IsInRange, node_of, step_of, steps_of_table};
-ghost use Rattle.tw_history.specs.Refusals.{TellsLength};
-ghost use Rattle.tw_history.specs.WritingSteps.{AllSpelled};
+ghost use Rattle.std.specs.Prelude.{◌≡◌, ◌<◌, ◌≤◌, ◌^◌, [], ◌++◌, flat_map, length, map, sum_by, IfOk, IfErr, OnOk};
 ghost use Rattle.tw_base.specs.declared.limits.TheConstants.{MOST_EVENT_BYTES};
+ghost use Rattle.tw_base.specs.Formats.{Spells};
+ghost use Rattle.tw_base.specs.HistoryCodec.{content_codec, event_codec, history_bytes, history_codec, history_layout, node_codec, step_codec};
+ghost use Rattle.tw_base.specs.Lists.{Each};
+ghost use Rattle.tw_history.specs.Refusals.{TellsLength};
+ghost use Rattle.tw_history.specs.Tables.{IsInRange, node_of, step_of, steps_of_table};
 
 use crate::fault::HistoryFault;
 use crate::history::History;
@@ -18,7 +14,7 @@ use crate::sizes::file_size;
 use crate::step::{Node, Step};
 use std::alloc::Global;
 use tw_base::limits::MOST_HISTORY_BYTES;
-use tw_base::{Bytes, Content, NoMemory, put_bytes, put_digest, put_name, put_number};
+use tw_base::{Bytes, Content, NoMemory, put_digest, put_name, put_number, put_sized, put_text};
 
 /// The four bytes at the head of a history file.
 pub(crate) const MAGIC: [u8; 4] = *b"TWH1";
@@ -54,9 +50,9 @@ fn written(alloc: Global, history: &History, size: usize) -> Result<Bytes, NoMem
 /// Appends the bytes of the history's file.
 fn put_history(into: &mut Bytes, history: &History) -> Result<(), NoMemory>
     ensures ok { OnOk result (into.new ≡ into.old ++ history_bytes history.now) }
-    ensures spelled { OnOk result (Spells history_layout (history_bytes history.now) history.now) }
+    ensures fits { OnOk result (history_codec.Fits history.now) }
 {
-    put_bytes(into, &MAGIC)?;
+    put_text(into, &MAGIC)?;
     put_name(into, &history.name)?;
     put_number(into, history.steps.len() as u64, 8)?;
     put_steps(into, history.steps.as_slice(), history.nodes.as_slice())?;
@@ -68,8 +64,8 @@ fn put_steps(into: &mut Bytes, steps: &[Step], nodes: &[Node]) -> Result<(), NoM
     requires counted { sum_by (λ s. s.fresh) steps.now ≡ length nodes.now }
     requires contents { Each (λ s. IsInRange s.content) steps.now }
     requires entries { Each (λ n. n.entry < 2 ^ 64) nodes.now }
-    ensures ok { OnOk result (into.new ≡ into.old ++ joined (map step_bytes (steps_of_table steps.now nodes.now))) }
-    ensures spelled { OnOk result (AllSpelled step_layout step_bytes (steps_of_table steps.now nodes.now)) }
+    ensures ok { OnOk result (into.new ≡ into.old ++ flat_map step_codec.write (steps_of_table steps.now nodes.now)) }
+    ensures fits { OnOk result (Each step_codec.Fits (steps_of_table steps.now nodes.now)) }
 {
     let mut rest = nodes;
     for step in steps {
@@ -81,12 +77,13 @@ fn put_steps(into: &mut Bytes, steps: &[Step], nodes: &[Node]) -> Result<(), NoM
 }
 
 /// Appends the step with its new nodes.
+#[tactic(auto, unfolding(tw_base::specs::Codecs::by_kind, tw_base::specs::Codecs::counted, tw_base::specs::Codecs::many, tw_base::specs::Codecs::number_codec, tw_base::specs::Codecs::pair, tw_base::specs::Codecs::seen, tw_base::specs::HistoryCodec::step_codec))]
 fn put_step(into: &mut Bytes, step: &Step, fresh: &[Node]) -> Result<(), NoMemory>
     requires counted { length fresh.now ≡ step.now.fresh }
     requires content { IsInRange step.now.content }
     requires entries { Each (λ n. n.entry < 2 ^ 64) fresh.now }
-    ensures ok { OnOk result (into.new ≡ into.old ++ step_bytes (step_of step.now fresh.now)) }
-    ensures spelled { OnOk result (Spells step_layout (step_bytes (step_of step.now fresh.now)) (step_of step.now fresh.now)) }
+    ensures ok { OnOk result (into.new ≡ into.old ++ step_codec.write (step_of step.now fresh.now)) }
+    ensures fits { OnOk result (step_codec.Fits (step_of step.now fresh.now)) }
 {
     put_content(into, &step.content)?;
     put_number(into, step.fresh as u64, 2)?;
@@ -96,20 +93,21 @@ fn put_step(into: &mut Bytes, step: &Step, fresh: &[Node]) -> Result<(), NoMemor
 }
 
 /// Appends the kind of the content and the content.
+#[tactic(auto, unfolding(tw_base::specs::Codecs::by_kind, tw_base::specs::Codecs::bytes_codec, tw_base::specs::Codecs::cased, tw_base::specs::Codecs::counted, tw_base::specs::Codecs::many, tw_base::specs::Codecs::name_codec, tw_base::specs::Codecs::number_codec, tw_base::specs::Codecs::pair, tw_base::specs::Codecs::seen, tw_base::specs::HistoryCodec::content_codec, tw_base::specs::HistoryCodec::thread_codec))]
 fn put_content(into: &mut Bytes, content: &Content) -> Result<(), NoMemory>
     requires { IsInRange content.now }
-    ensures ok { OnOk result (into.new ≡ into.old ++ content_bytes content.now) }
-    ensures spelled { OnOk result (Spells content_layout (content_bytes content.now) content.now) }
+    ensures ok { OnOk result (into.new ≡ into.old ++ content_codec.write content.now) }
+    ensures fits { OnOk result (content_codec.Fits content.now) }
 {
     match content {
         Content::Events(events) => {
-            put_bytes(into, &[1])?;
+            put_number(into, 1, 1)?;
             put_number(into, events.len() as u64, 4)?;
             put_events(into, events.as_slice())?;
             Ok(())
         }
         Content::Received(thread) => {
-            put_bytes(into, &[2])?;
+            put_number(into, 2, 1)?;
             put_name(into, &thread.from)?;
             put_number(into, thread.step, 8)?;
             put_digest(into, &thread.auth)?;
@@ -121,8 +119,8 @@ fn put_content(into: &mut Bytes, content: &Content) -> Result<(), NoMemory>
 /// Appends the events, each behind its length.
 fn put_events(into: &mut Bytes, events: &[Bytes]) -> Result<(), NoMemory>
     requires { Each (λ event. length event ≤ MOST_EVENT_BYTES) events.now }
-    ensures ok { OnOk result (into.new ≡ into.old ++ joined (map event_bytes events.now)) }
-    ensures spelled { OnOk result (AllSpelled (sized_bytes 4 0 MOST_EVENT_BYTES) event_bytes events.now) }
+    ensures ok { OnOk result (into.new ≡ into.old ++ flat_map event_codec.write events.now) }
+    ensures fits { OnOk result (Each event_codec.Fits events.now) }
 {
     for event in events {
         put_event(into, event)?;
@@ -131,21 +129,21 @@ fn put_events(into: &mut Bytes, events: &[Bytes]) -> Result<(), NoMemory>
 }
 
 /// Appends the event behind its length.
+#[tactic(auto, unfolding(tw_base::specs::Codecs::sized_codec))]
 fn put_event(into: &mut Bytes, event: &Bytes) -> Result<(), NoMemory>
     requires { length event.now ≤ MOST_EVENT_BYTES }
-    ensures ok { OnOk result (into.new ≡ into.old ++ event_bytes event.now) }
-    ensures spelled { OnOk result (Spells (sized_bytes 4 0 MOST_EVENT_BYTES) (event_bytes event.now) event.now) }
+    ensures ok { OnOk result (into.new ≡ into.old ++ event_codec.write event.now) }
+    ensures fits { OnOk result (event_codec.Fits event.now) }
 {
-    put_number(into, event.len() as u64, 4)?;
-    put_bytes(into, event.as_slice())?;
+    put_sized(into, event.as_slice(), 4)?;
     Ok(())
 }
 
 /// Appends the nodes.
 fn put_nodes(into: &mut Bytes, nodes: &[Node]) -> Result<(), NoMemory>
     requires { Each (λ n. n.entry < 2 ^ 64) nodes.now }
-    ensures ok { OnOk result (into.new ≡ into.old ++ joined (map node_bytes (map node_of nodes.now))) }
-    ensures spelled { OnOk result (AllSpelled node_layout node_bytes (map node_of nodes.now)) }
+    ensures ok { OnOk result (into.new ≡ into.old ++ flat_map node_codec.write (map node_of nodes.now)) }
+    ensures fits { OnOk result (Each node_codec.Fits (map node_of nodes.now)) }
 {
     for node in nodes {
         put_node(into, node)?;
@@ -154,10 +152,11 @@ fn put_nodes(into: &mut Bytes, nodes: &[Node]) -> Result<(), NoMemory>
 }
 
 /// Appends the node.
+#[tactic(auto, unfolding(tw_base::specs::Codecs::number_codec, tw_base::specs::Codecs::pair, tw_base::specs::Codecs::seen, tw_base::specs::HistoryCodec::node_codec))]
 fn put_node(into: &mut Bytes, node: &Node) -> Result<(), NoMemory>
     requires { node.now.entry < 2 ^ 64 }
-    ensures ok { OnOk result (into.new ≡ into.old ++ node_bytes (node_of node.now)) }
-    ensures spelled { OnOk result (Spells node_layout (node_bytes (node_of node.now)) (node_of node.now)) }
+    ensures ok { OnOk result (into.new ≡ into.old ++ node_codec.write (node_of node.now)) }
+    ensures fits { OnOk result (node_codec.Fits (node_of node.now)) }
 {
     put_number(into, node.left as u64, 4)?;
     put_number(into, node.entry, 8)?;

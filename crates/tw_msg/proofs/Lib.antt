@@ -1,3 +1,3 @@
 pub mod LineLaws
 pub mod Reading
-pub mod EventsLaws
+pub mod EventsLawful

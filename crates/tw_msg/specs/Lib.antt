@@ -1,4 +1,3 @@
 pub mod AnchorsFile
 pub mod AnchorFaults
 pub mod EventsFile
-pub mod EventsReading

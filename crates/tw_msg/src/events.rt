@@ -1,80 +1,25 @@
 // Reading events files.
 
-ghost use Rattle.std.specs.Prelude.{◌≡◌, ℕ, List, ◌+◌, ◌-◌, ◌^◌, ◌<◌, ◌≤◌, length, IfOk};
-ghost use Rattle.tw_base.specs.Fields.{repeated};
-ghost use Rattle.tw_base.specs.Formats.{GivesIfMemory, GivesWithEnd, OneSpelling, ReadsAs, WrittenAs, read_at};
-ghost use Rattle.tw_msg.specs.EventsFile.{any_number, events_file, events_file_bytes, sized_event};
-ghost use Rattle.tw_msg.specs.EventsReading.{events_file_at, sized_event_at};
+ghost use Rattle.std.specs.Prelude.{◌≤◌, length};
+ghost use Rattle.tw_base.specs.Codecs.{IsUnambiguous};
+ghost use Rattle.tw_base.specs.Formats.{ReadsAs};
+ghost use Rattle.tw_base.specs.Taking.{Takes};
+ghost use Rattle.tw_msg.specs.EventsFile.{events_codec, events_file};
 
 use std::alloc::Global;
-use tw_base::{Bytes, EventList, ReadFault, malformed, read_bytes, read_number, read_text, whole};
+use tw_base::{EventList, ReadFault, take_events_within, take_text, whole_to};
 
 /// How an events file begins: the four bytes `TWE1`.
 const MAGIC: [u8; 4] = [0x54, 0x57, 0x45, 0x31];
 
-/// A number of four bytes at a place.
-fn number_at(bytes: &[u8], at: u64) -> Result<u64, ReadFault>
-    requires { at ≤ length bytes.now }
-    ensures read { GivesIfMemory (λ n. n) result (at + 4) (read_at any_number bytes.now at) }
-    ensures within { IfOk result (λ _. at + 4 ≤ length bytes.now) }
-    ensures range { IfOk result (λ n. n < 2 ^ 32) }
+/// Takes an events file; the number of events and their lengths are any that four bytes hold.
+#[tactic(auto, unfolding(crate::specs::EventsFile::events_codec, tw_base::specs::Codecs::behind))]
+fn take_file(alloc: Global, bytes: &[u8], at: &mut u64) -> Result<EventList, ReadFault>
+    requires { at.old ≤ length bytes.now }
+    ensures { Takes events_codec (λ events. events) bytes.now at.old at.new result }
 {
-    let number = malformed(read_number(bytes, at, 4, 0, u32::MAX as u64))?;
-    Ok(number)
-}
-
-/// The length of an event and its bytes at a place, and the place after them.
-#[tactic(auto, unfolding(crate::specs::EventsReading::sized_event_at))]
-fn event_fields(alloc: Global, bytes: &[u8], at: u64) -> Result<(Bytes, u64), ReadFault>
-    requires { at ≤ length bytes.now }
-    ensures read { GivesWithEnd (λ event. event) result (sized_event_at bytes.now at) }
-    ensures within { IfOk result (λ r. r.1 ≤ length bytes.now) }
-{
-    let size = number_at(bytes, at)?;
-    let event = read_bytes(alloc, bytes, at + 4, size)?;
-    Ok((event, at + 4 + size))
-}
-
-/// The event behind its length at a place, and the place after it.
-fn event_at(alloc: Global, bytes: &[u8], at: u64) -> Result<(Bytes, u64), ReadFault>
-    requires { at ≤ length bytes.now }
-    ensures read { GivesWithEnd (λ event. event) result (read_at sized_event bytes.now at) }
-    ensures within { IfOk result (λ r. r.1 ≤ length bytes.now) }
-{
-    event_fields(alloc, bytes, at)
-}
-
-/// So many events at a place, and the place after them. No room is taken for events that don't
-/// come.
-fn events_at(
-    alloc: Global,
-    bytes: &[u8],
-    at: u64,
-    count: u64,
-) -> Result<(EventList, u64), ReadFault>
-    requires { at ≤ length bytes.now }
-    ensures read { GivesWithEnd (λ events. events) result (read_at (repeated count sized_event) bytes.now at) }
-    ensures within { IfOk result (λ r. r.1 ≤ length bytes.now) }
-{
-    let mut events = EventList::new(alloc);
-    let mut place = at;
-    for _i in 0..count {
-        let (event, after) = event_at(alloc, bytes, place)?;
-        events.push(event)?;
-        place = after;
-    }
-    Ok((events, place))
-}
-
-/// The events of the file at the front of the bytes, and the place after it.
-#[tactic(auto, unfolding(crate::specs::EventsReading::events_file_at))]
-fn file_at_front(alloc: Global, bytes: &[u8]) -> Result<(EventList, u64), ReadFault>
-    ensures read { GivesWithEnd (λ events. events) result (events_file_at bytes.now 0) }
-{
-    malformed(read_text(bytes, 0, &MAGIC))?;
-    let count = number_at(bytes, 4)?;
-    let events = events_at(alloc, bytes, 8, count)?;
-    Ok(events)
+    take_text(bytes, at, &MAGIC)?;
+    take_events_within(alloc, bytes, at, u32::MAX as u64, u32::MAX as u64)
 }
 
 /// The events of an events file: the four bytes `TWE1`, the number of events in four bytes, and for
@@ -85,13 +30,15 @@ fn file_at_front(alloc: Global, bytes: &[u8]) -> Result<(EventList, u64), ReadFa
 pub fn read_events(alloc: Global, bytes: &[u8]) -> Result<EventList, ReadFault>
     ensures { ReadsAs (λ events. events) events_file bytes.now result }
 {
-    whole(bytes, file_at_front(alloc, bytes))
+    let mut at = 0;
+    let read = take_file(alloc, bytes, &mut at);
+    whole_to(bytes, at, read)
 }
 
-/// Events have one spelling as a file.
+/// The words of events files: each has one list of events, a list of events has one spelling, and no
+/// word is the front of a longer one.
 pub fn events_file_laws()
-    ensures written { WrittenAs events_file events_file_bytes }
-    ensures one_spelling { OneSpelling events_file }
+    ensures { IsUnambiguous events_codec }
 {}
 
 #[cfg(test)]

@@ -11,7 +11,7 @@ use Rattle.tw_skiplist.specs.Infos.{IsInfoOf}
 use Rattle.tw_skiplist.specs.declared.info.StepProof.{StepProof}
 use Rattle.tw_skipproof.specs.Existence.{IsExistenceInRange, existence_layout}
 use Rattle.tw_skipproof.specs.HistoryProofs.{IsExistenceOf, IsPathOf, MakesExistence}
-use Rattle.tw_skipproof.specs.Writing.{IsShaped}
+use Rattle.tw_skipproof.specs.Existence.{IsShaped}
 use Rattle.tw_service.specs.MadeSteps.{made_of}
 
 module _ (dig : List ℕ → List ℕ) (ps : Image) (h : History) (step : ℕ) (name : List ℕ) (top index : ℕ) (proof : StepProof) (events : List (List ℕ)) (event : List ℕ) (path : List (List ℕ))

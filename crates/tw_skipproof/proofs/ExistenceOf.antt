@@ -1,33 +1,32 @@
 -- The existence proof that a history has of an event is accepted under the history's authenticator of the top, and is spelled.
-use Rattle.std.proofs.Common.{◌≡◌, ℕ, suc, zero, ◌-◌, ◌<◌, ◌≤◌, ◌^◌, List, [], ◌∷◌, length, refl, ap, sym, ◌∙◌, subst, arith, lit≤}
-use Rattle.std.specs.Prelude.{Option, Some, None, slice_get}
+use Rattle.std.proofs.Common.{◌≡◌, ℕ, suc, zero, ◌-◌, ◌<◌, ◌≤◌, ◌^◌, List, [], ◌∷◌, length, ap, sym, ◌∙◌, subst, arith, lit≤}
+use Rattle.std.specs.Prelude.{Some, slice_get}
 use Rattle.std.proofs.lemmas.Option.{get_or_from_slice_get, slice_get_within}
 use Rattle.tw_base.specs.AuditPath.{ChecksEvent}
 use Rattle.tw_base.specs.Auth.{auth}
 use Rattle.tw_base.specs.EventTree.{audit_path, event_root}
-use Rattle.tw_base.specs.History.{History, Step, events_at, events_of, step_at}
+use Rattle.tw_base.specs.History.{History, events_at}
 use Rattle.tw_base.specs.Lists.{Each}
 use Rattle.tw_base.specs.Bytes.{AreBytes}
+use Rattle.tw_base.specs.Codecs.{bytes_codec, labels_codec, number_codec, pair, seen, sized_codec}
 use Rattle.tw_base.specs.Formats.{Spells}
-use Rattle.tw_base.specs.Fields.{bytes, digest, name, repeated}
+use Rattle.tw_base.specs.Names.{IsName}
 use Rattle.tw_base.specs.Sound.{IsSound}
-use Rattle.tw_base.specs.Texts.{joined}
 use Rattle.tw_base.proofs.AuditShown.{ChecksEvent-audit_path}
-use Rattle.tw_base.proofs.ByteLemmas.{AreBytes-at}
-use Rattle.tw_base.proofs.DigestBytes.{Each-drop, Each-remove, IsDigest, audit_path-digests, auth-digest, dig-digest, digest_spelled, digests_spelled, event_root-digest, map-digests, tree_label-digest}
-use Rattle.tw_base.proofs.FieldLaws.{bytes-spells, name-spells}
+use Rattle.tw_base.proofs.DigestBytes.{Each-drop, Each-remove, IsDigest, audit_path-digests, auth-digest, dig-digest, event_root-digest, map-digests, tree_label-digest}
 use Rattle.tw_base.proofs.ListLemmas.{Each-get_or}
 use Rattle.tw_base.proofs.SoundEvents.{sound-may_record}
 use Rattle.tw_skipproof.specs.declared.existence.ExistenceProof.{ExistenceProof}
 use Rattle.tw_skipproof.specs.declared.path.Link.{Link}
-use Rattle.tw_skipproof.specs.Acceptance.{IsAcceptedUnder, Reaches, ShowsEvent}
-use Rattle.tw_skipproof.specs.Existence.{IsExistenceInRange, existence_layout}
+use Rattle.tw_skipproof.specs.Acceptance.{IsAcceptedUnder, ShowsEvent}
+use Rattle.tw_skipproof.specs.Codecs.{event_codec, link_codec, opening_codec}
+use Rattle.tw_skipproof.specs.Existence.{IsExistenceInRange, IsShaped, existence_bytes, existence_layout}
 use Rattle.tw_skipproof.specs.HistoryProofs.{IsExistenceOf, IsPathOf, labels_at}
 use Rattle.tw_skipproof.specs.Openings.{IsOpeningAt, opening_auth}
 use Rattle.tw_skipproof.specs.Paths.{HasShape, climbed, hop}
-use Rattle.tw_skipproof.specs.Writing.{IsShaped, IsSpelledLink, existence_bytes}
+use Rattle.tw_skipproof.specs.Spelling.{FitsAsEvent, FitsAsLink, FitsAsOpening}
+use Rattle.tw_skipproof.proofs.LawfulCodecs.{existence-fits, existence-lawful}
 use Rattle.tw_skipproof.proofs.OwnPaths.{opening-of, path-of}
-use Rattle.tw_skipproof.proofs.WritingLaws.{event_spelled, existence_spelled, link_spelled, opening_spelled}
 
 -- ---- events that stand at a step
 
@@ -119,25 +118,48 @@ module _ (dig : List ℕ → List ℕ) (h : History) (step index top : ℕ) (p :
     own_labels : (n : ℕ) → Each IsDigest (labels_at dig h n)
     own_labels n = map-digests dig size are _
 
-    links-spelled : (links : List Link) (from to : ℕ) → IsPathOf dig h links from to → Each IsSpelledLink links
-    links-spelled [] from to made = tt
-    links-spelled (link ∷ links) from to made = (
-      link_spelled link (digest_spelled link.datum (subst IsDigest (sym made.1) (dig-digest dig size are _)))
-          (digests_spelled link.others (subst (Each IsDigest) (sym made.2) (Each-remove IsDigest (labels_at dig h from) _ (own_labels from)))),
-      links-spelled links (hop from to) to made.3,
+    links-fit : (links : List Link) (from to : ℕ) → IsPathOf dig h links from to → Each FitsAsLink links
+    unfolding link_codec seen pair bytes_codec labels_codec
+    links-fit [] from to made = tt
+    links-fit (link ∷ links) from to made = (
+      λ step count. (
+        subst IsDigest (sym made.1) (dig-digest dig size are _),
+        (count, subst (Each IsDigest) (sym made.2) (Each-remove IsDigest (labels_at dig h from) _ (own_labels from))),
+      ),
+      links-fit links (hop from to) to made.3,
     )
+
+    opening-fits : FitsAsOpening p.at.opening
+    unfolding opening_codec seen pair bytes_codec number_codec labels_codec
+    opening-fits least at count low few =
+        let binds = is.opening.binds in (
+          subst IsDigest binds.event_root (event_root-digest dig size are _),
+          (
+            subst IsDigest binds.archive_root (tree_label-digest dig size are _),
+            (
+              (low, few),
+              (
+                subst IsDigest binds.prev (auth-digest dig size are h (step - 1)),
+                (count, subst (Each IsDigest) (sym is.opening.others) (Each-drop IsDigest 1 (labels_at dig h step) (own_labels step))),
+              ),
+            ),
+          ),
+        )
+
+    event-fits : IsSound h → FitsAsEvent p.event
+    unfolding event_codec seen pair number_codec sized_codec labels_codec
+    event-fits sound count inside short labels =
+        let event = event-within AreBytes (events_at h step) index p.event.event tt (sound-may_record h step sound).are.bytes is.event in (
+          (omega arith, omega (arith, inside)),
+          (
+            ((omega arith, short), event),
+            (labels, subst (Each IsDigest) (sym is.event_path) (audit_path-digests dig size are (events_at h step) index)),
+          ),
+        )
 
     -- what is written of it spells it
     pub spelled-made : IsSound h → step ≤ top → top ≤ length h.steps → Spells existence_layout (existence_bytes p) p
     spelled-made sound order has =
-        let binds = is.opening.binds in
-        let event = event-within AreBytes (events_at h step) index p.event.event tt (sound-may_record h step sound).are.bytes is.event in
-        let name_is : Spells name p.at.service p.at.service = subst (λ n. Spells name n n) (sym is.service) (name-spells h.name sound.name) in
-        existence_spelled p (in_range-made sound order has) (IsShaped-made order) name_is (links-spelled p.at.path.links top step is.path)
-        (opening_spelled p.at.opening
-        (digest_spelled p.at.opening.event_root (subst IsDigest binds.event_root (event_root-digest dig size are _)))
-        (digest_spelled p.at.opening.archive_root (subst IsDigest binds.archive_root (tree_label-digest dig size are _)))
-        (digest_spelled p.at.opening.prev (subst IsDigest binds.prev (auth-digest dig size are h (step - 1))))
-        (digests_spelled p.at.opening.others (subst (Each IsDigest) (sym is.opening.others) (Each-drop IsDigest 1 (labels_at dig h step) (own_labels step)))))
-        (event_spelled p.event (bytes-spells p.event.event (AreBytes-at p.event.event event))
-        (digests_spelled p.event.path (subst (Each IsDigest) (sym is.event_path) (audit_path-digests dig size are (events_at h step) index))))
+        let name_is : IsName p.at.service = subst IsName (sym is.service) sound.name in
+        existence-lawful.spells p
+        (existence-fits p (in_range-made sound order has) (IsShaped-made order) name_is (links-fit p.at.path.links top step is.path) opening-fits (event-fits sound))

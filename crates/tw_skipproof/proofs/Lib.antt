@@ -2,12 +2,11 @@ pub mod Hops
 pub mod OpeningBinding
 pub mod PathBinding
 pub mod Greedy
-pub mod LayoutLaws
-pub mod ReadingLaws
-pub mod WritingLaws
-pub mod SpellingLaws
 pub mod OwnPaths
 pub mod ExistenceOf
 pub mod WorkedPaths
 pub mod PathSizes
-pub mod ExistenceSizes
+pub mod GreedySteps
+pub mod LawfulCodecs
+pub mod Shapes
+pub mod PieceCodecs

@@ -1,7 +1,7 @@
 -- From a step's authenticator to what it was made of.
-use Rattle.std.proofs.Common.{◌≡◌, ℕ, suc, zero, ◌-◌, ◌<◌, ◌≤◌, ◌^◌, List, [], ◌∷◌, ◌++◌, length, get_or, refl, ap, sym, ◌∙◌, lit<, arith, inl, inr}
+use Rattle.std.proofs.Common.{◌≡◌, ℕ, suc, zero, ◌-◌, ◌<◌, ◌≤◌, ◌^◌, List, [], ◌∷◌, ◌++◌, length, get_or, refl, ap, sym, ◌∙◌, arith, inl, inr}
 use Rattle.std.specs.Prelude.{Option, Some, None, MatchOption, IfSome, map}
-use Rattle.tw_base.specs.History.{History, Step, step_at, events_of, events_at}
+use Rattle.tw_base.specs.History.{History, events_at}
 use Rattle.tw_base.specs.Tree.{tree}
 use Rattle.tw_base.specs.EventTree.{event_root}
 use Rattle.tw_base.specs.Levels.{top_level}

@@ -1,21 +1,14 @@
--- How many bytes a path has at most.
-use Rattle.std.proofs.Common.{◌≡◌, ℕ, suc, zero, ◌+◌, ◌-◌, ◌*◌, ◌/◌, ◌<◌, ◌≤◌, ◌^◌, ◌%◌, List, [], ◌∷◌, ◌++◌, length, refl, ap, arith, lit<, inl, inr}
+-- How many digests a path has at most.
+use Rattle.std.proofs.Common.{◌≡◌, ℕ, suc, zero, ◌+◌, ◌-◌, ◌*◌, ◌/◌, ◌<◌, ◌≤◌, ◌^◌, ◌%◌, List, [], ◌∷◌, length, refl, ap, arith, lit<, inl, inr}
 use Rattle.std.proofs.lemmas.Bool.{cases_lt, cases_eq}
-use Rattle.std.proofs.lemmas.List.{length-append}
 use Rattle.std.proofs.lemmas.Nat.{shr_split}
 use Rattle.std.proofs.Math.Nat.{add-mul, div-eq_of_lt, mod-one, mul-le-mul_right, one-le-pow, pow-suc}
-use Rattle.tw_base.specs.Formats.{Spells}
-use Rattle.tw_base.specs.Fields.{digest, repeated}
 use Rattle.tw_base.specs.Levels.{top_level}
-use Rattle.tw_base.proofs.FormatLaws.{AllWords, all_words-done, all_words-then}
-use Rattle.tw_base.proofs.FieldLaws.{length-bytes, length-repeated}
 use Rattle.tw_base.proofs.Levels.{divides-less, divides-next, top_level-divides, top_level-greatest, top_level-zero}
 use Rattle.tw_skipproof.specs.declared.path.Link.{Link}
-use Rattle.tw_skipproof.specs.Layouts.{labels, link_layout, links_layout, path_layout}
-use Rattle.tw_skipproof.specs.Paths.{HasShape, greedy_steps, hop, hop_level}
+use Rattle.tw_skipproof.specs.Paths.{HasShape, hop, hop_level}
 use Rattle.tw_skipproof.proofs.Hops.{hop_level-le, hop_level-short}
 use Rattle.tw_skipproof.proofs.Greedy.{below_power, hop-divides, hop_level-greatest}
-use Rattle.tw_skipproof.proofs.SpellingLaws.{path-shape}
 
 -- ---- the digests of a path
 
@@ -37,7 +30,7 @@ triangle-le m (suc n) l =
     ]
 
 -- each link has a datum and its labels
-abbrev weight : List Link → ℕ
+abbrev pub weight : List Link → ℕ
 weight [] = 0
 weight (link ∷ links) = suc (length link.others) + weight links
 
@@ -145,42 +138,3 @@ pub few_digests : (links : List Link) (from to : ℕ) → from < 2 ^ 40 → HasS
 few_digests links from to small shape =
     let few = long_weight links from to 0 40 (omega (arith, small)) shape (mod-one from) small (omega arith) in
     omega (arith, few, triangle-forty)
-
--- ---- their bytes
-
-pub length-labels : (count : ℕ) → AllWords (labels count) (λ word ls. length word ≡ 32 * count)
-unfolding repeated
-length-labels zero = all_words-done [] _ refl
-length-labels (suc count) =
-    all_words-then digest _ _ (λ one label spelled.
-    all_words-then (repeated count digest) _ _ (λ other ls rest.
-    let first : length one ≡ 32 = length-bytes 32 one label spelled in
-    let more : length other ≡ 32 * count = length-labels count other ls rest in
-    all_words-done (label ∷ ls) _ (let both : length (one ++ (other ++ [])) ≡ 32 * suc count = omega (arith, length-append one (other ++ []), length-append other [], first, more) in both)))
-
-length-link : (step : ℕ) → AllWords (link_layout step) (λ word link. length word ≡ 32 * suc (length link.others))
-unfolding link_layout
-length-link step =
-    all_words-then digest _ _ (λ one datum spelled.
-    all_words-then (labels (top_level step)) _ _ (λ other others rest.
-    let first : length one ≡ 32 = length-bytes 32 one datum spelled in
-    let more : length other ≡ 32 * top_level step = length-labels (top_level step) other others rest in
-    let count : length others ≡ top_level step = length-repeated (top_level step) digest other others rest in
-    all_words-done (record { datum = datum; others = others }) _
-    (let both : length (one ++ (other ++ [])) ≡ 32 * suc (length others) = omega (arith, length-append one (other ++ []), length-append other [], first, more, count) in both)))
-
-length-links : (steps : List ℕ) → AllWords (links_layout steps) (λ word links. length word ≡ 32 * weight links)
-unfolding links_layout
-length-links [] = all_words-done [] _ refl
-length-links (step ∷ steps) =
-    all_words-then (link_layout step) _ _ (λ one link spelled.
-    all_words-then (links_layout steps) _ _ (λ other links rest.
-    let first : length one ≡ 32 * suc (length link.others) = length-link step one link spelled in
-    let more : length other ≡ 32 * weight links = length-links steps other links rest in
-    all_words-done (link ∷ links) _ (let both : length (one ++ (other ++ [])) ≡ 32 * weight (link ∷ links) = omega (arith, length-append one (other ++ []), length-append other [], first, more) in both)))
-
--- a path has few bytes
-pub path-size : (from to : ℕ) (word : List ℕ) (links : List Link) → from < 2 ^ 40 → Spells (path_layout from to) word links → length word < 53761
-path-size from to word links small s =
-    let few = few_digests links from to small (path-shape from to word links s) in
-    omega (arith, few, length-links (greedy_steps from to) word links s)

@@ -1,51 +1,32 @@
--- Proofs that one event exists: their bytes and the texts that checking them hashes.
-use Rattle.std.specs.Prelude.{ℕ, ◌-◌, ◌<◌, ◌≤◌, ◌^◌, List, [], ◌∷◌, length}
+-- Proofs that one event exists: which of them have a spelling.
+use Rattle.std.specs.Prelude.{◌≡◌, ℕ, ◌<◌, ◌≤◌, List, length}
 use Rattle.tw_base.specs.declared.limits.TheConstants.{LAST_STEP, MOST_EVENTS, MOST_EVENT_BYTES}
-use Rattle.tw_base.specs.Formats.{Format, then_by}
-use Rattle.tw_base.specs.Formats.Format.{Done}
-use Rattle.tw_base.specs.Fields.{bytes, name, number, text}
 use Rattle.tw_base.specs.AuditPath.{path_length}
-use Rattle.tw_skipproof.specs.declared.existence.EventPart.{EventPart}
+use Rattle.tw_base.specs.Formats.{Format}
+use Rattle.tw_base.specs.Levels.{top_level}
 use Rattle.tw_skipproof.specs.declared.existence.ExistenceProof.{ExistenceProof}
-use Rattle.tw_skipproof.specs.Layouts.{labels, opening_from, path_layout}
+use Rattle.tw_skipproof.specs.Codecs.{existence_codec}
+use Rattle.tw_skipproof.specs.Paths.{HasShape}
 
--- a step from 1 on
-abbrev pub pos : Format ℕ
-pos = number 8 1 LAST_STEP
+abbrev pub existence_layout : Format ExistenceProof
+existence_layout = existence_codec.format
 
--- an event under an opening with this count of events: its index, its bytes behind their number, and its audit path
-unfoldable pub event_layout : (count : ℕ) → Format EventPart
-event_layout count =
-    then_by (number 4 0 (count - 1)) (λ index.
-    then_by (number 4 0 MOST_EVENT_BYTES) (λ size.
-    then_by (bytes size) (λ event.
-    then_by (labels (path_length count index)) (λ path.
-    Done (record { index = index; event = event; path = path })))))
+abbrev pub existence_bytes : ExistenceProof → List ℕ
+existence_bytes = existence_codec.write
 
--- the four bytes TWP1 and the kind 1
-abbrev pub existence_magic : List ℕ
-existence_magic = 0x54 ∷ 0x57 ∷ 0x50 ∷ 0x31 ∷ 1 ∷ []
-
--- the whole proof: magic, service, step, top, the path from top to step, the opening of the step with an event or more,
--- and the event
-unfoldable pub existence_layout : Format ExistenceProof
-existence_layout =
-    then_by (text existence_magic) (λ magic.
-    then_by name (λ service.
-    then_by pos (λ step.
-    then_by pos (λ top.
-    then_by (path_layout top step) (λ links.
-    then_by (opening_from 1 step) (λ opening.
-    then_by (event_layout opening.count) (λ event.
-    Done (record {
-      at = record { service = service; step = step; top = top; path = record { links = links }; opening = opening };
-      event = event;
-    }))))))))
-
--- the ranges that the layout gives the numbers and the event
+-- the ranges that the format gives the numbers and the event
 pub record IsExistenceInRange (p : ExistenceProof) : Type 0 where
   pub step : p.at.step ≤ LAST_STEP
   pub top : p.at.top ≤ LAST_STEP
   pub count : p.at.opening.count ≤ MOST_EVENTS
   pub index : p.event.index < p.at.opening.count
   pub event : length p.event.event ≤ MOST_EVENT_BYTES
+
+-- the path, the opening and the event of a proof have the links and the numbers of labels that its steps, its count of
+-- events and its index give them
+pub record IsShaped (p : ExistenceProof) : Type 0 where
+  pub step : 0 < p.at.step
+  pub top : 0 < p.at.top
+  pub path : HasShape p.at.path.links p.at.top p.at.step
+  pub opening : length p.at.opening.others ≡ top_level p.at.step
+  pub event : length p.event.path ≡ path_length p.at.opening.count p.event.index

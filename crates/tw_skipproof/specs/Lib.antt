@@ -1,8 +1,8 @@
 pub mod Openings
 pub mod Paths
-pub mod Layouts
+pub mod Codecs
 pub mod Existence
-pub mod Reading
-pub mod Writing
+pub mod Spelling
 pub mod HistoryProofs
 pub mod Acceptance
+pub mod Pieces

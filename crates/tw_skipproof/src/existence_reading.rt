@@ -1,88 +1,57 @@
 // Reading existence proofs.
+#![tactic(auto, unfolding(crate::specs::Codecs::event_codec, crate::specs::Codecs::existence_body, crate::specs::Codecs::existence_codec, tw_base::specs::Codecs::behind, tw_base::specs::Codecs::pair, tw_base::specs::Codecs::seen))]
 
-ghost use Rattle.std.specs.Prelude.{◌≡◌, ℕ, ◌+◌, ◌-◌, ◌*◌, ◌^◌, ◌<◌, ◌≤◌, length, IfOk};
-ghost use Rattle.tw_base.specs.declared.limits.TheConstants.{LAST_STEP, MOST_EVENTS, MOST_EVENT_BYTES};
-ghost use Rattle.tw_base.specs.Formats.{GivesIfMemory, GivesWithEnd, ReadsAs, read_at};
-ghost use Rattle.tw_skipproof.specs.Existence.{IsExistenceInRange, event_layout, existence_layout, pos};
-ghost use Rattle.tw_skipproof.specs.Reading.{event_at as event_at_of, existence_at as existence_at_of};
-ghost use Rattle.tw_skipproof.specs.Writing.{IsShaped};
+ghost use Rattle.std.specs.Prelude.{◌≡◌, ◌≤◌, length, IfOk};
+ghost use Rattle.tw_base.specs.declared.limits.TheConstants.{LAST_STEP, MOST_EVENTS};
+ghost use Rattle.tw_base.specs.Formats.{ReadsAs};
+ghost use Rattle.tw_base.specs.Taking.{Takes};
+ghost use Rattle.tw_skipproof.specs.Codecs.{event_codec, existence_body, existence_codec};
+ghost use Rattle.tw_skipproof.specs.Existence.{IsExistenceInRange, IsShaped, existence_layout};
 
 use crate::existence::{EventPart, ExistenceProof, Part};
-use crate::reading::{opening_at, path_at};
+use crate::reading::{take_opening, take_path};
 use std::alloc::Global;
 use tw_base::limits::{LAST_STEP, MOST_EVENT_BYTES};
 use tw_base::{
-    ReadFault, malformed, path_length, read_bytes, read_labels, read_name, read_number, read_text,
-    top_level, whole,
+    ReadFault, path_length, take_labels, take_name, take_number, take_sized, take_text, whole_to,
 };
 
 /// How an existence proof begins: the four bytes `TWP1` and the kind 1.
 pub(crate) const MAGIC: [u8; 5] = [0x54, 0x57, 0x50, 0x31, 1];
 
-/// A step from 1 on at a place.
-fn pos_at(bytes: &[u8], at: u64) -> Result<u64, ReadFault>
-    requires { at ≤ length bytes.now }
-    ensures read { GivesIfMemory (λ n. n) result (at + 8) (read_at pos bytes.now at) }
-    ensures within { IfOk result (λ _. at + 8 ≤ length bytes.now) }
-    ensures range { IfOk result (λ n. (1 ≤ n) × (n ≤ LAST_STEP)) }
-{
-    let step = malformed(read_number(bytes, at, 8, 1, LAST_STEP))?;
-    Ok(step)
-}
-
-/// The fields of the event under an opening with this count of events at a place, and the place
-/// after them.
-#[tactic(auto, unfolding(crate::specs::Reading::event_at))]
-fn event_fields(
+/// Takes the event under an opening with this count of events.
+pub(crate) fn take_event(
     alloc: Global,
     bytes: &[u8],
-    at: u64,
+    at: &mut u64,
     count: u32,
-) -> Result<(EventPart, u64), ReadFault>
-    requires within { at ≤ length bytes.now }
+) -> Result<EventPart, ReadFault>
+    requires within { at.old ≤ length bytes.now }
     requires some { 1 ≤ count }
     requires few { count ≤ MOST_EVENTS }
-    ensures read { GivesWithEnd (λ e. e) result (event_at_of count bytes.now at) }
-    ensures within { IfOk result (λ r. r.1 ≤ length bytes.now) }
-    ensures index { IfOk result (λ r. r.0.index < count) }
-    ensures size { IfOk result (λ r. length r.0.event ≤ MOST_EVENT_BYTES) }
+    ensures { Takes (event_codec count) (λ e. e) bytes.now at.old at.new result }
 {
-    let index = malformed(read_number(bytes, at, 4, 0, count as u64 - 1))? as u32;
-    let size = malformed(read_number(bytes, at + 4, 4, 0, MOST_EVENT_BYTES))?;
-    let event = read_bytes(alloc, bytes, at + 8, size)?;
-    let labels = path_length(count, index) as u64;
-    let path = read_labels(alloc, bytes, at + 8 + size, labels)?;
-    let part = EventPart { index, event, path };
-    Ok((part, at + 8 + size + 32 * labels))
+    let index = take_number(bytes, at, 4, 0, count as u64 - 1)? as u32;
+    let event = take_sized(alloc, bytes, at, 4, 0, MOST_EVENT_BYTES)?;
+    let path = take_labels(alloc, bytes, at, path_length(count, index) as u64)?;
+    Ok(EventPart { index, event, path })
 }
 
-/// The event under an opening with this count of events at a place, and the place after it.
-fn event_at(alloc: Global, bytes: &[u8], at: u64, count: u32) -> Result<(EventPart, u64), ReadFault>
-    requires within { at ≤ length bytes.now }
-    requires some { 1 ≤ count }
-    requires few { count ≤ MOST_EVENTS }
-    ensures read { GivesWithEnd (λ e. e) result (read_at (event_layout count) bytes.now at) }
-    ensures within { IfOk result (λ r. r.1 ≤ length bytes.now) }
-    ensures index { IfOk result (λ r. r.0.index < count) }
-    ensures size { IfOk result (λ r. length r.0.event ≤ MOST_EVENT_BYTES) }
+/// Takes an existence proof behind its kind.
+pub fn take_existence_body(
+    alloc: Global,
+    bytes: &[u8],
+    at: &mut u64,
+) -> Result<ExistenceProof, ReadFault>
+    requires { at.old ≤ length bytes.now }
+    ensures { Takes existence_body (λ p. p) bytes.now at.old at.new result }
 {
-    event_fields(alloc, bytes, at, count)
-}
-
-/// The existence proof at the front of the bytes, and the place after it.
-#[tactic(auto, unfolding(crate::specs::Reading::existence_at))]
-fn existence_at(alloc: Global, bytes: &[u8]) -> Result<(ExistenceProof, u64), ReadFault>
-    ensures read { GivesWithEnd (λ p. p) result (existence_at_of bytes.now 0) }
-    ensures limits { IfOk result (λ r. IsExistenceInRange r.0) }
-{
-    malformed(read_text(bytes, 0, &MAGIC))?;
-    let service = malformed(read_name(bytes, 5))?;
-    let step = pos_at(bytes, 21)?;
-    let top = pos_at(bytes, 29)?;
-    let (path, after_path) = path_at(alloc, bytes, 37, top, step)?;
-    let opening = opening_at(alloc, bytes, after_path, 1, step)?;
-    let after_opening = after_path + 100 + 32 * top_level(step) as u64;
-    let (event, after) = event_at(alloc, bytes, after_opening, opening.count)?;
+    let service = take_name(bytes, at)?;
+    let step = take_number(bytes, at, 8, 1, LAST_STEP)?;
+    let top = take_number(bytes, at, 8, 1, LAST_STEP)?;
+    let path = take_path(alloc, bytes, at, top, step)?;
+    let opening = take_opening(alloc, bytes, at, 1, step)?;
+    let event = take_event(alloc, bytes, at, opening.count)?;
     let at = Part {
         service,
         step,
@@ -90,16 +59,29 @@ fn existence_at(alloc: Global, bytes: &[u8]) -> Result<(ExistenceProof, u64), Re
         path,
         opening,
     };
-    Ok((ExistenceProof { at, event }, after))
+    Ok(ExistenceProof { at, event })
+}
+
+/// Takes an existence proof.
+#[tactic(auto, unfolding(crate::specs::Codecs::existence_codec, tw_base::specs::Codecs::behind))]
+fn take_existence(alloc: Global, bytes: &[u8], at: &mut u64) -> Result<ExistenceProof, ReadFault>
+    requires { at.old ≤ length bytes.now }
+    ensures { Takes existence_codec (λ p. p) bytes.now at.old at.new result }
+{
+    take_text(bytes, at, &MAGIC)?;
+    take_existence_body(alloc, bytes, at)
 }
 
 /// The existence proof that the bytes spell, from first to last. Malformed exactly where they spell
 /// none, with the place of the first byte at which no existence proof goes on. Takes no more memory
 /// than the proof's labels and event.
+#[tactic(auto)]
 pub fn read_existence(alloc: Global, bytes: &[u8]) -> Result<ExistenceProof, ReadFault>
     ensures read { ReadsAs (λ p. p) existence_layout bytes.now result }
     ensures limits { IfOk result IsExistenceInRange }
     ensures shape { IfOk result IsShaped }
 {
-    whole(bytes, existence_at(alloc, bytes))
+    let mut at = 0;
+    let read = take_existence(alloc, bytes, &mut at);
+    whole_to(bytes, at, read)
 }

@@ -3,7 +3,8 @@
 ghost use Rattle.std.specs.Prelude.{◌≡◌, ℕ, ◌^◌, ◌<◌, ◌≤◌, List, length};
 ghost use Rattle.tw_base.specs.declared.limits.TheConstants.{LAST_STEP};
 ghost use Rattle.tw_base.specs.Auth.{auth};
-ghost use Rattle.tw_base.specs.Formats.{OneSpelling, Spells, WrittenAs};
+ghost use Rattle.tw_base.specs.Codecs.{IsUnambiguous};
+ghost use Rattle.tw_base.specs.Formats.{Spells, WrittenAs};
 ghost use Rattle.tw_base.specs.History.{History};
 ghost use Rattle.tw_base.specs.Sound.{IsSound};
 ghost use Rattle.tw_base.specs.Levels.{top_level};
@@ -11,12 +12,11 @@ ghost use Rattle.tw_skipproof.specs.declared.existence.ExistenceProof.{Existence
 ghost use Rattle.tw_skipproof.specs.declared.opening.Opening.{Opening};
 ghost use Rattle.tw_skipproof.specs.declared.path.Link.{Link};
 ghost use Rattle.tw_skipproof.specs.Acceptance.{IsAcceptedUnder};
-ghost use Rattle.tw_skipproof.specs.Existence.{IsExistenceInRange, existence_layout};
-ghost use Rattle.tw_skipproof.specs.Layouts.{opening_layout, path_layout};
+ghost use Rattle.tw_skipproof.specs.Codecs.{existence_codec, opening_bytes, opening_codec, path_bytes, path_codec};
+ghost use Rattle.tw_skipproof.specs.Existence.{IsExistenceInRange, IsShaped, existence_bytes, existence_layout};
 ghost use Rattle.tw_skipproof.specs.HistoryProofs.{IsExistenceOf, IsOpeningOf, IsPathOf};
 ghost use Rattle.tw_skipproof.specs.Openings.{IsOpeningAt, opening_auth};
 ghost use Rattle.tw_skipproof.specs.Paths.{HasShape, climbed};
-ghost use Rattle.tw_skipproof.specs.Writing.{IsShaped, existence_bytes, opening_bytes, path_bytes};
 
 use tw_base::Hasher;
 
@@ -24,12 +24,12 @@ use tw_base::Hasher;
 /// and numbers of labels that climbing and checking ask for. A path has at most 53,760 bytes,
 /// and an existence proof at most 56,497.
 pub fn spelling_laws()
-    ensures opening { (step : ℕ) → WrittenAs (opening_layout step) opening_bytes × OneSpelling (opening_layout step) }
-    ensures opening_labels { (step : ℕ) (bytes : List ℕ) (o : Opening) → Spells (opening_layout step) bytes o → length o.others ≡ top_level step }
-    ensures path { (from to : ℕ) → WrittenAs (path_layout from to) path_bytes × OneSpelling (path_layout from to) }
-    ensures path_shape { (from to : ℕ) (bytes : List ℕ) (links : List Link) → Spells (path_layout from to) bytes links → HasShape links from to }
-    ensures path_size { (from to : ℕ) (bytes : List ℕ) (links : List Link) → from ≤ LAST_STEP → Spells (path_layout from to) bytes links → length bytes < 53761 }
-    ensures existence { WrittenAs existence_layout existence_bytes × OneSpelling existence_layout }
+    ensures opening { (step : ℕ) → IsUnambiguous (opening_codec 0 step) × WrittenAs (opening_codec 0 step).format opening_bytes }
+    ensures opening_labels { (step : ℕ) (bytes : List ℕ) (o : Opening) → Spells (opening_codec 0 step).format bytes o → length o.others ≡ top_level step }
+    ensures path { (from to : ℕ) → IsUnambiguous (path_codec from to) × WrittenAs (path_codec from to).format path_bytes }
+    ensures path_shape { (from to : ℕ) (bytes : List ℕ) (links : List Link) → Spells (path_codec from to).format bytes links → HasShape links from to }
+    ensures path_size { (from to : ℕ) (bytes : List ℕ) (links : List Link) → from ≤ LAST_STEP → Spells (path_codec from to).format bytes links → length bytes < 53761 }
+    ensures existence { IsUnambiguous existence_codec }
     ensures existence_size { (bytes : List ℕ) (p : ExistenceProof) → Spells existence_layout bytes p → length bytes ≤ 56497 }
     ensures existence_shape { (bytes : List ℕ) (p : ExistenceProof) → Spells existence_layout bytes p → IsShaped p × IsExistenceInRange p }
 {}

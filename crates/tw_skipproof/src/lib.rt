@@ -9,18 +9,22 @@ mod laws;
 mod least;
 mod opening;
 mod path;
+mod piece_reading;
 mod reading;
+mod so_far;
 mod writing;
 
 pub use climbing::climb;
 pub use existence::{EventPart, ExistenceProof, Part};
-pub use existence_reading::read_existence;
+pub use existence_reading::{read_existence, take_existence_body};
 pub use hop::next_hop;
 pub use laws::{making_laws, spelling_laws};
 pub use least::{LEAST_AUTHENTICATOR, LEAST_EXISTENCE};
 pub use opening::{Opening, check_opening};
 pub use path::{Link, LinkList, Path};
+pub use piece_reading::read_existence_pieces;
 pub use reading::{read_opening, read_path};
+pub use so_far::{ExistenceSoFar, Middle};
 pub use writing::{write_existence, write_opening, write_path};
 
 #[cfg(test)]

@@ -65,3 +65,16 @@ fn a_path(rt: HostRuntime) -> Result<(), Fail> {
     assert_eq!(rt; climb::<Sha>(&path, 3, 1, &bottom), None);
     Ok(())
 }
+
+#[test]
+fn a_proof_in_pieces(rt: HostRuntime) -> Result<(), Fail> {
+    let (one, rest) = LEAST_EXISTENCE.split_at(3);
+    let (two, three) = rest.split_at(60);
+    let proof = read_existence_pieces(rt.alloc(), &[one, two, &[], three])?;
+    assert_eq!(rt; proof.at.step, 1);
+    let cut = read_existence_pieces(rt.alloc(), &[one, two]);
+    assert_eq!(rt; place_of(cut), Some(63));
+    let broken = read_existence_pieces(rt.alloc(), &[one, &[0x32], three]);
+    assert_eq!(rt; place_of(broken), Some(3));
+    Ok(())
+}

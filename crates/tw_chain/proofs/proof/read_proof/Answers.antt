@@ -1,8 +1,10 @@
-use Rattle.tw_chain.proofs.ProofLayout.{from_existence, reads_as}
+use Rattle.tw_base.proofs.TakeLaws.{if_read, takes-whole}
+use Rattle.tw_chain.specs.Proofs.{IsInRange, proof_codec}
+use Rattle.tw_chain.proofs.ProofCodec.{proof-lawful, proof-range}
 use Rattle.tw_chain.proofs.proof.read_proof.Goals as goal
 
-pub returns-in-Ok-clause-read : goal.returns-in-Ok-clause-read
-returns-in-Ok-clause-read c = from_existence c.args.bytes.now c.in-Ok.proof c.in-Ok.ensures.read
+pub returns-clause-read : goal.returns-clause-read
+returns-clause-read c = takes-whole proof_codec proof-lawful (λ p. p) c.args.bytes.now _ _ _ c.take_proof-read.ensures c.whole_to.ensures
 
-pub returns-in-Err-clause-read : goal.returns-in-Err-clause-read
-returns-in-Err-clause-read c = reads_as c.args.bytes.now c.in-Err.fault c.in-Err.ensures.read
+pub returns-clause-range : goal.returns-clause-range
+returns-clause-range c = if_read proof_codec proof-lawful (λ p. p) IsInRange c.args.bytes.now c.whole_to.result proof-range (returns-clause-read c)

@@ -1,5 +1,5 @@
 use Rattle.std.proofs.Common.{arith}
-use Rattle.tw_history.proofs.ReadingLaws.{judged_read}
+use Rattle.tw_history.proofs.Judging.{judged_read}
 use Rattle.tw_history.proofs.reading.read_history.Goals as goal
 
 pub returns-in-Ok : goal.returns-in-Ok

@@ -6,7 +6,7 @@ use Rattle.tw_base.specs.Lists.{Each}
 use Rattle.tw_skipproof.specs.declared.existence.ExistenceProof.{ExistenceProof}
 use Rattle.tw_skipproof.specs.Existence.{IsExistenceInRange, existence_layout}
 use Rattle.tw_skipproof.specs.HistoryProofs.{MakesExistence}
-use Rattle.tw_skipproof.specs.Writing.{IsShaped}
+use Rattle.tw_skipproof.specs.Existence.{IsShaped}
 use Rattle.tw_history.proofs.Existences.{IsShaped-made, IsExistenceInRange-few}
 use Rattle.tw_history.proofs.showing.written.Goals as goal
 

@@ -1,13 +1,14 @@
-use Rattle.std.proofs.Common.{arith, length, map, ap, sym, ◌∙◌, ◌+◌}
-use Rattle.tw_base.specs.Texts.{joined}
-use Rattle.tw_base.specs.HistoryFile.{event_bytes}
+use Rattle.std.proofs.Common.{arith, length, ap, sum_by, sym, ◌∙◌, ◌+◌}
+use Rattle.std.proofs.lemmas.List.Concat.{length-flat_map}
+use Rattle.tw_base.specs.HistoryCodec.{event_codec}
 use Rattle.tw_history.proofs.ByteCounts.{events-size, thread-size}
 use Rattle.tw_history.proofs.sizes.content_size.Goals as goal
 
 pub returns-in-Events-clause-size : goal.returns-in-Events-clause-size
 returns-in-Events-clause-size c =
     rw c.in-Events.is
-    (ap (λ n. 5 + n) (c.events_size.ensures.size ∙ ap (λ es. length (joined (map event_bytes es))) c.as_slice.ensures) ∙ sym (events-size c.in-Events.events))
+    (ap (λ n. 5 + n) (c.events_size.ensures.size ∙ ap (sum_by (λ event. length (event_codec.write event))) c.as_slice.ensures ∙ sym (length-flat_map event_codec.write c.in-Events.events))
+    ∙ sym (events-size c.in-Events.events))
 
 pub returns-in-Received-clause-size : goal.returns-in-Received-clause-size
 returns-in-Received-clause-size c =

@@ -1,18 +1,18 @@
-use Rattle.std.proofs.Common.{subst}
-use Rattle.tw_base.specs.declared.limits.TheConstants.{MOST_EVENT_BYTES}
-use Rattle.tw_base.specs.Fields.{sized_bytes}
-use Rattle.tw_base.specs.HistoryFile.{event_bytes}
-use Rattle.tw_history.specs.WritingSteps.{AllSpelled}
-use Rattle.tw_history.proofs.WritingLaws.{events_spelled, thread_spelled}
+use Rattle.std.proofs.Common.{List, ℕ, subst}
+use Rattle.tw_base.specs.Codecs.{bytes_codec, name_codec}
+use Rattle.tw_base.specs.HistoryCodec.{event_codec}
+use Rattle.tw_base.specs.Lists.{Each}
+use Rattle.tw_history.proofs.FileFits.{events-fit, thread-fits}
 use Rattle.tw_history.proofs.writing.put_content.Goals as goal
 
-pub returns-in_ok-put_events-in-Events-clause-spelled : goal.returns-in_ok-put_events-in-Events-clause-spelled
-returns-in_ok-put_events-in-Events-clause-spelled c =
+pub returns-in_ok-put_events-in-Events-clause-fits : goal.returns-in_ok-put_events-in-Events-clause-fits
+returns-in_ok-put_events-in-Events-clause-fits c =
     let range = rw c.in-Events.is at c.requires in
-    rw c.in-Events.is (events_spelled c.in-Events.events range.0
-    (subst (AllSpelled (sized_bytes 4 0 MOST_EVENT_BYTES) event_bytes) c.as_slice.ensures c.in_ok-put_events-in-Events.ensures.spelled))
+    let P : List (List ℕ) → Type 0 = Each event_codec.Fits in
+    rw c.in-Events.is (events-fit c.in-Events.events range.0 (subst P c.as_slice.ensures c.in_ok-put_events-in-Events.ensures.fits))
 
-pub returns-in_ok-put_digest-in-Received-clause-spelled : goal.returns-in_ok-put_digest-in-Received-clause-spelled
-returns-in_ok-put_digest-in-Received-clause-spelled c =
+pub returns-in_ok-put_digest-in-Received-clause-fits : goal.returns-in_ok-put_digest-in-Received-clause-fits
+unfolding name_codec bytes_codec
+returns-in_ok-put_digest-in-Received-clause-fits c =
     let range = rw c.in-Received.is at c.requires in
-    rw c.in-Received.is (thread_spelled c.in-Received.thread range.0 range.1 c.in_ok-put_name-in-Received.ensures.spelled c.in_ok-put_digest-in-Received.ensures.spelled)
+    rw c.in-Received.is (thread-fits c.in-Received.thread range.0 range.1 c.in_ok-put_name-in-Received.ensures.puts.1 c.in_ok-put_digest-in-Received.ensures.puts.1)

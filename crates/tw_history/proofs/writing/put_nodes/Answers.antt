@@ -1,19 +1,25 @@
-use Rattle.std.proofs.Common.{arith, refl}
-use Rattle.std.proofs.lemmas.Grind.{common_steps}
-use Rattle.tw_base.specs.HistoryFile.{node_bytes}
-use Rattle.tw_base.specs.HistoryLayout.{node_layout}
+use Rattle.std.proofs.Common.{◌++◌, ap, sym, ◌∙◌}
+use Rattle.std.proofs.lemmas.List.{get_or_default}
+use Rattle.std.proofs.lemmas.List.Folds.{flat_map-map}
+use Rattle.tw_base.specs.HistoryCodec.{node_codec}
+use Rattle.tw_base.proofs.PutLaws.{put-all, put-more, put-none}
+use Rattle.tw_history.specs.declared.step.Node.{Node}
 use Rattle.tw_history.specs.Tables.{node_of}
-use Rattle.tw_history.proofs.WritingLaws.{all_spelled-map_end, all_spelled-map_from}
+use Rattle.tw_history.proofs.WritingLaws.{Each-seen}
 use Rattle.tw_history.proofs.writing.put_nodes.Goals as goal
 
-pub loop-node-preserved : goal.loop-node-preserved
-loop-node-preserved c = record {
-  written = grind (arith, common_steps, c.loop-node.invariant.written);
-  spelled = λ rest. c.loop-node.invariant.spelled
-      (all_spelled-map_from node_layout node_bytes node_of c.args.nodes.now c.loop-node.node-index _ _
-      c.loop-node-test.true refl c.in_ok-put_node.ensures.spelled rest);
-}
+pub loop-node-init : goal.loop-node-init
+loop-node-init c = put-none (λ (n : Node). node_codec.write (node_of n)) (λ n. node_codec.Fits (node_of n)) c.args.into.now c.args.nodes.now
 
-pub returns-clause-spelled : goal.returns-clause-spelled
-returns-clause-spelled c =
-    c.loop-node.invariant.spelled (all_spelled-map_end node_layout node_bytes node_of c.args.nodes.now c.loop-node.node-index c.loop-node-test.false)
+pub loop-node-preserved : goal.loop-node-preserved
+loop-node-preserved c =
+    put-more (λ (n : Node). node_codec.write (node_of n)) (λ n. node_codec.Fits (node_of n)) c.args.into.now c.loop-node.into _ c.args.nodes.now c.loop-node.node-index _ c.loop-node-test.true (get_or_default c.args.nodes.now c.loop-node.node-index _ _ c.loop-node-test.true)
+    c.loop-node.invariant c.in_ok-put_node.ensures.ok c.in_ok-put_node.ensures.fits
+
+pub returns : goal.returns
+returns c =
+    let all = put-all (λ (n : Node). node_codec.write (node_of n)) (λ n. node_codec.Fits (node_of n)) c.args.into.now c.loop-node.into c.args.nodes.now c.loop-node.node-index c.loop-node-test.false c.loop-node.invariant in
+    record {
+      ok = all.0 ∙ ap (λ w. c.args.into.now ++ w) (sym (flat_map-map node_codec.write node_of c.args.nodes.now));
+      fits = Each-seen node_codec.Fits node_of c.args.nodes.now all.1;
+    }

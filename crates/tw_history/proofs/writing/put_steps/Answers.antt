@@ -1,18 +1,17 @@
-use Rattle.tw_history.proofs.WritingLaws.{steps_further, steps_spelled_end}
+use Rattle.tw_history.proofs.WritingLaws.{steps_end, steps_further}
 use Rattle.tw_history.proofs.writing.put_steps.Goals as goal
 
 pub loop-step-preserved : goal.loop-step-preserved
 loop-step-preserved c =
     let further =
     steps_further c.args.steps.now c.loop-step.rest.now c.split_at.result.0.now c.split_at.result.1.now c.loop-step.step-index c.step-item.result
-    c.loop-step-test.true c.step-item.is c.split_at.ensures.front c.split_at.ensures.back c.in_ok-put_step.ensures.spelled in
+    c.loop-step-test.true c.step-item.is c.split_at.ensures.front c.split_at.ensures.back c.in_ok-put_step.ensures.fits in
     record {
       written = further.written c.loop-step.into c.put_step.new.into _ c.in_ok-put_step.ensures.ok c.loop-step.invariant.written;
-      spelled = λ rest. c.loop-step.invariant.spelled (further.spelled rest);
+      fits = λ rest. c.loop-step.invariant.fits (further.fits rest);
       counted = further.counted c.loop-step.invariant.counted;
       entries = further.entries c.loop-step.invariant.entries;
     }
 
-pub returns-clause-spelled : goal.returns-clause-spelled
-returns-clause-spelled c =
-    c.loop-step.invariant.spelled (steps_spelled_end c.args.steps.now c.loop-step.rest.now c.loop-step.step-index c.loop-step-test.false)
+pub returns-clause-fits : goal.returns-clause-fits
+returns-clause-fits c = c.loop-step.invariant.fits (steps_end c.args.steps.now c.loop-step.rest.now c.loop-step.step-index c.loop-step-test.false)

@@ -1,7 +1,7 @@
 use Rattle.std.proofs.Common.{ap, arith, length, subst}
 use Rattle.tw_base.specs.Formats.{Spells}
 use Rattle.tw_skipproof.specs.Existence.{IsExistenceInRange, existence_layout}
-use Rattle.tw_skipproof.specs.Writing.{IsShaped}
+use Rattle.tw_skipproof.specs.Existence.{IsShaped}
 use Rattle.tw_skipproof.specs.declared.existence.ExistenceProof.{ExistenceProof}
 use Rattle.tw_service.proofs.Answering.{if_ok}
 use Rattle.tw_service.proofs.EventLimits.{event_short}

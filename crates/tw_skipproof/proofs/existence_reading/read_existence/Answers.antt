@@ -1,14 +1,15 @@
-use Rattle.tw_base.proofs.FormatLaws.{reads_whole}
-use Rattle.tw_skipproof.specs.Existence.{existence_layout}
-use Rattle.tw_skipproof.proofs.LayoutLaws.{goes_on-existence}
-use Rattle.tw_skipproof.proofs.ReadingLaws.{existence_given}
-use Rattle.tw_skipproof.proofs.SpellingLaws.{existence-read}
+use Rattle.tw_base.proofs.TakeLaws.{if_read, takes-whole}
+use Rattle.tw_skipproof.specs.Codecs.{existence_codec}
+use Rattle.tw_skipproof.specs.Existence.{IsExistenceInRange, IsShaped}
+use Rattle.tw_skipproof.proofs.LawfulCodecs.{existence-lawful}
+use Rattle.tw_skipproof.proofs.Shapes.{existence-shape}
 use Rattle.tw_skipproof.proofs.existence_reading.read_existence.Goals as goal
 
 pub returns-clause-read : goal.returns-clause-read
-returns-clause-read c =
-    reads_whole existence_layout goes_on-existence (λ p. p) c.args.bytes.now c.existence_at.result c.whole.result
-    (existence_given c.args.bytes.now c.existence_at.result c.existence_at.ensures.read) c.whole.ensures
+returns-clause-read c = takes-whole existence_codec existence-lawful (λ p. p) c.args.bytes.now _ _ _ c.take_existence-read.ensures c.whole_to.ensures
+
+pub returns-clause-limits : goal.returns-clause-limits
+returns-clause-limits c = if_read existence_codec existence-lawful (λ p. p) IsExistenceInRange c.args.bytes.now c.whole_to.result (λ p f. (existence-shape p f).1) (returns-clause-read c)
 
 pub returns-clause-shape : goal.returns-clause-shape
-returns-clause-shape c = existence-read c.args.bytes.now c.whole.result (returns-clause-read c)
+returns-clause-shape c = if_read existence_codec existence-lawful (λ p. p) IsShaped c.args.bytes.now c.whole_to.result (λ p f. (existence-shape p f).0) (returns-clause-read c)

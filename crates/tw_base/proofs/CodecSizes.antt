@@ -1,0 +1,97 @@
+-- How many bytes the words of a codec have at most.
+use Rattle.std.proofs.Common.{◌≡◌, ℕ, ◌+◌, ◌-◌, ◌*◌, ◌≤◌, List, [], ◌∷◌, length, flat_map, replicate, ap, arith}
+use Rattle.std.specs.Prelude.{Bool, true, false}
+use Rattle.std.proofs.lemmas.List.{length-append, length-replicate}
+use Rattle.std.proofs.Math.Nat.{mul-le-mul_right, suc-mul}
+use Rattle.tw_base.specs.Codecs.{Codec, HasBytes, before, behind, by_kind, bytes_codec, cased, choose, counted, labels_codec, many, name_codec, number_codec, padded, pair, seen, sized_codec}
+use Rattle.tw_base.specs.Fields.{number_bytes}
+use Rattle.tw_base.specs.Formats.{Spells}
+use Rattle.tw_base.specs.Lists.{Each}
+use Rattle.tw_base.specs.Texts.{joined}
+use Rattle.tw_base.proofs.CodecLaws.{Lawful, lawful-padded}
+use Rattle.tw_base.proofs.Naming.{IsName-size}
+use Rattle.tw_base.proofs.NumberLaws.{length-number_bytes}
+
+abbrev pub AtMost : {X : Type 0} → Codec X → ℕ → Type 0
+AtMost {X = X} c n = (x : X) → c.Fits x → length (c.write x) ≤ n
+
+pub at_most-number : (width least most : ℕ) → AtMost (number_codec width least most) width
+unfolding number_codec
+at_most-number width least most n f = omega (arith, length-number_bytes width n)
+
+pub at_most-bytes : (n : ℕ) → AtMost (bytes_codec n) n
+unfolding bytes_codec
+at_most-bytes n x f = omega (arith, f.0)
+
+pub at_most-name : AtMost name_codec 16
+unfolding name_codec
+at_most-name x f = omega (arith, IsName-size x f)
+
+pub at_most-sized : (width least most : ℕ) → AtMost (sized_codec width least most) (width + most)
+unfolding sized_codec
+at_most-sized width least most x f = omega (arith, f.0.1, length-number_bytes width (length x), length-append (number_bytes width (length x)) x)
+
+pub length-joined : (ls : List (List ℕ)) → Each (HasBytes 32) ls → length (joined ls) ≡ 32 * length ls
+length-joined [] each = omega arith
+length-joined (l ∷ ls) each = omega (arith, length-append l (joined ls), each.0.0, length-joined ls each.1)
+
+pub at_most-labels : (n most : ℕ) → n ≤ most → AtMost (labels_codec n) (32 * most)
+unfolding labels_codec
+at_most-labels n most l ls f = omega (arith, f.0, length-joined ls f.1)
+
+module _ {X Y : Type 0} where
+  pub at_most-pair : (c : Codec X) (next : X → Codec Y) (m n : ℕ) → AtMost c m → ((x : X) → c.Fits x → AtMost (next x) n) → AtMost (pair c next) (m + n)
+  unfolding pair
+  at_most-pair c next m n l h p f = omega (arith, l p.0 f.0, h p.0 f.0 p.1 f.1, length-append (c.write p.0) ((next p.0).write p.1))
+
+  pub at_most-seen : (to : X → Y) (from : Y → X) (c : Codec X) (n : ℕ) → AtMost c n → AtMost (seen to from c) n
+  unfolding seen
+  at_most-seen to from c n l y f = l (from y) f
+
+  pub at_most-cased : (to : X → Y) (from : Y → X) (c : Codec X) (n : ℕ) → AtMost c n → AtMost (cased to from c) n
+  unfolding cased
+  at_most-cased to from c n l y f = l (from y) f.1
+
+  pub at_most-by_kind : (kind_of : Y → X) (c : Codec X) (next : X → Codec Y) (m n : ℕ) → AtMost c m → ((x : X) → c.Fits x → AtMost (next x) n) → AtMost (by_kind kind_of c next) (m + n)
+  unfolding by_kind
+  at_most-by_kind kind_of c next m n l h y f =
+      omega (arith, l (kind_of y) f.0, h (kind_of y) f.0 y f.1, length-append (c.write (kind_of y)) ((next (kind_of y)).write y))
+
+module _ {X : Type 0} where
+  pub at_most-behind : (magic : List ℕ) (c : Codec X) (n : ℕ) → AtMost c n → AtMost (behind magic c) (length magic + n)
+  unfolding behind
+  at_most-behind magic c n l x f = omega (arith, l x f, length-append magic (c.write x))
+
+  pub at_most-before : (last : List ℕ) (c : Codec X) (n : ℕ) → AtMost c n → AtMost (before last c) (n + length last)
+  unfolding before
+  at_most-before last c n l x f = omega (arith, l x f, length-append (c.write x) last)
+
+  pub at_most-choose : (b : Bool) (one other : Codec X) (n : ℕ) → AtMost one n → AtMost other n → AtMost (choose b one other) n
+  at_most-choose true one other n l m = l
+  at_most-choose false one other n l m = m
+
+  many-length : (c : Codec X) (n : ℕ) → AtMost c n → (xs : List X) → Each c.Fits xs → length (flat_map c.write xs) ≤ length xs * n
+  many-length c n l [] each = omega arith
+  many-length c n l (x ∷ xs) each =
+      let rest = many-length c n l xs each.1 in
+      omega (arith, l x each.0, rest, length-append (c.write x) (flat_map c.write xs), suc-mul (length xs) n)
+
+  pub at_most-many : (count most : ℕ) (c : Codec X) (n : ℕ) → count ≤ most → AtMost c n → AtMost (many count c) (most * n)
+  unfolding many
+  at_most-many count most c n few l xs f = omega (arith, many-length c n l xs f.1, mul-le-mul_right n (let l : length xs ≤ most = omega (arith, f.0) in l))
+
+  pub at_most-counted : (width least most : ℕ) (c : Codec X) (n : ℕ) → AtMost c n → AtMost (counted width least most c) (width + most * n)
+  unfolding counted number_codec
+  at_most-counted width least most c n l =
+      at_most-by_kind length (number_codec width least most) (λ k. many k c) width (most * n) (at_most-number width least most) (λ k f. at_most-many k most c n f.1 l)
+
+  -- so of the words
+  pub word-size : (c : Codec X) → Lawful c → (n : ℕ) → AtMost c n → (word : List ℕ) (x : X) → Spells c.format word x → length word ≤ n
+  word-size c l n most word x s = let is = l.words word x s in omega (arith, ap length is.0, most x is.1)
+
+  -- each word of a page has the page's size
+  pub page-size : (size : ℕ) (c : Codec X) → Lawful c → AtMost c size → (word : List ℕ) (x : X) → Spells (padded size c).format word x → length word ≡ size
+  unfolding padded
+  page-size size c l most word x s =
+      let is = (lawful-padded size c l).words word x s in
+      omega (arith, ap length is.0, most x is.1, length-append (c.write x) (replicate (size - length (c.write x)) 0), length-replicate {A = ℕ} (size - length (c.write x)) 0)

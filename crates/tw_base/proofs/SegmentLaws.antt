@@ -1,0 +1,146 @@
+-- What a reader of one codec finds in the bytes that are held of a segment, and chains of fields as chains of segments.
+use Rattle.std.proofs.Common.{◌≡◌, ℕ, suc, zero, ◌-◌, ◌*◌, ◌<◌, ◌≤◌, List, [], ◌∷◌, ◌++◌, length, replicate, take, drop, ap, sym, ◌∙◌, subst, append_assoc, arith, lit<, refl, inl, inr}
+use Rattle.std.specs.Prelude.{Result, Ok, Err}
+use Rattle.std.proofs.lemmas.List.{append-nil, length-append, length-drop, length-replicate, length-take-le, take-append-drop, take_all, take_at}
+use Rattle.std.proofs.lemmas.Bool.{cases_lt}
+use Rattle.tw_base.specs.declared.failure.NoMemory.{NoMemory as WantOfMemory}
+use Rattle.tw_base.specs.declared.failure.ReadFault.{ReadFault}
+use Rattle.tw_base.specs.declared.failure.ReadFault.TheVariants.{Malformed, NoMemory}
+use Rattle.tw_base.specs.declared.resuming.Attempt.{Attempt}
+use Rattle.tw_base.specs.Bytes.{AreBytes}
+use Rattle.tw_base.specs.Lists.{Each}
+use Rattle.tw_base.specs.Texts.{joined}
+use Rattle.tw_base.specs.Codecs.{Codec, HasBytes, each_format, pair}
+use Rattle.tw_base.specs.Formats.{Format, GoesOn, IsFront, IsPlace, Spells, SpellsNothing, read_at, then_by, ◌>>=◌}
+use Rattle.tw_base.specs.Formats.Format.{Done, Byte}
+use Rattle.tw_base.specs.Resuming.{Attempts, Misses, StandsBehind, StaysFront}
+use Rattle.tw_base.specs.Taking.{Takes}
+use Rattle.tw_base.proofs.CodecLaws.{Lawful, goes-then}
+use Rattle.tw_base.proofs.ByteLemmas.{AreBytes-append, AreBytes-drop, AreBytes-take}
+use Rattle.tw_base.proofs.FormatLaws.{read_at-spells, read_at-then, some_word, spells_then, then_spells, whole-stops}
+use Rattle.tw_base.proofs.PieceLaws.{behind-first}
+
+module _ {X Z : Type 0} (c : Codec X) (l : Lawful c) (next : X → Format Z) where
+  pub segment-ended : ((x : X) → c.Fits x → 0 < length (c.write x)) → (held : List ℕ) (after : ℕ) (x : X) → c.read held 0 ≡ Ok (record { value = x; after = after })
+      → (0 < after) × (after ≤ length held) × StandsBehind (then_by c.format next) (take after held) (next x)
+  segment-ended some held after x e =
+      let is = read_at-spells c.format held 0 after x (l.reads held 0 ∙ e) in
+      let same : held ≡ is.0 ++ is.1 = is.2 in
+      let end : length is.0 ≡ after = omega (arith, is.3) in
+      let word : is.0 ≡ take after held = sym (take_at is.0 is.1 after end) ∙ ap (take after) (sym same) in
+      let written = l.words is.0 x is.4 in
+      let P : List ℕ → Type 0 = λ w. StandsBehind (then_by c.format next) w (next x) in (
+        omega (arith, end, ap length written.0, some x written.1),
+        omega (arith, end, ap length same, length-append is.0 is.1),
+        subst P word (behind-first c.format next is.0 x is.4),
+      )
+
+  module _ (goes : (x : X) → c.Fits x → GoesOn (next x)) (held : List ℕ) (place : ℕ) (e : c.read held 0 ≡ Err place) where
+    stops : SpellsNothing (then_by c.format next) held × IsPlace (then_by c.format next) held place
+    stops =
+        whole-stops (then_by c.format next) (goes-then c.format next l.goes (λ word x s. goes x (l.words word x s).1)) held place
+        (read_at-then c.format next held 0 ∙ ap (λ r. r >>= (λ x. read_at (next x.value) held x.after)) (l.reads held 0 ∙ e))
+
+    pub segment-broken : place < length held → (place < length held) × IsPlace (then_by c.format next) held place
+    segment-broken less = (less, stops.1)
+
+    pub segment-front : length held ≤ place → StaysFront (then_by c.format next) held 0
+    segment-front all more bytes none =
+        let P : List ℕ → Type 0 = IsFront (then_by c.format next) in
+        let Q : List ℕ → Type 0 = λ w. IsFront (then_by c.format next) w × (0 < length w → SpellsNothing (then_by c.format next) w) in
+        let nothing_more : more ≡ [] = nil more none in
+        subst Q (sym (ap (λ w. held ++ w) nothing_more ∙ append-nil held)) (subst P (take_all place held all) stops.1.good, λ some. stops.0)
+      where
+        nil : (xs : List ℕ) → (0 < length xs → length (held ++ xs) < 0) → xs ≡ []
+        nil [] h = refl
+        nil (x ∷ xs) h = let no = h (omega arith) in absurd (omega (arith, no))
+
+-- no word is empty
+module _ {X Z : Type 0} (c : Codec X) (l : Lawful c) (next : X → Format Z) where
+  pub segment-nothing : ((x : X) → c.Fits x → 0 < length (c.write x)) → SpellsNothing (then_by c.format next) []
+  segment-nothing some z s =
+      let parts = then_spells c.format next [] z s in
+      let written = l.words parts.0 parts.2 parts.4 in
+      absurd (omega (arith, some parts.2 written.1, ap length written.0, ap length parts.3, length-append parts.0 parts.1))
+
+-- a reader of the segment at hand failed
+module _ {S X Y Z : Type 0} (rest : S → Format Z) (c : Codec X) (l : Lawful c) (next : X → Format Z) (goes : (x : X) → c.Fits x → GoesOn (next x)) (view : Y → X) where
+  pub attempts-missed : (s : S) (held : List ℕ) (after : ℕ) (fault : ReadFault) (result : Result (Attempt S) WantOfMemory) → rest s ≡ then_by c.format next
+      → Takes c view held 0 after (Err fault) → Misses s held fault result → Attempts rest s held result
+  attempts-missed s held after NoMemory result is e misses = let P : Result (Attempt S) WantOfMemory → Type 0 = Attempts rest s held in subst P (sym misses.1) tt
+  attempts-missed s held after (Malformed place) result is e misses =
+      let P : Result (Attempt S) WantOfMemory → Type 0 = Attempts rest s held in
+      let Q : Format Z → Type 0 = λ f. (place < length held) × IsPlace f held place in
+      let R : Format Z → Type 0 = λ f. StaysFront f held 0 in
+      elim (cases_lt place (length held)) [
+        | inl less ↦ subst P (sym (misses.0 less)) (subst Q (sym is) (segment-broken c l next goes held place e less))
+        | inr all ↦ subst P (sym (misses.1 all)) (refl, subst R (sym is) (segment-front c l next goes held place e all))
+      ]
+
+-- ---- segments of so many bytes, whatever they are
+
+pub record TakesAny {X : Type 0} (f : Format X) (n : ℕ) : Type 0 where
+  pub any : (word : List ℕ) → AreBytes word → length word ≡ n → (x : X) × Spells f word x
+  pub size : (word : List ℕ) (x : X) → Spells f word x → length word ≡ n
+
+AreBytes-zeros : (n : ℕ) → AreBytes (replicate n 0)
+AreBytes-zeros zero = tt
+AreBytes-zeros (suc n) = (lit< tt, AreBytes-zeros n)
+
+module _ {X Z : Type 0} (f : Format X) (next : X → Format Z) (n : ℕ) (t : TakesAny f n) (goes : (x : X) → GoesOn (next x)) where
+  joined_front : (word zeros more : List ℕ) (z : Z) → Spells (then_by f next) ((word ++ zeros) ++ more) z → IsFront (then_by f next) word
+  joined_front word zeros more z s = let P : List ℕ → Type 0 = λ w. Spells (then_by f next) w z in (zeros ++ more, z, subst P (append_assoc word zeros more) s)
+
+  any-front : (word : List ℕ) → AreBytes word → length word ≤ n → IsFront (then_by f next) word
+  any-front word are few =
+      let zeros : List ℕ = replicate (n - length word) 0 in
+      let full = t.any (word ++ zeros) (AreBytes-append word zeros are (AreBytes-zeros (n - length word))) (omega (arith, few, length-append word zeros, length-replicate {A = ℕ} (n - length word) 0)) in
+      let last = some_word (next full.0) (goes full.0) in
+      joined_front word zeros last.0 last.1 (spells_then f next (word ++ zeros) last.0 full.0 last.1 full.1 last.2)
+
+  any-nothing : (word : List ℕ) → length word < n → SpellsNothing (then_by f next) word
+  any-nothing word few z s =
+      let parts = then_spells f next word z s in
+      absurd (omega (arith, few, t.size parts.0 parts.2 parts.4, ap length parts.3, length-append parts.0 parts.1))
+
+  -- until they are so many, they are a front, and no word
+  pub any-stays : (held : List ℕ) → AreBytes held → length held < n → StaysFront (then_by f next) held n
+  any-stays held are few more bytes short =
+      let all : length (held ++ more) < n =
+      elim (cases_lt 0 (length more)) [ inl some ↦ short some | inr none ↦ omega (arith, few, none, length-append held more) ] in
+      (any-front (held ++ more) (AreBytes-append held more are bytes) (omega (arith, all)), λ some. any-nothing (held ++ more) all)
+
+-- ---- lists of digests
+
+-- any bytes of the size are so many labels
+pub labels-any : (n : ℕ) (bytes : List ℕ) → AreBytes bytes → length bytes ≡ 32 * n → (ls : List (List ℕ)) × (joined ls ≡ bytes) × (length ls ≡ n) × Each (HasBytes 32) ls
+labels-any zero [] are e = ([], refl, refl, tt)
+labels-any zero (b ∷ bytes) are e = absurd (omega (arith, e))
+labels-any (suc n) bytes are e =
+    let rest = labels-any n (drop 32 bytes) (AreBytes-drop 32 bytes are) (omega (arith, e, length-drop 32 bytes)) in (
+      take 32 bytes ∷ rest.0,
+      ap (λ w. take 32 bytes ++ w) rest.1 ∙ take-append-drop 32 bytes,
+      ap suc rest.2,
+      ((length-take-le 32 bytes (omega (arith, e)), AreBytes-take 32 bytes are), rest.3),
+    )
+
+-- ---- chains of fields
+
+module _ {X Y Z : Type 0} where
+  pub then_assoc : (f : Format X) (g : X → Format Y) (h : Y → Format Z) → then_by (then_by f g) h ≡ then_by f (λ x. then_by (g x) h)
+  then_assoc (Done x) g h = refl
+  then_assoc (Byte test more) g h = λ k. Byte test (λ b. then_assoc (more b) g h k)
+
+module _ {X Y Z : Type 0} where
+  pub then_pair : (c : Codec X) (next : X → Codec Y) (h : (X × Y) → Format Z) → then_by (pair c next).format h ≡ then_by c.format (λ x. then_by (next x).format (λ y. h (x, y)))
+  unfolding pair
+  then_pair c next h =
+      then_assoc c.format (λ x. then_by (next x).format (λ y. Done (x, y))) h
+      ∙ (λ k. then_by c.format (λ x. then_assoc (next x).format (λ y. Done (x, y)) h k))
+
+module _ {A X Z : Type 0} (write : X → List ℕ) (f : A → Codec X) where
+  pub then_each : (a : A) (rest : List A) (h : List X → Format Z)
+      → then_by (each_format write f (a ∷ rest)) h ≡ then_by (f a).format (λ x. then_by (each_format write f rest) (λ xs. h (x ∷ xs)))
+  then_each a rest h =
+      then_assoc (f a).format (λ x. then_by (each_format write f rest) (λ xs. Done (x ∷ xs))) h
+      ∙ (λ k. then_by (f a).format (λ x. then_assoc (each_format write f rest) (λ xs. Done (x ∷ xs)) h k))

@@ -1,0 +1,9 @@
+use Rattle.tw_base.specs.Codecs.{bytes_codec}
+use Rattle.tw_base.proofs.CodecLaws.{lawful-bytes}
+use Rattle.tw_base.proofs.TakeLaws.{took-fits}
+use Rattle.tw_base.proofs.taking.take_digest.Goals as goal
+
+pub returns-in-Ok : goal.returns-in-Ok
+unfolding bytes_codec
+returns-in-Ok c =
+    let fits = took-fits (bytes_codec 32) (lawful-bytes 32) c.args.bytes.now c.args.at.now _ _ c.requires c.in-Ok.ensures.read in (c.in-Ok.ensures.read, fits.0, fits.1)

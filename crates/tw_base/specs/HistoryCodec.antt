@@ -1,0 +1,65 @@
+-- The bytes of a history file.
+use Rattle.std.specs.Prelude.{ℕ, ◌-◌, ◌^◌, List, [], ◌∷◌, ◌==◌}
+use Rattle.tw_base.specs.declared.content.Content.{Content}
+use Rattle.tw_base.specs.declared.content.Content.TheVariants.{Events, Received}
+use Rattle.tw_base.specs.declared.limits.TheConstants.{LAST_STEP, MOST_EVENTS, MOST_EVENT_BYTES}
+use Rattle.tw_base.specs.declared.thread.Thread.{Thread}
+use Rattle.tw_base.specs.Codecs.{Codec, behind, by_kind, cased, choose, counted, digest_codec, name_codec, number_codec, pair, seen, sized_codec}
+use Rattle.tw_base.specs.Formats.{Format}
+use Rattle.tw_base.specs.History.{History, Node, Step}
+
+-- an event behind its length
+abbrev pub event_codec : Codec (List ℕ)
+event_codec = sized_codec 4 0 MOST_EVENT_BYTES
+
+-- a service, its step, and its authenticator there
+unfoldable pub thread_codec : Codec Thread
+thread_codec =
+    seen (λ t. record { from = t.0; step = t.1.0; auth = t.1.1 }) (λ t. (t.from, (t.step, t.auth)))
+    (pair name_codec (λ from. pair (number_codec 8 1 LAST_STEP) (λ step. digest_codec)))
+
+abbrev pub kind_of : Content → ℕ
+kind_of (Events events) = 1
+kind_of (Received t) = 2
+
+abbrev pub events_in : Content → List (List ℕ)
+events_in (Events events) = events
+events_in (Received t) = []
+
+abbrev pub thread_in : Content → Thread
+thread_in (Events events) = record { from = []; step = 0; auth = [] }
+thread_in (Received t) = t
+
+-- the kind: 1 for events, their number and each of them; 2 for a thread
+unfoldable pub content_codec : Codec Content
+content_codec =
+    by_kind kind_of (number_codec 1 1 2)
+    (λ kind. choose (kind == 1) (cased Events events_in (counted 4 0 MOST_EVENTS event_codec)) (cased Received thread_in thread_codec))
+
+unfoldable pub node_codec : Codec Node
+node_codec =
+    seen (λ t. record { left = t.0; entry = t.1.0; right = t.1.1 }) (λ n. (n.left, (n.entry, n.right)))
+    (pair (number_codec 4 0 (2 ^ 32 - 1)) (λ left. pair (number_codec 8 0 (2 ^ 64 - 1)) (λ entry. number_codec 4 0 (2 ^ 32 - 1))))
+
+-- the content, the number of new nodes and each of them, the root
+unfoldable pub step_codec : Codec Step
+step_codec =
+    seen (λ t. record { content = t.0; fresh = t.1.0; root = t.1.1 }) (λ s. (s.content, (s.fresh, s.root)))
+    (pair content_codec (λ content. pair (counted 2 0 65535 node_codec) (λ fresh. number_codec 4 0 (2 ^ 32 - 1))))
+
+-- the four bytes TWH1
+abbrev pub history_magic : List ℕ
+history_magic = 0x54 ∷ 0x57 ∷ 0x48 ∷ 0x31 ∷ []
+
+-- the magic, the name, the number of steps and each of them, from step 1 on
+unfoldable pub history_codec : Codec History
+history_codec =
+    seen (λ t. record { name = t.0; steps = t.1 }) (λ h. (h.name, h.steps))
+    (behind history_magic (pair name_codec (λ name. counted 8 0 LAST_STEP step_codec)))
+
+-- the layout, and the spelling of a history
+abbrev pub history_layout : Format History
+history_layout = history_codec.format
+
+abbrev pub history_bytes : History → List ℕ
+history_bytes = history_codec.write

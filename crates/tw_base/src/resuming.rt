@@ -1,0 +1,180 @@
+// Reading in pieces. A word comes in pieces, cut anywhere; its reader goes on segment by segment, and
+// holds the bytes of the segment at hand alone.
+
+ghost use Rattle.std.specs.Prelude.{◌≡◌, ℕ, ◌+◌, ◌<◌, ◌≤◌, ◌^◌, List, [], ◌++◌, length, drop, IfOk};
+ghost use Rattle.tw_base.specs.Formats.{Format, ReadsAs};
+ghost use Rattle.tw_base.specs.Resuming.{Attempts, EndsAs, all_of, Goes, IsSoFar, Misses, StandsBehind, StaysFront};
+
+use crate::failure::{NoMemory, ReadFault};
+use crate::sequence::Bytes;
+use std::alloc::Global;
+
+/// What was found in the bytes that are held of a segment.
+#[derive(Drop)]
+pub enum Attempt<S> {
+    /// The segment ended: what follows it, and the number of its bytes.
+    Ended { next: S, size: usize },
+    /// The bytes are a front of the segment, which can neither end nor break before it has `until`
+    /// bytes.
+    Front { same: S, until: usize },
+    /// At this place of the bytes no word goes on.
+    Broken { place: usize },
+}
+
+/// What was taken of a word so far, which says what may follow.
+pub trait Segments: Drop + Sized {
+    type Whole: Drop;
+
+    ghost rest: { Self → Format Self.Whole };
+
+    /// Looks at the bytes that are held of the segment at hand.
+    fn attempt(self, alloc: Global, held: &[u8]) -> Result<Attempt<Self>, NoMemory>
+        ensures { Attempts rest self held.now result };
+
+    /// The value, where nothing more follows.
+    fn whole(self) -> Option<Self::Whole>
+        ensures { EndsAs (rest self) result };
+}
+
+/// A word that came in pieces so far: what was taken of it, the bytes of the segment at hand, and how
+/// many were taken before.
+#[derive(Drop)]
+pub struct Resumed<S> {
+    pub(crate) state: S,
+    pub(crate) held: Bytes,
+    pub(crate) taken: u64,
+    pub(crate) until: usize,
+}
+
+impl<S: Segments> Resumed<S> {
+    /// No bytes yet.
+    pub fn begin(alloc: Global, state: S) -> Self
+        ensures { StaysFront (S.rest state) [] 0 → IsSoFar S.rest (S.rest state) result [] }
+    {
+        Resumed {
+            state,
+            held: Bytes::new(alloc),
+            taken: 0,
+            until: 0,
+        }
+    }
+
+    /// A piece more. Malformed exactly where the pieces so far are no front of a word, with the place
+    /// of the first byte at which none goes on. The bytes held of a segment are looked at again only
+    /// where it may end or break with the piece.
+    pub fn feed(self, alloc: Global, piece: &[u8]) -> Result<Self, ReadFault>
+        requires { self.taken + (length self.held + length piece.now) < 2 ^ 64 }
+        ensures { (whole : Format S.Whole) (pieces : List ℕ) → IsSoFar S.rest whole self pieces → Goes S.rest whole (pieces ++ piece.now) result }
+    {
+        let Resumed {
+            state,
+            mut held,
+            taken,
+            until,
+        } = self;
+        held.extend_from_slice(piece)?;
+        if held.len() < until {
+            return Ok(Resumed {
+                state,
+                held,
+                taken,
+                until,
+            });
+        }
+        settle(alloc, state, held, taken)
+    }
+
+    /// The value of the word, now that no piece more comes. Malformed where the pieces are no word.
+    pub fn finish(self) -> Result<S::Whole, ReadFault>
+        requires { self.taken + length self.held < 2 ^ 64 }
+        ensures { (whole : Format S.Whole) (pieces : List ℕ) → IsSoFar S.rest whole self pieces → ReadsAs (λ x. x) whole pieces result }
+    {
+        let place = self.taken + self.held.len() as u64;
+        if self.held.len() > 0 {
+            return Err(ReadFault::Malformed { place });
+        }
+        match self.state.whole() {
+            Some(value) => Ok(value),
+            None => Err(ReadFault::Malformed { place }),
+        }
+    }
+}
+
+/// The value that the pieces spell, one after another. Malformed exactly where they spell none, with
+/// the place of the first byte at which no word goes on; no piece behind it is looked at. So the
+/// answer is that of reading all the bytes at once, wherever they are cut.
+pub fn read_pieces<S: Segments>(
+    alloc: Global,
+    state: S,
+    pieces: &[&[u8]],
+) -> Result<S::Whole, ReadFault>
+    requires few { length (all_of pieces.now) < 2 ^ 64 }
+    requires starts { StaysFront (S.rest state) [] 0 }
+    ensures { ReadsAs (λ x. x) (S.rest state) (all_of pieces.now) result }
+{
+    let mut reader = Resumed::begin(alloc, state);
+    for piece in pieces {
+        reader = reader.feed(alloc, piece)?;
+    }
+    reader.finish()
+}
+
+/// What was found where reading the bytes that are held of a segment failed.
+pub fn missed<S: Drop>(same: S, held: &[u8], fault: ReadFault) -> Result<Attempt<S>, NoMemory>
+    ensures { Misses same held.now fault result }
+{
+    match fault {
+        ReadFault::NoMemory => Err(NoMemory),
+        ReadFault::Malformed { place } if place < held.len() as u64 => Ok(Attempt::Broken {
+            place: place as usize,
+        }),
+        ReadFault::Malformed { .. } => Ok(Attempt::Front { same, until: 0 }),
+    }
+}
+
+/// The bytes from a place on.
+fn from_place(alloc: Global, held: Bytes, at: usize) -> Result<Bytes, NoMemory>
+    requires { at ≤ length held }
+    ensures { IfOk result (λ rest. rest ≡ drop at held) }
+{
+    if at == 0 {
+        return Ok(held);
+    }
+    Bytes::from_slice(alloc, &held.as_slice()[at..])
+}
+
+/// Takes segment after segment of what is held.
+fn settle<S: Segments>(
+    alloc: Global,
+    state: S,
+    held: Bytes,
+    taken: u64,
+) -> Result<Resumed<S>, ReadFault>
+    requires { taken + length held < 2 ^ 64 }
+    ensures { (whole : Format S.Whole) (before : List ℕ) → taken ≡ length before → StandsBehind whole before (S.rest state) → Goes S.rest whole (before ++ held) result }
+{
+    let mut state = state;
+    let mut at = 0;
+    loop {
+        match state.attempt(alloc, &held.as_slice()[at..])? {
+            Attempt::Ended { next, size } => {
+                state = next;
+                at += size;
+            }
+            Attempt::Front { same, until } => {
+                let held = from_place(alloc, held, at)?;
+                return Ok(Resumed {
+                    state: same,
+                    held,
+                    taken: taken + at as u64,
+                    until,
+                });
+            }
+            Attempt::Broken { place } => {
+                return Err(ReadFault::Malformed {
+                    place: taken + (at + place) as u64,
+                });
+            }
+        }
+    }
+}

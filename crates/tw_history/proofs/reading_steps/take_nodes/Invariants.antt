@@ -1,0 +1,15 @@
+use Rattle.std.proofs.Common.{◌≡◌, ◌+◌, ◌-◌, ◌<◌, ◌≤◌, ◌^◌, ◌++◌, length, map}
+use Rattle.tw_base.specs.HistoryCodec.{node_codec}
+use Rattle.tw_base.specs.Lists.{Each}
+use Rattle.tw_base.proofs.TakeLaws.{ManyTaken}
+use Rattle.tw_history.specs.Tables.{added, node_of}
+use Rattle.tw_history.proofs.reading_steps.take_nodes.Given as goal
+
+abbrev pub invariant-loop-i : goal.invariant-loop-i
+invariant-loop-i l = record {
+  within : l.at ≤ length l.bytes;
+  taken : ManyTaken node_codec l.bytes l.fn.at l.count (l.count - l._i) (map node_of (added l.initial.nodes l.nodes)) l.at;
+  kept : l.nodes ≡ l.initial.nodes ++ added l.initial.nodes l.nodes;
+  count : length l.nodes ≡ length l.initial.nodes + l._i;
+  entries : Each (λ n. n.entry < 2 ^ 64) l.nodes;
+}

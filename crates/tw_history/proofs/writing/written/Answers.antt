@@ -1,0 +1,10 @@
+use Rattle.std.proofs.Common.{◌∙◌}
+use Rattle.tw_base.specs.HistoryCodec.{history_codec}
+use Rattle.tw_base.proofs.HistoryCodecLaws.{history-lawful}
+use Rattle.tw_base.proofs.PutLaws.{put-whole}
+use Rattle.tw_history.proofs.writing.written.Goals as goal
+
+pub returns-clause-spelled : goal.returns-clause-spelled
+returns-clause-spelled c =
+    (put-whole history_codec history-lawful c.args.history.now _ _ (c.from_vec-bytes.ensures ∙ c.in_ok-with_capacity.ensures.items)
+    (c.in_ok-put_history.ensures.ok, c.in_ok-put_history.ensures.fits)).1

@@ -1,0 +1,74 @@
+-- What fits the codecs has the links, labels and ranges that climbing and checking ask for, and few bytes.
+use Rattle.std.proofs.Common.{◌≡◌, ℕ, ◌-◌, ◌*◌, ◌<◌, ◌≤◌, ◌^◌, List, [], ◌∷◌, ◌++◌, length, flat_map, arith, inl, inr}
+use Rattle.std.proofs.lemmas.Bool.{cases_lt}
+use Rattle.std.proofs.lemmas.List.{length-append}
+use Rattle.tw_base.specs.declared.limits.TheConstants.{LAST_STEP, MOST_EVENTS}
+use Rattle.tw_base.specs.Codecs.{EachFits, behind, bytes_codec, each, labels_codec, number_codec, pair, seen, sized_codec}
+use Rattle.tw_base.specs.Texts.{joined}
+use Rattle.tw_base.proofs.AuditPaths.{path_length-le}
+use Rattle.tw_base.proofs.CodecSizes.{AtMost, at_most-behind, at_most-bytes, at_most-labels, at_most-name, at_most-number, at_most-pair, at_most-seen, at_most-sized, length-joined}
+use Rattle.tw_base.proofs.Levels.{top_level-below}
+use Rattle.tw_skipproof.specs.declared.path.Link.{Link}
+use Rattle.tw_skipproof.specs.declared.existence.ExistenceProof.{ExistenceProof}
+use Rattle.tw_skipproof.specs.Codecs.{event_codec, existence_body, existence_codec, link_bytes, link_codec, opening_codec, path_codec}
+use Rattle.tw_skipproof.specs.Existence.{IsExistenceInRange, IsShaped}
+use Rattle.tw_skipproof.specs.Paths.{HasShape, greedy_steps, hop}
+use Rattle.tw_skipproof.proofs.GreedySteps.{greedy_steps-more, greedy_steps-none}
+use Rattle.tw_skipproof.proofs.LawfulCodecs.{opening-few}
+use Rattle.tw_skipproof.proofs.PathSizes.{few_digests, weight}
+
+pub path-shape : (links : List Link) (from to : ℕ) → EachFits link_bytes link_codec (greedy_steps from to) links → HasShape links from to
+unfolding link_codec seen pair labels_codec
+path-shape [] from to fits =
+    elim (cases_lt to from) [ inr none ↦ none | inl more ↦ absurd (rw (greedy_steps-more from to more) at fits) ]
+path-shape (l ∷ links) from to fits =
+    elim (cases_lt to from) [
+      | inr none ↦ (let no : [] ≡ l ∷ links = rw (greedy_steps-none from to none) at fits in cc)
+      | inl more ↦ (let parts = rw (greedy_steps-more from to more) at fits in (more, parts.0.1.0, path-shape links (hop from to) to parts.1))
+    ]
+
+pub existence-shape : (p : ExistenceProof) → existence_codec.Fits p → IsShaped p × IsExistenceInRange p
+unfolding existence_codec existence_body opening_codec event_codec path_codec each behind pair seen number_codec sized_codec labels_codec
+existence-shape p fits =
+    let step = fits.1.0 in
+    let top = fits.1.1.0 in
+    let opening = fits.1.1.1.1.0 in
+    let event = fits.1.1.1.1.1 in (
+      record { step = step.0; top = top.0; path = path-shape p.at.path.links p.at.top p.at.step fits.1.1.1.0; opening = opening.1.1.1.1.0; event = event.1.1.0 },
+      record { step = step.1; top = top.1; count = opening.1.1.0.1; index = omega (arith, event.0.1, opening.1.1.0.0); event = event.1.0.0.1 },
+    )
+
+-- ---- sizes
+
+opening-most : (least step : ℕ) → step ≤ LAST_STEP → AtMost (opening_codec least step) 1348
+unfolding opening_codec
+opening-most least step l =
+    at_most-seen _ _ _ 1348 (at_most-pair _ _ 32 1316 (at_most-bytes 32) (λ _ _. at_most-pair _ _ 32 1284 (at_most-bytes 32) (λ _ _.
+    at_most-pair _ _ 4 1280 (at_most-number 4 least MOST_EVENTS) (λ _ _. at_most-pair _ _ 32 1248 (at_most-bytes 32) (λ _ _.
+    at_most-labels _ 39 (omega (arith, top_level-below step (omega (arith, l)))))))))
+
+event-most : (count : ℕ) → count ≤ MOST_EVENTS → AtMost (event_codec count) 1352
+unfolding event_codec number_codec
+event-most count few =
+    at_most-seen _ _ _ 1352 (at_most-pair _ _ 4 1348 (at_most-number 4 0 (count - 1)) (λ index f.
+    at_most-pair _ _ 1028 320 (at_most-sized 4 0 1024) (λ _ _. at_most-labels _ 10 (path_length-le 10 count index few))))
+
+links-weight : (steps : List ℕ) (links : List Link) → EachFits link_bytes link_codec steps links → length (flat_map link_bytes links) ≡ 32 * weight links
+unfolding link_bytes link_codec seen pair bytes_codec labels_codec
+links-weight [] [] fits = omega arith
+links-weight [] (l ∷ links) fits = cc
+links-weight (step ∷ steps) [] fits = absurd fits
+links-weight (step ∷ steps) (l ∷ links) fits =
+    omega (arith, length-append (l.datum ++ joined l.others) (flat_map link_bytes links), length-append l.datum (joined l.others), fits.0.0.0, length-joined l.others fits.0.1.1, links-weight steps links fits.1)
+
+pub path-most : (from to : ℕ) → from < 2 ^ 40 → AtMost (path_codec from to) 53760
+unfolding path_codec each
+path-most from to small links fits = omega (arith, links-weight (greedy_steps from to) links fits, few_digests links from to small (path-shape links from to fits))
+
+pub existence-most : AtMost existence_codec 56497
+unfolding existence_codec existence_body number_codec
+existence-most =
+    at_most-behind _ _ 56492 (at_most-seen _ _ _ 56492 (at_most-pair _ _ 16 56476 at_most-name (λ _ _.
+    at_most-pair _ _ 8 56468 (at_most-number 8 1 LAST_STEP) (λ step s. at_most-pair _ _ 8 56460 (at_most-number 8 1 LAST_STEP) (λ top t.
+    at_most-pair _ _ 53760 2700 (path-most top step (omega (arith, t.1))) (λ _ _.
+    at_most-pair _ _ 1348 1352 (opening-most 1 step s.1) (λ o f. event-most o.count (opening-few 1 step o f))))))))

@@ -1,0 +1,69 @@
+-- The bytes of openings, paths and existence proofs.
+use Rattle.std.specs.Prelude.{ℕ, ◌-◌, List, [], ◌∷◌}
+use Rattle.tw_base.specs.declared.limits.TheConstants.{LAST_STEP, MOST_EVENTS, MOST_EVENT_BYTES}
+use Rattle.tw_base.specs.AuditPath.{path_length}
+use Rattle.tw_base.specs.Codecs.{Codec, behind, digest_codec, each, labels_codec, name_codec, number_codec, pair, seen, sized_codec}
+use Rattle.tw_base.specs.Levels.{top_level}
+use Rattle.tw_skipproof.specs.declared.opening.Opening.{Opening}
+use Rattle.tw_skipproof.specs.declared.path.Link.{Link}
+use Rattle.tw_skipproof.specs.declared.existence.EventPart.{EventPart}
+use Rattle.tw_skipproof.specs.declared.existence.ExistenceProof.{ExistenceProof}
+use Rattle.tw_skipproof.specs.Paths.{greedy_steps}
+
+-- an opening of the step: two digests, a count of events of at least this and at most 1,024, a digest, and the labels of
+-- the levels from 1 on
+unfoldable pub opening_codec : (least step : ℕ) → Codec Opening
+opening_codec least step =
+    seen (λ t. record { event_root = t.0; archive_root = t.1.0; count = t.1.1.0; prev = t.1.1.1.0; others = t.1.1.1.1 })
+    (λ o. (o.event_root, (o.archive_root, (o.count, (o.prev, o.others)))))
+    (pair digest_codec (λ event_root. pair digest_codec (λ archive_root. pair (number_codec 4 least MOST_EVENTS) (λ count. pair digest_codec (λ prev. labels_codec (top_level step))))))
+
+-- its bytes, which are the same whatever the step
+unfoldable pub opening_bytes : Opening → List ℕ
+opening_bytes = (opening_codec 0 0).write
+
+-- the record of a link that leaves the step: its datum, and the labels of its other levels
+unfoldable pub link_codec : (step : ℕ) → Codec Link
+link_codec step = seen (λ t. record { datum = t.0; others = t.1 }) (λ l. (l.datum, l.others)) (pair digest_codec (λ datum. labels_codec (top_level step)))
+
+unfoldable pub link_bytes : Link → List ℕ
+link_bytes = (link_codec 0).write
+
+-- a path: one record for each link of the greedy path, from the upper step downwards
+unfoldable pub path_codec : (from to : ℕ) → Codec (List Link)
+path_codec from to = each link_bytes link_codec (greedy_steps from to)
+
+unfoldable pub path_bytes : List Link → List ℕ
+path_bytes = (path_codec 0 0).write
+
+-- a step from 1 on
+abbrev pub step_codec : Codec ℕ
+step_codec = number_codec 8 1 LAST_STEP
+
+-- an event under an opening with this count of events: its index, its bytes behind their number, and its audit path
+unfoldable pub event_codec : (count : ℕ) → Codec EventPart
+event_codec count =
+    seen (λ t. record { index = t.0; event = t.1.0; path = t.1.1 }) (λ e. (e.index, (e.event, e.path)))
+    (pair (number_codec 4 0 (count - 1)) (λ index. pair (sized_codec 4 0 MOST_EVENT_BYTES) (λ event. labels_codec (path_length count index))))
+
+-- a proof of kind 1 behind its kind: service, step, top, the path from top to step, the opening of the step with an event
+-- or more, and the event
+unfoldable pub existence_body : Codec ExistenceProof
+existence_body =
+    seen (λ t. record {
+      at = record { service = t.0; step = t.1.0; top = t.1.1.0; path = record { links = t.1.1.1.0 }; opening = t.1.1.1.1.0 };
+      event = t.1.1.1.1.1;
+    })
+    (λ p. (p.at.service, (p.at.step, (p.at.top, (p.at.path.links, (p.at.opening, p.event))))))
+    (pair name_codec (λ service. pair step_codec (λ step. pair step_codec (λ top. pair (path_codec top step) (λ links. pair (opening_codec 1 step) (λ opening. event_codec opening.count))))))
+
+-- the four bytes TWP1, with which each proof begins, and those with the kind 1
+abbrev pub proof_magic : List ℕ
+proof_magic = 0x54 ∷ 0x57 ∷ 0x50 ∷ 0x31 ∷ []
+
+abbrev pub existence_magic : List ℕ
+existence_magic = 0x54 ∷ 0x57 ∷ 0x50 ∷ 0x31 ∷ 1 ∷ []
+
+-- the whole proof: magic and kind, and the rest
+unfoldable pub existence_codec : Codec ExistenceProof
+existence_codec = behind existence_magic existence_body
