@@ -1,8 +1,9 @@
 -- The bytes of openings, paths and existence proofs.
-use Rattle.std.specs.Prelude.{ℕ, ◌-◌, List, [], ◌∷◌}
+use Rattle.std.specs.Prelude.{ℕ, ◌-◌, List, [], ◌∷◌, Option, is_some}
 use Rattle.tw_base.specs.declared.limits.TheConstants.{LAST_STEP, MOST_EVENTS, MOST_EVENT_BYTES}
 use Rattle.tw_base.specs.AuditPath.{path_length}
-use Rattle.tw_base.specs.Codecs.{Codec, behind, digest_codec, each, labels_codec, name_codec, number_codec, pair, seen, sized_codec}
+use Rattle.tw_base.specs.Codecs.{Codec, behind, by_kind, digest_codec, each, flag_codec, labels_codec, name_codec, number_codec, optional, pair, seen, sized_codec}
+use Rattle.tw_base.specs.HistoryCodec.{time_codec}
 use Rattle.tw_base.specs.Levels.{top_level}
 use Rattle.tw_skipproof.specs.declared.opening.Opening.{Opening}
 use Rattle.tw_skipproof.specs.declared.path.Link.{Link}
@@ -10,13 +11,17 @@ use Rattle.tw_skipproof.specs.declared.existence.EventPart.{EventPart}
 use Rattle.tw_skipproof.specs.declared.existence.ExistenceProof.{ExistenceProof}
 use Rattle.tw_skipproof.specs.Paths.{greedy_steps}
 
--- an opening of the step: two digests, a count of events of at least this and at most 1,024, a digest, and the labels of
--- the levels from 1 on
+-- the count word and the time: a number of four bytes whose highest bit says whether a time follows it, and whose other
+-- bits are a count of events of at least this and at most 1,024; and the time, where one follows
+unfoldable pub count_codec : (least : ℕ) → Codec (ℕ × Option ℕ)
+count_codec least = by_kind (λ c. is_some c.1) flag_codec (λ timed. pair (number_codec 3 least MOST_EVENTS) (λ count. optional timed time_codec))
+
+-- an opening of the step: two digests, the count word and the time, a digest, and the labels of the levels from 1 on
 unfoldable pub opening_codec : (least step : ℕ) → Codec Opening
 opening_codec least step =
-    seen (λ t. record { event_root = t.0; archive_root = t.1.0; count = t.1.1.0; prev = t.1.1.1.0; others = t.1.1.1.1 })
-    (λ o. (o.event_root, (o.archive_root, (o.count, (o.prev, o.others)))))
-    (pair digest_codec (λ event_root. pair digest_codec (λ archive_root. pair (number_codec 4 least MOST_EVENTS) (λ count. pair digest_codec (λ prev. labels_codec (top_level step))))))
+    seen (λ t. record { event_root = t.0; archive_root = t.1.0; count = t.1.1.0.0; time = t.1.1.0.1; prev = t.1.1.1.0; others = t.1.1.1.1 })
+    (λ o. (o.event_root, (o.archive_root, ((o.count, o.time), (o.prev, o.others)))))
+    (pair digest_codec (λ event_root. pair digest_codec (λ archive_root. pair (count_codec least) (λ count. pair digest_codec (λ prev. labels_codec (top_level step))))))
 
 -- its bytes, which are the same whatever the step
 unfoldable pub opening_bytes : Opening → List ℕ

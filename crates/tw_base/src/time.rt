@@ -1,0 +1,37 @@
+// Reading and writing the times that steps have or not.
+
+ghost use Rattle.std.specs.Prelude.{◌≡◌, ◌≤◌, [], ◌++◌, length, is_some, OnOk};
+ghost use Rattle.std.specs.Option.{option_map_or};
+ghost use Rattle.tw_base.specs.Codecs.{optional};
+ghost use Rattle.tw_base.specs.HistoryCodec.{time_codec};
+ghost use Rattle.tw_base.specs.Limits.{IsTimeWithinLimits};
+ghost use Rattle.tw_base.specs.Taking.{Puts, Takes};
+
+use crate::failure::{NoMemory, ReadFault};
+use crate::limits::LAST_TIME;
+use crate::sequence::Bytes;
+use crate::taking::take_number;
+use crate::writers::put_number;
+
+/// Takes a time in eight bytes, at most 2^40 - 1, where there is to be one.
+pub fn take_time(bytes: &[u8], at: &mut u64, timed: bool) -> Result<Option<u64>, ReadFault>
+    requires { at.old ≤ length bytes.now }
+    ensures { Takes (optional timed time_codec) (λ time. time) bytes.now at.old at.new result }
+{
+    if !timed {
+        return Ok(None);
+    }
+    let time = take_number(bytes, at, 8, 0, LAST_TIME)?;
+    Ok(Some(time))
+}
+
+/// Appends the time in eight bytes, where there is one.
+pub fn put_time(into: &mut Bytes, time: Option<u64>) -> Result<(), NoMemory>
+    ensures ok { OnOk result (into.new ≡ into.old ++ option_map_or time_codec.write time []) }
+    ensures puts { IsTimeWithinLimits time → Puts (optional (is_some time) time_codec) time into.old into.new result }
+{
+    match time {
+        None => Ok(()),
+        Some(time) => put_number(into, time, 8),
+    }
+}
