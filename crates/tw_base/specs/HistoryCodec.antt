@@ -41,11 +41,13 @@ kind_of None (Received t) = 2
 kind_of (Some time) (Events events) = 3
 kind_of (Some time) (Received t) = 4
 
--- the kind, the time where the kind has one, and the content
+-- what a step of this kind has: the time where the kind has one, and the content
+abbrev pub of_kind : (kind : ℕ) → Codec (Option ℕ × Content)
+of_kind kind = pair (optional (nat_le 3 kind) time_codec) (λ time. content_codec (kind == 1 || kind == 3))
+
+-- the kind, and what it has
 unfoldable pub recorded_codec : Codec (Option ℕ × Content)
-recorded_codec =
-    by_kind (λ r. kind_of r.0 r.1) (number_codec 1 1 4)
-    (λ kind. pair (optional (nat_le 3 kind) time_codec) (λ time. content_codec (kind == 1 || kind == 3)))
+recorded_codec = by_kind (λ r. kind_of r.0 r.1) (number_codec 1 1 4) of_kind
 
 unfoldable pub node_codec : Codec Node
 node_codec =

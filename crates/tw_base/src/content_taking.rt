@@ -1,8 +1,8 @@
 // Reading what a step records.
 #![tactic(auto, unfolding(crate::specs::Codecs::cased, crate::specs::Codecs::pair, crate::specs::Codecs::seen, crate::specs::HistoryCodec::content_codec, crate::specs::HistoryCodec::thread_codec))]
 
-ghost use Rattle.std.specs.Prelude.{◌≡◌, ◌≤◌, length};
-ghost use Rattle.tw_base.specs.HistoryCodec.{content_codec, recorded_codec, thread_codec};
+ghost use Rattle.std.specs.Prelude.{◌≡◌, ◌≤◌, ◌==◌, ◌||◌, length};
+ghost use Rattle.tw_base.specs.HistoryCodec.{content_codec, of_kind, recorded_codec, thread_codec};
 ghost use Rattle.tw_base.specs.Taking.{Takes};
 
 use crate::content::Content;
@@ -26,7 +26,7 @@ pub fn take_thread(bytes: &[u8], at: &mut u64) -> Result<Thread, ReadFault>
 }
 
 /// Takes what a step records: events, or the thread that it received.
-pub fn take_content(
+fn take_content(
     alloc: Global,
     bytes: &[u8],
     at: &mut u64,
@@ -43,6 +43,30 @@ pub fn take_content(
     Ok(Content::Received(thread))
 }
 
+/// Whether a step of this kind has events.
+#[tactic(auto)]
+fn is_kind_of_events(kind: u64) -> bool
+    ensures { result ≡ (kind == 1 || kind == 3) }
+{
+    kind == 1 || kind == 3
+}
+
+/// Takes what a step of this kind has.
+#[tactic(auto, unfolding(crate::specs::Codecs::pair))]
+fn take_of_kind(
+    alloc: Global,
+    bytes: &[u8],
+    at: &mut u64,
+    kind: u64,
+) -> Result<(Option<u64>, Content), ReadFault>
+    requires { at.old ≤ length bytes.now }
+    ensures { Takes (of_kind kind) (λ r. r) bytes.now at.old at.new result }
+{
+    let time = take_time(bytes, at, 3 <= kind)?;
+    let content = take_content(alloc, bytes, at, is_kind_of_events(kind))?;
+    Ok((time, content))
+}
+
 /// Takes the time of a step, if it has one, and what it records, behind its kind: 1 for events, 2
 /// for a thread, 3 and 4 for these with a time.
 #[tactic(auto)]
@@ -55,7 +79,5 @@ pub fn take_recorded(
     ensures { Takes recorded_codec (λ r. r) bytes.now at.old at.new result }
 {
     let kind = take_number(bytes, at, 1, 1, 4)?;
-    let time = take_time(bytes, at, kind >= 3)?;
-    let content = take_content(alloc, bytes, at, kind == 1 || kind == 3)?;
-    Ok((time, content))
+    take_of_kind(alloc, bytes, at, kind)
 }

@@ -4,7 +4,7 @@ ghost use Rattle.std.specs.Prelude.{◌≡◌, ℕ, ◌≤◌, ◌↔◌, List, 
 ghost use Rattle.tw_base.specs.Auth.{auth};
 ghost use Rattle.tw_base.specs.Clash.{Clash, Pair, Within, clash_pair};
 ghost use Rattle.tw_base.specs.Entries.{KeyBelow};
-ghost use Rattle.tw_base.specs.History.{History, Step, plus, received};
+ghost use Rattle.tw_base.specs.History.{History, Step, plus, received, times};
 ghost use Rattle.tw_base.specs.HistoryTexts.{history_texts, tree_texts};
 ghost use Rattle.tw_base.specs.Lists.{In};
 ghost use Rattle.tw_base.specs.Sound.{IsSound};
@@ -25,12 +25,13 @@ pub fn archive_laws<H: Hasher>()
     ensures first { (h : History) → tree h 0 ≡ Empty }
 {}
 
-/// One more step changes no tree and no authenticator of an earlier step, of any history, sound or
+/// One more step changes no tree, no time and no authenticator of an earlier step, of any history, sound or
 /// not.
 pub fn plus_laws<H: Hasher>()
     ensures trees { (h : History) (s : Step) (i : ℕ) → i ≤ length h.steps → tree (plus h s) i ≡ tree h i }
     ensures authenticators { (h : History) (s : Step) (i : ℕ) → i ≤ length h.steps → auth H.dig (plus h s) i ≡ auth H.dig h i }
     ensures received { (h : History) (s : Step) (i : ℕ) → i ≤ length h.steps → received (plus h s) i ≡ received h i }
+    ensures times { (h : History) (s : Step) (i : ℕ) → i ≤ length h.steps → times (plus h s) i ≡ times h i }
 {}
 
 /// The ordered pair of a list of texts is there exactly where two texts of the list clash, and is two

@@ -37,7 +37,7 @@ mod writers;
 pub use anchor::find_anchor;
 pub use byte_string::read_bytes;
 pub use content::Content;
-pub use content_taking::{take_content, take_recorded, take_thread};
+pub use content_taking::{take_recorded, take_thread};
 pub use digest::{Digest, is_same_digest};
 pub use ending::{front_to, whole, whole_to};
 pub use event_taking::{take_events, take_events_within};

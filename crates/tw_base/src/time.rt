@@ -2,7 +2,7 @@
 
 ghost use Rattle.std.specs.Prelude.{◌≡◌, ◌≤◌, [], ◌++◌, length, is_some, OnOk};
 ghost use Rattle.std.specs.Option.{option_map_or};
-ghost use Rattle.tw_base.specs.Codecs.{optional};
+ghost use Rattle.tw_base.specs.Codecs.{optional, present};
 ghost use Rattle.tw_base.specs.HistoryCodec.{time_codec};
 ghost use Rattle.tw_base.specs.Limits.{IsTimeWithinLimits};
 ghost use Rattle.tw_base.specs.Taking.{Puts, Takes};
@@ -13,19 +13,31 @@ use crate::sequence::Bytes;
 use crate::taking::take_number;
 use crate::writers::put_number;
 
-/// Takes a time in eight bytes, at most 2^40 - 1, where there is to be one.
-pub fn take_time(bytes: &[u8], at: &mut u64, timed: bool) -> Result<Option<u64>, ReadFault>
+/// Takes a time in eight bytes, at most 2^40 - 1.
+#[tactic(auto, unfolding(crate::specs::Codecs::present))]
+fn take_some_time(bytes: &[u8], at: &mut u64) -> Result<Option<u64>, ReadFault>
     requires { at.old ≤ length bytes.now }
-    ensures { Takes (optional timed time_codec) (λ time. time) bytes.now at.old at.new result }
+    ensures { Takes (present time_codec) (λ time. time) bytes.now at.old at.new result }
 {
-    if !timed {
-        return Ok(None);
-    }
     let time = take_number(bytes, at, 8, 0, LAST_TIME)?;
     Ok(Some(time))
 }
 
+/// Takes a time where there is to be one.
+#[tactic(auto, unfolding(crate::specs::Codecs::nothing))]
+pub fn take_time(bytes: &[u8], at: &mut u64, timed: bool) -> Result<Option<u64>, ReadFault>
+    requires { at.old ≤ length bytes.now }
+    ensures { Takes (optional timed time_codec) (λ time. time) bytes.now at.old at.new result }
+{
+    if timed {
+        take_some_time(bytes, at)
+    } else {
+        Ok(None)
+    }
+}
+
 /// Appends the time in eight bytes, where there is one.
+#[tactic(auto, unfolding(crate::specs::Codecs::nothing, crate::specs::Codecs::number_codec, crate::specs::Codecs::present))]
 pub fn put_time(into: &mut Bytes, time: Option<u64>) -> Result<(), NoMemory>
     ensures ok { OnOk result (into.new ≡ into.old ++ option_map_or time_codec.write time []) }
     ensures puts { IsTimeWithinLimits time → Puts (optional (is_some time) time_codec) time into.old into.new result }
