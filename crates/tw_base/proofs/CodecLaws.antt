@@ -4,7 +4,7 @@ use Rattle.std.specs.Prelude.{Result, Ok, Err, Option, Some, None, nat_le, nat_l
 use Rattle.std.proofs.lemmas.List.{append-nil}
 use Rattle.std.proofs.lemmas.Bool.{and_parts, eqb-true, leb-true, ltb-true, or_cases}
 use Rattle.tw_base.specs.Bytes.{AreBytes}
-use Rattle.tw_base.specs.Codecs.{Codec, EachFits, HasBytes, IsUnambiguous, before, behind, by_kind, bytes_codec, cased, choose, counted, each, each_format, flag_codec, labels_codec, many, name_codec, nothing, number_codec, optional, padded, pair, present, seen, sized_codec, text_codec}
+use Rattle.tw_base.specs.Codecs.{Codec, EachFits, HasBytes, IsUnambiguous, before, behind, by_kind, bytes_codec, cased, choose, counted, each, each_format, flag_codec, labels_codec, many, name_codec, nothing, number_codec, optional, padded, pair, present, seen, sized_codec, text_codec, written}
 use Rattle.tw_base.specs.Formats.{Format, GoesOn, Placed, Spells, read_at, then_by, ◌>>=◌}
 use Rattle.tw_base.specs.Formats.Format.{Done, Byte}
 use Rattle.tw_base.specs.Fields.{bytes, flag, number, repeated, sized_bytes, text}
@@ -249,6 +249,15 @@ module _ {X : Type 0} where
     reads = λ whole at. read_at-done x whole at;
     words = all_words-done x _ (refl, refl);
     spells = λ y f. f;
+  }
+
+  pub lawful-written : (write : X → List ℕ) (c : Codec X) → ((x : X) → c.Fits x → c.write x ≡ write x) → Lawful c → Lawful (written write c)
+  unfolding written
+  lawful-written write c same l = record {
+    goes = l.goes;
+    reads = l.reads;
+    words = λ word x s. (let is = l.words word x s in (is.0 ∙ same x is.1, is.1));
+    spells = λ x f. (let P : List ℕ → Type 0 = λ w. Spells c.format w x in subst P (same x f) (l.spells x f));
   }
 
   pub lawful-behind : (magic : List ℕ) (c : Codec X) → Lawful c → Lawful (behind magic c)

@@ -1,11 +1,11 @@
 -- The codec of history files is lawful.
 use Rattle.std.proofs.Common.{◌≡◌, ℕ, suc, zero, ◌+◌, refl, ap, sym, ◌∙◌, arith}
-use Rattle.std.specs.Prelude.{◌==◌, ◌||◌, nat_le, Bool, true, false, Option, Some, None}
+use Rattle.std.specs.Prelude.{Bool, true, false, Option, Some, None}
 use Rattle.tw_base.specs.declared.content.Content.{Content}
 use Rattle.tw_base.specs.declared.content.Content.TheVariants.{Events, Received}
 use Rattle.tw_base.specs.declared.limits.TheConstants.{MOST_EVENTS}
 use Rattle.tw_base.specs.Codecs.{cased, counted, nothing, number_codec, optional, pair, present}
-use Rattle.tw_base.specs.HistoryCodec.{content_codec, event_codec, events_in, history_codec, kind_of, node_codec, of_kind, recorded_codec, step_codec, thread_codec, thread_in, time_codec}
+use Rattle.tw_base.specs.HistoryCodec.{content_codec, event_codec, events_in, history_codec, is_of_events, is_timed, kind_of, node_codec, of_kind, recorded_codec, step_codec, thread_codec, thread_in, time_codec}
 use Rattle.tw_base.proofs.CodecLaws.{Lawful, lawful, lawful-by_kind, lawful-choose, lawful-optional, lawful-pair}
 
 pub thread-lawful : Lawful thread_codec
@@ -56,7 +56,7 @@ kinds (suc (suc (suc (suc (suc n))))) r fits is = absurd (omega (arith, fits.1))
 pub recorded-lawful : Lawful recorded_codec
 unfolding recorded_codec
 recorded-lawful = lawful-by_kind (λ r. kind_of r.0 r.1) (number_codec 1 1 4) of_kind (search lawful) (λ kind _.
-    lawful-pair (optional (nat_le 3 kind) time_codec) (λ time. content_codec (kind == 1 || kind == 3)) (lawful-optional time_codec (search lawful) (nat_le 3 kind)) (λ _ _. content-lawful (kind == 1 || kind == 3))) kinds
+    lawful-pair (optional (is_timed kind) time_codec) (λ time. content_codec (is_of_events kind)) (lawful-optional time_codec (search lawful) (is_timed kind)) (λ _ _. content-lawful (is_of_events kind))) kinds
 
 pub step-lawful : Lawful step_codec
 unfolding step_codec

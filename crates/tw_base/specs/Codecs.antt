@@ -138,6 +138,10 @@ module _ {X : Type 0} where
     read = λ whole at. Ok (record { value = x; after = at });
   }
 
+  -- with this spelling, which is the codec's own for each value that fits
+  unfoldable pub written : (X → List ℕ) → Codec X → Codec X
+  written write c = record { format = c.format; Fits = c.Fits; write = write; read = c.read }
+
   -- these bytes first
   unfoldable pub behind : List ℕ → Codec X → Codec X
   behind magic c = record {

@@ -29,7 +29,7 @@ HasThread dig family t = (h : History) × HasHistory family t.from h × (t.step 
 abbrev pub HasThreads : (List ℕ → List ℕ) → List History → List Thread → Type 0
 HasThreads dig family threads = Each (HasThread dig family) threads
 
--- the event stands at its place in the history of its service, and its step has this time, or none
+-- the event stands at its place in the history of its service, and its step has the time that is claimed, and none where none is
 pub record SeenStands (family : List History) (seen : Seen) : Type 0 where
   pub history : History
   pub has : HasHistory family seen.place.service history

@@ -41,9 +41,15 @@ kind_of None (Received t) = 2
 kind_of (Some time) (Events events) = 3
 kind_of (Some time) (Received t) = 4
 
+abbrev pub is_timed : (kind : ℕ) → Bool
+is_timed kind = nat_le 3 kind
+
+abbrev pub is_of_events : (kind : ℕ) → Bool
+is_of_events kind = kind == 1 || kind == 3
+
 -- what a step of this kind has: the time where the kind has one, and the content
 abbrev pub of_kind : (kind : ℕ) → Codec (Option ℕ × Content)
-of_kind kind = pair (optional (nat_le 3 kind) time_codec) (λ time. content_codec (kind == 1 || kind == 3))
+of_kind kind = pair (optional (is_timed kind) time_codec) (λ time. content_codec (is_of_events kind))
 
 -- the kind, and what it has
 unfoldable pub recorded_codec : Codec (Option ℕ × Content)

@@ -12,7 +12,7 @@ pub data Rule : Type 0 where
   IsOfAnother : Rule
   StepsRise : Rule
   EventsFit : Rule
-  TimesRise : Rule
+  TimesDontFall : Rule
 
 abbrev pub rule_number : Rule → ℕ
 rule_number NodesAreKnown = 1
@@ -21,7 +21,7 @@ rule_number HoldsAllThreads = 3
 rule_number IsOfAnother = 4
 rule_number StepsRise = 5
 rule_number EventsFit = 6
-rule_number TimesRise = 7
+rule_number TimesDontFall = 7
 
 -- new nodes, of which the first has this number, name nodes before them and steps up to this one that received a thread
 abbrev pub NodesFit : History → (step number : ℕ) → List Node → Type 0
@@ -44,4 +44,4 @@ KeepsRule h i s StepsRise = IfSome (thread_of (Some s)) (λ t. Each (λ e. e.thr
 -- the events have together at most 65,536 bytes
 KeepsRule h i s EventsFit = FitTogether (events_of (Some s))
 -- a time isn't below that of an earlier step
-KeepsRule h i s TimesRise = IfSome s.time (λ time. Each (λ earlier. earlier ≤ time) (times h i))
+KeepsRule h i s TimesDontFall = IfSome s.time (λ time. Each (λ earlier. earlier ≤ time) (times h i))

@@ -1,7 +1,8 @@
 // Reading what a step records.
 #![tactic(auto, unfolding(crate::specs::Codecs::cased, crate::specs::Codecs::pair, crate::specs::Codecs::seen, crate::specs::HistoryCodec::content_codec, crate::specs::HistoryCodec::thread_codec))]
 
-ghost use Rattle.std.specs.Prelude.{◌≡◌, ◌≤◌, ◌==◌, ◌||◌, length};
+ghost use Rattle.std.specs.Prelude.{◌≡◌, ◌≤◌, length};
+ghost use Rattle.tw_base.specs.HistoryCodec.{is_of_events as is_kind_of_events, is_timed as is_timed_kind};
 ghost use Rattle.tw_base.specs.HistoryCodec.{content_codec, of_kind, recorded_codec, thread_codec};
 ghost use Rattle.tw_base.specs.Taking.{Takes};
 
@@ -43,10 +44,18 @@ fn take_content(
     Ok(Content::Received(thread))
 }
 
-/// Whether a step of this kind has events.
+/// Whether a step of this kind has a time.
 #[tactic(auto)]
-fn is_kind_of_events(kind: u64) -> bool
-    ensures { result ≡ (kind == 1 || kind == 3) }
+fn is_timed(kind: u64) -> bool
+    ensures { result ≡ is_timed_kind kind }
+{
+    kind >= 3
+}
+
+/// Whether a step of this kind has events, and not a thread.
+#[tactic(auto)]
+fn is_of_events(kind: u64) -> bool
+    ensures { result ≡ is_kind_of_events kind }
 {
     kind == 1 || kind == 3
 }
@@ -62,8 +71,8 @@ fn take_of_kind(
     requires { at.old ≤ length bytes.now }
     ensures { Takes (of_kind kind) (λ r. r) bytes.now at.old at.new result }
 {
-    let time = take_time(bytes, at, 3 <= kind)?;
-    let content = take_content(alloc, bytes, at, is_kind_of_events(kind))?;
+    let time = take_time(bytes, at, is_timed(kind))?;
+    let content = take_content(alloc, bytes, at, is_of_events(kind))?;
     Ok((time, content))
 }
 

@@ -1,12 +1,10 @@
-// The byte that begins a number of which only the highest bit and a smaller number may be set.
+// The byte whose highest bit alone may be set.
 
-ghost use Rattle.std.specs.Prelude.{◌≡◌, ◌≤◌, ◌==◌, ◌||◌, length, if◌then◌else◌};
+ghost use Rattle.std.specs.Prelude.{◌≡◌, ◌≤◌, ◌==◌, ◌||◌, length};
 ghost use Rattle.tw_base.specs.Codecs.{flag_codec};
-ghost use Rattle.tw_base.specs.Taking.{Puts, Takes};
+ghost use Rattle.tw_base.specs.Taking.{Takes};
 
-use crate::failure::{NoMemory, ReadFault};
-use crate::sequence::Bytes;
-use crate::writers::put_bytes;
+use crate::failure::ReadFault;
 
 /// Whether the byte is 0 or 128.
 fn is_flag(b: u8) -> bool
@@ -30,19 +28,4 @@ pub fn take_flag(bytes: &[u8], at: &mut u64) -> Result<bool, ReadFault>
     }
     *at += 1;
     Ok(b == 128)
-}
-
-/// The byte 128 where it is set, and else 0.
-fn flag_byte(set: bool) -> u8
-    ensures { result ≡ (if set then 128 else 0) }
-{
-    if set { 128 } else { 0 }
-}
-
-/// Appends the byte 128 where it is set, and else 0.
-#[tactic(auto, unfolding(crate::specs::Codecs::bytes_codec, crate::specs::Codecs::flag_codec))]
-pub fn put_flag(into: &mut Bytes, set: bool) -> Result<(), NoMemory>
-    ensures { Puts flag_codec set into.old into.new result }
-{
-    put_bytes(into, &[flag_byte(set)])
 }

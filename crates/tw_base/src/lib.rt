@@ -46,10 +46,10 @@ pub use failing::FailingCalls;
 pub use failure::{Failed, NoMemory, ReadFault};
 pub use fields::{read_digest, read_labels, read_name, read_number, read_text};
 pub use fixed_list::put;
-pub use flag::{put_flag, take_flag};
+pub use flag::take_flag;
 pub use halves::left_count;
 pub use hasher::{Hasher, Sha, Weak};
-pub use history_laws::{archive_laws, clash_laws, plus_laws};
+pub use history_laws::{archive_laws, clash_laws, plus_laws, time_laws};
 pub use label_list::Labels;
 pub use labels::{
     authenticator, datum, empty_tree, event_leaf, event_node, genesis, link_label, no_events,

@@ -1,10 +1,8 @@
 // Reading and writing the times that steps have or not.
 
-ghost use Rattle.std.specs.Prelude.{◌≡◌, ◌≤◌, [], ◌++◌, length, is_some, OnOk};
-ghost use Rattle.std.specs.Option.{option_map_or};
-ghost use Rattle.tw_base.specs.Codecs.{optional, present};
+ghost use Rattle.std.specs.Prelude.{◌≡◌, ◌-◌, ◌^◌, ◌≤◌, length, is_some};
+ghost use Rattle.tw_base.specs.Codecs.{number_codec, optional, present};
 ghost use Rattle.tw_base.specs.HistoryCodec.{time_codec};
-ghost use Rattle.tw_base.specs.Limits.{IsTimeWithinLimits};
 ghost use Rattle.tw_base.specs.Taking.{Puts, Takes};
 
 use crate::failure::{NoMemory, ReadFault};
@@ -39,8 +37,7 @@ pub fn take_time(bytes: &[u8], at: &mut u64, timed: bool) -> Result<Option<u64>,
 /// Appends the time in eight bytes, where there is one.
 #[tactic(auto, unfolding(crate::specs::Codecs::nothing, crate::specs::Codecs::number_codec, crate::specs::Codecs::present))]
 pub fn put_time(into: &mut Bytes, time: Option<u64>) -> Result<(), NoMemory>
-    ensures ok { OnOk result (into.new ≡ into.old ++ option_map_or time_codec.write time []) }
-    ensures puts { IsTimeWithinLimits time → Puts (optional (is_some time) time_codec) time into.old into.new result }
+    ensures { Puts (optional (is_some time) (number_codec 8 0 (2 ^ 64 - 1))) time into.old into.new result }
 {
     match time {
         None => Ok(()),

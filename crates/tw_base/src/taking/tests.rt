@@ -4,7 +4,7 @@ use crate::content::Content;
 use crate::content_taking::take_recorded;
 use crate::digest::Digest;
 use crate::failure::ReadFault;
-use crate::flag::{put_flag, take_flag};
+use crate::flag::take_flag;
 use crate::sequence::Bytes;
 use crate::taking::{take_bytes, take_labels, take_number, take_sized, take_slice, take_zeros};
 use crate::time::{put_time, take_time};
@@ -55,15 +55,13 @@ fn events_of_a_step(rt: HostRuntime) -> Result<(), Fail> {
 }
 
 #[test]
-fn a_flag_and_a_time(rt: HostRuntime) -> Result<(), Fail> {
+fn flags_and_times(rt: HostRuntime) -> Result<(), Fail> {
     let mut bytes = Bytes::new(rt.alloc());
-    put_flag(&mut bytes, true)?;
     put_time(&mut bytes, Some(5))?;
     put_time(&mut bytes, None)?;
-    assert_eq!(rt; bytes.len(), 9);
-    let mut at = 0;
-    let timed = take_flag(bytes.as_slice(), &mut at)?;
-    assert_eq!(rt; take_time(bytes.as_slice(), &mut at, timed)?, Some(5));
+    assert_eq!(rt; bytes.len(), 8);
+    let timed = take_flag(&[128], &mut 0)?;
+    assert_eq!(rt; take_time(bytes.as_slice(), &mut 0, timed)?, Some(5));
     let other = take_flag(&[127], &mut 0);
     assert_eq!(rt; other, Err(ReadFault::Malformed { place: 0 }));
     let late = take_time(&[0, 0, 1, 0, 0, 0, 0, 0], &mut 0, true);
