@@ -1,6 +1,6 @@
 // The labels: each is the digest of one text of `specs/Texts.antt`. None of them takes memory.
 
-ghost use Rattle.std.specs.Prelude.{◌≡◌, ℕ, ◌+◌, ◌*◌, ◌≤◌, List, ◌++◌, length};
+ghost use Rattle.std.specs.Prelude.{◌≡◌, ℕ, ◌+◌, ◌*◌, ◌^◌, ◌<◌, ◌≤◌, List, ◌++◌, length, IfSome};
 ghost use Rattle.std.specs.Int.{to_be_bytes, w32};
 ghost use Rattle.arrayvec.specs.ArrayVec.{array_vec_len};
 ghost use Rattle.tw_base.specs.declared.limits.TheConstants.{MOST_EVENT_BYTES};
@@ -115,6 +115,7 @@ pub fn step_datum<H: Hasher>(
     ensures label { result ≡ H.dig (step_datum_text event_root.now archive_root.now count time) }
     ensures event_root_size { length event_root.now ≡ 32 }
     ensures archive_root_size { length archive_root.now ≡ 32 }
+    ensures time_size { IfSome time (λ t. t < 2 ^ 64) }
 {
     match time {
         None => datum::<H>(event_root, archive_root, count),

@@ -13,9 +13,9 @@ use arrayvec::ArrayVec;
 use tw_base::{Digest, Hasher, Labels, authenticator, link_label, put, step_datum, top_level};
 
 /// The fields behind the authenticator of a step from 1 on: the root of its events, the label of
-/// its archive, its count of events, the time in seconds (at most 2^40 - 1) that its maker claims,
-/// if any, the authenticator of the step before it, and the labels of its links at the levels from 1
-/// on.
+/// its archive, its count of events, the time in seconds that its maker claims, if any, the
+/// authenticator of the step before it, and the labels of its links at the levels from 1 on. The
+/// format bounds the count and the time: an opening with greater ones has no spelling.
 #[derive(Drop, Debug)]
 pub struct Opening {
     pub event_root: Digest,
