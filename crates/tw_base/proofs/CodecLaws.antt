@@ -107,31 +107,6 @@ lawful-sized width least most r fits = record {
         let same = (lawful-bytes n).words other x t in
         (record { 0 = omega (arith, size.0, same.1.0); 1 = omega (arith, size.1, same.1.0) }, same.1.1))
 
-labels-words : (n : ℕ) → AllWords (repeated n (bytes 32)) (λ word ls. (word ≡ joined ls) × ((length ls ≡ n) × Each (HasBytes 32) ls))
-unfolding repeated bytes_codec
-labels-words zero = all_words-done [] _ (refl, (refl, tt))
-labels-words (suc n) =
-    all_words-then (bytes 32) _ _ (λ one l s.
-    all_words-then (repeated n (bytes 32)) _ _ (λ other ls t.
-    let first = (lawful-bytes 32).words one l s in
-    let last = labels-words n other ls t in
-    let word : one ++ (other ++ []) ≡ l ++ joined ls = (λ k. first.0 k ++ (append-nil other ∙ last.0) k) in
-    all_words-done (l ∷ ls) _ (word, (ap suc last.1.0, (first.1, last.1.1)))))
-
-labels-spell : (ls : List (List ℕ)) → Each (HasBytes 32) ls → Spells (repeated (length ls) (bytes 32)) (joined ls) ls
-unfolding bytes_codec
-labels-spell [] each = repeated-nil (bytes 32)
-labels-spell (l ∷ ls) each = repeated-cons (length ls) (bytes 32) l (joined ls) l ls ((lawful-bytes 32).spells l each.0) (labels-spell ls each.1)
-
-pub lawful-labels : (n : ℕ) → Lawful (labels_codec n)
-unfolding labels_codec
-lawful-labels n = record {
-  goes = goes_on-repeated n (bytes 32) (goes_on-bytes 32);
-  reads = λ whole at. refl;
-  words = labels-words n;
-  spells = λ ls f. (let P : ℕ → Type 0 = λ m. Spells (repeated m (bytes 32)) (joined ls) ls in subst P f.0 (labels-spell ls f.1));
-}
-
 module _ {X Y : Type 0} where
   -- what follows a field has to go on only behind the words of the field
   pub goes-then : (f : Format X) (next : X → Format Y) → GoesOn f → ((word : List ℕ) (x : X) → Spells f word x → GoesOn (next x)) → GoesOn (then_by f next)
@@ -295,6 +270,10 @@ module _ {X : Type 0} (c : Codec X) (l : Lawful c) where
   unfolding counted many
   lawful-counted width least most r fits =
       lawful-by_kind length (number_codec width least most) _ (lawful-number width least most r fits) (λ n _. lawful-many n) (λ n xs _ is. is.0)
+
+pub lawful-labels : (n : ℕ) → Lawful (labels_codec n)
+unfolding labels_codec
+lawful-labels n = lawful-many (bytes_codec 32) (lawful-bytes 32) n
 
 -- ---- a value for each of these
 module _ {A X : Type 0} (write : X → List ℕ) (f : A → Codec X) (h : (a : A) → Lawful (f a)) (same : (a : A) (x : X) → (f a).write x ≡ write x) where

@@ -36,7 +36,7 @@ length-joined [] each = omega arith
 length-joined (l ∷ ls) each = omega (arith, length-append l (joined ls), each.0.0, length-joined ls each.1)
 
 pub at_most-labels : (n most : ℕ) → n ≤ most → AtMost (labels_codec n) (32 * most)
-unfolding labels_codec
+unfolding labels_codec many bytes_codec
 at_most-labels n most l ls f = omega (arith, f.0, length-joined ls f.1)
 
 module _ {X Y : Type 0} where

@@ -7,7 +7,6 @@ use Rattle.tw_base.specs.Formats.Format.{Done}
 use Rattle.tw_base.specs.Fields.{bytes, name, number, number_bytes, repeated, sized_bytes, text}
 use Rattle.tw_base.specs.Lists.{Each}
 use Rattle.tw_base.specs.Names.{IsName}
-use Rattle.tw_base.specs.Texts.{joined}
 
 pub record Codec (X : Type 0) : Type 1 where
   pub format : Format X
@@ -68,15 +67,6 @@ sized_codec width least most = record {
   Fits = λ bs. ((least ≤ length bs) × (length bs ≤ most)) × AreBytes bs;
   write = λ bs. number_bytes width (length bs) ++ bs;
   read = λ whole at. (number_codec width least most).read whole at >>= (λ n. (bytes_codec n.value).read whole n.after);
-}
-
--- so many digests
-unfoldable pub labels_codec : ℕ → Codec (List (List ℕ))
-labels_codec n = record {
-  format = repeated n (bytes 32);
-  Fits = λ ls. (length ls ≡ n) × Each (HasBytes 32) ls;
-  write = joined;
-  read = read_at (repeated n (bytes 32));
 }
 
 -- ---- one field and then others
@@ -166,6 +156,10 @@ module _ {X : Type 0} where
   -- the number of the values within a range, and the values
   unfoldable pub counted : (width least most : ℕ) → Codec X → Codec (List X)
   counted width least most c = by_kind length (number_codec width least most) (λ n. many n c)
+
+-- so many digests
+unfoldable pub labels_codec : ℕ → Codec (List (List ℕ))
+labels_codec n = many n digest_codec
 
 module _ {A X : Type 0} (write : X → List ℕ) (f : A → Codec X) where
   abbrev pub EachFits : List A → List X → Type 0

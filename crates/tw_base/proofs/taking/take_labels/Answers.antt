@@ -6,7 +6,7 @@ use Rattle.tw_base.proofs.TakeLaws.{ManyTaken, many-begins, many-ends, many-more
 use Rattle.tw_base.proofs.taking.take_labels.Goals as goal
 
 pub returns-then-bytes-at : goal.returns-then-bytes-at
-unfolding labels_codec
+unfolding labels_codec many bytes_codec
 returns-then-bytes-at c = digests-short c.args.count c.args.bytes.now c.args.at.now (λ i. omega (arith, c.type_inv.bytes i)) c.requires (omega arith)
 
 pub loop-i-init : goal.loop-i-init
@@ -30,7 +30,7 @@ loop-i-preserved c =
     }
 
 pub returns : goal.returns
-unfolding labels_codec many bytes_codec
+unfolding labels_codec
 returns c =
     let P : ℕ → Type 0 = λ left. ManyTaken digest_codec c.args.bytes.now c.args.at.now c.args.count left c.loop-i.labels c.loop-i.at in
     let none : c.args.count - c.loop-i._i ≡ 0 = omega arith in
