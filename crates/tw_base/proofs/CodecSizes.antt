@@ -28,7 +28,7 @@ unfolding name_codec
 at_most-name x f = omega (arith, IsName-size x f)
 
 pub at_most-sized : (width least most : ℕ) → AtMost (sized_codec width least most) (width + most)
-unfolding sized_codec
+unfolding sized_codec by_kind number_codec bytes_codec
 at_most-sized width least most x f = omega (arith, f.0.1, length-number_bytes width (length x), length-append (number_bytes width (length x)) x)
 
 pub length-joined : (ls : List (List ℕ)) → Each (HasBytes 32) ls → length (joined ls) ≡ 32 * length ls

@@ -8,7 +8,7 @@ use Rattle.std.proofs.lemmas.List.Sums.{take_while-cons}
 use Rattle.tw_base.specs.Formats.{Format, Reading, GoesOn, Placed, Spells, WrittenAs, front, goes_on, placed, read_at, ◌>>=◌, then_by}
 use Rattle.tw_base.specs.Formats.Reading.{Took, Stopped}
 use Rattle.tw_base.specs.Formats.Format.{Done}
-use Rattle.tw_base.specs.Fields.{byte_then, bytes, digest, name, name_part, number, number_bytes, repeated, sized_bytes, text}
+use Rattle.tw_base.specs.Fields.{byte_then, bytes, digest, name, name_part, number, number_bytes, repeated, text}
 use Rattle.tw_base.specs.Names.{IsName, is_name_byte, is_name_text, name_text, padded_name}
 use Rattle.tw_base.specs.Texts.{joined}
 use Rattle.tw_base.proofs.Joined.{joined-more}
@@ -489,31 +489,6 @@ module _ {X : Type 0} where
           ≡ (r >>= (λ x. joined_after (x.value ∷ []) (read_at (repeated n f) whole x.after)))
       on (Ok x) = read_at-then (repeated n f) (λ xs. Done (x.value ∷ xs)) whole x.after ∙ last x.value (read_at (repeated n f) whole x.after)
       on (Err place) = refl
-
--- ---- byte strings
-
-pub goes_on-sized_bytes : (width least most : ℕ) → least ≤ most → GoesOn (sized_bytes width least most)
-unfolding sized_bytes
-goes_on-sized_bytes width least most r = goes_on-then (number width least most) bytes (goes_on-number width least most r) goes_on-bytes
-
-pub sized_bytes-written : (width least most : ℕ) → least ≤ most → most < 256 ^ width → WrittenAs (sized_bytes width least most) (λ bs. number_bytes width (length bs) ++ bs)
-unfolding sized_bytes
-sized_bytes-written width least most r fits word x s =
-    let t = then_spells (number width least most) bytes word x s in
-    let same : t.1 ≡ x = bytes-written t.2 t.1 x t.5 in
-    let size : t.2 ≡ length x = sym (length-bytes t.2 t.1 x t.5) ∙ ap length same in
-    t.3 ∙ ap (λ v. v ++ t.1) (number-written width least most r fits t.0 t.2 t.4 ∙ ap (number_bytes width) size) ∙ ap (λ v. number_bytes width (length x) ++ v) same
-
-pub sized_bytes-spells : (width least most : ℕ) (bs : List ℕ) → most < 256 ^ width → least ≤ length bs → length bs ≤ most → ((i : ℕ) → get_or bs i 0 < 256)
-    → Spells (sized_bytes width least most) (number_bytes width (length bs) ++ bs) bs
-unfolding sized_bytes
-sized_bytes-spells width least most bs fits l h small =
-    spells_then (number width least most) bytes (number_bytes width (length bs)) bs (length bs) bs (number_spells width least most (length bs) fits l h) (bytes-spells bs small)
-
--- the steps of a format in `do`
-pub sized_bytes-steps : (width least most : ℕ) (whole : List ℕ) (at : ℕ) → read_at (sized_bytes width least most) whole at ≡ (read_at (number width least most) whole at >>= (λ n. read_at (bytes n.value) whole n.after))
-unfolding sized_bytes
-sized_bytes-steps width least most whole at = read_at-then (number width least most) bytes whole at
 
 -- ---- labels
 

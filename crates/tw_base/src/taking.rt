@@ -1,7 +1,7 @@
 // The readers of fields at a place that moves: each takes the field that begins there, and leaves
 // the place behind it. Where the bytes aren't that field they tell the first bad byte, and leave any
 // place.
-#![tactic(auto, unfolding(crate::specs::Codecs::bytes_codec, crate::specs::Codecs::labels_codec, crate::specs::Codecs::name_codec, crate::specs::Codecs::number_codec, crate::specs::Codecs::sized_codec, crate::specs::Codecs::text_codec))]
+#![tactic(auto, unfolding(crate::specs::Codecs::by_kind, crate::specs::Codecs::bytes_codec, crate::specs::Codecs::labels_codec, crate::specs::Codecs::name_codec, crate::specs::Codecs::number_codec, crate::specs::Codecs::sized_codec, crate::specs::Codecs::text_codec))]
 
 ghost use Rattle.std.specs.Prelude.{◌≡◌, ◌^◌, ◌<◌, ◌≤◌, length, replicate, IfOk};
 ghost use Rattle.tw_base.specs.Codecs.{bytes_codec, digest_codec, labels_codec, name_codec, number_codec, sized_codec, text_codec};

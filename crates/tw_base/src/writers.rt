@@ -1,6 +1,6 @@
 // The writers of a file's fields: each appends the bytes that the field's reader reads as the value.
 // Numbers are big-endian. After want of memory nothing was appended, but by `put_labels`.
-#![tactic(auto, unfolding(crate::specs::Codecs::bytes_codec, crate::specs::Codecs::labels_codec, crate::specs::Codecs::name_codec, crate::specs::Codecs::number_codec, crate::specs::Codecs::sized_codec, crate::specs::Codecs::text_codec))]
+#![tactic(auto, unfolding(crate::specs::Codecs::by_kind, crate::specs::Codecs::bytes_codec, crate::specs::Codecs::labels_codec, crate::specs::Codecs::name_codec, crate::specs::Codecs::number_codec, crate::specs::Codecs::sized_codec, crate::specs::Codecs::text_codec))]
 
 ghost use Rattle.std.specs.Prelude.{◌≡◌, ℕ, ◌-◌, ◌^◌, ◌<◌, ◌≤◌, ◌++◌, length, take, OnErr};
 ghost use Rattle.tw_base.specs.Codecs.{bytes_codec, digest_codec, labels_codec, name_codec, number_codec, sized_codec, text_codec};
