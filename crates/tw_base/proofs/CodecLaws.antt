@@ -1,5 +1,5 @@
 -- The laws of a codec, field by field.
-use Rattle.std.proofs.Common.{◌≡◌, ℕ, suc, zero, ◌-◌, ◌<◌, ◌≤◌, ◌^◌, List, [], ◌∷◌, ◌++◌, length, replicate, flat_map, refl, ap, sym, ◌∙◌, subst, arith}
+use Rattle.std.proofs.Common.{◌≡◌, ℕ, suc, zero, ◌-◌, ◌<◌, ◌≤◌, ◌^◌, List, [], ◌∷◌, ◌++◌, length, replicate, flat_map, refl, ap, sym, ◌∙◌, subst}
 use Rattle.std.specs.Prelude.{Result, Ok, Err, nat_le, nat_lt, ◌&&◌, Bool, true, false}
 use Rattle.std.proofs.lemmas.List.{append-nil}
 use Rattle.std.proofs.lemmas.Bool.{and_parts, leb-true, ltb-true}
@@ -7,10 +7,9 @@ use Rattle.tw_base.specs.Bytes.{AreBytes}
 use Rattle.tw_base.specs.Codecs.{Codec, EachFits, HasBytes, IsUnambiguous, before, behind, by_kind, bytes_codec, cased, choose, counted, each, each_format, labels_codec, many, name_codec, number_codec, padded, pair, seen, sized_codec, text_codec}
 use Rattle.tw_base.specs.Formats.{Format, GoesOn, Placed, Spells, read_at, then_by, ◌>>=◌}
 use Rattle.tw_base.specs.Formats.Format.{Done, Byte}
-use Rattle.tw_base.specs.Fields.{bytes, number, repeated, text}
+use Rattle.tw_base.specs.Fields.{bytes, repeated, text}
 use Rattle.tw_base.specs.Lists.{Each}
 use Rattle.tw_base.specs.Names.{IsName}
-use Rattle.tw_base.specs.Texts.{joined}
 use Rattle.tw_base.proofs.ByteLemmas.{AreBytes-at}
 use Rattle.tw_base.proofs.FormatLaws.{AllWords, all_words-done, all_words-then, goes_on-then, no_longer_word, one_spelling, one_value, read_at-done, read_at-spells, read_at-then, spells_then}
 use Rattle.tw_base.proofs.NumberLaws.{goes_on-number, number_spelled, number_spells}

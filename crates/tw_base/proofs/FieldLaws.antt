@@ -1,19 +1,16 @@
 -- Laws of the fields of bytes, of names and of lists.
-use Rattle.std.proofs.Common.{◌≡◌, ℕ, suc, zero, ◌+◌, ◌-◌, ◌*◌, ◌^◌, ◌<◌, ◌≤◌, List, [], ◌∷◌, ◌++◌, length, get_or, take, drop, Bool, true, false, refl, ap, sym, ◌∙◌, subst, arith, inl, inr, append_assoc}
+use Rattle.std.proofs.Common.{◌≡◌, ℕ, suc, zero, ◌+◌, ◌-◌, ◌*◌, ◌<◌, ◌≤◌, List, [], ◌∷◌, ◌++◌, length, get_or, take, drop, Bool, true, false, refl, ap, sym, ◌∙◌, subst, arith, inl, inr, append_assoc}
 use Rattle.std.specs.Prelude.{cond, ◌&&◌, ◌||◌, ◌==◌, not, nat_le, nat_lt, Ok, Err, replicate, IsTrue, Result}
-use Rattle.std.specs.List.{list_all, flat_map}
+use Rattle.std.specs.List.{list_all}
 use Rattle.std.proofs.lemmas.List.{append-nil, take_all, get_or-drop, length-drop, drop_more, drop_all, take_more}
 use Rattle.std.proofs.lemmas.Bool.{and_parts, and_from, or_cases, or_left, or_right, eqb-true, eq-eqb, ne_eqb, lt-ltb, leb-true, le-leb, cases_lt}
 use Rattle.std.proofs.lemmas.List.Sums.{take_while-cons}
 use Rattle.tw_base.specs.Formats.{Format, Reading, GoesOn, Placed, Spells, WrittenAs, front, goes_on, placed, read_at, ◌>>=◌, then_by}
 use Rattle.tw_base.specs.Formats.Reading.{Took, Stopped}
 use Rattle.tw_base.specs.Formats.Format.{Done}
-use Rattle.tw_base.specs.Fields.{byte_then, bytes, digest, name, name_part, number, number_bytes, repeated, text}
+use Rattle.tw_base.specs.Fields.{byte_then, bytes, digest, name, name_part, repeated, text}
 use Rattle.tw_base.specs.Names.{IsName, is_name_byte, is_name_text, name_text, padded_name}
-use Rattle.tw_base.specs.Texts.{joined}
-use Rattle.tw_base.proofs.Joined.{joined-more}
 use Rattle.tw_base.proofs.FormatLaws.{goes_on-then, front-byte, front-done, front-nil, front-sound, front-stops, front-then, read_at-done, read_at-then, spells_then, then_spells}
-use Rattle.tw_base.proofs.NumberLaws.{goes_on-number, number-written, number_spells}
 
 -- ---- a byte and then more
 
@@ -426,38 +423,6 @@ module _ {X : Type 0} where
   unfolding repeated
   goes_on-repeated zero f g = tt
   goes_on-repeated (suc n) f g = goes_on-then f (λ x. then_by (repeated n f) (λ xs. Done (x ∷ xs))) g (λ x. goes_on-then (repeated n f) (λ xs. Done (x ∷ xs)) (goes_on-repeated n f g) (λ xs. tt))
-
-  repeated_parts : (n : ℕ) (f : Format X) (word : List ℕ) (xs : List X) → Spells (repeated (suc n) f) word xs
-      → (one : List ℕ) × (other : List ℕ) × (x : X) × (ys : List X) × (word ≡ one ++ other) × Spells f one x × Spells (repeated n f) other ys × (x ∷ ys ≡ xs)
-  unfolding repeated
-  repeated_parts n f word xs s =
-      let t = then_spells f (λ x. then_by (repeated n f) (λ ys. Done (x ∷ ys))) word xs s in
-      let u = then_spells (repeated n f) (λ ys. Done (t.2 ∷ ys)) t.1 xs t.5 in
-      let end = done u.1 (t.2 ∷ u.2) xs u.5 in
-      let P : List ℕ → Type 0 = λ w. Spells (repeated n f) w u.2 in
-      (t.0, t.1, t.2, u.2, t.3, t.4, subst P (sym (u.3 ∙ ap (λ ys. u.0 ++ ys) end.0 ∙ append-nil u.0)) u.4, end.1)
-    where
-      done : (word : List ℕ) (y z : List X) → Spells (Done y) word z → (word ≡ []) × (y ≡ z)
-      done [] y z s = (refl, s)
-      done (c ∷ cs) y z s = absurd s
-
-  -- so many values have one spelling, the spellings of the values one after another
-  pub repeated-written : (n : ℕ) (f : Format X) (write : X → List ℕ) → WrittenAs f write → WrittenAs (repeated n f) (flat_map write)
-  unfolding repeated
-  repeated-written zero f write w [] xs s = ap (flat_map write) s
-  repeated-written zero f write w (b ∷ bs) xs s = absurd s
-  repeated-written (suc n) f write w word xs s =
-      let parts = repeated_parts n f word xs s in
-      parts.4 ∙ ap (λ v. v ++ parts.1) (w parts.0 parts.2 parts.5) ∙ ap (λ v. write parts.2 ++ v) (repeated-written n f write w parts.1 parts.3 parts.6)
-      ∙ ap (flat_map write) parts.7
-
-  pub length-repeated : (n : ℕ) (f : Format X) (word : List ℕ) (xs : List X) → Spells (repeated n f) word xs → length xs ≡ n
-  unfolding repeated
-  length-repeated zero f [] xs s = ap length (sym s)
-  length-repeated zero f (b ∷ bs) xs s = absurd s
-  length-repeated (suc n) f word xs s =
-      let parts = repeated_parts n f word xs s in
-      sym (ap length parts.7) ∙ ap suc (length-repeated n f parts.1 parts.3 parts.6)
 
   pub repeated-nil : (f : Format X) → Spells (repeated 0 f) [] []
   unfolding repeated

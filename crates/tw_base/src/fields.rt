@@ -63,7 +63,13 @@ fn high_of(unit: u64, b: u64, most: u64) -> u64
 }
 
 /// The number at a place, byte by byte.
-pub(crate) fn number_at(bytes: &[u8], at: usize, width: u8, least: u64, most: u64) -> Result<u64, u64>
+pub(crate) fn number_at(
+    bytes: &[u8],
+    at: usize,
+    width: u8,
+    least: u64,
+    most: u64,
+) -> Result<u64, u64>
     requires width { width ≤ 8 }
     requires within { at ≤ length bytes.now }
     requires range { least ≤ most }

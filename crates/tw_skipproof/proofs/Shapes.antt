@@ -3,7 +3,7 @@ use Rattle.std.proofs.Common.{◌≡◌, ℕ, ◌-◌, ◌*◌, ◌<◌, ◌≤�
 use Rattle.std.proofs.lemmas.Bool.{cases_lt}
 use Rattle.std.proofs.lemmas.List.{length-append}
 use Rattle.tw_base.specs.declared.limits.TheConstants.{LAST_STEP, MOST_EVENTS}
-use Rattle.tw_base.specs.Codecs.{EachFits, behind, bytes_codec, each, labels_codec, many, number_codec, pair, seen, sized_codec}
+use Rattle.tw_base.specs.Codecs.{EachFits, behind, by_kind, bytes_codec, each, labels_codec, many, number_codec, pair, seen, sized_codec}
 use Rattle.tw_base.specs.Texts.{joined}
 use Rattle.tw_base.proofs.AuditPaths.{path_length-le}
 use Rattle.tw_base.proofs.CodecSizes.{AtMost, at_most-behind, at_most-bytes, at_most-labels, at_most-name, at_most-number, at_most-pair, at_most-seen, at_most-sized, length-joined}
@@ -28,7 +28,7 @@ path-shape (l ∷ links) from to fits =
     ]
 
 pub existence-shape : (p : ExistenceProof) → existence_codec.Fits p → IsShaped p × IsExistenceInRange p
-unfolding existence_codec existence_body opening_codec event_codec path_codec each behind pair seen number_codec sized_codec labels_codec many bytes_codec
+unfolding existence_codec existence_body opening_codec event_codec path_codec each behind pair seen number_codec sized_codec by_kind labels_codec many bytes_codec
 existence-shape p fits =
     let step = fits.1.0 in
     let top = fits.1.1.0 in

@@ -16,7 +16,10 @@ fn bad<T>(place: u64) -> Result<T, ReadFault> {
 fn numbers_within_a_range(rt: HostRuntime) {
     assert_eq!(rt; take_number(&[0, 0, 4, 0], &mut 0, 4, 0, 1024), Ok(1024));
     assert_eq!(rt; take_number(&[0, 0, 5, 0], &mut 0, 4, 0, 1024), bad(2));
-    assert_eq!(rt; take_number(&[255; 8], &mut 0, 8, 0, u64::MAX), Ok(u64::MAX));
+    assert_eq!(rt;
+        take_number(&[255; 8], &mut 0, 8, 0, u64::MAX),
+        Ok(u64::MAX)
+    );
 }
 
 #[test]
@@ -25,7 +28,10 @@ fn names_byte_by_byte(rt: HostRuntime) {
         take_name(b"_0-z\0\0\0\0\0\0\0\0\0\0\0\0\0", &mut 1).ok(),
         Name::read(b"0-z")
     );
-    assert_eq!(rt; take_name(b"a\0b\0\0\0\0\0\0\0\0\0\0\0\0\0", &mut 0), bad(2));
+    assert_eq!(rt;
+        take_name(b"a\0b\0\0\0\0\0\0\0\0\0\0\0\0\0", &mut 0),
+        bad(2)
+    );
 }
 
 #[test]
@@ -51,7 +57,10 @@ fn labels_of_a_file(rt: HostRuntime) -> Result<(), Fail> {
 #[test]
 fn labels_that_are_cut_short(rt: HostRuntime) {
     let place = ReadFault::Malformed { place: 64 };
-    assert_eq!(rt; take_labels(rt.alloc(), &[1; 64], &mut 1, 2).err(), Some(place));
+    assert_eq!(rt;
+        take_labels(rt.alloc(), &[1; 64], &mut 1, 2).err(),
+        Some(place)
+    );
 }
 
 #[test]

@@ -1,4 +1,4 @@
-use Rattle.std.proofs.Common.{◌≡◌, ℕ, suc, ◌+◌, ◌-◌, ◌*◌, List, [], subst, arith}
+use Rattle.std.proofs.Common.{◌≡◌, ℕ, suc, ◌+◌, ◌-◌, [], subst, arith}
 use Rattle.tw_base.specs.Codecs.{bytes_codec, digest_codec, labels_codec, many}
 use Rattle.tw_base.proofs.CodecLaws.{lawful-bytes}
 use Rattle.tw_base.proofs.FieldLaws.{digests-short}
