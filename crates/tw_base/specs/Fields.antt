@@ -63,10 +63,6 @@ flag = Byte (λ b. b == 0 || b == 128) (λ b. Done (b == 128))
 
 -- ---- lists
 
--- the length of a byte string in so many bytes, within a range, and then the string
-unfoldable pub sized_bytes : (width least most : ℕ) → Format (List ℕ)
-sized_bytes width least most = then_by (number width least most) bytes
-
 module _ {X : Type 0} where
   -- so many words of one format, one after another
   unfoldable pub repeated : ℕ → Format X → Format (List X)

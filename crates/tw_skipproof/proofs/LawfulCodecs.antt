@@ -3,7 +3,7 @@ use Rattle.std.proofs.Common.{◌≡◌, ℕ, ◌≤◌, List, [], ◌∷◌, �
 use Rattle.std.specs.Prelude.{Bool, true, false, Option, Some, None, is_some, OnOk, Result, Ok, Err}
 use Rattle.std.proofs.lemmas.List.{append-nil}
 use Rattle.tw_base.specs.declared.limits.TheConstants.{MOST_EVENTS}
-use Rattle.tw_base.specs.Codecs.{EachFits, behind, by_kind, digest_codec, each, flag_codec, labels_codec, name_codec, nothing, number_codec, optional, pair, present, seen, written}
+use Rattle.tw_base.specs.Codecs.{EachFits, behind, by_kind, digest_codec, each, flag_codec, labels_codec, name_codec, nothing, number_codec, optional, pair, present, seen, written, bytes_codec, many}
 use Rattle.tw_base.specs.Fields.{number_bytes}
 use Rattle.tw_base.specs.HistoryCodec.{time_codec}
 use Rattle.tw_base.specs.Limits.{IsTimeWithinLimits}
@@ -78,7 +78,7 @@ unfolding link_codec
 link-lawful step = search lawful depth 20
 
 pub path-lawful : (from to : ℕ) → Lawful (path_codec from to)
-unfolding path_codec link_bytes link_codec seen pair labels_codec
+unfolding path_codec link_bytes link_codec seen pair labels_codec many bytes_codec
 path-lawful from to = lawful-each link_bytes link_codec link-lawful (λ step l. refl) (greedy_steps from to)
 
 pub event-lawful : (count : ℕ) → count ≤ MOST_EVENTS → Lawful (event_codec count)

@@ -4,7 +4,7 @@ use Rattle.std.specs.Prelude.{Bool, true, false, Option, Some, None}
 use Rattle.std.proofs.lemmas.Bool.{cases_lt}
 use Rattle.std.proofs.lemmas.List.{length-append}
 use Rattle.tw_base.specs.declared.limits.TheConstants.{LAST_STEP, MOST_EVENTS}
-use Rattle.tw_base.specs.Codecs.{EachFits, behind, by_kind, bytes_codec, each, labels_codec, nothing, number_codec, optional, pair, present, seen, sized_codec, written}
+use Rattle.tw_base.specs.Codecs.{EachFits, behind, by_kind, bytes_codec, each, labels_codec, nothing, number_codec, optional, pair, present, seen, sized_codec, written, many}
 use Rattle.tw_base.specs.Fields.{number_bytes}
 use Rattle.tw_base.specs.HistoryCodec.{time_codec}
 use Rattle.tw_base.specs.Limits.{IsTimeWithinLimits}
@@ -23,7 +23,7 @@ use Rattle.tw_skipproof.proofs.LawfulCodecs.{opening-few}
 use Rattle.tw_skipproof.proofs.PathSizes.{few_digests, weight}
 
 pub path-shape : (links : List Link) (from to : ℕ) → EachFits link_bytes link_codec (greedy_steps from to) links → HasShape links from to
-unfolding link_codec seen pair labels_codec
+unfolding link_codec seen pair labels_codec many bytes_codec
 path-shape [] from to fits =
     elim (cases_lt to from) [ inr none ↦ none | inl more ↦ absurd (rw (greedy_steps-more from to more) at fits) ]
 path-shape (l ∷ links) from to fits =
@@ -40,7 +40,7 @@ time-range false None fits = tt
 time-range false (Some t) fits = cc
 
 pub existence-shape : (p : ExistenceProof) → existence_codec.Fits p → IsShaped p × IsExistenceInRange p
-unfolding existence_codec existence_body opening_codec count_codec event_codec path_codec written by_kind each behind pair seen number_codec sized_codec labels_codec
+unfolding existence_codec existence_body opening_codec count_codec event_codec path_codec written by_kind each behind pair seen number_codec sized_codec labels_codec many bytes_codec
 existence-shape p fits =
     let step = fits.1.0 in
     let top = fits.1.1.0 in
@@ -74,7 +74,7 @@ event-most count few =
     at_most-pair _ _ 1028 320 (at_most-sized 4 0 1024) (λ _ _. at_most-labels _ 10 (path_length-le 10 count index few))))
 
 links-weight : (steps : List ℕ) (links : List Link) → EachFits link_bytes link_codec steps links → length (flat_map link_bytes links) ≡ 32 * weight links
-unfolding link_bytes link_codec seen pair bytes_codec labels_codec
+unfolding link_bytes link_codec seen pair bytes_codec labels_codec many
 links-weight [] [] fits = omega arith
 links-weight [] (l ∷ links) fits = cc
 links-weight (step ∷ steps) [] fits = absurd fits
