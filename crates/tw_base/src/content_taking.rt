@@ -9,6 +9,8 @@ use crate::content::Content;
 use crate::event_taking::take_events;
 use crate::failure::ReadFault;
 use crate::limits::LAST_STEP;
+use crate::received_thread::ReceivedThread;
+use crate::step_events::StepEvents;
 use crate::taking::{take_digest, take_name, take_number};
 use crate::thread::Thread;
 use std::alloc::Global;
@@ -32,8 +34,8 @@ pub fn take_content(alloc: Global, bytes: &[u8], at: &mut u64) -> Result<Content
 {
     if take_number(bytes, at, 1, 1, 2)? == 1 {
         let events = take_events(alloc, bytes, at)?;
-        return Ok(Content::Events(events));
+        return Ok(Content::Events(StepEvents::new(events)));
     }
     let thread = take_thread(bytes, at)?;
-    Ok(Content::Received(thread))
+    Ok(Content::Received(ReceivedThread::new(alloc, thread)?))
 }
