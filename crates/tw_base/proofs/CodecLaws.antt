@@ -1,5 +1,5 @@
 -- The laws of a codec, field by field.
-use Rattle.std.proofs.Common.{◌≡◌, ℕ, suc, zero, ◌-◌, ◌<◌, ◌≤◌, ◌^◌, List, [], ◌∷◌, ◌++◌, length, replicate, flat_map, refl, ap, sym, ◌∙◌, subst, arith}
+use Rattle.std.proofs.Common.{◌≡◌, ℕ, suc, zero, ◌-◌, ◌<◌, ◌≤◌, ◌^◌, List, [], ◌∷◌, ◌++◌, length, replicate, flat_map, refl, ap, sym, ◌∙◌, subst}
 use Rattle.std.specs.Prelude.{Result, Ok, Err, nat_le, nat_lt, ◌&&◌, Bool, true, false}
 use Rattle.std.proofs.lemmas.List.{append-nil}
 use Rattle.std.proofs.lemmas.Bool.{and_parts, leb-true, ltb-true}
@@ -7,14 +7,13 @@ use Rattle.tw_base.specs.Bytes.{AreBytes}
 use Rattle.tw_base.specs.Codecs.{Codec, EachFits, HasBytes, IsUnambiguous, before, behind, by_kind, bytes_codec, cased, choose, counted, each, each_format, labels_codec, many, name_codec, number_codec, padded, pair, seen, sized_codec, text_codec}
 use Rattle.tw_base.specs.Formats.{Format, GoesOn, Placed, Spells, read_at, then_by, ◌>>=◌}
 use Rattle.tw_base.specs.Formats.Format.{Done, Byte}
-use Rattle.tw_base.specs.Fields.{bytes, number, repeated, sized_bytes, text}
+use Rattle.tw_base.specs.Fields.{bytes, repeated, text}
 use Rattle.tw_base.specs.Lists.{Each}
 use Rattle.tw_base.specs.Names.{IsName}
-use Rattle.tw_base.specs.Texts.{joined}
 use Rattle.tw_base.proofs.ByteLemmas.{AreBytes-at}
 use Rattle.tw_base.proofs.FormatLaws.{AllWords, all_words-done, all_words-then, goes_on-then, no_longer_word, one_spelling, one_value, read_at-done, read_at-spells, read_at-then, spells_then}
 use Rattle.tw_base.proofs.NumberLaws.{goes_on-number, number_spelled, number_spells}
-use Rattle.tw_base.proofs.FieldLaws.{byte_then-parts, bytes-spells, bytes-written, goes_on-bytes, goes_on-name, goes_on-repeated, goes_on-sized_bytes, goes_on-text, length-bytes, name-spells, name-word, name-written, repeated-cons, repeated-nil, sized_bytes-spells, sized_bytes-steps, sized_bytes-written, text-spells, text-word, text-written}
+use Rattle.tw_base.proofs.FieldLaws.{byte_then-parts, bytes-spells, bytes-written, goes_on-bytes, goes_on-name, goes_on-repeated, goes_on-text, length-bytes, name-spells, name-word, name-written, repeated-cons, repeated-nil, text-spells, text-word, text-written}
 
 pub record Lawful {X : Type 0} (c : Codec X) : Type 0 where
   -- every front that is let through goes on to a word
@@ -89,47 +88,6 @@ lawful-text magic = record {
   reads = λ whole at. refl;
   words = λ word x s. (let same : word ≡ x = text-written magic word x s in (same, sym (text-word magic word x s) ∙ same));
   spells = λ x f. (let P : List ℕ → Type 0 = λ t. Spells (text magic) t t in subst P f (text-spells magic));
-}
-
-pub lawful-sized : (width least most : ℕ) → least ≤ most → most < 256 ^ width → Lawful (sized_codec width least most)
-unfolding sized_codec number_codec bytes_codec sized_bytes
-lawful-sized width least most r fits = record {
-  goes = goes_on-sized_bytes width least most r;
-  reads = sized_bytes-steps width least most;
-  words = λ word x s. (let is = parts word x s in (sized_bytes-written width least most r fits word x s, is));
-  spells = λ x f. sized_bytes-spells width least most x fits f.0.0 f.0.1 (AreBytes-at x f.1);
-}
-  where
-    parts : AllWords (sized_bytes width least most) (λ word x. ((least ≤ length x) × (length x ≤ most)) × AreBytes x)
-    parts =
-        all_words-then (number width least most) bytes _ (λ one n s other x t.
-        let size = number_spelled width least most r fits one n s in
-        let same = (lawful-bytes n).words other x t in
-        (record { 0 = omega (arith, size.0, same.1.0); 1 = omega (arith, size.1, same.1.0) }, same.1.1))
-
-labels-words : (n : ℕ) → AllWords (repeated n (bytes 32)) (λ word ls. (word ≡ joined ls) × ((length ls ≡ n) × Each (HasBytes 32) ls))
-unfolding repeated bytes_codec
-labels-words zero = all_words-done [] _ (refl, (refl, tt))
-labels-words (suc n) =
-    all_words-then (bytes 32) _ _ (λ one l s.
-    all_words-then (repeated n (bytes 32)) _ _ (λ other ls t.
-    let first = (lawful-bytes 32).words one l s in
-    let last = labels-words n other ls t in
-    let word : one ++ (other ++ []) ≡ l ++ joined ls = (λ k. first.0 k ++ (append-nil other ∙ last.0) k) in
-    all_words-done (l ∷ ls) _ (word, (ap suc last.1.0, (first.1, last.1.1)))))
-
-labels-spell : (ls : List (List ℕ)) → Each (HasBytes 32) ls → Spells (repeated (length ls) (bytes 32)) (joined ls) ls
-unfolding bytes_codec
-labels-spell [] each = repeated-nil (bytes 32)
-labels-spell (l ∷ ls) each = repeated-cons (length ls) (bytes 32) l (joined ls) l ls ((lawful-bytes 32).spells l each.0) (labels-spell ls each.1)
-
-pub lawful-labels : (n : ℕ) → Lawful (labels_codec n)
-unfolding labels_codec
-lawful-labels n = record {
-  goes = goes_on-repeated n (bytes 32) (goes_on-bytes 32);
-  reads = λ whole at. refl;
-  words = labels-words n;
-  spells = λ ls f. (let P : ℕ → Type 0 = λ m. Spells (repeated m (bytes 32)) (joined ls) ls in subst P f.0 (labels-spell ls f.1));
 }
 
 module _ {X Y : Type 0} where
@@ -213,6 +171,10 @@ module _ {X Y : Type 0} where
     spells = λ y f. spells_then c.format _ (c.write (kind_of y)) _ (kind_of y) y (l.spells (kind_of y) f.0) ((h (kind_of y) f.0).spells y f.1);
   }
 
+pub lawful-sized : (width least most : ℕ) → least ≤ most → most < 256 ^ width → Lawful (sized_codec width least most)
+unfolding sized_codec bytes_codec
+lawful-sized width least most r fits = lawful-by_kind length (number_codec width least most) bytes_codec (lawful-number width least most r fits) (λ n _. lawful-bytes n) (λ n bs _ is. is.0)
+
 module _ {X : Type 0} where
   pub lawful-choose : (b : Bool) (one other : Codec X) → Lawful one → Lawful other → Lawful (choose b one other)
   lawful-choose true one other l m = l
@@ -295,6 +257,10 @@ module _ {X : Type 0} (c : Codec X) (l : Lawful c) where
   unfolding counted many
   lawful-counted width least most r fits =
       lawful-by_kind length (number_codec width least most) _ (lawful-number width least most r fits) (λ n _. lawful-many n) (λ n xs _ is. is.0)
+
+pub lawful-labels : (n : ℕ) → Lawful (labels_codec n)
+unfolding labels_codec
+lawful-labels n = lawful-many (bytes_codec 32) (lawful-bytes 32) n
 
 -- ---- a value for each of these
 module _ {A X : Type 0} (write : X → List ℕ) (f : A → Codec X) (h : (a : A) → Lawful (f a)) (same : (a : A) (x : X) → (f a).write x ≡ write x) where

@@ -28,7 +28,7 @@ unfolding name_codec
 at_most-name x f = omega (arith, IsName-size x f)
 
 pub at_most-sized : (width least most : ℕ) → AtMost (sized_codec width least most) (width + most)
-unfolding sized_codec
+unfolding sized_codec by_kind number_codec bytes_codec
 at_most-sized width least most x f = omega (arith, f.0.1, length-number_bytes width (length x), length-append (number_bytes width (length x)) x)
 
 pub length-joined : (ls : List (List ℕ)) → Each (HasBytes 32) ls → length (joined ls) ≡ 32 * length ls
@@ -36,7 +36,7 @@ length-joined [] each = omega arith
 length-joined (l ∷ ls) each = omega (arith, length-append l (joined ls), each.0.0, length-joined ls each.1)
 
 pub at_most-labels : (n most : ℕ) → n ≤ most → AtMost (labels_codec n) (32 * most)
-unfolding labels_codec
+unfolding labels_codec many bytes_codec
 at_most-labels n most l ls f = omega (arith, f.0, length-joined ls f.1)
 
 module _ {X Y : Type 0} where

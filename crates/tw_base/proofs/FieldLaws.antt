@@ -1,19 +1,16 @@
 -- Laws of the fields of bytes, of names and of lists.
-use Rattle.std.proofs.Common.{◌≡◌, ℕ, suc, zero, ◌+◌, ◌-◌, ◌*◌, ◌^◌, ◌<◌, ◌≤◌, List, [], ◌∷◌, ◌++◌, length, get_or, take, drop, Bool, true, false, refl, ap, sym, ◌∙◌, subst, arith, inl, inr, append_assoc}
+use Rattle.std.proofs.Common.{◌≡◌, ℕ, suc, zero, ◌+◌, ◌-◌, ◌*◌, ◌<◌, ◌≤◌, List, [], ◌∷◌, ◌++◌, length, get_or, take, drop, Bool, true, false, refl, ap, sym, ◌∙◌, subst, arith, inl, inr, append_assoc}
 use Rattle.std.specs.Prelude.{cond, ◌&&◌, ◌||◌, ◌==◌, not, nat_le, nat_lt, Ok, Err, replicate, IsTrue, Result}
-use Rattle.std.specs.List.{list_all, flat_map}
+use Rattle.std.specs.List.{list_all}
 use Rattle.std.proofs.lemmas.List.{append-nil, take_all, get_or-drop, length-drop, drop_more, drop_all, take_more}
 use Rattle.std.proofs.lemmas.Bool.{and_parts, and_from, or_cases, or_left, or_right, eqb-true, eq-eqb, ne_eqb, lt-ltb, leb-true, le-leb, cases_lt}
 use Rattle.std.proofs.lemmas.List.Sums.{take_while-cons}
 use Rattle.tw_base.specs.Formats.{Format, Reading, GoesOn, Placed, Spells, WrittenAs, front, goes_on, placed, read_at, ◌>>=◌, then_by}
 use Rattle.tw_base.specs.Formats.Reading.{Took, Stopped}
 use Rattle.tw_base.specs.Formats.Format.{Done}
-use Rattle.tw_base.specs.Fields.{byte_then, bytes, digest, name, name_part, number, number_bytes, repeated, sized_bytes, text}
+use Rattle.tw_base.specs.Fields.{byte_then, bytes, digest, name, name_part, repeated, text}
 use Rattle.tw_base.specs.Names.{IsName, is_name_byte, is_name_text, name_text, padded_name}
-use Rattle.tw_base.specs.Texts.{joined}
-use Rattle.tw_base.proofs.Joined.{joined-more}
 use Rattle.tw_base.proofs.FormatLaws.{goes_on-then, front-byte, front-done, front-nil, front-sound, front-stops, front-then, read_at-done, read_at-then, spells_then, then_spells}
-use Rattle.tw_base.proofs.NumberLaws.{goes_on-number, number-written, number_spells}
 
 -- ---- a byte and then more
 
@@ -427,38 +424,6 @@ module _ {X : Type 0} where
   goes_on-repeated zero f g = tt
   goes_on-repeated (suc n) f g = goes_on-then f (λ x. then_by (repeated n f) (λ xs. Done (x ∷ xs))) g (λ x. goes_on-then (repeated n f) (λ xs. Done (x ∷ xs)) (goes_on-repeated n f g) (λ xs. tt))
 
-  repeated_parts : (n : ℕ) (f : Format X) (word : List ℕ) (xs : List X) → Spells (repeated (suc n) f) word xs
-      → (one : List ℕ) × (other : List ℕ) × (x : X) × (ys : List X) × (word ≡ one ++ other) × Spells f one x × Spells (repeated n f) other ys × (x ∷ ys ≡ xs)
-  unfolding repeated
-  repeated_parts n f word xs s =
-      let t = then_spells f (λ x. then_by (repeated n f) (λ ys. Done (x ∷ ys))) word xs s in
-      let u = then_spells (repeated n f) (λ ys. Done (t.2 ∷ ys)) t.1 xs t.5 in
-      let end = done u.1 (t.2 ∷ u.2) xs u.5 in
-      let P : List ℕ → Type 0 = λ w. Spells (repeated n f) w u.2 in
-      (t.0, t.1, t.2, u.2, t.3, t.4, subst P (sym (u.3 ∙ ap (λ ys. u.0 ++ ys) end.0 ∙ append-nil u.0)) u.4, end.1)
-    where
-      done : (word : List ℕ) (y z : List X) → Spells (Done y) word z → (word ≡ []) × (y ≡ z)
-      done [] y z s = (refl, s)
-      done (c ∷ cs) y z s = absurd s
-
-  -- so many values have one spelling, the spellings of the values one after another
-  pub repeated-written : (n : ℕ) (f : Format X) (write : X → List ℕ) → WrittenAs f write → WrittenAs (repeated n f) (flat_map write)
-  unfolding repeated
-  repeated-written zero f write w [] xs s = ap (flat_map write) s
-  repeated-written zero f write w (b ∷ bs) xs s = absurd s
-  repeated-written (suc n) f write w word xs s =
-      let parts = repeated_parts n f word xs s in
-      parts.4 ∙ ap (λ v. v ++ parts.1) (w parts.0 parts.2 parts.5) ∙ ap (λ v. write parts.2 ++ v) (repeated-written n f write w parts.1 parts.3 parts.6)
-      ∙ ap (flat_map write) parts.7
-
-  pub length-repeated : (n : ℕ) (f : Format X) (word : List ℕ) (xs : List X) → Spells (repeated n f) word xs → length xs ≡ n
-  unfolding repeated
-  length-repeated zero f [] xs s = ap length (sym s)
-  length-repeated zero f (b ∷ bs) xs s = absurd s
-  length-repeated (suc n) f word xs s =
-      let parts = repeated_parts n f word xs s in
-      sym (ap length parts.7) ∙ ap suc (length-repeated n f parts.1 parts.3 parts.6)
-
   pub repeated-nil : (f : Format X) → Spells (repeated 0 f) [] []
   unfolding repeated
   repeated-nil f = refl
@@ -469,24 +434,6 @@ module _ {X : Type 0} where
       let P : List ℕ → Type 0 = λ w. Spells (then_by (repeated n f) (λ ys. Done (x ∷ ys))) w (x ∷ xs) in
       spells_then f (λ y. then_by (repeated n f) (λ ys. Done (y ∷ ys))) one other x (x ∷ xs) s
       (subst P (append-nil other) (spells_then (repeated n f) (λ ys. Done (x ∷ ys)) other [] xs (x ∷ xs) t refl))
-
-  -- a word more behind so many
-  pub repeated-more : (n : ℕ) (f : Format X) (word one : List ℕ) (xs : List X) (x : X) → Spells (repeated n f) word xs → Spells f one x → Spells (repeated (n + 1) f) (word ++ one) (xs ++ x ∷ [])
-  unfolding repeated
-  repeated-more zero f [] one xs x s t =
-      let P : List ℕ → Type 0 = λ w. Spells (repeated 1 f) w (x ∷ []) in
-      let Q : List X → Type 0 = λ ys. Spells (repeated 1 f) one (ys ++ x ∷ []) in
-      subst Q s (subst P (append-nil one) (repeated-cons 0 f one [] x [] t refl))
-  repeated-more zero f (b ∷ bs) one xs x s t = absurd s
-  repeated-more (suc n) f word one xs x s t =
-      let parts = repeated_parts n f word xs s in
-      let rest = repeated-more n f parts.1 one parts.3 x parts.6 t in
-      let both = repeated-cons (n + 1) f parts.0 (parts.1 ++ one) parts.2 (parts.3 ++ x ∷ []) parts.5 rest in
-      let P : List ℕ → Type 0 = λ w. Spells (repeated (suc (n + 1)) f) w (parts.2 ∷ (parts.3 ++ x ∷ [])) in
-      let Q : List X → Type 0 = λ ys. Spells (repeated (suc (n + 1)) f) (word ++ one) (ys ++ x ∷ []) in
-      let R : ℕ → Type 0 = λ m. Spells (repeated m f) (word ++ one) (xs ++ x ∷ []) in
-      subst R (let e : suc (n + 1) ≡ suc n + 1 = omega arith in e)
-      (subst Q parts.7 (subst P (sym (append_assoc parts.0 parts.1 one) ∙ ap (λ w. w ++ one) (sym parts.4)) both))
 
   -- reading so many words, and then so many more
   abbrev joined_after : List X → Result (Placed (List X)) ℕ → Result (Placed (List X)) ℕ
@@ -508,84 +455,6 @@ module _ {X : Type 0} where
       on (Ok x) = read_at-then (repeated n f) (λ xs. Done (x.value ∷ xs)) whole x.after ∙ last x.value (read_at (repeated n f) whole x.after)
       on (Err place) = refl
 
-  repeated-joined : (i k : ℕ) (f : Format X) (whole : List ℕ) (at : ℕ) (n : ℕ) → n ≡ i + k
-      → read_at (repeated n f) whole at ≡ (read_at (repeated i f) whole at >>= (λ xs. joined_after xs.value (read_at (repeated k f) whole xs.after)))
-  unfolding repeated
-  repeated-joined zero k f whole at n e =
-      ap (λ m. read_at (repeated m f) whole at) (let r : n ≡ k = omega arith in r) ∙ none (read_at (repeated k f) whole at)
-      ∙ sym (ap (λ r. r >>= (λ xs. joined_after xs.value (read_at (repeated k f) whole xs.after))) (read_at-done [] whole at))
-    where
-      none : (r : Result (Placed (List X)) ℕ) → r ≡ joined_after [] r
-      none (Ok xs) = refl
-      none (Err place) = refl
-  repeated-joined (suc i) k f whole at zero e = absurd (omega arith)
-  repeated-joined (suc i) k f whole at (suc n) e =
-      repeated-first n f whole at ∙ on (λ after. repeated-joined i k f whole after n (omega arith)) (read_at f whole at)
-      ∙ sym (ap (λ r. r >>= (λ xs. joined_after xs.value (read_at (repeated k f) whole xs.after))) (repeated-first i f whole at))
-    where
-      twice : (x : X) (r : Result (Placed (List X)) ℕ)
-          → joined_after (x ∷ []) (r >>= (λ xs. joined_after xs.value (read_at (repeated k f) whole xs.after)))
-          ≡ (joined_after (x ∷ []) r >>= (λ xs. joined_after xs.value (read_at (repeated k f) whole xs.after)))
-      twice x (Ok xs) = thrice (read_at (repeated k f) whole xs.after)
-        where
-          thrice : (r : Result (Placed (List X)) ℕ) → joined_after (x ∷ []) (joined_after xs.value r) ≡ joined_after (x ∷ xs.value) r
-          thrice (Ok more) = refl
-          thrice (Err place) = refl
-      twice x (Err place) = refl
-
-      on : ((after : ℕ) → read_at (repeated n f) whole after ≡ (read_at (repeated i f) whole after >>= (λ xs. joined_after xs.value (read_at (repeated k f) whole xs.after))))
-          → (r : Result (Placed X) ℕ) → (r >>= (λ x. joined_after (x.value ∷ []) (read_at (repeated n f) whole x.after)))
-          ≡ ((r >>= (λ x. joined_after (x.value ∷ []) (read_at (repeated i f) whole x.after))) >>= (λ xs. joined_after xs.value (read_at (repeated k f) whole xs.after)))
-      on inner (Ok x) = ap (joined_after (x.value ∷ [])) (inner x.after) ∙ twice x.value (read_at (repeated i f) whole x.after)
-      on inner (Err place) = refl
-
-  -- none is read anywhere
-  pub repeated-start : (f : Format X) (whole : List ℕ) (at : ℕ) → read_at (repeated 0 f) whole at ≡ Ok (record { value = []; after = at })
-  unfolding repeated
-  repeated-start f whole at = read_at-done [] whole at
-
-  -- one word more is read behind so many
-  pub repeated-push : (n : ℕ) (f : Format X) (whole : List ℕ) (at after end : ℕ) (xs : List X) (x : X)
-      → read_at (repeated n f) whole at ≡ Ok (record { value = xs; after = after }) → read_at f whole after ≡ Ok (record { value = x; after = end })
-      → read_at (repeated (n + 1) f) whole at ≡ Ok (record { value = xs ++ x ∷ []; after = end })
-  repeated-push n f whole at after end xs x e one =
-      repeated-joined n 1 f whole at (n + 1) refl
-      ∙ ap (λ r. r >>= (λ ys. joined_after ys.value (read_at (repeated 1 f) whole ys.after))) e
-      ∙ ap (joined_after xs) (repeated-first 0 f whole after ∙ ap (λ r. r >>= (λ y. joined_after (y.value ∷ []) (read_at (repeated 0 f) whole y.after))) one ∙ ap (joined_after (x ∷ [])) (repeated-start f whole end))
-
-  -- no word of so many is read where one of them is not
-  pub repeated-stop : (i n : ℕ) (f : Format X) (whole : List ℕ) (at after place : ℕ) (xs : List X) → i < n
-      → read_at (repeated i f) whole at ≡ Ok (record { value = xs; after = after }) → read_at f whole after ≡ Err place → read_at (repeated n f) whole at ≡ Err place
-  repeated-stop i n f whole at after place xs l e one =
-      repeated-joined i (suc (n - suc i)) f whole at n (omega arith)
-      ∙ ap (λ r. r >>= (λ ys. joined_after ys.value (read_at (repeated (suc (n - suc i)) f) whole ys.after))) e
-      ∙ ap (joined_after xs) (repeated-first (n - suc i) f whole after ∙ ap (λ r. r >>= (λ y. joined_after (y.value ∷ []) (read_at (repeated (n - suc i) f) whole y.after))) one)
-
--- ---- byte strings
-
-pub goes_on-sized_bytes : (width least most : ℕ) → least ≤ most → GoesOn (sized_bytes width least most)
-unfolding sized_bytes
-goes_on-sized_bytes width least most r = goes_on-then (number width least most) bytes (goes_on-number width least most r) goes_on-bytes
-
-pub sized_bytes-written : (width least most : ℕ) → least ≤ most → most < 256 ^ width → WrittenAs (sized_bytes width least most) (λ bs. number_bytes width (length bs) ++ bs)
-unfolding sized_bytes
-sized_bytes-written width least most r fits word x s =
-    let t = then_spells (number width least most) bytes word x s in
-    let same : t.1 ≡ x = bytes-written t.2 t.1 x t.5 in
-    let size : t.2 ≡ length x = sym (length-bytes t.2 t.1 x t.5) ∙ ap length same in
-    t.3 ∙ ap (λ v. v ++ t.1) (number-written width least most r fits t.0 t.2 t.4 ∙ ap (number_bytes width) size) ∙ ap (λ v. number_bytes width (length x) ++ v) same
-
-pub sized_bytes-spells : (width least most : ℕ) (bs : List ℕ) → most < 256 ^ width → least ≤ length bs → length bs ≤ most → ((i : ℕ) → get_or bs i 0 < 256)
-    → Spells (sized_bytes width least most) (number_bytes width (length bs) ++ bs) bs
-unfolding sized_bytes
-sized_bytes-spells width least most bs fits l h small =
-    spells_then (number width least most) bytes (number_bytes width (length bs)) bs (length bs) bs (number_spells width least most (length bs) fits l h) (bytes-spells bs small)
-
--- the steps of a format in `do`
-pub sized_bytes-steps : (width least most : ℕ) (whole : List ℕ) (at : ℕ) → read_at (sized_bytes width least most) whole at ≡ (read_at (number width least most) whole at >>= (λ n. read_at (bytes n.value) whole n.after))
-unfolding sized_bytes
-sized_bytes-steps width least most whole at = read_at-then (number width least most) bytes whole at
-
 -- ---- labels
 
 -- so many digests end the bytes too early
@@ -598,33 +467,3 @@ digests-short (suc n) whole at small l more =
       | inr enough ↦ ap (λ r. r >>= (λ x. joined_after (x.value ∷ []) (read_at (repeated n digest) whole x.after))) (bytes-read 32 whole (take 32 (drop at whole)) at small enough refl)
           ∙ ap (joined_after (take 32 (drop at whole) ∷ [])) (digests-short n whole (at + 32) small enough (omega arith))
     ])
-
--- no digest yet
-pub digests-start : (whole : List ℕ) (at : ℕ) (labels : List (List ℕ)) → labels ≡ [] → read_at (repeated 0 digest) whole at ≡ Ok (record { value = labels; after = at + 32 * 0 })
-digests-start whole at labels none =
-    repeated-start digest whole at ∙ ap (λ e. Ok (record { value = []; after = e })) (let r : at ≡ at + 32 * 0 = omega arith in r)
-    ∙ ap (λ ls. Ok (record { value = ls; after = at + 32 * 0 })) (sym none)
-
--- a digest more
-pub digests-push : (n : ℕ) (whole : List ℕ) (at next end : ℕ) (labels : List (List ℕ)) (label : List ℕ) → next ≡ at + 32 * n → end ≡ at + 32 * (n + 1)
-    → read_at (repeated n digest) whole at ≡ Ok (record { value = labels; after = at + 32 * n }) → read_at digest whole next ≡ Ok (record { value = label; after = next + 32 })
-    → read_at (repeated (n + 1) digest) whole at ≡ Ok (record { value = labels ++ label ∷ []; after = end })
-digests-push n whole at next end labels label is ends so_far one =
-    repeated-push n digest whole at next end labels label (so_far ∙ ap (λ e. Ok (record { value = labels; after = e })) (sym is))
-    (one ∙ ap (λ e. Ok (record { value = label; after = e })) (let r : next + 32 ≡ end = omega arith in r))
-
--- the labels written so far are spelled
-abbrev pub LabelsSpelled : List (List ℕ) → ℕ → Type 0
-LabelsSpelled labels i = Spells (repeated i digest) (joined (take i labels)) (take i labels)
-
-pub labels-spelled_none : (labels : List (List ℕ)) → LabelsSpelled labels 0
-labels-spelled_none labels = repeated-nil digest
-
-pub labels-spelled_more : (labels : List (List ℕ)) (i : ℕ) (label : List ℕ) → i < length labels → label ≡ get_or labels i label → LabelsSpelled labels i → Spells digest label label → LabelsSpelled labels (i + 1)
-labels-spelled_more labels i label l is so_far one =
-    let more = repeated-more i digest (joined (take i labels)) label (take i labels) label so_far one in
-    let items : take (i + 1) labels ≡ take i labels ++ label ∷ [] = take_more labels i label l ∙ ap (λ d. take i labels ++ d ∷ []) (sym is) in
-    let word : joined (take (i + 1) labels) ≡ joined (take i labels) ++ label = joined-more labels i label l ∙ ap (λ d. joined (take i labels) ++ d) (sym is) in
-    let P : List ℕ → Type 0 = λ w. Spells (repeated (i + 1) digest) w (take i labels ++ label ∷ []) in
-    let Q : List (List ℕ) → Type 0 = λ ls. Spells (repeated (i + 1) digest) (joined (take (i + 1) labels)) ls in
-    subst Q (sym items) (subst P (sym word) more)

@@ -5,7 +5,7 @@ use Rattle.std.proofs.lemmas.List.{append-nil, drop-drop, take_at, take_rest, ta
 use Rattle.std.proofs.lemmas.Bool.{cases_lt}
 use Rattle.tw_base.specs.declared.failure.ReadFault.{ReadFault}
 use Rattle.tw_base.specs.declared.failure.ReadFault.TheVariants.{Malformed, NoMemory}
-use Rattle.tw_base.specs.Formats.{Format, Gives, GivesFront, GivesIfMemory, GivesWithEnd, IsWholeOf, IsWholeTo, Placed, ReadsAs, ReadsFrontAs, Reading, placed, read_at, ◌>>=◌, GoesOn, IsFront, IsPlace, OneSpelling, Spells, SpellsNothing, WrittenAs, front, goes_on, then_by}
+use Rattle.tw_base.specs.Formats.{Format, Gives, GivesFront, IsFrontTo, IsWholeTo, Placed, ReadsAs, ReadsFrontAs, Reading, placed, read_at, ◌>>=◌, GoesOn, IsFront, IsPlace, OneSpelling, Spells, SpellsNothing, WrittenAs, front, goes_on, then_by}
 use Rattle.tw_base.specs.Formats.Format.{Done, Byte}
 use Rattle.tw_base.specs.Formats.Reading.{Took, Stopped}
 
@@ -353,6 +353,12 @@ module _ {X Y : Type 0} where
       let P : List ℕ → Type 0 = λ bs. GivesFront view r after (front f bs at) in
       gives_read f view r whole at after (subst P (take_rest whole at) g)
 
+  -- a reader that may want memory, and whose words end at a known place, gives the reading
+  abbrev pub GivesIfMemory : (Y → X) → Result Y ReadFault → (after : ℕ) → Result (Placed X) ℕ → Type 0
+  GivesIfMemory view (Ok y) after reading = reading ≡ Ok (record { value = view y; after = after })
+  GivesIfMemory view (Err (Malformed place)) after reading = reading ≡ Err place
+  GivesIfMemory view (Err NoMemory) after reading = Unit {0}
+
   -- ---- a reader of the whole reads the format
 
   answered : (f : Format X) (view : Y → X) (bytes : List ℕ) (r s : Result Y ReadFault) → r ≡ s → ReadsAs view f bytes s → ReadsAs view f bytes r
@@ -366,13 +372,6 @@ module _ {X Y : Type 0} where
     | inr l ↦ answered f view bytes r (Ok value) (ends l) (whole-word f bytes after (view value) e l)
   ]
 
-  pub reads_whole : (f : Format X) → GoesOn f → (view : Y → X) (bytes : List ℕ) (read : Result (Y × ℕ) ReadFault) (r : Result Y ReadFault)
-      → GivesWithEnd view read (read_at f bytes 0) → IsWholeOf bytes read r → ReadsAs view f bytes r
-  reads_whole f g view bytes (Ok read) r e w = read_whole f view bytes read.1 read.0 r w.0 w.1 e
-  reads_whole f g view bytes (Err (Malformed place)) r e w = answered f view bytes r (Err (Malformed place)) w (whole-stops f g bytes place e)
-  reads_whole f g view bytes (Err NoMemory) r e w = answered f view bytes r (Err NoMemory) w tt
-
-  -- the same where the words end at a known place
   pub reads_whole_to : (f : Format X) → GoesOn f → (view : Y → X) (bytes : List ℕ) (after : ℕ) (read r : Result Y ReadFault)
       → GivesIfMemory view read after (read_at f bytes 0) → IsWholeTo bytes after read r → ReadsAs view f bytes r
   reads_whole_to f g view bytes after (Ok value) r e w = read_whole f view bytes after value r w.0 w.1 e
@@ -380,18 +379,22 @@ module _ {X Y : Type 0} where
   reads_whole_to f g view bytes after (Err NoMemory) r e w = answered f view bytes r (Err NoMemory) w tt
 
   -- a reader of a front reads it
-  pub reads_front : (f : Format X) → GoesOn f → (view : Y → X) (bytes : List ℕ) (read : Result (Y × ℕ) ReadFault) → GivesWithEnd view read (read_at f bytes 0) → ReadsFrontAs view f bytes read
-  reads_front f g view bytes (Ok read) e =
-      let is = read_at-spells f bytes 0 read.1 (view read.0) e in
+  front_answered : (f : Format X) (view : Y → X) (bytes : List ℕ) (r s : Result (Y × ℕ) ReadFault) → r ≡ s → ReadsFrontAs view f bytes s → ReadsFrontAs view f bytes r
+  front_answered f view bytes r s e is = let P : Result (Y × ℕ) ReadFault → Type 0 = λ t. ReadsFrontAs view f bytes t in subst P (sym e) is
+
+  pub reads_front : (f : Format X) → GoesOn f → (view : Y → X) (bytes : List ℕ) (after : ℕ) (read : Result Y ReadFault) (r : Result (Y × ℕ) ReadFault)
+      → GivesIfMemory view read after (read_at f bytes 0) → IsFrontTo after read r → ReadsFrontAs view f bytes r
+  reads_front f g view bytes after (Ok value) r e to =
+      let is = read_at-spells f bytes 0 after (view value) e in
       let same : bytes ≡ is.0 ++ is.1 = is.2 in
-      let end : length is.0 ≡ read.1 = omega (arith, is.3) in
-      let word : is.0 ≡ take read.1 bytes = sym (take_at is.0 is.1 read.1 end) ∙ ap (take read.1) (sym same) in
-      let P : List ℕ → Type 0 = λ w. Spells f w (view read.0) in
-      (omega (arith, ap length same, length-append is.0 is.1), subst P word is.4)
-  reads_front f g view bytes (Err (Malformed place)) e = (
+      let end : length is.0 ≡ after = omega (arith, is.3) in
+      let word : is.0 ≡ take after bytes = sym (take_at is.0 is.1 after end) ∙ ap (take after) (sym same) in
+      let P : List ℕ → Type 0 = λ w. Spells f w (view value) in
+      front_answered f view bytes r (Ok (value, after)) to (omega (arith, ap length same, length-append is.0 is.1), subst P word is.4)
+  reads_front f g view bytes after (Err (Malformed place)) r e to = front_answered f view bytes r (Err (Malformed place)) to (
     λ n y s. (
         let read : read_at f bytes 0 ≡ Ok (record { value = y; after = 0 + length (take n bytes) }) = read_at-word f bytes (take n bytes) (drop n bytes) 0 y s (sym (take-append-drop n bytes)) in
         cc),
     (whole-stops f g bytes place e).1,
   )
-  reads_front f g view bytes (Err NoMemory) e = tt
+  reads_front f g view bytes after (Err NoMemory) r e to = front_answered f view bytes r (Err NoMemory) to tt

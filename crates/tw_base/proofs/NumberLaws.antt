@@ -6,7 +6,7 @@ use Rattle.std.proofs.Math.Nat.{mul-le-mul_right, one-le-pow, le_trans, div-mul-
 use Rattle.std.proofs.lemmas.Nat.{le-div, div_below, div-mul-add}
 use Rattle.std.proofs.lemmas.List.{append-nil, drop_all, drop_more, take_rest}
 use Rattle.std.proofs.lemmas.Bool.{and_parts, leb-true, le-leb, lt-leb, eq-eqb, ne_eqb, cases_eq}
-use Rattle.tw_base.specs.Formats.{Format, Reading, GoesOn, Spells, WrittenAs, front, goes_on, then_by}
+use Rattle.tw_base.specs.Formats.{Format, Reading, GoesOn, Spells, front, goes_on, then_by}
 use Rattle.tw_base.specs.Formats.Reading.{Took, Stopped}
 use Rattle.tw_base.specs.Formats.Format.{Done}
 use Rattle.tw_base.specs.Fields.{high_after, low_after, number, number_bytes}
@@ -258,10 +258,6 @@ number_spells (suc width) least most n fits l h =
     let P : List ℕ → Type 0 = λ w. Spells (number (suc width) least most) w n in
     let Q : List ℕ → Type 0 = λ w. Spells (then_by (number width (low_after unit b least) (high_after unit b most)) (λ r. Done (b * unit + r))) w n in
     subst P word (both _ _ (le-leb (least / unit) b over) (le-leb b (most / unit) under), subst Q tail both_parts)
-
--- a number has one spelling
-pub number-written : (width least most : ℕ) → least ≤ most → most < 256 ^ width → WrittenAs (number width least most) (number_bytes width)
-number-written width least most r fits word n s = (number_spelled width least most r fits word n s).2
 
 -- the code takes them from the eight bytes of the number
 last_bytes : (k n v : ℕ) → k ≤ n → drop k (bytes_high_first n v) ≡ bytes_high_first (n - k) v

@@ -7,22 +7,13 @@ use Rattle.tw_base.specs.Codecs.{Codec}
 use Rattle.tw_base.specs.Formats.{Spells}
 use Rattle.tw_base.specs.Lists.{Each}
 use Rattle.tw_base.specs.Taking.{Puts}
-use Rattle.tw_base.proofs.CodecLaws.{Lawful, spelled-fits}
+use Rattle.tw_base.proofs.CodecLaws.{Lawful}
 use Rattle.tw_base.proofs.ListLemmas.{Each-append}
 
 -- a value that fits was written
 pub puts-fits : {X : Type 0} (c : Codec X) (x : X) (before after : List ℕ) (r : Result (Unit {0}) WantOfMemory) → OnOk r (after ≡ before ++ c.write x) → c.Fits x → Puts c x before after r
 puts-fits c x before after (Ok done) written fits = (written, fits)
 puts-fits c x before after (Err fault) written fits = tt
-
-module _ {X : Type 0} (c : Codec X) (l : Lawful c) where
-  pub puts : (x : X) (word before after : List ℕ) (r : Result (Unit {0}) WantOfMemory) → OnOk r (after ≡ before ++ c.write x) → OnOk r (Spells c.format word x) → Puts c x before after r
-  puts x word before after (Ok done) written s = (written, spelled-fits c l word x s)
-  puts x word before after (Err fault) written s = tt
-
-  pub puts-spelled : (x : X) (word before after : List ℕ) (r : Result (Unit {0}) WantOfMemory) → OnOk r (after ≡ before ++ c.write x) → Spells c.format word x → Puts c x before after r
-  puts-spelled x word before after (Ok done) written s = (written, spelled-fits c l word x s)
-  puts-spelled x word before after (Err fault) written s = tt
 
 -- ---- the loop that writes a list
 module _ {X : Type 0} (write : X → List ℕ) (Good : X → Type 0) where

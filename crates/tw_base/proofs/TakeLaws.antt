@@ -6,12 +6,12 @@ use Rattle.tw_base.specs.declared.failure.ReadFault.{ReadFault}
 use Rattle.tw_base.specs.declared.failure.ReadFault.TheVariants.{Malformed, NoMemory}
 use Rattle.tw_base.specs.Codecs.{Codec, EachFits, by_kind, counted, each, each_format, many, number_codec}
 use Rattle.tw_base.specs.Fields.{repeated}
-use Rattle.tw_base.specs.Formats.{GivesIfMemory, GivesWithEnd, IsFrontTo, IsWholeTo, Placed, ReadsAs, ReadsFrontAs, read_at, ◌>>=◌}
+use Rattle.tw_base.specs.Formats.{IsFrontTo, IsWholeTo, Placed, ReadsAs, ReadsFrontAs, read_at, ◌>>=◌}
 use Rattle.tw_base.specs.Lists.{Each}
 use Rattle.tw_base.specs.Taking.{Takes}
 use Rattle.tw_base.proofs.CodecLaws.{Lawful, spelled-fits}
 use Rattle.tw_base.proofs.ListLemmas.{Each-append}
-use Rattle.tw_base.proofs.FormatLaws.{read_at-done, read_at-spells, read_at-then, reads_front, reads_whole_to}
+use Rattle.tw_base.proofs.FormatLaws.{GivesIfMemory, read_at-done, read_at-spells, read_at-then, reads_front, reads_whole_to}
 
 module _ {X : Type 0} (c : Codec X) (l : Lawful c) where
   -- what was read fits, and stands within the bytes
@@ -37,14 +37,9 @@ module _ {X Y : Type 0} (c : Codec X) (l : Lawful c) (view : Y → X) where
   pub takes-whole : (bytes : List ℕ) (after : ℕ) (read r : Result Y ReadFault) → Takes c view bytes 0 after read → IsWholeTo bytes after read r → ReadsAs view c.format bytes r
   takes-whole bytes after read r t w = reads_whole_to c.format l.goes view bytes after read r (gives bytes after read t) w
 
-  gives-end : (bytes : List ℕ) (after : ℕ) (read : Result Y ReadFault) (r : Result (Y × ℕ) ReadFault) → Takes c view bytes 0 after read → IsFrontTo after read r → GivesWithEnd view r (read_at c.format bytes 0)
-  gives-end bytes after (Ok y) r t e = let P : Result (Y × ℕ) ReadFault → Type 0 = λ s. GivesWithEnd view s (read_at c.format bytes 0) in subst P (sym e) (l.reads bytes 0 ∙ t.0)
-  gives-end bytes after (Err (Malformed place)) r t e = let P : Result (Y × ℕ) ReadFault → Type 0 = λ s. GivesWithEnd view s (read_at c.format bytes 0) in subst P (sym e) (l.reads bytes 0 ∙ t)
-  gives-end bytes after (Err NoMemory) r t e = let P : Result (Y × ℕ) ReadFault → Type 0 = λ s. GivesWithEnd view s (read_at c.format bytes 0) in subst P (sym e) tt
-
   -- a reader of a front of the bytes
   pub takes-front : (bytes : List ℕ) (after : ℕ) (read : Result Y ReadFault) (r : Result (Y × ℕ) ReadFault) → Takes c view bytes 0 after read → IsFrontTo after read r → ReadsFrontAs view c.format bytes r
-  takes-front bytes after read r t e = reads_front c.format l.goes view bytes r (gives-end bytes after read r t e)
+  takes-front bytes after read r t e = reads_front c.format l.goes view bytes after read r (gives bytes after read t) e
 
 -- ---- the loop over a list
 module _ {X : Type 0} where

@@ -4,10 +4,9 @@ use Rattle.std.specs.Prelude.{◌≡◌, ℕ, ◌-◌, ◌≤◌, List, [], ◌�
 use Rattle.tw_base.specs.Bytes.{AreBytes}
 use Rattle.tw_base.specs.Formats.{Format, OneSpelling, Placed, Spells, WrittenAs, then_by, read_at, ◌>>=◌}
 use Rattle.tw_base.specs.Formats.Format.{Done}
-use Rattle.tw_base.specs.Fields.{bytes, name, number, number_bytes, repeated, sized_bytes, text}
+use Rattle.tw_base.specs.Fields.{bytes, name, number, number_bytes, repeated, text}
 use Rattle.tw_base.specs.Lists.{Each}
 use Rattle.tw_base.specs.Names.{IsName}
-use Rattle.tw_base.specs.Texts.{joined}
 
 pub record Codec (X : Type 0) : Type 1 where
   pub format : Format X
@@ -61,24 +60,6 @@ name_codec = record { format = name; Fits = IsName; write = λ n. n; read = read
 unfoldable pub text_codec : List ℕ → Codec (List ℕ)
 text_codec magic = record { format = text magic; Fits = λ t. magic ≡ t; write = λ t. t; read = read_at (text magic) }
 
--- the number of the bytes within a range, and the bytes
-unfoldable pub sized_codec : (width least most : ℕ) → Codec (List ℕ)
-sized_codec width least most = record {
-  format = sized_bytes width least most;
-  Fits = λ bs. ((least ≤ length bs) × (length bs ≤ most)) × AreBytes bs;
-  write = λ bs. number_bytes width (length bs) ++ bs;
-  read = λ whole at. (number_codec width least most).read whole at >>= (λ n. (bytes_codec n.value).read whole n.after);
-}
-
--- so many digests
-unfoldable pub labels_codec : ℕ → Codec (List (List ℕ))
-labels_codec n = record {
-  format = repeated n (bytes 32);
-  Fits = λ ls. (length ls ≡ n) × Each (HasBytes 32) ls;
-  write = joined;
-  read = read_at (repeated n (bytes 32));
-}
-
 -- ---- one field and then others
 
 module _ {X Y : Type 0} where
@@ -117,6 +98,10 @@ module _ {X Y : Type 0} where
     write = λ y. c.write (kind_of y) ++ (next (kind_of y)).write y;
     read = λ whole at. c.read whole at >>= (λ x. (next x.value).read whole x.after);
   }
+
+-- the number of the bytes within a range, and the bytes
+unfoldable pub sized_codec : (width least most : ℕ) → Codec (List ℕ)
+sized_codec width least most = by_kind length (number_codec width least most) bytes_codec
 
 module _ {X : Type 0} where
   -- one codec where the test is true, and else the other
@@ -166,6 +151,10 @@ module _ {X : Type 0} where
   -- the number of the values within a range, and the values
   unfoldable pub counted : (width least most : ℕ) → Codec X → Codec (List X)
   counted width least most c = by_kind length (number_codec width least most) (λ n. many n c)
+
+-- so many digests
+unfoldable pub labels_codec : ℕ → Codec (List (List ℕ))
+labels_codec n = many n digest_codec
 
 module _ {A X : Type 0} (write : X → List ℕ) (f : A → Codec X) where
   abbrev pub EachFits : List A → List X → Type 0

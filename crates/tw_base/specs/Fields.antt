@@ -59,10 +59,6 @@ name = name_part true false 16
 
 -- ---- lists
 
--- the length of a byte string in so many bytes, within a range, and then the string
-unfoldable pub sized_bytes : (width least most : ℕ) → Format (List ℕ)
-sized_bytes width least most = then_by (number width least most) bytes
-
 module _ {X : Type 0} where
   -- so many words of one format, one after another
   unfoldable pub repeated : ℕ → Format X → Format (List X)

@@ -107,18 +107,6 @@ module _ {X Y : Type 0} where
   GivesFront view (Ok y) after reading = reading ≡ Took (view y) after
   GivesFront view (Err place) after reading = reading ≡ Stopped place
 
-  -- the same of a reader that may want memory
-  abbrev pub GivesIfMemory : (Y → X) → Result Y ReadFault → (after : ℕ) → Result (Placed X) ℕ → Type 0
-  GivesIfMemory view (Ok y) after reading = reading ≡ Ok (record { value = view y; after = after })
-  GivesIfMemory view (Err (Malformed place)) after reading = reading ≡ Err place
-  GivesIfMemory view (Err NoMemory) after reading = Unit {0}
-
-  -- the same of a reader that answers the place after the word too
-  abbrev pub GivesWithEnd : (Y → X) → Result (Y × ℕ) ReadFault → Result (Placed X) ℕ → Type 0
-  GivesWithEnd view (Ok read) reading = reading ≡ Ok (record { value = view read.0; after = read.1 })
-  GivesWithEnd view (Err (Malformed place)) reading = reading ≡ Err place
-  GivesWithEnd view (Err NoMemory) reading = Unit {0}
-
   -- a reader of the whole bytes: Ok exactly where they are a word, which then spells the value; Malformed exactly where
   -- they are none, with the length of the longest front that is the front of a word. Want of memory is free
   abbrev pub ReadsAs : (Y → X) → Format X → List ℕ → Result Y ReadFault → Type 0
@@ -134,13 +122,7 @@ module _ {X Y : Type 0} where
   ReadsFrontAs view f bytes (Err NoMemory) = Unit {0}
 
 module _ {Y : Type 0} where
-  -- what a reader read from the front is the answer for the whole bytes, unless bytes follow it
-  abbrev pub IsWholeOf : List ℕ → Result (Y × ℕ) ReadFault → Result Y ReadFault → Type 0
-  IsWholeOf bytes (Ok read) result =
-      (read.1 < length bytes → result ≡ Err (Malformed read.1)) × (length bytes ≤ read.1 → result ≡ Ok read.0)
-  IsWholeOf bytes (Err fault) result = result ≡ Err fault
-
-  -- the same of a reader whose words end at a known place
+  -- what a reader read from the front, up to a place, is the answer for the whole bytes, unless bytes follow
   abbrev pub IsWholeTo : List ℕ → (after : ℕ) → Result Y ReadFault → Result Y ReadFault → Type 0
   IsWholeTo bytes after (Ok value) result =
       (after < length bytes → result ≡ Err (Malformed after)) × (length bytes ≤ after → result ≡ Ok value)

@@ -1,11 +1,10 @@
 -- The texts that are hashed, one definition each. Numbers are big-endian; a digest stands for its 32 bytes, a name for
 -- its 16. The texts of events are those of RFC 6962, section 2.1.
-use Rattle.std.specs.Prelude.{ℕ, List, [], ◌∷◌, ◌++◌, length}
+use Rattle.std.specs.Prelude.{ℕ, List, [], ◌∷◌, ◌++◌, flat_map, length}
 use Rattle.std.specs.Int.{w32, w64, to_be_bytes}
 
 abbrev pub joined : List (List ℕ) → List ℕ
-joined [] = []
-joined (part ∷ parts) = part ++ joined parts
+joined = flat_map (λ part. part)
 
 -- behind the authenticator of step 0
 unfoldable pub genesis_text : (name : List ℕ) → List ℕ

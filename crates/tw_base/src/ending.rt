@@ -1,19 +1,11 @@
 // Readers of whole files.
 
-ghost use Rattle.tw_base.specs.Formats.{IsFrontTo, IsWholeOf, IsWholeTo};
+ghost use Rattle.tw_base.specs.Formats.{IsFrontTo, IsWholeTo};
 
 use crate::failure::ReadFault;
 
-/// The answer for the whole bytes of a reader that read them from the front, and answered the place
-/// after what it read: where bytes follow, they are malformed at that place.
-pub fn whole<T: Drop>(bytes: &[u8], read: Result<(T, u64), ReadFault>) -> Result<T, ReadFault>
-    ensures { IsWholeOf bytes.now read result }
-{
-    let (value, after) = read?;
-    whole_to(bytes, after, Ok(value))
-}
-
-/// The same of a reader whose words end at a known place.
+/// The answer for the whole bytes of a reader that read them from the front, up to a place: where bytes
+/// follow, they are malformed at that place.
 pub fn whole_to<T: Drop>(
     bytes: &[u8],
     after: u64,

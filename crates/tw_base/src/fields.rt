@@ -1,87 +1,17 @@
-// The readers of a file's fields. Each reads the field that begins at a place; where no such field
-// stands there, it answers the place of the first byte that cannot stand there, or the length of
-// bytes that end too early. Numbers are big-endian. Only those that are given an allocator take memory.
+// The fields at a place, for the readers that take them. Where no such field stands there, the answer
+// is the place of the first byte that cannot stand there, or the length of bytes that end too early.
+// Numbers are big-endian.
 
 ghost use Rattle.std.specs.Prelude.{◌≡◌, ℕ, ◌+◌, ◌*◌, ◌^◌, ◌<◌, ◌≤◌, length, take, drop, ◌&&◌, ◌||◌, ◌==◌, IfOk};
-ghost use Rattle.tw_base.specs.Fields.{digest, high_after, low_after, name, number, repeated, text as fixed_text};
-ghost use Rattle.tw_base.specs.Formats.{Gives, GivesFront, GivesIfMemory, front, read_at};
+ghost use Rattle.tw_base.specs.Fields.{digest, high_after, low_after, name, number, text as fixed_text};
+ghost use Rattle.tw_base.specs.Formats.{Gives, GivesFront, front, read_at};
 ghost use Rattle.tw_base.specs.Names.{is_name_byte as is_name_byte_of};
 
 use crate::digest::Digest;
-use crate::failure::ReadFault;
-use crate::label_list::Labels;
-use crate::name::{Name, is_name_byte};
-use std::alloc::Global;
-
-/// The number of `width` bytes (at most 8) at a place, where it is within `least` and `most`; else
-/// the place of the first byte that no number within them has there.
-pub fn read_number(bytes: &[u8], at: u64, width: u8, least: u64, most: u64) -> Result<u64, u64>
-    requires width { width ≤ 8 }
-    requires within { at ≤ length bytes.now }
-    requires range { least ≤ most }
-    requires fits { most < 256 ^ width }
-    ensures read { Gives (λ n. n) result (at + width) (read_at (number width least most) bytes.now at) }
-    ensures within { IfOk result (λ _. at + width ≤ length bytes.now) }
-    ensures range { IfOk result (λ n. (least ≤ n) × (n ≤ most)) }
-{
-    number_at(bytes, at as usize, width, least, most)
-}
-
-/// The digest at a place: 32 bytes.
-pub fn read_digest(bytes: &[u8], at: u64) -> Result<Digest, u64>
-    requires { at ≤ length bytes.now }
-    ensures read { Gives (λ d. d) result (at + 32) (read_at digest bytes.now at) }
-    ensures within { IfOk result (λ _. at + 32 ≤ length bytes.now) }
-{
-    if bytes.len() as u64 - at < 32 {
-        return Err(bytes.len() as u64);
-    }
-    Ok(digest_at(bytes, at))
-}
-
-/// The service's name at a place: 1 to 16 bytes of `a-z`, `0-9` and `-`, and then zeros to 16 bytes.
-pub fn read_name(bytes: &[u8], at: u64) -> Result<Name, u64>
-    requires { at ≤ length bytes.now }
-    ensures read { Gives (λ n. n) result (at + 16) (read_at name bytes.now at) }
-    ensures within { IfOk result (λ _. at + 16 ≤ length bytes.now) }
-{
-    let rest = &bytes[at as usize..];
-    match check_name(rest, at) {
-        Ok(()) => Ok(Name::from_bytes(first_16(rest))),
-        Err(place) => Err(place),
-    }
-}
-
-/// Ok where the text stands at a place.
-pub fn read_text(bytes: &[u8], at: u64, text: &[u8]) -> Result<(), u64>
-    requires { at ≤ length bytes.now }
-    ensures read { Gives (λ _. text.now) result (at + length text.now) (read_at (fixed_text text.now) bytes.now at) }
-    ensures within { IfOk result (λ _. at + length text.now ≤ length bytes.now) }
-{
-    check_text(&bytes[at as usize..], at, text)
-}
-
-/// The digests at a place, so many of them; room for them is taken once, where there are enough
-/// bytes.
-pub fn read_labels(alloc: Global, bytes: &[u8], at: u64, count: u64) -> Result<Labels, ReadFault>
-    requires { at ≤ length bytes.now }
-    ensures read { GivesIfMemory (λ labels. labels) result (at + 32 * count) (read_at (repeated count digest) bytes.now at) }
-    ensures within { IfOk result (λ _. at + 32 * count ≤ length bytes.now) }
-{
-    if (bytes.len() as u64 - at) / 32 < count {
-        return Err(ReadFault::Malformed {
-            place: bytes.len() as u64,
-        });
-    }
-    let mut labels = Labels::with_capacity(alloc, count as usize)?;
-    for i in 0..count {
-        labels.push(digest_at(bytes, at + 32 * i))?;
-    }
-    Ok(labels)
-}
+use crate::name::is_name_byte;
 
 /// The digest at a place that has 32 bytes.
-fn digest_at(bytes: &[u8], at: u64) -> Digest
+pub(crate) fn digest_at(bytes: &[u8], at: u64) -> Digest
     requires { at + 32 ≤ length bytes.now }
     ensures { Gives (λ d. d) (Ok result) (at + 32) (read_at digest bytes.now at) }
 {
@@ -133,7 +63,13 @@ fn high_of(unit: u64, b: u64, most: u64) -> u64
 }
 
 /// The number at a place, byte by byte.
-fn number_at(bytes: &[u8], at: usize, width: u8, least: u64, most: u64) -> Result<u64, u64>
+pub(crate) fn number_at(
+    bytes: &[u8],
+    at: usize,
+    width: u8,
+    least: u64,
+    most: u64,
+) -> Result<u64, u64>
     requires width { width ≤ 8 }
     requires within { at ≤ length bytes.now }
     requires range { least ≤ most }
@@ -162,7 +98,7 @@ fn number_at(bytes: &[u8], at: usize, width: u8, least: u64, most: u64) -> Resul
 }
 
 /// Ok where the bytes, the first of which has this place, begin with a name.
-fn check_name(rest: &[u8], at: u64) -> Result<(), u64>
+pub(crate) fn check_name(rest: &[u8], at: u64) -> Result<(), u64>
     requires { at + length rest.now < 2 ^ 64 }
     ensures read { GivesFront (λ _. take 16 rest.now) result (at + 16) (front name rest.now at) }
     ensures within { IfOk result (λ _. 16 ≤ length rest.now) }
@@ -191,7 +127,7 @@ fn may_stand(b: u8, letters: bool, zeros: bool) -> bool
 }
 
 /// The first 16 bytes.
-fn first_16(bytes: &[u8]) -> [u8; 16]
+pub(crate) fn first_16(bytes: &[u8]) -> [u8; 16]
     requires { 16 ≤ length bytes.now }
     ensures { result ≡ take 16 bytes.now }
 {
@@ -202,7 +138,7 @@ fn first_16(bytes: &[u8]) -> [u8; 16]
 }
 
 /// Ok where the bytes, the first of which has this place, begin with the text.
-fn check_text(rest: &[u8], at: u64, text: &[u8]) -> Result<(), u64>
+pub(crate) fn check_text(rest: &[u8], at: u64, text: &[u8]) -> Result<(), u64>
     requires { at + length rest.now < 2 ^ 64 }
     ensures read { GivesFront (λ _. text.now) result (at + length text.now) (front (fixed_text text.now) rest.now at) }
     ensures within { IfOk result (λ _. length text.now ≤ length rest.now) }
@@ -214,6 +150,3 @@ fn check_text(rest: &[u8], at: u64, text: &[u8]) -> Result<(), u64>
     }
     Ok(())
 }
-
-#[cfg(test)]
-mod tests;

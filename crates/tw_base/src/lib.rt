@@ -2,7 +2,6 @@
 #![tactic(auto)]
 
 mod anchor;
-mod byte_string;
 mod content;
 mod content_taking;
 mod digest;
@@ -22,7 +21,6 @@ pub mod limits;
 mod link_level;
 mod name;
 mod path_sides;
-mod placing;
 mod received_thread;
 mod report;
 mod resuming;
@@ -35,16 +33,14 @@ mod thread;
 mod writers;
 
 pub use anchor::find_anchor;
-pub use byte_string::read_bytes;
 pub use content::Content;
 pub use content_taking::{take_content, take_thread};
 pub use digest::{Digest, is_same_digest};
-pub use ending::{front_to, whole, whole_to};
+pub use ending::{front_to, whole_to};
 pub use event_taking::{take_events, take_events_within};
 pub use event_tree::{audit_path_laws, event_root_laws};
 pub use failing::FailingCalls;
 pub use failure::{Failed, NoMemory, ReadFault};
-pub use fields::{read_digest, read_labels, read_name, read_number, read_text};
 pub use fixed_list::put;
 pub use halves::left_count;
 pub use hasher::{Hasher, Sha, Weak};
@@ -57,7 +53,6 @@ pub use labels::{
 pub use link_level::{power_of_two, top_level};
 pub use name::{Name, is_name_byte};
 pub use path_sides::{path_length, sides_of};
-pub use placing::malformed;
 pub use received_thread::ReceivedThread;
 pub use report::{Claim, Hop, Reason, Report, Seen};
 pub use resuming::{Attempt, Resumed, Segments, missed, read_pieces};

@@ -1,16 +1,15 @@
 // The readers of fields at a place that moves: each takes the field that begins there, and leaves
 // the place behind it. Where the bytes aren't that field they tell the first bad byte, and leave any
 // place.
-#![tactic(auto, unfolding(crate::specs::Codecs::bytes_codec, crate::specs::Codecs::labels_codec, crate::specs::Codecs::name_codec, crate::specs::Codecs::number_codec, crate::specs::Codecs::sized_codec, crate::specs::Codecs::text_codec))]
+#![tactic(auto, unfolding(crate::specs::Codecs::by_kind, crate::specs::Codecs::bytes_codec, crate::specs::Codecs::labels_codec, crate::specs::Codecs::name_codec, crate::specs::Codecs::number_codec, crate::specs::Codecs::sized_codec, crate::specs::Codecs::text_codec))]
 
 ghost use Rattle.std.specs.Prelude.{◌≡◌, ◌^◌, ◌<◌, ◌≤◌, length, replicate, IfOk};
 ghost use Rattle.tw_base.specs.Codecs.{bytes_codec, digest_codec, labels_codec, name_codec, number_codec, sized_codec, text_codec};
 ghost use Rattle.tw_base.specs.Taking.{Takes};
 
-use crate::byte_string::read_bytes;
 use crate::digest::Digest;
 use crate::failure::ReadFault;
-use crate::fields::{read_digest, read_labels, read_name, read_number, read_text};
+use crate::fields::{check_name, check_text, digest_at, first_16, number_at};
 use crate::label_list::Labels;
 use crate::name::Name;
 use crate::sequence::Bytes;
@@ -31,7 +30,7 @@ pub fn take_number(
     ensures takes { Takes (number_codec width least most) (λ n. n) bytes.now at.old at.new result }
     ensures range { IfOk result (λ n. (least ≤ n) × (n ≤ most)) }
 {
-    match read_number(bytes, *at, width, least, most) {
+    match number_at(bytes, *at as usize, width, least, most) {
         Ok(found) => {
             *at += width as u64;
             Ok(found)
@@ -45,13 +44,14 @@ pub fn take_digest(bytes: &[u8], at: &mut u64) -> Result<Digest, ReadFault>
     requires { at.old ≤ length bytes.now }
     ensures { Takes digest_codec (λ d. d) bytes.now at.old at.new result }
 {
-    match read_digest(bytes, *at) {
-        Ok(found) => {
-            *at += 32;
-            Ok(found)
-        }
-        Err(place) => Err(ReadFault::Malformed { place }),
+    if bytes.len() as u64 - *at < 32 {
+        return Err(ReadFault::Malformed {
+            place: bytes.len() as u64,
+        });
     }
+    let found = digest_at(bytes, *at);
+    *at += 32;
+    Ok(found)
 }
 
 /// Takes a service's name.
@@ -59,10 +59,11 @@ pub fn take_name(bytes: &[u8], at: &mut u64) -> Result<Name, ReadFault>
     requires { at.old ≤ length bytes.now }
     ensures { Takes name_codec (λ n. n) bytes.now at.old at.new result }
 {
-    match read_name(bytes, *at) {
-        Ok(found) => {
+    let rest = &bytes[*at as usize..];
+    match check_name(rest, *at) {
+        Ok(()) => {
             *at += 16;
-            Ok(found)
+            Ok(Name::from_bytes(first_16(rest)))
         }
         Err(place) => Err(ReadFault::Malformed { place }),
     }
@@ -73,7 +74,7 @@ pub fn take_text(bytes: &[u8], at: &mut u64, text: &[u8]) -> Result<(), ReadFaul
     requires { at.old ≤ length bytes.now }
     ensures { Takes (text_codec text.now) (λ _. text.now) bytes.now at.old at.new result }
 {
-    match read_text(bytes, *at, text) {
+    match check_text(&bytes[*at as usize..], *at, text) {
         Ok(()) => {
             *at += text.len() as u64;
             Ok(())
@@ -87,8 +88,7 @@ pub fn take_bytes(alloc: Global, bytes: &[u8], at: &mut u64, count: u64) -> Resu
     requires { at.old ≤ length bytes.now }
     ensures { Takes (bytes_codec count) (λ b. b) bytes.now at.old at.new result }
 {
-    let found = read_bytes(alloc, bytes, *at, count)?;
-    *at += count;
+    let found = Bytes::from_slice(alloc, take_slice(bytes, at, count)?)?;
     Ok(found)
 }
 
@@ -112,7 +112,7 @@ pub fn take_sized(
     take_bytes(alloc, bytes, at, size)
 }
 
-/// Takes so many digests.
+/// Takes so many digests. Room for them is taken once, where there are enough bytes.
 pub fn take_labels(
     alloc: Global,
     bytes: &[u8],
@@ -122,9 +122,17 @@ pub fn take_labels(
     requires { at.old ≤ length bytes.now }
     ensures { Takes (labels_codec count) (λ ls. ls) bytes.now at.old at.new result }
 {
-    let found = read_labels(alloc, bytes, *at, count)?;
-    *at += 32 * count;
-    Ok(found)
+    if (bytes.len() as u64 - *at) / 32 < count {
+        return Err(ReadFault::Malformed {
+            place: bytes.len() as u64,
+        });
+    }
+    let mut labels = Labels::with_capacity(alloc, count as usize)?;
+    for _i in 0..count {
+        labels.push(digest_at(bytes, *at))?;
+        *at += 32;
+    }
+    Ok(labels)
 }
 
 /// Takes so many bytes, where they stand.
@@ -152,5 +160,7 @@ pub fn take_zeros(bytes: &[u8], at: &mut u64, count: usize) -> Result<(), ReadFa
     take_text(bytes, at, &zeros[..count])
 }
 
+#[cfg(test)]
+mod field_tests;
 #[cfg(test)]
 mod tests;

@@ -1,11 +1,9 @@
 // The writers of a file's fields: each appends the bytes that the field's reader reads as the value.
 // Numbers are big-endian. After want of memory nothing was appended, but by `put_labels`.
-#![tactic(auto, unfolding(crate::specs::Codecs::bytes_codec, crate::specs::Codecs::labels_codec, crate::specs::Codecs::name_codec, crate::specs::Codecs::number_codec, crate::specs::Codecs::sized_codec, crate::specs::Codecs::text_codec))]
+#![tactic(auto, unfolding(crate::specs::Codecs::by_kind, crate::specs::Codecs::bytes_codec, crate::specs::Codecs::labels_codec, crate::specs::Codecs::name_codec, crate::specs::Codecs::number_codec, crate::specs::Codecs::sized_codec, crate::specs::Codecs::text_codec))]
 
-ghost use Rattle.std.specs.Prelude.{◌≡◌, ℕ, ◌^◌, ◌<◌, ◌≤◌, ◌++◌, length, take, OnOk, OnErr};
+ghost use Rattle.std.specs.Prelude.{◌≡◌, ℕ, ◌-◌, ◌^◌, ◌<◌, ◌≤◌, ◌++◌, length, take, OnErr};
 ghost use Rattle.tw_base.specs.Codecs.{bytes_codec, digest_codec, labels_codec, name_codec, number_codec, sized_codec, text_codec};
-ghost use Rattle.tw_base.specs.Fields.{bytes as any_bytes, digest as digest_format, name as name_format, number, number_bytes, repeated};
-ghost use Rattle.tw_base.specs.Formats.{Spells};
 ghost use Rattle.tw_base.specs.Taking.{Puts};
 ghost use Rattle.tw_base.specs.Texts.{joined};
 
@@ -19,10 +17,8 @@ use crate::sequence::Bytes;
 pub fn put_number(into: &mut Bytes, value: u64, width: u8) -> Result<(), NoMemory>
     requires width { width ≤ 8 }
     requires fits { value < 256 ^ width }
-    ensures ok { OnOk result (into.new ≡ into.old ++ number_bytes width value) }
+    ensures puts { Puts (number_codec width 0 (256 ^ width - 1)) value into.old into.new result }
     ensures err { OnErr result (into.new ≡ into.old) }
-    ensures spelled { (least most : ℕ) → least ≤ value → value ≤ most → most < 256 ^ width → Spells (number width least most) (number_bytes width value) value }
-    ensures puts { (least most : ℕ) → least ≤ value → value ≤ most → Puts (number_codec width least most) value into.old into.new result }
 {
     let bytes = value.to_be_bytes();
     into.extend_from_slice(&bytes[8 - width as usize..])
@@ -30,20 +26,16 @@ pub fn put_number(into: &mut Bytes, value: u64, width: u8) -> Result<(), NoMemor
 
 /// Appends the 16 bytes of a name.
 pub fn put_name(into: &mut Bytes, name: &Name) -> Result<(), NoMemory>
-    ensures ok { OnOk result (into.new ≡ into.old ++ name.now) }
-    ensures err { OnErr result (into.new ≡ into.old) }
-    ensures spelled { Spells name_format name.now name.now }
     ensures puts { Puts name_codec name.now into.old into.new result }
+    ensures err { OnErr result (into.new ≡ into.old) }
 {
     into.extend_from_slice(name.as_bytes())
 }
 
 /// Appends the 32 bytes of a digest.
 pub fn put_digest(into: &mut Bytes, digest: &Digest) -> Result<(), NoMemory>
-    ensures ok { OnOk result (into.new ≡ into.old ++ digest.now) }
-    ensures err { OnErr result (into.new ≡ into.old) }
-    ensures spelled { Spells digest_format digest.now digest.now }
     ensures puts { Puts digest_codec digest.now into.old into.new result }
+    ensures err { OnErr result (into.new ≡ into.old) }
 {
     put_bytes(into, &digest.0)
 }
@@ -51,10 +43,8 @@ pub fn put_digest(into: &mut Bytes, digest: &Digest) -> Result<(), NoMemory>
 /// Appends the 32 bytes of each label. After want of memory some of the labels are appended.
 #[tactic(auto, using(crate::proofs::Joined::more))]
 pub fn put_labels(into: &mut Bytes, labels: &Labels) -> Result<(), NoMemory>
-    ensures ok { OnOk result (into.new ≡ into.old ++ joined labels.now) }
-    ensures err { OnErr result ((n : ℕ) × (into.new ≡ into.old ++ joined (take n labels.now))) }
-    ensures spelled { OnOk result (Spells (repeated (length labels.now) digest_format) (joined labels.now) labels.now) }
     ensures puts { Puts (labels_codec (length labels.now)) labels.now into.old into.new result }
+    ensures err { OnErr result ((n : ℕ) × (into.new ≡ into.old ++ joined (take n labels.now))) }
 {
     for label in labels.as_slice() {
         put_digest(into, label)?;
@@ -64,10 +54,8 @@ pub fn put_labels(into: &mut Bytes, labels: &Labels) -> Result<(), NoMemory>
 
 /// Appends the bytes.
 pub fn put_bytes(into: &mut Bytes, bytes: &[u8]) -> Result<(), NoMemory>
-    ensures ok { OnOk result (into.new ≡ into.old ++ bytes.now) }
-    ensures err { OnErr result (into.new ≡ into.old) }
-    ensures spelled { Spells (any_bytes (length bytes.now)) bytes.now bytes.now }
     ensures puts { Puts (bytes_codec (length bytes.now)) bytes.now into.old into.new result }
+    ensures err { OnErr result (into.new ≡ into.old) }
 {
     into.extend_from_slice(bytes)
 }

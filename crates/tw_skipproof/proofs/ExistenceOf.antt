@@ -1,5 +1,5 @@
 -- The existence proof that a history has of an event is accepted under the history's authenticator of the top, and is spelled.
-use Rattle.std.proofs.Common.{◌≡◌, ℕ, suc, zero, ◌-◌, ◌<◌, ◌≤◌, ◌^◌, List, [], ◌∷◌, length, ap, sym, ◌∙◌, subst, arith, lit≤}
+use Rattle.std.proofs.Common.{refl, ◌≡◌, ℕ, suc, zero, ◌-◌, ◌<◌, ◌≤◌, ◌^◌, List, [], ◌∷◌, length, ap, sym, ◌∙◌, subst, arith, lit≤}
 use Rattle.std.specs.Prelude.{Some, slice_get}
 use Rattle.std.proofs.lemmas.Option.{get_or_from_slice_get, slice_get_within}
 use Rattle.tw_base.specs.AuditPath.{ChecksEvent}
@@ -8,7 +8,7 @@ use Rattle.tw_base.specs.EventTree.{audit_path, event_root}
 use Rattle.tw_base.specs.History.{History, events_at}
 use Rattle.tw_base.specs.Lists.{Each}
 use Rattle.tw_base.specs.Bytes.{AreBytes}
-use Rattle.tw_base.specs.Codecs.{bytes_codec, labels_codec, number_codec, pair, seen, sized_codec}
+use Rattle.tw_base.specs.Codecs.{by_kind, bytes_codec, labels_codec, many, number_codec, pair, seen, sized_codec}
 use Rattle.tw_base.specs.Formats.{Spells}
 use Rattle.tw_base.specs.Names.{IsName}
 use Rattle.tw_base.specs.Sound.{IsSound}
@@ -119,7 +119,7 @@ module _ (dig : List ℕ → List ℕ) (h : History) (step index top : ℕ) (p :
     own_labels n = map-digests dig size are _
 
     links-fit : (links : List Link) (from to : ℕ) → IsPathOf dig h links from to → Each FitsAsLink links
-    unfolding link_codec seen pair bytes_codec labels_codec
+    unfolding link_codec seen pair bytes_codec labels_codec many
     links-fit [] from to made = tt
     links-fit (link ∷ links) from to made = (
       λ step count. (
@@ -130,7 +130,7 @@ module _ (dig : List ℕ → List ℕ) (h : History) (step index top : ℕ) (p :
     )
 
     opening-fits : FitsAsOpening p.at.opening
-    unfolding opening_codec seen pair bytes_codec number_codec labels_codec
+    unfolding opening_codec seen pair bytes_codec number_codec labels_codec many
     opening-fits least at count low few =
         let binds = is.opening.binds in (
           subst IsDigest binds.event_root (event_root-digest dig size are _),
@@ -147,12 +147,12 @@ module _ (dig : List ℕ → List ℕ) (h : History) (step index top : ℕ) (p :
         )
 
     event-fits : IsSound h → FitsAsEvent p.event
-    unfolding event_codec seen pair number_codec sized_codec labels_codec
+    unfolding event_codec seen pair number_codec sized_codec by_kind labels_codec many bytes_codec
     event-fits sound count inside short labels =
         let event = event-within AreBytes (events_at h step) index p.event.event tt (sound-may_record h step sound).are.bytes is.event in (
           (omega arith, omega (arith, inside)),
           (
-            ((omega arith, short), event),
+            ((omega arith, short), (refl, event)),
             (labels, subst (Each IsDigest) (sym is.event_path) (audit_path-digests dig size are (events_at h step) index)),
           ),
         )

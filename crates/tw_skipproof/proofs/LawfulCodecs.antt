@@ -1,7 +1,7 @@
 -- The codecs of openings, paths and existence proofs are lawful.
 use Rattle.std.proofs.Common.{ℕ, ◌≤◌, List, [], ◌∷◌, refl, arith, lit≤}
 use Rattle.tw_base.specs.declared.limits.TheConstants.{MOST_EVENTS}
-use Rattle.tw_base.specs.Codecs.{EachFits, behind, each, labels_codec, name_codec, number_codec, pair, seen}
+use Rattle.tw_base.specs.Codecs.{EachFits, behind, bytes_codec, each, labels_codec, many, name_codec, number_codec, pair, seen}
 use Rattle.tw_base.specs.Lists.{Each}
 use Rattle.tw_base.specs.Names.{IsName}
 use Rattle.tw_base.proofs.CodecLaws.{Lawful, lawful, lawful-each}
@@ -27,7 +27,7 @@ unfolding link_codec
 link-lawful step = search lawful depth 20
 
 pub path-lawful : (from to : ℕ) → Lawful (path_codec from to)
-unfolding path_codec link_bytes link_codec seen pair labels_codec
+unfolding path_codec link_bytes link_codec seen pair labels_codec many bytes_codec
 path-lawful from to = lawful-each link_bytes link_codec link-lawful (λ step l. refl) (greedy_steps from to)
 
 pub event-lawful : (count : ℕ) → count ≤ MOST_EVENTS → Lawful (event_codec count)

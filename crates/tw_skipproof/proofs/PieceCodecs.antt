@@ -3,7 +3,7 @@ use Rattle.std.proofs.Common.{◌≡◌, ℕ, suc, zero, ◌+◌, ◌*◌, ◌<�
 use Rattle.std.specs.Prelude.{Ok}
 use Rattle.std.proofs.lemmas.Bool.{cases_lt}
 use Rattle.std.proofs.lemmas.List.{append-nil, length-append, length-drop, length-take-le, take-append-drop}
-use Rattle.tw_base.specs.Codecs.{Codec, behind, bytes_codec, each, each_format, labels_codec, name_codec, number_codec, pair, seen}
+use Rattle.tw_base.specs.Codecs.{Codec, behind, bytes_codec, each, each_format, labels_codec, many, name_codec, number_codec, pair, seen}
 use Rattle.tw_base.specs.declared.resuming.Attempt.TheVariants.{Ended, Front}
 use Rattle.tw_base.specs.Fields.{number_bytes, text}
 use Rattle.tw_base.specs.Formats.{Format, GoesOn, IsFront, IsPlace, Spells, SpellsNothing, then_by}
@@ -43,11 +43,11 @@ unfolding head_codec behind
 head-some h fits = omega arith
 
 pub link-some : (step : ℕ) (l : Link) → (link_codec step).Fits l → 0 < length ((link_codec step).write l)
-unfolding link_codec seen pair bytes_codec labels_codec
+unfolding link_codec seen pair bytes_codec labels_codec many
 link-some step l fits = omega (arith, fits.0.0, length-append l.datum (joined l.others))
 
 opening-some : (step : ℕ) (o : Opening) → (opening_codec 1 step).Fits o → 0 < length ((opening_codec 1 step).write o)
-unfolding opening_codec seen pair bytes_codec number_codec labels_codec
+unfolding opening_codec seen pair bytes_codec number_codec labels_codec many
 opening-some step o fits = omega (arith, fits.0.0, length-append o.event_root (o.archive_root ++ (number_bytes 4 o.count ++ (o.prev ++ joined o.others))))
 
 pub tail-some : (step : ℕ) (t : Opening × EventPart) → (tail_codec step).Fits t → 0 < length ((tail_codec step).write t)
@@ -173,7 +173,7 @@ tail-ended held after m t p none is e =
 
 -- any bytes of its size are a link
 pub link-any : (step : ℕ) → TakesAny (link_codec step).format (32 + 32 * top_level step)
-unfolding link_codec seen pair bytes_codec labels_codec
+unfolding link_codec seen pair bytes_codec labels_codec many
 link-any step = record {
   any = λ word are size. (
       let rest = labels-any (top_level step) (drop 32 word) (AreBytes-drop 32 word are) (omega (arith, size, length-drop 32 word)) in

@@ -3,7 +3,7 @@ use Rattle.std.proofs.Common.{◌≡◌, ℕ, ◌-◌, ◌*◌, ◌<◌, ◌≤�
 use Rattle.std.proofs.lemmas.Bool.{cases_lt}
 use Rattle.std.proofs.lemmas.List.{length-append}
 use Rattle.tw_base.specs.declared.limits.TheConstants.{LAST_STEP, MOST_EVENTS}
-use Rattle.tw_base.specs.Codecs.{EachFits, behind, bytes_codec, each, labels_codec, number_codec, pair, seen, sized_codec}
+use Rattle.tw_base.specs.Codecs.{EachFits, behind, by_kind, bytes_codec, each, labels_codec, many, number_codec, pair, seen, sized_codec}
 use Rattle.tw_base.specs.Texts.{joined}
 use Rattle.tw_base.proofs.AuditPaths.{path_length-le}
 use Rattle.tw_base.proofs.CodecSizes.{AtMost, at_most-behind, at_most-bytes, at_most-labels, at_most-name, at_most-number, at_most-pair, at_most-seen, at_most-sized, length-joined}
@@ -18,7 +18,7 @@ use Rattle.tw_skipproof.proofs.LawfulCodecs.{opening-few}
 use Rattle.tw_skipproof.proofs.PathSizes.{few_digests, weight}
 
 pub path-shape : (links : List Link) (from to : ℕ) → EachFits link_bytes link_codec (greedy_steps from to) links → HasShape links from to
-unfolding link_codec seen pair labels_codec
+unfolding link_codec seen pair labels_codec many bytes_codec
 path-shape [] from to fits =
     elim (cases_lt to from) [ inr none ↦ none | inl more ↦ absurd (rw (greedy_steps-more from to more) at fits) ]
 path-shape (l ∷ links) from to fits =
@@ -28,7 +28,7 @@ path-shape (l ∷ links) from to fits =
     ]
 
 pub existence-shape : (p : ExistenceProof) → existence_codec.Fits p → IsShaped p × IsExistenceInRange p
-unfolding existence_codec existence_body opening_codec event_codec path_codec each behind pair seen number_codec sized_codec labels_codec
+unfolding existence_codec existence_body opening_codec event_codec path_codec each behind pair seen number_codec sized_codec by_kind labels_codec many bytes_codec
 existence-shape p fits =
     let step = fits.1.0 in
     let top = fits.1.1.0 in
@@ -54,7 +54,7 @@ event-most count few =
     at_most-pair _ _ 1028 320 (at_most-sized 4 0 1024) (λ _ _. at_most-labels _ 10 (path_length-le 10 count index few))))
 
 links-weight : (steps : List ℕ) (links : List Link) → EachFits link_bytes link_codec steps links → length (flat_map link_bytes links) ≡ 32 * weight links
-unfolding link_bytes link_codec seen pair bytes_codec labels_codec
+unfolding link_bytes link_codec seen pair bytes_codec labels_codec many
 links-weight [] [] fits = omega arith
 links-weight [] (l ∷ links) fits = cc
 links-weight (step ∷ steps) [] fits = absurd fits

@@ -1,5 +1,5 @@
 // Writing openings, paths and existence proofs.
-#![tactic(auto, unfolding(crate::specs::Codecs::event_codec, crate::specs::Codecs::link_bytes, crate::specs::Codecs::link_codec, crate::specs::Codecs::opening_bytes, crate::specs::Codecs::opening_codec, tw_base::specs::Codecs::bytes_codec, tw_base::specs::Codecs::labels_codec, tw_base::specs::Codecs::number_codec, tw_base::specs::Codecs::pair, tw_base::specs::Codecs::seen, tw_base::specs::Codecs::sized_codec))]
+#![tactic(auto, unfolding(crate::specs::Codecs::event_codec, crate::specs::Codecs::link_bytes, crate::specs::Codecs::link_codec, crate::specs::Codecs::opening_bytes, crate::specs::Codecs::opening_codec, tw_base::specs::Codecs::by_kind, tw_base::specs::Codecs::bytes_codec, tw_base::specs::Codecs::labels_codec, tw_base::specs::Codecs::many, tw_base::specs::Codecs::number_codec, tw_base::specs::Codecs::pair, tw_base::specs::Codecs::seen, tw_base::specs::Codecs::sized_codec))]
 
 ghost use Rattle.std.specs.Prelude.{◌≡◌, ℕ, ◌^◌, ◌<◌, ◌≤◌, [], ◌++◌, length, IfOk, OnOk};
 ghost use Rattle.tw_base.specs.declared.limits.TheConstants.{MOST_EVENTS};
@@ -17,7 +17,7 @@ use crate::opening::Opening;
 use crate::path::{Link, Path};
 use std::alloc::Global;
 use tw_base::{
-    Bytes, NoMemory, put_bytes, put_digest, put_labels, put_name, put_number, put_sized,
+    Bytes, NoMemory, put_digest, put_labels, put_name, put_number, put_sized, put_text,
 };
 
 /// No bytes, with room for so many.
@@ -72,13 +72,13 @@ fn put_event(into: &mut Bytes, event: &EventPart) -> Result<(), NoMemory>
 }
 
 /// Appends the proof.
-#[tactic(auto, unfolding(crate::specs::Codecs::event_codec, crate::specs::Codecs::existence_body, crate::specs::Codecs::existence_codec, crate::specs::Codecs::opening_bytes, crate::specs::Codecs::opening_codec, crate::specs::Codecs::path_bytes, crate::specs::Codecs::path_codec, tw_base::specs::Codecs::behind, tw_base::specs::Codecs::each, tw_base::specs::Codecs::labels_codec, tw_base::specs::Codecs::name_codec, tw_base::specs::Codecs::number_codec, tw_base::specs::Codecs::pair, tw_base::specs::Codecs::seen, tw_base::specs::Codecs::sized_codec))]
+#[tactic(auto, unfolding(crate::specs::Codecs::event_codec, crate::specs::Codecs::existence_body, crate::specs::Codecs::existence_codec, crate::specs::Codecs::opening_bytes, crate::specs::Codecs::opening_codec, crate::specs::Codecs::path_bytes, crate::specs::Codecs::path_codec, tw_base::specs::Codecs::behind, tw_base::specs::Codecs::by_kind, tw_base::specs::Codecs::bytes_codec, tw_base::specs::Codecs::each, tw_base::specs::Codecs::labels_codec, tw_base::specs::Codecs::many, tw_base::specs::Codecs::name_codec, tw_base::specs::Codecs::number_codec, tw_base::specs::Codecs::pair, tw_base::specs::Codecs::seen, tw_base::specs::Codecs::sized_codec, tw_base::specs::Codecs::text_codec))]
 fn put_existence(into: &mut Bytes, proof: &ExistenceProof) -> Result<(), NoMemory>
     requires { length proof.now.event.event < 2 ^ 32 }
     ensures ok { OnOk result (into.new ≡ into.old ++ existence_bytes proof.now) }
     ensures fits { OnOk result (IsExistenceInRange proof.now → IsShaped proof.now → existence_codec.Fits proof.now) }
 {
-    put_bytes(into, &MAGIC)?;
+    put_text(into, &MAGIC)?;
     put_name(into, &proof.at.service)?;
     put_number(into, proof.at.step, 8)?;
     put_number(into, proof.at.top, 8)?;

@@ -1,12 +1,9 @@
 // The worked values of two small timelines, under the digest whose first byte is the sum of the text.
 
 use super::*;
-use crate::byte_string::read_bytes;
-use crate::failure::ReadFault;
 use crate::hasher::{Sha, Weak};
 use crate::thread::Thread;
 use std::process::Abort;
-use std::test::Fail;
 
 /// A digest of the weak hasher.
 fn short(first: u8) -> Digest {
@@ -71,15 +68,4 @@ fn leaf_of_the_empty_event(rt: HostRuntime) {
     let leaf = event_leaf::<Sha>(b"");
     assert_eq!(rt; &leaf.0[..4], [0x6e, 0x34, 0x0b, 0x9c].as_slice());
     assert_eq!(rt; &leaf.0[29..], [0xaf, 0xa0, 0x1d].as_slice());
-}
-
-#[test]
-fn byte_string_at_a_place(rt: HostRuntime) -> Result<(), Fail> {
-    let bytes = read_bytes(rt.alloc(), b"timeweave", 4, 5)?;
-    assert_eq!(rt; bytes.as_slice(), b"weave".as_slice());
-    match read_bytes(rt.alloc(), b"timeweave", 4, 6) {
-        Ok(_) => panic!(rt; "six bytes"),
-        Err(fault) => assert_eq!(rt; fault, ReadFault::Malformed { place: 9 }),
-    }
-    Ok(())
 }

@@ -39,6 +39,18 @@ fn runs_of_bytes(rt: HostRuntime) -> Result<(), Fail> {
 }
 
 #[test]
+fn byte_string_at_a_place(rt: HostRuntime) -> Result<(), Fail> {
+    let mut at = 4;
+    let bytes = take_bytes(rt.alloc(), b"timeweave", &mut at, 5)?;
+    assert_eq!(rt; bytes.as_slice(), b"weave".as_slice());
+    match take_bytes(rt.alloc(), b"timeweave", &mut 4, 6) {
+        Ok(_) => panic!(rt; "six bytes"),
+        Err(fault) => assert_eq!(rt; fault, ReadFault::Malformed { place: 9 }),
+    }
+    Ok(())
+}
+
+#[test]
 fn events_of_a_step(rt: HostRuntime) -> Result<(), Fail> {
     let bytes = [1, 0, 0, 0, 1, 0, 0, 0, 2, 104, 105];
     let mut at = 0;

@@ -1,9 +1,15 @@
+use Rattle.std.proofs.Common.{arith}
 use Rattle.tw_base.specs.Codecs.{bytes_codec}
 use Rattle.tw_base.proofs.CodecLaws.{lawful-bytes}
+use Rattle.tw_base.proofs.FieldLaws.{bytes-short}
 use Rattle.tw_base.proofs.TakeLaws.{took-fits}
 use Rattle.tw_base.proofs.taking.take_digest.Goals as goal
 
-pub returns-in-Ok : goal.returns-in-Ok
+pub returns-then-bytes-at-lt32 : goal.returns-then-bytes-at-lt32
 unfolding bytes_codec
-returns-in-Ok c =
-    let fits = took-fits (bytes_codec 32) (lawful-bytes 32) c.args.bytes.now c.args.at.now _ _ c.requires c.in-Ok.ensures.read in (c.in-Ok.ensures.read, fits.0, fits.1)
+returns-then-bytes-at-lt32 c = bytes-short 32 c.args.bytes.now c.args.at.now (λ i. omega (arith, c.type_inv.bytes i)) c.requires (omega arith)
+
+pub returns : goal.returns
+unfolding bytes_codec
+returns c =
+    let fits = took-fits (bytes_codec 32) (lawful-bytes 32) c.args.bytes.now c.args.at.now _ _ c.requires c.digest_at-found.ensures in (c.digest_at-found.ensures, fits.0, fits.1)

@@ -1,9 +1,18 @@
+use Rattle.std.proofs.Common.{◌+◌, length}
+use Rattle.std.specs.Prelude.{Ok, Err}
 use Rattle.tw_base.specs.Codecs.{text_codec}
+use Rattle.tw_base.specs.Fields.{text as fixed_text}
 use Rattle.tw_base.proofs.CodecLaws.{lawful-text}
+use Rattle.tw_base.proofs.FormatLaws.{gives_rest}
 use Rattle.tw_base.proofs.TakeLaws.{took-fits}
 use Rattle.tw_base.proofs.taking.take_text.Goals as goal
 
 pub returns-in-Ok : goal.returns-in-Ok
 unfolding text_codec
 returns-in-Ok c =
-    let fits = took-fits (text_codec c.args.text.now) (lawful-text c.args.text.now) c.args.bytes.now c.args.at.now _ _ c.requires c.in-Ok.ensures.read in (c.in-Ok.ensures.read, fits.0, fits.1)
+    let read = gives_rest {Y = Unit {0}} (fixed_text c.args.text.now) (λ _. c.args.text.now) (Ok tt) c.args.bytes.now c.args.at.now (c.args.at.now + length c.args.text.now) c.in-Ok.ensures.read in
+    let fits = took-fits (text_codec c.args.text.now) (lawful-text c.args.text.now) c.args.bytes.now c.args.at.now _ _ c.requires read in (read, fits.0, fits.1)
+
+pub returns-in-Err : goal.returns-in-Err
+unfolding text_codec
+returns-in-Err c = gives_rest {Y = Unit {0}} (fixed_text c.args.text.now) (λ _. c.args.text.now) (Err c.in-Err.place) c.args.bytes.now c.args.at.now (c.args.at.now + length c.args.text.now) c.in-Err.ensures.read

@@ -1,7 +1,6 @@
-use Rattle.std.proofs.Common.{◌≡◌, ◌++◌, take}
-use Rattle.tw_base.specs.Texts.{joined}
-use Rattle.tw_base.proofs.FieldLaws.{LabelsSpelled}
+use Rattle.tw_base.specs.Codecs.{HasBytes}
+use Rattle.tw_base.proofs.PutLaws.{ManyPut}
 use Rattle.tw_base.proofs.writers.put_labels.Given as goal
 
 abbrev pub invariant-loop-label : goal.invariant-loop-label
-invariant-loop-label l = (l.into ≡ l.initial.into ++ joined (take l.label-index l.label-items)) × LabelsSpelled l.label-items l.label-index
+invariant-loop-label l = ManyPut (λ label. label) (HasBytes 32) l.initial.into l.into l.label-items l.label-index

@@ -18,7 +18,7 @@ returns-clause-ok c =
     let inside = c.history.inside in
     rw (← c.history.view_is)
     (four_put c.args.into.now history_magic inside.name (number_bytes 8 c.len.result) (flat_map step_codec.write (steps_of_table c.as_slice.result.now c.as_slice-2.result.now)) _ _ _ _
-    c.in_ok-put_text.ensures.0 c.in_ok-put_name.ensures.ok c.in_ok-put_number.ensures.ok c.in_ok-put_steps.ensures.ok
+    c.in_ok-put_text.ensures.0 c.in_ok-put_name.ensures.puts.0 c.in_ok-put_number.ensures.puts.0 c.in_ok-put_steps.ensures.ok
     ∙ ap (λ n. c.args.into.now ++ (history_magic ++ (inside.name ++ (number_bytes 8 n ++ flat_map step_codec.write (steps_of_table c.as_slice.result.now c.as_slice-2.result.now)))))
     (c.len.ensures ∙ sym (length-steps_of_table inside.steps inside.nodes))
     ∙ (λ k. c.args.into.now ++ (history_magic ++ (inside.name ++ (number_bytes 8 (length (steps_of_table inside.steps inside.nodes)) ++ flat_map step_codec.write (steps_of_table (c.as_slice.ensures k) (c.as_slice-2.ensures k)))))))

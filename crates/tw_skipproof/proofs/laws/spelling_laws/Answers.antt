@@ -1,5 +1,5 @@
 use Rattle.std.proofs.Common.{lit≤, arith}
-use Rattle.tw_base.specs.Codecs.{each, labels_codec, pair, seen}
+use Rattle.tw_base.specs.Codecs.{bytes_codec, each, labels_codec, many, pair, seen}
 use Rattle.tw_base.proofs.CodecLaws.{spelled-fits, unambiguous, written-as}
 use Rattle.tw_base.proofs.CodecSizes.{word-size}
 use Rattle.tw_skipproof.specs.Codecs.{existence_codec, opening_bytes, opening_codec, path_bytes, path_codec}
@@ -8,11 +8,11 @@ use Rattle.tw_skipproof.proofs.Shapes.{existence-most, existence-shape, path-mos
 use Rattle.tw_skipproof.proofs.laws.spelling_laws.Goals as goal
 
 pub returns-clause-opening : goal.returns-clause-opening
-unfolding opening_bytes opening_codec seen pair labels_codec
+unfolding opening_bytes opening_codec seen pair labels_codec many bytes_codec
 returns-clause-opening c = λ step. let l = opening-lawful 0 step (lit≤ tt) in (unambiguous _ l, written-as _ l)
 
 pub returns-clause-opening_labels : goal.returns-clause-opening_labels
-unfolding opening_codec seen pair labels_codec
+unfolding opening_codec seen pair labels_codec many bytes_codec
 returns-clause-opening_labels c = λ step bytes o s. (spelled-fits _ (opening-lawful 0 step (lit≤ tt)) bytes o s).1.1.1.1.0
 
 pub returns-clause-path : goal.returns-clause-path

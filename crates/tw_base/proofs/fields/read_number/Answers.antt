@@ -1,6 +1,0 @@
-use Rattle.tw_base.specs.Fields.{number}
-use Rattle.tw_base.proofs.FormatLaws.{gives_read}
-use Rattle.tw_base.proofs.fields.read_number.Goals as goal
-
-pub returns-clause-read : goal.returns-clause-read
-returns-clause-read c = gives_read (number c.args.width c.args.least c.args.most) (λ n. n) c.number_at.result c.args.bytes.now c.args.at _ c.number_at.ensures.read
