@@ -8,7 +8,20 @@ ghost use Rattle.tw_base.specs.Formats.{Gives, GivesFront, front, read_at};
 ghost use Rattle.tw_base.specs.Names.{is_name_byte as is_name_byte_of};
 
 use crate::digest::Digest;
-use crate::name::is_name_byte;
+use crate::name::{Name, is_name_byte};
+
+/// The service's name at a place: 1 to 16 bytes of `a-z`, `0-9` and `-`, and then zeros to 16 bytes.
+pub fn read_name(bytes: &[u8], at: u64) -> Result<Name, u64>
+    requires { at ≤ length bytes.now }
+    ensures read { Gives (λ n. n) result (at + 16) (read_at name bytes.now at) }
+    ensures within { IfOk result (λ _. at + 16 ≤ length bytes.now) }
+{
+    let rest = &bytes[at as usize..];
+    match check_name(rest, at) {
+        Ok(()) => Ok(Name::from_bytes(first_16(rest))),
+        Err(place) => Err(place),
+    }
+}
 
 /// The digest at a place that has 32 bytes.
 pub(crate) fn digest_at(bytes: &[u8], at: u64) -> Digest
@@ -98,7 +111,7 @@ pub(crate) fn number_at(
 }
 
 /// Ok where the bytes, the first of which has this place, begin with a name.
-pub(crate) fn check_name(rest: &[u8], at: u64) -> Result<(), u64>
+fn check_name(rest: &[u8], at: u64) -> Result<(), u64>
     requires { at + length rest.now < 2 ^ 64 }
     ensures read { GivesFront (λ _. take 16 rest.now) result (at + 16) (front name rest.now at) }
     ensures within { IfOk result (λ _. 16 ≤ length rest.now) }
@@ -127,7 +140,7 @@ fn may_stand(b: u8, letters: bool, zeros: bool) -> bool
 }
 
 /// The first 16 bytes.
-pub(crate) fn first_16(bytes: &[u8]) -> [u8; 16]
+fn first_16(bytes: &[u8]) -> [u8; 16]
     requires { 16 ≤ length bytes.now }
     ensures { result ≡ take 16 bytes.now }
 {

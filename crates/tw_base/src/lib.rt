@@ -41,6 +41,7 @@ pub use event_taking::{take_events, take_events_within};
 pub use event_tree::{audit_path_laws, event_root_laws};
 pub use failing::FailingCalls;
 pub use failure::{Failed, NoMemory, ReadFault};
+pub use fields::read_name;
 pub use fixed_list::put;
 pub use halves::left_count;
 pub use hasher::{Hasher, Sha, Weak};

@@ -9,7 +9,7 @@ ghost use Rattle.tw_base.specs.Taking.{Takes};
 
 use crate::digest::Digest;
 use crate::failure::ReadFault;
-use crate::fields::{check_name, check_text, digest_at, first_16, number_at};
+use crate::fields::{check_text, digest_at, number_at, read_name};
 use crate::label_list::Labels;
 use crate::name::Name;
 use crate::sequence::Bytes;
@@ -59,11 +59,10 @@ pub fn take_name(bytes: &[u8], at: &mut u64) -> Result<Name, ReadFault>
     requires { at.old ≤ length bytes.now }
     ensures { Takes name_codec (λ n. n) bytes.now at.old at.new result }
 {
-    let rest = &bytes[*at as usize..];
-    match check_name(rest, *at) {
-        Ok(()) => {
+    match read_name(bytes, *at) {
+        Ok(found) => {
             *at += 16;
-            Ok(Name::from_bytes(first_16(rest)))
+            Ok(found)
         }
         Err(place) => Err(ReadFault::Malformed { place }),
     }
