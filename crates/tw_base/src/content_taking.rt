@@ -10,6 +10,8 @@ use crate::content::Content;
 use crate::event_taking::take_events;
 use crate::failure::ReadFault;
 use crate::limits::LAST_STEP;
+use crate::received_thread::ReceivedThread;
+use crate::step_events::StepEvents;
 use crate::taking::{take_digest, take_name, take_number};
 use crate::thread::Thread;
 use crate::time::take_time;
@@ -38,10 +40,10 @@ fn take_content(
 {
     if is_events {
         let events = take_events(alloc, bytes, at)?;
-        return Ok(Content::Events(events));
+        return Ok(Content::Events(StepEvents::new(events)));
     }
     let thread = take_thread(bytes, at)?;
-    Ok(Content::Received(thread))
+    Ok(Content::Received(ReceivedThread::new(alloc, thread)?))
 }
 
 /// Whether a step of this kind has a time.

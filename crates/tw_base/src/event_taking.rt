@@ -25,7 +25,9 @@ fn take_event_list(
     requires fits { most < 256 ^ 4 }
     ensures { Takes (many count (sized_codec 4 0 most)) (λ events. events) bytes.now at.old at.new result }
 {
-    let mut events = EventList::new(alloc);
+    // Each event has at least the four bytes of its length.
+    let most_left = (bytes.len() as u64 - *at) / 4;
+    let mut events = EventList::with_capacity(alloc, count.min(most_left) as usize)?;
     for _i in 0..count {
         events.push(take_sized(alloc, bytes, at, 4, 0, most)?)?;
     }

@@ -22,11 +22,13 @@ pub mod limits;
 mod link_level;
 mod name;
 mod path_sides;
+mod received_thread;
 mod report;
 mod resuming;
 mod root;
 mod sequence;
 mod side;
+mod step_events;
 mod taking;
 mod thread;
 mod time;
@@ -55,11 +57,13 @@ pub use labels::{
 pub use link_level::{power_of_two, top_level};
 pub use name::{Name, is_name_byte};
 pub use path_sides::{path_length, sides_of};
+pub use received_thread::ReceivedThread;
 pub use report::{Claim, Hop, Reason, Report, Seen};
 pub use resuming::{Attempt, Resumed, Segments, missed, read_pieces};
 pub use root::Root;
 pub use sequence::{Bytes, EventList, Sequence};
 pub use side::Side;
+pub use step_events::StepEvents;
 pub use taking::{
     take_bytes, take_digest, take_labels, take_name, take_number, take_sized, take_slice,
     take_text, take_zeros,

@@ -36,6 +36,13 @@ impl<T: Drop> Sequence<T> {
         }
     }
 
+    /// No items, with room for so many.
+    pub fn with_capacity(alloc: Global, capacity: usize) -> Result<Self, NoMemory>
+        ensures { IfOk result (λ items. items ≡ []) }
+    {
+        Ok(Self::from_vec(Vec::with_capacity(alloc, capacity)?))
+    }
+
     /// The vector's items. Takes no memory.
     pub fn from_vec(items: Vec<T>) -> Self
         ensures { result ≡ items.items }

@@ -2,13 +2,13 @@
 
 ghost use Rattle.std.specs.Prelude.{◌≡◌, ℕ, ◌<◌, ◌≤◌, List, ◌++◌, length, OnOk, IfOk, Some, slice_get};
 ghost use Rattle.tw_base.specs.AuditPath.{ChecksEvent};
-ghost use Rattle.tw_base.specs.EventTree.{audit_path, event_root};
+ghost use Rattle.tw_base.specs.EventTree.{audit_path, event_root as event_root_of};
 ghost use Rattle.tw_base.specs.Lists.{Each};
 ghost use Rattle.tw_base.specs.declared.limits.TheConstants.{MOST_EVENTS, MOST_EVENT_BYTES};
 
-use crate::root::root_of;
+use crate::root::event_root;
 use std::alloc::Global;
-use tw_base::{Bytes, EventList, Hasher, Labels, NoMemory, left_count};
+use tw_base::{Bytes, Hasher, Labels, NoMemory, left_count};
 
 /// Appends the path of that index among these events, from the leaf upwards.
 fn add_path<H: Hasher>(events: &[Bytes], index: usize, path: &mut Labels) -> Result<(), NoMemory>
@@ -24,10 +24,10 @@ fn add_path<H: Hasher>(events: &[Bytes], index: usize, path: &mut Labels) -> Res
     let (left, right) = events.split_at(half);
     if index < half {
         add_path::<H>(left, index, path)?;
-        path.push(root_of::<H>(right))?;
+        path.push(event_root::<H>(right))?;
     } else {
         add_path::<H>(right, index - half, path)?;
-        path.push(root_of::<H>(left))?;
+        path.push(event_root::<H>(left))?;
     }
     Ok(())
 }
@@ -37,7 +37,7 @@ fn add_path<H: Hasher>(events: &[Bytes], index: usize, path: &mut Labels) -> Res
 /// checks under the root. Hashes each text at most once.
 pub fn event_path<H: Hasher>(
     alloc: Global,
-    events: &EventList,
+    events: &[Bytes],
     index: u32,
 ) -> Result<Labels, NoMemory>
     requires inside { index < length events.now }
@@ -45,9 +45,9 @@ pub fn event_path<H: Hasher>(
     requires small { Each (λ event. length event ≤ MOST_EVENT_BYTES) events.now }
     ensures path { IfOk result (λ path. path ≡ audit_path H.dig events.now index) }
     ensures checks { IfOk result (λ path. (event : List ℕ) → slice_get events.now index ≡ Some event →
-        ChecksEvent H.dig (event_root H.dig events.now) (length events.now) index event path) }
+        ChecksEvent H.dig (event_root_of H.dig events.now) (length events.now) index event path) }
 {
     let mut path = Labels::new(alloc);
-    add_path::<H>(events.as_slice(), index as usize, &mut path)?;
+    add_path::<H>(events, index as usize, &mut path)?;
     Ok(path)
 }

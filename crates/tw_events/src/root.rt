@@ -5,11 +5,12 @@ ghost use Rattle.tw_base.specs.EventTree.{event_root as event_root_of};
 ghost use Rattle.tw_base.specs.Lists.{Each};
 ghost use Rattle.tw_base.specs.declared.limits.TheConstants.{MOST_EVENTS, MOST_EVENT_BYTES};
 
-use tw_base::{Bytes, Digest, EventList, Hasher, event_leaf, event_node, left_count, no_events};
+use tw_base::{Bytes, Digest, Hasher, event_leaf, event_node, left_count, no_events};
 
-/// The root of the tree over these events, at most ten halvings deep.
+/// The root of at most 1,024 events, each of at most 1,024 bytes: the Merkle tree hash of RFC 6962,
+/// section 2.1. Takes no memory, hashes each text once, and goes at most ten halvings deep.
 #[tactic(auto, using(crate::proofs::Steps::few_events))]
-pub(crate) fn root_of<H: Hasher>(events: &[Bytes]) -> Digest
+pub fn event_root<H: Hasher>(events: &[Bytes]) -> Digest
     requires few { length events.now ≤ MOST_EVENTS }
     requires small { Each (λ event. length event ≤ MOST_EVENT_BYTES) events.now }
     ensures { result ≡ event_root_of H.dig events.now }
@@ -19,19 +20,9 @@ pub(crate) fn root_of<H: Hasher>(events: &[Bytes]) -> Digest
         [event] => event_leaf::<H>(event.as_slice()),
         _ => {
             let (left, right) = events.split_at(left_count(events.len()));
-            let left_root = root_of::<H>(left);
-            let right_root = root_of::<H>(right);
+            let left_root = event_root::<H>(left);
+            let right_root = event_root::<H>(right);
             event_node::<H>(&left_root, &right_root)
         }
     }
-}
-
-/// The root of at most 1,024 events, each of at most 1,024 bytes: the Merkle tree hash of RFC 6962,
-/// section 2.1. Takes no memory and hashes each text once.
-pub fn event_root<H: Hasher>(events: &EventList) -> Digest
-    requires few { length events.now ≤ MOST_EVENTS }
-    requires small { Each (λ event. length event ≤ MOST_EVENT_BYTES) events.now }
-    ensures { result ≡ event_root_of H.dig events.now }
-{
-    root_of::<H>(events.as_slice())
 }

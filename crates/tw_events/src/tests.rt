@@ -42,12 +42,12 @@ fn root_and_paths_of_three_events(rt: HostRuntime) -> Result<(), Fail> {
     let third = event_leaf::<Sha>(&[2, 2]);
     let left = event_node::<Sha>(&first, &second);
     assert_eq!(rt;
-        event_root::<Sha>(&events),
+        event_root::<Sha>(events.as_slice()),
         event_node::<Sha>(&left, &third)
     );
-    let to_first = event_path::<Sha>(rt.alloc(), &events, 0)?;
+    let to_first = event_path::<Sha>(rt.alloc(), events.as_slice(), 0)?;
     assert_eq!(rt; to_first.as_slice(), [second, third].as_slice());
-    let to_third = event_path::<Sha>(rt.alloc(), &events, 2)?;
+    let to_third = event_path::<Sha>(rt.alloc(), events.as_slice(), 2)?;
     assert_eq!(rt; to_third.as_slice(), [left].as_slice());
     Ok(())
 }
@@ -55,8 +55,8 @@ fn root_and_paths_of_three_events(rt: HostRuntime) -> Result<(), Fail> {
 #[test]
 fn one_event_is_shown_and_no_other(rt: HostRuntime) -> Result<(), Fail> {
     let events = three_events(rt.alloc())?;
-    let root = event_root::<Sha>(&events);
-    let mut path = event_path::<Sha>(rt.alloc(), &events, 2)?;
+    let root = event_root::<Sha>(events.as_slice());
+    let mut path = event_path::<Sha>(rt.alloc(), events.as_slice(), 2)?;
     assert!(rt; check_event::<Sha>(&root, 3, 2, &[2, 2], &path));
     assert!(rt; !check_event::<Sha>(&root, 3, 1, &[2, 2], &path));
     assert!(rt; !check_event::<Sha>(&root, 3, 2, &[2, 3], &path));

@@ -6,6 +6,7 @@ pub mod Judging
 pub mod ByteCounts
 pub mod TableSteps
 pub mod LinkLabels
+pub mod LastSteps
 pub mod Passes
 pub mod Existences
 pub mod TableWalk

@@ -1,7 +1,10 @@
 -- What a pass over the steps of a history keeps true.
-use Rattle.std.proofs.Common.{◌≡◌, ℕ, suc, zero, ◌+◌, ◌-◌, ◌<◌, ◌≤◌, List, [], ◌∷◌, ◌++◌, length, get_or, take, refl, ap, sym, ◌∙◌, subst, append_assoc, add-one, arith}
-use Rattle.std.specs.Prelude.{Option, Some, map, slice_get}
-use Rattle.std.proofs.lemmas.List.{append-nil, get_or_append_left, length-append, length-map, map_more, map_push, take_all}
+use Rattle.std.proofs.Common.{◌≡◌, ℕ, suc, zero, ◌+◌, ◌-◌, ◌<◌, ◌≤◌, ◌^◌, ◌%◌, List, [], ◌∷◌, ◌++◌, length, get_or, take, refl, ap, sym, ◌∙◌, subst, append_assoc, add-one, arith, lit<, inl, inr}
+use Rattle.std.specs.Prelude.{Option, Some, drop, map, replicate, slice_get}
+use Rattle.std.proofs.lemmas.List.{append-nil, get_or-append_right, get_or-drop, get_or-replicate, get_or_append_left, length-append, length-map, length-replicate, map_more, map_push, take_all}
+use Rattle.std.proofs.Math.Nat.{mod-one, one-le-pow}
+use Rattle.std.proofs.lemmas.Bool.{cases_lt}
+use Rattle.tw_base.specs.declared.limits.TheConstants.{LAST_STEP}
 use Rattle.tw_base.specs.declared.thread.Entry.{Entry}
 use Rattle.tw_base.specs.Texts.{authenticator_text, datum_text, empty_tree_text, genesis_text}
 use Rattle.tw_base.specs.Entries.{entry_text}
@@ -11,8 +14,9 @@ use Rattle.tw_base.specs.History.{Node as NodeMeant, Step as StepMeant}
 use Rattle.tw_base.specs.Levels.{top_level}
 use Rattle.tw_base.specs.Tree.{Tree, branch, forest, planted, tree}
 use Rattle.tw_base.specs.Tree.Tree.{Branch, Empty}
-use Rattle.tw_base.specs.Auth.{auth, auths, datum_text_at, link_texts, tree_label}
-use Rattle.tw_base.proofs.Auths.{auths-at, length-auths}
+use Rattle.tw_base.specs.Auth.{auth, auths, datum_text_at, link_texts, link_texts_at, tree_label}
+use Rattle.tw_base.proofs.Auths.{auth-suc, auths-at}
+use Rattle.tw_base.proofs.Levels.{top_level-below}
 use Rattle.tw_base.proofs.Plus.{forest-first}
 use Rattle.tw_skipproof.specs.HistoryProofs.{labels_at}
 use Rattle.tw_history.specs.declared.step.Node.{Node}
@@ -20,7 +24,8 @@ use Rattle.tw_history.specs.declared.step.Step.{Step}
 use Rattle.tw_history.specs.declared.pass.Digests.{Digests}
 use Rattle.tw_history.specs.declared.step_digests.StepDigests.{StepDigests}
 use Rattle.tw_history.specs.Tables.{node_of, step_of}
-use Rattle.tw_history.specs.PassSteps.{HasPassed, IsOfStep, events_in}
+use Rattle.tw_history.specs.PassSteps.{AreReached, HasPassed, IsOfStep, events_in}
+use Rattle.tw_history.proofs.LastSteps.{last-kept, last-own, last-reached}
 use Rattle.tw_history.proofs.LinkLabels.{length-labels_below}
 use Rattle.tw_history.proofs.TableSteps.{events_of-content}
 
@@ -102,9 +107,45 @@ module _ (dig : List ℕ → List ℕ) where
       omega (arith, some_trees h i, ap length is, length-map (forest h i ++ more) (tree_label dig), length-append (forest h i) more)
 
   module _ (h : History) where
-    pub HasPassed-none : (d : Digests) → d.tree_labels ≡ dig empty_tree_text ∷ [] → d.auths ≡ dig (genesis_text h.name) ∷ [] → HasPassed dig h 0 d
-    unfolding forest tree_label auths
-    HasPassed-none d labels auths_are = record { tree_labels = labels; auths = auths_are }
+    auth-none : auth dig h 0 ≡ dig (genesis_text h.name)
+    unfolding auth auths
+    auth-none = refl
+
+    pub HasPassed-none : (d : Digests) → d.tree_labels ≡ dig empty_tree_text ∷ [] → d.latest ≡ replicate 40 (dig (genesis_text h.name)) → HasPassed dig h 0 d
+    unfolding forest tree_label
+    HasPassed-none d labels latest = record {
+      tree_labels = labels;
+      latest = λ level within.
+          ap (λ all. get_or all level []) latest ∙ get_or-replicate 40 level (dig (genesis_text h.name)) [] within ∙ sym auth-none
+          ∙ ap (auth dig h) (let e : 0 ≡ 0 - 0 % 2 ^ level = omega arith in e);
+    }
+
+    -- the links of the next step lead to what is kept
+    pub HasPassed-reached : (i : ℕ) (d : Digests) → HasPassed dig h i d → suc i ≤ LAST_STEP → AreReached (suc i) (auths dig h i) d.latest
+    HasPassed-reached i d passed few = λ level within.
+        let small : level < 40 = omega (arith, within, top_level-below (suc i) (omega arith)) in
+        let some : 1 ≤ 2 ^ level = one-le-pow level 2 (lit< tt) in
+        passed.latest level small ∙ ap (auth dig h) (last-reached i level (omega arith) within)
+        ∙ sym (auths-at dig h i (suc i - 2 ^ level) (omega (arith, some)))
+
+    -- what is kept behind the next step, whose authenticator is put at its levels
+    latest_next : (i : ℕ) (old new : Digests) (last : List ℕ) → HasPassed dig h i old → suc i ≤ LAST_STEP → last ≡ auth dig h (suc i)
+        → new.latest ≡ replicate (suc (top_level (suc i))) last ++ drop (suc (top_level (suc i))) old.latest
+        → (level : ℕ) → level < 40 → get_or new.latest level [] ≡ auth dig h (suc i - suc i % 2 ^ level)
+    latest_next i old new last passed few is kept level within =
+        let own : List (List ℕ) = replicate (suc (top_level (suc i))) last in
+        let others : List (List ℕ) = drop (suc (top_level (suc i))) old.latest in
+        let count : length own ≡ suc (top_level (suc i)) = length-replicate (suc (top_level (suc i))) last in
+        ap (λ all. get_or all level []) kept
+        ∙ elim (cases_lt (top_level (suc i)) level) [
+          | inl above ↦ get_or-append_right own others (suc (top_level (suc i))) level [] count (omega (arith, above))
+              ∙ get_or-drop (suc (top_level (suc i))) old.latest (level - suc (top_level (suc i))) []
+              ∙ ap (λ n. get_or old.latest n []) (let e : suc (top_level (suc i)) + (level - suc (top_level (suc i))) ≡ level = omega (arith, above) in e)
+              ∙ passed.latest level within ∙ ap (auth dig h) (sym (last-kept i level (omega arith) above))
+          | inr below ↦ get_or_append_left own others [] level (omega (arith, count, below))
+              ∙ get_or-replicate (suc (top_level (suc i))) level last [] (omega (arith, below))
+              ∙ is ∙ ap (auth dig h) (sym (last-own i level (omega arith) below))
+        ]
 
     -- ---- one step
 
@@ -116,9 +157,11 @@ module _ (dig : List ℕ → List ℕ) where
       pub archive_root : (trees : List Tree) → new.tree_labels ≡ map (tree_label dig) trees → get_or trees 0 Empty ≡ Empty
           → d.archive_root ≡ tree_label dig (get_or trees s.root Empty)
       pub datum : d.datum ≡ dig (datum_text d.event_root d.archive_root (length (events_in s.content)))
-      pub labels : d.labels.items ≡ map dig (link_texts dig d.datum old.auths step (suc (top_level step)))
+      pub labels : (earlier : List (List ℕ)) → AreReached step earlier old.latest
+          → d.labels.items ≡ map dig (link_texts dig d.datum earlier step (suc (top_level step)))
+      pub few : step ≤ LAST_STEP
       pub auth : last ≡ dig (authenticator_text step d.labels.items)
-      pub auths : new.auths ≡ old.auths ++ last ∷ []
+      pub latest : new.latest ≡ replicate (suc (top_level step)) last ++ drop (suc (top_level step)) old.latest
 
     module _ (i : ℕ) (s : Step) (fresh : List Node) (old new : Digests) (d : StepDigests) (last : List ℕ) (is : PassesStep (suc i) i s fresh old new d last) where
       same_step : step_at h (suc i) ≡ Some (step_of s fresh)
@@ -142,21 +185,22 @@ module _ (dig : List ℕ → List ℕ) where
       unfolding datum_text_at
       datum_is = is.datum ∙ (λ k. dig (datum_text (is.event_root k) (archive_is k) (length (events_are k))))
 
+      own_labels : d.labels.items ≡ map dig (link_texts_at dig h (auths dig h i) (suc i))
+      own_labels =
+          is.labels (auths dig h i) (HasPassed-reached i old is.passed is.few)
+          ∙ ap (λ datum. map dig (link_texts dig datum (auths dig h i) (suc i) (suc (top_level (suc i))))) datum_is
+
       labels_are : d.labels.items ≡ labels_at dig h (suc i)
       labels_are =
-          is.labels ∙ (λ k. map dig (link_texts dig (datum_is k) (is.passed.auths k) (suc i) (suc (top_level (suc i)))))
+          own_labels
           ∙ ap (λ n. map dig (link_texts dig (dig (datum_text_at dig h (suc i))) (auths dig h n) (suc i) (suc (top_level (suc i))))) (let e : i ≡ suc i - 1 = omega arith in e)
 
-      auths_are : new.auths ≡ auths dig h (suc i)
-      unfolding auths
-      auths_are =
-          let own : d.labels.items ≡ map dig (link_texts dig (dig (datum_text_at dig h (suc i))) (auths dig h i) (suc i) (suc (top_level (suc i)))) =
-          is.labels ∙ (λ k. map dig (link_texts dig (datum_is k) (is.passed.auths k) (suc i) (suc (top_level (suc i))))) in
-          is.auths ∙ (λ k. is.passed.auths k ++ (is.auth ∙ ap (λ ls. dig (authenticator_text (suc i) ls)) own) k ∷ [])
+      auth_is : last ≡ auth dig h (suc i)
+      auth_is = is.auth ∙ ap (λ ls. dig (authenticator_text (suc i) ls)) own_labels ∙ sym (auth-suc dig h i)
 
       passes_suc : HasPassed dig h (suc i) new × IsOfStep dig h (suc i) d
       passes_suc = (
-        record { tree_labels = forest_is; auths = auths_are },
+        record { tree_labels = forest_is; latest = latest_next i old new last is.passed is.few auth_is is.latest },
         record { event_root = is.event_root; archive_root = archive_is; datum = datum_is; labels = labels_are },
       )
 
@@ -165,12 +209,9 @@ module _ (dig : List ℕ → List ℕ) where
     PassesStep-passes i s fresh old new d last =
         subst (λ n. PassesStep n i s fresh old new d last → HasPassed dig h n new × IsOfStep dig h n d) (sym (add-one i)) (passes_suc i s fresh old new d last)
 
-    -- the authenticators are those of the steps passed, and of step 0
-    pub HasPassed-count : (last : ℕ) (d : Digests) → HasPassed dig h last d → length d.auths ≡ suc last
-    HasPassed-count last d passed = ap length passed.auths ∙ length-auths dig h last
-
-    pub HasPassed-auth : (last step : ℕ) (d : Digests) → HasPassed dig h last d → step ≤ last → get_or d.auths step [] ≡ auth dig h step
-    HasPassed-auth last step d passed within = ap (λ table. get_or table step []) passed.auths ∙ auths-at dig h last step within
+    -- the last step passed is the last one at level 0
+    pub HasPassed-auth : (last : ℕ) (d : Digests) → HasPassed dig h last d → get_or d.latest 0 [] ≡ auth dig h last
+    HasPassed-auth last d passed = passed.latest 0 (omega arith) ∙ ap (auth dig h) (let e : last - last % 2 ^ 0 ≡ last = omega (arith, mod-one last) in e)
 
     -- a step has one label more than its greatest level
     pub IsOfStep-count : (step n : ℕ) (d : StepDigests) → n ≡ step → IsOfStep dig h n d → length d.labels.items ≡ suc (top_level step)

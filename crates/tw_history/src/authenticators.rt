@@ -24,5 +24,5 @@ pub fn auth_of<H: Hasher>(
     }
     let mut digests = begin::<H>(alloc, history)?;
     pass_steps::<H>(history, 0, step, &mut digests)?;
-    Ok(Some(auth_passed(&digests, step)))
+    Ok(Some(auth_passed(&digests)))
 }

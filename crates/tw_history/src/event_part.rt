@@ -6,14 +6,14 @@ ghost use Rattle.tw_base.specs.Lists.{Each};
 ghost use Rattle.tw_base.specs.declared.limits.TheConstants.{MOST_EVENTS, MOST_EVENT_BYTES};
 
 use std::alloc::Global;
-use tw_base::{Bytes, Digest, EventList, Hasher, NoMemory, event_leaf, sides_of};
+use tw_base::{Bytes, Digest, Hasher, NoMemory, event_leaf, sides_of};
 use tw_events::{event_path, root_above_leaf};
 use tw_skipproof::EventPart;
 
 /// The event of that index among these events, with its audit path.
 pub(crate) fn event_part<H: Hasher>(
     alloc: Global,
-    events: &EventList,
+    events: &[Bytes],
     index: u32,
 ) -> Result<EventPart, NoMemory>
     requires index { index < length events.now }
@@ -24,13 +24,13 @@ pub(crate) fn event_part<H: Hasher>(
     ensures path { IfOk result (λ part. part.path ≡ audit_path H.dig events.now index) }
 {
     let path = event_path::<H>(alloc, events, index)?;
-    let event = Bytes::from_slice(alloc, events.as_slice()[index as usize].as_slice())?;
+    let event = Bytes::from_slice(alloc, events[index as usize].as_slice())?;
     Ok(EventPart { index, event, path })
 }
 
 /// The root of the events, over the event and its path, so that nothing that the path was computed
 /// from is hashed again.
-pub(crate) fn root_over<H: Hasher>(part: &EventPart, events: &EventList) -> Digest
+pub(crate) fn root_over<H: Hasher>(part: &EventPart, events: &[Bytes]) -> Digest
     requires few { length events.now ≤ MOST_EVENTS }
     requires small { Each (λ event. length event ≤ MOST_EVENT_BYTES) events.now }
     requires event { slice_get events.now part.now.index ≡ Some part.now.event }

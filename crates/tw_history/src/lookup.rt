@@ -95,7 +95,7 @@ fn thread_of_content(content: &Content) -> Option<Thread>
 {
     match content {
         Content::Events(_) => None,
-        Content::Received(thread) => Some(*thread),
+        Content::Received(thread) => Some(*thread.get()),
     }
 }
 

@@ -1,9 +1,11 @@
 // A pass over the steps of a history, from the first on, in which each text is hashed once.
 
-ghost use Rattle.std.specs.Prelude.{◌≡◌, ℕ, ◌+◌, ◌<◌, ◌≤◌, List, [], ◌++◌, length, map, slice_index_or, IfOk, OnOk};
+ghost use Rattle.std.specs.Prelude.{◌≡◌, ℕ, ◌+◌, ◌<◌, ◌≤◌, suc, List, ◌++◌, drop, length, map, replicate, slice_index_or, IfOk, OnOk};
 ghost use Rattle.tw_base.specs.Auth.{auth, tree_label};
 ghost use Rattle.tw_base.specs.EventTree.{event_root as event_root_of};
 ghost use Rattle.tw_base.specs.History.{History as HistoryMeant, entry_to, events_at};
+ghost use Rattle.tw_base.specs.Levels.{top_level as top_level_of};
+ghost use Rattle.tw_base.specs.declared.limits.TheConstants.{LAST_STEP};
 ghost use Rattle.tw_base.specs.Tree.{Tree, branch, planted};
 ghost use Rattle.tw_base.specs.Tree.Tree.{Empty};
 ghost use Rattle.tw_history.specs.Tables.{node_of};
@@ -12,16 +14,21 @@ ghost use Rattle.tw_history.specs.PassSteps.{HasPassed, IsOfStep};
 use crate::history::History;
 use crate::lookup::{content_behind, entry_up_to, step_behind};
 use crate::step::Node;
-use crate::step_digests::{StepDigests, count_of_events, digests_of_step, root_of_events};
+use crate::step_digests::{
+    StepDigests, at_level, count_of_events, digests_of_step, root_of_events,
+};
 use std::alloc::Global;
-use tw_base::{Digest, Hasher, Labels, NoMemory, authenticator, empty_tree, genesis, tree_node};
+use tw_base::{
+    Digest, Hasher, Labels, NoMemory, authenticator, empty_tree, genesis, top_level, tree_node,
+};
 
 /// What a pass keeps of the steps behind it: the labels of the trees of their nodes, by number, 0
-/// the empty tree's; and their authenticators, from step 0 on.
+/// the empty tree's; and of each level from 0 on the authenticator of the last of them, step 0
+/// included, that 2^level divides. The links of the next step lead to these.
 #[derive(Drop)]
 pub(crate) struct Digests {
     pub(crate) tree_labels: Labels,
-    pub(crate) auths: Labels,
+    pub(crate) latest: [Digest; 40],
 }
 
 /// Before the first step.
@@ -29,12 +36,13 @@ pub(crate) fn begin<H: Hasher>(alloc: Global, history: &History) -> Result<Diges
     ensures { IfOk result (HasPassed H.dig history.now 0) }
 {
     let nodes = history.nodes.len().saturating_add(1);
-    let steps = history.steps.len().saturating_add(1);
     let mut tree_labels = Labels::with_capacity(alloc, nodes)?;
     tree_labels.push(empty_tree::<H>())?;
-    let mut auths = Labels::with_capacity(alloc, steps)?;
-    auths.push(genesis::<H>(&history.name))?;
-    Ok(Digests { tree_labels, auths })
+    let latest = [genesis::<H>(&history.name); 40];
+    Ok(Digests {
+        tree_labels,
+        latest,
+    })
 }
 
 /// The label of the tree of this number; a missing number stands for the empty tree.
@@ -94,6 +102,16 @@ pub(crate) fn event_root_behind<H: Hasher>(history: &History, index: u64) -> Dig
     root_of_events::<H>(content_behind(history, index))
 }
 
+/// Keeps the step's authenticator at each level whose power of two divides the step.
+fn keep_auth(latest: &mut [Digest; 40], step: u64, auth: Digest)
+    requires from_1 { 0 < step }
+    requires step { step ≤ LAST_STEP }
+    ensures { latest.new ≡ replicate (suc (top_level_of step)) auth ++ drop (suc (top_level_of step)) latest.old }
+{
+    let levels = top_level(step) as usize + 1;
+    latest[..levels].fill(auth);
+}
+
 /// Passes the step behind the first `index` steps, of whose events this is the root.
 pub(crate) fn pass_step<H: Hasher>(
     history: &History,
@@ -114,10 +132,10 @@ pub(crate) fn pass_step<H: Hasher>(
         event_root,
         *label_of_tree(digests.tree_labels.as_slice(), step.root),
         count_of_events(&step.content),
-        digests.auths.as_slice(),
+        &digests.latest,
     );
     let auth = authenticator::<H>(index + 1, passed.labels.as_slice());
-    digests.auths.push(auth)?;
+    keep_auth(&mut digests.latest, index + 1, auth);
     Ok(passed)
 }
 
@@ -140,10 +158,9 @@ pub(crate) fn pass_steps<H: Hasher>(
     Ok(())
 }
 
-/// The authenticator of a step that was passed.
-pub(crate) fn auth_passed(digests: &Digests, step: u64) -> Digest
-    requires { step < length digests.now.auths }
-    ensures { (dig : List ℕ → List ℕ) (h : HistoryMeant) (last : ℕ) → HasPassed dig h last digests.now → step ≤ last → result ≡ auth dig h step }
+/// The authenticator of the last step that was passed.
+pub(crate) fn auth_passed(digests: &Digests) -> Digest
+    ensures { (dig : List ℕ → List ℕ) (h : HistoryMeant) (last : ℕ) → HasPassed dig h last digests.now → result ≡ auth dig h last }
 {
-    digests.auths.as_slice()[step as usize]
+    *at_level(&digests.latest, 0)
 }

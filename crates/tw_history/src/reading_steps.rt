@@ -101,7 +101,9 @@ fn take_table(alloc: Global, bytes: &[u8], at: &mut u64, count: u64) -> Result<T
     ensures takes { Takes (many count step_codec) (λ (t : Table). steps_of_table t.steps t.nodes) bytes.now at.old at.new result }
     ensures table { IfOk result (λ t. IsTable t.steps t.nodes) }
 {
-    let mut steps = Steps::new(alloc);
+    // Each step has at least 11 bytes: its kind, the numbers of its events and nodes, and its root.
+    let most_left = (bytes.len() as u64 - *at) / 11;
+    let mut steps = Steps::with_capacity(alloc, count.min(most_left) as usize)?;
     let mut nodes = Nodes::new(alloc);
     for _i in 0..count {
         steps.push(take_step(alloc, bytes, at, &mut nodes)?)?;

@@ -23,11 +23,11 @@ use crate::pass::{Digests, auth_passed, begin, pass_step, pass_steps};
 use crate::path_links::path_links;
 use crate::step_digests::{count_of_events, opening_with};
 use std::alloc::Global;
-use tw_base::{Bytes, Content, Digest, EventList, Hasher, NoMemory};
+use tw_base::{Bytes, Content, Digest, Hasher, NoMemory};
 use tw_skipproof::{ExistenceProof, Opening, Part, Path, write_existence};
 
 /// The events of the content, where one has this index; else how many there are.
-fn events_having(content: &Content, index: u32) -> Result<&EventList, u32>
+fn events_having(content: &Content, index: u32) -> Result<&[Bytes], u32>
     requires { IsInRange content.now }
     ensures events { IfOk result (λ events. (events.now ≡ events_in content.now) × (index < length events.now)) }
     ensures ranges { IfOk result (λ events. (length events.now ≤ MOST_EVENTS) × Each (λ event. length event ≤ MOST_EVENT_BYTES) events.now) }
@@ -37,7 +37,7 @@ fn events_having(content: &Content, index: u32) -> Result<&EventList, u32>
         Content::Events(events) => {
             let count = events.len() as u32;
             if index < count {
-                Ok(events)
+                Ok(events.as_slice())
             } else {
                 Err(count)
             }
@@ -47,7 +47,7 @@ fn events_having(content: &Content, index: u32) -> Result<&EventList, u32>
 }
 
 /// The events of the step, where the history has the step, and the step an event of this index.
-fn events_to_show(history: &History, step: u64, index: u32) -> Result<&EventList, ShowFault>
+fn events_to_show(history: &History, step: u64, index: u32) -> Result<&[Bytes], ShowFault>
     ensures step { OnOk result ((0 < step) × (step ≤ length history.now.steps)) }
     ensures events { IfOk result (λ events. (events.now ≡ events_at history.now step) × (index < length events.now)) }
     ensures ranges { IfOk result (λ events. (length events.now ≤ MOST_EVENTS) × Each (λ event. length event ≤ MOST_EVENT_BYTES) events.now) }
@@ -80,7 +80,7 @@ fn opening_of<H: Hasher>(
     ensures passed { OnOk result (HasPassed H.dig history.now step digests.new) }
 {
     pass_steps::<H>(history, 0, step - 1, digests)?;
-    let prev = auth_passed(digests, step - 1);
+    let prev = auth_passed(digests);
     let passed = pass_step::<H>(history, step - 1, event_root, digests)?;
     let count = count_of_events(content_behind(history, step - 1));
     opening_with(alloc, &passed, count, prev)
@@ -119,7 +119,7 @@ fn existence_of<H: Hasher>(
     alloc: Global,
     history: &History,
     step: u64,
-    events: &EventList,
+    events: &[Bytes],
     index: u32,
 ) -> Result<ExistenceProof, NoMemory>
     requires from_1 { 0 < step }
@@ -142,7 +142,7 @@ fn written<H: Hasher>(
     alloc: Global,
     history: &History,
     step: u64,
-    events: &EventList,
+    events: &[Bytes],
     index: u32,
 ) -> Result<Bytes, NoMemory>
     requires from_1 { 0 < step }

@@ -51,6 +51,7 @@ fn content_size(content: &Content) -> u64
     match content {
         Content::Events(events) => 5 + events_size(events.as_slice()),
         Content::Received(thread) => {
+            let thread = thread.get();
             let name = thread.from.as_bytes();
             let auth = &thread.auth.0;
             9 + name.len() as u64 + auth.len() as u64

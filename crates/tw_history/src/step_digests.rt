@@ -1,20 +1,17 @@
 // The digests that the authenticator of a step is made of.
 
-ghost use Rattle.std.specs.Prelude.{◌≡◌, ℕ, suc, ◌+◌, ◌-◌, ◌^◌, ◌<◌, ◌≤◌, List, [], drop, length, map, remove, slice_index_or, IfOk};
+ghost use Rattle.std.specs.Prelude.{◌≡◌, ℕ, suc, ◌+◌, ◌<◌, ◌≤◌, List, [], drop, length, map, remove, slice_index_or, IfOk};
 ghost use Rattle.tw_base.specs.Auth.{link_texts};
 ghost use Rattle.tw_base.specs.EventTree.{event_root as event_root_of};
 ghost use Rattle.tw_base.specs.Levels.{top_level as top_level_of};
 ghost use Rattle.tw_base.specs.Texts.{datum_text};
 ghost use Rattle.tw_history.specs.Tables.{IsInRange};
-ghost use Rattle.tw_history.specs.PassSteps.{events_in};
+ghost use Rattle.tw_history.specs.PassSteps.{AreReached, events_in};
 ghost use Rattle.tw_base.specs.declared.limits.TheConstants.{LAST_STEP};
 
 use arrayvec::ArrayVec;
 use std::alloc::Global;
-use tw_base::{
-    Content, Digest, Hasher, Labels, NoMemory, datum, link_label, no_events, power_of_two,
-    top_level,
-};
+use tw_base::{Content, Digest, Hasher, Labels, NoMemory, datum, link_label, no_events, top_level};
 use tw_events::event_root;
 use tw_skipproof::{Link, Opening};
 
@@ -34,7 +31,7 @@ pub(crate) fn root_of_events<H: Hasher>(content: &Content) -> Digest
     ensures { result ≡ event_root_of H.dig (events_in content.now) }
 {
     match content {
-        Content::Events(events) => event_root::<H>(events),
+        Content::Events(events) => event_root::<H>(events.as_slice()),
         Content::Received(_) => no_events::<H>(),
     }
 }
@@ -50,55 +47,52 @@ pub(crate) fn count_of_events(content: &Content) -> u32
     }
 }
 
-/// The authenticator that a link leads to, of the earlier ones.
-fn below(earlier: &[Digest], step: u64, level: u8) -> &Digest
-    requires from_1 { 0 < step }
-    requires step { step ≤ LAST_STEP }
-    requires earlier { step ≤ length earlier.now }
-    requires level { level ≤ top_level_of step }
-    ensures { result.now ≡ slice_index_or earlier.now (step - 2 ^ level) [] }
+/// The authenticator that is kept at this level.
+pub(crate) fn at_level(latest: &[Digest; 40], level: u8) -> &Digest
+    requires { level < 40 }
+    ensures { result.now ≡ slice_index_or latest.now level [] }
 {
-    &earlier[(step - power_of_two(level)) as usize]
+    &latest[level as usize]
 }
 
-/// The labels of the step's links from level 0 on, over the authenticators of the earlier steps.
+/// The labels of the step's links from level 0 on, over the authenticators that they lead to.
 pub(crate) fn link_labels<H: Hasher>(
     step: u64,
     datum: &Digest,
-    earlier: &[Digest],
+    latest: &[Digest; 40],
 ) -> ArrayVec<Digest, 40>
     requires from_1 { 0 < step }
     requires step { step ≤ LAST_STEP }
-    requires earlier { step ≤ length earlier.now }
-    ensures { result.items ≡ map H.dig (link_texts H.dig datum.now earlier.now step (suc (top_level_of step))) }
+    ensures { (earlier : List (List ℕ)) → AreReached step earlier latest.now →
+        result.items ≡ map H.dig (link_texts H.dig datum.now earlier step (suc (top_level_of step))) }
 {
     let mut labels: ArrayVec<Digest, 40> = ArrayVec::new();
     for level in 0..top_level(step) + 1 {
-        let label = link_label::<H>(step, level, datum, below(earlier, step, level));
+        let label = link_label::<H>(step, level, datum, at_level(latest, level));
         labels.push(label);
     }
     labels
 }
 
 /// The digests of a step with this root and count of events and this label of its archive, over the
-/// authenticators of the earlier steps.
+/// authenticators that its links lead to.
 pub(crate) fn digests_of_step<H: Hasher>(
     step: u64,
     event_root: Digest,
     archive_root: Digest,
     count: u32,
-    earlier: &[Digest],
+    latest: &[Digest; 40],
 ) -> StepDigests
     requires from_1 { 0 < step }
     requires step { step ≤ LAST_STEP }
-    requires earlier { step ≤ length earlier.now }
     ensures event_root { result.event_root ≡ event_root }
     ensures archive_root { result.archive_root ≡ archive_root }
     ensures datum { result.datum ≡ H.dig (datum_text result.event_root result.archive_root count) }
-    ensures labels { result.labels.items ≡ map H.dig (link_texts H.dig result.datum earlier.now step (suc (top_level_of step))) }
+    ensures labels { (earlier : List (List ℕ)) → AreReached step earlier latest.now →
+        result.labels.items ≡ map H.dig (link_texts H.dig result.datum earlier step (suc (top_level_of step))) }
 {
     let datum = datum::<H>(&event_root, &archive_root, count);
-    let labels = link_labels::<H>(step, &datum, earlier);
+    let labels = link_labels::<H>(step, &datum, latest);
     StepDigests {
         event_root,
         archive_root,

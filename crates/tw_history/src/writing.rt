@@ -107,6 +107,7 @@ fn put_content(into: &mut Bytes, content: &Content) -> Result<(), NoMemory>
             Ok(())
         }
         Content::Received(thread) => {
+            let thread = thread.get();
             put_number(into, 2, 1)?;
             put_name(into, &thread.from)?;
             put_number(into, thread.step, 8)?;

@@ -74,7 +74,7 @@ fn write_proof<H: Hasher>(
     ensures made { IfOk result (λ bytes. (ps : Image) (h : History) (step : ℕ) → IsSound h → h.name ≡ name.now → step ≤ top → top ≤ length h.steps →
         IsPathOf H.dig h proof.path.links top step → IsInfoOf H.dig ps h step proof.info → events ≡ events_at h step → MakesExistence H.dig h step index top bytes) }
 {
-    let path = event_path::<H>(alloc, &events, index)?;
+    let path = event_path::<H>(alloc, events.as_slice(), index)?;
     let event = take_event(events, index);
     let made = existence_of(name, top, index, proof, event, path);
     write_existence(alloc, &made)

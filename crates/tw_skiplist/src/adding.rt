@@ -204,7 +204,7 @@ pub fn append<P: Pages, H: Hasher>(
     let recorded = Recorded {
         stream,
         count: events.len() as u32,
-        event_root: event_root::<H>(events),
+        event_root: event_root::<H>(events.as_slice()),
         archive: *archive,
     };
     let first = StepRef {

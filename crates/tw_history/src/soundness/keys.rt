@@ -30,10 +30,13 @@ fn key_of_step(step: &Step) -> Option<Key>
 {
     match &step.content {
         Content::Events(_) => None,
-        Content::Received(thread) => Some(Key {
-            from: thread.from,
-            step: thread.step,
-        }),
+        Content::Received(thread) => {
+            let thread = thread.get();
+            Some(Key {
+                from: thread.from,
+                step: thread.step,
+            })
+        }
     }
 }
 

@@ -22,7 +22,7 @@ pub(super) fn received_thread(step: &Step) -> Option<Thread>
 {
     match &step.content {
         Content::Events(_) => None,
-        Content::Received(thread) => Some(*thread),
+        Content::Received(thread) => Some(*thread.get()),
     }
 }
 
@@ -93,6 +93,7 @@ pub(super) fn limits_law(content: &Content)
     match content {
         Content::Events(events) => events_law(events.as_slice()),
         Content::Received(thread) => {
+            let thread = thread.get();
             let _ = thread.from.as_bytes();
             digest_law(&thread.auth);
         }

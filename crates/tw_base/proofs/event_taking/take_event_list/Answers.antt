@@ -11,7 +11,7 @@ one_left e bytes start n i at xs l t = let P : ℕ → Type 0 = λ left. ManyTak
 
 pub returns-in_err-take_sized : goal.returns-in_err-take_sized
 returns-in_err-take_sized c =
-    let p = err_from_is_err_and c.from_residual.result c.from_residual.ensures.1 in
+    let p = err_from_is_err_and c.from_residual-in_err-take_sized.result c.from_residual-in_err-take_sized.ensures.1 in
     let e = sized_codec 4 0 c.args.most in
     let t = one_left e c.args.bytes.now c.args.at.now c.args.count c.loop-i._i c.loop-i.at c.loop-i.events (omega (arith, c.loop-i-test.true)) c.loop-i.invariant.taken in
     rw (p.1, p.2)
@@ -41,5 +41,5 @@ loop-i-init c =
     let P : ℕ → Type 0 = λ left. ManyTaken e c.args.bytes.now c.args.at.now c.args.count left [] c.args.at.now in
     record {
       within = c.requires.within;
-      taken = rw c.new-events.ensures (subst P (let s : c.args.count ≡ c.args.count - 0 = omega arith in s) (many-begins e c.args.bytes.now c.args.at.now c.args.count));
+      taken = rw c.in_ok-events.ensures (subst P (let s : c.args.count ≡ c.args.count - 0 = omega arith in s) (many-begins e c.args.bytes.now c.args.at.now c.args.count));
     }

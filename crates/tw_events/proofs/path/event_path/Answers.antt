@@ -7,6 +7,6 @@ use Rattle.tw_events.proofs.path.event_path.Goals as goal
 pub returns-clause-checks : goal.returns-clause-checks
 returns-clause-checks g c = λ event there.
     subst (ChecksEvent g.H.Hasher.dig (event_root g.H.Hasher.dig c.args.events.now) (length c.args.events.now) c.args.index event)
-    (ap (λ x. audit_path g.H.Hasher.dig x c.args.index) (sym c.as_slice.ensures) ∙ ap (λ x. x ++ audit_path g.H.Hasher.dig c.as_slice.result.now c.args.index) (sym c.new-path.ensures)
+    (ap (λ x. x ++ audit_path g.H.Hasher.dig c.args.events.now c.args.index) (sym c.new-path.ensures)
     ∙ sym c.in_ok-add_path.ensures)
     (ChecksEvent-audit_path g.H.Hasher.dig c.args.events.now c.args.index event there)

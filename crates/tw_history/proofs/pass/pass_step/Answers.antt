@@ -1,11 +1,8 @@
-use Rattle.std.proofs.Common.{suc, ◌+◌, length, ap, ◌∙◌, arith}
+use Rattle.std.proofs.Common.{◌+◌, ap, ◌∙◌, arith}
 use Rattle.std.specs.Prelude.{map}
 use Rattle.tw_base.specs.History.{entry_to}
-use Rattle.tw_base.specs.Auth.{link_texts}
-use Rattle.tw_base.specs.Levels.{top_level}
 use Rattle.tw_base.specs.Texts.{authenticator_text, datum_text}
 use Rattle.tw_base.specs.Tree.{forest, planted}
-use Rattle.tw_base.proofs.Auths.{length-auths}
 use Rattle.tw_base.proofs.Plus.{forest-first}
 use Rattle.tw_history.specs.Tables.{node_of}
 use Rattle.tw_history.proofs.Passes.{PassesStep-passes, length-labels, some_labels, some_trees}
@@ -32,14 +29,10 @@ label_of_tree-requires g c =
     some_labels g.H.Hasher.dig h c.args.index (planted (entry_to h (c.args.index + 1)) (forest h c.args.index) (map node_of c.step_behind.result.1.now)) c.as_slice.result.now
     (c.as_slice.ensures.value ∙ c.in_ok-label_nodes.ensures (forest h c.args.index) c.requires.passed.tree_labels (forest-first h c.args.index))
 
-pub digests_of_step-passed-requires-clause-earlier : goal.digests_of_step-passed-requires-clause-earlier
-digests_of_step-passed-requires-clause-earlier g c =
-    omega (arith, ap length c.as_slice-2.ensures.value, ap length c.requires.passed.auths, length-auths g.H.Hasher.dig c.args.history.now c.args.index)
-
 pub returns : goal.returns
 returns g c =
     let both = PassesStep-passes g.H.Hasher.dig c.args.history.now c.args.index c.step_behind.result.0.now c.step_behind.result.1.now
-    c.args.digests.now (record { tree_labels = c.label_nodes.new.tree_labels; auths = c.push.new.self }) c.digests_of_step-passed.result c.authenticator-auth.result
+    c.args.digests.now (record { tree_labels = c.label_nodes.new.tree_labels; latest = c.keep_auth.new.latest }) c.digests_of_step-passed.result c.authenticator-auth.result
     (record {
       passed = c.requires.passed;
       there = c.step_behind.ensures.step;
@@ -49,9 +42,9 @@ returns g c =
           ∙ c.label_of_tree.ensures g.H.Hasher.dig trees (c.as_slice.ensures.value ∙ labels) first;
       datum = c.digests_of_step-passed.ensures.datum
           ∙ ap (λ n. g.H.Hasher.dig (datum_text c.digests_of_step-passed.result.event_root c.digests_of_step-passed.result.archive_root n)) c.count_of_events.ensures.value;
-      labels = c.digests_of_step-passed.ensures.labels
-          ∙ ap (λ earlier. map g.H.Hasher.dig (link_texts g.H.Hasher.dig c.digests_of_step-passed.result.datum earlier (c.args.index + 1) (suc (top_level (c.args.index + 1))))) c.as_slice-2.ensures.value;
-      auth = c.authenticator-auth.ensures.label ∙ ap (λ ls. g.H.Hasher.dig (authenticator_text (c.args.index + 1) ls)) c.as_slice-3.ensures.value;
-      auths = c.in_ok-push.ensures.ok;
+      labels = c.digests_of_step-passed.ensures.labels;
+      few = omega (arith, c.step_behind.ensures.few, c.requires.inside);
+      auth = c.authenticator-auth.ensures.label ∙ ap (λ ls. g.H.Hasher.dig (authenticator_text (c.args.index + 1) ls)) c.as_slice-2.ensures.value;
+      latest = c.keep_auth.ensures;
     })
     in record { passed = both.0; step = both.1 }

@@ -13,7 +13,7 @@ use Rattle.tw_history.proofs.reading_steps.take_table.Goals as goal
 
 pub returns-in_err-take_step-clause-takes : goal.returns-in_err-take_step-clause-takes
 returns-in_err-take_step-clause-takes c =
-    let p = err_from_is_err_and c.from_residual.result c.from_residual.ensures.1 in
+    let p = err_from_is_err_and c.from_residual-in_err-take_step.result c.from_residual-in_err-take_step.ensures.1 in
     let xs = steps_of_table c.loop-i.steps c.loop-i.nodes in
     let t = one_left step_codec c.args.bytes.now c.args.at.now c.args.count c.loop-i._i c.loop-i.at xs (omega (arith, c.loop-i-test.true)) c.loop-i.invariant.taken in
     rw (p.1, p.2)
@@ -58,7 +58,7 @@ returns c =
 pub loop-i-init : goal.loop-i-init
 loop-i-init c =
     let P : ℕ → Type 0 = λ left. ManyTaken step_codec c.args.bytes.now c.args.at.now c.args.count left [] c.args.at.now in
-    rw (c.new-steps.ensures, c.new-nodes.ensures) record {
+    rw (c.in_ok-steps.ensures, c.new-nodes.ensures) record {
       within = c.requires.within;
       taken = subst P (let e : c.args.count ≡ c.args.count - 0 = omega arith in e) (many-begins step_codec c.args.bytes.now c.args.at.now c.args.count);
       counted = refl;

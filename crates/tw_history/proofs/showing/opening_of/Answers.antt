@@ -1,10 +1,6 @@
 use Rattle.std.proofs.Common.{◌≡◌, ◌-◌, ◌+◌, arith}
-use Rattle.tw_history.proofs.Passes.{HasPassed-count, IsOfStep-count}
+use Rattle.tw_history.proofs.Passes.{IsOfStep-count}
 use Rattle.tw_history.proofs.showing.opening_of.Goals as goal
-
-pub auth_passed-prev-requires : goal.auth_passed-prev-requires
-auth_passed-prev-requires g c =
-    let count = HasPassed-count g.H.Hasher.dig c.args.history.now (c.args.step - 1) c.pass_steps.new.digests c.in_ok-pass_steps.ensures in omega (arith, count)
 
 pub opening_with-requires : goal.opening_with-requires
 opening_with-requires g c =

@@ -13,4 +13,4 @@ returns-in-Events-clause-size c =
 pub returns-in-Received-clause-size : goal.returns-in-Received-clause-size
 returns-in-Received-clause-size c =
     let name = ap length c.as_bytes-name.ensures.value in
-    rw (c.in-Received.is, ← c.thread.view_is) (sym (thread-size _ (omega (arith, c.as_bytes-name.ensures.size, name)) c.thread.invariant))
+    rw (c.in-Received.is, ← c.get-thread.ensures, ← c.thread.view_is) (sym (thread-size _ (omega (arith, c.as_bytes-name.ensures.size, name)) c.thread.invariant))

@@ -14,5 +14,5 @@ returns-in_ok-put_events-in-Events-clause-fits c =
 pub returns-in_ok-put_digest-in-Received-clause-fits : goal.returns-in_ok-put_digest-in-Received-clause-fits
 unfolding name_codec bytes_codec
 returns-in_ok-put_digest-in-Received-clause-fits c =
-    let range = rw c.in-Received.is at c.requires in
-    rw c.in-Received.is (thread-fits c.in-Received.thread range.0 range.1 c.in_ok-put_name-in-Received.ensures.puts.1 c.in_ok-put_digest-in-Received.ensures.puts.1)
+    let range = rw (c.in-Received.is, ← c.get-thread.ensures) at c.requires in
+    rw (c.in-Received.is, ← c.get-thread.ensures) (thread-fits c.get-thread.result.now range.0 range.1 c.in_ok-put_name-in-Received.ensures.puts.1 c.in_ok-put_digest-in-Received.ensures.puts.1)
