@@ -86,7 +86,7 @@ claim_holds_of dig family p h has some within binds shows =
     (λ bound. and_then dig texts Stands (Facts dig family (claim_of (Exists p)))
     (OrClash-wider dig (of_history ++ audit) texts Stands
     (both_within of_history audit of_family (opened ++ rest) own (λ t a. Among-right t opened rest (Among-right t path audit a))) (event_stands dig h p some within bound shows))
-    (λ stands. inl (record { history = h; has = has; stands = stands; time = refl })))
+    (λ stands. inl (record { history = h; has = has; stands = stands; time = bound.time })))
 
 -- the anchor that the proof names is a thread of the family
 anchored : (dig : List ℕ → List ℕ) (family : List History) (anchors : List Thread) (p : ExistenceProof) (anchor : Thread)

@@ -40,7 +40,7 @@ module _ (dig : List ℕ → List ℕ) (h : History) (step index top : ℕ) (p :
       (λ k. claims.Exists (record {
         place = record { service = is.service k; step = is.at_step k; index = is.at_index k };
         event = same k;
-        time = None;
+        time = sym is.opening.binds.time k;
       }))
 
   -- what is written of it spells it, and is accepted there

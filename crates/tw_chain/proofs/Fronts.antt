@@ -18,10 +18,10 @@ use Rattle.tw_chain.specs.Binding.{BindsHistories}
 use Rattle.tw_chain.specs.Reasons.{IsOfLaterKind, IsVerdict, Stands}
 use Rattle.tw_chain.proofs.Verdicts.{later_kind, malformed_bytes}
 
-proof-size : (bytes : List ℕ) (q : Proof) → Spells proof_layout bytes q → length bytes ≤ 56497
-proof-size bytes q spelled = let is = to_existence bytes q spelled in word-size existence_codec existence-lawful 56497 existence-most bytes is.proof is.spells
+proof-size : (bytes : List ℕ) (q : Proof) → Spells proof_layout bytes q → length bytes ≤ 56505
+proof-size bytes q spelled = let is = to_existence bytes q spelled in word-size existence_codec existence-lawful 56505 existence-most bytes is.proof is.spells
 
-module _ (limit : ℕ) (above : 56497 < limit) (bytes : List ℕ) where
+module _ (limit : ℕ) (above : 56505 < limit) (bytes : List ℕ) where
   spells_nothing : limit < length bytes → SpellsNothing proof_layout bytes
   spells_nothing longer p spelled = let short = proof-size bytes p spelled in absurd (omega (arith, short, above, longer))
 

@@ -45,12 +45,13 @@ module _ (dig : List ℕ → List ℕ) where
   abbrev pub proof_texts : Proof → List (List ℕ)
   proof_texts (Exists p) = existence_texts dig p
 
--- what the proof claims: of kind 1, that the event stands at its step and index
+-- what the proof claims: of kind 1, that the event stands at its step and index, and that the step has the opening's time, or
+-- none
 abbrev pub claim_of : Proof → Claim
 claim_of (Exists p) = claims.Exists (record {
   place = record { service = p.at.service; step = p.at.step; index = p.event.index };
   event = p.event.event;
-  time = None;
+  time = p.at.opening.time;
 })
 
 abbrev pub report_of : Proof → Report

@@ -20,9 +20,9 @@ use tw_base::Hasher;
 
 /// The proof that a history has of one of its events, under a top that isn't below the event's
 /// step, is accepted wherever the anchor held of that service and top has the history's
-/// authenticator of the top. It claims that this event stands at this index of the step. Where the
-/// history is sound and has the top, the proof is spelled, by what `write_existence` writes of it,
-/// and these bytes are accepted there.
+/// authenticator of the top. It claims that this event stands at this index of the step, with the
+/// step's time or none. Where the history is sound and has the top, the proof is spelled, by what
+/// `write_existence` writes of it, and these bytes are accepted there.
 pub fn completeness_laws<H: Hasher>()
     ensures accepted { (h : History) (step index top : ℕ) (p : ExistenceProof) (anchors : List Thread) (anchor : Thread) →
         step ≤ top → IsExistenceOf H.dig h step index top p → anchor_of anchors h.name top ≡ Some anchor → anchor.auth ≡ auth H.dig h top →

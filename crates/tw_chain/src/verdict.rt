@@ -37,7 +37,7 @@ fn report(proof: Proof) -> Report
         claim: Claim::Exists(Seen {
             place,
             event: event.event,
-            time: None,
+            time: at.opening.time,
         }),
     }
 }
