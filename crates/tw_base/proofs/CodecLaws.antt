@@ -1,13 +1,13 @@
 -- The laws of a codec, field by field.
-use Rattle.std.proofs.Common.{◌≡◌, ℕ, suc, zero, ◌-◌, ◌<◌, ◌≤◌, ◌^◌, List, [], ◌∷◌, ◌++◌, length, replicate, flat_map, refl, ap, sym, ◌∙◌, subst}
-use Rattle.std.specs.Prelude.{Result, Ok, Err, nat_le, nat_lt, ◌&&◌, Bool, true, false}
+use Rattle.std.proofs.Common.{◌≡◌, ℕ, suc, zero, ◌-◌, ◌<◌, ◌≤◌, ◌^◌, List, [], ◌∷◌, ◌++◌, length, replicate, flat_map, refl, ap, sym, ◌∙◌, subst, arith, inl, inr}
+use Rattle.std.specs.Prelude.{Result, Ok, Err, Option, Some, None, nat_le, nat_lt, ◌&&◌, ◌||◌, ◌==◌, Bool, true, false, if◌then◌else◌}
 use Rattle.std.proofs.lemmas.List.{append-nil}
-use Rattle.std.proofs.lemmas.Bool.{and_parts, leb-true, ltb-true}
+use Rattle.std.proofs.lemmas.Bool.{and_parts, eqb-true, leb-true, ltb-true, or_cases}
 use Rattle.tw_base.specs.Bytes.{AreBytes}
-use Rattle.tw_base.specs.Codecs.{Codec, EachFits, HasBytes, IsUnambiguous, before, behind, by_kind, bytes_codec, cased, choose, counted, each, each_format, labels_codec, many, name_codec, number_codec, padded, pair, seen, sized_codec, text_codec}
+use Rattle.tw_base.specs.Codecs.{Codec, EachFits, HasBytes, IsUnambiguous, before, behind, by_kind, bytes_codec, cased, choose, counted, each, each_format, flag_codec, labels_codec, many, name_codec, nothing, number_codec, optional, padded, pair, present, seen, sized_codec, text_codec, written}
 use Rattle.tw_base.specs.Formats.{Format, GoesOn, Placed, Spells, read_at, then_by, ◌>>=◌}
 use Rattle.tw_base.specs.Formats.Format.{Done, Byte}
-use Rattle.tw_base.specs.Fields.{bytes, repeated, text}
+use Rattle.tw_base.specs.Fields.{bytes, flag, number, repeated, text}
 use Rattle.tw_base.specs.Lists.{Each}
 use Rattle.tw_base.specs.Names.{IsName}
 use Rattle.tw_base.proofs.ByteLemmas.{AreBytes-at}
@@ -88,6 +88,30 @@ lawful-text magic = record {
   reads = λ whole at. refl;
   words = λ word x s. (let same : word ≡ x = text-written magic word x s in (same, sym (text-word magic word x s) ∙ same));
   spells = λ x f. (let P : List ℕ → Type 0 = λ t. Spells (text magic) t t in subst P f (text-spells magic));
+}
+
+flag-byte : (b : ℕ) (set : Bool) → (b == 0 || b == 128) ≡ true → (b == 128) ≡ set → b ≡ (if set then 128 else 0)
+flag-byte b true passes e = eqb-true b 128 e
+flag-byte b false passes e = elim (or_cases (b == 0) (b == 128) passes) [ inl none ↦ eqb-true b 0 none | inr top ↦ cc ]
+
+flag-words : AllWords flag (λ word set. (word ≡ (if set then 128 else 0) ∷ []) × Unit {0})
+unfolding flag
+flag-words [] set s = absurd s
+flag-words (b ∷ []) set s = (ap (λ c. c ∷ []) (flag-byte b set s.0 s.1), tt)
+flag-words (b ∷ c ∷ bs) set s = absurd s.1
+
+flag-spells : (set : Bool) → Spells flag ((if set then 128 else 0) ∷ []) set
+unfolding flag
+flag-spells true = (refl, refl)
+flag-spells false = (refl, refl)
+
+pub lawful-flag : Lawful flag_codec
+unfolding flag_codec flag
+lawful-flag = record {
+  goes = ((0, refl), λ b passes. tt);
+  reads = λ whole at. refl;
+  words = flag-words;
+  spells = λ set f. flag-spells set;
 }
 
 module _ {X Y : Type 0} where
@@ -180,6 +204,24 @@ module _ {X : Type 0} where
   lawful-choose true one other l m = l
   lawful-choose false one other l m = m
 
+  pub lawful-nothing : (x : X) → Lawful (nothing x)
+  unfolding nothing
+  lawful-nothing x = record {
+    goes = tt;
+    reads = λ whole at. read_at-done x whole at;
+    words = all_words-done x _ (refl, refl);
+    spells = λ y f. f;
+  }
+
+  pub lawful-written : (write : X → List ℕ) (c : Codec X) → ((x : X) → c.Fits x → c.write x ≡ write x) → Lawful c → Lawful (written write c)
+  unfolding written
+  lawful-written write c same l = record {
+    goes = l.goes;
+    reads = l.reads;
+    words = λ word x s. (let is = l.words word x s in (is.0 ∙ same x is.1, is.1));
+    spells = λ x f. (let P : List ℕ → Type 0 = λ w. Spells c.format w x in subst P (same x f) (l.spells x f));
+  }
+
   pub lawful-behind : (magic : List ℕ) (c : Codec X) → Lawful c → Lawful (behind magic c)
   unfolding behind text_codec
   lawful-behind magic c l = record {
@@ -226,6 +268,30 @@ module _ {X : Type 0} where
             spells_then c.format _ (c.write x) _ x x (l.spells x f)
             (subst P (append-nil (zeros x)) (spells_then (text (zeros x)) _ (zeros x) [] (zeros x) x (text-spells (zeros x)) refl)));
       }
+
+module _ {X : Type 0} (c : Codec X) (l : Lawful c) where
+  present-spells : (o : Option X) → (present c).Fits o → Spells (present c).format ((present c).write o) o
+  unfolding present
+  present-spells None f = absurd f
+  present-spells (Some x) f =
+      let P : List ℕ → Type 0 = λ w. Spells (then_by c.format (λ y. Done (Some y))) w (Some x) in
+      subst P (append-nil (c.write x)) (spells_then c.format _ (c.write x) [] x (Some x) (l.spells x f) refl)
+
+  pub lawful-present : Lawful (present c)
+  unfolding present
+  lawful-present = record {
+    goes = goes_on-then c.format _ l.goes (λ x. tt);
+    reads = λ whole at. let reads = l.reads in simp (read_at-then, read_at-done, reads);
+    words =
+        all_words-then c.format _ _ (λ one x s.
+        let is = l.words one x s in
+        let word : one ++ [] ≡ c.write x = append-nil one ∙ is.0 in
+        all_words-done (Some x) _ (word, is.1));
+    spells = present-spells;
+  }
+
+  pub lawful-optional : (is : Bool) → Lawful (optional is c)
+  lawful-optional is = lawful-choose is (present c) (nothing None) lawful-present (lawful-nothing None)
 
 -- ---- so many values
 module _ {X : Type 0} (c : Codec X) (l : Lawful c) where
@@ -315,4 +381,4 @@ pub lawful-counted_numeral : {X : Type 0} (c : Codec X) → Lawful c → (width 
 lawful-counted_numeral c l width least most is = let r = in_range width least most is in lawful-counted c l width least most r.0 r.1
 
 -- with them `search` finds the laws of a layout
-pub ruleset lawful = (lawful-seen, lawful-cased, lawful-choose, lawful-pair, lawful-behind, lawful-before, lawful-padded, lawful-bytes, lawful-counted_numeral, lawful-labels, lawful-many, lawful-name, lawful-numeral, lawful-numeral_from, lawful-sized_numeral, lawful-number, lawful-text)
+pub ruleset lawful = (lawful-seen, lawful-cased, lawful-choose, lawful-pair, lawful-behind, lawful-before, lawful-padded, lawful-bytes, lawful-counted_numeral, lawful-flag, lawful-labels, lawful-many, lawful-name, lawful-numeral, lawful-numeral_from, lawful-sized_numeral, lawful-number, lawful-optional, lawful-text)

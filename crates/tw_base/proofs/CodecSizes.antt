@@ -1,9 +1,9 @@
 -- How many bytes the words of a codec have at most.
 use Rattle.std.proofs.Common.{◌≡◌, ℕ, ◌+◌, ◌-◌, ◌*◌, ◌≤◌, List, [], ◌∷◌, length, flat_map, replicate, ap, arith}
-use Rattle.std.specs.Prelude.{Bool, true, false}
+use Rattle.std.specs.Prelude.{Bool, true, false, Some, None}
 use Rattle.std.proofs.lemmas.List.{length-append, length-replicate}
 use Rattle.std.proofs.Math.Nat.{mul-le-mul_right, suc-mul}
-use Rattle.tw_base.specs.Codecs.{Codec, HasBytes, before, behind, by_kind, bytes_codec, cased, choose, counted, labels_codec, many, name_codec, number_codec, padded, pair, seen, sized_codec}
+use Rattle.tw_base.specs.Codecs.{Codec, HasBytes, before, behind, by_kind, bytes_codec, cased, choose, counted, flag_codec, labels_codec, many, name_codec, nothing, number_codec, optional, padded, present, pair, seen, sized_codec}
 use Rattle.tw_base.specs.Fields.{number_bytes}
 use Rattle.tw_base.specs.Formats.{Spells}
 use Rattle.tw_base.specs.Lists.{Each}
@@ -26,6 +26,10 @@ at_most-bytes n x f = omega (arith, f.0)
 pub at_most-name : AtMost name_codec 16
 unfolding name_codec
 at_most-name x f = omega (arith, IsName-size x f)
+
+pub at_most-flag : AtMost flag_codec 1
+unfolding flag_codec
+at_most-flag set f = omega arith
 
 pub at_most-sized : (width least most : ℕ) → AtMost (sized_codec width least most) (width + most)
 unfolding sized_codec by_kind number_codec bytes_codec
@@ -70,6 +74,15 @@ module _ {X : Type 0} where
   at_most-choose true one other n l m = l
   at_most-choose false one other n l m = m
 
+  pub at_most-present : (c : Codec X) (n : ℕ) → AtMost c n → AtMost (present c) n
+  unfolding present
+  at_most-present c n l None f = absurd f
+  at_most-present c n l (Some x) f = l x f
+
+  pub at_most-nothing : (x : X) (n : ℕ) → AtMost (nothing x) n
+  unfolding nothing
+  at_most-nothing x n y f = omega arith
+
   many-length : (c : Codec X) (n : ℕ) → AtMost c n → (xs : List X) → Each c.Fits xs → length (flat_map c.write xs) ≤ length xs * n
   many-length c n l [] each = omega arith
   many-length c n l (x ∷ xs) each =
@@ -95,3 +108,6 @@ module _ {X : Type 0} where
   page-size size c l most word x s =
       let is = (lawful-padded size c l).words word x s in
       omega (arith, ap length is.0, most x is.1, length-append (c.write x) (replicate (size - length (c.write x)) 0), length-replicate {A = ℕ} (size - length (c.write x)) 0)
+
+pub at_most-optional : {X : Type 0} (is : Bool) (c : Codec X) (n : ℕ) → AtMost c n → AtMost (optional is c) n
+at_most-optional is c n l = at_most-choose is (present c) (nothing None) n (at_most-present c n l) (at_most-nothing None n)

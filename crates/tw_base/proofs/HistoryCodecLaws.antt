@@ -1,13 +1,12 @@
 -- The codec of history files is lawful.
-use Rattle.std.proofs.Common.{◌≡◌, ℕ, ap, sym, ◌∙◌, arith, inl, inr}
-use Rattle.std.specs.Prelude.{◌==◌}
-use Rattle.std.proofs.lemmas.Bool.{cases_eq, eq-eqb, ne_eqb}
+use Rattle.std.proofs.Common.{◌≡◌, ℕ, suc, zero, ◌+◌, refl, ap, sym, ◌∙◌, arith}
+use Rattle.std.specs.Prelude.{Bool, true, false, Option, Some, None}
 use Rattle.tw_base.specs.declared.content.Content.{Content}
 use Rattle.tw_base.specs.declared.content.Content.TheVariants.{Events, Received}
 use Rattle.tw_base.specs.declared.limits.TheConstants.{MOST_EVENTS}
-use Rattle.tw_base.specs.Codecs.{cased, choose, counted, number_codec}
-use Rattle.tw_base.specs.HistoryCodec.{content_codec, event_codec, events_in, history_codec, kind_of, node_codec, step_codec, thread_codec, thread_in}
-use Rattle.tw_base.proofs.CodecLaws.{Lawful, lawful, lawful-by_kind, lawful-choose}
+use Rattle.tw_base.specs.Codecs.{cased, counted, nothing, number_codec, optional, pair, present}
+use Rattle.tw_base.specs.HistoryCodec.{content_codec, event_codec, events_in, history_codec, is_of_events, is_timed, kind_of, node_codec, of_kind, recorded_codec, step_codec, thread_codec, thread_in, time_codec}
+use Rattle.tw_base.proofs.CodecLaws.{Lawful, lawful, lawful-by_kind, lawful-choose, lawful-optional, lawful-pair}
 
 pub thread-lawful : Lawful thread_codec
 unfolding thread_codec
@@ -23,22 +22,45 @@ events-lawful = search lawful depth 20
 received-lawful : Lawful (cased Received thread_in thread_codec)
 received-lawful = search (lawful, thread-lawful) depth 20
 
-kinds : (kind : ℕ) (c : Content) → (number_codec 1 1 2).Fits kind
-    → (choose (kind == 1) (cased Events events_in (counted 4 0 MOST_EVENTS event_codec)) (cased Received thread_in thread_codec)).Fits c → kind_of c ≡ kind
-unfolding number_codec cased
-kinds kind c fits is =
-    elim (cases_eq kind 1) [
-      | inl one ↦ (let events = rw (eq-eqb kind 1 one) at is in sym (ap kind_of events.0) ∙ sym one)
-      | inr other ↦ (let thread = rw (ne_eqb kind 1 other) at is in sym (ap kind_of thread.0) ∙ omega (arith, fits.0, fits.1))
-    ]
-
-pub content-lawful : Lawful content_codec
+pub content-lawful : (is_events : Bool) → Lawful (content_codec is_events)
 unfolding content_codec
-content-lawful = lawful-by_kind kind_of (number_codec 1 1 2) _ (search lawful) (λ kind _. lawful-choose (kind == 1) _ _ events-lawful received-lawful) kinds
+content-lawful is_events = lawful-choose is_events _ _ events-lawful received-lawful
+
+-- each kind has the values of its kind
+timed-kind : (time : Option ℕ) (c : Content) → (present time_codec).Fits time → kind_of time c ≡ 2 + kind_of None c
+unfolding present
+timed-kind None c fits = absurd fits
+timed-kind (Some time) (Events events) fits = refl
+timed-kind (Some time) (Received t) fits = refl
+
+events-kind : (c : Content) → (content_codec true).Fits c → kind_of None c ≡ 1
+unfolding content_codec cased
+events-kind c fits = sym (ap (kind_of None) fits.0)
+
+received-kind : (c : Content) → (content_codec false).Fits c → kind_of None c ≡ 2
+unfolding content_codec cased
+received-kind c fits = sym (ap (kind_of None) fits.0)
+
+untimed : (time : Option ℕ) (c : Content) → None ≡ time → kind_of time c ≡ kind_of None c
+untimed time c e = sym (ap (λ t. kind_of t c) e)
+
+pub kinds : (kind : ℕ) (r : Option ℕ × Content) → (number_codec 1 1 4).Fits kind → (of_kind kind).Fits r → kind_of r.0 r.1 ≡ kind
+unfolding number_codec pair nothing
+kinds zero r fits is = absurd (omega (arith, fits.0))
+kinds (suc zero) r fits is = untimed r.0 r.1 is.0 ∙ events-kind r.1 is.1
+kinds (suc (suc zero)) r fits is = untimed r.0 r.1 is.0 ∙ received-kind r.1 is.1
+kinds (suc (suc (suc zero))) r fits is = timed-kind r.0 r.1 is.0 ∙ ap (λ n. 2 + n) (events-kind r.1 is.1)
+kinds (suc (suc (suc (suc zero)))) r fits is = timed-kind r.0 r.1 is.0 ∙ ap (λ n. 2 + n) (received-kind r.1 is.1)
+kinds (suc (suc (suc (suc (suc n))))) r fits is = absurd (omega (arith, fits.1))
+
+pub recorded-lawful : Lawful recorded_codec
+unfolding recorded_codec
+recorded-lawful = lawful-by_kind (λ r. kind_of r.0 r.1) (number_codec 1 1 4) of_kind (search lawful) (λ kind _.
+    lawful-pair (optional (is_timed kind) time_codec) (λ time. content_codec (is_of_events kind)) (lawful-optional time_codec (search lawful) (is_timed kind)) (λ _ _. content-lawful (is_of_events kind))) kinds
 
 pub step-lawful : Lawful step_codec
 unfolding step_codec
-step-lawful = search (lawful, content-lawful, node-lawful) depth 20
+step-lawful = search (lawful, recorded-lawful, node-lawful) depth 20
 
 pub history-lawful : Lawful history_codec
 unfolding history_codec

@@ -166,7 +166,7 @@ number-fits unit b least most low high n u over under low_is high_is l h = (lowe
 -- ---- the one spelling of a number
 
 -- the lowest bytes of a number are those of what is left when a multiple of their unit is taken away
-low_bytes : (k c r : ℕ) → bytes_high_first k (c * 256 ^ k + r) ≡ bytes_high_first k r
+pub low_bytes : (k c r : ℕ) → bytes_high_first k (c * 256 ^ k + r) ≡ bytes_high_first k r
 low_bytes zero c r = refl
 low_bytes (suc k) c r =
     let same : c * 256 ^ suc k + r ≡ c * 256 * 256 ^ k + r = ap (λ p. c * p + r) (pow-succ' 256 k) ∙ ap (λ p. p + r) (sym (mul_assoc c 256 (256 ^ k))) in
@@ -179,7 +179,7 @@ low_bytes (suc k) c r =
         ap (λ n. n % 256) (mul-add-div_right (one-le-pow (suc k) 256 (lit< tt)) (c * 256) r) ∙ mul-add-mod_self_right c 256 (r / 256 ^ suc k)
 
 -- the spelling of a number by its first byte
-number_bytes-more : (width b rest : ℕ) → b < 256 → rest < 256 ^ width → number_bytes (suc width) (b * 256 ^ width + rest) ≡ b ∷ number_bytes width rest
+pub number_bytes-more : (width b rest : ℕ) → b < 256 → rest < 256 ^ width → number_bytes (suc width) (b * 256 ^ width + rest) ≡ b ∷ number_bytes width rest
 unfolding number_bytes
 number_bytes-more width b rest l below =
     ap (λ x. x ∷ bytes_high_first width (b * 256 ^ width + rest)) (first width b rest l below) ∙ ap (λ bs. b ∷ bs) (low_bytes width b rest)

@@ -6,9 +6,9 @@ use Rattle.std.proofs.lemmas.Bool.{leb-true}
 use Rattle.std.specs.Prelude.{slice_index_or, if◌then◌else◌, option_and_then, map}
 use Rattle.std.specs.Option.{option_to_list}
 use Rattle.tw_base.specs.declared.thread.Entry.{Entry}
-use Rattle.tw_base.specs.Texts.{datum_text, authenticator_text}
+use Rattle.tw_base.specs.Texts.{authenticator_text, step_datum_text}
 use Rattle.tw_base.specs.EventTree.{event_root}
-use Rattle.tw_base.specs.History.{History, Step, Node, step_at, events_at, events_of, entry_at, entry_to, thread_of, fresh_of, received, root_of, plus}
+use Rattle.tw_base.specs.History.{History, Step, Node, step_at, events_at, events_of, entry_at, entry_to, thread_of, fresh_of, received, root_of, plus, time_at, time_of, times}
 use Rattle.tw_base.specs.Tree.{Tree, branch, forest, planted, tree}
 use Rattle.tw_base.specs.Tree.Tree.{Empty}
 use Rattle.tw_base.specs.Levels.{top_level}
@@ -55,6 +55,13 @@ module _ (h : History) (s : Step) where
       ap (λ (es : List Entry). es ++ option_to_list (entry_at (plus h s) (suc i))) (received-plus i (omega arith))
       ∙ ap (λ (o : Option Entry). received h i ++ option_to_list o) (entry_at-plus (suc i) l)
 
+  pub times-plus : (i : ℕ) → i ≤ length h.steps → times (plus h s) i ≡ times h i
+  unfolding times
+  times-plus zero l = refl
+  times-plus (suc i) l =
+      ap (λ (ts : List ℕ). ts ++ option_to_list (time_at (plus h s) (suc i))) (times-plus i (omega arith))
+      ∙ ap (λ (o : Option Step). times h i ++ option_to_list (time_of o)) (step_at-plus (suc i) l)
+
   pub forest-plus : (i : ℕ) → i ≤ length h.steps → forest (plus h s) i ≡ forest h i
   unfolding forest
   forest-plus zero l = refl
@@ -71,8 +78,8 @@ module _ (h : History) (s : Step) where
     pub datum_text_at-plus : (i : ℕ) → i ≤ length h.steps → datum_text_at dig (plus h s) i ≡ datum_text_at dig h i
     unfolding datum_text_at
     datum_text_at-plus i l =
-        ap (λ (o : Option Step). datum_text (event_root dig (events_of o)) (tree_label dig (tree (plus h s) i)) (length (events_of o))) (step_at-plus i l)
-        ∙ ap (λ (t : Tree). datum_text (event_root dig (events_at h i)) (tree_label dig t) (length (events_at h i))) (tree-plus i l)
+        ap (λ (o : Option Step). step_datum_text (event_root dig (events_of o)) (tree_label dig (tree (plus h s) i)) (length (events_of o)) (time_of o)) (step_at-plus i l)
+        ∙ ap (λ (t : Tree). step_datum_text (event_root dig (events_at h i)) (tree_label dig t) (length (events_at h i)) (time_at h i)) (tree-plus i l)
 
     pub auths-plus : (i : ℕ) → i ≤ length h.steps → auths dig (plus h s) i ≡ auths dig h i
     unfolding auths

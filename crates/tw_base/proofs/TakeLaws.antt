@@ -149,6 +149,22 @@ module _ {X Y Z : Type 0} (c : Codec X) (l : Lawful c) where
   many-fails (Malformed place) view views bytes start at after end n left xs t e = many-stops c l bytes start at n left xs place t e
   many-fails NoMemory view views bytes start at after end n left xs t e = tt
 
+-- a reader of the kind, and then of what the kind has
+module _ {X Y Z : Type 0} (kind_of : Z → X) (c : Codec X) (next : X → Codec Z) (view : Y → Z) where
+  pub takes-kind : (bytes : List ℕ) (at mid after : ℕ) (x : X) (r : Result Y ReadFault) → c.read bytes at ≡ Ok (record { value = x; after = mid }) → c.Fits x
+      → ((z : Z) → (next x).Fits z → kind_of z ≡ x) → Takes (next x) view bytes mid after r → Takes (by_kind kind_of c next) view bytes at after r
+  unfolding by_kind
+  takes-kind bytes at mid after x (Ok y) e fits same t =
+      let P : X → Type 0 = λ k. c.Fits k × (next k).Fits (view y) in
+      (ap (λ r. r >>= (λ x. (next x.value).read bytes x.after)) e ∙ t.0, subst P (sym (same (view y) t.1)) (fits, t.1), t.2)
+  takes-kind bytes at mid after x (Err (Malformed place)) e fits same t = ap (λ r. r >>= (λ x. (next x.value).read bytes x.after)) e ∙ t
+  takes-kind bytes at mid after x (Err NoMemory) e fits same t = tt
+
+  pub takes-no_kind : (bytes : List ℕ) (at after end : ℕ) (fault : ReadFault) → Takes {Y = X} c (λ x. x) bytes at after (Err fault) → Takes (by_kind kind_of c next) view bytes at end (Err fault)
+  unfolding by_kind
+  takes-no_kind bytes at after end (Malformed place) e = ap (λ r. r >>= (λ x. (next x.value).read bytes x.after)) e
+  takes-no_kind bytes at after end NoMemory e = tt
+
 -- a reader of the number, and then of so many
 module _ {X Y : Type 0} (c : Codec X) (view : Y → List X) (width least most : ℕ) where
   pub takes-counted : (bytes : List ℕ) (at mid after n : ℕ) (r : Result Y ReadFault) → (number_codec width least most).read bytes at ≡ Ok (record { value = n; after = mid }) → (number_codec width least most).Fits n

@@ -94,7 +94,7 @@ module _ (h : History) where
   thread-within : (s : Step) → IsWithinLimits s.content → IfSome (thread_of (Some s)) IsThread
   thread-within s limits = by s.content limits
     where
-      by : (c : Content) → IsWithinLimits c → IfSome (thread_of (Some (record { content = c; fresh = s.fresh; root = s.root }))) IsThread
+      by : (c : Content) → IsWithinLimits c → IfSome (thread_of (Some (record { content = c; time = s.time; fresh = s.fresh; root = s.root }))) IsThread
       by (Events events) all = tt
       by (Received t) is = is
 

@@ -1,13 +1,14 @@
--- The definitions, computed on two small histories under the weak digest.
+-- The definitions, computed on three small histories under the weak digest.
 use Rattle.std.proofs.Common.{◌≡◌, ℕ, List, [], ◌∷◌, refl, replicate}
+use Rattle.std.specs.Prelude.{Some, None, map}
 use Rattle.std.specs.Int.Count.{count_trailing_zeros}
-use Rattle.tw_base.specs.Texts.{genesis_text, datum_text, link_text, authenticator_text, empty_tree_text, tree_node_text, event_leaf_text, event_node_text, no_events_text}
+use Rattle.tw_base.specs.Texts.{genesis_text, datum_text, timed_datum_text, link_text, authenticator_text, empty_tree_text, tree_node_text, event_leaf_text, event_node_text, no_events_text}
 use Rattle.tw_base.specs.EventTree.{tree_hash, event_root}
 use Rattle.tw_base.specs.History.{History, entry_to}
 use Rattle.tw_base.specs.declared.content.Content.TheVariants.{Events, Received}
 use Rattle.tw_base.specs.Tree.{planted, forest, tree}
 use Rattle.tw_base.specs.Levels.{top_level}
-use Rattle.tw_base.specs.Auth.{auth, auths, tree_label, datum_text_at, link_texts}
+use Rattle.tw_base.specs.Auth.{auth, auths, tree_label, datum_text_at, link_texts, link_texts_at}
 use Rattle.tw_base.specs.Weak.{weak}
 
 -- a digest of the weak hasher
@@ -21,7 +22,14 @@ name letter = letter ∷ replicate 15 0
 a : History
 a = record {
   name = name 97;
-  steps = record { content = Events ([] ∷ []); fresh = []; root = 0 } ∷ record { content = Events ((104 ∷ 105 ∷ []) ∷ []); fresh = []; root = 0 } ∷ [];
+  steps = record { content = Events ([] ∷ []); time = None; fresh = []; root = 0 } ∷ record { content = Events ((104 ∷ 105 ∷ []) ∷ []); time = None; fresh = []; root = 0 } ∷ [];
+}
+
+-- the same service, whose step 1 claims the time 5
+t : History
+t = record {
+  name = name 97;
+  steps = record { content = Events ([] ∷ []); time = Some 5; fresh = []; root = 0 } ∷ record { content = Events ((104 ∷ 105 ∷ []) ∷ []); time = None; fresh = []; root = 0 } ∷ [];
 }
 
 -- service b: step 1 receives a's step 1
@@ -30,6 +38,7 @@ b = record {
   name = name 98;
   steps = record {
     content = Received (record { from = name 97; step = 1; auth = short 0xbf });
+    time = None;
     fresh = record { left = 0; entry = 1; right = 0 } ∷ [];
     root = 1;
   } ∷ [];
@@ -62,6 +71,30 @@ a-2-datum = refl
 a-2 : auth weak a 2 ≡ short 0x5f
 unfolding a auth auths tree_label datum_text_at link_texts tree_hash event_root planted forest tree entry_to genesis_text datum_text link_text authenticator_text empty_tree_text tree_node_text event_leaf_text event_node_text no_events_text top_level count_trailing_zeros
 a-2 = refl
+
+t-1-datum : weak (datum_text_at weak t 1) ≡ short 0x30
+unfolding t tree_label datum_text_at tree_hash event_root planted forest tree entry_to datum_text timed_datum_text empty_tree_text event_leaf_text event_node_text no_events_text
+t-1-datum = refl
+
+t-1-label : map weak (link_texts_at weak t (auths weak t 0) 1) ≡ short 0xb3 ∷ []
+unfolding t auth auths tree_label datum_text_at link_texts tree_hash event_root planted forest tree entry_to genesis_text datum_text timed_datum_text link_text authenticator_text empty_tree_text tree_node_text event_leaf_text event_node_text no_events_text top_level count_trailing_zeros
+t-1-label = refl
+
+t-1 : auth weak t 1 ≡ short 0xc7
+unfolding t auth auths tree_label datum_text_at link_texts tree_hash event_root planted forest tree entry_to genesis_text datum_text timed_datum_text link_text authenticator_text empty_tree_text tree_node_text event_leaf_text event_node_text no_events_text top_level count_trailing_zeros
+t-1 = refl
+
+t-2-datum : weak (datum_text_at weak t 2) ≡ short 0xf9
+unfolding t tree_label datum_text_at tree_hash event_root planted forest tree entry_to datum_text timed_datum_text empty_tree_text event_leaf_text event_node_text no_events_text
+t-2-datum = refl
+
+t-2-labels : map weak (link_texts_at weak t (auths weak t 1) 2) ≡ short 0xd3 ∷ short 0x7e ∷ []
+unfolding t auth auths tree_label datum_text_at link_texts tree_hash event_root planted forest tree entry_to genesis_text datum_text timed_datum_text link_text authenticator_text empty_tree_text tree_node_text event_leaf_text event_node_text no_events_text top_level count_trailing_zeros
+t-2-labels = refl
+
+t-2 : auth weak t 2 ≡ short 0x67
+unfolding t auth auths tree_label datum_text_at link_texts tree_hash event_root planted forest tree entry_to genesis_text datum_text timed_datum_text link_text authenticator_text empty_tree_text tree_node_text event_leaf_text event_node_text no_events_text top_level count_trailing_zeros
+t-2 = refl
 
 b-1-tree : tree_label weak (tree b 1) ≡ short 0x5f
 unfolding b tree_label planted forest tree entry_to empty_tree_text tree_node_text

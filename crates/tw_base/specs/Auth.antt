@@ -1,9 +1,9 @@
 -- Labels of trees, and the authenticators of a history.
 use Rattle.std.specs.Prelude.{ℕ, suc, zero, ◌-◌, ◌^◌, List, [], ◌∷◌, ◌++◌, length, map, slice_index_or}
-use Rattle.tw_base.specs.Texts.{genesis_text, datum_text, link_text, authenticator_text, empty_tree_text}
+use Rattle.tw_base.specs.Texts.{genesis_text, step_datum_text, link_text, authenticator_text, empty_tree_text}
 use Rattle.tw_base.specs.Entries.{entry_text}
 use Rattle.tw_base.specs.EventTree.{event_root}
-use Rattle.tw_base.specs.History.{History, events_at}
+use Rattle.tw_base.specs.History.{History, events_at, time_at}
 use Rattle.tw_base.specs.Tree.{Tree, tree}
 use Rattle.tw_base.specs.Tree.Tree.{Empty, Branch}
 use Rattle.tw_base.specs.Levels.{top_level}
@@ -13,9 +13,9 @@ module _ (dig : List ℕ → List ℕ) where
   tree_label Empty = dig empty_tree_text
   tree_label (Branch left e right) = dig (entry_text (tree_label left) e (tree_label right))
 
-  -- what step i itself holds: its events, its archive and how many events there are
+  -- what step i itself holds: its events, its archive, how many events there are, and its time where it has one
   unfoldable pub datum_text_at : History → ℕ → List ℕ
-  datum_text_at h i = datum_text (event_root dig (events_at h i)) (tree_label (tree h i)) (length (events_at h i))
+  datum_text_at h i = step_datum_text (event_root dig (events_at h i)) (tree_label (tree h i)) (length (events_at h i)) (time_at h i)
 
   -- the texts of the links of step i at the levels below this count; the link at a level leads to step i - 2 ^ level
   unfoldable pub link_texts : (datum : List ℕ) (earlier : List (List ℕ)) (i count : ℕ) → List (List ℕ)

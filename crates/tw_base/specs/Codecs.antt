@@ -1,10 +1,11 @@
 -- Codecs. One declaration of a format: which bytes spell what, which values have a spelling and which one, and how a
 -- reader goes over the bytes field by field. The laws that join the four are in proofs/CodecLaws.
-use Rattle.std.specs.Prelude.{◌≡◌, ℕ, ◌-◌, ◌≤◌, List, [], ◌∷◌, ◌++◌, length, replicate, flat_map, Bool, true, false, Result, Ok}
+use Rattle.std.specs.Prelude.{◌≡◌, ℕ, ◌-◌, ◌≤◌, List, [], ◌∷◌, ◌++◌, length, replicate, flat_map, Bool, true, false, Option, Some, None, MatchOption, Result, Ok, if◌then◌else◌}
+use Rattle.std.specs.Option.{option_map_or}
 use Rattle.tw_base.specs.Bytes.{AreBytes}
 use Rattle.tw_base.specs.Formats.{Format, OneSpelling, Placed, Spells, WrittenAs, then_by, read_at, ◌>>=◌}
 use Rattle.tw_base.specs.Formats.Format.{Done}
-use Rattle.tw_base.specs.Fields.{bytes, name, number, number_bytes, repeated, text}
+use Rattle.tw_base.specs.Fields.{bytes, flag, name, number, number_bytes, repeated, text}
 use Rattle.tw_base.specs.Lists.{Each}
 use Rattle.tw_base.specs.Names.{IsName}
 
@@ -60,6 +61,10 @@ name_codec = record { format = name; Fits = IsName; write = λ n. n; read = read
 unfoldable pub text_codec : List ℕ → Codec (List ℕ)
 text_codec magic = record { format = text magic; Fits = λ t. magic ≡ t; write = λ t. t; read = read_at (text magic) }
 
+-- a byte that is 0 or 128
+unfoldable pub flag_codec : Codec Bool
+flag_codec = record { format = flag; Fits = λ set. Unit {0}; write = λ set. (if set then 128 else 0) ∷ []; read = read_at flag }
+
 -- ---- one field and then others
 
 module _ {X Y : Type 0} where
@@ -109,6 +114,19 @@ module _ {X : Type 0} where
   choose true one other = one
   choose false one other = other
 
+  -- no bytes, which stand for this value
+  unfoldable pub nothing : X → Codec X
+  nothing x = record {
+    format = Done x;
+    Fits = λ y. x ≡ y;
+    write = λ y. [];
+    read = λ whole at. Ok (record { value = x; after = at });
+  }
+
+  -- with this spelling, which is the codec's own for each value that fits
+  unfoldable pub written : (X → List ℕ) → Codec X → Codec X
+  written write c = record { format = c.format; Fits = c.Fits; write = write; read = c.read }
+
   -- these bytes first
   unfoldable pub behind : List ℕ → Codec X → Codec X
   behind magic c = record {
@@ -135,6 +153,20 @@ module _ {X : Type 0} where
     write = λ x. c.write x ++ replicate (size - length (c.write x)) 0;
     read = λ whole at. c.read whole at >>= (λ x. read_at (text (replicate (size - length (c.write x.value)) 0)) whole x.after >>= (λ zeros. Ok (record { value = x.value; after = zeros.after })));
   }
+
+module _ {X : Type 0} where
+  -- a value that there is
+  unfoldable pub present : Codec X → Codec (Option X)
+  present c = record {
+    format = then_by c.format (λ x. Done (Some x));
+    Fits = λ o. MatchOption o ⊥ c.Fits;
+    write = λ o. option_map_or c.write o [];
+    read = λ whole at. c.read whole at >>= (λ x. Ok (record { value = Some x.value; after = x.after }));
+  }
+
+  -- a value where the test is true, and else no bytes and none
+  abbrev pub optional : Bool → Codec X → Codec (Option X)
+  optional is c = choose is (present c) (nothing None)
 
 -- ---- lists
 

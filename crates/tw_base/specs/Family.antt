@@ -6,7 +6,7 @@ use Rattle.tw_base.specs.declared.report.Claim.{Claim}
 use Rattle.tw_base.specs.declared.report.Claim.TheVariants.{Exists}
 use Rattle.tw_base.specs.declared.report.Seen.{Seen}
 use Rattle.tw_base.specs.Lists.{Each}
-use Rattle.tw_base.specs.History.{History, events_at}
+use Rattle.tw_base.specs.History.{History, events_at, time_at}
 use Rattle.tw_base.specs.Sound.{IsSound}
 use Rattle.tw_base.specs.Auth.{auth}
 use Rattle.tw_base.specs.HistoryTexts.{history_texts}
@@ -29,12 +29,12 @@ HasThread dig family t = (h : History) × HasHistory family t.from h × (t.step 
 abbrev pub HasThreads : (List ℕ → List ℕ) → List History → List Thread → Type 0
 HasThreads dig family threads = Each (HasThread dig family) threads
 
--- the event stands at its place in the history of its service; no step of a history has a time
+-- the event stands at its place in the history of its service, and its step has the time that is claimed, and none where none is
 pub record SeenStands (family : List History) (seen : Seen) : Type 0 where
   pub history : History
   pub has : HasHistory family seen.place.service history
   pub stands : slice_get (events_at history seen.place.step) seen.place.index ≡ Some seen.event
-  pub time : seen.time ≡ None
+  pub time : time_at history seen.place.step ≡ seen.time
 
 -- what a claim says of the family
 abbrev pub Facts : (List ℕ → List ℕ) → List History → Claim → Type 0

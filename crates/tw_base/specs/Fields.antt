@@ -57,6 +57,10 @@ name_part letters zeros (suc left) =
 unfoldable pub name : Format (List ℕ)
 name = name_part true false 16
 
+-- a byte that is 0 or 128: whether the highest bit of the number that it begins is set
+unfoldable pub flag : Format Bool
+flag = Byte (λ b. b == 0 || b == 128) (λ b. Done (b == 128))
+
 -- ---- lists
 
 module _ {X : Type 0} where

@@ -12,10 +12,11 @@ pub record Node : Type 0 where
   pub entry : ℕ
   pub right : ℕ
 
--- what a step records (events, or the thread of another service), the nodes that it adds to the archive, and the number of the
--- archive's root after it
+-- what a step records (events, or the thread of another service), the time that its maker claims, if any, the nodes that it
+-- adds to the archive, and the number of the archive's root after it
 pub record Step : Type 0 where
   pub content : Content
+  pub time : Option ℕ
   pub fresh : List Node
   pub root : ℕ
 
@@ -43,6 +44,10 @@ thread_of (Some s) = content_thread s.content
     content_thread (Events _) = None
     content_thread (Received t) = Some t
 
+abbrev pub time_of : Option Step → Option ℕ
+time_of None = None
+time_of (Some s) = s.time
+
 abbrev pub fresh_of : Option Step → List Node
 fresh_of None = []
 fresh_of (Some s) = s.fresh
@@ -54,6 +59,10 @@ root_of (Some s) = s.root
 -- the events of step i; a step that received a thread has none
 abbrev pub events_at : History → ℕ → List (List ℕ)
 events_at h i = events_of (step_at h i)
+
+-- the time of step i, where it has one
+abbrev pub time_at : History → ℕ → Option ℕ
+time_at h i = time_of (step_at h i)
 
 -- the thread that step i received, with i
 abbrev pub entry_at : History → ℕ → Option Entry
@@ -68,10 +77,15 @@ unfoldable pub received : History → ℕ → List Entry
 received h zero = []
 received h (suc i) = received h i ++ option_to_list (entry_at h (suc i))
 
+-- the times of the steps up to i that have one, in their order
+unfoldable pub times : History → ℕ → List ℕ
+times h zero = []
+times h (suc i) = times h i ++ option_to_list (time_at h (suc i))
+
 -- the history with one more step
 abbrev pub plus : History → Step → History
 plus h s = record { name = h.name; steps = h.steps ++ s ∷ [] }
 
--- the history with one more step of these events: no new node, and the root as before
+-- the history with one more step of these events: no time, no new node, and the root as before
 abbrev pub with_events : History → List (List ℕ) → History
-with_events h events = plus h (record { content = Events events; fresh = []; root = root_of (step_at h (length h.steps)) })
+with_events h events = plus h (record { content = Events events; time = None; fresh = []; root = root_of (step_at h (length h.steps)) })

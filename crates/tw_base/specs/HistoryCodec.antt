@@ -1,10 +1,10 @@
 -- The bytes of a history file.
-use Rattle.std.specs.Prelude.{ℕ, ◌-◌, ◌^◌, List, [], ◌∷◌, ◌==◌}
+use Rattle.std.specs.Prelude.{ℕ, ◌-◌, ◌^◌, List, [], ◌∷◌, Bool, Option, Some, None, ◌==◌, ◌||◌, nat_le}
 use Rattle.tw_base.specs.declared.content.Content.{Content}
 use Rattle.tw_base.specs.declared.content.Content.TheVariants.{Events, Received}
-use Rattle.tw_base.specs.declared.limits.TheConstants.{LAST_STEP, MOST_EVENTS, MOST_EVENT_BYTES}
+use Rattle.tw_base.specs.declared.limits.TheConstants.{LAST_STEP, LAST_TIME, MOST_EVENTS, MOST_EVENT_BYTES}
 use Rattle.tw_base.specs.declared.thread.Thread.{Thread}
-use Rattle.tw_base.specs.Codecs.{Codec, behind, by_kind, cased, choose, counted, digest_codec, name_codec, number_codec, pair, seen, sized_codec}
+use Rattle.tw_base.specs.Codecs.{Codec, behind, by_kind, cased, choose, counted, digest_codec, name_codec, number_codec, optional, pair, seen, sized_codec}
 use Rattle.tw_base.specs.Formats.{Format}
 use Rattle.tw_base.specs.History.{History, Node, Step}
 
@@ -18,9 +18,9 @@ thread_codec =
     seen (λ t. record { from = t.0; step = t.1.0; auth = t.1.1 }) (λ t. (t.from, (t.step, t.auth)))
     (pair name_codec (λ from. pair (number_codec 8 1 LAST_STEP) (λ step. digest_codec)))
 
-abbrev pub kind_of : Content → ℕ
-kind_of (Events events) = 1
-kind_of (Received t) = 2
+-- a time in seconds
+abbrev pub time_codec : Codec ℕ
+time_codec = number_codec 8 0 LAST_TIME
 
 abbrev pub events_in : Content → List (List ℕ)
 events_in (Events events) = events
@@ -30,22 +30,41 @@ abbrev pub thread_in : Content → Thread
 thread_in (Events events) = record { from = []; step = 0; auth = [] }
 thread_in (Received t) = t
 
--- the kind: 1 for events, their number and each of them; 2 for a thread
-unfoldable pub content_codec : Codec Content
-content_codec =
-    by_kind kind_of (number_codec 1 1 2)
-    (λ kind. choose (kind == 1) (cased Events events_in (counted 4 0 MOST_EVENTS event_codec)) (cased Received thread_in thread_codec))
+-- events, their number and each of them; or a thread
+unfoldable pub content_codec : (is_events : Bool) → Codec Content
+content_codec is_events = choose is_events (cased Events events_in (counted 4 0 MOST_EVENTS event_codec)) (cased Received thread_in thread_codec)
+
+-- 1 for events, 2 for a thread; 3 and 4 for these with a time
+abbrev pub kind_of : (time : Option ℕ) → Content → ℕ
+kind_of None (Events events) = 1
+kind_of None (Received t) = 2
+kind_of (Some time) (Events events) = 3
+kind_of (Some time) (Received t) = 4
+
+abbrev pub is_timed : (kind : ℕ) → Bool
+is_timed kind = nat_le 3 kind
+
+abbrev pub is_of_events : (kind : ℕ) → Bool
+is_of_events kind = kind == 1 || kind == 3
+
+-- what a step of this kind has: the time where the kind has one, and the content
+abbrev pub of_kind : (kind : ℕ) → Codec (Option ℕ × Content)
+of_kind kind = pair (optional (is_timed kind) time_codec) (λ time. content_codec (is_of_events kind))
+
+-- the kind, and what it has
+unfoldable pub recorded_codec : Codec (Option ℕ × Content)
+recorded_codec = by_kind (λ r. kind_of r.0 r.1) (number_codec 1 1 4) of_kind
 
 unfoldable pub node_codec : Codec Node
 node_codec =
     seen (λ t. record { left = t.0; entry = t.1.0; right = t.1.1 }) (λ n. (n.left, (n.entry, n.right)))
     (pair (number_codec 4 0 (2 ^ 32 - 1)) (λ left. pair (number_codec 8 0 (2 ^ 64 - 1)) (λ entry. number_codec 4 0 (2 ^ 32 - 1))))
 
--- the content, the number of new nodes and each of them, the root
+-- what it records with its time, the number of new nodes and each of them, the root
 unfoldable pub step_codec : Codec Step
 step_codec =
-    seen (λ t. record { content = t.0; fresh = t.1.0; root = t.1.1 }) (λ s. (s.content, (s.fresh, s.root)))
-    (pair content_codec (λ content. pair (counted 2 0 65535 node_codec) (λ fresh. number_codec 4 0 (2 ^ 32 - 1))))
+    seen (λ t. record { content = t.0.1; time = t.0.0; fresh = t.1.0; root = t.1.1 }) (λ s. ((s.time, s.content), (s.fresh, s.root)))
+    (pair recorded_codec (λ recorded. pair (counted 2 0 65535 node_codec) (λ fresh. number_codec 4 0 (2 ^ 32 - 1))))
 
 -- the four bytes TWH1
 abbrev pub history_magic : List ℕ

@@ -1,8 +1,8 @@
--- What a step may record: the limits of events and of a received thread.
-use Rattle.std.specs.Prelude.{◌≡◌, ℕ, ◌<◌, ◌≤◌, List, length, sum_by}
+-- What a step may record: the limits of events, of a received thread and of a time.
+use Rattle.std.specs.Prelude.{◌≡◌, ℕ, ◌<◌, ◌≤◌, List, length, sum_by, Option, IfSome}
 use Rattle.tw_base.specs.declared.content.Content.{Content}
 use Rattle.tw_base.specs.declared.content.Content.TheVariants.{Events, Received}
-use Rattle.tw_base.specs.declared.limits.TheConstants.{LAST_STEP, MOST_EVENTS, MOST_EVENT_BYTES, MOST_STEP_BYTES}
+use Rattle.tw_base.specs.declared.limits.TheConstants.{LAST_STEP, LAST_TIME, MOST_EVENTS, MOST_EVENT_BYTES, MOST_STEP_BYTES}
 use Rattle.tw_base.specs.declared.thread.Thread.{Thread}
 use Rattle.tw_base.specs.Bytes.{AreBytes}
 use Rattle.tw_base.specs.Lists.{Each}
@@ -31,3 +31,7 @@ pub record MayRecord (events : List (List ℕ)) : Type 0 where
 abbrev pub IsWithinLimits : Content → Type 0
 IsWithinLimits (Events events) = AreEvents events
 IsWithinLimits (Received t) = IsThread t
+
+-- the limit of a step's time, where it has one
+abbrev pub IsTimeWithinLimits : Option ℕ → Type 0
+IsTimeWithinLimits time = IfSome time (λ t. t ≤ LAST_TIME)

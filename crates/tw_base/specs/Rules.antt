@@ -1,7 +1,7 @@
--- The six rules that each step of a sound history keeps.
+-- The seven rules that each step of a sound history keeps.
 use Rattle.std.specs.Prelude.{◌≡◌, ◌≢◌, ℕ, suc, ◌<◌, ◌≤◌, List, [], ◌∷◌, length, Some, IsSome, IfSome}
 use Rattle.tw_base.specs.Lists.{Each}
-use Rattle.tw_base.specs.History.{History, Step, Node, events_of, thread_of, entry_to, received}
+use Rattle.tw_base.specs.History.{History, Step, Node, events_of, thread_of, entry_to, received, times}
 use Rattle.tw_base.specs.Limits.{FitTogether}
 use Rattle.tw_base.specs.Tree.{IsRising, entries, forest, new_trees, tree}
 
@@ -12,6 +12,7 @@ pub data Rule : Type 0 where
   IsOfAnother : Rule
   StepsRise : Rule
   EventsFit : Rule
+  TimesDontFall : Rule
 
 abbrev pub rule_number : Rule → ℕ
 rule_number NodesAreKnown = 1
@@ -20,6 +21,7 @@ rule_number HoldsAllThreads = 3
 rule_number IsOfAnother = 4
 rule_number StepsRise = 5
 rule_number EventsFit = 6
+rule_number TimesDontFall = 7
 
 -- new nodes, of which the first has this number, name nodes before them and steps up to this one that received a thread
 abbrev pub NodesFit : History → (step number : ℕ) → List Node → Type 0
@@ -41,3 +43,5 @@ KeepsRule h i s IsOfAnother = IfSome (thread_of (Some s)) (λ t. t.from ≢ h.na
 KeepsRule h i s StepsRise = IfSome (thread_of (Some s)) (λ t. Each (λ e. e.thread.from ≡ t.from → e.thread.step < t.step) (received h i))
 -- the events have together at most 65,536 bytes
 KeepsRule h i s EventsFit = FitTogether (events_of (Some s))
+-- a time isn't below that of an earlier step
+KeepsRule h i s TimesDontFall = IfSome s.time (λ time. Each (λ earlier. earlier ≤ time) (times h i))

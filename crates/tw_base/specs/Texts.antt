@@ -1,6 +1,6 @@
 -- The texts that are hashed, one definition each. Numbers are big-endian; a digest stands for its 32 bytes, a name for
 -- its 16. The texts of events are those of RFC 6962, section 2.1.
-use Rattle.std.specs.Prelude.{ℕ, List, [], ◌∷◌, ◌++◌, flat_map, length}
+use Rattle.std.specs.Prelude.{ℕ, List, [], ◌∷◌, ◌++◌, length, Option, Some, None, flat_map}
 use Rattle.std.specs.Int.{w32, w64, to_be_bytes}
 
 abbrev pub joined : List (List ℕ) → List ℕ
@@ -18,9 +18,19 @@ link_text step level datum below = 0x11 ∷ (to_be_bytes w64 step ++ level ∷ (
 unfoldable pub authenticator_text : (step : ℕ) (labels : List (List ℕ)) → List ℕ
 authenticator_text step labels = 0x12 ∷ (to_be_bytes w64 step ++ length labels ∷ joined labels)
 
--- behind the datum of a step: all that the step itself holds
+-- behind the datum of a step without a time: all that the step itself holds
 unfoldable pub datum_text : (event_root archive_root : List ℕ) (count : ℕ) → List ℕ
 datum_text event_root archive_root count = 0x13 ∷ (event_root ++ (archive_root ++ to_be_bytes w32 count))
+
+-- behind the datum of a step with a time, in seconds, that its maker claims
+unfoldable pub timed_datum_text : (event_root archive_root : List ℕ) (count time : ℕ) → List ℕ
+timed_datum_text event_root archive_root count time =
+    0x16 ∷ (event_root ++ (archive_root ++ (to_be_bytes w32 count ++ to_be_bytes w64 time)))
+
+-- behind the datum of a step, which has a time or none
+abbrev pub step_datum_text : (event_root archive_root : List ℕ) (count : ℕ) (time : Option ℕ) → List ℕ
+step_datum_text event_root archive_root count None = datum_text event_root archive_root count
+step_datum_text event_root archive_root count (Some time) = timed_datum_text event_root archive_root count time
 
 unfoldable pub empty_tree_text : List ℕ
 empty_tree_text = 0x14 ∷ []

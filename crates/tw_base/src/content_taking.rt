@@ -1,8 +1,9 @@
 // Reading what a step records.
-#![tactic(auto, unfolding(crate::specs::Codecs::by_kind, crate::specs::Codecs::cased, crate::specs::Codecs::pair, crate::specs::Codecs::seen, crate::specs::HistoryCodec::content_codec, crate::specs::HistoryCodec::thread_codec))]
+#![tactic(auto, unfolding(crate::specs::Codecs::cased, crate::specs::Codecs::pair, crate::specs::Codecs::seen, crate::specs::HistoryCodec::content_codec, crate::specs::HistoryCodec::thread_codec))]
 
 ghost use Rattle.std.specs.Prelude.{◌≡◌, ◌≤◌, length};
-ghost use Rattle.tw_base.specs.HistoryCodec.{content_codec, thread_codec};
+ghost use Rattle.tw_base.specs.HistoryCodec.{is_of_events as is_kind_of_events, is_timed as is_timed_kind};
+ghost use Rattle.tw_base.specs.HistoryCodec.{content_codec, of_kind, recorded_codec, thread_codec};
 ghost use Rattle.tw_base.specs.Taking.{Takes};
 
 use crate::content::Content;
@@ -13,6 +14,7 @@ use crate::received_thread::ReceivedThread;
 use crate::step_events::StepEvents;
 use crate::taking::{take_digest, take_name, take_number};
 use crate::thread::Thread;
+use crate::time::take_time;
 use std::alloc::Global;
 
 /// Takes a thread: a service, one of its steps from 1 on, and its authenticator there.
@@ -26,16 +28,67 @@ pub fn take_thread(bytes: &[u8], at: &mut u64) -> Result<Thread, ReadFault>
     Ok(Thread { from, step, auth })
 }
 
-/// Takes what a step records: the kind 1 and its events, or the kind 2 and the thread that it
-/// received.
-pub fn take_content(alloc: Global, bytes: &[u8], at: &mut u64) -> Result<Content, ReadFault>
+/// Takes what a step records: events, or the thread that it received.
+fn take_content(
+    alloc: Global,
+    bytes: &[u8],
+    at: &mut u64,
+    is_events: bool,
+) -> Result<Content, ReadFault>
     requires { at.old ≤ length bytes.now }
-    ensures { Takes content_codec (λ c. c) bytes.now at.old at.new result }
+    ensures { Takes (content_codec is_events) (λ c. c) bytes.now at.old at.new result }
 {
-    if take_number(bytes, at, 1, 1, 2)? == 1 {
+    if is_events {
         let events = take_events(alloc, bytes, at)?;
         return Ok(Content::Events(StepEvents::new(events)));
     }
     let thread = take_thread(bytes, at)?;
     Ok(Content::Received(ReceivedThread::new(alloc, thread)?))
+}
+
+/// Whether a step of this kind has a time.
+#[tactic(auto)]
+fn is_timed(kind: u64) -> bool
+    ensures { result ≡ is_timed_kind kind }
+{
+    kind >= 3
+}
+
+/// Whether a step of this kind has events, and not a thread.
+#[tactic(auto)]
+fn is_of_events(kind: u64) -> bool
+    ensures { result ≡ is_kind_of_events kind }
+{
+    kind == 1 || kind == 3
+}
+
+/// Takes what a step of this kind has.
+#[tactic(auto, unfolding(crate::specs::Codecs::pair))]
+fn take_of_kind(
+    alloc: Global,
+    bytes: &[u8],
+    at: &mut u64,
+    kind: u64,
+) -> Result<(Option<u64>, Content), ReadFault>
+    requires { at.old ≤ length bytes.now }
+    ensures { Takes (of_kind kind) (λ r. r) bytes.now at.old at.new result }
+{
+    let time = take_time(bytes, at, is_timed(kind))?;
+    let content = take_content(alloc, bytes, at, is_of_events(kind))?;
+    Ok((time, content))
+}
+
+/// Takes the time of a step, if it has one, and what it records, behind its kind: 1 for events, 2
+/// for a thread, 3 and 4 for these with a time.
+#[tactic(auto)]
+pub fn take_recorded(
+    alloc: Global,
+    bytes: &[u8],
+    at: &mut u64,
+) -> Result<(Option<u64>, Content), ReadFault>
+    requires { at.old ≤ length bytes.now }
+    ensures { Takes recorded_codec (λ r. r) bytes.now at.old at.new result }
+{
+    let kind = take_number(bytes, at, 1, 1, 4)?;
+    take_of_kind(alloc, bytes, at, kind)
 }

@@ -4,8 +4,9 @@ ghost use Rattle.std.specs.Prelude.{◌≡◌, ℕ, ◌≤◌, ◌↔◌, List, 
 ghost use Rattle.tw_base.specs.Auth.{auth};
 ghost use Rattle.tw_base.specs.Clash.{Clash, Pair, Within, clash_pair};
 ghost use Rattle.tw_base.specs.Entries.{KeyBelow};
-ghost use Rattle.tw_base.specs.History.{History, Step, plus, received};
+ghost use Rattle.tw_base.specs.History.{History, Step, plus, received, time_at, times};
 ghost use Rattle.tw_base.specs.HistoryTexts.{history_texts, tree_texts};
+ghost use Rattle.tw_base.specs.Limits.{IsTimeWithinLimits};
 ghost use Rattle.tw_base.specs.Lists.{In};
 ghost use Rattle.tw_base.specs.Sound.{IsSound};
 ghost use Rattle.tw_base.specs.Tree.{IsRisingTree, Tree, entries, tree};
@@ -25,12 +26,20 @@ pub fn archive_laws<H: Hasher>()
     ensures first { (h : History) → tree h 0 ≡ Empty }
 {}
 
-/// One more step changes no tree and no authenticator of an earlier step, of any history, sound or
+/// One more step changes no tree, no time and no authenticator of an earlier step, of any history, sound or
 /// not.
 pub fn plus_laws<H: Hasher>()
     ensures trees { (h : History) (s : Step) (i : ℕ) → i ≤ length h.steps → tree (plus h s) i ≡ tree h i }
     ensures authenticators { (h : History) (s : Step) (i : ℕ) → i ≤ length h.steps → auth H.dig (plus h s) i ≡ auth H.dig h i }
     ensures received { (h : History) (s : Step) (i : ℕ) → i ≤ length h.steps → received (plus h s) i ≡ received h i }
+    ensures times { (h : History) (s : Step) (i : ℕ) → i ≤ length h.steps → times (plus h s) i ≡ times h i }
+{}
+
+/// In a sound history a step's time is at most 2^40 - 1, and at least that of each earlier step.
+pub fn time_laws()
+    ensures limit { (h : History) → IsSound h → (i : ℕ) → IsTimeWithinLimits (time_at h i) }
+    ensures order { (h : History) → IsSound h → (i j earlier later : ℕ) → i ≤ j →
+        time_at h i ≡ Some earlier → time_at h j ≡ Some later → earlier ≤ later }
 {}
 
 /// The ordered pair of a list of texts is there exactly where two texts of the list clash, and is two

@@ -1,9 +1,10 @@
 // The labels: each is the digest of one text of `specs/Texts.antt`. None of them takes memory.
 
-ghost use Rattle.std.specs.Prelude.{◌≡◌, ℕ, ◌+◌, ◌*◌, ◌≤◌, List, ◌++◌, length};
+ghost use Rattle.std.specs.Prelude.{◌≡◌, ℕ, ◌+◌, ◌*◌, ◌^◌, ◌<◌, ◌≤◌, List, ◌++◌, length, IfSome};
+ghost use Rattle.std.specs.Int.{to_be_bytes, w32};
 ghost use Rattle.arrayvec.specs.ArrayVec.{array_vec_len};
 ghost use Rattle.tw_base.specs.declared.limits.TheConstants.{MOST_EVENT_BYTES};
-ghost use Rattle.tw_base.specs.Texts.{authenticator_text, datum_text, empty_tree_text, event_leaf_text, event_node_text, genesis_text, link_text, no_events_text};
+ghost use Rattle.tw_base.specs.Texts.{authenticator_text, datum_text, empty_tree_text, event_leaf_text, event_node_text, genesis_text, link_text, no_events_text, step_datum_text, timed_datum_text};
 ghost use Rattle.tw_base.specs.Entries.{IsFit, entry_text};
 ghost use Rattle.tw_base.specs.Digests.{AllDigests};
 
@@ -52,7 +53,27 @@ pub fn link_label<H: Hasher>(step: u64, level: u8, datum: &Digest, below: &Diges
     H::digest(text.as_slice())
 }
 
-/// The datum of a step: over its event root, its archive's label and its count of events.
+/// Puts what the datum of each step holds at the text's end: its event root, its archive's label and
+/// its count of events.
+fn put_held<const N: usize>(
+    text: &mut ArrayVec<u8, N>,
+    event_root: &Digest,
+    archive_root: &Digest,
+    count: u32,
+)
+    requires { array_vec_len text.old + 68 ≤ N }
+    ensures event_root_size { length event_root.now ≡ 32 }
+    ensures archive_root_size { length archive_root.now ≡ 32 }
+    ensures items { text.new.items ≡ text.old.items ++ (event_root.now ++ (archive_root.now ++ to_be_bytes w32 count)) }
+    ensures len { array_vec_len text.new ≡ array_vec_len text.old + 68 }
+{
+    put(text, &event_root.0);
+    put(text, &archive_root.0);
+    put(text, &count.to_be_bytes());
+}
+
+/// The datum of a step without a time: over its event root, its archive's label and its count of
+/// events.
 #[tactic(auto, unfolding(crate::specs::Texts::datum_text))]
 pub fn datum<H: Hasher>(event_root: &Digest, archive_root: &Digest, count: u32) -> Digest
     ensures label { result ≡ H.dig (datum_text event_root.now archive_root.now count) }
@@ -61,10 +82,45 @@ pub fn datum<H: Hasher>(event_root: &Digest, archive_root: &Digest, count: u32) 
 {
     let mut text: ArrayVec<u8, 69> = ArrayVec::new();
     text.push(0x13);
-    put(&mut text, &event_root.0);
-    put(&mut text, &archive_root.0);
-    put(&mut text, &count.to_be_bytes());
+    put_held(&mut text, event_root, archive_root, count);
     H::digest(text.as_slice())
+}
+
+/// The datum of a step with a time: over the same and the time in seconds that its maker claims.
+#[tactic(auto, unfolding(crate::specs::Texts::timed_datum_text))]
+pub fn timed_datum<H: Hasher>(
+    event_root: &Digest,
+    archive_root: &Digest,
+    count: u32,
+    time: u64,
+) -> Digest
+    ensures label { result ≡ H.dig (timed_datum_text event_root.now archive_root.now count time) }
+    ensures event_root_size { length event_root.now ≡ 32 }
+    ensures archive_root_size { length archive_root.now ≡ 32 }
+{
+    let mut text: ArrayVec<u8, 77> = ArrayVec::new();
+    text.push(0x16);
+    put_held(&mut text, event_root, archive_root, count);
+    put(&mut text, &time.to_be_bytes());
+    H::digest(text.as_slice())
+}
+
+/// The datum of a step, which has a time or none.
+pub fn step_datum<H: Hasher>(
+    event_root: &Digest,
+    archive_root: &Digest,
+    count: u32,
+    time: Option<u64>,
+) -> Digest
+    ensures label { result ≡ H.dig (step_datum_text event_root.now archive_root.now count time) }
+    ensures event_root_size { length event_root.now ≡ 32 }
+    ensures archive_root_size { length archive_root.now ≡ 32 }
+    ensures time_size { IfSome time (λ t. t < 2 ^ 64) }
+{
+    match time {
+        None => datum::<H>(event_root, archive_root, count),
+        Some(time) => timed_datum::<H>(event_root, archive_root, count, time),
+    }
 }
 
 /// The authenticator of a step from 1 on, over the labels of its links from level 0 on, at most 40.

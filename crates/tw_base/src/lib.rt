@@ -12,6 +12,7 @@ mod failing;
 mod failure;
 mod fields;
 mod fixed_list;
+mod flag;
 mod halves;
 mod hasher;
 mod history_laws;
@@ -30,11 +31,12 @@ mod side;
 mod step_events;
 mod taking;
 mod thread;
+mod time;
 mod writers;
 
 pub use anchor::find_anchor;
 pub use content::Content;
-pub use content_taking::{take_content, take_thread};
+pub use content_taking::{take_recorded, take_thread};
 pub use digest::{Digest, is_same_digest};
 pub use ending::{front_to, whole_to};
 pub use event_taking::{take_events, take_events_within};
@@ -43,13 +45,14 @@ pub use failing::FailingCalls;
 pub use failure::{Failed, NoMemory, ReadFault};
 pub use fields::read_name;
 pub use fixed_list::put;
+pub use flag::take_flag;
 pub use halves::left_count;
 pub use hasher::{Hasher, Sha, Weak};
-pub use history_laws::{archive_laws, clash_laws, plus_laws};
+pub use history_laws::{archive_laws, clash_laws, plus_laws, time_laws};
 pub use label_list::Labels;
 pub use labels::{
     authenticator, datum, empty_tree, event_leaf, event_node, genesis, link_label, no_events,
-    tree_node,
+    step_datum, timed_datum, tree_node,
 };
 pub use link_level::{power_of_two, top_level};
 pub use name::{Name, is_name_byte};
@@ -66,4 +69,5 @@ pub use taking::{
     take_text, take_zeros,
 };
 pub use thread::{Entries, Entry, Key, Place, Thread, Threads, compare_keys, entry_key};
+pub use time::{put_time, take_time};
 pub use writers::{put_bytes, put_digest, put_labels, put_name, put_number, put_sized, put_text};

@@ -4,6 +4,9 @@
 /// time before the first step.
 pub const LAST_STEP: u64 = 0xff_ffff_ffff;
 
+/// The greatest time that a step may claim, in seconds: 2^40 - 1.
+pub const LAST_TIME: u64 = 0xff_ffff_ffff;
+
 /// The most events of a step.
 pub const MOST_EVENTS: u64 = 1024;
 

@@ -14,7 +14,8 @@ pub struct Hop {
     pub archived: u64,
 }
 
-/// An event that a proof shows at its place; no event has a time yet.
+/// An event that a proof shows at its place, and the time in seconds that the step's maker claims
+/// for it, where it claims one. Nothing shows that a claimed time is true.
 #[derive(Drop, Debug)]
 pub struct Seen {
     pub place: Place,

@@ -10,12 +10,13 @@ use Rattle.tw_base.specs.Lists.{Each}
 use Rattle.tw_base.specs.Bytes.{AreBytes}
 use Rattle.tw_base.specs.Codecs.{by_kind, bytes_codec, labels_codec, many, number_codec, pair, seen, sized_codec}
 use Rattle.tw_base.specs.Formats.{Spells}
+use Rattle.tw_base.specs.Limits.{IsTimeWithinLimits}
 use Rattle.tw_base.specs.Names.{IsName}
 use Rattle.tw_base.specs.Sound.{IsSound}
 use Rattle.tw_base.proofs.AuditShown.{ChecksEvent-audit_path}
 use Rattle.tw_base.proofs.DigestBytes.{Each-drop, Each-remove, IsDigest, audit_path-digests, auth-digest, dig-digest, event_root-digest, map-digests, tree_label-digest}
 use Rattle.tw_base.proofs.ListLemmas.{Each-get_or}
-use Rattle.tw_base.proofs.SoundEvents.{sound-may_record}
+use Rattle.tw_base.proofs.SoundEvents.{sound-may_record, sound-time}
 use Rattle.tw_skipproof.specs.declared.existence.ExistenceProof.{ExistenceProof}
 use Rattle.tw_skipproof.specs.declared.path.Link.{Link}
 use Rattle.tw_skipproof.specs.Acceptance.{IsAcceptedUnder, ShowsEvent}
@@ -25,7 +26,7 @@ use Rattle.tw_skipproof.specs.HistoryProofs.{IsExistenceOf, IsPathOf, labels_at}
 use Rattle.tw_skipproof.specs.Openings.{IsOpeningAt, opening_auth}
 use Rattle.tw_skipproof.specs.Paths.{HasShape, climbed, hop}
 use Rattle.tw_skipproof.specs.Spelling.{FitsAsEvent, FitsAsLink, FitsAsOpening}
-use Rattle.tw_skipproof.proofs.LawfulCodecs.{existence-fits, existence-lawful}
+use Rattle.tw_skipproof.proofs.LawfulCodecs.{count-fits, existence-fits, existence-lawful}
 use Rattle.tw_skipproof.proofs.OwnPaths.{opening-of, path-of}
 
 -- ---- events that stand at a step
@@ -92,6 +93,7 @@ module _ (dig : List ℕ → List ℕ) (h : History) (step index top : ℕ) (p :
         step = omega (arith, order, has, short, is.at_step);
         top = omega (arith, has, short, is.at_top);
         count = omega (arith, few, is.opening.binds.count);
+        time = subst IsTimeWithinLimits is.opening.binds.time (sound-time h step sound);
         index = shows_event.inside;
         event = event_size sound;
       }
@@ -130,14 +132,14 @@ module _ (dig : List ℕ → List ℕ) (h : History) (step index top : ℕ) (p :
     )
 
     opening-fits : FitsAsOpening p.at.opening
-    unfolding opening_codec seen pair bytes_codec number_codec labels_codec many
-    opening-fits least at count low few =
+    unfolding opening_codec seen pair bytes_codec labels_codec many
+    opening-fits least at count low few time =
         let binds = is.opening.binds in (
           subst IsDigest binds.event_root (event_root-digest dig size are _),
           (
             subst IsDigest binds.archive_root (tree_label-digest dig size are _),
             (
-              (low, few),
+              count-fits least p.at.opening.count p.at.opening.time low few time,
               (
                 subst IsDigest binds.prev (auth-digest dig size are h (step - 1)),
                 (count, subst (Each IsDigest) (sym is.opening.others) (Each-drop IsDigest 1 (labels_at dig h step) (own_labels step))),

@@ -7,6 +7,7 @@ pub mod ExistenceOf
 pub mod WorkedPaths
 pub mod PathSizes
 pub mod GreedySteps
+pub mod CountWords
 pub mod LawfulCodecs
 pub mod Shapes
 pub mod PieceCodecs

@@ -1,18 +1,19 @@
 -- From a step's authenticator to what it was made of.
 use Rattle.std.proofs.Common.{◌≡◌, ℕ, suc, zero, ◌-◌, ◌<◌, ◌≤◌, ◌^◌, List, [], ◌∷◌, ◌++◌, length, get_or, refl, ap, sym, ◌∙◌, arith, inl, inr}
 use Rattle.std.specs.Prelude.{Option, Some, None, MatchOption, IfSome, map}
-use Rattle.tw_base.specs.History.{History, events_at}
+use Rattle.tw_base.specs.History.{History, events_at, time_at}
 use Rattle.tw_base.specs.Tree.{tree}
 use Rattle.tw_base.specs.EventTree.{event_root}
 use Rattle.tw_base.specs.Levels.{top_level}
 use Rattle.tw_base.specs.Auth.{auth, auths, auth_text, datum_text_at, link_texts_at, tree_label}
 use Rattle.tw_base.specs.HistoryTexts.{history_texts}
+use Rattle.tw_base.specs.Limits.{IsTimeWithinLimits}
 use Rattle.tw_base.specs.Sound.{IsSound}
 use Rattle.tw_base.specs.Clash.{Among, OrClash}
 use Rattle.tw_base.proofs.Clashes.{and_then, same_text, Among-left, Among-right}
 use Rattle.tw_base.proofs.TextFields.{authenticator-fields, link-fields, datum-fields, SameDatum}
 use Rattle.tw_base.proofs.EventTrees.{length-event_root}
-use Rattle.tw_base.proofs.SoundEvents.{sound-may_record}
+use Rattle.tw_base.proofs.SoundEvents.{sound-may_record, sound-time}
 use Rattle.tw_base.proofs.Sizes.{AllDigests-map, tree_label-size}
 use Rattle.tw_base.proofs.Auths.{auth-suc, auths-at, has-auth_text, has-datum_text, has-link_text, label-at, link_texts-has, text_at}
 use Rattle.tw_skipproof.specs.declared.opening.Opening.{Opening}
@@ -20,6 +21,13 @@ use Rattle.tw_skipproof.specs.Openings.{Binds, HasSizes, IsOpeningAt, opening_au
 
 few_events : (h : History) (i : ℕ) → IsSound h → length (events_at h (suc i)) < 2 ^ 32
 few_events h i sound = let few = (sound-may_record h (suc i) sound).are.count in omega arith
+
+small_time : (h : History) (i : ℕ) → IsSound h → IfSome (time_at h (suc i)) (λ t. t < 2 ^ 64)
+small_time h i sound = within (time_at h (suc i)) (sound-time h (suc i) sound)
+  where
+    within : (time : Option ℕ) → IsTimeWithinLimits time → IfSome time (λ t. t < 2 ^ 64)
+    within None is = tt
+    within (Some t) is = omega (arith, is)
 
 module _ (dig : List ℕ → List ℕ) (size : (text : List ℕ) → length (dig text) ≡ 32) where
   -- the text of the link to the step before, at level 0, and its label
@@ -36,16 +44,18 @@ module _ (dig : List ℕ → List ℕ) (size : (text : List ℕ) → length (dig
   before_is : (h : History) (i : ℕ) (b : List ℕ) → get_or (auths dig h i) (suc i - 1) [] ≡ b → auth dig h (suc i - 1) ≡ b
   before_is h i b e = sym (auths-at dig h i (suc i - 1) (omega arith)) ∙ e
 
-  same_fields : (h : History) (i : ℕ) (o : Opening) → HasSizes o → length (events_at h (suc i)) < 2 ^ 32 → datum_text_at dig h (suc i) ≡ opening_datum_text dig (suc i) o
-      → SameDatum (event_root dig (events_at h (suc i))) (tree_label dig (tree h (suc i))) (length (events_at h (suc i))) o.event_root o.archive_root o.count
+  same_fields : (h : History) (i : ℕ) (o : Opening) → HasSizes o → length (events_at h (suc i)) < 2 ^ 32 → IfSome (time_at h (suc i)) (λ t. t < 2 ^ 64)
+      → datum_text_at dig h (suc i) ≡ opening_datum_text dig (suc i) o
+      → SameDatum (event_root dig (events_at h (suc i))) (tree_label dig (tree h (suc i))) (length (events_at h (suc i))) (time_at h (suc i)) o.event_root o.archive_root o.count o.time
   unfolding datum_text_at
-  same_fields h i o sizes few e = datum-fields _ _ _ _ _ _ (length-event_root dig size _ ∙ sym sizes.event_root) (tree_label-size dig size _ ∙ sym sizes.archive_root) few sizes.count e
+  same_fields h i o sizes few small e =
+      datum-fields _ _ _ _ _ _ (length-event_root dig size _ ∙ sym sizes.event_root) (tree_label-size dig size _ ∙ sym sizes.archive_root) few sizes.count (time_at h (suc i)) o.time small sizes.time e
 
-  pub opening-binds : (h : History) (i : ℕ) (o : Opening) → HasSizes o → i < length h.steps → length (events_at h (suc i)) < 2 ^ 32
+  pub opening-binds : (h : History) (i : ℕ) (o : Opening) → HasSizes o → i < length h.steps → length (events_at h (suc i)) < 2 ^ 32 → IfSome (time_at h (suc i)) (λ t. t < 2 ^ 64)
       → opening_auth dig (suc i) o ≡ auth dig h (suc i)
       → OrClash dig (history_texts dig h ++ opening_texts dig (suc i) o) (Binds dig h (suc i) o)
   unfolding opening_auth opening_texts
-  opening-binds h i o sizes within few e =
+  opening-binds h i o sizes within few small e =
       let texts : List (List ℕ) = history_texts dig h ++ opening_texts dig (suc i) o in
       let labels : List (List ℕ) = map dig (link_texts_at dig h (auths dig h i) (suc i)) in
       and_then dig texts _ _
@@ -70,11 +80,12 @@ module _ (dig : List ℕ → List ℕ) (size : (text : List ℕ) → length (dig
       (Among-right _ (history_texts dig h) _ (inl refl))
       link.0)
       (λ same_datum.
-      let datum = same_fields h i o sizes few same_datum in
+      let datum = same_fields h i o sizes few small same_datum in
       inl (record {
         event_root = datum.event_root;
         archive_root = datum.archive_root;
         count = datum.count;
+        time = datum.time;
         prev = before_is h i _ link.1;
       }))))
 
@@ -83,7 +94,7 @@ module _ (dig : List ℕ → List ℕ) (size : (text : List ℕ) → length (dig
       → opening_auth dig step o ≡ auth dig h step
       → OrClash dig (history_texts dig h ++ opening_texts dig step o) (Binds dig h step o)
   opening-binds_sound h zero o sizes of sound within e = absurd (omega (arith, of.0))
-  opening-binds_sound h (suc i) o sizes of sound within e = opening-binds h i o sizes within (few_events h i sound) e
+  opening-binds_sound h (suc i) o sizes of sound within e = opening-binds h i o sizes within (few_events h i sound) (small_time h i sound) e
 
   pub binds_from : (step : ℕ) (o : Opening) (r : Option (List ℕ)) → MatchOption r (IsOpeningAt step o → ⊥) (λ d. IsOpeningAt step o × (d ≡ opening_auth dig step o))
       → IfSome r (λ _. HasSizes o)

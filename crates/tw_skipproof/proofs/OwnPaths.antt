@@ -3,7 +3,7 @@ use Rattle.std.proofs.Common.{◌≡◌, ℕ, suc, zero, ◌-◌, ◌<◌, ◌�
 use Rattle.std.specs.Prelude.{map, remove}
 use Rattle.std.proofs.Math.Nat.{one-le-pow}
 use Rattle.std.proofs.lemmas.List.{append-nil}
-use Rattle.tw_base.specs.Texts.{authenticator_text, datum_text, link_text}
+use Rattle.tw_base.specs.Texts.{authenticator_text, link_text, step_datum_text}
 use Rattle.tw_base.specs.History.{History}
 use Rattle.tw_base.specs.Levels.{top_level}
 use Rattle.tw_base.specs.Auth.{auth, auths, datum_text_at, link_texts_at}
@@ -65,7 +65,7 @@ module _ (dig : List ℕ → List ℕ) (h : History) where
   opening-of_next i o is =
       let others : o.others ≡ drop 1 (own_labels i) = is.others ∙ ap (drop 1) (labels_at-is i) in
       let datum : dig (opening_datum_text dig (suc i) o) ≡ dig (datum_text_at dig h (suc i)) =
-      (λ k. dig (datum_text (sym is.binds.event_root k) (sym is.binds.archive_root k) (sym is.binds.count k))) in
+      (λ k. dig (step_datum_text (sym is.binds.event_root k) (sym is.binds.archive_root k) (sym is.binds.count k) (sym is.binds.time k))) in
       let before : o.prev ≡ auth dig h (suc i - 2 ^ 0) = sym is.binds.prev in
       let first : dig (opening_link_text dig (suc i) o) ≡ get_or (own_labels i) 0 [] = own_label i 0 _ _ (omega arith) datum before in
       let all : dig (opening_link_text dig (suc i) o) ∷ o.others ≡ own_labels i =

@@ -5,7 +5,7 @@ use Rattle.std.proofs.lemmas.Bool.{cases_lt}
 use Rattle.std.proofs.lemmas.List.{append-nil, length-append, length-drop, length-take-le, take-append-drop}
 use Rattle.tw_base.specs.Codecs.{Codec, behind, bytes_codec, each, each_format, labels_codec, many, name_codec, number_codec, pair, seen}
 use Rattle.tw_base.specs.declared.resuming.Attempt.TheVariants.{Ended, Front}
-use Rattle.tw_base.specs.Fields.{number_bytes, text}
+use Rattle.tw_base.specs.Fields.{text}
 use Rattle.tw_base.specs.Formats.{Format, GoesOn, IsFront, IsPlace, Spells, SpellsNothing, then_by}
 use Rattle.tw_base.specs.Formats.Format.{Done}
 use Rattle.tw_base.specs.Resuming.{Attempts, StandsBehind, StaysFront}
@@ -22,7 +22,7 @@ use Rattle.tw_skipproof.specs.declared.opening.Opening.{Opening}
 use Rattle.tw_skipproof.specs.declared.path.Link.{Link}
 use Rattle.tw_skipproof.specs.declared.so_far.ExistenceSoFar.TheVariants.{Begun, Within, Whole}
 use Rattle.tw_skipproof.specs.declared.so_far.Middle.{Middle}
-use Rattle.tw_skipproof.specs.Codecs.{event_codec, existence_body, existence_codec, existence_magic, link_bytes, link_codec, opening_codec, path_codec, step_codec}
+use Rattle.tw_skipproof.specs.Codecs.{count_codec, event_codec, existence_body, existence_codec, existence_magic, link_bytes, link_codec, opening_codec, path_codec, step_codec}
 use Rattle.tw_skipproof.specs.Paths.{greedy_steps, hop}
 use Rattle.tw_skipproof.specs.Pieces.{head_codec, path_rest, rest, tail_codec, tail_rest}
 use Rattle.tw_skipproof.proofs.GreedySteps.{greedy_steps-more, greedy_steps-none}
@@ -48,7 +48,7 @@ link-some step l fits = omega (arith, fits.0.0, length-append l.datum (joined l.
 
 opening-some : (step : ℕ) (o : Opening) → (opening_codec 1 step).Fits o → 0 < length ((opening_codec 1 step).write o)
 unfolding opening_codec seen pair bytes_codec number_codec labels_codec many
-opening-some step o fits = omega (arith, fits.0.0, length-append o.event_root (o.archive_root ++ (number_bytes 4 o.count ++ (o.prev ++ joined o.others))))
+opening-some step o fits = omega (arith, fits.0.0, length-append o.event_root (o.archive_root ++ ((count_codec 1).write (o.count, o.time) ++ (o.prev ++ joined o.others))))
 
 pub tail-some : (step : ℕ) (t : Opening × EventPart) → (tail_codec step).Fits t → 0 < length ((tail_codec step).write t)
 unfolding tail_codec pair

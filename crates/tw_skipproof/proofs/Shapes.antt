@@ -1,16 +1,21 @@
 -- What fits the codecs has the links, labels and ranges that climbing and checking ask for, and few bytes.
-use Rattle.std.proofs.Common.{◌≡◌, ℕ, ◌-◌, ◌*◌, ◌<◌, ◌≤◌, ◌^◌, List, [], ◌∷◌, ◌++◌, length, flat_map, arith, inl, inr}
+use Rattle.std.proofs.Common.{◌≡◌, ℕ, ◌+◌, ◌-◌, ◌*◌, ◌<◌, ◌≤◌, ◌^◌, List, [], ◌∷◌, ◌++◌, length, flat_map, arith, inl, inr}
+use Rattle.std.specs.Prelude.{Bool, true, false, Option, Some, None}
 use Rattle.std.proofs.lemmas.Bool.{cases_lt}
 use Rattle.std.proofs.lemmas.List.{length-append}
 use Rattle.tw_base.specs.declared.limits.TheConstants.{LAST_STEP, MOST_EVENTS}
-use Rattle.tw_base.specs.Codecs.{EachFits, behind, by_kind, bytes_codec, each, labels_codec, many, number_codec, pair, seen, sized_codec}
+use Rattle.tw_base.specs.Codecs.{EachFits, behind, by_kind, bytes_codec, each, labels_codec, nothing, number_codec, optional, pair, present, seen, sized_codec, written, many}
+use Rattle.tw_base.specs.Fields.{number_bytes}
+use Rattle.tw_base.specs.HistoryCodec.{time_codec}
+use Rattle.tw_base.specs.Limits.{IsTimeWithinLimits}
 use Rattle.tw_base.specs.Texts.{joined}
 use Rattle.tw_base.proofs.AuditPaths.{path_length-le}
 use Rattle.tw_base.proofs.CodecSizes.{AtMost, at_most-behind, at_most-bytes, at_most-labels, at_most-name, at_most-number, at_most-pair, at_most-seen, at_most-sized, length-joined}
+use Rattle.tw_base.proofs.NumberLaws.{length-number_bytes}
 use Rattle.tw_base.proofs.Levels.{top_level-below}
 use Rattle.tw_skipproof.specs.declared.path.Link.{Link}
 use Rattle.tw_skipproof.specs.declared.existence.ExistenceProof.{ExistenceProof}
-use Rattle.tw_skipproof.specs.Codecs.{event_codec, existence_body, existence_codec, link_bytes, link_codec, opening_codec, path_codec}
+use Rattle.tw_skipproof.specs.Codecs.{count_bytes, count_codec, event_codec, existence_body, existence_codec, link_bytes, link_codec, opening_codec, path_codec}
 use Rattle.tw_skipproof.specs.Existence.{IsExistenceInRange, IsShaped}
 use Rattle.tw_skipproof.specs.Paths.{HasShape, greedy_steps, hop}
 use Rattle.tw_skipproof.proofs.GreedySteps.{greedy_steps-more, greedy_steps-none}
@@ -27,24 +32,39 @@ path-shape (l ∷ links) from to fits =
       | inl more ↦ (let parts = rw (greedy_steps-more from to more) at fits in (more, parts.0.1.0, path-shape links (hop from to) to parts.1))
     ]
 
+time-range : (timed : Bool) (time : Option ℕ) → (optional timed time_codec).Fits time → IsTimeWithinLimits time
+unfolding present nothing number_codec
+time-range true None fits = tt
+time-range true (Some t) fits = fits.1
+time-range false None fits = tt
+time-range false (Some t) fits = cc
+
 pub existence-shape : (p : ExistenceProof) → existence_codec.Fits p → IsShaped p × IsExistenceInRange p
-unfolding existence_codec existence_body opening_codec event_codec path_codec each behind pair seen number_codec sized_codec by_kind labels_codec many bytes_codec
+unfolding existence_codec existence_body opening_codec count_codec event_codec path_codec written by_kind each behind pair seen number_codec sized_codec labels_codec many bytes_codec
 existence-shape p fits =
     let step = fits.1.0 in
     let top = fits.1.1.0 in
     let opening = fits.1.1.1.1.0 in
     let event = fits.1.1.1.1.1 in (
       record { step = step.0; top = top.0; path = path-shape p.at.path.links p.at.top p.at.step fits.1.1.1.0; opening = opening.1.1.1.1.0; event = event.1.1.0 },
-      record { step = step.1; top = top.1; count = opening.1.1.0.1; index = omega (arith, event.0.1, opening.1.1.0.0); event = event.1.0.0.1 },
+      record { step = step.1; top = top.1; count = opening.1.1.0.1.0.1; time = time-range _ p.at.opening.time opening.1.1.0.1.1; index = omega (arith, event.0.1, opening.1.1.0.1.0.0); event = event.1.0.0.1 },
     )
 
 -- ---- sizes
 
-opening-most : (least step : ℕ) → step ≤ LAST_STEP → AtMost (opening_codec least step) 1348
+count-most : (least : ℕ) → AtMost (count_codec least) 12
+unfolding count_codec written
+count-most least c fits = by c.0 c.1
+  where
+    by : (n : ℕ) (time : Option ℕ) → length (count_bytes n time) ≤ 12
+    by n None = omega (arith, length-number_bytes 4 n)
+    by n (Some t) = omega (arith, length-number_bytes 4 (n + 2 ^ 31), length-number_bytes 8 t, length-append (number_bytes 4 (n + 2 ^ 31)) (number_bytes 8 t))
+
+opening-most : (least step : ℕ) → step ≤ LAST_STEP → AtMost (opening_codec least step) 1356
 unfolding opening_codec
 opening-most least step l =
-    at_most-seen _ _ _ 1348 (at_most-pair _ _ 32 1316 (at_most-bytes 32) (λ _ _. at_most-pair _ _ 32 1284 (at_most-bytes 32) (λ _ _.
-    at_most-pair _ _ 4 1280 (at_most-number 4 least MOST_EVENTS) (λ _ _. at_most-pair _ _ 32 1248 (at_most-bytes 32) (λ _ _.
+    at_most-seen _ _ _ 1356 (at_most-pair _ _ 32 1324 (at_most-bytes 32) (λ _ _. at_most-pair _ _ 32 1292 (at_most-bytes 32) (λ _ _.
+    at_most-pair _ _ 12 1280 (count-most least) (λ _ _. at_most-pair _ _ 32 1248 (at_most-bytes 32) (λ _ _.
     at_most-labels _ 39 (omega (arith, top_level-below step (omega (arith, l)))))))))
 
 event-most : (count : ℕ) → count ≤ MOST_EVENTS → AtMost (event_codec count) 1352
@@ -65,10 +85,10 @@ pub path-most : (from to : ℕ) → from < 2 ^ 40 → AtMost (path_codec from to
 unfolding path_codec each
 path-most from to small links fits = omega (arith, links-weight (greedy_steps from to) links fits, few_digests links from to small (path-shape links from to fits))
 
-pub existence-most : AtMost existence_codec 56497
+pub existence-most : AtMost existence_codec 56505
 unfolding existence_codec existence_body number_codec
 existence-most =
-    at_most-behind _ _ 56492 (at_most-seen _ _ _ 56492 (at_most-pair _ _ 16 56476 at_most-name (λ _ _.
-    at_most-pair _ _ 8 56468 (at_most-number 8 1 LAST_STEP) (λ step s. at_most-pair _ _ 8 56460 (at_most-number 8 1 LAST_STEP) (λ top t.
-    at_most-pair _ _ 53760 2700 (path-most top step (omega (arith, t.1))) (λ _ _.
-    at_most-pair _ _ 1348 1352 (opening-most 1 step s.1) (λ o f. event-most o.count (opening-few 1 step o f))))))))
+    at_most-behind _ _ 56500 (at_most-seen _ _ _ 56500 (at_most-pair _ _ 16 56484 at_most-name (λ _ _.
+    at_most-pair _ _ 8 56476 (at_most-number 8 1 LAST_STEP) (λ step s. at_most-pair _ _ 8 56468 (at_most-number 8 1 LAST_STEP) (λ top t.
+    at_most-pair _ _ 53760 2708 (path-most top step (omega (arith, t.1))) (λ _ _.
+    at_most-pair _ _ 1356 1352 (opening-most 1 step s.1) (λ o f. event-most o.count (opening-few 1 step o f))))))))

@@ -1,8 +1,10 @@
 -- The bytes of openings, paths and existence proofs.
-use Rattle.std.specs.Prelude.{ℕ, ◌-◌, List, [], ◌∷◌}
+use Rattle.std.specs.Prelude.{ℕ, ◌+◌, ◌-◌, ◌^◌, List, [], ◌∷◌, ◌++◌, Bool, Option, Some, None, is_some}
 use Rattle.tw_base.specs.declared.limits.TheConstants.{LAST_STEP, MOST_EVENTS, MOST_EVENT_BYTES}
 use Rattle.tw_base.specs.AuditPath.{path_length}
-use Rattle.tw_base.specs.Codecs.{Codec, behind, digest_codec, each, labels_codec, name_codec, number_codec, pair, seen, sized_codec}
+use Rattle.tw_base.specs.Codecs.{Codec, behind, by_kind, digest_codec, each, flag_codec, labels_codec, name_codec, number_codec, optional, pair, seen, sized_codec, written}
+use Rattle.tw_base.specs.Fields.{number_bytes}
+use Rattle.tw_base.specs.HistoryCodec.{time_codec}
 use Rattle.tw_base.specs.Levels.{top_level}
 use Rattle.tw_skipproof.specs.declared.opening.Opening.{Opening}
 use Rattle.tw_skipproof.specs.declared.path.Link.{Link}
@@ -10,13 +12,28 @@ use Rattle.tw_skipproof.specs.declared.existence.EventPart.{EventPart}
 use Rattle.tw_skipproof.specs.declared.existence.ExistenceProof.{ExistenceProof}
 use Rattle.tw_skipproof.specs.Paths.{greedy_steps}
 
--- an opening of the step: two digests, a count of events of at least this and at most 1,024, a digest, and the labels of
--- the levels from 1 on
+-- the count word of an opening and its time: the count of events where it has no time; with a time the count plus 2 ^ 31,
+-- and then the time
+abbrev pub count_bytes : (count : ℕ) (time : Option ℕ) → List ℕ
+count_bytes count None = number_bytes 4 count
+count_bytes count (Some time) = number_bytes 4 (count + 2 ^ 31) ++ number_bytes 8 time
+
+-- the count is at least this and at most 1,024, so that the highest bit of the word says whether a time follows
+abbrev pub counted_with : (least : ℕ) (timed : Bool) → Codec (ℕ × Option ℕ)
+counted_with least timed = pair (number_codec 3 least MOST_EVENTS) (λ count. optional timed time_codec)
+
+abbrev pub flagged_count : (least : ℕ) → Codec (ℕ × Option ℕ)
+flagged_count least = by_kind (λ c. is_some c.1) flag_codec (counted_with least)
+
+unfoldable pub count_codec : (least : ℕ) → Codec (ℕ × Option ℕ)
+count_codec least = written (λ c. count_bytes c.0 c.1) (flagged_count least)
+
+-- an opening of the step: two digests, the count word and the time, a digest, and the labels of the levels from 1 on
 unfoldable pub opening_codec : (least step : ℕ) → Codec Opening
 opening_codec least step =
-    seen (λ t. record { event_root = t.0; archive_root = t.1.0; count = t.1.1.0; prev = t.1.1.1.0; others = t.1.1.1.1 })
-    (λ o. (o.event_root, (o.archive_root, (o.count, (o.prev, o.others)))))
-    (pair digest_codec (λ event_root. pair digest_codec (λ archive_root. pair (number_codec 4 least MOST_EVENTS) (λ count. pair digest_codec (λ prev. labels_codec (top_level step))))))
+    seen (λ t. record { event_root = t.0; archive_root = t.1.0; count = t.1.1.0.0; time = t.1.1.0.1; prev = t.1.1.1.0; others = t.1.1.1.1 })
+    (λ o. (o.event_root, (o.archive_root, ((o.count, o.time), (o.prev, o.others)))))
+    (pair digest_codec (λ event_root. pair digest_codec (λ archive_root. pair (count_codec least) (λ count. pair digest_codec (λ prev. labels_codec (top_level step))))))
 
 -- its bytes, which are the same whatever the step
 unfoldable pub opening_bytes : Opening → List ℕ

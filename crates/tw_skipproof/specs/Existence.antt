@@ -4,6 +4,7 @@ use Rattle.tw_base.specs.declared.limits.TheConstants.{LAST_STEP, MOST_EVENTS, M
 use Rattle.tw_base.specs.AuditPath.{path_length}
 use Rattle.tw_base.specs.Formats.{Format}
 use Rattle.tw_base.specs.Levels.{top_level}
+use Rattle.tw_base.specs.Limits.{IsTimeWithinLimits}
 use Rattle.tw_skipproof.specs.declared.existence.ExistenceProof.{ExistenceProof}
 use Rattle.tw_skipproof.specs.Codecs.{existence_codec}
 use Rattle.tw_skipproof.specs.Paths.{HasShape}
@@ -19,6 +20,7 @@ pub record IsExistenceInRange (p : ExistenceProof) : Type 0 where
   pub step : p.at.step ≤ LAST_STEP
   pub top : p.at.top ≤ LAST_STEP
   pub count : p.at.opening.count ≤ MOST_EVENTS
+  pub time : IsTimeWithinLimits p.at.opening.time
   pub index : p.event.index < p.at.opening.count
   pub event : length p.event.event ≤ MOST_EVENT_BYTES
 

@@ -1,9 +1,9 @@
 -- What an opening of a step computes, and what it binds.
-use Rattle.std.specs.Prelude.{◌≡◌, ℕ, ◌-◌, ◌<◌, ◌^◌, List, [], ◌∷◌, length}
-use Rattle.tw_base.specs.Texts.{datum_text, link_text, authenticator_text}
+use Rattle.std.specs.Prelude.{◌≡◌, ℕ, ◌-◌, ◌<◌, ◌^◌, List, [], ◌∷◌, length, IfSome}
+use Rattle.tw_base.specs.Texts.{step_datum_text, link_text, authenticator_text}
 use Rattle.tw_base.specs.Digests.{AllDigests}
 use Rattle.tw_base.specs.EventTree.{event_root}
-use Rattle.tw_base.specs.History.{History, events_at}
+use Rattle.tw_base.specs.History.{History, events_at, time_at}
 use Rattle.tw_base.specs.Tree.{tree}
 use Rattle.tw_base.specs.Levels.{top_level}
 use Rattle.tw_base.specs.Auth.{auth, tree_label}
@@ -16,7 +16,7 @@ IsOpeningAt step o = (0 < step) × (length o.others ≡ top_level step)
 -- the texts that the opening stands for, computed upwards
 module _ (dig : List ℕ → List ℕ) (step : ℕ) (o : Opening) where
   abbrev pub opening_datum_text : List ℕ
-  opening_datum_text = datum_text o.event_root o.archive_root o.count
+  opening_datum_text = step_datum_text o.event_root o.archive_root o.count o.time
 
   abbrev pub opening_link_text : List ℕ
   opening_link_text = link_text step 0 (dig opening_datum_text) o.prev
@@ -36,6 +36,7 @@ pub record Binds (dig : List ℕ → List ℕ) (h : History) (step : ℕ) (o : O
   pub event_root : event_root dig (events_at h step) ≡ o.event_root
   pub archive_root : tree_label dig (tree h step) ≡ o.archive_root
   pub count : length (events_at h step) ≡ o.count
+  pub time : time_at h step ≡ o.time
   pub prev : auth dig h (step - 1) ≡ o.prev
 
 -- the widths that the fields of an opening have
@@ -43,5 +44,6 @@ pub record HasSizes (o : Opening) : Type 0 where
   pub event_root : length o.event_root ≡ 32
   pub archive_root : length o.archive_root ≡ 32
   pub count : o.count < 2 ^ 32
+  pub time : IfSome o.time (λ time. time < 2 ^ 64)
   pub prev : length o.prev ≡ 32
   pub others : AllDigests o.others

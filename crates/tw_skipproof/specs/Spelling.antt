@@ -3,15 +3,16 @@ use Rattle.std.specs.Prelude.{◌≡◌, ℕ, ◌<◌, ◌≤◌, length}
 use Rattle.tw_base.specs.declared.limits.TheConstants.{MOST_EVENTS, MOST_EVENT_BYTES}
 use Rattle.tw_base.specs.AuditPath.{path_length}
 use Rattle.tw_base.specs.Levels.{top_level}
+use Rattle.tw_base.specs.Limits.{IsTimeWithinLimits}
 use Rattle.tw_skipproof.specs.declared.opening.Opening.{Opening}
 use Rattle.tw_skipproof.specs.declared.path.Link.{Link}
 use Rattle.tw_skipproof.specs.declared.existence.EventPart.{EventPart}
 use Rattle.tw_skipproof.specs.Codecs.{event_codec, link_codec, opening_codec}
 
--- it fits wherever its labels are those of the step and its count is in the range
+-- it fits wherever its labels are those of the step, and its count and its time are in the range
 abbrev pub FitsAsOpening : Opening → Type 0
 FitsAsOpening o =
-    (least step : ℕ) → length o.others ≡ top_level step → least ≤ o.count → o.count ≤ MOST_EVENTS → (opening_codec least step).Fits o
+    (least step : ℕ) → length o.others ≡ top_level step → least ≤ o.count → o.count ≤ MOST_EVENTS → IsTimeWithinLimits o.time → (opening_codec least step).Fits o
 
 abbrev pub FitsAsLink : Link → Type 0
 FitsAsLink link = (step : ℕ) → length link.others ≡ top_level step → (link_codec step).Fits link

@@ -22,7 +22,7 @@ use tw_base::Hasher;
 
 /// What the layouts spell: a value's one spelling is what the writers write, and it has the links
 /// and numbers of labels that climbing and checking ask for. A path has at most 53,760 bytes,
-/// and an existence proof at most 56,497.
+/// and an existence proof at most 56,505.
 pub fn spelling_laws()
     ensures opening { (step : ℕ) → IsUnambiguous (opening_codec 0 step) × WrittenAs (opening_codec 0 step).format opening_bytes }
     ensures opening_labels { (step : ℕ) (bytes : List ℕ) (o : Opening) → Spells (opening_codec 0 step).format bytes o → length o.others ≡ top_level step }
@@ -30,7 +30,7 @@ pub fn spelling_laws()
     ensures path_shape { (from to : ℕ) (bytes : List ℕ) (links : List Link) → Spells (path_codec from to).format bytes links → HasShape links from to }
     ensures path_size { (from to : ℕ) (bytes : List ℕ) (links : List Link) → from ≤ LAST_STEP → Spells (path_codec from to).format bytes links → length bytes < 53761 }
     ensures existence { IsUnambiguous existence_codec }
-    ensures existence_size { (bytes : List ℕ) (p : ExistenceProof) → Spells existence_layout bytes p → length bytes ≤ 56497 }
+    ensures existence_size { (bytes : List ℕ) (p : ExistenceProof) → Spells existence_layout bytes p → length bytes ≤ 56505 }
     ensures existence_shape { (bytes : List ℕ) (p : ExistenceProof) → Spells existence_layout bytes p → IsShaped p × IsExistenceInRange p }
 {}
 

@@ -10,16 +10,18 @@ ghost use Rattle.tw_base.specs.Sound.{IsSound};
 ghost use Rattle.tw_skipproof.specs.Openings.{Binds, HasSizes, IsOpeningAt, opening_auth, opening_texts};
 
 use arrayvec::ArrayVec;
-use tw_base::{Digest, Hasher, Labels, authenticator, datum, link_label, put, top_level};
+use tw_base::{Digest, Hasher, Labels, authenticator, link_label, put, step_datum, top_level};
 
 /// The fields behind the authenticator of a step from 1 on: the root of its events, the label of
-/// its archive, its count of events, the authenticator of the step before it, and the labels of
-/// its links at the levels from 1 on.
+/// its archive, its count of events, the time in seconds that its maker claims, if any, the
+/// authenticator of the step before it, and the labels of its links at the levels from 1 on. The
+/// format bounds the count and the time: an opening with greater ones has no spelling.
 #[derive(Drop, Debug)]
 pub struct Opening {
     pub event_root: Digest,
     pub archive_root: Digest,
     pub count: u32,
+    pub time: Option<u64>,
     pub prev: Digest,
     pub others: Labels,
 }
@@ -35,7 +37,12 @@ fn computed<H: Hasher>(opening: &Opening, step: u64) -> Option<Digest>
     if step == 0 || opening.others.len() != top_level(step) as usize {
         return None;
     }
-    let datum = datum::<H>(&opening.event_root, &opening.archive_root, opening.count);
+    let datum = step_datum::<H>(
+        &opening.event_root,
+        &opening.archive_root,
+        opening.count,
+        opening.time,
+    );
     let first = link_label::<H>(step, 0, &datum, &opening.prev);
     let mut labels: ArrayVec<Digest, 40> = ArrayVec::new();
     labels.push(first);

@@ -6,7 +6,7 @@ ghost use Rattle.tw_base.specs.declared.limits.TheConstants.{LAST_STEP, MOST_EVE
 ghost use Rattle.tw_base.specs.Formats.{ReadsAs};
 ghost use Rattle.tw_base.specs.Taking.{Takes};
 ghost use Rattle.tw_skipproof.specs.declared.path.Path.{Path};
-ghost use Rattle.tw_skipproof.specs.Codecs.{link_codec, opening_codec, path_codec};
+ghost use Rattle.tw_skipproof.specs.Codecs.{count_codec, counted_with, link_codec, opening_codec, path_codec};
 ghost use Rattle.tw_skipproof.specs.Paths.{hop};
 
 use crate::hop::level_of_hop;
@@ -15,8 +15,39 @@ use crate::path::{Link, LinkList, Path};
 use std::alloc::Global;
 use tw_base::limits::MOST_EVENTS;
 use tw_base::{
-    ReadFault, power_of_two, take_digest, take_labels, take_number, top_level, whole_to,
+    ReadFault, power_of_two, take_digest, take_flag, take_labels, take_number, take_time,
+    top_level, whole_to,
 };
+
+/// Takes the count of events, and the time where there is to be one.
+#[tactic(auto, unfolding(tw_base::specs::Codecs::pair))]
+fn take_counted(
+    bytes: &[u8],
+    at: &mut u64,
+    least: u64,
+    timed: bool,
+) -> Result<(u32, Option<u64>), ReadFault>
+    requires within { at.old ≤ length bytes.now }
+    requires least { least ≤ MOST_EVENTS }
+    ensures takes { Takes (counted_with least timed) (λ c. c) bytes.now at.old at.new result }
+    ensures range { IfOk result (λ c. (least ≤ c.0) × (c.0 ≤ MOST_EVENTS)) }
+{
+    let count = take_number(bytes, at, 3, least, MOST_EVENTS)? as u32;
+    let time = take_time(bytes, at, timed)?;
+    Ok((count, time))
+}
+
+/// Takes the count word with a count of events of at least `least`, and the time where one follows.
+#[tactic(auto)]
+fn take_count(bytes: &[u8], at: &mut u64, least: u64) -> Result<(u32, Option<u64>), ReadFault>
+    requires within { at.old ≤ length bytes.now }
+    requires least { least ≤ MOST_EVENTS }
+    ensures takes { Takes (count_codec least) (λ c. c) bytes.now at.old at.new result }
+    ensures range { IfOk result (λ c. (least ≤ c.0) × (c.0 ≤ MOST_EVENTS)) }
+{
+    let timed = take_flag(bytes, at)?;
+    take_counted(bytes, at, least, timed)
+}
 
 /// Takes an opening of the step with a count of events of at least `least`.
 pub(crate) fn take_opening(
@@ -34,13 +65,14 @@ pub(crate) fn take_opening(
 {
     let event_root = take_digest(bytes, at)?;
     let archive_root = take_digest(bytes, at)?;
-    let count = take_number(bytes, at, 4, least, MOST_EVENTS)? as u32;
+    let (count, time) = take_count(bytes, at, least)?;
     let prev = take_digest(bytes, at)?;
     let others = take_labels(alloc, bytes, at, top_level(step) as u64)?;
     Ok(Opening {
         event_root,
         archive_root,
         count,
+        time,
         prev,
         others,
     })

@@ -47,6 +47,26 @@ fn an_opening(rt: HostRuntime) -> Result<(), Fail> {
     Ok(())
 }
 
+/// The bytes of an opening whose count word tells a time.
+#[test]
+fn an_opening_with_a_time(rt: HostRuntime) -> Result<(), Fail> {
+    let mut opening = read_existence(rt.alloc(), &LEAST_EXISTENCE)?.at.opening;
+    opening.time = Some(5);
+    let bytes = write_opening(rt.alloc(), &opening)?;
+    assert_eq!(rt; bytes.len(), 108);
+    assert_eq!(rt; &bytes.as_slice()[64..68], [128, 0, 0, 1].as_slice());
+    assert_eq!(rt;
+        &bytes.as_slice()[68..76],
+        [0, 0, 0, 0, 0, 0, 0, 5].as_slice()
+    );
+    let read = read_opening(rt.alloc(), bytes.as_slice(), 1)?;
+    assert_eq!(rt; read.time, Some(5));
+    assert_eq!(rt; read.count, 1);
+    let same = check_opening::<Sha>(&read, 1);
+    assert_eq!(rt; same == Some(Digest(LEAST_AUTHENTICATOR)), false);
+    Ok(())
+}
+
 #[test]
 fn a_path(rt: HostRuntime) -> Result<(), Fail> {
     assert_eq!(rt; next_hop(2, 1), 0);

@@ -1,12 +1,14 @@
 // Writing openings, paths and existence proofs.
-#![tactic(auto, unfolding(crate::specs::Codecs::event_codec, crate::specs::Codecs::link_bytes, crate::specs::Codecs::link_codec, crate::specs::Codecs::opening_bytes, crate::specs::Codecs::opening_codec, tw_base::specs::Codecs::by_kind, tw_base::specs::Codecs::bytes_codec, tw_base::specs::Codecs::labels_codec, tw_base::specs::Codecs::many, tw_base::specs::Codecs::number_codec, tw_base::specs::Codecs::pair, tw_base::specs::Codecs::seen, tw_base::specs::Codecs::sized_codec))]
+#![tactic(auto, unfolding(crate::specs::Codecs::count_codec, crate::specs::Codecs::event_codec, crate::specs::Codecs::link_bytes, crate::specs::Codecs::link_codec, crate::specs::Codecs::opening_bytes, crate::specs::Codecs::opening_codec, tw_base::specs::Codecs::by_kind, tw_base::specs::Codecs::bytes_codec, tw_base::specs::Codecs::labels_codec, tw_base::specs::Codecs::many, tw_base::specs::Codecs::number_codec, tw_base::specs::Codecs::pair, tw_base::specs::Codecs::seen, tw_base::specs::Codecs::sized_codec, tw_base::specs::Codecs::written))]
 
-ghost use Rattle.std.specs.Prelude.{◌≡◌, ℕ, ◌^◌, ◌<◌, ◌≤◌, [], ◌++◌, length, IfOk, OnOk};
+ghost use Rattle.std.specs.Prelude.{◌≡◌, ℕ, ◌+◌, ◌^◌, ◌<◌, ◌≤◌, [], ◌++◌, length, IfOk, OnOk, if◌then◌else◌};
 ghost use Rattle.tw_base.specs.declared.limits.TheConstants.{MOST_EVENTS};
+ghost use Rattle.tw_base.specs.Fields.{number_bytes};
 ghost use Rattle.tw_base.specs.Formats.{Spells};
 ghost use Rattle.tw_base.specs.Levels.{top_level};
+ghost use Rattle.tw_base.specs.Limits.{IsTimeWithinLimits};
 ghost use Rattle.tw_base.specs.Lists.{Each};
-ghost use Rattle.tw_skipproof.specs.Codecs.{event_codec, existence_codec, link_bytes, opening_bytes, opening_codec, path_bytes, path_codec};
+ghost use Rattle.tw_skipproof.specs.Codecs.{count_bytes, event_codec, existence_codec, link_bytes, opening_bytes, opening_codec, path_bytes, path_codec};
 ghost use Rattle.tw_skipproof.specs.Existence.{IsExistenceInRange, IsShaped, existence_bytes, existence_layout};
 ghost use Rattle.tw_skipproof.specs.Paths.{HasShape};
 ghost use Rattle.tw_skipproof.specs.Spelling.{FitsAsEvent, FitsAsLink, FitsAsOpening};
@@ -17,7 +19,7 @@ use crate::opening::Opening;
 use crate::path::{Link, Path};
 use std::alloc::Global;
 use tw_base::{
-    Bytes, NoMemory, put_digest, put_labels, put_name, put_number, put_sized, put_text,
+    Bytes, NoMemory, put_digest, put_labels, put_name, put_number, put_sized, put_text, put_time,
 };
 
 /// No bytes, with room for so many.
@@ -27,6 +29,27 @@ fn with_room(alloc: Global, size: usize) -> Result<Bytes, NoMemory>
     Ok(Bytes::from_vec(Vec::with_capacity(alloc, size)?))
 }
 
+/// The count word, as a number of four bytes: the count of events, and 2^31 more with a time.
+#[tactic(auto)]
+fn count_word(count: u32, timed: bool) -> u32
+    ensures { number_bytes 4 result ≡ number_bytes 4 (count + (if timed then 2 ^ 31 else 0)) }
+{
+    if timed {
+        count.wrapping_add(0x8000_0000)
+    } else {
+        count
+    }
+}
+
+/// Appends the count word, and the time where there is one.
+#[tactic(auto)]
+fn put_count(into: &mut Bytes, count: u32, time: Option<u64>) -> Result<(), NoMemory>
+    ensures { OnOk result (into.new ≡ into.old ++ count_bytes count time) }
+{
+    put_number(into, count_word(count, time.is_some()) as u64, 4)?;
+    put_time(into, time)
+}
+
 /// Appends the fields of the opening.
 fn put_opening(into: &mut Bytes, opening: &Opening) -> Result<(), NoMemory>
     ensures ok { OnOk result (into.new ≡ into.old ++ opening_bytes opening.now) }
@@ -34,7 +57,7 @@ fn put_opening(into: &mut Bytes, opening: &Opening) -> Result<(), NoMemory>
 {
     put_digest(into, &opening.event_root)?;
     put_digest(into, &opening.archive_root)?;
-    put_number(into, opening.count as u64, 4)?;
+    put_count(into, opening.count, opening.time)?;
     put_digest(into, &opening.prev)?;
     put_labels(into, &opening.others)
 }
@@ -72,7 +95,7 @@ fn put_event(into: &mut Bytes, event: &EventPart) -> Result<(), NoMemory>
 }
 
 /// Appends the proof.
-#[tactic(auto, unfolding(crate::specs::Codecs::event_codec, crate::specs::Codecs::existence_body, crate::specs::Codecs::existence_codec, crate::specs::Codecs::opening_bytes, crate::specs::Codecs::opening_codec, crate::specs::Codecs::path_bytes, crate::specs::Codecs::path_codec, tw_base::specs::Codecs::behind, tw_base::specs::Codecs::by_kind, tw_base::specs::Codecs::bytes_codec, tw_base::specs::Codecs::each, tw_base::specs::Codecs::labels_codec, tw_base::specs::Codecs::many, tw_base::specs::Codecs::name_codec, tw_base::specs::Codecs::number_codec, tw_base::specs::Codecs::pair, tw_base::specs::Codecs::seen, tw_base::specs::Codecs::sized_codec, tw_base::specs::Codecs::text_codec))]
+#[tactic(auto, unfolding(crate::specs::Codecs::count_codec, crate::specs::Codecs::event_codec, crate::specs::Codecs::existence_body, crate::specs::Codecs::existence_codec, crate::specs::Codecs::opening_bytes, crate::specs::Codecs::opening_codec, crate::specs::Codecs::path_bytes, crate::specs::Codecs::path_codec, tw_base::specs::Codecs::behind, tw_base::specs::Codecs::by_kind, tw_base::specs::Codecs::bytes_codec, tw_base::specs::Codecs::each, tw_base::specs::Codecs::labels_codec, tw_base::specs::Codecs::many, tw_base::specs::Codecs::name_codec, tw_base::specs::Codecs::number_codec, tw_base::specs::Codecs::pair, tw_base::specs::Codecs::seen, tw_base::specs::Codecs::sized_codec, tw_base::specs::Codecs::text_codec, tw_base::specs::Codecs::written))]
 fn put_existence(into: &mut Bytes, proof: &ExistenceProof) -> Result<(), NoMemory>
     requires { length proof.now.event.event < 2 ^ 32 }
     ensures ok { OnOk result (into.new ≡ into.old ++ existence_bytes proof.now) }
@@ -88,16 +111,17 @@ fn put_existence(into: &mut Bytes, proof: &ExistenceProof) -> Result<(), NoMemor
     Ok(())
 }
 
-/// The bytes of the opening: the digests of its events and of its archive, its count, the
-/// authenticator of the step before, and its labels. They spell it as the opening of each step that
-/// has so many levels from 1 on, where its count is at most 1,024.
+/// The bytes of the opening: the digests of its events and of its archive, the count word and its
+/// time, the authenticator of the step before, and its labels. They spell it as the opening of each
+/// step that has so many levels from 1 on, where its count is at most 1,024 and its time, if any, at
+/// most 2^40 - 1.
 #[tactic(auto)]
 pub fn write_opening(alloc: Global, opening: &Opening) -> Result<Bytes, NoMemory>
     ensures bytes { IfOk result (λ bytes. bytes ≡ opening_bytes opening.now) }
     ensures spelled { IfOk result (λ bytes. (step : ℕ) → length opening.now.others ≡ top_level step → opening.now.count ≤ MOST_EVENTS →
-        Spells (opening_codec 0 step).format bytes opening.now) }
+        IsTimeWithinLimits opening.now.time → Spells (opening_codec 0 step).format bytes opening.now) }
 {
-    let size = opening.others.len().saturating_mul(32).saturating_add(100);
+    let size = opening.others.len().saturating_mul(32).saturating_add(108);
     let mut bytes = with_room(alloc, size)?;
     put_opening(&mut bytes, opening)?;
     Ok(bytes)

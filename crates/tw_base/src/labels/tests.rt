@@ -40,6 +40,33 @@ fn two_steps_of_events(rt: HostRuntime) {
     assert_eq!(rt; authenticator::<Weak>(2, &labels), short(0x5f));
 }
 
+/// The same two steps, of which the first claims the time 5.
+#[test]
+fn a_step_with_a_time(rt: HostRuntime) {
+    let genesis = genesis::<Weak>(&name_of(&rt, b"a"));
+    let leaf = event_leaf::<Weak>(b"");
+    let timed = step_datum::<Weak>(&leaf, &empty_tree::<Weak>(), 1, Some(5));
+    assert_eq!(rt; timed, short(0x30));
+    assert_eq!(rt;
+        timed,
+        timed_datum::<Weak>(&leaf, &empty_tree::<Weak>(), 1, 5)
+    );
+    let first_label = link_label::<Weak>(1, 0, &timed, &genesis);
+    assert_eq!(rt; first_label, short(0xb3));
+    let first = authenticator::<Weak>(1, &[first_label]);
+    assert_eq!(rt; first, short(0xc7));
+
+    let leaf = event_leaf::<Weak>(b"hi");
+    let second_datum = step_datum::<Weak>(&leaf, &empty_tree::<Weak>(), 1, None);
+    assert_eq!(rt; second_datum, short(0xf9));
+    let labels = [
+        link_label::<Weak>(2, 0, &second_datum, &first),
+        link_label::<Weak>(2, 1, &second_datum, &genesis),
+    ];
+    assert_eq!(rt; labels, [short(0xd3), short(0x7e)]);
+    assert_eq!(rt; authenticator::<Weak>(2, &labels), short(0x67));
+}
+
 #[test]
 fn a_step_that_received_a_thread(rt: HostRuntime) {
     let genesis = genesis::<Weak>(&name_of(&rt, b"b"));

@@ -1,11 +1,13 @@
 // Tests of the readers at a place that moves.
 
 use crate::content::Content;
-use crate::content_taking::take_content;
+use crate::content_taking::take_recorded;
 use crate::digest::Digest;
 use crate::failure::ReadFault;
+use crate::flag::take_flag;
 use crate::sequence::Bytes;
 use crate::taking::{take_bytes, take_labels, take_number, take_sized, take_slice, take_zeros};
+use crate::time::{put_time, take_time};
 use crate::writers::{put_number, put_sized, put_text};
 use std::test::Fail;
 
@@ -52,12 +54,29 @@ fn byte_string_at_a_place(rt: HostRuntime) -> Result<(), Fail> {
 
 #[test]
 fn events_of_a_step(rt: HostRuntime) -> Result<(), Fail> {
-    let bytes = [1, 0, 0, 0, 1, 0, 0, 0, 2, 104, 105];
+    let bytes = [3, 0, 0, 0, 0, 0, 0, 0, 5, 0, 0, 0, 1, 0, 0, 0, 2, 104, 105];
     let mut at = 0;
-    match take_content(rt.alloc(), &bytes, &mut at)? {
+    let (time, content) = take_recorded(rt.alloc(), &bytes, &mut at)?;
+    assert_eq!(rt; time, Some(5));
+    match content {
         Content::Events(events) => assert_eq!(rt; events.len(), 1),
         Content::Received(_) => assert!(rt; false),
     }
-    assert_eq!(rt; at, 11);
+    assert_eq!(rt; at, 19);
+    Ok(())
+}
+
+#[test]
+fn flags_and_times(rt: HostRuntime) -> Result<(), Fail> {
+    let mut bytes = Bytes::new(rt.alloc());
+    put_time(&mut bytes, Some(5))?;
+    put_time(&mut bytes, None)?;
+    assert_eq!(rt; bytes.len(), 8);
+    let timed = take_flag(&[128], &mut 0)?;
+    assert_eq!(rt; take_time(bytes.as_slice(), &mut 0, timed)?, Some(5));
+    let other = take_flag(&[127], &mut 0);
+    assert_eq!(rt; other, Err(ReadFault::Malformed { place: 0 }));
+    let late = take_time(&[0, 0, 1, 0, 0, 0, 0, 0], &mut 0, true);
+    assert_eq!(rt; late, Err(ReadFault::Malformed { place: 2 }));
     Ok(())
 }

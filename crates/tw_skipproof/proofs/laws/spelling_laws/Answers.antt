@@ -30,7 +30,7 @@ pub returns-clause-existence : goal.returns-clause-existence
 returns-clause-existence c = unambiguous existence_codec existence-lawful
 
 pub returns-clause-existence_size : goal.returns-clause-existence_size
-returns-clause-existence_size c = word-size existence_codec existence-lawful 56497 existence-most
+returns-clause-existence_size c = word-size existence_codec existence-lawful 56505 existence-most
 
 pub returns-clause-existence_shape : goal.returns-clause-existence_shape
 returns-clause-existence_shape c = λ bytes p s. existence-shape p (spelled-fits existence_codec existence-lawful bytes p s)

@@ -7,6 +7,6 @@ use Rattle.tw_skipproof.proofs.writing.write_opening.Goals as goal
 
 pub returns-clause-spelled : goal.returns-clause-spelled
 unfolding opening_bytes opening_codec seen pair labels_codec many bytes_codec
-returns-clause-spelled c = λ step count few.
+returns-clause-spelled c = λ step count few small.
     (put-whole (opening_codec 0 step) (opening-lawful 0 step (lit≤ tt)) c.args.opening.now _ _ c.in_ok-bytes.ensures
-    (c.in_ok-put_opening.ensures.ok, c.in_ok-put_opening.ensures.fits 0 step count (omega arith) few)).1
+    (c.in_ok-put_opening.ensures.ok, c.in_ok-put_opening.ensures.fits 0 step count (omega arith) few small)).1

@@ -1,0 +1,46 @@
+// Reading and writing the times that steps have or not.
+
+ghost use Rattle.std.specs.Prelude.{◌≡◌, ◌-◌, ◌^◌, ◌≤◌, length, is_some};
+ghost use Rattle.tw_base.specs.Codecs.{number_codec, optional, present};
+ghost use Rattle.tw_base.specs.HistoryCodec.{time_codec};
+ghost use Rattle.tw_base.specs.Taking.{Puts, Takes};
+
+use crate::failure::{NoMemory, ReadFault};
+use crate::limits::LAST_TIME;
+use crate::sequence::Bytes;
+use crate::taking::take_number;
+use crate::writers::put_number;
+
+/// Takes a time in eight bytes, at most 2^40 - 1.
+#[tactic(auto, unfolding(crate::specs::Codecs::present))]
+fn take_some_time(bytes: &[u8], at: &mut u64) -> Result<Option<u64>, ReadFault>
+    requires { at.old ≤ length bytes.now }
+    ensures { Takes (present time_codec) (λ time. time) bytes.now at.old at.new result }
+{
+    let time = take_number(bytes, at, 8, 0, LAST_TIME)?;
+    Ok(Some(time))
+}
+
+/// Takes a time where there is to be one.
+#[tactic(auto, unfolding(crate::specs::Codecs::nothing))]
+pub fn take_time(bytes: &[u8], at: &mut u64, timed: bool) -> Result<Option<u64>, ReadFault>
+    requires { at.old ≤ length bytes.now }
+    ensures { Takes (optional timed time_codec) (λ time. time) bytes.now at.old at.new result }
+{
+    if timed {
+        take_some_time(bytes, at)
+    } else {
+        Ok(None)
+    }
+}
+
+/// Appends the time in eight bytes, where there is one.
+#[tactic(auto, unfolding(crate::specs::Codecs::nothing, crate::specs::Codecs::number_codec, crate::specs::Codecs::present))]
+pub fn put_time(into: &mut Bytes, time: Option<u64>) -> Result<(), NoMemory>
+    ensures { Puts (optional (is_some time) (number_codec 8 0 (2 ^ 64 - 1))) time into.old into.new result }
+{
+    match time {
+        None => Ok(()),
+        Some(time) => put_number(into, time, 8),
+    }
+}
