@@ -15,7 +15,7 @@ use Rattle.tw_history.specs.Tables.{node_of, step_of, steps_of_table}
 use Rattle.tw_history.specs.WritingSteps.{step_size}
 
 pub event-size : (event : List ℕ) → length (event_codec.write event) ≡ 4 + length event
-unfolding sized_codec
+unfolding sized_codec by_kind number_codec bytes_codec
 event-size event = omega (arith, length-append (number_bytes 4 (length event)) event, length-number_bytes 4 (length event))
 
 pub events-size : (events : List (List ℕ)) → length (content_codec.write (Events events)) ≡ 5 + length (flat_map event_codec.write events)

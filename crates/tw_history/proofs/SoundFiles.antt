@@ -5,7 +5,7 @@ use Rattle.tw_base.specs.declared.content.Content.{Content}
 use Rattle.tw_base.specs.declared.content.Content.TheVariants.{Events, Received}
 use Rattle.tw_base.specs.declared.limits.TheConstants.{MOST_EVENT_BYTES}
 use Rattle.tw_base.specs.Bytes.{AreBytes}
-use Rattle.tw_base.specs.Codecs.{sized_codec}
+use Rattle.tw_base.specs.Codecs.{by_kind, bytes_codec, number_codec, sized_codec}
 use Rattle.tw_base.specs.Formats.{Spells}
 use Rattle.tw_base.specs.History.{History, Step}
 use Rattle.tw_base.specs.HistoryCodec.{content_codec, event_codec, history_bytes, history_layout, node_codec, step_codec}
@@ -18,9 +18,9 @@ use Rattle.tw_history.specs.FileRanges.{IsInFileRange, IsNodeInRange, IsStepInRa
 use Rattle.tw_history.proofs.FileFits.{events-fit, history-fits, node-fits, step-fits, thread-fits}
 
 all_events : (events : List (List ℕ)) → Each (λ event. length event ≤ MOST_EVENT_BYTES) events → Each AreBytes events → Each event_codec.Fits events
-unfolding sized_codec
+unfolding sized_codec by_kind number_codec bytes_codec
 all_events [] short are = tt
-all_events (event ∷ events) short are = (((omega arith, short.0), are.0), all_events events short.1 are.1)
+all_events (event ∷ events) short are = (((omega arith, short.0), (refl, are.0)), all_events events short.1 are.1)
 
 content_fits : (c : Content) → IsWithinLimits c → content_codec.Fits c
 content_fits (Events events) are = events-fit events are.count (all_events events are.sizes are.bytes)
