@@ -16,9 +16,7 @@ use crate::existence_reading::MAGIC;
 use crate::opening::Opening;
 use crate::path::{Link, Path};
 use std::alloc::Global;
-use tw_base::{
-    Bytes, NoMemory, put_digest, put_labels, put_name, put_number, put_sized, put_text,
-};
+use tw_base::{Bytes, NoMemory, put_digest, put_labels, put_name, put_number, put_sized, put_text};
 
 /// No bytes, with room for so many.
 fn with_room(alloc: Global, size: usize) -> Result<Bytes, NoMemory>
