@@ -1,5 +1,5 @@
 -- What a reader of one codec finds in the bytes that are held of a segment, and chains of fields as chains of segments.
-use Rattle.std.proofs.Common.{◌≡◌, ℕ, suc, zero, ◌-◌, ◌*◌, ◌<◌, ◌≤◌, List, [], ◌∷◌, ◌++◌, length, replicate, take, drop, ap, sym, ◌∙◌, subst, append_assoc, arith, lit<, refl, inl, inr}
+use Rattle.std.proofs.Common.{◌≡◌, ℕ, suc, zero, ◌+◌, ◌-◌, ◌*◌, ◌<◌, ◌≤◌, List, [], ◌∷◌, ◌++◌, length, replicate, take, drop, ap, sym, ◌∙◌, subst, append_assoc, arith, lit<, refl, inl, inr}
 use Rattle.std.specs.Prelude.{Result, Ok, Err}
 use Rattle.std.proofs.lemmas.List.{append-nil, length-append, length-drop, length-replicate, length-take-le, take-append-drop, take_all, take_at}
 use Rattle.std.proofs.lemmas.Bool.{cases_lt}
@@ -18,7 +18,7 @@ use Rattle.tw_base.specs.Taking.{Takes}
 use Rattle.tw_base.proofs.CodecLaws.{Lawful, goes-then}
 use Rattle.tw_base.proofs.ByteLemmas.{AreBytes-append, AreBytes-drop, AreBytes-take}
 use Rattle.tw_base.proofs.FormatLaws.{read_at-spells, read_at-then, some_word, spells_then, then_spells, whole-stops}
-use Rattle.tw_base.proofs.PieceLaws.{behind-first}
+use Rattle.tw_base.proofs.PieceLaws.{behind-first, behind-front, behind-spells_nothing}
 
 module _ {X Z : Type 0} (c : Codec X) (l : Lawful c) (next : X → Format Z) where
   pub segment-ended : ((x : X) → c.Fits x → 0 < length (c.write x)) → (held : List ℕ) (after : ℕ) (x : X) → c.read held 0 ≡ Ok (record { value = x; after = after })
@@ -98,7 +98,7 @@ module _ {X Z : Type 0} (f : Format X) (next : X → Format Z) (n : ℕ) (t : Ta
       let last = some_word (next full.0) (goes full.0) in
       joined_front word zeros last.0 last.1 (spells_then f next (word ++ zeros) last.0 full.0 last.1 full.1 last.2)
 
-  any-nothing : (word : List ℕ) → length word < n → SpellsNothing (then_by f next) word
+  pub any-nothing : (word : List ℕ) → length word < n → SpellsNothing (then_by f next) word
   any-nothing word few z s =
       let parts = then_spells f next word z s in
       absurd (omega (arith, few, t.size parts.0 parts.2 parts.4, ap length parts.3, length-append parts.0 parts.1))
@@ -109,6 +109,22 @@ module _ {X Z : Type 0} (f : Format X) (next : X → Format Z) (n : ℕ) (t : Ta
       let all : length (held ++ more) < n =
       elim (cases_lt 0 (length more)) [ inl some ↦ short some | inr none ↦ omega (arith, few, none, length-append held more) ] in
       (any-front (held ++ more) (AreBytes-append held more are bytes) (omega (arith, all)), λ some. any-nothing (held ++ more) all)
+
+-- behind bytes that were taken stand bytes that stay a front
+pub stays-behind : {X : Type 0} (whole rest : Format X) (held : List ℕ) (after until : ℕ) → after ≤ length held → StandsBehind whole (take after held) rest → SpellsNothing rest []
+    → StaysFront rest (drop after held) until → StaysFront whole held (after + until)
+stays-behind whole rest held after until within b nothing s more are short =
+    let cut : held ++ more ≡ take after held ++ (drop after held ++ more) = ap (λ w. w ++ more) (sym (take-append-drop after held)) ∙ append_assoc (take after held) (drop after held) more in
+    let inner = s more are (λ some. omega (arith, short some, within, length-drop after held, length-append held more, length-append (drop after held) more)) in
+    let P : List ℕ → Type 0 = IsFront whole in
+    let Q : List ℕ → Type 0 = SpellsNothing whole in (
+      subst P (sym cut) (behind-front whole rest (take after held) b (drop after held ++ more) inner.0),
+      λ some. subst Q (sym cut) (behind-spells_nothing whole rest (take after held) b (drop after held ++ more) (none (drop after held ++ more) inner.1)),
+    )
+  where
+    none : (w : List ℕ) → (0 < length w → SpellsNothing rest w) → SpellsNothing rest w
+    none [] h = nothing
+    none (b ∷ w) h = h (omega arith)
 
 -- ---- lists of digests
 

@@ -11,3 +11,4 @@ pub mod CountWords
 pub mod LawfulCodecs
 pub mod Shapes
 pub mod PieceCodecs
+pub mod TailCodecs

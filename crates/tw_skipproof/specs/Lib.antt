@@ -6,3 +6,4 @@ pub mod Spelling
 pub mod HistoryProofs
 pub mod Acceptance
 pub mod Pieces
+pub mod PieceSteps

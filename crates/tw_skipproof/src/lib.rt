@@ -12,6 +12,7 @@ mod path;
 mod piece_reading;
 mod reading;
 mod so_far;
+mod tail_waiting;
 mod writing;
 
 pub use climbing::climb;

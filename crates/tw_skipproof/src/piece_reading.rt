@@ -17,6 +17,7 @@ use crate::opening::Opening;
 use crate::path::{Link, LinkList, Path};
 use crate::reading::{next_step, take_link, take_opening};
 use crate::so_far::{ExistenceSoFar, Middle};
+use crate::tail_waiting::tail_until;
 use std::alloc::Global;
 use tw_base::limits::LAST_STEP;
 use tw_base::{
@@ -165,7 +166,7 @@ fn completed(middle: Middle, tail: (Opening, EventPart)) -> ExistenceProof
     ExistenceProof { at, event }
 }
 
-/// Looks for what stands behind the path.
+/// Looks for what stands behind the path, where it may end or break.
 #[tactic(auto)]
 fn attempt_tail(
     alloc: Global,
@@ -175,6 +176,13 @@ fn attempt_tail(
     requires { middle.at ≤ middle.step }
     ensures { Attempts rest (Within middle) held.now result }
 {
+    let until = tail_until(held, middle.step);
+    if held.len() < until {
+        return Ok(Attempt::Front {
+            same: ExistenceSoFar::Within(middle),
+            until,
+        });
+    }
     let mut at = 0;
     match take_tail(alloc, held, &mut at, middle.step) {
         Ok(tail) => Ok(Attempt::Ended {
