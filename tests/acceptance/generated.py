@@ -34,7 +34,7 @@ def accepted(name, line, step, index, top):
     """The case of an honest proof: it has to be accepted."""
     data = reference.proof_bytes(line, step, index, top)
     case = judged(name, data, line.name, top, line.auths[top])
-    text = reference.accepted_text(line.name, step, index, line.events(step)[index])
+    text = reference.accepted_text(line.name, step, index, line.events(step)[index], line.times[step - 1])
     assert (case["status"], case["stdout"]) == (0, text)
     return case
 
@@ -232,6 +232,95 @@ def broken_by_hand():
     yield 3, "an entry lost, and too many bytes of events", [thread(b5, [(0, 1, 0)], 1), reference.Step([bytes(1024)] * 65)]
 
 
+def timed(steps, seed):
+    """The same steps, of which some claim times that don't fall."""
+    rand = random.Random(seed)
+    latest = 0
+    for step in steps:
+        latest += rand.choice((0, 0, 1, 2**20, 2**31))
+        step.time = latest if rand.randrange(3) else None
+    return steps
+
+
+def times():
+    """Proofs of steps with times and without, and the histories that show them; the greatest time, and the least."""
+    line = Timeline("t", [[b""], [b"hi"], [b"x"], [b"y"]], None, [0, None, 5, 2**40 - 1])
+    for top in range(1, 5):
+        for step in range(1, top + 1):
+            yield accepted(f"step {step} under {top}", line, step, 0, top)
+    for count, seed in ((5, "few"), (33, "many")):
+        steps = timed(woven(count, seed), seed)
+        data = reference.history_bytes("woven", steps)
+        last = reference.history_line("woven", steps)
+        for step, recorded in enumerate(steps, 1):
+            for index in range(len(recorded.events) + 1):
+                yield shown(f"event {index} of step {step} of {count}", data, step, index)
+            for index in range(len(recorded.events)):
+                yield accepted(f"step {step} of {count}, event {index}", last, step, index, count)
+
+
+def changed_times():
+    """A proof and a history with a time: each byte changed, each cut; and a time put on, changed and taken away."""
+    line = Timeline("t", [[b""], [b"hi"]], None, [5, None])
+    data = reference.proof_bytes(line, 1, 0, 1)
+    assert len(data) == 153
+    yield from changed(data, "t", 1, line.auths[1], "a time")
+    for name, times_of in (("no time", None), ("another time", [4]), ("time 0", [0])):
+        other = Timeline("t", [[b""]], None, times_of)
+        opening = reference.opening_bytes(other, 1)
+        yield judged(name, data[:37] + opening + data[145:], "t", 1, line.auths[1])
+    plain = Timeline("t", [[b""]])
+    for time in (0, 5):
+        own = Timeline("t", [[b""]], None, [time])
+        opening = reference.opening_bytes(own, 1)
+        least = reference.proof_bytes(plain, 1, 0, 1)
+        yield judged(f"time {time} put on", least[:37] + opening + least[137:], "t", 1, plain.auths[1])
+    event = reference.Step([b""], time=5)
+    thread = reference.Step(thread=("b", 258, bytes(32)), nodes=[(0, 1, 0)], root=1, time=2**40 - 1)
+    for name, steps in (("an event", [event]), ("a thread", [thread]), ("both", [event, thread])):
+        data = reference.history_bytes("a", steps)
+        for size in range(len(data)):
+            yield shown(f"{name}, cut to {size}", data[:size], 1, 0)
+        for place in range(28, len(data)):
+            for value in {0, data[place] ^ 1, data[place] ^ 2, 128} - {data[place]}:
+                new = data[:place] + bytes([value]) + data[place + 1 :]
+                yield shown(f"{name}, byte {place} is {value}", new, 1, 0)
+
+
+def count_words():
+    """Count words and times of an opening: those that stand, and the first bad byte of those that don't."""
+    line = Timeline("t", [[b""]])
+    data = reference.proof_bytes(line, 1, 0, 1)
+    front, back = data[:101], data[105:]
+    words = [
+        "00000000", "00000001", "00000400", "00000401", "00000500", "00010001", "01000001", "7f000001", "7fffffff", "80000000",
+        "80000001", "80000400", "80000401", "80000500", "80010001", "81000001", "c0000001", "ff000001", "ffffffff",
+    ]
+    times_after = ["", "0000000000000005", "000000ffffffffff", "0000010000000000", "0100000000000000", "00000000000000"]
+    for word in words:
+        for time in times_after if word.startswith("8") else [""]:
+            new = front + bytes.fromhex(word + time) + back
+            yield judged(f"word {word}, time {time or 'none'}", new, "t", 1, line.auths[1])
+            yield judged(f"word {word}, time {time or 'none'}, cut", new[: 105 + len(time) // 2], "t", 1, line.auths[1])
+
+
+def falling_times():
+    """Histories whose times fall, and the step that breaks the rule: also where steps without a time stand between."""
+    for number, times_of in enumerate(([5, 4], [5, None, 4], [5, None, 5, 4], [5, 5, 6, 2**40 - 1, 6], [1, 0], [None, 3, None, None, 2])):
+        steps = [reference.Step([b"x"], time=time) for time in times_of]
+        data = reference.history_bytes("h", steps)
+        case = shown(f"{number}", data, 1, 0)
+        assert case["bytes"] == f"unsound h step {len(steps)} rule 7\n".encode()
+        yield case
+    for number, times_of in enumerate(([5, 5], [None, None], [0, None, 0, 0], [None, 2**40 - 1, None, 2**40 - 1])):
+        steps = [reference.Step([b"x"], time=time) for time in times_of]
+        case = shown(f"{number}, sound", reference.history_bytes("h", steps), 2, 0)
+        assert case["status"] == 0
+        yield case
+    heavy = reference.Step([bytes(1024)] * 65, time=4)
+    yield shown("too many bytes of events, and a time below", reference.history_bytes("h", [reference.Step([b"x"], time=5), heavy]), 1, 0)
+
+
 def swapped_labels():
     """A proof of an event of which two labels of its path are swapped, and such a proof under another index."""
     line = counted_timeline("labels", [5])
@@ -271,7 +360,7 @@ def unsound_histories():
 def cases():
     groups = (
         paths, event_trees, sizes, deep, all_changed, above_the_top, swapped_labels, histories, shown_trees, shown_and_accepted,
-        changed_histories, unsound_histories,
+        changed_histories, unsound_histories, times, changed_times, count_words, falling_times,
     )
     for group in groups:
         for case in group():

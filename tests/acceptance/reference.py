@@ -11,6 +11,7 @@ import sys
 from hashlib import sha256
 
 LAST_STEP = 2**40 - 1
+LAST_TIME = 2**40 - 1
 
 
 def dig(text):
@@ -43,8 +44,10 @@ def authenticator(step, labels):
     return dig(b"\x12" + be(step, 8) + be(len(labels), 1) + b"".join(labels))
 
 
-def datum(event_root, archive_root, count):
-    return dig(b"\x13" + event_root + archive_root + be(count, 4))
+def datum(event_root, archive_root, count, time=None):
+    """That of a step with this time, or with none."""
+    held = event_root + archive_root + be(count, 4)
+    return dig(b"\x13" + held if time is None else b"\x16" + held + be(time, 8))
 
 
 EMPTY_TREE = dig(b"\x14")
@@ -87,12 +90,13 @@ def top_level(step):
 
 class Timeline:
     """A service's steps: steps[i - 1] has the events of step i, archives[i - 1] the label of its archive after it, which is
-    that of the empty tree where no archives are given."""
+    that of the empty tree where no archives are given, and times[i - 1] its time or None, which it is where none are given."""
 
-    def __init__(self, name, steps, archives=None):
+    def __init__(self, name, steps, archives=None, times=None):
         self.name = name
         self.steps = steps
         self.archives = archives or [EMPTY_TREE] * len(steps)
+        self.times = times or [None] * len(steps)
         self.auths = [genesis(name)]
         for step in range(1, len(steps) + 1):
             self.auths.append(authenticator(step, self.labels(step)))
@@ -102,7 +106,7 @@ class Timeline:
 
     def datum(self, step):
         events = self.events(step)
-        return datum(event_root(events), self.archives[step - 1], len(events))
+        return datum(event_root(events), self.archives[step - 1], len(events), self.times[step - 1])
 
     def labels(self, step):
         """The labels of the step's links, from level 0 on; the link at a level leads to step - 2^level."""
@@ -142,12 +146,17 @@ def path_bytes(timeline, top, step):
     return b"".join(parts)
 
 
+def count_bytes(count, time):
+    """The count word, and the time where there is one."""
+    return be(count, 4) if time is None else be(count + 2**31, 4) + be(time, 8)
+
+
 def opening_bytes(timeline, step):
     events = timeline.events(step)
     return (
         event_root(events)
         + timeline.archives[step - 1]
-        + be(len(events), 4)
+        + count_bytes(len(events), timeline.times[step - 1])
         + timeline.auths[step - 1]
         + b"".join(timeline.labels(step)[1:])
     )
@@ -179,8 +188,9 @@ def hex_or_dash(data):
     return data.hex() or "-"
 
 
-def accepted_text(name, step, index, event):
-    return f"accepted exists\nevent {name} {step} {index} {hex_or_dash(event)}\n"
+def accepted_text(name, step, index, event, time=None):
+    line = f"accepted exists\nevent {name} {step} {index} {hex_or_dash(event)}\n"
+    return line if time is None else line + f"time {name} {step} {time}\n"
 
 
 # ---- the verdict on a proof under one anchor
@@ -221,6 +231,12 @@ class Reader:
 
     def digests(self, count):
         return [self.bytes(32) for _ in range(count)]
+
+    def timed_count(self, least):
+        """The count word, with a count of at least this, and the time where one follows, else None."""
+        timed = self.byte(lambda b: b in (0, 128)) == 128
+        count = self.number(3, least, 1024)
+        return count, self.number(8, 0, LAST_TIME) if timed else None
 
     def text(self, text):
         for wanted in text:
@@ -277,7 +293,9 @@ def verdict(data, name, pos, auth):
         step = read.number(8, 1, LAST_STEP)
         top = read.number(8, 1, LAST_STEP)
         records = [(read.bytes(32), read.digests(top_level(start))) for start in greedy_steps(top, step)[:-1]]
-        root, archive, count, prev = read.bytes(32), read.bytes(32), read.number(4, 1, 1024), read.bytes(32)
+        root, archive = read.bytes(32), read.bytes(32)
+        count, time = read.timed_count(1)
+        prev = read.bytes(32)
         others = read.digests(top_level(step))
         index = read.number(4, 0, count - 1)
         event = read.bytes(read.number(4, 0, 1024))
@@ -289,12 +307,12 @@ def verdict(data, name, pos, auth):
         return "rejected 2 BadOrder\n", 1
     if (service, top) != (name, pos):
         return f"rejected 3 NotHeld {service} {top}\n", 1
-    bottom = authenticator(step, [link_label(step, 0, datum(root, archive, count), prev)] + others)
+    bottom = authenticator(step, [link_label(step, 0, datum(root, archive, count, time), prev)] + others)
     if climbed(records, top, step, bottom) != auth:
         return "rejected 4 BadPath 0\n", 1
     if root_from_path(count, index, dig(b"\x00" + event), path) != root:
         return "rejected 6 BadEvent 0\n", 1
-    return accepted_text(service, step, index, event), 0
+    return accepted_text(service, step, index, event, time), 0
 
 
 # ---- a timeline that nobody has to build: its links lead to digests made up for the purpose
@@ -335,20 +353,23 @@ HISTORY_LIMIT = 67108864
 
 class Step:
     """What a step of a history records: events, or a thread (service, step, authenticator); the nodes that it adds, each
-    with left side, step of its thread and right side; and the number of the archive's root."""
+    with left side, step of its thread and right side; the number of the archive's root; and its time, or None."""
 
-    def __init__(self, events=(), thread=None, nodes=(), root=0):
+    def __init__(self, events=(), thread=None, nodes=(), root=0, time=None):
         self.events = list(events)
         self.thread = thread
         self.nodes = list(nodes)
         self.root = root
+        self.time = time
 
     def bytes(self):
+        kind = (2 if self.thread else 1) + (0 if self.time is None else 2)
         if self.thread:
             service, step, auth = self.thread
-            content = b"\x02" + padded(service) + be(step, 8) + auth
+            content = padded(service) + be(step, 8) + auth
         else:
-            content = b"\x01" + be(len(self.events), 4) + b"".join(be(len(event), 4) + event for event in self.events)
+            content = be(len(self.events), 4) + b"".join(be(len(event), 4) + event for event in self.events)
+        content = be(kind, 1) + (b"" if self.time is None else be(self.time, 8)) + content
         nodes = b"".join(be(left, 4) + be(entry, 8) + be(right, 4) for left, entry, right in self.nodes)
         return content + be(len(self.nodes), 2) + nodes + be(self.root, 4)
 
@@ -365,7 +386,10 @@ def read_history(data):
     steps = []
     for _ in range(read.number(8, 0, LAST_STEP)):
         step = Step()
-        if read.number(1, 1, 2) == 1:
+        kind = read.number(1, 1, 4)
+        if kind > 2:
+            step.time = read.number(8, 0, LAST_TIME)
+        if kind in (1, 3):
             step.events = [read.bytes(read.number(4, 0, 1024)) for _ in range(read.number(4, 0, 1024))]
         else:
             step.thread = (read.name(), read.number(8, 1, LAST_STEP), read.bytes(32))
@@ -380,11 +404,13 @@ def read_history(data):
 
 
 class Archive:
-    """The trees of a history: the nodes so far, numbered from 1 on, and the threads received so far by their steps."""
+    """The trees of a history: the nodes so far, numbered from 1 on, and the threads received so far by their steps; and the
+    greatest time so far."""
 
     def __init__(self):
         self.nodes = []
         self.received = {}
+        self.latest = 0
 
     def keys(self, number):
         """The keys of a tree in its order: service and step of each thread."""
@@ -423,7 +449,12 @@ def broken_rule(name, number, step, archive):
         return 4
     if step.thread and any(service == step.thread[0] and at >= step.thread[1] for service, at, _ in earlier):
         return 5
-    return 6 if sum(map(len, step.events)) > 65536 else None
+    if sum(map(len, step.events)) > 65536:
+        return 6
+    if step.time is not None and step.time < archive.latest:
+        return 7
+    archive.latest = max(archive.latest, step.time or 0)
+    return None
 
 
 def history_line(name, steps):
@@ -434,7 +465,7 @@ def history_line(name, steps):
             archive.received[number] = step.thread
         archive.nodes += step.nodes
         archives.append(archive.label(step.root))
-    return Timeline(name, [step.events for step in steps], archives)
+    return Timeline(name, [step.events for step in steps], archives, [step.time for step in steps])
 
 
 def shown(file, data, step, index):

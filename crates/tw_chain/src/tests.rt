@@ -3,8 +3,11 @@
 use super::*;
 use std::alloc::Global;
 use std::process::Abort;
-use tw_base::{Claim, Digest, Hasher, Name, Reason, Sha, Thread, Weak};
-use tw_skipproof::{LEAST_AUTHENTICATOR, LEAST_EXISTENCE};
+use std::test::Fail;
+use tw_base::{Claim, Digest, Hasher, Labels, Name, Reason, Sha, Thread, Weak};
+use tw_skipproof::{
+    LEAST_AUTHENTICATOR, LEAST_EXISTENCE, Opening, read_existence, write_existence,
+};
 
 /// A thread of step 1 of a service.
 fn first_step(rt: &impl Abort, service: &[u8], auth: [u8; 32]) -> Thread {
@@ -114,4 +117,36 @@ fn under_the_weak_digest(rt: HostRuntime) {
         reason_under::<Weak, HostRuntime>(&rt, rt.alloc(), &bytes, anchor),
         None
     );
+}
+
+/// A digest of the weak hasher.
+fn short(first: u8) -> Digest {
+    let mut bytes = [0; 32];
+    bytes[0] = first;
+    Digest(bytes)
+}
+
+/// The proof of a step that claims the time 5, and what is reported of it.
+#[test]
+fn a_time_under_the_weak_digest(rt: HostRuntime) -> Result<(), Fail> {
+    let mut proof = read_existence(rt.alloc(), &LEAST_EXISTENCE)?;
+    proof.at.opening = Opening {
+        event_root: short(0),
+        archive_root: short(0x14),
+        count: 1,
+        time: Some(5),
+        prev: short(0x71),
+        others: Labels::new(rt.alloc()),
+    };
+    let bytes = write_existence(rt.alloc(), &proof)?;
+    assert_eq!(rt; bytes.len(), 153);
+    let anchor = first_step(&rt, b"a", short(0xc7).0);
+    match verify::<Weak>(rt.alloc(), bytes.as_slice(), &[anchor])? {
+        Verdict::Yes(report) => {
+            let Claim::Exists(seen) = &report.claim;
+            assert_eq!(rt; seen.time, Some(5));
+        }
+        Verdict::No(_) => assert!(rt; false, "it is not accepted"),
+    }
+    Ok(())
 }

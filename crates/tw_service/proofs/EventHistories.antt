@@ -13,7 +13,7 @@ use Rattle.tw_base.specs.Limits.{MayRecord}
 use Rattle.tw_base.specs.Lists.{Each}
 use Rattle.tw_base.specs.Names.{IsName}
 use Rattle.tw_base.specs.Rules.{KeepsRule, Rule}
-use Rattle.tw_base.specs.Rules.Rule.{NodesAreKnown, TreesRise, HoldsAllThreads, IsOfAnother, StepsRise, EventsFit}
+use Rattle.tw_base.specs.Rules.Rule.{NodesAreKnown, TreesRise, HoldsAllThreads, IsOfAnother, StepsRise, EventsFit, TimesDontFall}
 use Rattle.tw_base.specs.Sound.{IsSound, IsSoundStep}
 use Rattle.tw_base.specs.Tree.{IsRising, Tree, entries, forest, new_trees, planted, tree}
 use Rattle.tw_base.specs.Tree.Tree.{Empty}
@@ -69,6 +69,7 @@ module _ (h : History) (only : HasEventsOnly h) where
   sound_rule i limits IsOfAnother = tt
   sound_rule i limits StepsRise = tt
   sound_rule i limits EventsFit = limits.fit
+  sound_rule i limits TimesDontFall = tt
 
   pub sound_of_events : IsName h.name → length h.steps ≤ LAST_STEP → ((k : ℕ) → k < length h.steps → MayRecord (events_at h (suc k))) → IsSound h
   sound_of_events is_name short limits = record {
@@ -77,7 +78,7 @@ module _ (h : History) (only : HasEventsOnly h) where
     steps = λ i s there.
         let within = slice_get_within h.steps i s there in
         let same : step_of i ≡ s = (let both : Some (step_of i) ≡ Some s = sym (only i within) ∙ there in cc) in
-        subst (IsSoundStep h i) same (record { rules = sound_rule i (limits i within); limits = (limits i within).are });
+        subst (IsSoundStep h i) same (record { rules = sound_rule i (limits i within); limits = (limits i within).are; time = tt });
   }
 
 -- a history that pages keep

@@ -1,9 +1,9 @@
 -- Histories whose steps are all steps of events, and one with one more.
-use Rattle.std.proofs.Common.{◌≡◌, ℕ, suc, zero, ◌≤◌, List, [], ◌++◌, length, get_or, refl, ap, ◌∙◌, arith, Option}
+use Rattle.std.proofs.Common.{◌≡◌, ℕ, suc, zero, ◌≤◌, List, [], ◌++◌, length, get_or, refl, ap, ◌∙◌, arith, Option, None}
 use Rattle.std.proofs.lemmas.List.{append-nil}
-use Rattle.tw_base.specs.Texts.{datum_text}
+use Rattle.tw_base.specs.Texts.{datum_text, step_datum_text}
 use Rattle.tw_base.specs.EventTree.{event_root}
-use Rattle.tw_base.specs.History.{History, Step, entry_to, events_at, events_of, fresh_of, root_of, step_at}
+use Rattle.tw_base.specs.History.{History, Step, entry_to, events_at, events_of, fresh_of, root_of, step_at, time_at, time_of}
 use Rattle.tw_base.specs.Tree.{Tree, forest, planted, tree}
 use Rattle.tw_base.specs.Tree.Tree.{Empty}
 use Rattle.tw_base.specs.Auth.{datum_text_at, tree_label}
@@ -48,6 +48,9 @@ module _ (h : History) (events : List (List ℕ)) where
   pub new_events : events_at longer (suc n) ≡ events
   new_events = ap events_of (step_at-new h last)
 
+  new_time : time_at longer (suc n) ≡ None
+  new_time = ap time_of (step_at-new h last)
+
   pub new_datum : (dig : List ℕ → List ℕ) → datum_text_at dig longer (suc n) ≡ datum_text (event_root dig events) (tree_label dig (tree h n)) (length events)
   unfolding datum_text_at
-  new_datum dig = (λ j. datum_text (event_root dig (new_events j)) (tree_label dig (same_tree j)) (length (new_events j)))
+  new_datum dig = (λ j. step_datum_text (event_root dig (new_events j)) (tree_label dig (same_tree j)) (length (new_events j)) (new_time j))

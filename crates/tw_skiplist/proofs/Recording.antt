@@ -1,5 +1,5 @@
 -- The records of paths and openings that pages make, and those of the history that the pages keep.
-use Rattle.std.proofs.Common.{◌≡◌, ℕ, suc, zero, ◌+◌, ◌-◌, ◌^◌, ◌<◌, ◌≤◌, List, [], ◌∷◌, ◌++◌, length, get_or, drop, refl, ap, sym, ◌∙◌, arith, inl, inr, subst}
+use Rattle.std.proofs.Common.{◌≡◌, ℕ, suc, zero, ◌+◌, ◌-◌, ◌^◌, ◌<◌, ◌≤◌, List, [], ◌∷◌, ◌++◌, length, get_or, drop, refl, ap, sym, ◌∙◌, arith, inl, inr, subst, Option, None}
 use Rattle.std.specs.Prelude.{map, remove, ◌==◌, if◌then◌else◌}
 use Rattle.std.proofs.lemmas.Bool.{cases_lt}
 use Rattle.std.proofs.lemmas.Bool.Decides.{eqb_tells}
@@ -7,10 +7,12 @@ use Rattle.std.proofs.lemmas.List.{length_push, map_push}
 use Rattle.std.proofs.lemmas.List.Edits.{length-remove, remove-append_left}
 use Rattle.std.proofs.lemmas.Nat.{pow_pos}
 use Rattle.tw_disk.specs.Image.{Image}
-use Rattle.tw_base.specs.Texts.{link_text}
-use Rattle.tw_base.specs.History.{History}
+use Rattle.tw_base.specs.EventTree.{event_root}
+use Rattle.tw_base.specs.Texts.{link_text, step_datum_text}
+use Rattle.tw_base.specs.Tree.{tree}
+use Rattle.tw_base.specs.History.{History, events_at, time_at, time_of}
 use Rattle.tw_base.specs.Levels.{top_level}
-use Rattle.tw_base.specs.Auth.{auths, datum_text_at, link_texts}
+use Rattle.tw_base.specs.Auth.{auths, datum_text_at, link_texts, tree_label}
 use Rattle.tw_base.proofs.Auths.{auths-at}
 use Rattle.tw_skipproof.specs.HistoryProofs.{labels_at}
 use Rattle.tw_skipproof.specs.declared.path.Link.{Link}
@@ -89,9 +91,13 @@ module _ (dig : List ℕ → List ℕ) where
   -- ---- of a history that the pages keep
 
   module _ (size : (text : List ℕ) → length (dig text) ≡ 32) (h : History) (places : List Place) (ps : Image) (kept : KeepsSteps dig ps h places) where
-    kept_datum : (k : ℕ) → page_datum dig (fields_at dig h places (suc k)) ≡ dig (datum_text_at dig h (suc k))
+    no_time : (k : ℕ) → k < length h.steps → time_at h (suc k) ≡ None
+    no_time k l = ap time_of (kept.steps k l).events_only
+
+    kept_datum : (k : ℕ) → k < length h.steps → page_datum dig (fields_at dig h places (suc k)) ≡ dig (datum_text_at dig h (suc k))
     unfolding datum_text_at
-    kept_datum k = refl
+    kept_datum k l =
+        ap (λ (time : Option ℕ). dig (step_datum_text (event_root dig (events_at h (suc k))) (tree_label dig (tree h (suc k))) (length (events_at h (suc k))) time)) (sym (no_time k l))
 
     labels_to : (k : ℕ) (datum : List ℕ) (count : ℕ) → count ≤ suc (top_level (suc k))
         → page_labels dig (suc k) datum (links_at dig h places (suc k)) count ≡ map dig (link_texts dig datum (auths dig h k) (suc k) count)
@@ -108,7 +114,7 @@ module _ (dig : List ℕ → List ℕ) where
         → page_labels dig (suc k) (page_datum dig (fields_at dig h places (suc k))) (links_at dig h places (suc k)) (length (links_at dig h places (suc k))) ≡ labels_at dig h (suc k)
     kept_labels k l =
         let before : k ≡ suc k - 1 = omega arith in
-        (λ j. page_labels dig (suc k) (kept_datum k j) (links_at dig h places (suc k)) (length-links_to dig size h places (suc k) (suc (top_level (suc k))) j))
+        (λ j. page_labels dig (suc k) (kept_datum k l j) (links_at dig h places (suc k)) (length-links_to dig size h places (suc k) (suc (top_level (suc k))) j))
         ∙ labels_to k (dig (datum_text_at dig h (suc k))) (suc (top_level (suc k))) (omega arith)
         ∙ ap (λ (n : ℕ). map dig (link_texts dig (dig (datum_text_at dig h (suc k))) (auths dig h n) (suc k) (suc (top_level (suc k))))) before
 
@@ -121,7 +127,7 @@ module _ (dig : List ℕ → List ℕ) where
         let f = fields_are dig size h places ps kept (suc k) some within has.fields has.links is in
         let ls = links_are dig size h places ps kept (suc k) some within has.fields has.links is in
         let rec : link ≡ link_record dig (suc k) (fields_at dig h places (suc k)) (links_at dig h places (suc k)) level = has.record_is ∙ (λ j. link_record dig (suc k) (f j) (ls j) level) in (
-          ap (λ (x : Link). x.datum) rec ∙ kept_datum k,
+          ap (λ (x : Link). x.datum) rec ∙ kept_datum k (omega (arith, within)),
           ap (λ (x : Link). x.others) rec ∙ ap (λ (xs : List (List ℕ)). remove xs level) (kept_labels k (omega (arith, within))),
         )
 
@@ -148,6 +154,7 @@ module _ (dig : List ℕ → List ℕ) where
               event_root = refl;
               archive_root = refl;
               count = refl;
+              time = no_time k (omega (arith, within));
               prev = sym (ap (λ (x : StepRef). x.auth) first);
             };
             others = ap (λ (xs : List (List ℕ)). remove xs 0) (kept_labels k (omega (arith, within))) ∙ remove_first (labels_at dig h (suc k));

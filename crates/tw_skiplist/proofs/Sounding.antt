@@ -11,7 +11,7 @@ use Rattle.tw_base.specs.History.{History, Step, Node, entry_at, entry_to, event
 use Rattle.tw_base.specs.Tree.{IsRising, Tree, entries, forest, planted, tree}
 use Rattle.tw_base.specs.Tree.Tree.{Empty}
 use Rattle.tw_base.specs.Rules.{KeepsRule, Rule}
-use Rattle.tw_base.specs.Rules.Rule.{NodesAreKnown, TreesRise, HoldsAllThreads, IsOfAnother, StepsRise, EventsFit}
+use Rattle.tw_base.specs.Rules.Rule.{NodesAreKnown, TreesRise, HoldsAllThreads, IsOfAnother, StepsRise, EventsFit, TimesDontFall}
 use Rattle.tw_base.specs.Sound.{IsSound, IsSoundStep}
 use Rattle.tw_base.proofs.Plus.{forest-first}
 use Rattle.tw_skiplist.specs.declared.head.Head.{Head}
@@ -60,9 +60,10 @@ module _ (dig : List ℕ → List ℕ) (ps : Image) (h : History) (places : List
   sound_rule k l IsOfAnother = tt
   sound_rule k l StepsRise = tt
   sound_rule k l EventsFit = (kept.steps k l).limits.fit
+  sound_rule k l TimesDontFall = tt
 
   sound_step : (k : ℕ) → k < length h.steps → IsSoundStep h k (step_of k)
-  sound_step k l = record { rules = sound_rule k l; limits = (kept.steps k l).limits.are }
+  sound_step k l = record { rules = sound_rule k l; limits = (kept.steps k l).limits.are; time = tt }
 
   step_within : (k : ℕ) (s : Step) → step_at h (suc k) ≡ Some s → k < length h.steps
   step_within k s is = slice_get_within h.steps k s is

@@ -1,5 +1,5 @@
 -- Pages that keep a history of events.
-use Rattle.std.specs.Prelude.{◌≡◌, ℕ, suc, zero, ◌+◌, ◌-◌, ◌*◌, ◌^◌, ◌<◌, ◌≤◌, List, [], ◌∷◌, ◌++◌, length, slice_index_or, Some}
+use Rattle.std.specs.Prelude.{◌≡◌, ℕ, suc, zero, ◌+◌, ◌-◌, ◌*◌, ◌^◌, ◌<◌, ◌≤◌, List, [], ◌∷◌, ◌++◌, length, slice_index_or, None, Some}
 use Rattle.tw_disk.specs.declared.limits.TheConstants.{FIRST_PAGE, NUMBER_LIMIT}
 use Rattle.tw_disk.specs.Image.{Image, page_at}
 use Rattle.tw_base.specs.declared.content.Content.TheVariants.{Events}
@@ -17,9 +17,9 @@ use Rattle.tw_skiplist.specs.declared.fields.StepFields.{StepFields}
 use Rattle.tw_skiplist.specs.declared.limits.TheConstants.{MOST_PIECE_BYTES}
 use Rattle.tw_skiplist.specs.StepBytes.{step_page_bytes, event_page_bytes, stream, piece}
 
--- a step of these events, which adds no node; the archive has this root
+-- a step of these events, which has no time and adds no node; the archive has this root
 abbrev pub event_step : (root : ℕ) → List (List ℕ) → Step
-event_step root events = record { content = Events events; fresh = []; root = root }
+event_step root events = record { content = Events events; time = None; fresh = []; root = root }
 
 -- ---- where steps are kept
 

@@ -1,5 +1,5 @@
 -- What the fields and links of a step's page make of a path and of an opening.
-use Rattle.std.specs.Prelude.{◌≡◌, ℕ, suc, zero, ◌<◌, List, [], ◌∷◌, ◌++◌, length, remove}
+use Rattle.std.specs.Prelude.{◌≡◌, ℕ, suc, zero, ◌<◌, List, [], ◌∷◌, ◌++◌, length, remove, None}
 use Rattle.tw_disk.specs.Image.{Image}
 use Rattle.tw_base.specs.Texts.{datum_text, link_text}
 use Rattle.tw_skipproof.specs.declared.opening.Opening.{Opening}
@@ -34,6 +34,7 @@ module _ (dig : List ℕ → List ℕ) where
     event_root = f.event_root;
     archive_root = f.archive.label;
     count = f.count;
+    time = None;
     prev = (link_of links 0).auth;
     others = other_labels step (page_datum f) links 0;
   }

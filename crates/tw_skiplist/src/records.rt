@@ -98,6 +98,7 @@ fn opening_of_page<H: Hasher>(
         event_root: page.fields.event_root,
         archive_root: page.fields.archive.label,
         count: page.fields.count,
+        time: None,
         prev: link_at(links, 0).auth,
         others,
     })

@@ -1,5 +1,6 @@
 -- What the program writes of a verdict.
 use Rattle.std.specs.Prelude.{ℕ, List, [], ◌∷◌, ◌++◌, codes}
+use Rattle.std.specs.Option.{option_map_or}
 use Rattle.tw_base.specs.declared.report.Claim.{Claim}
 use Rattle.tw_base.specs.declared.report.Claim.TheVariants.{Exists}
 use Rattle.tw_base.specs.declared.report.Seen.{Seen}
@@ -18,9 +19,13 @@ abbrev pub event_line : Seen → List ℕ
 event_line seen =
     line (codes "event") (Named seen.place.service ∷ Number seen.place.step ∷ Number seen.place.index ∷ Hex seen.event ∷ [])
 
+-- the time that the maker of its step claims, where there is one
+abbrev pub time_line : Seen → List ℕ
+time_line seen = option_map_or (λ time. line (codes "time") (Named seen.place.service ∷ Number seen.place.step ∷ Number time ∷ [])) seen.time []
+
 -- the lines of a claim
 abbrev pub claim_text : Claim → List ℕ
-claim_text (Exists seen) = line (codes "accepted exists") [] ++ event_line seen
+claim_text (Exists seen) = line (codes "accepted exists") [] ++ (event_line seen ++ time_line seen)
 
 -- the report of an accepted proof
 abbrev pub report_text : Report → List ℕ

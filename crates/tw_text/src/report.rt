@@ -2,7 +2,7 @@
 
 ghost use Rattle.std.specs.Prelude.{◌≡◌, ◌++◌, OnOk, IfOk};
 ghost use Rattle.tw_text.specs.Lines.{fields_text};
-ghost use Rattle.tw_text.specs.Reports.{event_line, reason_fields, report_text, rejected_text};
+ghost use Rattle.tw_text.specs.Reports.{event_line, reason_fields, report_text, rejected_text, time_line};
 ghost use Rattle.tw_base.specs.Reasons.{reason_number as reason_number_of};
 ghost use Rattle.tw_text.specs.Reports.{reason_name as reason_name_of};
 
@@ -10,7 +10,8 @@ use crate::line::{put_hex, put_name, put_number, put_word};
 use std::alloc::Global;
 use tw_base::{Bytes, Claim, NoMemory, Reason, Report, Seen};
 
-/// The report of an accepted proof: what it claims, one line each.
+/// The report of an accepted proof: what it claims, one line each; behind the line of an event one
+/// of its step's time, where the step has one.
 pub fn print_report(alloc: Global, report: &Report) -> Result<Bytes, NoMemory>
     ensures { IfOk result (λ text. text ≡ report_text report.now) }
 {
@@ -19,6 +20,7 @@ pub fn print_report(alloc: Global, report: &Report) -> Result<Bytes, NoMemory>
         Claim::Exists(seen) => {
             text.extend_from_slice(b"accepted exists\n")?;
             put_event(alloc, &mut text, seen)?;
+            put_time(&mut text, seen)?;
         }
     }
     Ok(text)
@@ -47,6 +49,20 @@ fn put_event(alloc: Global, text: &mut Bytes, seen: &Seen) -> Result<(), NoMemor
     put_number(text, seen.place.step)?;
     put_number(text, seen.place.index as u64)?;
     put_hex(alloc, text, seen.event.as_slice())?;
+    text.extend_from_slice(b"\n")
+}
+
+/// Puts the line of the time that the event's step has, if any, at the text's end.
+fn put_time(text: &mut Bytes, seen: &Seen) -> Result<(), NoMemory>
+    ensures { OnOk result (text.new ≡ text.old ++ time_line seen.now) }
+{
+    let Some(time) = seen.time else {
+        return Ok(());
+    };
+    text.extend_from_slice(b"time")?;
+    put_name(text, &seen.place.service)?;
+    put_number(text, seen.place.step)?;
+    put_number(text, time)?;
     text.extend_from_slice(b"\n")
 }
 

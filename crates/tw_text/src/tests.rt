@@ -62,10 +62,10 @@ fn a_report_is_printed(rt: HostRuntime) -> Result<(), Fail> {
     let claim = Claim::Exists(Seen {
         place,
         event,
-        time: None,
+        time: Some(5),
     });
     let text = print_report(alloc, &Report { claim })?;
-    assert!(rt; is(&text, "accepted exists\nevent a 1 0 68690a\n"));
+    assert!(rt; is(&text, "accepted exists\nevent a 1 0 68690a\ntime a 1 5\n"));
     Ok(())
 }
 
