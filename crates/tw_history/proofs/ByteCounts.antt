@@ -1,48 +1,55 @@
 -- How many bytes events, nodes and steps have.
 use Rattle.std.proofs.Common.{◌≡◌, ℕ, ◌+◌, ◌*◌, List, [], ◌∷◌, ◌++◌, length, map, take, drop, flat_map, sum_by, refl, ap, arith}
+use Rattle.std.specs.Prelude.{Option, Some, None, true, false}
+use Rattle.std.specs.Option.{option_map_or}
 use Rattle.std.proofs.lemmas.List.{length-append, length-drop, length-map, length-take}
 use Rattle.std.proofs.lemmas.List.Sums.{sum_by-cons}
+use Rattle.tw_base.specs.declared.content.Content.{Content}
 use Rattle.tw_base.specs.declared.content.Content.TheVariants.{Events, Received}
 use Rattle.tw_base.specs.declared.thread.Thread.{Thread}
-use Rattle.tw_base.specs.Codecs.{behind, by_kind, bytes_codec, cased, counted, many, name_codec, number_codec, pair, seen, sized_codec}
+use Rattle.tw_base.specs.Codecs.{behind, by_kind, bytes_codec, cased, counted, many, name_codec, nothing, number_codec, pair, present, seen, sized_codec}
 use Rattle.tw_base.specs.Fields.{number_bytes}
 use Rattle.tw_base.specs.History.{History, Node}
-use Rattle.tw_base.specs.HistoryCodec.{content_codec, event_codec, history_bytes, history_codec, history_magic, node_codec, step_codec, thread_codec}
+use Rattle.tw_base.specs.HistoryCodec.{content_codec, event_codec, history_bytes, history_codec, history_magic, node_codec, recorded_codec, step_codec, thread_codec}
 use Rattle.tw_base.proofs.NumberLaws.{length-number_bytes}
 use Rattle.tw_history.specs.declared.step.Node.{Node as TableNode}
 use Rattle.tw_history.specs.declared.step.Step.{Step}
 use Rattle.tw_history.specs.Tables.{node_of, step_of, steps_of_table}
-use Rattle.tw_history.specs.WritingSteps.{step_size}
+use Rattle.tw_history.specs.WritingSteps.{has_events, step_size}
 
 pub event-size : (event : List ℕ) → length (event_codec.write event) ≡ 4 + length event
 unfolding sized_codec by_kind number_codec bytes_codec
 event-size event = omega (arith, length-append (number_bytes 4 (length event)) event, length-number_bytes 4 (length event))
 
-pub events-size : (events : List (List ℕ)) → length (content_codec.write (Events events)) ≡ 5 + length (flat_map event_codec.write events)
+pub events-size : (events : List (List ℕ)) → length ((content_codec true).write (Events events)) ≡ 4 + length (flat_map event_codec.write events)
 unfolding content_codec by_kind cased counted many number_codec
 events-size events =
-    let all : List ℕ = flat_map event_codec.write events in
-    omega (
-      arith,
-      length-append (number_bytes 1 1) (number_bytes 4 (length events) ++ all),
-      length-append (number_bytes 4 (length events)) all,
-      length-number_bytes 1 1,
-      length-number_bytes 4 (length events),
-    )
+    omega (arith, length-append (number_bytes 4 (length events)) (flat_map event_codec.write events), length-number_bytes 4 (length events))
 
-pub thread-size : (t : Thread) → length t.from ≡ 16 → length t.auth ≡ 32 → length (content_codec.write (Received t)) ≡ 57
-unfolding content_codec by_kind cased number_codec thread_codec seen pair name_codec bytes_codec
+pub thread-size : (t : Thread) → length t.from ≡ 16 → length t.auth ≡ 32 → length ((content_codec false).write (Received t)) ≡ 56
+unfolding content_codec cased number_codec thread_codec seen pair name_codec bytes_codec
 thread-size t from auth =
     omega (
       arith,
-      length-append (number_bytes 1 2) (t.from ++ (number_bytes 8 t.step ++ t.auth)),
       length-append t.from (number_bytes 8 t.step ++ t.auth),
       length-append (number_bytes 8 t.step) t.auth,
-      length-number_bytes 1 2,
       length-number_bytes 8 t.step,
       from,
       auth,
     )
+
+-- the kind has one byte, a time eight
+behind_kind : (kind : ℕ) (time content : List ℕ) → length (number_bytes 1 kind ++ (time ++ content)) ≡ 1 + length time + length content
+behind_kind kind time content = omega (arith, length-append (number_bytes 1 kind) (time ++ content), length-append time content, length-number_bytes 1 kind)
+
+pub recorded-size : (time : Option ℕ) (c : Content) → length (recorded_codec.write (time, c)) ≡ 1 + option_map_or (λ t. 8) time 0 + length ((content_codec (has_events c)).write c)
+unfolding recorded_codec by_kind pair nothing number_codec present
+recorded-size None (Events events) = behind_kind 1 [] ((content_codec true).write (Events events))
+recorded-size None (Received t) = behind_kind 2 [] ((content_codec false).write (Received t))
+recorded-size (Some time) (Events events) =
+    omega (arith, behind_kind 3 (number_bytes 8 time) ((content_codec true).write (Events events)), length-number_bytes 8 time)
+recorded-size (Some time) (Received t) =
+    omega (arith, behind_kind 4 (number_bytes 8 time) ((content_codec false).write (Received t)), length-number_bytes 8 time)
 
 node-size : (n : Node) → length (node_codec.write n) ≡ 16
 unfolding node_codec seen pair number_codec
@@ -63,13 +70,13 @@ nodes-size (n ∷ nodes) = omega (arith, length-append (node_codec.write n) (fla
 step-size : (s : Step) (fresh : List TableNode) → length fresh ≡ s.fresh → length (step_codec.write (step_of s fresh)) ≡ step_size s
 unfolding step_codec seen pair counted by_kind many number_codec
 step-size s fresh count =
-    let content : List ℕ = content_codec.write s.content in
+    let recorded : List ℕ = recorded_codec.write (s.time, s.content) in
     let number : List ℕ = number_bytes 2 (length (map node_of fresh)) in
     let nodes : List ℕ = flat_map node_codec.write (map node_of fresh) in
     let root : List ℕ = number_bytes 4 s.root in
     omega (
       arith,
-      length-append content ((number ++ nodes) ++ root),
+      length-append recorded ((number ++ nodes) ++ root),
       length-append (number ++ nodes) root,
       length-append number nodes,
       length-number_bytes 2 (length (map node_of fresh)),

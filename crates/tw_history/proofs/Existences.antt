@@ -3,6 +3,7 @@ use Rattle.std.proofs.Common.{ℕ, ◌<◌, ◌≤◌, [], length, ap, sym, ◌�
 use Rattle.std.specs.Prelude.{List}
 use Rattle.std.proofs.lemmas.Option.{get_or_from_slice_get}
 use Rattle.tw_base.specs.declared.limits.TheConstants.{LAST_STEP, MOST_EVENTS, MOST_EVENT_BYTES}
+use Rattle.tw_base.specs.Limits.{IsTimeWithinLimits}
 use Rattle.tw_base.specs.Lists.{Each}
 use Rattle.tw_base.specs.AuditPath.{ChecksEvent, path_length}
 use Rattle.tw_base.specs.EventTree.{audit_path, event_root}
@@ -22,13 +23,14 @@ module _ (dig : List ℕ → List ℕ) (h : History) (step index top : ℕ) (p :
   checks = ChecksEvent-audit_path dig (events_at h step) index p.event.event is.event
 
   pub IsExistenceInRange-few : step ≤ top → top ≤ LAST_STEP → length (events_at h step) ≤ MOST_EVENTS → Each (λ event. length event ≤ MOST_EVENT_BYTES) (events_at h step)
-      → IsExistenceInRange p
-  IsExistenceInRange-few order small few sizes =
+      → IsTimeWithinLimits p.at.opening.time → IsExistenceInRange p
+  IsExistenceInRange-few order small few sizes time =
       let inside : index < length (events_at h step) = checks.inside in
       record {
         step = omega (arith, order, small, is.at_step);
         top = omega (arith, small, is.at_top);
         count = omega (arith, few, is.opening.binds.count);
+        time = time;
         index = omega (arith, inside, is.at_index, is.opening.binds.count);
         event = subst (λ event. length event ≤ MOST_EVENT_BYTES) (get_or_from_slice_get (events_at h step) index p.event.event [] is.event)
             (Each-inside (λ event. length event ≤ MOST_EVENT_BYTES) (events_at h step) index [] inside sizes);

@@ -16,5 +16,4 @@ pub mod Planting
 pub mod Greatest
 pub mod EventSizes
 pub mod RulesJudged
-pub mod TableGrowth
 pub mod SoundFiles

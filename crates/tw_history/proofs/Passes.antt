@@ -6,10 +6,10 @@ use Rattle.std.proofs.Math.Nat.{mod-one, one-le-pow}
 use Rattle.std.proofs.lemmas.Bool.{cases_lt}
 use Rattle.tw_base.specs.declared.limits.TheConstants.{LAST_STEP}
 use Rattle.tw_base.specs.declared.thread.Entry.{Entry}
-use Rattle.tw_base.specs.Texts.{authenticator_text, datum_text, empty_tree_text, genesis_text}
+use Rattle.tw_base.specs.Texts.{authenticator_text, empty_tree_text, genesis_text, step_datum_text}
 use Rattle.tw_base.specs.Entries.{entry_text}
 use Rattle.tw_base.specs.EventTree.{event_root}
-use Rattle.tw_base.specs.History.{History, entry_to, events_at, events_of, fresh_of, root_of, step_at}
+use Rattle.tw_base.specs.History.{History, entry_to, events_at, events_of, fresh_of, root_of, step_at, time_at, time_of}
 use Rattle.tw_base.specs.History.{Node as NodeMeant, Step as StepMeant}
 use Rattle.tw_base.specs.Levels.{top_level}
 use Rattle.tw_base.specs.Tree.{Tree, branch, forest, planted, tree}
@@ -156,7 +156,7 @@ module _ (dig : List ℕ → List ℕ) where
       pub event_root : d.event_root ≡ event_root dig (events_at h step)
       pub archive_root : (trees : List Tree) → new.tree_labels ≡ map (tree_label dig) trees → get_or trees 0 Empty ≡ Empty
           → d.archive_root ≡ tree_label dig (get_or trees s.root Empty)
-      pub datum : d.datum ≡ dig (datum_text d.event_root d.archive_root (length (events_in s.content)))
+      pub datum : d.datum ≡ dig (step_datum_text d.event_root d.archive_root (length (events_in s.content)) s.time)
       pub labels : (earlier : List (List ℕ)) → AreReached step earlier old.latest
           → d.labels.items ≡ map dig (link_texts dig d.datum earlier step (suc (top_level step)))
       pub few : step ≤ LAST_STEP
@@ -181,9 +181,12 @@ module _ (dig : List ℕ → List ℕ) where
       events_are : events_in s.content ≡ events_at h (suc i)
       events_are = sym (events_of-content s.content s fresh refl) ∙ ap events_of (sym same_step)
 
+      time_is : s.time ≡ time_at h (suc i)
+      time_is = ap time_of (sym same_step)
+
       datum_is : d.datum ≡ dig (datum_text_at dig h (suc i))
       unfolding datum_text_at
-      datum_is = is.datum ∙ (λ k. dig (datum_text (is.event_root k) (archive_is k) (length (events_are k))))
+      datum_is = is.datum ∙ (λ k. dig (step_datum_text (is.event_root k) (archive_is k) (length (events_are k)) (time_is k)))
 
       own_labels : d.labels.items ≡ map dig (link_texts_at dig h (auths dig h i) (suc i))
       own_labels =

@@ -9,7 +9,7 @@ use Rattle.tw_base.specs.declared.thread.Thread.{Thread}
 use Rattle.tw_base.specs.declared.thread.Entry.{Entry}
 use Rattle.tw_base.specs.Lists.{Each, In}
 use Rattle.tw_base.specs.Names.{IsName}
-use Rattle.tw_base.specs.History.{History, Node, Step, entry_at, fresh_of, received, root_of, step_at, thread_of}
+use Rattle.tw_base.specs.History.{History, Node, Step, entry_at, fresh_of, received, root_of, step_at, thread_of, time_of, times}
 use Rattle.tw_base.specs.Rules.{NodesFit}
 use Rattle.tw_base.specs.Sound.{IsSound, IsSoundStep}
 use Rattle.tw_base.specs.Tree.{Tree, branch, entries, forest, new_trees, planted, tree}
@@ -21,32 +21,35 @@ use Rattle.tw_history.specs.declared.fault.HistoryFault.{HistoryFault}
 use Rattle.tw_history.specs.declared.fault.HistoryFault.TheVariants.{Malformed, NoMemory, TooLong, Unsound}
 use Rattle.tw_history.specs.declared.soundness.summary.Summary.{Summary}
 use Rattle.tw_history.specs.declared.soundness.Judged.{Judged}
-use Rattle.tw_history.specs.JudgingSteps.{IsGreatest, HasJudged, IsLater, TellsFirst, greatest_of, summary_of}
+use Rattle.tw_history.specs.JudgingSteps.{IsGreatest, IsGreatestTime, HasJudged, IsLater, TellsFirst, greatest_of, summary_of}
 use Rattle.tw_history.specs.Tables.{IsTable, node_of, step_of, steps_of_table}
 use Rattle.tw_history.specs.Refusals.{TellsRule}
 use Rattle.tw_base.specs.Rules.{KeepsRule, Rule, rule_number}
-use Rattle.tw_base.specs.Rules.Rule.{NodesAreKnown, TreesRise, HoldsAllThreads, IsOfAnother, StepsRise, EventsFit}
+use Rattle.tw_base.specs.Rules.Rule.{NodesAreKnown, TreesRise, HoldsAllThreads, IsOfAnother, StepsRise, EventsFit, TimesDontFall}
 use Rattle.tw_history.proofs.Planting.{Rises, forest-next}
 use Rattle.tw_history.proofs.TableLaws.{length-steps_of_table}
 use Rattle.tw_history.proofs.Summaries.{count-summary}
 
 -- each rule below the number, rule by rule
 pub lower_rules : (h : History) (i : ℕ) (s : Step) (n : ℕ) → (1 < n → KeepsRule h i s NodesAreKnown) → (2 < n → KeepsRule h i s TreesRise) → (3 < n → KeepsRule h i s HoldsAllThreads)
-    → (4 < n → KeepsRule h i s IsOfAnother) → (5 < n → KeepsRule h i s StepsRise) → (6 < n → KeepsRule h i s EventsFit) → (other : Rule) → rule_number other < n → KeepsRule h i s other
-lower_rules h i s n one two three four five six NodesAreKnown less = one less
-lower_rules h i s n one two three four five six TreesRise less = two less
-lower_rules h i s n one two three four five six HoldsAllThreads less = three less
-lower_rules h i s n one two three four five six IsOfAnother less = four less
-lower_rules h i s n one two three four five six StepsRise less = five less
-lower_rules h i s n one two three four five six EventsFit less = six less
+    → (4 < n → KeepsRule h i s IsOfAnother) → (5 < n → KeepsRule h i s StepsRise) → (6 < n → KeepsRule h i s EventsFit)
+    → (7 < n → KeepsRule h i s TimesDontFall) → (other : Rule) → rule_number other < n → KeepsRule h i s other
+lower_rules h i s n one two three four five six seven NodesAreKnown less = one less
+lower_rules h i s n one two three four five six seven TreesRise less = two less
+lower_rules h i s n one two three four five six seven HoldsAllThreads less = three less
+lower_rules h i s n one two three four five six seven IsOfAnother less = four less
+lower_rules h i s n one two three four five six seven StepsRise less = five less
+lower_rules h i s n one two three four five six seven EventsFit less = six less
+lower_rules h i s n one two three four five six seven TimesDontFall less = seven less
 
-pub number-below : (rule : Rule) → rule_number rule < 7
+pub number-below : (rule : Rule) → rule_number rule < 8
 number-below NodesAreKnown = omega arith
 number-below TreesRise = omega arith
 number-below HoldsAllThreads = omega arith
 number-below IsOfAnother = omega arith
 number-below StepsRise = omega arith
 number-below EventsFit = omega arith
+number-below TimesDontFall = omega arith
 
 -- the refusal by a rule that is broken
 pub refusal : (h : History) (i : ℕ) (s : Step) (P : Unit {0} → Type 0) (r : Result (Unit {0}) HistoryFault) (broken : Rule) → r ≡ Err (Unsound (i + 1) (rule_number broken))
@@ -88,6 +91,10 @@ module _ (h : History) (i : ℕ) (s : Step) (there : step_at h (suc i) ≡ Some 
   unfolding received
   received-next = ap (λ o. received h i ++ option_to_list o) (ap (λ o. option_and_then (λ t. Some (record { thread = t; archived = suc i })) (thread_of o)) there ∙ same_entry (suc i) (thread_of (Some s)))
 
+  pub times-next : times h (suc i) ≡ times h i ++ option_to_list s.time
+  unfolding times
+  times-next = ap (λ o. times h i ++ option_to_list (time_of o)) there
+
   pub count-received : (threads count : ℕ) → threads ≡ length (received h i) → count ≡ length (option_to_list (thread_of (Some s))) → threads + count ≡ length (received h (suc i))
   count-received threads count before new =
       let whole = ap length received-next ∙ length-append (received h i) (option_to_list (entry_of (suc i) (thread_of (Some s)))) in
@@ -123,24 +130,27 @@ module _ (h : History) (i : ℕ) (s : Step) (there : step_at h (suc i) ≡ Some 
 -- what is kept after a step that keeps each rule
 pub judged_next : (h : History) (i : ℕ) (s : Step) (before after : Judged) → step_at h (suc i) ≡ Some s → HasJudged h i before → KeepsRule h i s TreesRise
     → after.summaries.items ≡ map summary_of (forest h (suc i)) → after.threads ≡ length (received h (suc i))
-    → IsGreatest (received h i ++ option_to_list (entry_of (suc i) (thread_of (Some s)))) (greatest_of after.greatest) → HasJudged h (suc i) after
-judged_next h i s before after there judged rise kept counted greatest = record {
+    → IsGreatest (received h i ++ option_to_list (entry_of (suc i) (thread_of (Some s)))) (greatest_of after.greatest)
+    → IsGreatestTime (times h i ++ option_to_list s.time) after.time → HasJudged h (suc i) after
+judged_next h i s before after there judged rise kept counted greatest time = record {
   summaries = kept;
   rising = subst (Each Rises) (sym (forest-next h i)) (Each-append Rises (forest h i) (new_trees h i) judged.rising rise);
   threads = counted;
   greatest = subst (λ es. IsGreatest es (greatest_of after.greatest)) (sym (received-next h i s there)) greatest;
+  time = subst (λ ts. IsGreatestTime ts after.time) (sym (times-next h i s there)) time;
 }
 
 -- what is kept before the first step
 pub judged-none : (h : History) (judged : Judged) → judged.summaries.items ≡ summary_of Empty ∷ [] → judged.threads ≡ 0
-    → ((name : List ℕ) → greatest_of judged.greatest name ≡ None) → HasJudged h 0 judged
-unfolding forest received
-judged-none h judged kept none empty = record {
+    → ((name : List ℕ) → greatest_of judged.greatest name ≡ None) → judged.time ≡ 0 → HasJudged h 0 judged
+unfolding forest received times
+judged-none h judged kept none empty time = record {
   summaries = kept;
   rising = (tt, tt);
   threads = none;
   greatest = λ name. subst (λ o. MatchOption o (Each (λ (e : Entry). e.thread.from ≢ name) [])
       (λ step. ((e : Entry) × In e [] × (e.thread.from ≡ name) × (e.thread.step ≡ step)) × Each (λ (e : Entry). e.thread.from ≡ name → e.thread.step ≤ step) [])) (sym (empty name)) tt;
+  time = λ n. ((λ least. tt), (λ each. omega (arith, time)));
 }
 
 -- the rules as the code tests them, of a step of the table with its new nodes

@@ -8,7 +8,7 @@ use Rattle.std.proofs.lemmas.Option.{slice_get_past}
 use Rattle.tw_base.specs.declared.thread.Thread.{Thread}
 use Rattle.tw_base.specs.declared.thread.Entry.{Entry}
 use Rattle.tw_base.specs.Lists.{Each}
-use Rattle.tw_base.specs.History.{History, entry_at, entry_to, events_at, events_of, fresh_of, step_at, thread_of}
+use Rattle.tw_base.specs.History.{History, entry_at, entry_to, events_at, events_of, fresh_of, step_at, thread_of, time_at, time_of}
 use Rattle.tw_base.specs.History.{Node as NodeMeant, Step as StepMeant}
 use Rattle.tw_base.specs.Tree.{Tree, forest, planted}
 use Rattle.tw_base.specs.declared.content.Content.{Content}
@@ -69,6 +69,9 @@ module _ (h : History) (steps : List Step) (nodes : List Node) (is : h.steps ≡
 
   pub thread_at-table : (i : ℕ) (d : Step) → i < length steps → thread_of (step_at h (i + 1)) ≡ thread_in (get_or steps i d).content
   thread_at-table i d inside = ap (λ n. thread_of (step_at h n)) (add-one i) ∙ ap thread_of (step_at-table i d inside) ∙ thread_of-content (get_or steps i d).content (get_or steps i d) (take (get_or steps i d).fresh (drop (nodes_of_first steps i) nodes)) refl
+
+  pub time_at-table : (i : ℕ) (d : Step) → i < length steps → time_at h (i + 1) ≡ (get_or steps i d).time
+  time_at-table i d inside = ap (time_at h) (add-one i) ∙ ap time_of (step_at-table i d inside)
 
   length-fresh : sum_by (λ s. s.fresh) steps ≡ length nodes → (i : ℕ) (d : Step) → i < length steps
       → length (fresh_of (step_at h (suc i))) ≡ (get_or steps i d).fresh

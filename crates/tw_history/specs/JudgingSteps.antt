@@ -1,5 +1,5 @@
 -- What is kept of the steps that were judged, so that a step is judged without a walk over any tree.
-use Rattle.std.specs.Prelude.{◌≡◌, ◌≢◌, ℕ, suc, ◌<◌, ◌≤◌, ◌-◌, ◌^◌, min, List, [], ◌∷◌, length, map, Option, Some, MatchOption}
+use Rattle.std.specs.Prelude.{◌≡◌, ◌≢◌, ◌↔◌, ℕ, suc, ◌<◌, ◌≤◌, ◌-◌, ◌^◌, min, List, [], ◌∷◌, length, map, Option, Some, MatchOption}
 use Rattle.std.specs.Ordering.{nat_cmp}
 use Rattle.std.specs.Cmp.Lexicographic.{slice_cmp}
 use Rattle.std.specs.BTreeMap.{get}
@@ -7,7 +7,7 @@ use Rattle.tw_base.specs.declared.thread.Entry.{Entry}
 use Rattle.tw_base.specs.declared.thread.Key.{Key}
 use Rattle.tw_base.specs.declared.thread.Thread.{Thread}
 use Rattle.tw_base.specs.Lists.{Each, In}
-use Rattle.tw_base.specs.History.{History, Step, entry_at, received}
+use Rattle.tw_base.specs.History.{History, Step, entry_at, received, times}
 use Rattle.tw_base.specs.Tree.{IsRising, Tree, entries, forest}
 use Rattle.tw_history.specs.declared.soundness.summary.Summary.{Summary}
 use Rattle.tw_history.specs.declared.soundness.greatest.GreatestSteps.{GreatestSteps}
@@ -56,13 +56,18 @@ IsGreatest es greatest =
     (name : List ℕ) → MatchOption (greatest name) (Each (λ e. e.thread.from ≢ name) es)
     (λ step. ((e : Entry) × In e es × (e.thread.from ≡ name) × (e.thread.step ≡ step)) × Each (λ e. e.thread.from ≡ name → e.thread.step ≤ step) es)
 
--- what is kept of a history's steps up to i: a summary of each tree by its number, how many threads were received, and the
--- greatest step of each service; each tree so far rises
+-- the greatest of the times, 0 where there is none: the least number that none of them is above
+abbrev pub IsGreatestTime : (times : List ℕ) (greatest : ℕ) → Type 0
+IsGreatestTime times greatest = (n : ℕ) → (greatest ≤ n) ↔ Each (λ t. t ≤ n) times
+
+-- what is kept of a history's steps up to i: a summary of each tree by its number, how many threads were received, the
+-- greatest step of each service, and the greatest time; each tree so far rises
 pub record HasJudged (h : History) (i : ℕ) (judged : Judged) : Type 0 where
   pub summaries : judged.summaries.items ≡ map summary_of (forest h i)
   pub rising : Each (λ t. IsRising (entries t)) (forest h i)
   pub threads : judged.threads ≡ length (received h i)
   pub greatest : IsGreatest (received h i) (greatest_of judged.greatest)
+  pub time : IsGreatestTime (times h i) judged.time
 
 -- why step i + 1, which is s, isn't sound: the first rule that it breaks
 abbrev pub TellsFirst : (h : History) (i : ℕ) (s : Step) → HistoryFault → Type 0

@@ -3,6 +3,7 @@ use Rattle.std.specs.Prelude.{◌≡◌, ◌<◌, ◌≤◌, ◌^◌, List, [], 
 use Rattle.tw_base.specs.declared.content.Content.{Content}
 use Rattle.tw_base.specs.declared.content.Content.TheVariants.{Events, Received}
 use Rattle.tw_base.specs.declared.limits.TheConstants.{LAST_STEP, MOST_EVENTS, MOST_EVENT_BYTES}
+use Rattle.tw_base.specs.Limits.{IsTimeWithinLimits}
 use Rattle.tw_base.specs.Lists.{Each}
 use Rattle.tw_base.specs.History.{Step as StepMeant, Node as NodeMeant}
 use Rattle.tw_history.specs.declared.step.Step.{Step}
@@ -13,7 +14,7 @@ node_of n = record { left = n.left; entry = n.entry; right = n.right }
 
 -- a step with the nodes that it adds
 abbrev pub step_of : Step → List Node → StepMeant
-step_of s fresh = record { content = s.content; fresh = map node_of fresh; root = s.root }
+step_of s fresh = record { content = s.content; time = s.time; fresh = map node_of fresh; root = s.root }
 
 -- each step takes the next of the nodes, as many as it counts
 abbrev pub steps_of_table : List Step → List Node → List StepMeant
@@ -34,4 +35,5 @@ pub record IsTable (steps : List Step) (nodes : List Node) : Type 0 where
   pub counted : sum_by (λ s. s.fresh) steps ≡ length nodes
   pub few : length steps ≤ LAST_STEP
   pub contents : Each (λ s. IsInRange s.content) steps
+  pub times : Each (λ s. IsTimeWithinLimits s.time) steps
   pub entries : Each (λ n. n.entry < 2 ^ 64) nodes

@@ -1,8 +1,15 @@
--- How many bytes a step has.
-use Rattle.std.specs.Prelude.{ℕ, ◌+◌, ◌*◌, length}
-use Rattle.tw_base.specs.HistoryCodec.{content_codec}
+-- What a step of a table is written as, and how many bytes it has.
+use Rattle.std.specs.Prelude.{ℕ, ◌+◌, ◌*◌, length, Bool, true, false}
+use Rattle.tw_base.specs.HistoryCodec.{recorded_codec}
+use Rattle.tw_base.specs.declared.content.Content.{Content}
+use Rattle.tw_base.specs.declared.content.Content.TheVariants.{Events, Received}
 use Rattle.tw_history.specs.declared.step.Step.{Step}
 
--- the number of bytes of a step of a table: its content, its nodes, and their number and the root
+-- whether a step records events, and not a thread
+abbrev pub has_events : Content → Bool
+has_events (Events events) = true
+has_events (Received t) = false
+
+-- the number of bytes of a step of a table: what it records, its nodes, and their number and the root
 abbrev pub step_size : Step → ℕ
-step_size s = length (content_codec.write s.content) + 16 * s.fresh + 6
+step_size s = length (recorded_codec.write (s.time, s.content)) + 16 * s.fresh + 6

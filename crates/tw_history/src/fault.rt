@@ -9,7 +9,7 @@ pub enum HistoryFault {
     /// counted from 0, or the number of the bytes where they end too early.
     Malformed { place: u64 },
     /// The history isn't sound: the step, counted from 1, is the first that breaks a rule, and the
-    /// rule, 1 to 6, is the first that it breaks.
+    /// rule, 1 to 7, is the first that it breaks.
     Unsound { step: u64, rule: u8 },
     /// The file has, or would have, so many bytes, which are more than 67,108,864.
     TooLong { bytes: u64 },

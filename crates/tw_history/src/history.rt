@@ -10,8 +10,8 @@ use tw_base::Name;
 /// A history: a service's name, its steps, and the nodes of its archive's trees, which each step
 /// takes in turn, as many as it counts. The counts add up to the number of nodes, and every field is
 /// in the range that a history file gives it: at most 2^40 - 1 steps, at most 1,024 events a step,
-/// each of at most 1,024 bytes, the step of a thread 1 to 2^40 - 1, that of a node's entry any of 64
-/// bits. Contracts see it as the history that it stands for.
+/// each of at most 1,024 bytes, the step of a thread 1 to 2^40 - 1, a time at most 2^40 - 1, the step
+/// of a node's entry any of 64 bits. Contracts see it as the history that it stands for.
 #[derive(Drop, Debug)]
 pub struct History {
     pub(crate) name: Name,

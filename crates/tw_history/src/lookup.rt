@@ -1,7 +1,8 @@
 // What a history has at a step.
 
 ghost use Rattle.std.specs.Prelude.{◌≡◌, ◌+◌, ◌^◌, ◌<◌, ◌≤◌, length, take, sum_by, Some, slice_get, IfNone, IfSome, OnSome};
-ghost use Rattle.tw_base.specs.History.{entry_to, events_at, step_at, thread_of};
+ghost use Rattle.tw_base.specs.History.{entry_to, events_at, step_at, thread_of, time_at};
+ghost use Rattle.tw_base.specs.Limits.{IsTimeWithinLimits};
 ghost use Rattle.tw_base.specs.Lists.{Each};
 ghost use Rattle.tw_base.specs.Tree.{forest};
 ghost use Rattle.tw_history.specs.Tables.{IsInRange, IsTable, step_of, steps_of_table};
@@ -72,6 +73,16 @@ pub(crate) fn content_behind(history: &History, index: u64) -> &Content
 {
     let (steps, _) = table_of(history);
     &steps[index as usize].content
+}
+
+/// The time of the step behind the first `index` steps, if it has one.
+pub(crate) fn time_behind(history: &History, index: u64) -> Option<u64>
+    requires { index < length history.now.steps }
+    ensures time { result ≡ time_at history.now (index + 1) }
+    ensures limit { IsTimeWithinLimits result }
+{
+    let (steps, _) = table_of(history);
+    steps[index as usize].time
 }
 
 /// The content of the step, if the history has it: the steps count from 1.

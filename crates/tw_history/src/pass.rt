@@ -132,6 +132,7 @@ pub(crate) fn pass_step<H: Hasher>(
         event_root,
         *label_of_tree(digests.tree_labels.as_slice(), step.root),
         count_of_events(&step.content),
+        step.time,
         &digests.latest,
     );
     let auth = authenticator::<H>(index + 1, passed.labels.as_slice());

@@ -4,6 +4,7 @@ ghost use Rattle.std.specs.Prelude.{◌≡◌, ℕ, ◌+◌, ◌^◌, ◌<◌, �
 ghost use Rattle.tw_base.specs.declared.limits.TheConstants.{LAST_STEP};
 ghost use Rattle.tw_base.specs.Codecs.{counted, many};
 ghost use Rattle.tw_base.specs.HistoryCodec.{node_codec, step_codec};
+ghost use Rattle.tw_base.specs.Limits.{IsTimeWithinLimits};
 ghost use Rattle.tw_base.specs.Lists.{Each};
 ghost use Rattle.tw_base.specs.Taking.{Takes};
 ghost use Rattle.tw_history.specs.declared.reading_steps.Table.{Table};
@@ -13,7 +14,7 @@ ghost use Rattle.tw_history.specs.Tables.{IsInRange, IsTable, added, node_of, st
 use crate::step::{Node, Nodes, Step, Steps};
 use std::alloc::Global;
 use tw_base::limits::LAST_STEP;
-use tw_base::{ReadFault, take_content, take_number};
+use tw_base::{ReadFault, take_number, take_recorded};
 
 /// The steps read so far, and their nodes.
 #[derive(Drop)]
@@ -82,13 +83,15 @@ fn take_step(
     ensures kept { IfOk result (λ _. nodes.new ≡ nodes.old ++ added nodes.old nodes.new) }
     ensures count { IfOk result (λ s. length nodes.new ≡ length nodes.old + s.fresh) }
     ensures content { IfOk result (λ s. IsInRange s.content) }
+    ensures time { IfOk result (λ s. IsTimeWithinLimits s.time) }
     ensures entries { IfOk result (λ _. Each (λ n. n.entry < 2 ^ 64) nodes.new) }
 {
-    let content = take_content(alloc, bytes, at)?;
+    let (time, content) = take_recorded(alloc, bytes, at)?;
     let fresh = take_fresh(bytes, at, nodes)?;
     let root = take_number(bytes, at, 4, 0, u32::MAX as u64)?;
     Ok(Step {
         content,
+        time,
         fresh,
         root: root as u32,
     })

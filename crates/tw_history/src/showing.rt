@@ -5,6 +5,7 @@ ghost use Rattle.tw_skipproof.specs.declared.existence.ExistenceProof.{Existence
 ghost use Rattle.tw_base.specs.Auth.{auth};
 ghost use Rattle.tw_base.specs.EventTree.{event_root as event_root_of};
 ghost use Rattle.tw_base.specs.History.{events_at};
+ghost use Rattle.tw_base.specs.Limits.{IsTimeWithinLimits};
 ghost use Rattle.tw_base.specs.Lists.{Each};
 ghost use Rattle.tw_base.specs.Formats.{Spells};
 ghost use Rattle.tw_skipproof.specs.Acceptance.{IsAcceptedUnder};
@@ -18,7 +19,7 @@ ghost use Rattle.tw_base.specs.declared.limits.TheConstants.{LAST_STEP, MOST_EVE
 use crate::event_part::{event_part, root_over};
 use crate::fault::ShowFault;
 use crate::history::History;
-use crate::lookup::{content_at, content_behind, count_of_steps};
+use crate::lookup::{content_at, content_behind, count_of_steps, time_behind};
 use crate::pass::{Digests, auth_passed, begin, pass_step, pass_steps};
 use crate::path_links::path_links;
 use crate::step_digests::{count_of_events, opening_with};
@@ -77,13 +78,15 @@ fn opening_of<H: Hasher>(
     requires begun { HasPassed H.dig history.now 0 digests.old }
     requires event_root { event_root ≡ event_root_of H.dig (events_at history.now step) }
     ensures opening { IfOk result (IsOpeningOf H.dig history.now step) }
+    ensures time { IfOk result (λ opening. IsTimeWithinLimits opening.time) }
     ensures passed { OnOk result (HasPassed H.dig history.now step digests.new) }
 {
     pass_steps::<H>(history, 0, step - 1, digests)?;
     let prev = auth_passed(digests);
     let passed = pass_step::<H>(history, step - 1, event_root, digests)?;
     let count = count_of_events(content_behind(history, step - 1));
-    opening_with(alloc, &passed, count, prev)
+    let time = time_behind(history, step - 1);
+    opening_with(alloc, &passed, count, time, prev)
 }
 
 /// The step, of whose events this is the root, under the history's last step.
@@ -99,6 +102,7 @@ fn part_of<H: Hasher>(
     ensures place { IfOk result (λ part. (part.service ≡ history.now.name) × (part.step ≡ step) × (part.top ≡ length history.now.steps)) }
     ensures path { IfOk result (λ part. IsPathOf H.dig history.now part.path.links (length history.now.steps) step) }
     ensures opening { IfOk result (λ part. IsOpeningOf H.dig history.now step part.opening) }
+    ensures time { IfOk result (λ part. IsTimeWithinLimits part.opening.time) }
     ensures few { OnOk result (length history.now.steps ≤ LAST_STEP) }
 {
     let top = count_of_steps(history);
@@ -129,6 +133,7 @@ fn existence_of<H: Hasher>(
     requires few { length events.now ≤ MOST_EVENTS }
     requires small { Each (λ event. length event ≤ MOST_EVENT_BYTES) events.now }
     ensures existence { IfOk result (IsExistenceOf H.dig history.now step index (length history.now.steps)) }
+    ensures time { IfOk result (λ proof. IsTimeWithinLimits proof.at.opening.time) }
     ensures few { OnOk result (length history.now.steps ≤ LAST_STEP) }
 {
     let event = event_part::<H>(alloc, events, index)?;

@@ -1,10 +1,11 @@
 // How many bytes the file of a history has.
 
 ghost use Rattle.std.specs.Prelude.{◌≡◌, ◌+◌, ◌*◌, ◌<◌, ◌≤◌, ◌^◌, length, sum_by};
+ghost use Rattle.std.specs.Option.{option_map_or};
 ghost use Rattle.tw_base.specs.Lists.{Each};
-ghost use Rattle.tw_base.specs.HistoryCodec.{content_codec, event_codec, history_bytes};
+ghost use Rattle.tw_base.specs.HistoryCodec.{content_codec, event_codec, history_bytes, recorded_codec};
 ghost use Rattle.tw_history.specs.Tables.{IsInRange};
-ghost use Rattle.tw_history.specs.WritingSteps.{step_size as step_size_of};
+ghost use Rattle.tw_history.specs.WritingSteps.{has_events, step_size as step_size_of};
 ghost use Rattle.tw_base.specs.declared.limits.TheConstants.{LAST_STEP, MOST_EVENTS, MOST_EVENT_BYTES};
 
 use crate::history::History;
@@ -39,22 +40,42 @@ fn step_size(step: &Step) -> u64
     ensures size { result ≡ step_size_of step.now }
     ensures small { result < 2 ^ 22 }
 {
-    content_size(&step.content) + 16 * step.fresh as u64 + 6
+    recorded_size(step.time, &step.content) + 16 * step.fresh as u64 + 6
 }
 
-/// The number of bytes of the content behind its kind.
+/// The number of bytes of what a step records: its kind, its time, if any, and its content.
+fn recorded_size(time: Option<u64>, content: &Content) -> u64
+    requires { IsInRange content.now }
+    ensures size { result ≡ length (recorded_codec.write (time, content.now)) }
+    ensures small { result < 2 ^ 21 + 9 }
+{
+    1 + time_size(time) + content_size(content)
+}
+
+/// The number of bytes of the time, if there is one.
+fn time_size(time: Option<u64>) -> u64
+    ensures size { result ≡ option_map_or (λ _. 8) time 0 }
+    ensures small { result ≤ 8 }
+{
+    match time {
+        Some(_) => 8,
+        None => 0,
+    }
+}
+
+/// The number of bytes of the content.
 fn content_size(content: &Content) -> u64
     requires { IsInRange content.now }
-    ensures size { result ≡ length (content_codec.write content.now) }
+    ensures size { result ≡ length ((content_codec (has_events content.now)).write content.now) }
     ensures small { result < 2 ^ 21 }
 {
     match content {
-        Content::Events(events) => 5 + events_size(events.as_slice()),
+        Content::Events(events) => 4 + events_size(events.as_slice()),
         Content::Received(thread) => {
             let thread = thread.get();
             let name = thread.from.as_bytes();
             let auth = &thread.auth.0;
-            9 + name.len() as u64 + auth.len() as u64
+            8 + name.len() as u64 + auth.len() as u64
         }
     }
 }

@@ -2,6 +2,7 @@
 
 ghost use Rattle.std.specs.Prelude.{◌≡◌, ℕ, suc, ◌<◌, ◌≤◌, length, Some, Err, IfOk, MatchResult};
 ghost use Rattle.tw_base.specs.History.{History as HistoryMeant, Step as StepMeant, step_at};
+ghost use Rattle.tw_base.specs.Limits.{IsTimeWithinLimits};
 ghost use Rattle.tw_base.specs.Sound.{IsSound, IsSoundStep};
 ghost use Rattle.tw_history.specs.JudgingSteps.{HasJudged, TellsFirst};
 ghost use Rattle.tw_history.specs.Tables.{IsInRange, IsTable, step_of, steps_of_table};
@@ -13,6 +14,7 @@ mod keys;
 mod nodes;
 mod summary;
 mod threads;
+mod times;
 
 use crate::fault::HistoryFault;
 use crate::history::History;
@@ -22,6 +24,7 @@ use nodes::{names_known, plant};
 use std::alloc::Global;
 use summary::Summary;
 use threads::{count, events_fit, is_later, is_of_another, limits_law, received_thread};
+use times::{doesnt_fall, greatest_with};
 use tw_base::NoMemory;
 
 /// What is kept of the steps that were judged.
@@ -33,9 +36,11 @@ pub(crate) struct Judged {
     threads: u64,
     /// Of each service the greatest step that was received.
     greatest: GreatestSteps,
+    /// The greatest time, 0 where there is none.
+    time: u64,
 }
 
-/// Whether the history keeps the six rules; Ok exactly where it is sound. Unsound tells the least step
+/// Whether the history keeps the seven rules; Ok exactly where it is sound. Unsound tells the least step
 /// that breaks a rule, and then the least rule that it breaks:
 ///
 /// 1. Each new node names nodes before it and a step, up to this one, that received a thread; the root
@@ -45,6 +50,7 @@ pub(crate) struct Judged {
 /// 4. A received thread is of another service.
 /// 5. Its step is above every earlier one of that service.
 /// 6. The events of the step have together at most 65,536 bytes.
+/// 7. Its time isn't below that of an earlier step.
 ///
 /// The time is near linear in the history: no tree is walked, each node is judged by what its sides
 /// hold.
@@ -73,6 +79,7 @@ impl Judged {
             summaries,
             threads: 0,
             greatest: GreatestSteps::new(alloc),
+            time: 0,
         })
     }
 }
@@ -112,6 +119,7 @@ fn judge_step(
     requires there { step_at history.now (suc earlier) ≡ Some (step_of step.now fresh.now) }
     requires counted { length fresh.now ≡ step.now.fresh }
     requires content { IsInRange step.now.content }
+    requires time { IsTimeWithinLimits step.now.time }
     requires few { suc earlier ≤ LAST_STEP }
     requires judged { HasJudged history.now earlier judged.old }
     ensures { MatchResult result
@@ -140,8 +148,12 @@ fn judge_step(
     if !events_fit(step) {
         return unsound(number, 6);
     }
+    if !doesnt_fall(judged.time, step.time) {
+        return unsound(number, 7);
+    }
     limits_law(&step.content);
     judged.threads = threads;
+    judged.time = greatest_with(judged.time, step.time);
     judged.greatest.add(&thread)?;
     Ok(())
 }

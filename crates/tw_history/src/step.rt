@@ -6,6 +6,8 @@ use tw_base::{Content, Sequence};
 #[derive(Drop, Debug)]
 pub struct Step {
     pub content: Content,
+    /// The time in seconds that the step's maker claims, at most 2^40 - 1; None where it claims none.
+    pub time: Option<u64>,
     /// How many nodes the step adds to the archive: the next of the history's nodes.
     pub fresh: u16,
     /// The number of the archive's root after the step: 0 for the empty tree, else that of a node,

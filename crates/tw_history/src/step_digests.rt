@@ -4,14 +4,16 @@ ghost use Rattle.std.specs.Prelude.{◌≡◌, ℕ, suc, ◌+◌, ◌<◌, ◌�
 ghost use Rattle.tw_base.specs.Auth.{link_texts};
 ghost use Rattle.tw_base.specs.EventTree.{event_root as event_root_of};
 ghost use Rattle.tw_base.specs.Levels.{top_level as top_level_of};
-ghost use Rattle.tw_base.specs.Texts.{datum_text};
+ghost use Rattle.tw_base.specs.Texts.{step_datum_text};
 ghost use Rattle.tw_history.specs.Tables.{IsInRange};
 ghost use Rattle.tw_history.specs.PassSteps.{AreReached, events_in};
 ghost use Rattle.tw_base.specs.declared.limits.TheConstants.{LAST_STEP};
 
 use arrayvec::ArrayVec;
 use std::alloc::Global;
-use tw_base::{Content, Digest, Hasher, Labels, NoMemory, datum, link_label, no_events, top_level};
+use tw_base::{
+    Content, Digest, Hasher, Labels, NoMemory, link_label, no_events, step_datum, top_level,
+};
 use tw_events::event_root;
 use tw_skipproof::{Link, Opening};
 
@@ -74,24 +76,25 @@ pub(crate) fn link_labels<H: Hasher>(
     labels
 }
 
-/// The digests of a step with this root and count of events and this label of its archive, over the
-/// authenticators that its links lead to.
+/// The digests of a step with this root and count of events, this label of its archive and this time,
+/// if any, over the authenticators that its links lead to.
 pub(crate) fn digests_of_step<H: Hasher>(
     step: u64,
     event_root: Digest,
     archive_root: Digest,
     count: u32,
+    time: Option<u64>,
     latest: &[Digest; 40],
 ) -> StepDigests
     requires from_1 { 0 < step }
     requires step { step ≤ LAST_STEP }
     ensures event_root { result.event_root ≡ event_root }
     ensures archive_root { result.archive_root ≡ archive_root }
-    ensures datum { result.datum ≡ H.dig (datum_text result.event_root result.archive_root count) }
+    ensures datum { result.datum ≡ H.dig (step_datum_text result.event_root result.archive_root count time) }
     ensures labels { (earlier : List (List ℕ)) → AreReached step earlier latest.now →
         result.labels.items ≡ map H.dig (link_texts H.dig result.datum earlier step (suc (top_level_of step))) }
 {
-    let datum = datum::<H>(&event_root, &archive_root, count);
+    let datum = step_datum::<H>(&event_root, &archive_root, count, time);
     let labels = link_labels::<H>(step, &datum, latest);
     StepDigests {
         event_root,
@@ -114,23 +117,26 @@ pub(crate) fn link_at(alloc: Global, digests: &StepDigests, level: u8) -> Result
     })
 }
 
-/// The opening of the step, with its count of events and the authenticator of the step before it.
+/// The opening of the step, with its count of events, its time, if any, and the authenticator of the
+/// step before it.
 pub(crate) fn opening_with(
     alloc: Global,
     digests: &StepDigests,
     count: u32,
+    time: Option<u64>,
     prev: Digest,
 ) -> Result<Opening, NoMemory>
     requires { 0 < length digests.now.labels.items }
     ensures digests { IfOk result (λ o. (o.event_root ≡ digests.now.event_root) × (o.archive_root ≡ digests.now.archive_root)
         × (o.others ≡ drop 1 digests.now.labels.items)) }
-    ensures given { IfOk result (λ o. (o.count ≡ count) × (o.prev ≡ prev)) }
+    ensures given { IfOk result (λ o. (o.count ≡ count) × (o.time ≡ time) × (o.prev ≡ prev)) }
 {
     let others = Vec::from_slice(alloc, &digests.labels.as_slice()[1..])?;
     Ok(Opening {
         event_root: digests.event_root,
         archive_root: digests.archive_root,
         count,
+        time,
         prev,
         others: Labels::from_vec(others),
     })

@@ -10,6 +10,26 @@ fn event_file() -> &'static [u8] {
     b"TWH1a\0\0\0\0\0\0\0\0\0\0\0\0\0\0\0\0\0\0\0\0\0\0\x01\x01\0\0\0\x01\0\0\0\0\0\0\0\0\0\0"
 }
 
+/// The file of the history of the service `a` with one step, of one event of no bytes, at the time 5.
+fn timed_file() -> &'static [u8] {
+    b"TWH1a\0\0\0\0\0\0\0\0\0\0\0\0\0\0\0\0\0\0\0\0\0\0\x01\x03\0\0\0\0\0\0\0\x05\0\0\0\x01\0\0\0\0\0\0\0\0\0\0"
+}
+
+/// The file of the history of the service `a` with three steps without events, of which the first
+/// has the time 5, the second none, and the third the time 4.
+fn falling_file(alloc: Global) -> Result<Bytes, NoMemory> {
+    let mut file = Bytes::new(alloc);
+    file.extend_from_slice(b"TWH1a")?;
+    file.extend_from_slice(&[0; 22])?;
+    file.extend_from_slice(&[3, 3, 0, 0, 0, 0, 0, 0, 0, 5])?;
+    file.extend_from_slice(&[0; 10])?;
+    file.extend_from_slice(&[1])?;
+    file.extend_from_slice(&[0; 10])?;
+    file.extend_from_slice(&[3, 0, 0, 0, 0, 0, 0, 0, 4])?;
+    file.extend_from_slice(&[0; 10])?;
+    Ok(file)
+}
+
 /// The file of the history of the service `b` with one step, which received step 1 of the service
 /// `a`, with its node.
 fn thread_file(alloc: Global) -> Result<Bytes, NoMemory> {
@@ -47,6 +67,26 @@ fn a_step_of_an_event(rt: HostRuntime) -> Result<(), Fail> {
     assert!(rt; written.as_slice() == event_file());
     assert_eq!(rt; auth_of::<Weak>(alloc, &history, 1)?, Some(short(0xbf)));
     assert!(rt; show_event::<Weak>(alloc, &history, 1, 0)?.len() == 145);
+    Ok(())
+}
+
+#[test]
+fn a_step_with_a_time(rt: HostRuntime) -> Result<(), Fail> {
+    let alloc = rt.alloc();
+    let (history, written) = read_and_written(alloc, timed_file())?;
+    assert!(rt; written.as_slice() == timed_file());
+    assert_eq!(rt; auth_of::<Weak>(alloc, &history, 1)?, Some(short(0xc7)));
+    assert!(rt; show_event::<Weak>(alloc, &history, 1, 0)?.len() == 153);
+    Ok(())
+}
+
+#[test]
+fn times_that_fall(rt: HostRuntime) -> Result<(), Fail> {
+    let file = falling_file(rt.alloc())?;
+    match read_history(rt.alloc(), file.as_slice()) {
+        Ok(_) => panic!(rt; "times that fall"),
+        Err(fault) => assert_eq!(rt; fault, HistoryFault::Unsound { step: 3, rule: 7 }),
+    }
     Ok(())
 }
 

@@ -1,12 +1,17 @@
 // Writing history files.
 
-ghost use Rattle.std.specs.Prelude.{◌≡◌, ◌<◌, ◌≤◌, ◌^◌, [], ◌++◌, flat_map, length, map, sum_by, IfOk, IfErr, OnOk};
-ghost use Rattle.tw_base.specs.declared.limits.TheConstants.{MOST_EVENT_BYTES};
+ghost use Rattle.std.specs.Prelude.{◌≡◌, ◌<◌, ◌≤◌, ◌^◌, length, map, sum_by, IfOk, IfErr};
+ghost use Rattle.tw_base.specs.declared.limits.TheConstants.{LAST_STEP, MOST_EVENT_BYTES};
+ghost use Rattle.tw_base.specs.Codecs.{many};
 ghost use Rattle.tw_base.specs.Formats.{Spells};
-ghost use Rattle.tw_base.specs.HistoryCodec.{content_codec, event_codec, history_bytes, history_codec, history_layout, node_codec, step_codec};
+ghost use Rattle.tw_base.specs.HistoryCodec.{content_codec, event_codec, history_bytes, history_codec, history_layout, node_codec, recorded_codec, step_codec, thread_codec};
+ghost use Rattle.tw_base.specs.HistoryCodec.{kind_of as kind_of_recorded};
+ghost use Rattle.tw_base.specs.Limits.{IsTimeWithinLimits};
 ghost use Rattle.tw_base.specs.Lists.{Each};
+ghost use Rattle.tw_base.specs.Taking.{Puts};
 ghost use Rattle.tw_history.specs.Refusals.{TellsLength};
 ghost use Rattle.tw_history.specs.Tables.{IsInRange, node_of, step_of, steps_of_table};
+ghost use Rattle.tw_history.specs.WritingSteps.{has_events};
 
 use crate::fault::HistoryFault;
 use crate::history::History;
@@ -14,13 +19,16 @@ use crate::sizes::file_size;
 use crate::step::{Node, Step};
 use std::alloc::Global;
 use tw_base::limits::MOST_HISTORY_BYTES;
-use tw_base::{Bytes, Content, NoMemory, put_digest, put_name, put_number, put_sized, put_text};
+use tw_base::{
+    Bytes, Content, NoMemory, Thread, put_digest, put_name, put_number, put_sized, put_text,
+    put_time,
+};
 
 /// The four bytes at the head of a history file.
 pub(crate) const MAGIC: [u8; 4] = *b"TWH1";
 
 /// The bytes of the history's file: `TWH1`, the name, the number of steps, and then for each step
-/// its content, its new nodes and its root. They spell the history. The time is linear in their
+/// its time, if any, its content, its new nodes and its root. They spell the history. The time is linear in their
 /// number. TooLong comes exactly where there would be more than 67,108,864 of them, and tells how
 /// many.
 pub fn write_history(alloc: Global, history: &History) -> Result<Bytes, HistoryFault>
@@ -49,8 +57,7 @@ fn written(alloc: Global, history: &History, size: usize) -> Result<Bytes, NoMem
 
 /// Appends the bytes of the history's file.
 fn put_history(into: &mut Bytes, history: &History) -> Result<(), NoMemory>
-    ensures ok { OnOk result (into.new ≡ into.old ++ history_bytes history.now) }
-    ensures fits { OnOk result (history_codec.Fits history.now) }
+    ensures { Puts history_codec history.now into.old into.new result }
 {
     put_text(into, &MAGIC)?;
     put_name(into, &history.name)?;
@@ -63,9 +70,9 @@ fn put_history(into: &mut Bytes, history: &History) -> Result<(), NoMemory>
 fn put_steps(into: &mut Bytes, steps: &[Step], nodes: &[Node]) -> Result<(), NoMemory>
     requires counted { sum_by (λ s. s.fresh) steps.now ≡ length nodes.now }
     requires contents { Each (λ s. IsInRange s.content) steps.now }
+    requires times { Each (λ s. IsTimeWithinLimits s.time) steps.now }
     requires entries { Each (λ n. n.entry < 2 ^ 64) nodes.now }
-    ensures ok { OnOk result (into.new ≡ into.old ++ flat_map step_codec.write (steps_of_table steps.now nodes.now)) }
-    ensures fits { OnOk result (Each step_codec.Fits (steps_of_table steps.now nodes.now)) }
+    ensures { Puts (many (length steps.now) step_codec) (steps_of_table steps.now nodes.now) into.old into.new result }
 {
     let mut rest = nodes;
     for step in steps {
@@ -81,47 +88,77 @@ fn put_steps(into: &mut Bytes, steps: &[Step], nodes: &[Node]) -> Result<(), NoM
 fn put_step(into: &mut Bytes, step: &Step, fresh: &[Node]) -> Result<(), NoMemory>
     requires counted { length fresh.now ≡ step.now.fresh }
     requires content { IsInRange step.now.content }
+    requires time { IsTimeWithinLimits step.now.time }
     requires entries { Each (λ n. n.entry < 2 ^ 64) fresh.now }
-    ensures ok { OnOk result (into.new ≡ into.old ++ step_codec.write (step_of step.now fresh.now)) }
-    ensures fits { OnOk result (step_codec.Fits (step_of step.now fresh.now)) }
+    ensures { Puts step_codec (step_of step.now fresh.now) into.old into.new result }
 {
-    put_content(into, &step.content)?;
+    put_recorded(into, step.time, &step.content)?;
     put_number(into, step.fresh as u64, 2)?;
     put_nodes(into, fresh)?;
     put_number(into, step.root as u64, 4)?;
     Ok(())
 }
 
-/// Appends the kind of the content and the content.
+/// The kind of a step: 1 for events, 2 for a thread, 3 and 4 for these with a time.
+fn kind_of(time: Option<u64>, content: &Content) -> u64
+    ensures { result ≡ kind_of_recorded time content.now }
+{
+    match (time, content) {
+        (None, Content::Events(_)) => 1,
+        (None, Content::Received(_)) => 2,
+        (Some(_), Content::Events(_)) => 3,
+        (Some(_), Content::Received(_)) => 4,
+    }
+}
+
+/// Appends the kind of what a step records, its time, if any, and its content.
+#[tactic(auto, unfolding(tw_base::specs::Codecs::number_codec))]
+fn put_recorded(into: &mut Bytes, time: Option<u64>, content: &Content) -> Result<(), NoMemory>
+    requires content { IsInRange content.now }
+    requires time { IsTimeWithinLimits time }
+    ensures { Puts recorded_codec (time, content.now) into.old into.new result }
+{
+    put_number(into, kind_of(time, content), 1)?;
+    put_time(into, time)?;
+    put_content(into, content)?;
+    Ok(())
+}
+
+/// Appends the content: the number of events and each of them, or the thread.
 #[tactic(auto, unfolding(tw_base::specs::Codecs::by_kind, tw_base::specs::Codecs::bytes_codec, tw_base::specs::Codecs::cased, tw_base::specs::Codecs::counted, tw_base::specs::Codecs::many, tw_base::specs::Codecs::name_codec, tw_base::specs::Codecs::number_codec, tw_base::specs::Codecs::pair, tw_base::specs::Codecs::seen, tw_base::specs::HistoryCodec::content_codec, tw_base::specs::HistoryCodec::thread_codec))]
 fn put_content(into: &mut Bytes, content: &Content) -> Result<(), NoMemory>
     requires { IsInRange content.now }
-    ensures ok { OnOk result (into.new ≡ into.old ++ content_codec.write content.now) }
-    ensures fits { OnOk result (content_codec.Fits content.now) }
+    ensures { Puts (content_codec (has_events content.now)) content.now into.old into.new result }
 {
     match content {
         Content::Events(events) => {
-            put_number(into, 1, 1)?;
             put_number(into, events.len() as u64, 4)?;
             put_events(into, events.as_slice())?;
             Ok(())
         }
         Content::Received(thread) => {
-            let thread = thread.get();
-            put_number(into, 2, 1)?;
-            put_name(into, &thread.from)?;
-            put_number(into, thread.step, 8)?;
-            put_digest(into, &thread.auth)?;
+            put_thread(into, thread.get())?;
             Ok(())
         }
     }
 }
 
+/// Appends the thread.
+#[tactic(auto, unfolding(tw_base::specs::Codecs::bytes_codec, tw_base::specs::Codecs::name_codec, tw_base::specs::Codecs::number_codec, tw_base::specs::Codecs::pair, tw_base::specs::Codecs::seen, tw_base::specs::HistoryCodec::thread_codec))]
+fn put_thread(into: &mut Bytes, thread: &Thread) -> Result<(), NoMemory>
+    requires { (0 < thread.now.step) × (thread.now.step ≤ LAST_STEP) }
+    ensures { Puts thread_codec thread.now into.old into.new result }
+{
+    put_name(into, &thread.from)?;
+    put_number(into, thread.step, 8)?;
+    put_digest(into, &thread.auth)?;
+    Ok(())
+}
+
 /// Appends the events, each behind its length.
 fn put_events(into: &mut Bytes, events: &[Bytes]) -> Result<(), NoMemory>
     requires { Each (λ event. length event ≤ MOST_EVENT_BYTES) events.now }
-    ensures ok { OnOk result (into.new ≡ into.old ++ flat_map event_codec.write events.now) }
-    ensures fits { OnOk result (Each event_codec.Fits events.now) }
+    ensures { Puts (many (length events.now) event_codec) events.now into.old into.new result }
 {
     for event in events {
         put_event(into, event)?;
@@ -130,11 +167,9 @@ fn put_events(into: &mut Bytes, events: &[Bytes]) -> Result<(), NoMemory>
 }
 
 /// Appends the event behind its length.
-#[tactic(auto, unfolding(tw_base::specs::Codecs::sized_codec))]
 fn put_event(into: &mut Bytes, event: &Bytes) -> Result<(), NoMemory>
     requires { length event.now ≤ MOST_EVENT_BYTES }
-    ensures ok { OnOk result (into.new ≡ into.old ++ event_codec.write event.now) }
-    ensures fits { OnOk result (event_codec.Fits event.now) }
+    ensures { Puts event_codec event.now into.old into.new result }
 {
     put_sized(into, event.as_slice(), 4)?;
     Ok(())
@@ -143,8 +178,7 @@ fn put_event(into: &mut Bytes, event: &Bytes) -> Result<(), NoMemory>
 /// Appends the nodes.
 fn put_nodes(into: &mut Bytes, nodes: &[Node]) -> Result<(), NoMemory>
     requires { Each (λ n. n.entry < 2 ^ 64) nodes.now }
-    ensures ok { OnOk result (into.new ≡ into.old ++ flat_map node_codec.write (map node_of nodes.now)) }
-    ensures fits { OnOk result (Each node_codec.Fits (map node_of nodes.now)) }
+    ensures { Puts (many (length nodes.now) node_codec) (map node_of nodes.now) into.old into.new result }
 {
     for node in nodes {
         put_node(into, node)?;
@@ -156,8 +190,7 @@ fn put_nodes(into: &mut Bytes, nodes: &[Node]) -> Result<(), NoMemory>
 #[tactic(auto, unfolding(tw_base::specs::Codecs::number_codec, tw_base::specs::Codecs::pair, tw_base::specs::Codecs::seen, tw_base::specs::HistoryCodec::node_codec))]
 fn put_node(into: &mut Bytes, node: &Node) -> Result<(), NoMemory>
     requires { node.now.entry < 2 ^ 64 }
-    ensures ok { OnOk result (into.new ≡ into.old ++ node_codec.write (node_of node.now)) }
-    ensures fits { OnOk result (node_codec.Fits (node_of node.now)) }
+    ensures { Puts node_codec (node_of node.now) into.old into.new result }
 {
     put_number(into, node.left as u64, 4)?;
     put_number(into, node.entry, 8)?;

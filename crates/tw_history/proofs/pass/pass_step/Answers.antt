@@ -1,7 +1,7 @@
 use Rattle.std.proofs.Common.{◌+◌, ap, ◌∙◌, arith}
 use Rattle.std.specs.Prelude.{map}
 use Rattle.tw_base.specs.History.{entry_to}
-use Rattle.tw_base.specs.Texts.{authenticator_text, datum_text}
+use Rattle.tw_base.specs.Texts.{authenticator_text, step_datum_text}
 use Rattle.tw_base.specs.Tree.{forest, planted}
 use Rattle.tw_base.proofs.Plus.{forest-first}
 use Rattle.tw_history.specs.Tables.{node_of}
@@ -41,7 +41,7 @@ returns g c =
       archive_root = λ trees labels first. c.digests_of_step-passed.ensures.archive_root
           ∙ c.label_of_tree.ensures g.H.Hasher.dig trees (c.as_slice.ensures.value ∙ labels) first;
       datum = c.digests_of_step-passed.ensures.datum
-          ∙ ap (λ n. g.H.Hasher.dig (datum_text c.digests_of_step-passed.result.event_root c.digests_of_step-passed.result.archive_root n)) c.count_of_events.ensures.value;
+          ∙ ap (λ n. g.H.Hasher.dig (step_datum_text c.digests_of_step-passed.result.event_root c.digests_of_step-passed.result.archive_root n c.step_behind.result.0.now.time)) c.count_of_events.ensures.value;
       labels = c.digests_of_step-passed.ensures.labels;
       few = omega (arith, c.step_behind.ensures.few, c.requires.inside);
       auth = c.authenticator-auth.ensures.label ∙ ap (λ ls. g.H.Hasher.dig (authenticator_text (c.args.index + 1) ls)) c.as_slice-2.ensures.value;

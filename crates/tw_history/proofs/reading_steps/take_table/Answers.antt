@@ -2,6 +2,7 @@ use Rattle.std.proofs.Common.{◌≡◌, ℕ, ◌+◌, ◌-◌, List, [], subst,
 use Rattle.std.proofs.lemmas.Result.{err_from_is_err_and}
 use Rattle.tw_base.specs.History.{Step as StepMeant}
 use Rattle.tw_base.specs.HistoryCodec.{step_codec}
+use Rattle.tw_base.specs.Limits.{IsTimeWithinLimits}
 use Rattle.tw_base.proofs.HistoryCodecLaws.{step-lawful}
 use Rattle.tw_base.proofs.TakeLaws.{ManyTaken, many-begins, many-ends, many-fails, many-more}
 use Rattle.tw_history.specs.declared.reading_steps.Table.{Table}
@@ -35,6 +36,7 @@ loop-i-preserved c =
           (many-more step_codec step-lawful c.args.bytes.now c.args.at.now c.loop-i.at c.args.count _ xs c.take_step.new.at (step_of s (added c.loop-i.nodes c.take_step.new.nodes)) t read.takes.0 read.takes.1);
       counted = further.counted;
       contents = each_further (λ s. IsInRange s.content) c.loop-i.steps c.push.new.self s pushed c.loop-i.invariant.contents read.content;
+      times = each_further (λ s. IsTimeWithinLimits s.time) c.loop-i.steps c.push.new.self s pushed c.loop-i.invariant.times read.time;
       entries = read.entries;
     }
 
@@ -51,6 +53,7 @@ returns c =
         counted = c.loop-i.invariant.counted;
         few = omega (arith, all.count, length-steps_of_table c.loop-i.steps c.loop-i.nodes, c.requires.few);
         contents = c.loop-i.invariant.contents;
+        times = c.loop-i.invariant.times;
         entries = c.loop-i.invariant.entries;
       };
     }
@@ -63,5 +66,6 @@ loop-i-init c =
       taken = subst P (let e : c.args.count ≡ c.args.count - 0 = omega arith in e) (many-begins step_codec c.args.bytes.now c.args.at.now c.args.count);
       counted = refl;
       contents = tt;
+      times = tt;
       entries = tt;
     }

@@ -1,5 +1,6 @@
 use Rattle.std.proofs.Common.{◌≡◌, ◌-◌, ◌<◌, ◌≤◌, ◌^◌, length, sum_by}
 use Rattle.tw_base.specs.HistoryCodec.{step_codec}
+use Rattle.tw_base.specs.Limits.{IsTimeWithinLimits}
 use Rattle.tw_base.specs.Lists.{Each}
 use Rattle.tw_base.proofs.TakeLaws.{ManyTaken}
 use Rattle.tw_history.specs.Tables.{IsInRange, steps_of_table}
@@ -11,5 +12,6 @@ invariant-loop-i l = record {
   taken : ManyTaken step_codec l.bytes l.fn.at l.count (l.count - l._i) (steps_of_table l.steps l.nodes) l.at;
   counted : sum_by (λ s. s.fresh) l.steps ≡ length l.nodes;
   contents : Each (λ s. IsInRange s.content) l.steps;
+  times : Each (λ s. IsTimeWithinLimits s.time) l.steps;
   entries : Each (λ n. n.entry < 2 ^ 64) l.nodes;
 }

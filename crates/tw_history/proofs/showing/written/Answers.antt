@@ -16,7 +16,7 @@ returns g c =
     let is = c.in_ok-proof.ensures.existence in
     let limits : IsExistenceInRange proof = IsExistenceInRange-few g.H.Hasher.dig c.args.history.now c.args.step c.args.index (length c.args.history.now.steps) proof is
     c.requires.inside c.in_ok-proof.ensures.few (subst (λ events. length events ≤ MOST_EVENTS) c.requires.events c.requires.few)
-    (subst (Each (λ event. length event ≤ MOST_EVENT_BYTES)) c.requires.events c.requires.small) in
+    (subst (Each (λ event. length event ≤ MOST_EVENT_BYTES)) c.requires.events c.requires.small) c.in_ok-proof.ensures.time in
     let shaped : IsShaped proof = IsShaped-made g.H.Hasher.dig c.args.history.now c.args.step c.args.index (length c.args.history.now.steps) proof is
     c.requires.from_1 c.requires.inside in
     IfOk-weaker c.write_existence.result (λ bytes. IsExistenceInRange proof → IsShaped proof → Spells existence_layout bytes proof)

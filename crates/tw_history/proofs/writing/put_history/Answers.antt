@@ -12,22 +12,18 @@ use Rattle.tw_history.proofs.TableLaws.{length-steps_of_table}
 use Rattle.tw_history.proofs.WritingLaws.{four_put}
 use Rattle.tw_history.proofs.writing.put_history.Goals as goal
 
-pub returns-clause-ok : goal.returns-clause-ok
+pub returns : goal.returns
 unfolding history_codec seen behind pair counted by_kind many number_codec name_codec text_codec
-returns-clause-ok c =
+returns c =
     let inside = c.history.inside in
-    rw (← c.history.view_is)
-    (four_put c.args.into.now history_magic inside.name (number_bytes 8 c.len.result) (flat_map step_codec.write (steps_of_table c.as_slice.result.now c.as_slice-2.result.now)) _ _ _ _
-    c.in_ok-put_text.ensures.0 c.in_ok-put_name.ensures.puts.0 c.in_ok-put_number.ensures.puts.0 c.in_ok-put_steps.ensures.ok
-    ∙ ap (λ n. c.args.into.now ++ (history_magic ++ (inside.name ++ (number_bytes 8 n ++ flat_map step_codec.write (steps_of_table c.as_slice.result.now c.as_slice-2.result.now)))))
-    (c.len.ensures ∙ sym (length-steps_of_table inside.steps inside.nodes))
-    ∙ (λ k. c.args.into.now ++ (history_magic ++ (inside.name ++ (number_bytes 8 (length (steps_of_table inside.steps inside.nodes)) ++ flat_map step_codec.write (steps_of_table (c.as_slice.ensures k) (c.as_slice-2.ensures k)))))))
-
-pub returns-clause-fits : goal.returns-clause-fits
-unfolding name_codec
-returns-clause-fits c =
     let P : List Step → Type 0 = λ ss. Each step_codec.Fits (steps_of_table ss c.as_slice-2.result.now) in
     let Q : List Node → Type 0 = λ ns. Each step_codec.Fits (steps_of_table c.history.inside.steps ns) in
-    rw (← c.history.view_is)
-    (history-fits (history_of_table c.history.inside) (omega (arith, c.history.invariant.few, length-steps_of_table c.history.inside.steps c.history.inside.nodes))
-    c.in_ok-put_name.ensures.puts.1 (subst Q c.as_slice-2.ensures (subst P c.as_slice.ensures c.in_ok-put_steps.ensures.fits)))
+    rw (← c.history.view_is) (
+      (four_put c.args.into.now history_magic inside.name (number_bytes 8 c.len.result) (flat_map step_codec.write (steps_of_table c.as_slice.result.now c.as_slice-2.result.now)) _ _ _ _
+          c.in_ok-put_text.ensures.0 c.in_ok-put_name.ensures.puts.0 c.in_ok-put_number.ensures.puts.0 c.in_ok-put_steps.ensures.0
+          ∙ ap (λ n. c.args.into.now ++ (history_magic ++ (inside.name ++ (number_bytes 8 n ++ flat_map step_codec.write (steps_of_table c.as_slice.result.now c.as_slice-2.result.now)))))
+          (c.len.ensures ∙ sym (length-steps_of_table inside.steps inside.nodes))
+          ∙ (λ k. c.args.into.now ++ (history_magic ++ (inside.name ++ (number_bytes 8 (length (steps_of_table inside.steps inside.nodes)) ++ flat_map step_codec.write (steps_of_table (c.as_slice.ensures k) (c.as_slice-2.ensures k))))))),
+      (history-fits (history_of_table c.history.inside) (omega (arith, c.history.invariant.few, length-steps_of_table c.history.inside.steps c.history.inside.nodes))
+          c.in_ok-put_name.ensures.puts.1 (subst Q c.as_slice-2.ensures (subst P c.as_slice.ensures c.in_ok-put_steps.ensures.1.1))),
+    )

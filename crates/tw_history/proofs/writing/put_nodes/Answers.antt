@@ -1,6 +1,7 @@
 use Rattle.std.proofs.Common.{◌++◌, ap, sym, ◌∙◌}
-use Rattle.std.proofs.lemmas.List.{get_or_default}
+use Rattle.std.proofs.lemmas.List.{get_or_default, length-map}
 use Rattle.std.proofs.lemmas.List.Folds.{flat_map-map}
+use Rattle.tw_base.specs.Codecs.{many}
 use Rattle.tw_base.specs.HistoryCodec.{node_codec}
 use Rattle.tw_base.proofs.PutLaws.{put-all, put-more, put-none}
 use Rattle.tw_history.specs.declared.step.Node.{Node}
@@ -14,12 +15,12 @@ loop-node-init c = put-none (λ (n : Node). node_codec.write (node_of n)) (λ n.
 pub loop-node-preserved : goal.loop-node-preserved
 loop-node-preserved c =
     put-more (λ (n : Node). node_codec.write (node_of n)) (λ n. node_codec.Fits (node_of n)) c.args.into.now c.loop-node.into _ c.args.nodes.now c.loop-node.node-index _ c.loop-node-test.true (get_or_default c.args.nodes.now c.loop-node.node-index _ _ c.loop-node-test.true)
-    c.loop-node.invariant c.in_ok-put_node.ensures.ok c.in_ok-put_node.ensures.fits
+    c.loop-node.invariant c.in_ok-put_node.ensures.0 c.in_ok-put_node.ensures.1
 
 pub returns : goal.returns
+unfolding many
 returns c =
-    let all = put-all (λ (n : Node). node_codec.write (node_of n)) (λ n. node_codec.Fits (node_of n)) c.args.into.now c.loop-node.into c.args.nodes.now c.loop-node.node-index c.loop-node-test.false c.loop-node.invariant in
-    record {
-      ok = all.0 ∙ ap (λ w. c.args.into.now ++ w) (sym (flat_map-map node_codec.write node_of c.args.nodes.now));
-      fits = Each-seen node_codec.Fits node_of c.args.nodes.now all.1;
-    }
+    let all = put-all (λ (n : Node). node_codec.write (node_of n)) (λ n. node_codec.Fits (node_of n)) c.args.into.now c.loop-node.into c.args.nodes.now c.loop-node.node-index c.loop-node-test.false c.loop-node.invariant in (
+      all.0 ∙ ap (λ w. c.args.into.now ++ w) (sym (flat_map-map node_codec.write node_of c.args.nodes.now)),
+      (length-map c.args.nodes.now node_of, Each-seen node_codec.Fits node_of c.args.nodes.now all.1),
+    )

@@ -7,4 +7,4 @@ use Rattle.tw_history.proofs.writing.written.Goals as goal
 pub returns-clause-spelled : goal.returns-clause-spelled
 returns-clause-spelled c =
     (put-whole history_codec history-lawful c.args.history.now _ _ (c.from_vec-bytes.ensures ∙ c.in_ok-with_capacity.ensures.items)
-    (c.in_ok-put_history.ensures.ok, c.in_ok-put_history.ensures.fits)).1
+    c.in_ok-put_history.ensures).1
