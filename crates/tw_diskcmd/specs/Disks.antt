@@ -9,8 +9,17 @@ use Rattle.tw_pages.specs.declared.open.StoreFault.TheVariants as fault
 use Rattle.tw_skiplist.specs.declared.head.Head.{Head}
 use Rattle.tw_service.specs.Machine.{Call, NextOf}
 use Rattle.tw_service.specs.Stands.{IsBlankOrNew, IsNotOpenedFor, OpensFor, OpensWith, StandsFor, StandsForOneOf, no_history}
-use Rattle.tw_app.specs.declared.outcome.StoreCause.{StoreCause}
-use Rattle.tw_app.specs.declared.outcome.StoreCause.TheVariants.{Blank, NotAStore, BadPage}
+use Rattle.tw_text.specs.declared.refusal.StoreCause.{StoreCause}
+use Rattle.tw_text.specs.declared.refusal.StoreCause.TheVariants.{Blank, NotAStore, BadPage}
+
+-- what a command met of a disk: what it read as at first, where it tells that, and how often it had failed before and after
+pub record Touched : Type 0 where
+  pub found : Option Image
+  pub before : ℕ
+  pub after : ℕ
+
+abbrev pub touched : (found : Option Image) (before after : ℕ) → Touched
+touched found before after = record { found = found; before = before; after = after }
 
 -- the image stands for the history, under its name
 abbrev pub IsOf : History → Image → Type 0

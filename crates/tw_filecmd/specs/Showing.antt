@@ -1,5 +1,5 @@
--- When an event of a history file is shown, and when it isn't.
-use Rattle.std.specs.Prelude.{◌≡◌, ◌⊎◌, ℕ, ◌<◌, ◌≤◌, List, length, Option, Some}
+-- `show`: when an event of a history file is shown, when it isn't, and what the command comes to.
+use Rattle.std.specs.Prelude.{◌≡◌, ◌⊎◌, ℕ, ◌<◌, ◌≤◌, List, length, Option, Some, Result, Ok, Err}
 use Rattle.sha2.specs.Sha256.{sha256}
 use Rattle.tw_base.specs.declared.thread.Thread.{Thread}
 use Rattle.tw_base.specs.Anchors.{anchor_of}
@@ -7,6 +7,8 @@ use Rattle.tw_base.specs.Auth.{auth}
 use Rattle.tw_base.specs.Formats.{IsPlace, Spells, SpellsNothing}
 use Rattle.tw_base.specs.History.{History}
 use Rattle.tw_base.specs.Sound.{IsSound}
+use Rattle.tw_base.specs.Faults.{Rose}
+use Rattle.tw_outside.specs.Asked.{Asked}
 use Rattle.tw_outside.specs.Files.{Files, IsThere, Tells}
 use Rattle.tw_chain.specs.Accepting.{Accepts}
 use Rattle.tw_skipproof.specs.HistoryProofs.{MakesExistence}
@@ -15,8 +17,11 @@ use Rattle.tw_base.specs.HistoryCodec.{history_layout}
 use Rattle.tw_history.specs.Refusals.{RefusesEvent}
 use Rattle.tw_history.specs.Rules.{IsFirstBroken}
 use Rattle.tw_history.specs.declared.fault.ShowFault.TheVariants as fault
-use Rattle.tw_app.specs.declared.outcome.Refusal.{Refusal}
-use Rattle.tw_app.specs.declared.outcome.Refusal.TheVariants.{NoStep, NoEvent}
+use Rattle.tw_text.specs.declared.refusal.BadInput.TheVariants.{BadByte, Unsound}
+use Rattle.tw_text.specs.declared.refusal.Refusal.{Refusal}
+use Rattle.tw_text.specs.declared.refusal.Refusal.TheVariants.{NoStep, NoEvent}
+use Rattle.tw_filecmd.specs.declared.fault.FileCommandFault.{FileCommandFault}
+use Rattle.tw_filecmd.specs.declared.fault.FileCommandFault.TheVariants.{Refused, Unreadable, InputFault, NoMemory}
 
 -- the bytes are a history file of this sound history
 pub record IsFileOf (bytes : List ℕ) (h : History) : Type 0 where
@@ -53,3 +58,15 @@ IsBadByte bytes place =
 abbrev pub BreaksRule : (bytes : List ℕ) (step rule : ℕ) → Type 0
 BreaksRule bytes step rule =
     (length bytes ≤ MOST_HISTORY_BYTES) × ((h : History) × Spells history_layout bytes h × IsFirstBroken h step rule)
+
+-- what it comes to; want of memory is free
+abbrev pub ShowComes : Asked → (file : List ℕ) → (step index : ℕ) → Result (List ℕ) FileCommandFault → Type 0
+ShowComes a file step index (Ok proof) = OfHistory a.told file (ProvesEvent step index proof)
+ShowComes a file step index (Err (Refused refusal)) = OfHistory a.told file (RefusesToShow step index refusal)
+ShowComes a file step index (Err (Unreadable (BadByte named place))) =
+    (named ≡ file) × IsThere a.told file × ((bytes : List ℕ) → Tells a.told file bytes → IsBadByte bytes place)
+ShowComes a file step index (Err (Unreadable (Unsound named broken rule))) =
+    (named ≡ file) × IsThere a.told file × ((bytes : List ℕ) → Tells a.told file bytes → BreaksRule bytes broken rule)
+ShowComes a file step index (Err InputFault) = Rose a.before a.after
+ShowComes a file step index (Err NoMemory) = Unit {0}
+ShowComes a file step index _ = ⊥

@@ -1,5 +1,5 @@
--- When an event of a service is proved, and when it isn't.
-use Rattle.std.specs.Prelude.{◌≡◌, ℕ, List, length, Option, Some, None, false}
+-- `prove DIR event`: when an event of a service is proved, when it isn't, what the command comes to, and what it leaves of the disk.
+use Rattle.std.specs.Prelude.{◌≡◌, ℕ, List, length, Option, Some, None, Result, Ok, Err, false}
 use Rattle.sha2.specs.Sha256.{sha256}
 use Rattle.tw_base.specs.declared.thread.Thread.{Thread}
 use Rattle.tw_base.specs.Anchors.{anchor_of}
@@ -7,6 +7,8 @@ use Rattle.tw_base.specs.Auth.{auth}
 use Rattle.tw_base.specs.History.{History}
 use Rattle.tw_chain.specs.Accepting.{Accepts}
 use Rattle.tw_skipproof.specs.HistoryProofs.{MakesExistence}
+use Rattle.tw_base.specs.Faults.{Rose}
+use Rattle.tw_disk.specs.Disk.{DiskView}
 use Rattle.tw_disk.specs.Image.{Image}
 use Rattle.tw_skiplist.specs.declared.head.Head.{Head}
 use Rattle.tw_service.specs.declared.refusal.Refusal.{Refusal as ServiceRefusal}
@@ -16,9 +18,11 @@ use Rattle.tw_service.specs.Limits.{order_refusal}
 use Rattle.tw_service.specs.Machine.{IsStepOf}
 use Rattle.tw_service.specs.Machine.Call.{ProveEvent}
 use Rattle.tw_service.specs.Machine.Reply.{OfProof, Refused}
-use Rattle.tw_app.specs.declared.outcome.Refusal.{Refusal}
-use Rattle.tw_app.specs.declared.outcome.Refusal.TheVariants.{NoStep, NoEvent}
-use Rattle.tw_app.specs.Disks.{OpensAsService, OpensAsServiceWith, ReadsAs}
+use Rattle.tw_text.specs.declared.refusal.Refusal.{Refusal}
+use Rattle.tw_text.specs.declared.refusal.Refusal.TheVariants.{NoStep, NoEvent}
+use Rattle.tw_diskcmd.specs.declared.fault.DiskCommandFault.{DiskCommandFault}
+use Rattle.tw_diskcmd.specs.declared.fault.DiskCommandFault.TheVariants as fault
+use Rattle.tw_diskcmd.specs.Disks.{IsLeft, IsUnserved, OpensAsService, OpensAsServiceWith, ReadsAs, Settles, Touched}
 
 -- the top that the words give, or the last step where they give none
 abbrev pub top_of : (top : Option ℕ) → (last : ℕ) → ℕ
@@ -71,3 +75,19 @@ RefusesProof found step index top _ = ⊥
 abbrev pub MeetsBadPage : (step index : ℕ) (top : Option ℕ) → (pages : Image) → Head → (page : ℕ) → Type 0
 MeetsBadPage step index top pages head page =
     (order_refusal false head.step step (top_of top head.step) ≡ None) × LacksProof sha256 pages head step index (top_of top head.step) page
+
+-- what it comes to; want of memory is free
+abbrev pub ProveComes : Touched → (step index : ℕ) (top : Option ℕ) → Result (List ℕ) DiskCommandFault → Type 0
+ProveComes t step index top (Ok proof) = Proves t.found step index top proof
+ProveComes t step index top (Err (fault.Refused refusal)) = RefusesProof t.found step index top refusal
+ProveComes t step index top (Err (fault.Unserved cause)) = IsUnserved (MeetsBadPage step index top) t.found cause
+ProveComes t step index top (Err fault.DiskFault) = Rose t.before t.after
+ProveComes t step index top (Err fault.NoMemory) = Unit {0}
+ProveComes t step index top _ = ⊥
+
+module _ {D : Type 0} (view : D → DiskView) (old new : D) where
+  -- a proof writes nothing, and where it was made or refused, the disk became stable
+  abbrev pub ProveLeaves : Result (List ℕ) DiskCommandFault → Type 0
+  ProveLeaves (Ok proof) = IsLeft view old new × Settles view old new
+  ProveLeaves (Err (fault.Refused refusal)) = IsLeft view old new × Settles view old new
+  ProveLeaves _ = IsLeft view old new
