@@ -1,7 +1,8 @@
 -- Disks that stand for a history, and runs of calls that keep it.
 use Rattle.std.proofs.Common.{◌≡◌, ◌∙◌, ◌≤◌, ◌<◌, ℕ, List, arith, refl, sym, subst, inl, inr, ◌⊎◌, ⊎_elim}
 use Rattle.std.proofs.lemmas.Bool.{cases_eq}
-use Rattle.std.specs.Prelude.{Option, Some}
+use Rattle.std.specs.Prelude.{Option, Some, Result, Ok, Err}
+use Rattle.tw_base.specs.declared.thread.Thread.{Thread}
 use Rattle.sha2.specs.Sha256.{sha256}
 use Rattle.tw_base.specs.History.{History}
 use Rattle.tw_disk.specs.Disk.{DiskView, IsAtRest, LeavesOnly, Reads}
@@ -12,10 +13,10 @@ use Rattle.tw_pages.specs.Slots.{IsOpen, IsTaken}
 use Rattle.tw_service.specs.declared.service.Service.{Service}
 use Rattle.tw_service.specs.Serves.{HasSameDisk, disk_of}
 use Rattle.tw_service.specs.Stands.{StandsFor, StandsForOneOf, no_history}
-use Rattle.tw_app.specs.declared.outcome.Outcome.{Outcome}
-use Rattle.tw_app.specs.declared.outcome.Outcome.TheVariants.{Judged, Shown, Made, Refused, Unserved, Unreadable, BadWords, InputFault, DiskFault, NoMemory}
-use Rattle.tw_app.specs.Disks.{IsLeft, IsOf, IsOldOrBegun, Keeps, LeavesOldOrOneOf, MayBegin, ReadsAs, ReadsAsOneOf, Rests, Stands}
-use Rattle.tw_app.specs.Stepping.{LeavesStep}
+use Rattle.tw_diskcmd.specs.declared.fault.DiskCommandFault.{DiskCommandFault}
+use Rattle.tw_diskcmd.specs.declared.fault.DiskCommandFault.TheVariants.{Refused, Unserved, Unreadable, InputFault, DiskFault, NoMemory}
+use Rattle.tw_diskcmd.specs.Disks.{IsLeft, IsOf, IsOldOrBegun, Keeps, LeavesOldOrOneOf, MayBegin, ReadsAs, ReadsAsOneOf, Rests, Stands}
+use Rattle.tw_diskcmd.specs.WorkSteps.{LeavesStep}
 
 -- a history that an image stands for has its own name
 pub own_name : (name : List ℕ) (h : History) (image : Image) → StandsFor sha256 image name h → IsOf h image
@@ -155,9 +156,9 @@ module _ {D : Type 0} (view : D → DiskView) where
       (λ image. ⊎_elim (λ was. inl (stands.each image was)) (λ one. one)) left
 
   -- a run before it that left nothing new
-  pub leaves_from : (old mid new : D) (next : History) (h : History) (outcome : Outcome) → LeavesOnly (view old) (view mid) (view old).may_leave
-      → LeavesStep view mid new h next outcome → LeavesStep view old new h next outcome
-  leaves_from old mid new next h outcome run = by outcome
+  pub leaves_from : (old mid new : D) (next : History) (h : History) (came : Result Thread DiskCommandFault) → LeavesOnly (view old) (view mid) (view old).may_leave
+      → LeavesStep view mid new h next came → LeavesStep view old new h next came
+  leaves_from old mid new next h came run = by came
     where
       joined : LeavesOldOrOneOf view mid new h next → LeavesOldOrOneOf view old new h next
       joined left =
@@ -165,17 +166,14 @@ module _ {D : Type 0} (view : D → DiskView) where
           (leaves_weaker (view mid) (view new) (OldOrOneOf mid next h) (OldOrOneOf old next h)
           (λ image. ⊎_elim (λ was. inl (run.now image was)) (λ one. inr one)) left)
 
-      by : (outcome : Outcome) → LeavesStep view mid new h next outcome → LeavesStep view old new h next outcome
-      by (Made thread) left = (left.0, joined left.1)
-      by DiskFault left = (joined left.0, left.1)
-      by (Judged verdict) left = left
-      by (Shown proof) left = left
-      by (Refused refusal) left = left
-      by (Unserved cause) left = left
-      by (Unreadable bad) left = left
-      by (BadWords number) left = left
-      by InputFault left = left
-      by NoMemory left = left
+      by : (came : Result Thread DiskCommandFault) → LeavesStep view mid new h next came → LeavesStep view old new h next came
+      by (Ok thread) left = (left.0, joined left.1)
+      by (Err DiskFault) left = (joined left.0, left.1)
+      by (Err (Refused refusal)) left = left
+      by (Err (Unserved cause)) left = left
+      by (Err (Unreadable bad)) left = left
+      by (Err InputFault) left = left
+      by (Err NoMemory) left = left
 
 module _ {D H : Type 0} {g : _} {k : _} (view : D → DiskView) where
   -- a service's call after which its disk holds and may leave the same

@@ -24,13 +24,12 @@ use Rattle.tw_service.specs.Limits.{event_refusal, is_in_order, or_else, order_r
 use Rattle.tw_service.specs.Machine.{Answers, IsStepOf, Reply}
 use Rattle.tw_service.specs.Machine.Call.{ProveEvent}
 use Rattle.tw_service.specs.Machine.Reply.{OfProof, Refused}
-use Rattle.tw_app.specs.declared.outcome.Outcome.{Outcome}
-use Rattle.tw_app.specs.Disks.{OpensAsService, OpensAsServiceWith, ReadsAs}
-use Rattle.tw_app.specs.Proving.{MeetsBadPage, Proves, ProvesUnder, top_of}
-use Rattle.tw_app.specs.ServiceFaults.{outcome_of_refusal}
-use Rattle.tw_app.specs.Stepping.{ComesToProof}
-use Rattle.tw_app.proofs.Histories.{few_events, makes_at}
-use Rattle.tw_app.proofs.Openings.{only_opens, opens_with}
+use Rattle.tw_diskcmd.specs.declared.fault.DiskCommandFault.{DiskCommandFault}
+use Rattle.tw_diskcmd.specs.Disks.{OpensAsService, OpensAsServiceWith, ReadsAs, touched}
+use Rattle.tw_diskcmd.specs.Proving.{MeetsBadPage, ProveComes, Proves, ProvesUnder, top_of}
+use Rattle.tw_diskcmd.specs.Faults.{fault_of_service}
+use Rattle.tw_skipproof.proofs.WideIndex.{few_events, makes_at}
+use Rattle.tw_diskcmd.proofs.Openings.{only_opens, opens_with}
 
 -- ---- the table for the order of steps
 
@@ -94,7 +93,7 @@ module _ (h : History) (step index top : ℕ) (sound : IsSound h) where
   At at reply table = MatchOption table ((bytes : List ℕ) × MakesExistence sha256 h step at top bytes × (reply ≡ OfProof bytes)) (λ r. reply ≡ Refused r)
 
   to_index : (reply : Reply) (table : Option Refusal) → At (min index 4294967295) reply table → At index reply table
-  to_index reply None is = (is.0, makes_at h step index top is.0 sound is.1, is.2)
+  to_index reply None is = (is.0, makes_at sha256 h step index top is.0 sound is.1, is.2)
   to_index reply (Some r) is = is
 
   pub step_at_index : (reply : Reply) (next : History) → IsStepOf sha256 h (ProveEvent step (min index 4294967295) top) reply next → IsStepOf sha256 h (ProveEvent step index top) reply h
@@ -180,19 +179,19 @@ module _ (found : Option Image) (before after : ℕ) (step index at : ℕ) (aske
       under h reads =
           let move = machine whole h (serves h reads) in
           record {
-            makes = makes_at h step index top bytes reads.stands.sound (subst (λ (i : ℕ). MakesExistence sha256 h step i top bytes) at_is (made h (serves h reads)));
+            makes = makes_at sha256 h step index top bytes reads.stands.sound (subst (λ (i : ℕ). MakesExistence sha256 h step i top bytes) at_is (made h (serves h reads)));
             machine = step_at_index h step index top reads.stands.sound (OfProof bytes) move.0 (subst (λ (i : ℕ). IsStepOf sha256 h (ProveEvent step i top) (OfProof bytes) move.0) at_is move.1);
             accepted = accepted h (serves h reads);
           }
 
-  pub proof_refused : (r : Refusal) (came : Outcome) → came ≡ outcome_of_refusal r → Table (order_refusal is_broken head.step step top) (Err r)
+  pub proof_refused : (r : Refusal) (came : DiskCommandFault) → came ≡ fault_of_service r → Table (order_refusal is_broken head.step step top) (Err r)
       → (is_broken ≡ false → (h : History) → OldServes h → Answers sha256 h (ProveEvent step at top) (λ b. OfProof b) (Err r) NewServes)
       → (refusal r ≡ Err service.DiskFault → Rose before after) → (IsBadPage r → (h : History) → OldServes h → ⊥)
       → OfBadPage r (λ page. (pages : Image) → told ≡ Some pages → LacksProof sha256 pages head step at top page)
       → OfNoEvent r (λ count. (pages : Image) → told ≡ Some pages → FindsCount sha256 pages head step at top count)
-      → ComesToProof found before after step index asked came
+      → ProveComes (touched found before after) step index asked (Err came)
   proof_refused r came is table_then machine fault bad met counts =
-      subst (ComesToProof found before after step index asked) (sym is) (by r table_then machine fault bad met counts)
+      subst (λ (f : DiskCommandFault). ProveComes (touched found before after) step index asked (Err f)) (sym is) (by r table_then machine fault bad met counts)
     where
       only : OpensAsService found name head
       only = only_opens found name head (λ pages. told ≡ Some pages) opens
@@ -223,7 +222,7 @@ module _ (found : Option Image) (before after : ℕ) (step index at : ℕ) (aske
           → (refusal r ≡ Err service.DiskFault → Rose before after) → (IsBadPage r → (h : History) → OldServes h → ⊥)
           → OfBadPage r (λ page. (pages : Image) → told ≡ Some pages → LacksProof sha256 pages head step at top page)
           → OfNoEvent r (λ count. (pages : Image) → told ≡ Some pages → FindsCount sha256 pages head step at top count)
-          → ComesToProof found before after step index asked (outcome_of_refusal r)
+          → ProveComes (touched found before after) step index asked (Err (fault_of_service r))
       by (service.NoStep told) table machine fault bad met counts =
           (record { name = name; head = head; opens = only; table = no_step told table; machine = λ h reads. machine_at (Refused (service.NoStep told)) h h reads (machine whole h (serves h reads)).0 }, last_told told table)
       by (service.NoEvent count) table machine fault bad met counts = (

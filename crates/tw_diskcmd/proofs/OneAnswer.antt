@@ -1,6 +1,6 @@
 -- Over a disk that tells its content one answer stands at most, of those that tell of it.
 use Rattle.std.proofs.Common.{◌≡◌, ◌∙◌, ℕ, ◌+◌, ◌^◌, ◌≤◌, List, length, refl, ap, sym, subst, inl, inr, false}
-use Rattle.std.specs.Prelude.{Option, Some, None}
+use Rattle.std.specs.Prelude.{Option, Some, None, Result, Ok, Err}
 use Rattle.sha2.specs.Sha256.{sha256}
 use Rattle.sha2.proofs.Facts256.{length-sha256}
 use Rattle.tw_base.specs.declared.thread.Thread.{Thread}
@@ -21,19 +21,18 @@ use Rattle.tw_service.specs.Stands.{IsNotOpenedFor, OpensWith}
 use Rattle.tw_service.proofs.Exclusions.{links_or_bad, one_bad_link}
 use Rattle.tw_service.proofs.FindingLaws.{count_or_bad, event_or_bad, event_or_count, one_bad, one_count}
 use Rattle.tw_service.proofs.Standing.{one_service, opens_never_refused}
-use Rattle.tw_app.specs.declared.outcome.Outcome.{Outcome}
-use Rattle.tw_app.specs.declared.outcome.Outcome.TheVariants.{Shown, Made, Refused, Unserved, DiskFault, NoMemory}
-use Rattle.tw_app.specs.declared.outcome.Refusal.{Refusal}
-use Rattle.tw_app.specs.declared.outcome.Refusal.TheVariants.{NoStep, NoEvent, Full, TooMany, TooLong}
-use Rattle.tw_app.specs.declared.outcome.StoreCause.{StoreCause}
-use Rattle.tw_app.specs.declared.outcome.StoreCause.TheVariants.{Blank, NotAStore, BadPage}
-use Rattle.tw_app.specs.Agreeing.{Agrees, TellsContent}
-use Rattle.tw_app.specs.Appending.{AddsStep, MeetsBadLink, RefusesAs, RefusesEvents}
-use Rattle.tw_app.proofs.Openings.{opens_also, opens_only}
-use Rattle.tw_app.specs.Disks.{IsUnserved}
-use Rattle.tw_app.specs.Proving.{MeetsBadPage, Proves, RefusesProof, top_of}
-use Rattle.tw_app.specs.ServiceFaults.{outcome_of_refusal}
-use Rattle.tw_app.specs.Stepping.{ComesToProof, ComesToStep}
+use Rattle.tw_diskcmd.specs.declared.fault.DiskCommandFault.{DiskCommandFault}
+use Rattle.tw_diskcmd.specs.declared.fault.DiskCommandFault.TheVariants.{Refused, Unserved, DiskFault, NoMemory}
+use Rattle.tw_text.specs.declared.refusal.Refusal.{Refusal}
+use Rattle.tw_text.specs.declared.refusal.Refusal.TheVariants.{NoStep, NoEvent, Full, TooMany, TooLong}
+use Rattle.tw_text.specs.declared.refusal.StoreCause.{StoreCause}
+use Rattle.tw_text.specs.declared.refusal.StoreCause.TheVariants.{Blank, NotAStore, BadPage}
+use Rattle.tw_diskcmd.specs.Agreeing.{Agrees, HasSameService, TellsContent}
+use Rattle.tw_diskcmd.specs.Appending.{AddsStep, MeetsBadLink, RefusesAs, RefusesEvents, StepComes}
+use Rattle.tw_diskcmd.proofs.Openings.{opens_also, opens_only}
+use Rattle.tw_diskcmd.specs.Disks.{IsUnserved, touched}
+use Rattle.tw_diskcmd.specs.Proving.{MeetsBadPage, ProveComes, Proves, RefusesProof, top_of}
+use Rattle.tw_diskcmd.specs.Faults.{fault_of_service}
 
 same_refused : (r q : Refusal) → Refused r ≡ Refused q → r ≡ q
 same_refused r q is = cc
@@ -143,7 +142,7 @@ module _ (image : Image) where
 
     record OfTable (r : Refusal) : Type 0 where
       of : ServiceRefusal
-      is : outcome_of_refusal of ≡ Refused r
+      is : fault_of_service of ≡ Refused r
       opened : Opened (RefusesBy of)
 
     of_table : (r : Refusal) → RefusesAs (Some image) events r → OfTable r
@@ -157,7 +156,7 @@ module _ (image : Image) where
         let x = of_table r one in
         let y = of_table q two in
         let b = both x.opened y.opened in
-        same_refused r q (sym x.is ∙ ap outcome_of_refusal (same_some x.of y.of (sym b.first ∙ b.second)) ∙ y.is)
+        same_refused r q (sym x.is ∙ ap fault_of_service (same_some x.of y.of (sym b.first ∙ b.second)) ∙ y.is)
 
     refused_after_adds : (r : Refusal) → Opened Adds → RefusesAs (Some image) events r → ⊥
     refused_after_adds r a is = let x = of_table r is in let b = both a x.opened in none_some x.of (sym b.first.0 ∙ b.second)
@@ -186,39 +185,39 @@ module _ (image : Image) where
         let same = both (adds one a) (adds other b) in
         (a.from ∙ same.names ∙ sym b.from, a.next ∙ ap (λ (h : Head). h.step + 1) same.heads ∙ sym b.next)
 
-    abbrev Comes : Outcome → Type 0
-    Comes outcome = ComesToStep (Some image) before after events outcome
+    abbrev Comes : Result Thread DiskCommandFault → Type 0
+    Comes outcome = StepComes (touched (Some image) before after) events outcome
 
-    pub agree_step : (one other : Outcome) → TellsContent one → TellsContent other → Comes one → Comes other → Agrees one other
-    agree_step (Made s) other tells tells' a b = by other tells' b
+    pub agree_step : (one other : Result Thread DiskCommandFault) → TellsContent one → TellsContent other → Comes one → Comes other → Agrees HasSameService one other
+    agree_step (Ok s) other tells tells' a b = by other tells' b
       where
-        by : (other : Outcome) → TellsContent other → Comes other → Agrees (Made s) other
-        by (Made t) tells' b = made_once s t a b
-        by (Refused r) tells' b = refused_after_adds r (adds s a) b
-        by (Unserved cause) tells' b = bad_after_adds (adds s a) cause b
-        by DiskFault tells' b = absurd tells'
-        by NoMemory tells' b = absurd tells'
+        by : (other : Result Thread DiskCommandFault) → TellsContent other → Comes other → Agrees HasSameService (Ok s) other
+        by (Ok t) tells' b = made_once s t a b
+        by (Err (Refused r)) tells' b = refused_after_adds r (adds s a) b
+        by (Err (Unserved cause)) tells' b = bad_after_adds (adds s a) cause b
+        by (Err DiskFault) tells' b = absurd tells'
+        by (Err NoMemory) tells' b = absurd tells'
         by _ tells' b = absurd b
-    agree_step (Refused r) other tells tells' a b = by other tells' b
+    agree_step (Err (Refused r)) other tells tells' a b = by other tells' b
       where
-        by : (other : Outcome) → TellsContent other → Comes other → Agrees (Refused r) other
-        by (Made t) tells' b = refused_after_adds r (adds t b) a
-        by (Refused q) tells' b = one_refusal r q a b
-        by (Unserved cause) tells' b = refused_or_unserved r cause a b
-        by DiskFault tells' b = absurd tells'
-        by NoMemory tells' b = absurd tells'
+        by : (other : Result Thread DiskCommandFault) → TellsContent other → Comes other → Agrees HasSameService (Err (Refused r)) other
+        by (Ok t) tells' b = refused_after_adds r (adds t b) a
+        by (Err (Refused q)) tells' b = one_refusal r q a b
+        by (Err (Unserved cause)) tells' b = refused_or_unserved r cause a b
+        by (Err DiskFault) tells' b = absurd tells'
+        by (Err NoMemory) tells' b = absurd tells'
         by _ tells' b = absurd b
-    agree_step (Unserved cause) other tells tells' a b = by other tells' b
+    agree_step (Err (Unserved cause)) other tells tells' a b = by other tells' b
       where
-        by : (other : Outcome) → TellsContent other → Comes other → Agrees (Unserved cause) other
-        by (Made t) tells' b = bad_after_adds (adds t b) cause a
-        by (Refused q) tells' b = refused_or_unserved q cause b a
-        by (Unserved why) tells' b = one_cause (MeetsBadLink events) one_link cause why a b
-        by DiskFault tells' b = absurd tells'
-        by NoMemory tells' b = absurd tells'
+        by : (other : Result Thread DiskCommandFault) → TellsContent other → Comes other → Agrees HasSameService (Err (Unserved cause)) other
+        by (Ok t) tells' b = bad_after_adds (adds t b) cause a
+        by (Err (Refused q)) tells' b = refused_or_unserved q cause b a
+        by (Err (Unserved why)) tells' b = one_cause (MeetsBadLink events) one_link cause why a b
+        by (Err DiskFault) tells' b = absurd tells'
+        by (Err NoMemory) tells' b = absurd tells'
         by _ tells' b = absurd b
-    agree_step DiskFault other tells tells' a b = absurd tells
-    agree_step NoMemory other tells tells' a b = absurd tells
+    agree_step (Err DiskFault) other tells tells' a b = absurd tells
+    agree_step (Err NoMemory) other tells tells' a b = absurd tells
     agree_step _ other tells tells' a b = absurd a
 
   -- ---- proving an event
@@ -301,37 +300,40 @@ module _ (image : Image) where
         by _ two = absurd two
     refused_once_of _ q one two = absurd one
 
-    abbrev ComesProof : Outcome → Type 0
-    ComesProof outcome = ComesToProof (Some image) before after step index top outcome
+    abbrev AnyTwo : List ℕ → List ℕ → Type 0
+    AnyTwo one other = Unit {0}
 
-    pub agree_proof : (one other : Outcome) → TellsContent one → TellsContent other → ComesProof one → ComesProof other → Agrees one other
-    agree_proof (Shown s) other tells tells' a b = by other tells' b
+    abbrev ComesProof : Result (List ℕ) DiskCommandFault → Type 0
+    ComesProof outcome = ProveComes (touched (Some image) before after) step index top outcome
+
+    pub agree_proof : (one other : Result (List ℕ) DiskCommandFault) → TellsContent one → TellsContent other → ComesProof one → ComesProof other → Agrees AnyTwo one other
+    agree_proof (Ok s) other tells tells' a b = by other tells' b
       where
-        by : (other : Outcome) → TellsContent other → ComesProof other → Agrees (Shown s) other
-        by (Shown t) tells' b = tt
-        by (Refused r) tells' b = proved_or_refused r (proves s a) b
-        by (Unserved cause) tells' b = proved_or_unserved cause (proves s a) b
-        by DiskFault tells' b = absurd tells'
-        by NoMemory tells' b = absurd tells'
+        by : (other : Result (List ℕ) DiskCommandFault) → TellsContent other → ComesProof other → Agrees AnyTwo (Ok s) other
+        by (Ok t) tells' b = tt
+        by (Err (Refused r)) tells' b = proved_or_refused r (proves s a) b
+        by (Err (Unserved cause)) tells' b = proved_or_unserved cause (proves s a) b
+        by (Err DiskFault) tells' b = absurd tells'
+        by (Err NoMemory) tells' b = absurd tells'
         by _ tells' b = absurd b
-    agree_proof (Refused r) other tells tells' a b = by other tells' b
+    agree_proof (Err (Refused r)) other tells tells' a b = by other tells' b
       where
-        by : (other : Outcome) → TellsContent other → ComesProof other → Agrees (Refused r) other
-        by (Shown t) tells' b = proved_or_refused r (proves t b) a
-        by (Refused q) tells' b = refused_once_of r q a b
-        by (Unserved cause) tells' b = refused_or_not r cause a b
-        by DiskFault tells' b = absurd tells'
-        by NoMemory tells' b = absurd tells'
+        by : (other : Result (List ℕ) DiskCommandFault) → TellsContent other → ComesProof other → Agrees AnyTwo (Err (Refused r)) other
+        by (Ok t) tells' b = proved_or_refused r (proves t b) a
+        by (Err (Refused q)) tells' b = refused_once_of r q a b
+        by (Err (Unserved cause)) tells' b = refused_or_not r cause a b
+        by (Err DiskFault) tells' b = absurd tells'
+        by (Err NoMemory) tells' b = absurd tells'
         by _ tells' b = absurd b
-    agree_proof (Unserved cause) other tells tells' a b = by other tells' b
+    agree_proof (Err (Unserved cause)) other tells tells' a b = by other tells' b
       where
-        by : (other : Outcome) → TellsContent other → ComesProof other → Agrees (Unserved cause) other
-        by (Shown t) tells' b = proved_or_unserved cause (proves t b) a
-        by (Refused q) tells' b = refused_or_not q cause b a
-        by (Unserved why) tells' b = one_cause (MeetsBadPage step index top) one_page cause why a b
-        by DiskFault tells' b = absurd tells'
-        by NoMemory tells' b = absurd tells'
+        by : (other : Result (List ℕ) DiskCommandFault) → TellsContent other → ComesProof other → Agrees AnyTwo (Err (Unserved cause)) other
+        by (Ok t) tells' b = proved_or_unserved cause (proves t b) a
+        by (Err (Refused q)) tells' b = refused_or_not q cause b a
+        by (Err (Unserved why)) tells' b = one_cause (MeetsBadPage step index top) one_page cause why a b
+        by (Err DiskFault) tells' b = absurd tells'
+        by (Err NoMemory) tells' b = absurd tells'
         by _ tells' b = absurd b
-    agree_proof DiskFault other tells tells' a b = absurd tells
-    agree_proof NoMemory other tells tells' a b = absurd tells
+    agree_proof (Err DiskFault) other tells tells' a b = absurd tells
+    agree_proof (Err NoMemory) other tells tells' a b = absurd tells
     agree_proof _ other tells tells' a b = absurd a

@@ -4,7 +4,7 @@ use Rattle.std.specs.Prelude.{Option}
 use Rattle.tw_disk.specs.Image.{Image}
 use Rattle.tw_skiplist.specs.declared.head.Head.{Head}
 use Rattle.tw_service.specs.Stands.{OpensFor, OpensWith}
-use Rattle.tw_app.specs.Disks.{OpensAsService, OpensAsServiceWith}
+use Rattle.tw_diskcmd.specs.Disks.{OpensAsService, OpensAsServiceWith}
 
 module _ {image : Image} {name : List ℕ} {head : Head} {P : Image → Type 0} (Q : Image → Type 0) (o : OpensWith image name head P) where
   -- the same opening, and Q holds of its pages

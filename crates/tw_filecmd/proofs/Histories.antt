@@ -1,35 +1,35 @@
 -- From a history file that was read to what showing an event of it comes to.
-use Rattle.std.proofs.Common.{◌≡◌, ℕ, suc, zero, ◌<◌, ◌≤◌, List, length, take, min, refl, subst, ap, ◌∙◌, arith, inl, inr}
-use Rattle.std.specs.Prelude.{Option, Some, None, Result, Ok, Err, IfOk}
+use Rattle.std.proofs.Common.{◌≡◌, ℕ, suc, zero, ◌<◌, ◌≤◌, List, length, take, min, refl, sym, subst, ap, ◌∙◌, arith, inl, inr}
+use Rattle.std.specs.Prelude.{Option, Some, None, Result, Ok, Err, IfOk, IsErrAnd}
 use Rattle.std.proofs.lemmas.Bool.{cases_lt}
 use Rattle.std.proofs.lemmas.List.{length-take, length-take-le, take_all}
-use Rattle.std.proofs.lemmas.Option.{slice_get_within}
 use Rattle.sha2.specs.Sha256.{sha256}
 use Rattle.tw_base.specs.declared.thread.Thread.{Thread}
 use Rattle.tw_base.specs.Anchors.{anchor_of}
 use Rattle.tw_base.specs.Auth.{auth}
-use Rattle.tw_base.specs.History.{History, Step, events_at, events_of, step_at}
-use Rattle.tw_base.proofs.SoundEvents.{sound-may_record}
+use Rattle.tw_base.specs.History.{History}
 use Rattle.tw_base.specs.Sound.{IsSound}
 use Rattle.tw_outside.specs.Files.{Files, IsReadTo, IsThere}
-use Rattle.tw_text.specs.declared.command.Command.TheVariants.{Show}
 use Rattle.tw_base.specs.Formats.{Spells}
 use Rattle.tw_base.proofs.FormatLaws.{one_value}
 use Rattle.tw_skipproof.specs.declared.existence.ExistenceProof.{ExistenceProof}
 use Rattle.tw_skipproof.specs.Acceptance.{IsAcceptedUnder}
 use Rattle.tw_skipproof.specs.Existence.{existence_layout}
 use Rattle.tw_chain.proofs.Completeness.{Accepts-made}
-use Rattle.tw_skipproof.specs.HistoryProofs.{IsExistenceOf, MakesExistence}
+use Rattle.tw_skipproof.specs.HistoryProofs.{MakesExistence}
+use Rattle.tw_skipproof.proofs.WideIndex.{makes_at}
 use Rattle.tw_base.specs.declared.limits.TheConstants.{MOST_HISTORY_BYTES}
-use Rattle.tw_history.specs.Refusals.{ReadsHistory}
+use Rattle.tw_history.specs.Refusals.{ReadsHistory, RefusesEvent}
 use Rattle.tw_history.specs.declared.fault.HistoryFault.{HistoryFault}
 use Rattle.tw_history.specs.declared.fault.HistoryFault.TheVariants.{Malformed, NoMemory, TooLong, Unsound}
 use Rattle.tw_history.specs.declared.fault.ShowFault.{ShowFault}
-use Rattle.tw_app.specs.declared.outcome.Outcome.{Outcome}
-use Rattle.tw_app.specs.BadInputs.{IsWhereMemory, outcome_of_fault}
-use Rattle.tw_app.specs.Running.{ComesOfFiles}
-use Rattle.tw_app.specs.Showing.{OfHistory, ProvesEvent}
-use Rattle.tw_app.proofs.Outcomes.{where_memory}
+use Rattle.tw_history.specs.declared.fault.ShowFault.TheVariants as show
+use Rattle.tw_text.specs.declared.refusal.Refusal.TheVariants.{NoStep, NoEvent}
+use Rattle.tw_outside.specs.Asked.{Asked}
+use Rattle.tw_filecmd.specs.declared.fault.FileCommandFault.{FileCommandFault}
+use Rattle.tw_filecmd.specs.Faults.{IsWhereMemory, fault_of_history, fault_of_show}
+use Rattle.tw_filecmd.specs.Showing.{OfHistory, ProvesEvent, RefusesToShow, ShowComes}
+use Rattle.tw_filecmd.proofs.Judging.{where_memory}
 
 -- ---- what was read of the file
 
@@ -49,8 +49,8 @@ is_whole all bytes is short = elim (cases_lt history_read (length bytes)) [
 is_longer : (all bytes : List ℕ) → all ≡ take history_read bytes → MOST_HISTORY_BYTES < length all → MOST_HISTORY_BYTES < length bytes
 is_longer all bytes is longer = omega (arith, ap length is, length-take history_read bytes, longer)
 
-module _ (told : Option Files) (file all : List ℕ) (there : IsThere told file) (read : IsReadTo told file history_read all) where
-  pub of_history : (P : History → Type 0) (h : History) → ReadsHistory all (Ok h) → P h → OfHistory told file P
+module _ (a : Asked) (file all : List ℕ) (there : IsThere a.told file) (read : IsReadTo a.told file history_read all) where
+  pub of_history : (P : History → Type 0) (h : History) → ReadsHistory all (Ok h) → P h → OfHistory a.told file P
   of_history P h reads holds = record {
     there = there;
     holds = λ bytes tells.
@@ -59,45 +59,40 @@ module _ (told : Option Files) (file all : List ℕ) (there : IsThere told file)
         (h, record { short = same.0; spelled = same.1; sound = same.2 }, holds);
   }
 
-  of_fault : (before after step index : ℕ) (f : HistoryFault) → ReadsHistory all (Err f) → ComesOfFiles told before after (Show file step index) (outcome_of_fault file f)
-  of_fault before after step index (TooLong count) reads =
-      λ found disk_before disk_after. (refl, there, λ bytes tells. inl (is_longer all bytes (read bytes tells) reads.0, refl))
-  of_fault before after step index (Malformed place) reads = λ found disk_before disk_after. (
+  of_fault : (step index : ℕ) (f : HistoryFault) → ReadsHistory all (Err f) → ShowComes a file step index (Err (fault_of_history file f))
+  of_fault step index (TooLong count) reads = (refl, there, λ bytes tells. inl (is_longer all bytes (read bytes tells) reads.0, refl))
+  of_fault step index (Malformed place) reads = (
     refl,
     there,
     λ bytes tells.
         inr (subst (λ b. ReadsHistory b (Err (Malformed place))) (is_whole all bytes (read bytes tells) reads.0) reads),
   )
-  of_fault before after step index (Unsound broken rule) reads = λ found disk_before disk_after. (
+  of_fault step index (Unsound broken rule) reads = (
     refl,
     there,
     λ bytes tells.
         subst (λ b. ReadsHistory b (Err (Unsound broken rule))) (is_whole all bytes (read bytes tells) reads.0) reads,
   )
-  of_fault before after step index NoMemory reads = λ found disk_before disk_after. tt
+  of_fault step index NoMemory reads = tt
 
-  pub refuses_file : (before after step index : ℕ) (f : HistoryFault) (outcome : Outcome) → ReadsHistory all (Err f)
-      → IsWhereMemory (outcome_of_fault file f) outcome → ComesOfFiles told before after (Show file step index) outcome
-  refuses_file before after step index f outcome reads is =
-      where_memory told before after (Show file step index) (outcome_of_fault file f) outcome is (of_fault before after step index f reads)
+  pub refuses_file : (step index : ℕ) (f : HistoryFault) (came : FileCommandFault) → ReadsHistory all (Err f)
+      → IsWhereMemory (fault_of_history file f) came → ShowComes a file step index (Err came)
+  refuses_file step index f came reads is =
+      where_memory (λ (fault : FileCommandFault). ShowComes a file step index (Err fault)) (fault_of_history file f) came tt is (of_fault step index f reads)
 
--- ---- an index of more than 32 bits
+  -- what the history refuses, the command does
+  pub refuses_show : (step index : ℕ) (h : History) (f : ShowFault) (r : Result (List ℕ) FileCommandFault) → ReadsHistory all (Ok h) → RefusesEvent h step index f
+      → IsErrAnd r (λ e. e ≡ fault_of_show f) → ShowComes a file step index r
+  refuses_show step index h f (Ok proof) reads refuses is = absurd is
+  refuses_show step index h f (Err came) reads refuses is =
+      subst (λ (e : FileCommandFault). ShowComes a file step index (Err e)) (sym is) (by f refuses)
+    where
+      by : (f : ShowFault) → RefusesEvent h step index f → ShowComes a file step index (Err (fault_of_show f))
+      by (show.NoStep last) refuses = of_history (RefusesToShow step index (NoStep last)) h reads refuses
+      by (show.NoEvent count) refuses = of_history (RefusesToShow step index (NoEvent count)) h reads refuses
+      by show.NoMemory refuses = tt
 
-pub few_events : (h : History) (step : ℕ) → IsSound h → length (events_at h step) ≤ 1024
-few_events h step sound = (sound-may_record h step sound).are.count
-
-pub makes_at : (h : History) (step index top : ℕ) (bytes : List ℕ) → IsSound h → MakesExistence sha256 h step (min index 4294967295) top bytes
-    → MakesExistence sha256 h step index top bytes
-makes_at h step index top bytes sound makes = elim (cases_lt 4294967295 index) [
-  | inl more ↦
-      let p = makes.0 in
-      let is : IsExistenceOf sha256 h step (min index 4294967295) top p = makes.2 in
-      let inside : min index 4294967295 < length (events_at h step) = slice_get_within (events_at h step) (min index 4294967295) p.event.event is.event in
-      absurd (omega (arith, inside, few_events h step sound, more))
-  | inr less ↦
-      let same : min index 4294967295 ≡ index = omega (arith, less) in
-      subst (λ i. MakesExistence sha256 h step i top bytes) same makes
-]
+-- ---- the event shown
 
 module _ (h : History) (step at : ℕ) (bytes : List ℕ) (makes : MakesExistence sha256 h step at (length h.steps) bytes) where
   -- the step isn't above the last one, since the proof is accepted under its authenticator
@@ -112,7 +107,7 @@ pub shown_at : (h : History) (step index at : ℕ) → IsSound h → at ≡ min 
     → IfOk result (λ bytes. (p : ExistenceProof) × Spells existence_layout bytes p × IsAcceptedUnder sha256 (auth sha256 h (length h.steps)) p)
     → IfOk result (λ bytes. ProvesEvent step index bytes h)
 shown_at h step index at sound is (Ok bytes) makes accepted =
-    let own = makes_at h step index (length h.steps) bytes sound (subst (λ i. MakesExistence sha256 h step i (length h.steps) bytes) is makes) in
+    let own = makes_at sha256 h step index (length h.steps) bytes sound (subst (λ i. MakesExistence sha256 h step i (length h.steps) bytes) is makes) in
     record {
       makes = own;
       accepted = λ anchors anchor held reached.

@@ -1,11 +1,10 @@
-use Rattle.tw_app.proofs.CommandWords.{has_outcome, leaves_words, read_command}
-use Rattle.tw_app.proofs.Landings.{no_memory_leaves}
+use Rattle.tw_app.proofs.DiskEndings.{no_memory_leaves}
+use Rattle.tw_app.proofs.Words.{has_outcome, leaves_words, read_command}
 use Rattle.tw_app.proofs.following.follow_words.Goals as goal
 
 pub returns-in-Ok-clause-comes : goal.returns-in-Ok-clause-comes
 returns-in-Ok-clause-comes g c =
-    has_outcome _ c.in-Ok.command (read_command _ c.in-Ok.command c.in-Ok.ensures.form c.in-Ok.ensures.no_form)
-    (g.I.Inputs.told c.args.inputs.now) _ _ (g.D.Disk.view c.args.disk).content _ _ c.follow.result.outcome c.follow.ensures.comes
+    has_outcome _ c.in-Ok.command (read_command _ c.in-Ok.command c.in-Ok.ensures.form c.in-Ok.ensures.no_form) _ c.follow.result.outcome c.follow.ensures.comes
 
 pub returns-in-Ok-clause-leaves : goal.returns-in-Ok-clause-leaves
 returns-in-Ok-clause-leaves g c =

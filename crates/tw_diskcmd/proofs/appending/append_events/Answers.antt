@@ -1,8 +1,8 @@
 use Rattle.tw_base.specs.History.{with_events}
 use Rattle.tw_service.specs.Serves.{disk_of}
-use Rattle.tw_app.proofs.AtRest.{leaves_from, left_on}
-use Rattle.tw_app.proofs.Landings.{unopened_leaves, unopened_step}
-use Rattle.tw_app.proofs.appending.append_events.Goals as goal
+use Rattle.tw_diskcmd.proofs.AtRest.{leaves_from, left_on}
+use Rattle.tw_diskcmd.proofs.Landings.{unopened_leaves, unopened_step}
+use Rattle.tw_diskcmd.proofs.appending.append_events.Goals as goal
 
 pub returns-in-Ok-clause-comes : goal.returns-in-Ok-clause-comes
 returns-in-Ok-clause-comes g c =
@@ -19,12 +19,12 @@ returns-in-Ok-clause-leaves g c = λ h reads.
 pub returns-in-Err-clause-comes : goal.returns-in-Err-clause-comes
 returns-in-Err-clause-comes g c =
     unopened_step (g.D.Disk.view c.args.disk).content (g.D.Disk.view c.args.disk).faults (g.D.Disk.view c.in-Err.disk).faults c.args.events.now c.in-Err.fault
-    c.in-Err.ensures.refused c.in-Err.ensures.answers c.in-Err.ensures.fault c.outcome_of_store.result c.outcome_of_store.ensures
+    c.in-Err.ensures.refused c.in-Err.ensures.answers c.in-Err.ensures.fault c.from.result c.from.ensures
 
 pub returns-in-Err-clause-leaves : goal.returns-in-Err-clause-leaves
 returns-in-Err-clause-leaves g c = λ h reads.
     let d = g.D.Disk in
-    unopened_leaves d.view c.args.disk c.in-Err.disk c.args.events.now h reads c.in-Err.ensures.unchanged c.in-Err.fault c.outcome_of_store.result c.outcome_of_store.ensures
+    unopened_leaves d.view c.args.disk c.in-Err.disk c.args.events.now h reads c.in-Err.ensures.unchanged c.in-Err.fault c.from.result c.from.ensures
     (c.in-Err.ensures.served reads.image h.name h reads.told reads.stands) c.in-Err.ensures.any_moment_err
 
 pub returns-in-Ok-clause-unwritten : goal.returns-in-Ok-clause-unwritten

@@ -1,5 +1,5 @@
-use Rattle.tw_app.proofs.OneAnswer.{agree_proof, agree_step}
-use Rattle.tw_app.proofs.laws.told_laws.Goals as goal
+use Rattle.tw_diskcmd.proofs.OneAnswer.{agree_proof, agree_step}
+use Rattle.tw_diskcmd.proofs.laws.told_laws.Goals as goal
 
 pub returns-clause-adding : goal.returns-clause-adding
 returns-clause-adding c = agree_step

@@ -1,7 +1,7 @@
 use Rattle.std.proofs.Common.{ℕ, List, ap}
 use Rattle.tw_base.specs.declared.thread.Thread.{Thread}
 use Rattle.tw_base.specs.Auth.{auth, auths}
-use Rattle.tw_app.proofs.making.first_thread.Goals as goal
+use Rattle.tw_diskcmd.proofs.making.first_thread.Goals as goal
 
 pub returns : goal.returns
 unfolding auth auths

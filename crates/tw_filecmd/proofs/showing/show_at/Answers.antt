@@ -1,5 +1,5 @@
-use Rattle.tw_app.proofs.Histories.{shown_at}
-use Rattle.tw_app.proofs.showing.show_at.Goals as goal
+use Rattle.tw_filecmd.proofs.Histories.{shown_at}
+use Rattle.tw_filecmd.proofs.showing.show_at.Goals as goal
 
 pub returns-clause-shown : goal.returns-clause-shown
 returns-clause-shown c =
