@@ -4,16 +4,10 @@ use Rattle.std.specs.Prelude.{Option, Some, None, MatchOption, Result, Ok, Err}
 use Rattle.tw_base.specs.declared.thread.Thread.{Thread}
 use Rattle.tw_base.specs.Faults.{Rose}
 use Rattle.tw_base.specs.History.{History}
-use Rattle.tw_disk.specs.Image.{Image}
-use Rattle.tw_pages.specs.declared.open.StoreFault.TheVariants as store
-use Rattle.tw_skiplist.specs.declared.head.Head.{Head}
-use Rattle.tw_service.proofs.Standing.{stands_opened}
-use Rattle.sha2.specs.Sha256.{sha256}
 use Rattle.tw_text.specs.CommandLine.{command_of}
 use Rattle.tw_text.specs.declared.command.Command.{Command}
 use Rattle.tw_text.specs.declared.command.Command.TheVariants.{Append, Init, ProveEvent, Show, VerifyFile, VerifyOne}
 use Rattle.tw_text.specs.declared.refusal.StoreCause.{StoreCause}
-use Rattle.tw_text.specs.declared.refusal.StoreCause.TheVariants as cause
 use Rattle.tw_chain.specs.declared.verdict.Verdict.{Verdict}
 use Rattle.tw_filecmd.specs.declared.fault.FileCommandFault.{FileCommandFault}
 use Rattle.tw_filecmd.specs.declared.fault.FileCommandFault.TheVariants as file
@@ -22,9 +16,10 @@ use Rattle.tw_filecmd.specs.Verifying.{IsJudged, VerifyFileComes, VerifyOneComes
 use Rattle.tw_diskcmd.specs.declared.fault.DiskCommandFault.{DiskCommandFault}
 use Rattle.tw_diskcmd.specs.declared.fault.DiskCommandFault.TheVariants as disk
 use Rattle.tw_diskcmd.specs.Appending.{AppendComes, MeetsBadLink}
-use Rattle.tw_diskcmd.specs.Disks.{IsCause, ReadsAs}
+use Rattle.tw_diskcmd.specs.Disks.{ReadsAs}
 use Rattle.tw_diskcmd.specs.Making.{InitComes}
 use Rattle.tw_diskcmd.specs.Proving.{MeetsBadPage, ProveComes}
+use Rattle.tw_diskcmd.proofs.Served.{served}
 use Rattle.tw_app.specs.declared.outcome.Outcome.{Outcome}
 use Rattle.tw_app.specs.declared.outcome.Outcome.TheVariants.{Judged, Shown, Made, Refused, Unserved, Unreadable, BadWords, InputFault, DiskFault, NoMemory}
 use Rattle.tw_app.specs.Around.{Met}
@@ -235,11 +230,6 @@ module _ (m : Met) where
 
   -- a disk that reads as one that stands for a history can serve every command
   module _ (h : History) (reads : ReadsAs m.disk.found h) where
-    served_cause : (Meets : (pages : Image) → Head → (page : ℕ) → Type 0) → (why : StoreCause) → IsCause Meets reads.image why → ⊥
-    served_cause Meets cause.Blank is = stands_opened sha256 reads.image h.name h store.Blank reads.stands is
-    served_cause Meets (cause.NotAStore slot) is = stands_opened sha256 reads.image h.name h (store.NotAStore slot) reads.stands is
-    served_cause Meets (cause.BadPage page) is = is.1 h reads.stands
-
     pub served_command : (c : Command) (why : StoreCause) → ComesTo m c (Unserved why) → ⊥
     served_command (Init name) why of =
         let f = made_fault (Unserved why) tt (InitComes m.disk name) of.0 of.1 of.2 in
@@ -247,11 +237,11 @@ module _ (m : Met) where
     served_command (Append file) why of =
         let f = made_fault (Unserved why) tt (AppendComes m.inputs m.disk file) of.0 of.1 of.2 in
         let cant = subst (λ (g : DiskCommandFault). AppendComes m.inputs m.disk file (Err g)) (disk_unserved why f.0 f.2) f.1 in
-        served_cause (MeetsBadLink cant.0) why (cant.2 reads.image reads.told)
+        served (MeetsBadLink cant.0) m.disk.found h reads why cant.2
     served_command (ProveEvent step index top) why of =
         let f = proved_fault (Unserved why) tt (ProveComes m.disk step index top) of.0 of.1 of.2 in
         let cant = subst (λ (g : DiskCommandFault). ProveComes m.disk step index top (Err g)) (disk_unserved why f.0 f.2) f.1 in
-        served_cause (MeetsBadPage step index top) why (cant reads.image reads.told)
+        served (MeetsBadPage step index top) m.disk.found h reads why cant
     served_command (Show history step index) why of =
         let f = shown_fault (Unserved why) tt (ShowComes m.inputs history step index) of.0 of.1 of.2 in file_not_unserved why f.0 f.2
     served_command (VerifyFile proof anchors) why of =

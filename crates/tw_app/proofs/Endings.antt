@@ -32,19 +32,16 @@ use Rattle.tw_app.specs.Commands.{NamesFile, UsesDisk}
 use Rattle.tw_app.specs.Outcomes.{TakesMemory, of_disk_fault, of_file_fault, proved, shown, status_of, text_of}
 use Rattle.tw_app.specs.Running.{ComesTo, EndsAs, EndsLeaving, EndsWith, HasOutcome, HaveNoForm}
 use Rattle.tw_app.specs.Statuses.{AreBuilt, AskForVerdict, IsAcceptedRun, IsBuilt, IsDiskFaultRun, IsInputFaultRun, IsRefusedRun, IsRejectedRun, IsStatus, IsUnreadableRun, IsUnservedRun, IsUsage, IsUsageRun, IsVerify}
-use Rattle.tw_app.proofs.Commands.{Judges, built_by, disk_fault_of, disk_is_fault, fault_status, file_is_fault, input_fault_of, judging_of, no_form_status, no_memory_comes, of_option, of_words, served_command, unbuilt_of, verdict_or_fault}
+use Rattle.tw_app.proofs.Words.{no_memory_outcome}
+use Rattle.tw_app.proofs.Commands.{IsFault, Judges, built_by, disk_fault_of, disk_is_fault, fault_status, file_is_fault, input_fault_of, judging_of, no_form_status, of_option, of_words, served_command, unbuilt_of, verdict_or_fault}
 
 -- the outcome that was come to, or want of memory for its text
 pub ends_by : (a : Around) (status : ℕ) (Leaves : Outcome → Type 0) (outcome : Outcome) → HasOutcome a.met a.words outcome → Leaves outcome → (TakesMemory outcome → Leaves NoMemory)
     → EndsWith a.taken a.sink_faults status outcome ⊎ (TakesMemory outcome × EndsWith a.taken a.sink_faults status NoMemory) → EndsLeaving a status Leaves
 ends_by a status Leaves outcome has leaves without (inl ends) = (outcome, record { has = has; ends = ends }, leaves)
-ends_by a status Leaves outcome has leaves without (inr ends) = (NoMemory, record { has = no_memory (command_of a.words); ends = ends.1 }, without ends.0)
-  where
-    no_memory : (o : Option Command) → MatchOption o (HaveNoForm a.words NoMemory) (λ c. ComesTo a.met c NoMemory)
-    no_memory None = tt
-    no_memory (Some c) = no_memory_comes a.met c
+ends_by a status Leaves outcome has leaves without (inr ends) = (NoMemory, record { has = no_memory_outcome a.words a.met; ends = ends.1 }, without ends.0)
 
-zero_not_four : (n : ℕ) → n ≡ 0 → n ≡ 4 → ⊥
+pub zero_not_four : (n : ℕ) → n ≡ 0 → n ≡ 4 → ⊥
 zero_not_four n zeroth fourth = omega (arith, zeroth, fourth)
 
 not_verdict : (verdict : Verdict) (n k : ℕ) → n ≡ k → (k ≡ 0 → ⊥) → (k ≡ 1 → ⊥) → n ≡ status_of (Judged verdict) → ⊥
@@ -103,7 +100,7 @@ module _ (a : Around) (status : ℕ) (outcome : Outcome) (e : EndsAs a status ou
   pub accepted : status ≡ 0 → AskForVerdict a.words → IsAcceptedRun a.met.inputs.told a.words a.taken.before a.taken.after
   accepted zeroth asks = by (command_of a.words) refl e.has asks
     where
-      of : (c : Command) → command_of a.words ≡ Some c → ComesTo a.met c outcome → ((v : Verdict) × (outcome ≡ Judged v)) ⊎ _ → IsAcceptedRun a.met.inputs.told a.words a.taken.before a.taken.after
+      of : (c : Command) → command_of a.words ≡ Some c → ComesTo a.met c outcome → ((v : Verdict) × (outcome ≡ Judged v)) ⊎ IsFault outcome → IsAcceptedRun a.met.inputs.told a.words a.taken.before a.taken.after
       of c is comes (inl judged) =
           accepted_by zeroth c judged.0 is (judging_of a.met c judged.0 (subst (λ (o : Outcome). ComesTo a.met c o) judged.1 comes)) (told_of (Judged judged.0) judged.1 (zero_not_four status zeroth))
       of c is comes (inr fault) = absurd (fault_status outcome fault (sym (told (zero_not_four status zeroth)).0 ∙ zeroth))

@@ -1,4 +1,4 @@
-pub mod Words
 pub mod Commands
+pub mod Words
 pub mod Endings
 pub mod DiskEndings

@@ -8,7 +8,9 @@ use Rattle.tw_text.specs.declared.command.Command.{Command}
 use Rattle.tw_text.specs.declared.words.WordFault.{WordFault}
 use Rattle.tw_text.specs.declared.words.WordFault.TheVariants.{NoMemory}
 use Rattle.tw_app.specs.declared.outcome.Outcome.{Outcome}
+use Rattle.tw_app.specs.declared.outcome.Outcome.TheVariants.{NoMemory as NoMemoryOutcome}
 use Rattle.tw_app.specs.Around.{Met}
+use Rattle.tw_app.proofs.Commands.{no_memory_comes}
 use Rattle.tw_app.specs.Running.{ComesTo, HasOutcome, HaveNoForm, Leaves, LeavesTo}
 
 abbrev asOk : Command → Result Command WordFault
@@ -31,3 +33,11 @@ module _ (words : List (List ℕ)) (c : Command) (is : command_of words ≡ Some
       → Leaves view old new told words outcome
   leaves_words view old new told outcome leaves =
       subst (λ (o : Option Command). MatchOption o (new ≡ old) (λ d. LeavesTo view old new told d outcome)) (sym is) leaves
+
+-- want of memory for the command is free
+pub no_memory_outcome : (words : List (List ℕ)) (m : Met) → HasOutcome m words NoMemoryOutcome
+no_memory_outcome words m = by (command_of words)
+  where
+    by : (o : Option Command) → MatchOption o (HaveNoForm words NoMemoryOutcome) (λ c. ComesTo m c NoMemoryOutcome)
+    by None = tt
+    by (Some c) = no_memory_comes m c

@@ -1,7 +1,7 @@
 -- Disks that stand for a history, and runs of calls that keep it.
 use Rattle.std.proofs.Common.{◌≡◌, ◌∙◌, ◌≤◌, ◌<◌, ℕ, List, arith, refl, sym, subst, inl, inr, ◌⊎◌, ⊎_elim}
 use Rattle.std.proofs.lemmas.Bool.{cases_eq}
-use Rattle.std.specs.Prelude.{Option, Some, Result, Ok, Err}
+use Rattle.std.specs.Prelude.{Some, Result, Ok, Err}
 use Rattle.tw_base.specs.declared.thread.Thread.{Thread}
 use Rattle.sha2.specs.Sha256.{sha256}
 use Rattle.tw_base.specs.History.{History}

@@ -1,6 +1,5 @@
 -- From an events file that was read to its events, or to the byte at which it is none.
 use Rattle.std.proofs.Common.{◌≡◌, ℕ, ◌<◌, ◌≤◌, List, length, take, refl, subst, sym, ap, ◌∙◌, arith, inl, inr}
-use Rattle.std.specs.Prelude.{Option, Err}
 use Rattle.tw_outside.specs.Asked.{Asked}
 use Rattle.tw_diskcmd.specs.Faults.{IsWhereMemory}
 use Rattle.tw_diskcmd.specs.WorkSteps.{ComesOfFile}
@@ -8,7 +7,7 @@ use Rattle.std.proofs.lemmas.Bool.{cases_lt}
 use Rattle.std.proofs.lemmas.List.{length-take, length-take-le, take_all}
 use Rattle.tw_base.specs.Formats.{IsPlace, Spells, SpellsNothing}
 use Rattle.tw_msg.specs.EventsFile.{events_file}
-use Rattle.tw_outside.specs.Files.{Files, IsReadTo, IsThere}
+use Rattle.tw_outside.specs.Files.{IsReadTo, IsThere}
 use Rattle.tw_diskcmd.specs.declared.fault.DiskCommandFault.{DiskCommandFault}
 use Rattle.tw_diskcmd.specs.declared.fault.DiskCommandFault.TheVariants.{Unreadable, NoMemory}
 use Rattle.tw_text.specs.declared.refusal.BadInput.TheVariants.{BadByte}

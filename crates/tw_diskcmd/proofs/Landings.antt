@@ -15,7 +15,7 @@ use Rattle.tw_service.specs.Stands.{IsNotOpenedFor}
 use Rattle.tw_diskcmd.specs.declared.fault.DiskCommandFault.{DiskCommandFault}
 use Rattle.tw_diskcmd.specs.declared.fault.DiskCommandFault.TheVariants.{Refused, Unserved, Unreadable, InputFault, DiskFault, NoMemory}
 use Rattle.tw_diskcmd.specs.Appending.{AppendComes, AppendLeaves, AppendSafe, AreEventsOf, StepComes}
-use Rattle.tw_diskcmd.specs.Disks.{IsLeft, Keeps, MayBegin, ReadsAs, Settles, SparesStore, Touched, touched}
+use Rattle.tw_diskcmd.specs.Disks.{IsLeft, ReadsAs, Settles, Touched, touched}
 use Rattle.tw_diskcmd.specs.Faults.{fault_of_store}
 use Rattle.tw_diskcmd.specs.Making.{InitComes, InitLeaves, InitSafe}
 use Rattle.tw_diskcmd.specs.Proving.{ProveComes, ProveLeaves}

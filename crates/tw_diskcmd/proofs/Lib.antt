@@ -5,3 +5,4 @@ pub mod Steps
 pub mod EventProofs
 pub mod Landings
 pub mod OneAnswer
+pub mod Served

@@ -2,9 +2,7 @@
 use Rattle.std.proofs.Common.{◌≡◌, ◌∙◌, ℕ, ◌+◌, ◌^◌, ◌≤◌, List, length, refl, ap, sym, subst, inl, inr, false}
 use Rattle.std.specs.Prelude.{Option, Some, None, Result, Ok, Err}
 use Rattle.sha2.specs.Sha256.{sha256}
-use Rattle.sha2.proofs.Facts256.{length-sha256}
 use Rattle.tw_base.specs.declared.thread.Thread.{Thread}
-use Rattle.tw_base.specs.Texts.{empty_tree_text}
 use Rattle.tw_disk.specs.Image.{Image}
 use Rattle.tw_pages.specs.Store.{Opening}
 use Rattle.tw_pages.specs.declared.open.StoreFault.{StoreFault}

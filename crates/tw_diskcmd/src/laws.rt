@@ -22,6 +22,6 @@ pub fn told_laws()
 {}
 
 /// A disk that is left as it was keeps the history that it stands for.
-pub fn keeping_laws<D: Disk>()
+pub fn idle_laws<D: Disk>()
     ensures { (old new : D) → IsLeft D.view old new → Keeps D.view old new }
 {}

@@ -12,7 +12,7 @@ mod worked;
 
 pub use appending::append;
 pub use fault::DiskCommandFault;
-pub use laws::{keeping_laws, told_laws};
+pub use laws::{idle_laws, told_laws};
 pub use making::make;
 pub use proving::prove;
 pub use worked::Worked;

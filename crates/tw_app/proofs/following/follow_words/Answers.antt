@@ -1,5 +1,5 @@
 use Rattle.tw_app.proofs.DiskEndings.{no_memory_leaves}
-use Rattle.tw_app.proofs.Words.{has_outcome, leaves_words, read_command}
+use Rattle.tw_app.proofs.Words.{has_outcome, leaves_words, no_memory_outcome, read_command}
 use Rattle.tw_app.proofs.following.follow_words.Goals as goal
 
 pub returns-in-Ok-clause-comes : goal.returns-in-Ok-clause-comes
@@ -16,3 +16,6 @@ pub returns-in-Err-NoMemory-clause-leaves : goal.returns-in-Err-NoMemory-clause-
 returns-in-Err-NoMemory-clause-leaves g c =
     let d = g.D.Disk in
     no_memory_leaves d.view g.met.D.Disk.only_now c.args.disk (g.I.Inputs.told c.args.inputs.now) _
+
+pub returns-in-Err-NoMemory-clause-comes : goal.returns-in-Err-NoMemory-clause-comes
+returns-in-Err-NoMemory-clause-comes g c = no_memory_outcome _ _
