@@ -1,5 +1,5 @@
 -- What is known of a command's outcome by its kind.
-use Rattle.std.proofs.Common.{◌≡◌, ◌∙◌, ℕ, List, [], ◌∷◌, refl, ap, sym, subst, arith, inl, inr, ◌⊎◌}
+use Rattle.std.proofs.Common.{◌≡◌, ℕ, List, [], ◌∷◌, refl, ap, sym, subst, arith, inl, inr, ◌⊎◌}
 use Rattle.std.specs.Prelude.{Option, Some, None, MatchOption, Result, Ok, Err}
 use Rattle.tw_base.specs.declared.thread.Thread.{Thread}
 use Rattle.tw_base.specs.Faults.{Rose}
@@ -56,16 +56,11 @@ disk_is_fault disk.DiskFault = tt
 disk_is_fault disk.NoMemory = tt
 
 pub fault_status : (o : Outcome) → IsFault o → status_of o ≡ 0 → ⊥
-fault_status (Refused refusal) is zeroth = omega (arith, zeroth)
-fault_status (Unserved cause) is zeroth = omega (arith, zeroth)
-fault_status (Unreadable bad) is zeroth = omega (arith, zeroth)
-fault_status InputFault is zeroth = omega (arith, zeroth)
-fault_status DiskFault is zeroth = omega (arith, zeroth)
-fault_status NoMemory is zeroth = omega (arith, zeroth)
 fault_status (Judged verdict) is zeroth = is
 fault_status (Shown proof) is zeroth = is
 fault_status (Made thread) is zeroth = is
 fault_status (BadWords number) is zeroth = is
+fault_status _ is zeroth = omega (arith, zeroth)
 
 -- an outcome that is of no fault isn't that of a fault
 of_file : (o : Outcome) (f : FileCommandFault) → o ≡ of_file_fault f → IsFault o
@@ -125,41 +120,24 @@ unbuilt_of m _ n is = (is, λ built. built m n is)
 -- ---- which fault it was
 
 file_input : (f : FileCommandFault) → InputFault ≡ of_file_fault f → f ≡ file.InputFault
-file_input (file.Refused refusal) is = absurd (cc)
-file_input (file.Unreadable bad) is = absurd (cc)
 file_input file.InputFault is = refl
-file_input file.NoMemory is = absurd (cc)
+file_input _ is = absurd (cc)
 
 disk_input : (f : DiskCommandFault) → InputFault ≡ of_disk_fault f → f ≡ disk.InputFault
-disk_input (disk.Refused refusal) is = absurd (cc)
-disk_input (disk.Unserved why) is = absurd (cc)
-disk_input (disk.Unreadable bad) is = absurd (cc)
 disk_input disk.InputFault is = refl
-disk_input disk.DiskFault is = absurd (cc)
-disk_input disk.NoMemory is = absurd (cc)
+disk_input _ is = absurd (cc)
 
 disk_failed : (f : DiskCommandFault) → DiskFault ≡ of_disk_fault f → f ≡ disk.DiskFault
-disk_failed (disk.Refused refusal) is = absurd (cc)
-disk_failed (disk.Unserved why) is = absurd (cc)
-disk_failed (disk.Unreadable bad) is = absurd (cc)
-disk_failed disk.InputFault is = absurd (cc)
 disk_failed disk.DiskFault is = refl
-disk_failed disk.NoMemory is = absurd (cc)
+disk_failed _ is = absurd (cc)
 
 file_not_disk : (f : FileCommandFault) → DiskFault ≡ of_file_fault f → ⊥
-file_not_disk (file.Refused refusal) is = cc
-file_not_disk (file.Unreadable bad) is = cc
-file_not_disk file.InputFault is = cc
-file_not_disk file.NoMemory is = cc
+file_not_disk _ is = cc
 
 module _ (why : StoreCause) where
   disk_unserved : (f : DiskCommandFault) → Unserved why ≡ of_disk_fault f → f ≡ disk.Unserved why
-  disk_unserved (disk.Refused refusal) is = absurd (cc)
   disk_unserved (disk.Unserved other) is = let same : other ≡ why = cc in ap (λ (c : StoreCause). disk.Unserved c) same
-  disk_unserved (disk.Unreadable bad) is = absurd (cc)
-  disk_unserved disk.InputFault is = absurd (cc)
-  disk_unserved disk.DiskFault is = absurd (cc)
-  disk_unserved disk.NoMemory is = absurd (cc)
+  disk_unserved _ is = absurd (cc)
 
   file_not_unserved : (f : FileCommandFault) → Unserved why ≡ of_file_fault f → ⊥
   file_not_unserved (file.Refused refusal) is = cc

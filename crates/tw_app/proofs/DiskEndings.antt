@@ -1,5 +1,5 @@
 -- What a run leaves of the disk.
-use Rattle.std.proofs.Common.{◌≡◌, ◌∙◌, ℕ, List, ap, sym, subst, arith, inl, inr, ◌⊎◌, ⊎_elim, refl}
+use Rattle.std.proofs.Common.{◌≡◌, ◌∙◌, ℕ, List, sym, subst, arith, inl, inr, ◌⊎◌, ⊎_elim, refl}
 use Rattle.std.specs.Prelude.{Option, Some, None, MatchOption, Result, Ok, Err}
 use Rattle.tw_base.specs.declared.thread.Thread.{Thread}
 use Rattle.tw_disk.specs.Disk.{DiskView}
@@ -13,7 +13,7 @@ use Rattle.tw_text.specs.declared.command.Command.TheVariants.{Append, Init, Pro
 use Rattle.tw_diskcmd.specs.declared.fault.DiskCommandFault.{DiskCommandFault}
 use Rattle.tw_diskcmd.specs.declared.fault.DiskCommandFault.TheVariants as disk
 use Rattle.tw_diskcmd.specs.Appending.{AddsStep, AppendLeaves, OfEvents}
-use Rattle.tw_diskcmd.specs.Disks.{Adds, Begins, IsLeft, Keeps, Settles}
+use Rattle.tw_diskcmd.specs.Disks.{Adds, Begins, IsLeft, Settles}
 use Rattle.tw_diskcmd.specs.Making.{InitComes, InitLeaves, MakesService}
 use Rattle.tw_diskcmd.specs.Proving.{ProveLeaves}
 use Rattle.tw_diskcmd.proofs.AtRest.{left_keeps, no_call_left, untouched_left}
@@ -45,20 +45,15 @@ module _ {D : Type 0} (view : D → DiskView)
   init_memory : (name : List ℕ) (r : Result Thread DiskCommandFault) → InitLeaves view old new name r → TakesMemory (made r) → Left
   init_memory name (Ok thread) left takes = absurd takes
   init_memory name (Err disk.DiskFault) left takes = absurd takes
-  init_memory name (Err (disk.Refused refusal)) left takes = left
-  init_memory name (Err (disk.Unserved cause)) left takes = left
-  init_memory name (Err (disk.Unreadable bad)) left takes = left
-  init_memory name (Err disk.InputFault) left takes = left
-  init_memory name (Err disk.NoMemory) left takes = left
+  init_memory name _ left takes = left
 
   append_memory : (told : Option Files) (file : List ℕ) (r : Result Thread DiskCommandFault) → AppendLeaves view old new told file r → TakesMemory (made r) → Left
   append_memory told file (Ok thread) left takes = absurd takes
   append_memory told file (Err disk.DiskFault) left takes = absurd takes
   append_memory told file (Err (disk.Refused refusal)) left takes = left.0
-  append_memory told file (Err (disk.Unserved cause)) left takes = left
   append_memory told file (Err (disk.Unreadable bad)) left takes = same_left left
   append_memory told file (Err disk.InputFault) left takes = absurd takes
-  append_memory told file (Err disk.NoMemory) left takes = left
+  append_memory told file _ left takes = left
 
   memory_leaves_of : (told : Option Files) (c : Command) (o : Outcome) → TakesMemory o → LeavesC told c o → LeavesC told c NoMemory
   memory_leaves_of told (Init name) o takes of = (Err disk.NoMemory, init_memory name of.0 of.1 (subst TakesMemory of.2 takes), refl)
@@ -93,20 +88,15 @@ module _ {D : Type 0} (view : D → DiskView)
   init_idle : (name : List ℕ) (r : Result Thread DiskCommandFault) → InitLeaves view old new name r → (status_of (made r) ≡ 0 → ⊥) → (status_of (made r) ≡ 5 → ⊥) → Left
   init_idle name (Ok thread) left zeroth fifth = absurd (zeroth refl)
   init_idle name (Err disk.DiskFault) left zeroth fifth = absurd (fifth refl)
-  init_idle name (Err (disk.Refused refusal)) left zeroth fifth = left
-  init_idle name (Err (disk.Unserved cause)) left zeroth fifth = left
-  init_idle name (Err (disk.Unreadable bad)) left zeroth fifth = left
-  init_idle name (Err disk.InputFault) left zeroth fifth = left
-  init_idle name (Err disk.NoMemory) left zeroth fifth = left
+  init_idle name _ left zeroth fifth = left
 
   append_idle : (told : Option Files) (file : List ℕ) (r : Result Thread DiskCommandFault) → AppendLeaves view old new told file r → (status_of (made r) ≡ 0 → ⊥) → (status_of (made r) ≡ 5 → ⊥) → Left
   append_idle told file (Ok thread) left zeroth fifth = absurd (zeroth refl)
   append_idle told file (Err disk.DiskFault) left zeroth fifth = absurd (fifth refl)
   append_idle told file (Err (disk.Refused refusal)) left zeroth fifth = left.0
-  append_idle told file (Err (disk.Unserved cause)) left zeroth fifth = left
   append_idle told file (Err (disk.Unreadable bad)) left zeroth fifth = same_left left
   append_idle told file (Err disk.InputFault) left zeroth fifth = same_left left
-  append_idle told file (Err disk.NoMemory) left zeroth fifth = left
+  append_idle told file _ left zeroth fifth = left
 
   -- an answer that was made or refused leaves a stable disk
   abbrev IsAnswered : ℕ → Type 0
@@ -126,12 +116,7 @@ module _ {D : Type 0} (view : D → DiskView)
 
   append_settles : (told : Option Files) (file : List ℕ) (r : Result Thread DiskCommandFault) → AppendLeaves view old new told file r → status_of (made r) ≡ 7 → Settles view old new
   append_settles told file (Err (disk.Refused refusal)) left is = left.1
-  append_settles told file (Ok thread) left is = absurd (omega (arith, is))
-  append_settles told file (Err (disk.Unserved cause)) left is = absurd (omega (arith, is))
-  append_settles told file (Err (disk.Unreadable bad)) left is = absurd (omega (arith, is))
-  append_settles told file (Err disk.InputFault) left is = absurd (omega (arith, is))
-  append_settles told file (Err disk.DiskFault) left is = absurd (omega (arith, is))
-  append_settles told file (Err disk.NoMemory) left is = absurd (omega (arith, is))
+  append_settles told file _ left is = absurd (omega (arith, is))
 
   module _ (a : Around) (status : ℕ) (outcome : Outcome) (e : EndsAs a status outcome) (leaves : Leaves view old new a.met.inputs.told a.words outcome) where
     left_by : (c : Command) → command_of a.words ≡ Some c → LeavesC a.met.inputs.told c outcome

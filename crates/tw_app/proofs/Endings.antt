@@ -31,7 +31,7 @@ use Rattle.tw_app.specs.Around.{Around, Writes}
 use Rattle.tw_app.specs.Commands.{NamesFile, UsesDisk}
 use Rattle.tw_app.specs.Outcomes.{TakesMemory, of_disk_fault, of_file_fault, proved, shown, status_of, text_of}
 use Rattle.tw_app.specs.Running.{ComesTo, EndsAs, EndsLeaving, EndsWith, HasOutcome, HaveNoForm}
-use Rattle.tw_app.specs.Statuses.{AreBuilt, AskForVerdict, IsAcceptedRun, IsBuilt, IsDiskFaultRun, IsInputFaultRun, IsRefusedRun, IsRejectedRun, IsStatus, IsUnreadableRun, IsUnservedRun, IsUsage, IsUsageRun, IsVerify}
+use Rattle.tw_app.specs.Statuses.{AreBuilt, AskForVerdict, IsAcceptedRun, IsBuilt, IsDiskFaultRun, IsInputFaultRun, IsRefusedRun, IsRejectedRun, IsStatus, IsUnreadableRun, IsUnservedRun, IsUsageRun, IsVerify}
 use Rattle.tw_app.proofs.Words.{no_memory_outcome}
 use Rattle.tw_app.proofs.Commands.{IsFault, Judges, built_by, disk_fault_of, disk_is_fault, fault_status, file_is_fault, input_fault_of, judging_of, no_form_status, of_option, of_words, served_command, unbuilt_of, verdict_or_fault}
 

@@ -169,11 +169,7 @@ module _ {D : Type 0} (view : D → DiskView) where
       by : (came : Result Thread DiskCommandFault) → LeavesStep view mid new h next came → LeavesStep view old new h next came
       by (Ok thread) left = (left.0, joined left.1)
       by (Err DiskFault) left = (joined left.0, left.1)
-      by (Err (Refused refusal)) left = left
-      by (Err (Unserved cause)) left = left
-      by (Err (Unreadable bad)) left = left
-      by (Err InputFault) left = left
-      by (Err NoMemory) left = left
+      by _ left = left
 
 module _ {D H : Type 0} {g : _} {k : _} (view : D → DiskView) where
   -- a service's call after which its disk holds and may leave the same

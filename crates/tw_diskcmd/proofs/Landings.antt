@@ -148,11 +148,7 @@ module _ {D : Type 0} (view : D → DiskView) where
       pub init_safe : (name : List ℕ) (came : Result Thread DiskCommandFault) → InitLeaves view old new name came → InitSafe view old new name
       init_safe name (Ok thread) left = left.1
       init_safe name (Err DiskFault) left = left
-      init_safe name (Err (Refused refusal)) left = left_safe name left
-      init_safe name (Err (Unserved cause)) left = left_safe name left
-      init_safe name (Err (Unreadable bad)) left = left_safe name left
-      init_safe name (Err InputFault) left = left_safe name left
-      init_safe name (Err NoMemory) left = left_safe name left
+      init_safe name _ left = left_safe name left
 
       left_adds : (told : Option Files) (file : List ℕ) → IsLeft view old new → AppendSafe view old new told file
       left_adds told file left = λ h. (λ reads. inl (left.1, record { image = reads.image; told = left.0 ∙ reads.told; stands = reads.stands }), λ stands. inl ((left_keeps view old new left h).0 stands).0)
@@ -167,19 +163,14 @@ module _ {D : Type 0} (view : D → DiskView) where
         λ stands. let adds = left.2 h in inr (left.0, left.1, (adds.0, adds.1, adds.3 stands)),
       )
       append_safe told file (Err (Refused refusal)) left = left_adds told file left.0
-      append_safe told file (Err (Unserved cause)) left = left_adds told file left
       append_safe told file (Err (Unreadable bad)) left = left_adds told file (untouched_left view old new only_now left)
       append_safe told file (Err InputFault) left = left_adds told file (untouched_left view old new only_now left)
-      append_safe told file (Err NoMemory) left = left_adds told file left
+      append_safe told file _ left = left_adds told file left
 
     pub prove_left : (came : Result (List ℕ) DiskCommandFault) → ProveLeaves view old new came → IsLeft view old new
     prove_left (Ok proof) left = left.0
     prove_left (Err (Refused refusal)) left = left.0
-    prove_left (Err (Unserved cause)) left = left
-    prove_left (Err (Unreadable bad)) left = left
-    prove_left (Err InputFault) left = left
-    prove_left (Err DiskFault) left = left
-    prove_left (Err NoMemory) left = left
+    prove_left _ left = left
 
   -- ---- a disk that wasn't touched
 

@@ -1,15 +1,13 @@
 -- From a history file that was read to what showing an event of it comes to.
-use Rattle.std.proofs.Common.{◌≡◌, ℕ, suc, zero, ◌<◌, ◌≤◌, List, length, take, min, refl, sym, subst, ap, ◌∙◌, arith, inl, inr}
-use Rattle.std.specs.Prelude.{Option, Some, None, Result, Ok, Err, IfOk, IsErrAnd}
+use Rattle.std.proofs.Common.{◌≡◌, ℕ, ◌<◌, ◌≤◌, List, length, take, min, refl, sym, subst, ap, ◌∙◌, arith, inl, inr}
+use Rattle.std.specs.Prelude.{Result, Ok, Err, IfOk, IsErrAnd}
 use Rattle.std.proofs.lemmas.Bool.{cases_lt}
 use Rattle.std.proofs.lemmas.List.{length-take, length-take-le, take_all}
 use Rattle.sha2.specs.Sha256.{sha256}
-use Rattle.tw_base.specs.declared.thread.Thread.{Thread}
-use Rattle.tw_base.specs.Anchors.{anchor_of}
 use Rattle.tw_base.specs.Auth.{auth}
 use Rattle.tw_base.specs.History.{History}
 use Rattle.tw_base.specs.Sound.{IsSound}
-use Rattle.tw_outside.specs.Files.{Files, IsReadTo, IsThere}
+use Rattle.tw_outside.specs.Files.{IsReadTo, IsThere}
 use Rattle.tw_base.specs.Formats.{Spells}
 use Rattle.tw_base.proofs.FormatLaws.{one_value}
 use Rattle.tw_skipproof.specs.declared.existence.ExistenceProof.{ExistenceProof}
