@@ -1,5 +1,5 @@
 -- What is known of a command's outcome by its kind.
-use Rattle.std.proofs.Common.{◌≡◌, ℕ, List, [], ◌∷◌, refl, ap, sym, subst, arith, inl, inr, ◌⊎◌}
+use Rattle.std.proofs.Common.{◌≡◌, ◌∙◌, ℕ, List, [], ◌∷◌, refl, ap, sym, subst, arith, inl, inr, ◌⊎◌, ⊎_elim}
 use Rattle.std.specs.Prelude.{Option, Some, None, MatchOption, Result, Ok, Err}
 use Rattle.tw_base.specs.declared.thread.Thread.{Thread}
 use Rattle.tw_base.specs.Faults.{Rose}
@@ -25,7 +25,7 @@ use Rattle.tw_app.specs.declared.outcome.Outcome.TheVariants.{Judged, Shown, Mad
 use Rattle.tw_app.specs.Around.{Met}
 use Rattle.tw_app.specs.Commands.{NamesFile, UsesDisk}
 use Rattle.tw_app.specs.Outcomes.{judged, made, of_disk_fault, of_file_fault, proved, shown, status_of}
-use Rattle.tw_app.specs.Running.{ComesTo, HaveNoForm, HasOutcome, IsUnbuilt}
+use Rattle.tw_app.specs.Running.{ComesTo, HaveNoForm, HasOutcome, IsUnbuilt, Of}
 use Rattle.tw_app.specs.Statuses.{AreOf, GivesAnchors, IsBuilt, IsVerify, proof_file}
 
 pub of_option : (P : Command → Type 0) (words : List (List ℕ)) (c : Command) → command_of words ≡ Some c → P c → AreOf P words
@@ -62,63 +62,24 @@ fault_status (Made thread) is zeroth = is
 fault_status (BadWords number) is zeroth = is
 fault_status _ is zeroth = omega (arith, zeroth)
 
--- an outcome that is of no fault isn't that of a fault
-of_file : (o : Outcome) (f : FileCommandFault) → o ≡ of_file_fault f → IsFault o
-of_file o f is = subst IsFault (sym is) (file_is_fault f)
+-- something was done
+abbrev pub IsDone : Outcome → Type 0
+IsDone (Judged verdict) = Unit {0}
+IsDone (Shown proof) = Unit {0}
+IsDone (Made thread) = Unit {0}
+IsDone _ = ⊥
 
-of_disk : (o : Outcome) (f : DiskCommandFault) → o ≡ of_disk_fault f → IsFault o
-of_disk o f is = subst IsFault (sym is) (disk_is_fault f)
+abbrev IsVerdict : Outcome → Type 0
+IsVerdict (Judged verdict) = Unit {0}
+IsVerdict _ = ⊥
 
--- ---- the usage line comes of no command that is built
+done_or_fault : (o : Outcome) → IsDone o → IsFault o → ⊥
+done_or_fault (Judged verdict) done fault = fault
+done_or_fault (Shown proof) done fault = fault
+done_or_fault (Made thread) done fault = fault
+done_or_fault _ done fault = done
 
-module _ (n : ℕ) where
-  pub judged_not_usage : (r : Result Verdict FileCommandFault) → BadWords n ≡ judged r → ⊥
-  judged_not_usage (Ok verdict) is = cc
-  judged_not_usage (Err f) is = of_file (BadWords n) f is
-
-  pub shown_not_usage : (r : Result (List ℕ) FileCommandFault) → BadWords n ≡ shown r → ⊥
-  shown_not_usage (Ok proof) is = cc
-  shown_not_usage (Err f) is = of_file (BadWords n) f is
-
-  pub made_not_usage : (r : Result Thread DiskCommandFault) → BadWords n ≡ made r → ⊥
-  made_not_usage (Ok thread) is = cc
-  made_not_usage (Err f) is = of_disk (BadWords n) f is
-
-  pub proved_not_usage : (r : Result (List ℕ) DiskCommandFault) → BadWords n ≡ proved r → ⊥
-  proved_not_usage (Ok proof) is = cc
-  proved_not_usage (Err f) is = of_disk (BadWords n) f is
-
-pub unbuilt_status : (o : Outcome) → IsUnbuilt o → status_of o ≡ 0 → ⊥
-unbuilt_status (BadWords number) is zeroth = omega (arith, zeroth)
-unbuilt_status NoMemory is zeroth = omega (arith, zeroth)
-unbuilt_status _ is zeroth = is
-
-pub no_form_status : (words : List (List ℕ)) (o : Outcome) → HaveNoForm words o → status_of o ≡ 0 → ⊥
-no_form_status words (BadWords number) is zeroth = omega (arith, zeroth)
-no_form_status words NoMemory is zeroth = omega (arith, zeroth)
-no_form_status words _ is zeroth = is
-
--- a command that was done is built
-pub built_by : (m : Met) (c : Command) (o : Outcome) → ComesTo m c o → status_of o ≡ 0 → IsBuilt c
-built_by m (Init name) o comes zeroth = λ any n of. made_not_usage n of.0 of.2
-built_by m (Append file) o comes zeroth = λ any n of. made_not_usage n of.0 of.2
-built_by m (ProveEvent step index top) o comes zeroth = λ any n of. proved_not_usage n of.0 of.2
-built_by m (Show history step index) o comes zeroth = λ any n of. shown_not_usage n of.0 of.2
-built_by m (VerifyFile proof anchors) o comes zeroth = λ any n of. judged_not_usage n of.0 of.2
-built_by m (VerifyOne proof anchor) o comes zeroth = λ any n of. judged_not_usage n of.0 of.2
-built_by m _ o comes zeroth = absurd (unbuilt_status o comes zeroth)
-
-pub unbuilt_of : (m : Met) (c : Command) (n : ℕ) → ComesTo m c (BadWords n) → (n ≡ 0) × (IsBuilt c → ⊥)
-unbuilt_of m (Init name) n of = absurd (made_not_usage n of.0 of.2)
-unbuilt_of m (Append file) n of = absurd (made_not_usage n of.0 of.2)
-unbuilt_of m (ProveEvent step index top) n of = absurd (proved_not_usage n of.0 of.2)
-unbuilt_of m (Show history step index) n of = absurd (shown_not_usage n of.0 of.2)
-unbuilt_of m (VerifyFile proof anchors) n of = absurd (judged_not_usage n of.0 of.2)
-unbuilt_of m (VerifyOne proof anchor) n of = absurd (judged_not_usage n of.0 of.2)
-unbuilt_of m _ n is = (is, λ built. built m n is)
-
--- ---- which fault it was
-
+-- which fault it was
 file_input : (f : FileCommandFault) → InputFault ≡ of_file_fault f → f ≡ file.InputFault
 file_input file.InputFault is = refl
 file_input _ is = absurd (cc)
@@ -132,114 +93,30 @@ disk_failed disk.DiskFault is = refl
 disk_failed _ is = absurd (cc)
 
 file_not_disk : (f : FileCommandFault) → DiskFault ≡ of_file_fault f → ⊥
+file_not_disk file.InputFault is = cc
 file_not_disk _ is = cc
 
-module _ (why : StoreCause) where
-  disk_unserved : (f : DiskCommandFault) → Unserved why ≡ of_disk_fault f → f ≡ disk.Unserved why
-  disk_unserved (disk.Unserved other) is = let same : other ≡ why = cc in ap (λ (c : StoreCause). disk.Unserved c) same
-  disk_unserved _ is = absurd (cc)
+disk_unserved : (why : StoreCause) (f : DiskCommandFault) → Unserved why ≡ of_disk_fault f → f ≡ disk.Unserved why
+disk_unserved why (disk.Unserved other) is = let same : other ≡ why = cc in ap (λ (c : StoreCause). disk.Unserved c) same
+disk_unserved why _ is = absurd (cc)
 
-  file_not_unserved : (f : FileCommandFault) → Unserved why ≡ of_file_fault f → ⊥
-  file_not_unserved (file.Refused refusal) is = cc
-  file_not_unserved (file.Unreadable bad) is = cc
-  file_not_unserved file.InputFault is = cc
-  file_not_unserved file.NoMemory is = cc
+file_not_unserved : (why : StoreCause) (f : FileCommandFault) → Unserved why ≡ of_file_fault f → ⊥
+file_not_unserved why file.InputFault is = cc
+file_not_unserved why _ is = cc
 
-module _ (o : Outcome) (ok : IsFault o) where
-  -- a fault is that of an error
-  made_fault : (P : Result Thread DiskCommandFault → Type 0) (r : Result Thread DiskCommandFault) → P r → o ≡ made r → (f : DiskCommandFault) × P (Err f) × (o ≡ of_disk_fault f)
-  made_fault P (Ok thread) holds is = absurd (subst IsFault is ok)
-  made_fault P (Err f) holds is = (f, holds, is)
+pub unbuilt_status : (o : Outcome) → IsUnbuilt o → status_of o ≡ 0 → ⊥
+unbuilt_status (BadWords number) is zeroth = omega (arith, zeroth)
+unbuilt_status NoMemory is zeroth = omega (arith, zeroth)
+unbuilt_status _ is zeroth = is
 
-  proved_fault : (P : Result (List ℕ) DiskCommandFault → Type 0) (r : Result (List ℕ) DiskCommandFault) → P r → o ≡ proved r → (f : DiskCommandFault) × P (Err f) × (o ≡ of_disk_fault f)
-  proved_fault P (Ok proof) holds is = absurd (subst IsFault is ok)
-  proved_fault P (Err f) holds is = (f, holds, is)
+pub no_form_status : (words : List (List ℕ)) (o : Outcome) → HaveNoForm words o → status_of o ≡ 0 → ⊥
+no_form_status words (BadWords number) is zeroth = omega (arith, zeroth)
+no_form_status words NoMemory is zeroth = omega (arith, zeroth)
+no_form_status words _ is zeroth = is
 
-  shown_fault : (P : Result (List ℕ) FileCommandFault → Type 0) (r : Result (List ℕ) FileCommandFault) → P r → o ≡ shown r → (f : FileCommandFault) × P (Err f) × (o ≡ of_file_fault f)
-  shown_fault P (Ok proof) holds is = absurd (subst IsFault is ok)
-  shown_fault P (Err f) holds is = (f, holds, is)
-
-  judged_fault : (P : Result Verdict FileCommandFault → Type 0) (r : Result Verdict FileCommandFault) → P r → o ≡ judged r → (f : FileCommandFault) × P (Err f) × (o ≡ of_file_fault f)
-  judged_fault P (Ok verdict) holds is = absurd (subst IsFault is ok)
-  judged_fault P (Err f) holds is = (f, holds, is)
+-- ---- what is known of each command that is built
 
 module _ (m : Met) where
-  abbrev pub InputsFailed : Command → Type 0
-  InputsFailed c = IsBuilt c × NamesFile c × Rose m.inputs.before m.inputs.after
-
-  pub input_fault_of : (c : Command) → ComesTo m c InputFault → InputsFailed c
-  input_fault_of (Init name) of =
-      let f = made_fault InputFault tt (InitComes m.disk name) of.0 of.1 of.2 in
-      absurd (subst (λ (g : DiskCommandFault). InitComes m.disk name (Err g)) (disk_input f.0 f.2) f.1)
-  input_fault_of (Append file) of =
-      let f = made_fault InputFault tt (AppendComes m.inputs m.disk file) of.0 of.1 of.2 in
-      (λ any n is. made_not_usage n is.0 is.2, tt, subst (λ (g : DiskCommandFault). AppendComes m.inputs m.disk file (Err g)) (disk_input f.0 f.2) f.1)
-  input_fault_of (ProveEvent step index top) of =
-      let f = proved_fault InputFault tt (ProveComes m.disk step index top) of.0 of.1 of.2 in
-      absurd (subst (λ (g : DiskCommandFault). ProveComes m.disk step index top (Err g)) (disk_input f.0 f.2) f.1)
-  input_fault_of (Show history step index) of =
-      let f = shown_fault InputFault tt (ShowComes m.inputs history step index) of.0 of.1 of.2 in
-      (λ any n is. shown_not_usage n is.0 is.2, tt, subst (λ (g : FileCommandFault). ShowComes m.inputs history step index (Err g)) (file_input f.0 f.2) f.1)
-  input_fault_of (VerifyFile proof anchors) of =
-      let f = judged_fault InputFault tt (VerifyFileComes m.inputs proof anchors) of.0 of.1 of.2 in
-      (λ any n is. judged_not_usage n is.0 is.2, tt, subst (λ (g : FileCommandFault). VerifyFileComes m.inputs proof anchors (Err g)) (file_input f.0 f.2) f.1)
-  input_fault_of (VerifyOne proof anchor) of =
-      let f = judged_fault InputFault tt (VerifyOneComes m.inputs proof anchor) of.0 of.1 of.2 in
-      (λ any n is. judged_not_usage n is.0 is.2, tt, subst (λ (g : FileCommandFault). VerifyOneComes m.inputs proof anchor (Err g)) (file_input f.0 f.2) f.1)
-  input_fault_of _ of = absurd of
-
-  pub disk_fault_of : (c : Command) → ComesTo m c DiskFault → UsesDisk c × Rose m.disk.before m.disk.after
-  disk_fault_of (Init name) of =
-      let f = made_fault DiskFault tt (InitComes m.disk name) of.0 of.1 of.2 in
-      (tt, subst (λ (g : DiskCommandFault). InitComes m.disk name (Err g)) (disk_failed f.0 f.2) f.1)
-  disk_fault_of (Append file) of =
-      let f = made_fault DiskFault tt (AppendComes m.inputs m.disk file) of.0 of.1 of.2 in
-      let comes = subst (λ (g : DiskCommandFault). AppendComes m.inputs m.disk file (Err g)) (disk_failed f.0 f.2) f.1 in (tt, comes.2)
-  disk_fault_of (ProveEvent step index top) of =
-      let f = proved_fault DiskFault tt (ProveComes m.disk step index top) of.0 of.1 of.2 in
-      (tt, subst (λ (g : DiskCommandFault). ProveComes m.disk step index top (Err g)) (disk_failed f.0 f.2) f.1)
-  disk_fault_of (Show history step index) of =
-      let f = shown_fault DiskFault tt (ShowComes m.inputs history step index) of.0 of.1 of.2 in absurd (file_not_disk f.0 f.2)
-  disk_fault_of (VerifyFile proof anchors) of =
-      let f = judged_fault DiskFault tt (VerifyFileComes m.inputs proof anchors) of.0 of.1 of.2 in absurd (file_not_disk f.0 f.2)
-  disk_fault_of (VerifyOne proof anchor) of =
-      let f = judged_fault DiskFault tt (VerifyOneComes m.inputs proof anchor) of.0 of.1 of.2 in absurd (file_not_disk f.0 f.2)
-  disk_fault_of _ of = absurd of
-
-  -- a disk that reads as one that stands for a history can serve every command
-  module _ (h : History) (reads : ReadsAs m.disk.found h) where
-    pub served_command : (c : Command) (why : StoreCause) → ComesTo m c (Unserved why) → ⊥
-    served_command (Init name) why of =
-        let f = made_fault (Unserved why) tt (InitComes m.disk name) of.0 of.1 of.2 in
-        subst (λ (g : DiskCommandFault). InitComes m.disk name (Err g)) (disk_unserved why f.0 f.2) f.1
-    served_command (Append file) why of =
-        let f = made_fault (Unserved why) tt (AppendComes m.inputs m.disk file) of.0 of.1 of.2 in
-        let cant = subst (λ (g : DiskCommandFault). AppendComes m.inputs m.disk file (Err g)) (disk_unserved why f.0 f.2) f.1 in
-        served (MeetsBadLink cant.0) m.disk.found h reads why cant.2
-    served_command (ProveEvent step index top) why of =
-        let f = proved_fault (Unserved why) tt (ProveComes m.disk step index top) of.0 of.1 of.2 in
-        let cant = subst (λ (g : DiskCommandFault). ProveComes m.disk step index top (Err g)) (disk_unserved why f.0 f.2) f.1 in
-        served (MeetsBadPage step index top) m.disk.found h reads why cant
-    served_command (Show history step index) why of =
-        let f = shown_fault (Unserved why) tt (ShowComes m.inputs history step index) of.0 of.1 of.2 in file_not_unserved why f.0 f.2
-    served_command (VerifyFile proof anchors) why of =
-        let f = judged_fault (Unserved why) tt (VerifyFileComes m.inputs proof anchors) of.0 of.1 of.2 in file_not_unserved why f.0 f.2
-    served_command (VerifyOne proof anchor) why of =
-        let f = judged_fault (Unserved why) tt (VerifyOneComes m.inputs proof anchor) of.0 of.1 of.2 in file_not_unserved why f.0 f.2
-    served_command _ why of = of
-
-  -- want of memory is free
-  pub no_memory_comes : (c : Command) → ComesTo m c NoMemory
-  no_memory_comes (Init name) = (Err disk.NoMemory, tt, refl)
-  no_memory_comes (Append file) = (Err disk.NoMemory, tt, refl)
-  no_memory_comes (ProveEvent step index top) = (Err disk.NoMemory, tt, refl)
-  no_memory_comes (Show history step index) = (Err file.NoMemory, tt, refl)
-  no_memory_comes (VerifyFile proof anchors) = (Err file.NoMemory, tt, refl)
-  no_memory_comes (VerifyOne proof anchor) = (Err file.NoMemory, tt, refl)
-  no_memory_comes _ = tt
-
-  -- ---- verdicts
-
   -- the command asks for the verdict on a file under the anchors that it gives
   pub record Judges (c : Command) (verdict : Verdict) : Type 0 where
     pub file : List ℕ
@@ -248,47 +125,147 @@ module _ (m : Met) where
     pub given : GivesAnchors m.inputs.told c anchors
     pub judged : IsJudged m.inputs.told file anchors verdict
 
-  file_judges : (proof anchors : List ℕ) (v : Verdict) → VerifyFileComes m.inputs proof anchors (Ok v) → Judges (VerifyFile proof anchors) v
-  file_judges proof anchors v comes = record { file = proof; anchors = comes.0; asked = refl; given = comes.1; judged = comes.2 }
+  -- no usage line comes of it, each fault has its cause, a disk that reads as a history serves it, want of memory is free, and a
+  -- verdict is one that it asks for
+  record Row (c : Command) : Type 0 where
+    built : IsBuilt c
+    input : ComesTo m c InputFault → NamesFile c × Rose m.inputs.before m.inputs.after
+    disk : ComesTo m c DiskFault → UsesDisk c × Rose m.disk.before m.disk.after
+    served : (h : History) → ReadsAs m.disk.found h → (why : StoreCause) → ComesTo m c (Unserved why) → ⊥
+    memory : ComesTo m c NoMemory
+    judging : (v : Verdict) → ComesTo m c (Judged v) → Judges c v
 
-  one_judges : (proof : List ℕ) (anchor : Thread) (v : Verdict) → VerifyOneComes m.inputs proof anchor (Ok v) → Judges (VerifyOne proof anchor) v
-  one_judges proof anchor v comes = record { file = proof; anchors = anchor ∷ []; asked = refl; given = refl; judged = comes }
+  -- a command over a disk, by what it makes of a result
+  module _ {A : Type 0} (of : Result A DiskCommandFault → Outcome) (done : (a : A) → IsDone (of (Ok a))) (err : (f : DiskCommandFault) → of (Err f) ≡ of_disk_fault f) where
+    disk_not_usage : (n : ℕ) (r : Result A DiskCommandFault) → BadWords n ≡ of r → ⊥
+    disk_not_usage n (Ok a) is = subst IsDone (sym is) (done a)
+    disk_not_usage n (Err f) is = subst IsFault (sym (is ∙ err f)) (disk_is_fault f)
+
+    disk_fault_by : (o : Outcome) → IsFault o → (P : Result A DiskCommandFault → Type 0) → Of of P o → (f : DiskCommandFault) × P (Err f) × (o ≡ of_disk_fault f)
+    disk_fault_by o fault P came = by came.0 came.1 came.2
+      where
+        by : (r : Result A DiskCommandFault) → P r → o ≡ of r → (f : DiskCommandFault) × P (Err f) × (o ≡ of_disk_fault f)
+        by (Ok a) holds is = absurd (done_or_fault (of (Ok a)) (done a) (subst IsFault is fault))
+        by (Err f) holds is = (f, holds, is ∙ err f)
+
+    disk_row : (c : Command) (P : Result A DiskCommandFault → Type 0) → ((o : Outcome) → ComesTo m c o → Of of P o) → ComesTo m c NoMemory → IsBuilt c
+        → (P (Err disk.InputFault) → NamesFile c × Rose m.inputs.before m.inputs.after) → (P (Err disk.DiskFault) → UsesDisk c × Rose m.disk.before m.disk.after)
+        → ((h : History) → ReadsAs m.disk.found h → (why : StoreCause) → P (Err (disk.Unserved why)) → ⊥) → ((v : Verdict) (a : A) → Judged v ≡ of (Ok a) → ⊥) → Row c
+    disk_row c P comes memory built input failed served no_verdict = record {
+      built = built;
+      input = λ came. let f = disk_fault_by InputFault tt P (comes InputFault came) in input (subst (λ (g : DiskCommandFault). P (Err g)) (disk_input f.0 f.2) f.1);
+      disk = λ came. let f = disk_fault_by DiskFault tt P (comes DiskFault came) in failed (subst (λ (g : DiskCommandFault). P (Err g)) (disk_failed f.0 f.2) f.1);
+      served = λ h reads why came. let f = disk_fault_by (Unserved why) tt P (comes (Unserved why) came) in served h reads why (subst (λ (g : DiskCommandFault). P (Err g)) (disk_unserved why f.0 f.2) f.1);
+      memory = memory;
+      judging = λ v came. let is = comes (Judged v) came in absurd (none v is.0 is.2);
+    }
+      where
+        none : (v : Verdict) (r : Result A DiskCommandFault) → Judged v ≡ of r → ⊥
+        none v (Ok a) is = no_verdict v a is
+        none v (Err f) is = subst IsFault (sym (is ∙ err f)) (disk_is_fault f)
+
+  -- a command over files, by what it makes of a result
+  module _ {A : Type 0} (of : Result A FileCommandFault → Outcome) (done : (a : A) → IsDone (of (Ok a))) (err : (f : FileCommandFault) → of (Err f) ≡ of_file_fault f) where
+    file_not_usage : (n : ℕ) (r : Result A FileCommandFault) → BadWords n ≡ of r → ⊥
+    file_not_usage n (Ok a) is = subst IsDone (sym is) (done a)
+    file_not_usage n (Err f) is = subst IsFault (sym (is ∙ err f)) (file_is_fault f)
+
+    file_fault_by : (o : Outcome) → IsFault o → (P : Result A FileCommandFault → Type 0) → Of of P o → (f : FileCommandFault) × P (Err f) × (o ≡ of_file_fault f)
+    file_fault_by o fault P came = by came.0 came.1 came.2
+      where
+        by : (r : Result A FileCommandFault) → P r → o ≡ of r → (f : FileCommandFault) × P (Err f) × (o ≡ of_file_fault f)
+        by (Ok a) holds is = absurd (done_or_fault (of (Ok a)) (done a) (subst IsFault is fault))
+        by (Err f) holds is = (f, holds, is ∙ err f)
+
+    file_row : (c : Command) (P : Result A FileCommandFault → Type 0) → ((o : Outcome) → ComesTo m c o → Of of P o) → ComesTo m c NoMemory → IsBuilt c
+        → (P (Err file.InputFault) → NamesFile c × Rose m.inputs.before m.inputs.after) → ((v : Verdict) (a : A) → P (Ok a) → Judged v ≡ of (Ok a) → Judges c v) → Row c
+    file_row c P comes memory built input judging = record {
+      built = built;
+      input = λ came. let f = file_fault_by InputFault tt P (comes InputFault came) in input (subst (λ (g : FileCommandFault). P (Err g)) (file_input f.0 f.2) f.1);
+      disk = λ came. let f = file_fault_by DiskFault tt P (comes DiskFault came) in absurd (file_not_disk f.0 f.2);
+      served = λ h reads why came. let f = file_fault_by (Unserved why) tt P (comes (Unserved why) came) in file_not_unserved why f.0 f.2;
+      memory = memory;
+      judging = λ v came. let is = comes (Judged v) came in by v is.0 is.1 is.2;
+    }
+      where
+        by : (v : Verdict) (r : Result A FileCommandFault) → P r → Judged v ≡ of r → Judges c v
+        by v (Ok a) holds is = judging v a holds is
+        by v (Err f) holds is = absurd (subst IsFault (sym (is ∙ err f)) (file_is_fault f))
+
+  init_row : (name : List ℕ) → Row (Init name)
+  init_row name =
+      disk_row made (λ a. tt) (λ f. refl) (Init name) (InitComes m.disk name) (λ o came. came) (Err disk.NoMemory, tt, refl) (λ any n came. disk_not_usage made (λ a. tt) (λ f. refl) n came.0 came.2)
+      (λ no. absurd no) (λ rose. (tt, rose)) (λ h reads why no. no) (λ v a is. cc)
+
+  append_row : (path : List ℕ) → Row (Append path)
+  append_row path =
+      disk_row made (λ a. tt) (λ f. refl) (Append path) (AppendComes m.inputs m.disk path) (λ o came. came) (Err disk.NoMemory, tt, refl) (λ any n came. disk_not_usage made (λ a. tt) (λ f. refl) n came.0 came.2)
+      (λ rose. (tt, rose)) (λ failed. (tt, failed.2)) (λ h reads why cant. served (MeetsBadLink cant.0) m.disk.found h reads why cant.2) (λ v a is. cc)
+
+  prove_row : (step index : ℕ) (top : Option ℕ) → Row (ProveEvent step index top)
+  prove_row step index top =
+      disk_row proved (λ a. tt) (λ f. refl) (ProveEvent step index top) (ProveComes m.disk step index top) (λ o came. came) (Err disk.NoMemory, tt, refl)
+      (λ any n came. disk_not_usage proved (λ a. tt) (λ f. refl) n came.0 came.2)
+      (λ no. absurd no) (λ rose. (tt, rose)) (λ h reads why cant. served (MeetsBadPage step index top) m.disk.found h reads why cant) (λ v a is. cc)
+
+  show_row : (history : List ℕ) (step index : ℕ) → Row (Show history step index)
+  show_row history step index =
+      file_row shown (λ a. tt) (λ f. refl) (Show history step index) (ShowComes m.inputs history step index) (λ o came. came) (Err file.NoMemory, tt, refl)
+      (λ any n came. file_not_usage shown (λ a. tt) (λ f. refl) n came.0 came.2) (λ rose. (tt, rose)) (λ v a holds is. absurd (cc))
 
   same_verdict : (v w : Verdict) → Judged v ≡ Judged w → w ≡ v
   same_verdict v w is = cc
 
-  pub judging_of : (c : Command) (v : Verdict) → ComesTo m c (Judged v) → Judges c v
-  judging_of (VerifyFile proof anchors) v of = by of.0 of.1 of.2
-    where
-      by : (r : Result Verdict FileCommandFault) → VerifyFileComes m.inputs proof anchors r → Judged v ≡ judged r → Judges (VerifyFile proof anchors) v
-      by (Ok w) comes is = subst (Judges (VerifyFile proof anchors)) (same_verdict v w is) (file_judges proof anchors w comes)
-      by (Err f) comes is = absurd (of_file (Judged v) f is)
-  judging_of (VerifyOne proof anchor) v of = by of.0 of.1 of.2
-    where
-      by : (r : Result Verdict FileCommandFault) → VerifyOneComes m.inputs proof anchor r → Judged v ≡ judged r → Judges (VerifyOne proof anchor) v
-      by (Ok w) comes is = subst (Judges (VerifyOne proof anchor)) (same_verdict v w is) (one_judges proof anchor w comes)
-      by (Err f) comes is = absurd (of_file (Judged v) f is)
-  judging_of (Init name) v of = absurd (not_made of.0 of.2)
-    where
-      not_made : (r : Result Thread DiskCommandFault) → Judged v ≡ made r → ⊥
-      not_made (Ok thread) is = cc
-      not_made (Err f) is = of_disk (Judged v) f is
-  judging_of (Append file) v of = absurd (not_made of.0 of.2)
-    where
-      not_made : (r : Result Thread DiskCommandFault) → Judged v ≡ made r → ⊥
-      not_made (Ok thread) is = cc
-      not_made (Err f) is = of_disk (Judged v) f is
-  judging_of (ProveEvent step index top) v of = absurd (not_proved of.0 of.2)
-    where
-      not_proved : (r : Result (List ℕ) DiskCommandFault) → Judged v ≡ proved r → ⊥
-      not_proved (Ok proof) is = cc
-      not_proved (Err f) is = of_disk (Judged v) f is
-  judging_of (Show history step index) v of = absurd (not_shown of.0 of.2)
-    where
-      not_shown : (r : Result (List ℕ) FileCommandFault) → Judged v ≡ shown r → ⊥
-      not_shown (Ok proof) is = cc
-      not_shown (Err f) is = of_file (Judged v) f is
-  judging_of _ v of = absurd of
+  verify_file_row : (proof anchors : List ℕ) → Row (VerifyFile proof anchors)
+  verify_file_row proof anchors =
+      file_row judged (λ a. tt) (λ f. refl) (VerifyFile proof anchors) (VerifyFileComes m.inputs proof anchors) (λ o came. came) (Err file.NoMemory, tt, refl)
+      (λ any n came. file_not_usage judged (λ a. tt) (λ f. refl) n came.0 came.2) (λ rose. (tt, rose))
+      (λ v w comes is. subst (Judges (VerifyFile proof anchors)) (same_verdict v w is) (record { file = proof; anchors = comes.0; asked = refl; given = comes.1; judged = comes.2 }))
+
+  verify_one_row : (proof : List ℕ) (anchor : Thread) → Row (VerifyOne proof anchor)
+  verify_one_row proof anchor =
+      file_row judged (λ a. tt) (λ f. refl) (VerifyOne proof anchor) (VerifyOneComes m.inputs proof anchor) (λ o came. came) (Err file.NoMemory, tt, refl)
+      (λ any n came. file_not_usage judged (λ a. tt) (λ f. refl) n came.0 came.2) (λ rose. (tt, rose))
+      (λ v w comes is. subst (Judges (VerifyOne proof anchor)) (same_verdict v w is) (record { file = proof; anchors = anchor ∷ []; asked = refl; given = refl; judged = comes }))
+
+  -- the row of a command, or it isn't built
+  rows : (c : Command) → Row c ⊎ ((o : Outcome) → (ComesTo m c o → IsUnbuilt o) × (IsUnbuilt o → ComesTo m c o))
+  rows (Init name) = inl (init_row name)
+  rows (Append path) = inl (append_row path)
+  rows (ProveEvent step index top) = inl (prove_row step index top)
+  rows (Show history step index) = inl (show_row history step index)
+  rows (VerifyFile proof anchors) = inl (verify_file_row proof anchors)
+  rows (VerifyOne proof anchor) = inl (verify_one_row proof anchor)
+  rows _ = inr (λ o. (λ is. is, λ is. is))
+
+  -- ---- what follows of every command
+
+  module _ (c : Command) where
+    -- a command that was done is built
+    pub built_by : (o : Outcome) → ComesTo m c o → status_of o ≡ 0 → IsBuilt c
+    built_by o comes zeroth = ⊎_elim (λ row. row.built) (λ un. absurd (unbuilt_status o ((un o).0 comes) zeroth)) (rows c)
+
+    pub unbuilt_of : (n : ℕ) → ComesTo m c (BadWords n) → (n ≡ 0) × (IsBuilt c → ⊥)
+    unbuilt_of n comes = (⊎_elim (λ row. absurd (row.built m n comes)) (λ un. (un (BadWords n)).0 comes) (rows c), λ built. built m n comes)
+
+    pub input_fault_of : ComesTo m c InputFault → IsBuilt c × NamesFile c × Rose m.inputs.before m.inputs.after
+    input_fault_of comes = ⊎_elim (λ row. let input = row.input comes in (row.built, input.0, input.1)) (λ un. absurd ((un InputFault).0 comes)) (rows c)
+
+    pub disk_fault_of : ComesTo m c DiskFault → UsesDisk c × Rose m.disk.before m.disk.after
+    disk_fault_of comes = ⊎_elim (λ row. row.disk comes) (λ un. absurd ((un DiskFault).0 comes)) (rows c)
+
+    -- a disk that reads as one that stands for a history can serve every command
+    pub served_command : (h : History) → ReadsAs m.disk.found h → (why : StoreCause) → ComesTo m c (Unserved why) → ⊥
+    served_command h reads why comes = ⊎_elim (λ row. row.served h reads why comes) (λ un. (un (Unserved why)).0 comes) (rows c)
+
+    pub no_memory_comes : ComesTo m c NoMemory
+    no_memory_comes = ⊎_elim (λ row. row.memory) (λ un. (un NoMemory).1 tt) (rows c)
+
+    pub judging_of : (v : Verdict) → ComesTo m c (Judged v) → Judges c v
+    judging_of v comes = ⊎_elim (λ row. row.judging v comes) (λ un. absurd ((un (Judged v)).0 comes)) (rows c)
+
+  of_file : (o : Outcome) (f : FileCommandFault) → o ≡ of_file_fault f → IsFault o
+  of_file o f is = subst IsFault (sym is) (file_is_fault f)
 
   -- a command that judges comes to a verdict or a fault
   pub verdict_or_fault : (c : Command) (o : Outcome) → IsVerify c → ComesTo m c o → ((v : Verdict) × (o ≡ Judged v)) ⊎ IsFault o

@@ -1,5 +1,5 @@
 -- What a run leaves of the disk.
-use Rattle.std.proofs.Common.{◌≡◌, ◌∙◌, ℕ, List, sym, subst, arith, inl, inr, ◌⊎◌, ⊎_elim, refl}
+use Rattle.std.proofs.Common.{◌≡◌, ◌∙◌, ℕ, List, ap, sym, subst, arith, inl, inr, ◌⊎◌, ⊎_elim, refl}
 use Rattle.std.specs.Prelude.{Option, Some, None, MatchOption, Result, Ok, Err}
 use Rattle.tw_base.specs.declared.thread.Thread.{Thread}
 use Rattle.tw_disk.specs.Disk.{DiskView}
@@ -13,7 +13,7 @@ use Rattle.tw_text.specs.declared.command.Command.TheVariants.{Append, Init, Pro
 use Rattle.tw_diskcmd.specs.declared.fault.DiskCommandFault.{DiskCommandFault}
 use Rattle.tw_diskcmd.specs.declared.fault.DiskCommandFault.TheVariants as disk
 use Rattle.tw_diskcmd.specs.Appending.{AddsStep, AppendLeaves, OfEvents}
-use Rattle.tw_diskcmd.specs.Disks.{Adds, Begins, IsLeft, Settles}
+use Rattle.tw_diskcmd.specs.Disks.{Adds, Begins, IsLeft, Keeps, Settles}
 use Rattle.tw_diskcmd.specs.Making.{InitComes, InitLeaves, MakesService}
 use Rattle.tw_diskcmd.specs.Proving.{ProveLeaves}
 use Rattle.tw_diskcmd.proofs.AtRest.{left_keeps, no_call_left, untouched_left}
@@ -40,63 +40,102 @@ module _ {D : Type 0} (view : D → DiskView)
   same_left : new ≡ old → Left
   same_left is = untouched_left view old new only_now is
 
-  -- ---- where there was no memory for the text, what is left is as right for that
+  -- ---- what is known of each command that works on a disk
 
-  init_memory : (name : List ℕ) (r : Result Thread DiskCommandFault) → InitLeaves view old new name r → TakesMemory (made r) → Left
-  init_memory name (Ok thread) left takes = absurd takes
-  init_memory name (Err disk.DiskFault) left takes = absurd takes
-  init_memory name _ left takes = left
+  -- where there was no memory for the text, what is left is as right for that; a run of which nothing was made and no disk failed wrote
+  -- nothing; and whatever the outcome, a crash leaves what it may
+  record Row (told : Option Files) (c : Command) : Type 0 where
+    uses : UsesDisk c
+    memory : (o : Outcome) → TakesMemory o → LeavesC told c o → LeavesC told c NoMemory
+    untouched : new ≡ old → LeavesC told c NoMemory
+    crash : (o : Outcome) → LeavesC told c o → IsCrashSafe view old new told c
+    idle : (o : Outcome) → (status_of o ≡ 0 → ⊥) → (status_of o ≡ 5 → ⊥) → LeavesC told c o → Left
 
-  append_memory : (told : Option Files) (file : List ℕ) (r : Result Thread DiskCommandFault) → AppendLeaves view old new told file r → TakesMemory (made r) → Left
-  append_memory told file (Ok thread) left takes = absurd takes
-  append_memory told file (Err disk.DiskFault) left takes = absurd takes
-  append_memory told file (Err (disk.Refused refusal)) left takes = left.0
-  append_memory told file (Err (disk.Unreadable bad)) left takes = same_left left
-  append_memory told file (Err disk.InputFault) left takes = absurd takes
-  append_memory told file _ left takes = left
+  module _ (told : Option Files) where
+    init_row : (name : List ℕ) → Row told (Init name)
+    init_row name = record {
+      uses = tt;
+      memory = λ o takes came. (Err disk.NoMemory, quiet came.0 came.1 (λ is. subst TakesMemory (came.2 ∙ ap made is) takes) (λ t is. subst TakesMemory (came.2 ∙ ap made is) takes), refl);
+      untouched = λ is. (Err disk.NoMemory, same_left is, refl);
+      crash = λ o came. init_safe view old new only_now as_it_reads name came.0 came.1;
+      idle = λ o zeroth fifth came. quiet came.0 came.1 (λ is. fifth (ap status_of (came.2 ∙ ap made is))) (λ t is. zeroth (ap status_of (came.2 ∙ ap made is)));
+    }
+      where
+        quiet : (r : Result Thread DiskCommandFault) → InitLeaves view old new name r → (r ≡ Err disk.DiskFault → ⊥) → ((t : Thread) → r ≡ Ok t → ⊥) → Left
+        quiet (Ok thread) left failed done = absurd (done thread refl)
+        quiet (Err disk.DiskFault) left failed done = absurd (failed refl)
+        quiet _ left failed done = left
 
-  memory_leaves_of : (told : Option Files) (c : Command) (o : Outcome) → TakesMemory o → LeavesC told c o → LeavesC told c NoMemory
-  memory_leaves_of told (Init name) o takes of = (Err disk.NoMemory, init_memory name of.0 of.1 (subst TakesMemory of.2 takes), refl)
-  memory_leaves_of told (Append file) o takes of = (Err disk.NoMemory, append_memory told file of.0 of.1 (subst TakesMemory of.2 takes), refl)
-  memory_leaves_of told (ProveEvent step index top) o takes of = (Err disk.NoMemory, prove_left view old new of.0 of.1, refl)
-  memory_leaves_of told _ o takes left = left
+    append_row : (file : List ℕ) → Row told (Append file)
+    append_row file = record {
+      uses = tt;
+      memory = λ o takes came. (Err disk.NoMemory, quiet came.0 came.1 (λ is. subst TakesMemory (came.2 ∙ ap made is) takes) (λ t is. subst TakesMemory (came.2 ∙ ap made is) takes), refl);
+      untouched = λ is. (Err disk.NoMemory, same_left is, refl);
+      crash = λ o came. append_safe view old new only_now as_it_reads told file came.0 came.1;
+      idle = λ o zeroth fifth came. quiet came.0 came.1 (λ is. fifth (ap status_of (came.2 ∙ ap made is))) (λ t is. zeroth (ap status_of (came.2 ∙ ap made is)));
+    }
+      where
+        quiet : (r : Result Thread DiskCommandFault) → AppendLeaves view old new told file r → (r ≡ Err disk.DiskFault → ⊥) → ((t : Thread) → r ≡ Ok t → ⊥) → Left
+        quiet (Ok thread) left failed done = absurd (done thread refl)
+        quiet (Err disk.DiskFault) left failed done = absurd (failed refl)
+        quiet (Err (disk.Refused refusal)) left failed done = left.0
+        quiet (Err (disk.Unreadable bad)) left failed done = same_left left
+        quiet (Err disk.InputFault) left failed done = same_left left
+        quiet _ left failed done = left
 
-  pub memory_leaves : (told : Option Files) (words : List (List ℕ)) (o : Outcome) → Leaves view old new told words o → TakesMemory o → Leaves view old new told words NoMemory
-  memory_leaves told words o leaves takes = by (command_of words) leaves
-    where
-      by : (option : Option Command) → MatchOption option (new ≡ old) (λ c. LeavesC told c o) → MatchOption option (new ≡ old) (λ c. LeavesC told c NoMemory)
-      by None leaves = leaves
-      by (Some c) leaves = memory_leaves_of told c o takes leaves
+    prove_row : (step index : ℕ) (top : Option ℕ) → Row told (ProveEvent step index top)
+    prove_row step index top = record {
+      uses = tt;
+      memory = λ o takes came. (Err disk.NoMemory, prove_left view old new came.0 came.1, refl);
+      untouched = λ is. (Err disk.NoMemory, same_left is, refl);
+      crash = λ o came. left_keeps view old new (prove_left view old new came.0 came.1);
+      idle = λ o zeroth fifth came. prove_left view old new came.0 came.1;
+    }
 
-  -- ---- whatever the status
+    -- the row of a command, or it leaves the disk untouched
+    record Without (c : Command) : Type 0 where
+      unused : UsesDisk c → ⊥
+      same : (o : Outcome) → LeavesC told c o → new ≡ old
+      left : new ≡ old → (o : Outcome) → LeavesC told c o
+      safe : Keeps view old new → IsCrashSafe view old new told c
 
-  crash_by : (told : Option Files) (c : Command) (o : Outcome) → LeavesC told c o → IsCrashSafe view old new told c
-  crash_by told (Init name) o of = init_safe view old new only_now as_it_reads name of.0 of.1
-  crash_by told (Append file) o of = append_safe view old new only_now as_it_reads told file of.0 of.1
-  crash_by told (ProveEvent step index top) o of = left_keeps view old new (prove_left view old new of.0 of.1)
-  crash_by told _ o left = left_keeps view old new (same_left left)
+    rows : (c : Command) → Row told c ⊎ Without c
+    rows (Init name) = inl (init_row name)
+    rows (Append file) = inl (append_row file)
+    rows (ProveEvent step index top) = inl (prove_row step index top)
+    rows _ = inr (record { unused = λ no. no; same = λ o is. is; left = λ is o. is; safe = λ keeps. keeps })
 
-  untouched_by : (told : Option Files) (c : Command) (o : Outcome) → (UsesDisk c → ⊥) → LeavesC told c o → new ≡ old
-  untouched_by told (Init name) o other left = absurd (other tt)
-  untouched_by told (Append file) o other left = absurd (other tt)
-  untouched_by told (ProveEvent step index top) o other left = absurd (other tt)
-  untouched_by told _ o other left = left
+    memory_leaves_of : (c : Command) (o : Outcome) → TakesMemory o → LeavesC told c o → LeavesC told c NoMemory
+    memory_leaves_of c o takes came = ⊎_elim (λ row. row.memory o takes came) (λ un. un.left (un.same o came) NoMemory) (rows c)
 
-  -- ---- by the status
+    no_memory_of : new ≡ old → (c : Command) → LeavesC told c NoMemory
+    no_memory_of is c = ⊎_elim (λ row. row.untouched is) (λ un. un.left is NoMemory) (rows c)
 
-  -- a run of which nothing was made and no disk failed wrote nothing
-  init_idle : (name : List ℕ) (r : Result Thread DiskCommandFault) → InitLeaves view old new name r → (status_of (made r) ≡ 0 → ⊥) → (status_of (made r) ≡ 5 → ⊥) → Left
-  init_idle name (Ok thread) left zeroth fifth = absurd (zeroth refl)
-  init_idle name (Err disk.DiskFault) left zeroth fifth = absurd (fifth refl)
-  init_idle name _ left zeroth fifth = left
+    pub other_of : new ≡ old → (c : Command) (o : Outcome) → (UsesDisk c → ⊥) → LeavesC told c o
+    other_of is c o other = ⊎_elim (λ row. absurd (other row.uses)) (λ un. un.left is o) (rows c)
 
-  append_idle : (told : Option Files) (file : List ℕ) (r : Result Thread DiskCommandFault) → AppendLeaves view old new told file r → (status_of (made r) ≡ 0 → ⊥) → (status_of (made r) ≡ 5 → ⊥) → Left
-  append_idle told file (Ok thread) left zeroth fifth = absurd (zeroth refl)
-  append_idle told file (Err disk.DiskFault) left zeroth fifth = absurd (fifth refl)
-  append_idle told file (Err (disk.Refused refusal)) left zeroth fifth = left.0
-  append_idle told file (Err (disk.Unreadable bad)) left zeroth fifth = same_left left
-  append_idle told file (Err disk.InputFault) left zeroth fifth = same_left left
-  append_idle told file _ left zeroth fifth = left
+    crash_by : (c : Command) (o : Outcome) → LeavesC told c o → IsCrashSafe view old new told c
+    crash_by c o came = ⊎_elim (λ row. row.crash o came) (λ un. un.safe (left_keeps view old new (same_left (un.same o came)))) (rows c)
+
+    untouched_by : (c : Command) (o : Outcome) → (UsesDisk c → ⊥) → LeavesC told c o → new ≡ old
+    untouched_by c o other came = ⊎_elim (λ row. absurd (other row.uses)) (λ un. un.same o came) (rows c)
+
+    idle_by : (c : Command) (o : Outcome) → UsesDisk c → (status_of o ≡ 0 → ⊥) → (status_of o ≡ 5 → ⊥) → LeavesC told c o → Left
+    idle_by c o uses zeroth fifth came = ⊎_elim (λ row. row.idle o zeroth fifth came) (λ un. absurd (un.unused uses)) (rows c)
+
+    pub memory_leaves : (words : List (List ℕ)) (o : Outcome) → Leaves view old new told words o → TakesMemory o → Leaves view old new told words NoMemory
+    memory_leaves words o leaves takes = by (command_of words) leaves
+      where
+        by : (option : Option Command) → MatchOption option (new ≡ old) (λ c. LeavesC told c o) → MatchOption option (new ≡ old) (λ c. LeavesC told c NoMemory)
+        by None leaves = leaves
+        by (Some c) leaves = memory_leaves_of c o takes leaves
+
+    pub no_memory_leaves : (words : List (List ℕ)) → new ≡ old → Leaves view old new told words NoMemory
+    no_memory_leaves words is = by (command_of words)
+      where
+        by : (o : Option Command) → MatchOption o (new ≡ old) (λ c. LeavesC told c NoMemory)
+        by None = is
+        by (Some c) = no_memory_of is c
 
   -- an answer that was made or refused leaves a stable disk
   abbrev IsAnswered : ℕ → Type 0
@@ -137,11 +176,8 @@ module _ {D : Type 0} (view : D → DiskView)
     status_is o is other = (told_of a status outcome e o is other).0
 
     idle : IsIdle status → (c : Command) → UsesDisk c → LeavesC a.met.inputs.told c outcome → Left
-    idle is (Init name) uses of = let same = status_is (made of.0) of.2 is.1 in init_idle name of.0 of.1 (λ zeroth. is.0 (same ∙ zeroth)) (λ fifth. is.2 (same ∙ fifth))
-    idle is (Append file) uses of =
-        let same = status_is (made of.0) of.2 is.1 in append_idle a.met.inputs.told file of.0 of.1 (λ zeroth. is.0 (same ∙ zeroth)) (λ fifth. is.2 (same ∙ fifth))
-    idle is (ProveEvent step index top) uses of = prove_left view old new of.0 of.1
-    idle is _ uses of = absurd uses
+    idle is c uses came =
+        let same = status_is outcome refl is.1 in idle_by a.met.inputs.told c outcome uses (λ zeroth. is.0 (same ∙ zeroth)) (λ fifth. is.2 (same ∙ fifth)) came
 
     proof_left : (c : Command) → IsProve c → LeavesC a.met.inputs.told c outcome → Left
     proof_left (ProveEvent step index top) is of = prove_left view old new of.0 of.1
@@ -197,26 +233,3 @@ module _ {D : Type 0} (view : D → DiskView)
             → (thread : Thread) × OfEvents a.met.inputs.told file (λ events. AddsStep (view old).content events thread × Adds view (AppendCall events) old new) × Writes a (anchor_text thread)
         by (Ok thread) left ended = (thread, left, ended.1)
         by (Err f) left ended = absurd (fault_status (of_disk_fault f) (disk_is_fault f) (sym ended.0 ∙ zeroth))
-
--- ---- a disk that wasn't touched
-
-module _ {D : Type 0} (view : D → DiskView) where
-  module _ (only_now : (d : D) (image : Image) → (view d).left_since (view d).moment image → (view d).may_leave image) (one : D) where
-    no_memory_leaves_of : (told : Option Files) (c : Command) → LeavesTo view one one told c NoMemory
-    no_memory_leaves_of told (Init name) = (Err disk.NoMemory, no_call_left view one (only_now one), refl)
-    no_memory_leaves_of told (Append file) = (Err disk.NoMemory, no_call_left view one (only_now one), refl)
-    no_memory_leaves_of told (ProveEvent step index top) = (Err disk.NoMemory, no_call_left view one (only_now one), refl)
-    no_memory_leaves_of told _ = refl
-
-    pub no_memory_leaves : (told : Option Files) (words : List (List ℕ)) → Leaves view one one told words NoMemory
-    no_memory_leaves told words = by (command_of words)
-      where
-        by : (o : Option Command) → MatchOption o (one ≡ one) (λ c. LeavesTo view one one told c NoMemory)
-        by None = refl
-        by (Some c) = no_memory_leaves_of told c
-
-  pub other_leaves : (one : D) (told : Option Files) (c : Command) (o : Outcome) → (UsesDisk c → ⊥) → LeavesTo view one one told c o
-  other_leaves one told (Init name) o other = absurd (other tt)
-  other_leaves one told (Append file) o other = absurd (other tt)
-  other_leaves one told (ProveEvent step index top) o other = absurd (other tt)
-  other_leaves one told _ o other = refl

@@ -230,7 +230,7 @@ module _ (a : Around) (status : ℕ) (outcome : Outcome) (e : EndsAs a status ou
       by _ has ended = absurd (omega (arith, is, ended.0))
 
   pub complete : (h : History) → ReadsAs a.met.disk.found h → status ≡ 8 → ⊥
-  complete h reads is = let run = unserved is in served_command a.met h reads run.command run.cause run.cant
+  complete h reads is = let run = unserved is in served_command a.met run.command h reads run.cause run.cant
 
   pub unreadable : status ≡ 9 → IsUnreadableRun a
   unreadable is = by outcome e.has (told (λ four. omega (arith, is, four)))

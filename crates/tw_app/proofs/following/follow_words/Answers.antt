@@ -1,3 +1,4 @@
+use Rattle.std.proofs.Common.{refl}
 use Rattle.tw_app.proofs.DiskEndings.{no_memory_leaves}
 use Rattle.tw_app.proofs.Words.{has_outcome, leaves_words, no_memory_outcome, read_command}
 use Rattle.tw_app.proofs.following.follow_words.Goals as goal
@@ -15,7 +16,7 @@ returns-in-Ok-clause-leaves g c =
 pub returns-in-Err-NoMemory-clause-leaves : goal.returns-in-Err-NoMemory-clause-leaves
 returns-in-Err-NoMemory-clause-leaves g c =
     let d = g.D.Disk in
-    no_memory_leaves d.view g.met.D.Disk.only_now c.args.disk (g.I.Inputs.told c.args.inputs.now) _
+    no_memory_leaves d.view g.met.D.Disk.only_now g.met.D.Disk.as_it_reads c.args.disk c.args.disk (g.I.Inputs.told c.args.inputs.now) _ refl
 
 pub returns-in-Err-NoMemory-clause-comes : goal.returns-in-Err-NoMemory-clause-comes
 returns-in-Err-NoMemory-clause-comes g c = no_memory_outcome _ _
