@@ -21,7 +21,7 @@ use Rattle.tw_diskcmd.specs.Making.{InitComes}
 use Rattle.tw_diskcmd.specs.Proving.{MeetsBadPage, ProveComes}
 use Rattle.tw_diskcmd.proofs.Served.{served}
 use Rattle.tw_app.specs.declared.outcome.Outcome.{Outcome}
-use Rattle.tw_app.specs.declared.outcome.Outcome.TheVariants.{Judged, Shown, Made, Refused, Unserved, Unreadable, BadWords, InputFault, DiskFault, NoMemory}
+use Rattle.tw_app.specs.declared.outcome.Outcome.TheVariants.{Judged, Shown, Made, Unserved, BadWords, InputFault, DiskFault, NoMemory}
 use Rattle.tw_app.specs.Around.{Met}
 use Rattle.tw_app.specs.Commands.{NamesFile, UsesDisk}
 use Rattle.tw_app.specs.Outcomes.{judged, made, of_disk_fault, of_file_fault, proved, shown, status_of}

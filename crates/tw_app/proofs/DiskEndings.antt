@@ -16,7 +16,7 @@ use Rattle.tw_diskcmd.specs.Appending.{AddsStep, AppendLeaves, OfEvents}
 use Rattle.tw_diskcmd.specs.Disks.{Adds, Begins, IsLeft, Keeps, Settles}
 use Rattle.tw_diskcmd.specs.Making.{InitComes, InitLeaves, MakesService}
 use Rattle.tw_diskcmd.specs.Proving.{ProveLeaves}
-use Rattle.tw_diskcmd.proofs.AtRest.{left_keeps, no_call_left, untouched_left}
+use Rattle.tw_diskcmd.proofs.AtRest.{left_keeps, untouched_left}
 use Rattle.tw_diskcmd.proofs.Landings.{append_safe, init_safe, prove_left}
 use Rattle.tw_app.specs.declared.outcome.Outcome.{Outcome}
 use Rattle.tw_app.specs.declared.outcome.Outcome.TheVariants.{NoMemory}
