@@ -1,18 +1,55 @@
 -- An outcome's status and text.
-use Rattle.std.specs.Prelude.{ℕ, List, [], ◌∷◌, codes}
-use Rattle.tw_text.specs.Lines.{anchor_text, fault_disk_text, fault_input_text, line, no_memory_text, usage_text}
+use Rattle.std.specs.Prelude.{ℕ, List, Result, Ok, Err}
+use Rattle.tw_text.specs.Lines.{anchor_text, fault_disk_text, fault_input_text, no_memory_text, usage_text}
+use Rattle.tw_text.specs.Refusals.{bad_input_text, refused_text, store_text}
 use Rattle.tw_text.specs.Reports.{rejected_text, report_text}
-use Rattle.tw_text.specs.declared.field.Field.{Field}
-use Rattle.tw_text.specs.declared.field.Field.TheVariants.{Word, Number}
+use Rattle.tw_base.specs.declared.thread.Thread.{Thread}
+use Rattle.tw_chain.specs.declared.verdict.Verdict.{Verdict}
 use Rattle.tw_chain.specs.declared.verdict.Verdict.TheVariants.{Yes, No}
+use Rattle.tw_filecmd.specs.declared.fault.FileCommandFault.{FileCommandFault}
+use Rattle.tw_filecmd.specs.declared.fault.FileCommandFault.TheVariants as file
+use Rattle.tw_diskcmd.specs.declared.fault.DiskCommandFault.{DiskCommandFault}
+use Rattle.tw_diskcmd.specs.declared.fault.DiskCommandFault.TheVariants as disk
 use Rattle.tw_app.specs.declared.outcome.Outcome.{Outcome}
 use Rattle.tw_app.specs.declared.outcome.Outcome.TheVariants.{Judged, Shown, Made, Refused, Unserved, Unreadable, BadWords, InputFault, DiskFault, NoMemory}
-use Rattle.tw_app.specs.declared.outcome.Refusal.{Refusal}
-use Rattle.tw_app.specs.declared.outcome.Refusal.TheVariants.{NoStep, NoEvent, Taken, Full, TooMany, TooLong}
-use Rattle.tw_app.specs.declared.outcome.StoreCause.{StoreCause}
-use Rattle.tw_app.specs.declared.outcome.StoreCause.TheVariants.{Blank, NotAStore, BadPage}
-use Rattle.tw_app.specs.declared.outcome.BadInput.{BadInput}
-use Rattle.tw_app.specs.declared.outcome.BadInput.TheVariants.{BadByte, BadLine, Unsound}
+
+-- ---- the outcome of what a command came to
+
+abbrev pub of_file_fault : FileCommandFault → Outcome
+of_file_fault (file.Refused refusal) = Refused refusal
+of_file_fault (file.Unreadable bad) = Unreadable bad
+of_file_fault file.InputFault = InputFault
+of_file_fault file.NoMemory = NoMemory
+
+abbrev pub of_disk_fault : DiskCommandFault → Outcome
+of_disk_fault (disk.Refused refusal) = Refused refusal
+of_disk_fault (disk.Unserved cause) = Unserved cause
+of_disk_fault (disk.Unreadable bad) = Unreadable bad
+of_disk_fault disk.InputFault = InputFault
+of_disk_fault disk.DiskFault = DiskFault
+of_disk_fault disk.NoMemory = NoMemory
+
+-- a proof was judged
+abbrev pub judged : Result Verdict FileCommandFault → Outcome
+judged (Ok verdict) = Judged verdict
+judged (Err fault) = of_file_fault fault
+
+-- an event was shown
+abbrev pub shown : Result (List ℕ) FileCommandFault → Outcome
+shown (Ok proof) = Shown proof
+shown (Err fault) = of_file_fault fault
+
+-- a service or a step was made
+abbrev pub made : Result Thread DiskCommandFault → Outcome
+made (Ok thread) = Made thread
+made (Err fault) = of_disk_fault fault
+
+-- an event was proved
+abbrev pub proved : Result (List ℕ) DiskCommandFault → Outcome
+proved (Ok proof) = Shown proof
+proved (Err fault) = of_disk_fault fault
+
+-- ---- its status and its text
 
 abbrev pub status_of : Outcome → ℕ
 status_of (Judged (Yes report)) = 0
@@ -26,34 +63,6 @@ status_of (BadWords number) = 2
 status_of InputFault = 3
 status_of DiskFault = 5
 status_of NoMemory = 6
-
--- the name of the refusal and its fields, in their order
-abbrev pub refusal_fields : Refusal → List Field
-refusal_fields (NoStep last) = Word (codes "NoStep") ∷ Number last ∷ []
-refusal_fields (NoEvent count) = Word (codes "NoEvent") ∷ Number count ∷ []
-refusal_fields Taken = Word (codes "Taken") ∷ []
-refusal_fields Full = Word (codes "Full") ∷ []
-refusal_fields (TooMany count) = Word (codes "TooMany") ∷ Number count ∷ []
-refusal_fields (TooLong bytes) = Word (codes "TooLong") ∷ Number bytes ∷ []
-
-abbrev pub refused_text : Refusal → List ℕ
-refused_text refusal = line (codes "refused") (refusal_fields refusal)
-
--- what the pages of the disk are instead, and the slot or the page
-abbrev pub cause_fields : StoreCause → List Field
-cause_fields Blank = Word (codes "Blank") ∷ []
-cause_fields (NotAStore slot) = Word (codes "NotAStore") ∷ Number slot ∷ []
-cause_fields (BadPage page) = Word (codes "BadPage") ∷ Number page ∷ []
-
-abbrev pub store_text : StoreCause → List ℕ
-store_text cause = line (codes "store") (cause_fields cause)
-
--- the file, and the byte or line or the step and rule at which it is no more what the command reads
-abbrev pub bad_input_text : BadInput → List ℕ
-bad_input_text (BadByte file place) = line (codes "unreadable") (Word file ∷ Word (codes "byte") ∷ Number place ∷ [])
-bad_input_text (BadLine file number) = line (codes "unreadable") (Word file ∷ Word (codes "line") ∷ Number number ∷ [])
-bad_input_text (Unsound file step rule) =
-    line (codes "unsound") (Word file ∷ Word (codes "step") ∷ Number step ∷ Word (codes "rule") ∷ Number rule ∷ [])
 
 -- a proof that is shown is written as its bytes are, with no line feed behind them
 abbrev pub text_of : Outcome → List ℕ

@@ -1,7 +1,13 @@
 // What a run of the program comes to.
 
+ghost use Rattle.std.specs.Prelude.{◌≡◌};
+ghost use Rattle.tw_app.specs.Outcomes.{judged as judged_outcome, made as made_outcome, of_disk_fault, of_file_fault, proved as proved_outcome, shown as shown_outcome};
+
 use tw_base::{Bytes, Thread};
 use tw_chain::Verdict;
+use tw_diskcmd::DiskCommandFault;
+use tw_filecmd::FileCommandFault;
+use tw_text::{BadInput, Refusal, StoreCause};
 
 /// What a run comes to, apart from whether its text could be written.
 #[derive(Drop, Debug)]
@@ -29,53 +35,70 @@ pub enum Outcome {
     NoMemory,
 }
 
-/// Why there is no answer to what was asked.
-#[derive(Clone, Copy, PartialEq, Eq, Debug, Drop)]
-pub enum Refusal {
-    /// The history has no such step, or not up to that top; its last one is this, 0 where it has
-    /// none.
-    NoStep { last: u64 },
-    /// The step has no event of that index; it has so many.
-    NoEvent { count: u32 },
-    /// There is a store already.
-    Taken,
-    /// The service has 2^40 - 1 steps.
-    Full,
-    /// There are more than 1,024 events: so many.
-    TooMany { count: u64 },
-    /// An event is longer than 1,024 bytes, the first such one this; or, where none is, all together
-    /// are longer than 65,536 bytes, and this long.
-    TooLong { bytes: u64 },
+impl From<FileCommandFault> for Outcome {
+    ghost from_gives = { λ fault outcome. outcome ≡ of_file_fault fault };
+
+    fn from(fault: FileCommandFault) -> Self {
+        match fault {
+            FileCommandFault::Refused(refusal) => Outcome::Refused(refusal),
+            FileCommandFault::Unreadable(bad) => Outcome::Unreadable(bad),
+            FileCommandFault::InputFault => Outcome::InputFault,
+            FileCommandFault::NoMemory => Outcome::NoMemory,
+        }
+    }
 }
 
-/// Why the disk has no service that can serve the command.
-#[derive(Clone, Copy, PartialEq, Eq, Debug, Drop)]
-pub enum StoreCause {
-    /// No store was made.
-    Blank,
-    /// The pages are no store, or that of no service; the slot, 0 or 1, is the one that fails.
-    NotAStore { slot: u8 },
-    /// The page of this number, the first one met that isn't of its kind; or the one read last, where
-    /// the event pages of a step don't spell its events.
-    BadPage { page: u64 },
+impl From<DiskCommandFault> for Outcome {
+    ghost from_gives = { λ fault outcome. outcome ≡ of_disk_fault fault };
+
+    fn from(fault: DiskCommandFault) -> Self {
+        match fault {
+            DiskCommandFault::Refused(refusal) => Outcome::Refused(refusal),
+            DiskCommandFault::Unserved(cause) => Outcome::Unserved(cause),
+            DiskCommandFault::Unreadable(bad) => Outcome::Unreadable(bad),
+            DiskCommandFault::InputFault => Outcome::InputFault,
+            DiskCommandFault::DiskFault => Outcome::DiskFault,
+            DiskCommandFault::NoMemory => Outcome::NoMemory,
+        }
+    }
 }
 
-/// Why a file isn't what its command reads. The file is the command's word for it.
-#[derive(Drop, Debug)]
-pub enum BadInput {
-    /// At this byte, counted from 0, no word of the format goes on; or it is the first byte past the
-    /// file's limit.
-    BadByte { file: Bytes, place: u64 },
-    /// This line, counted from 1, may not follow the lines before it.
-    BadLine { file: Bytes, line: u64 },
-    /// The history isn't sound: this step, counted from 1, is the first that breaks a rule, and this
-    /// rule, 1 to 6, the first that it breaks.
-    Unsound { file: Bytes, step: u64, rule: u8 },
+/// The outcome of a proof that was judged.
+pub(crate) fn judged(came: Result<Verdict, FileCommandFault>) -> Outcome
+    ensures { result ≡ judged_outcome came }
+{
+    match came {
+        Ok(verdict) => Outcome::Judged(verdict),
+        Err(fault) => Outcome::from(fault),
+    }
 }
 
-/// What a run came to on a disk, and that disk.
-#[derive(Drop)]
-pub struct Worked<D> {
-    pub outcome: Outcome,
-    pub disk: D,
+/// The outcome of an event that was shown.
+pub(crate) fn shown(came: Result<Bytes, FileCommandFault>) -> Outcome
+    ensures { result ≡ shown_outcome came }
+{
+    match came {
+        Ok(proof) => Outcome::Shown(proof),
+        Err(fault) => Outcome::from(fault),
+    }
+}
+
+/// The outcome of a service or a step that was made.
+pub(crate) fn made(came: Result<Thread, DiskCommandFault>) -> Outcome
+    ensures { result ≡ made_outcome came }
+{
+    match came {
+        Ok(thread) => Outcome::Made(thread),
+        Err(fault) => Outcome::from(fault),
+    }
+}
+
+/// The outcome of an event that was proved.
+pub(crate) fn proved(came: Result<Bytes, DiskCommandFault>) -> Outcome
+    ensures { result ≡ proved_outcome came }
+{
+    match came {
+        Ok(proof) => Outcome::Shown(proof),
+        Err(fault) => Outcome::from(fault),
+    }
 }

@@ -12,3 +12,4 @@ pub mod LawfulCodecs
 pub mod Shapes
 pub mod PieceCodecs
 pub mod TailCodecs
+pub mod WideIndex

@@ -4,4 +4,5 @@ pub mod CommandLine
 pub mod RowSteps
 pub mod TakenSteps
 pub mod Lines
+pub mod Refusals
 pub mod Reports

@@ -10,6 +10,8 @@ pub mod limits;
 mod line;
 mod number;
 mod part;
+mod path;
+mod refusal;
 mod report;
 mod taking;
 #[cfg(test)]
@@ -22,5 +24,9 @@ pub use field::{Field, FieldList};
 pub use fixed::{fault_disk, fault_input, no_memory};
 pub use line::{print_line, print_usage};
 pub use number::{read_digest, read_number};
+pub use path::FilePath;
+pub use refusal::{
+    BadInput, Refusal, StoreCause, print_bad_input, print_refused, print_store,
+};
 pub use report::{print_rejected, print_report};
 pub use words::{WordFault, read_words};
