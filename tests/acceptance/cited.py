@@ -1,4 +1,5 @@
-"""What the documents name is there: each clause in the contract of the function beside it, each definition in its module, each path."""
+"""What the documents name is there: each clause in the contract of the function beside it, each definition in its module, each path. The
+claims of docs/claims.md are made from the sources, as documents.py checks."""
 
 import re
 
@@ -21,50 +22,6 @@ def inside(names):
     return re.findall(r"`([\w:]+)`", names)
 
 
-def rows(text):
-    """The rows of the tables of what is proved: the crates that decide, the function whose clauses stand alone, and the cited cell.
-
-    The crates are those of the row's third cell, or else the first that the sentence above the table names."""
-    proved = next(part for part in sections(text, "##") if part.startswith("What is proved\n"))
-    above, alone = [], None
-    for line in proved.splitlines():
-        cells = line.strip("|").split("|")
-        if line.startswith("**"):
-            above, function = CRATE.findall(line)[:1], re.search(r"`(\w+)` in `tw_", line)
-        elif line.startswith("| in plain words"):
-            alone = function[1] if cells[1].strip() == "clause" else None
-        elif line.startswith("| "):
-            yield (CRATE.findall(cells[2]) if len(cells) > 2 else above), alone, cells[1]
-
-
-def groups(cell, alone):
-    """The functions of a cell with their clauses, as `f`, `g`: `c`, `d`; `h`: `e`. What is said of `T` as `U` is of a type's methods."""
-    for group in cell.split(";"):
-        names, _, clauses = group.partition(": ")
-        if alone:
-            yield [alone], inside(group)
-        elif " as " in names:
-            types, methods = inside(names.partition(" as ")[0]), inside(clauses)
-            yield [f"{name}::{method}" for name in types for method in methods], []
-        else:
-            yield inside(names), inside(clauses)
-
-
-def claims(program):
-    """The functions and clauses that the README cites and that their crates don't have; one of the row's crates has each function."""
-    wrong = []
-    for named, alone, cell in rows((TOP / "README.md").read_text()):
-        place = " and ".join(named)
-        for functions, clauses in groups(cell, alone):
-            for name in functions:
-                found = [crates()[crate].functions[name] for crate in named if name in crates()[crate].functions]
-                if len(found) != 1:
-                    wrong.append(f"  {len(found)} of {place} have a public function {name}")
-                else:
-                    wrong += [f"  {name} of {place} has no clause {clause}" for clause in clauses if clause not in found[0]]
-    return "\n".join(wrong) or None
-
-
 def members(owner, named):
     """What stands under a name in each crate that has it: of the crate or its specs, of a module, a record or a function."""
     crate, _, rest = owner.partition("/")
@@ -81,10 +38,7 @@ def of_owners(program):
     wrong = []
     for document in DOCUMENTS:
         text = document.read_text()
-        if document.name == "README.md":
-            # (its tables are those of `claims`)
-            text = re.sub(r"^\|.*\|$", "", text, flags=re.M)
-        found = re.findall(rf"`([\w/]+)`(?:\sof\s`(tw_\w+)`)?:\s({NAMES})", text)
+        found = re.findall(rf"`([\w/:]+)`(?:\sof\s`(tw_\w+)`)?:\s({NAMES})", text)
         found += re.findall(rf"`(\w+/specs/\w+)`()\s\(({NAMES})\)", text)
         found += [(crate, "", name) for name, crate in re.findall(r"(`\w+`)\s(?:of|in)\s`(tw_\w+)`", text)]
         for owner, crate, names in found:
@@ -154,7 +108,6 @@ def paths(program):
 
 
 def cases():
-    yield {"name": "cited: clauses of functions", "check": claims}
     yield {"name": "cited: members", "check": of_owners}
     yield {"name": "cited: names of sections", "check": in_sections}
     yield {"name": "cited: definitions of modules", "check": in_modules}

@@ -1,5 +1,6 @@
 """The documents say what is so: each link leads to a file and a heading, the README's tutorial gives the output that it shows,
-pictures are those of their data, and tables name each crate. What they name in the sources is checked by cited.py."""
+pictures are those of their data, the claims those of the sources, and docs/architecture.md names each crate. What they name in the
+sources is checked by cited.py."""
 
 import os
 import re
@@ -56,25 +57,20 @@ def tutorial(program):
     return "\n".join(wrong + [ran.stderr] * bool(ran.stderr)) or None
 
 
-def pictures(program):
-    """The documents whose pictures aren't those of their data."""
+def made(program):
+    """The documents whose pictures aren't those of their data, and the claims that aren't those of the sources."""
     wrong = []
-    for script in ("tools/pictures.py", "bench/picture.py"):
+    for script in ("tools/pictures.py", "bench/picture.py", "tools/claims.py"):
         ran = subprocess.run([sys.executable, TOP / script, "--check"], capture_output=True, text=True, timeout=60)
         wrong += [f"  python3 {script} --check\n{ran.stdout}{ran.stderr}"] * bool(ran.returncode)
     return "\n".join(wrong) or None
 
 
 def tables(program):
-    """The crates that a table or the picture of the crates leaves out, or has beyond crates.txt."""
+    """The crates that the table or the picture of docs/architecture.md leaves out, or has beyond crates.txt."""
     known = set(re.findall(r"^(\w+)[\w ]*:", (TOP / "crates.txt").read_text(), re.M))
-    readme = (TOP / "README.md").read_text().split("\n### The crates\n")[1]
     picture, table = (TOP / "docs/architecture.md").read_text().split("\n## The crates\n")[1].split("\n## ")[0].split("\n| crate |")
-    found = {
-        "the README's table": set(re.findall(r"^\| `(\w+)` \|", readme, re.M)),
-        "the table of docs/architecture.md": set(re.findall(r"^\| `(\w+)` \|", table, re.M)),
-        "the picture of docs/architecture.md": set(re.findall(r"\btw_\w+|\btimeweave\b", picture)),
-    }
+    found = {"the table": set(re.findall(r"^\| `(\w+)` \|", table, re.M)), "the picture": set(re.findall(r"\btw_\w+|\btimeweave\b", picture))}
     wrong = [f"  {place} differs in {', '.join(sorted(names ^ known))}" for place, names in found.items() if names != known]
     return "\n".join(wrong) or None
 
@@ -82,7 +78,7 @@ def tables(program):
 def without_program():
     """The cases that need no built program."""
     yield {"name": "documents: links", "check": links}
-    yield {"name": "documents: pictures", "check": pictures}
+    yield {"name": "documents: pictures and claims", "check": made}
     yield {"name": "documents: tables of crates", "check": tables}
 
 

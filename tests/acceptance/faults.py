@@ -1,4 +1,4 @@
-"""Each system call that the program makes on its files fails once, by strace: the status is one of the README's, and an honest later run
+"""Each system call that the program makes on its files fails once, by strace: the status is one of the manual page's, and an honest later run
 finds each step that was told. A short count is made by short_count.c, since strace can't take a part of the bytes."""
 
 import os

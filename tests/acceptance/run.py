@@ -194,7 +194,7 @@ def main():
     cases = list(all_cases())
     with ThreadPoolExecutor(os.cpu_count()) as pool:
         found = list(pool.map(lambda case: difference(program, case), cases))
-    cases.append({"name": "each status and text that the README names is among the answers"})
+    cases.append({"name": "each status and text that the manual page names is among the answers"})
     found.append("\n".join(seen.missing()) or None)
     return told(cases, found)
 

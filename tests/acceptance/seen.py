@@ -1,9 +1,10 @@
-"""What the program answered in this run: that each status and text that the README names was among it."""
+"""What the program answered in this run: that each status, text and reason that the manual page names was among it."""
 
 import re
+import shlex
 from pathlib import Path
 
-README = Path(__file__).resolve().parent.parent.parent / "README.md"
+MANUAL = Path(__file__).resolve().parent.parent.parent / "docs/timeweave.1"
 SEEN = set()
 
 
@@ -14,19 +15,23 @@ def note(status, output):
 
 def pattern(text):
     """The lines that a text stands for: its words in capitals are names and numbers."""
-    return "".join(r"\S+" if word.isupper() else re.escape(word) for word in re.split("( )", text))
+    return "".join(r"\S+" if word.isupper() and word.isalpha() else re.escape(word) for word in re.split("( )", text))
+
+
+def section(name):
+    """The entries of a section of the manual page: the words of the head, and those in bold below it, as they stand in one line."""
+    text = MANUAL.read_text().split(f"\n.SH {name}\n")[1].split("\n.SH ")[0]
+    for entry in re.split(r"^\.TP$", text, flags=re.M)[1:]:
+        bold = [shlex.split(line)[1:] for line in entry.splitlines() if re.match(r"\.B[RI]? ", line)]
+        yield ["".join(words) if any(" " in word for word in words) else " ".join(words) for words in bold]
 
 
 def named():
-    """The statuses of the README's table, each with the texts that its rows name, and the reasons."""
-    text = README.read_text()
-    table = text.split("\nThe statuses:\n")[1].split("\nThe words are judged")[0]
-    for row in re.findall(r"^\|(.*)\|$", table, re.M)[2:]:
-        status, output, _ = (cell.strip() for cell in row.split("|"))
-        yield from ((int(status), text) for text in re.findall(r"`([^`]*)`", output) if is_answer(text))
+    """The statuses of the manual page, each with the texts that it names, and the reasons."""
+    for status, *texts in section("EXIT STATUS"):
         yield int(status), ""
-    reasons = text.split("\nThe reasons are ")[1].split("\n\n")[0]
-    yield from ((1, f"rejected {reason}") for reason in re.findall(r"`(\d [^`]*)`", reasons))
+        yield from ((int(status), text.rstrip(" ,.")) for text in texts if is_answer(text))
+    yield from ((1, f"rejected {head}") for head, *_ in section("REASONS"))
 
 
 def is_answer(text):
@@ -35,7 +40,7 @@ def is_answer(text):
 
 
 def missing():
-    """The statuses and texts that the README names and that no case met."""
+    """The statuses and texts that the manual page names and that no case met."""
     return [
         f"  {status} {text}"
         for status, text in named()
