@@ -10,6 +10,7 @@ use Rattle.tw_base.specs.Sound.{IsSound}
 use Rattle.tw_base.specs.Texts.{empty_tree_text, genesis_text}
 use Rattle.tw_base.specs.Tree.{Tree, tree}
 use Rattle.tw_base.specs.Tree.Tree.{Empty}
+use Rattle.tw_base.proofs.DigestBytes.{IsDigest}
 use Rattle.tw_base.proofs.Plus.{tree-first}
 use Rattle.tw_pages.specs.Init.{first_opening, second_opening}
 use Rattle.tw_pages.specs.Init.{IsBlankOrNew as IsBlankOrNewStore}
@@ -26,7 +27,7 @@ use Rattle.tw_service.specs.Stands.{HasRoot, IsBlankOrNew, StandsFor, TellsArchi
 pub sound_none : (name : List ℕ) → IsName name → IsSound (no_history name)
 sound_none name is = record { name = is; length = omega arith; steps = λ i s there. cc }
 
-module _ (dig : List ℕ → List ℕ) (size : (text : List ℕ) → length (dig text) ≡ 32) (r : RootRecord) (is_name : IsName r.name) (first : r.head.step ≡ 0) (no_page : r.head.page ≡ 0)
+module _ (dig : List ℕ → List ℕ) (size : (text : List ℕ) → IsDigest (dig text)) (r : RootRecord) (is_name : IsName r.name) (first : r.head.step ≡ 0) (no_page : r.head.page ≡ 0)
     (label : r.head.auth ≡ dig (genesis_text r.name)) (no_archive : r.archive.page ≡ 0) (empty : r.archive.label ≡ dig empty_tree_text) (no_threads : r.threads ≡ 0) where
   -- the authenticator of a name
   genesis : r.head.auth ≡ auth dig (no_history r.name) 0

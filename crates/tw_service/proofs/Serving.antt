@@ -11,7 +11,7 @@ use Rattle.tw_base.specs.declared.root.Root.{Root}
 use Rattle.tw_base.specs.Auth.{tree_label}
 use Rattle.tw_base.specs.History.{History, received, root_of, step_at, with_events}
 use Rattle.tw_base.specs.Names.{IsName}
-use Rattle.tw_base.proofs.Sizes.{auth-size, tree_label-size}
+use Rattle.tw_base.proofs.DigestBytes.{IsDigest, auth-digest, tree_label-digest}
 use Rattle.tw_base.specs.Tree.{tree}
 use Rattle.tw_pages.specs.StoreValue.{IsKept, disk_of, next_opening, opening_of, staged_of}
 use Rattle.tw_pages.specs.Same.{IsSameStore, count_of, pages_of}
@@ -118,7 +118,7 @@ module _ {D : Type 0} {g : _} (view : D → DiskView) (only_now : (d : D) (c : I
   -- ---- one more step
 
   module _ (old mid : Store D g) (r next : RootRecord) (h : History) (events : List (List ℕ)) (root : List ℕ) (root_is : root ≡ root_bytes next)
-      (size : (text : List ℕ) → length (dig text) ≡ 32) (same : IsSameStore view old mid) (rest : IsAtRest (view (disk_of old)) (KeepsHistory dig old r h))
+      (size : (text : List ℕ) → IsDigest (dig text)) (same : IsSameStore view old mid) (rest : IsAtRest (view (disk_of old)) (KeepsHistory dig old r h))
       (added : (ps : Image) (k : History) → option_map (pages_of old) (view (disk_of old)).content ≡ Some ps → Keeps dig ps k r.head → r.archive ≡ archive_at dig k (length k.steps)
       → Added dig ps (with_events k events) (option_map (pages_of mid) (view (disk_of mid)).content) next.head)
       (named : next.name ≡ r.name) (archive : next.archive ≡ r.archive) (threads : next.threads ≡ r.threads)

@@ -1,6 +1,7 @@
 -- What an image stands for.
 use Rattle.std.proofs.Common.{◌≡◌, ℕ, ◌+◌, ◌^◌, ◌≤◌, List, length, ap, arith, sym, ◌∙◌, subst, ⊎_elim}
 use Rattle.tw_base.specs.History.{History}
+use Rattle.tw_base.proofs.DigestBytes.{IsDigest}
 use Rattle.tw_disk.specs.Image.{Image}
 use Rattle.tw_pages.specs.Store.{Opening, OpensAs, used_of}
 use Rattle.tw_pages.specs.declared.open.StoreFault.{StoreFault}
@@ -42,7 +43,7 @@ pub opens_never_refused : (image : Image) (name : List ℕ) (head : Head) (fault
 opens_never_refused image name head fault opens why = never_refused image opens.opening opens.opens opens.root opens.has fault why
 
 module _ (dig : List ℕ → List ℕ) where
-  pub stands_once : ((text : List ℕ) → length (dig text) ≡ 32) → (image : Image) (one other : List ℕ) (h g : History) → StandsFor dig image one h → StandsFor dig image other g → h ≡ g
+  pub stands_once : ((text : List ℕ) → IsDigest (dig text)) → (image : Image) (one other : List ℕ) (h g : History) → StandsFor dig image one h → StandsFor dig image other g → h ≡ g
   stands_once size image one other h g s t =
       let same = opens_once s.opening t.opening image s.opens t.opens in
       let root = one_root image s.opening s.opens s.root s.has t.opening t.opens t.root t.has in

@@ -11,6 +11,7 @@ use Rattle.tw_base.specs.Texts.{link_text}
 use Rattle.tw_base.specs.History.{History}
 use Rattle.tw_base.specs.Levels.{top_level}
 use Rattle.tw_base.specs.Auth.{auths, datum_text_at, link_texts}
+use Rattle.tw_base.proofs.DigestBytes.{IsDigest}
 use Rattle.tw_base.proofs.Auths.{auths-at}
 use Rattle.tw_skipproof.specs.HistoryProofs.{labels_at}
 use Rattle.tw_skipproof.specs.declared.path.Link.{Link}
@@ -88,7 +89,7 @@ module _ (dig : List ℕ → List ℕ) where
 
   -- ---- of a history that the pages keep
 
-  module _ (size : (text : List ℕ) → length (dig text) ≡ 32) (h : History) (places : List Place) (ps : Image) (kept : KeepsSteps dig ps h places) where
+  module _ (size : (text : List ℕ) → IsDigest (dig text)) (h : History) (places : List Place) (ps : Image) (kept : KeepsSteps dig ps h places) where
     kept_datum : (k : ℕ) → page_datum dig (fields_at dig h places (suc k)) ≡ dig (datum_text_at dig h (suc k))
     unfolding datum_text_at
     kept_datum k = refl
