@@ -1,9 +1,9 @@
 // The readers of fields at a place that moves: each takes the field that begins there, and leaves
 // the place behind it. Where the bytes aren't that field they tell the first bad byte, and leave any
-// place.
+// place. Only those that are given an allocator take memory.
 #![tactic(auto, unfolding(crate::specs::Codecs::by_kind, crate::specs::Codecs::bytes_codec, crate::specs::Codecs::labels_codec, crate::specs::Codecs::name_codec, crate::specs::Codecs::number_codec, crate::specs::Codecs::sized_codec, crate::specs::Codecs::text_codec))]
 
-ghost use Rattle.std.specs.Prelude.{◌≡◌, ◌^◌, ◌<◌, ◌≤◌, length, replicate, IfOk};
+ghost use Rattle.std.specs.Prelude.{◌≡◌, ◌≢◌, ◌^◌, ◌<◌, ◌≤◌, length, replicate, IfErr, IfOk};
 ghost use Rattle.tw_base.specs.Codecs.{bytes_codec, digest_codec, labels_codec, name_codec, number_codec, sized_codec, text_codec};
 ghost use Rattle.tw_base.specs.Taking.{Takes};
 
@@ -29,6 +29,7 @@ pub fn take_number(
     requires fits { most < 256 ^ width }
     ensures takes { Takes (number_codec width least most) (λ n. n) bytes.now at.old at.new result }
     ensures range { IfOk result (λ n. (least ≤ n) × (n ≤ most)) }
+    ensures memory { IfErr result (λ fault. fault ≢ ReadFault.NoMemory) }
 {
     match number_at(bytes, *at as usize, width, least, most) {
         Ok(found) => {
@@ -42,7 +43,8 @@ pub fn take_number(
 /// Takes a digest.
 pub fn take_digest(bytes: &[u8], at: &mut u64) -> Result<Digest, ReadFault>
     requires { at.old ≤ length bytes.now }
-    ensures { Takes digest_codec (λ d. d) bytes.now at.old at.new result }
+    ensures takes { Takes digest_codec (λ d. d) bytes.now at.old at.new result }
+    ensures memory { IfErr result (λ fault. fault ≢ ReadFault.NoMemory) }
 {
     if bytes.len() as u64 - *at < 32 {
         return Err(ReadFault::Malformed {
@@ -57,7 +59,8 @@ pub fn take_digest(bytes: &[u8], at: &mut u64) -> Result<Digest, ReadFault>
 /// Takes a service's name.
 pub fn take_name(bytes: &[u8], at: &mut u64) -> Result<Name, ReadFault>
     requires { at.old ≤ length bytes.now }
-    ensures { Takes name_codec (λ n. n) bytes.now at.old at.new result }
+    ensures takes { Takes name_codec (λ n. n) bytes.now at.old at.new result }
+    ensures memory { IfErr result (λ fault. fault ≢ ReadFault.NoMemory) }
 {
     match read_name(bytes, *at) {
         Ok(found) => {
@@ -71,7 +74,8 @@ pub fn take_name(bytes: &[u8], at: &mut u64) -> Result<Name, ReadFault>
 /// Takes the text.
 pub fn take_text(bytes: &[u8], at: &mut u64, text: &[u8]) -> Result<(), ReadFault>
     requires { at.old ≤ length bytes.now }
-    ensures { Takes (text_codec text.now) (λ _. text.now) bytes.now at.old at.new result }
+    ensures takes { Takes (text_codec text.now) (λ _. text.now) bytes.now at.old at.new result }
+    ensures memory { IfErr result (λ fault. fault ≢ ReadFault.NoMemory) }
 {
     match check_text(&bytes[*at as usize..], *at, text) {
         Ok(()) => {
@@ -137,7 +141,8 @@ pub fn take_labels(
 /// Takes so many bytes, where they stand.
 pub fn take_slice<'a>(bytes: &'a [u8], at: &mut u64, count: u64) -> Result<&'a [u8], ReadFault>
     requires { at.old ≤ length bytes.now }
-    ensures { Takes (bytes_codec count) (λ b. b.now) bytes.now at.old at.new result }
+    ensures takes { Takes (bytes_codec count) (λ b. b.now) bytes.now at.old at.new result }
+    ensures memory { IfErr result (λ fault. fault ≢ ReadFault.NoMemory) }
 {
     let start = *at;
     if bytes.len() as u64 - start < count {
@@ -153,7 +158,8 @@ pub fn take_slice<'a>(bytes: &'a [u8], at: &mut u64, count: u64) -> Result<&'a [
 pub fn take_zeros(bytes: &[u8], at: &mut u64, count: usize) -> Result<(), ReadFault>
     requires within { at.old ≤ length bytes.now }
     requires few { count ≤ 4096 }
-    ensures { Takes (text_codec (replicate count 0)) (λ _. replicate count 0) bytes.now at.old at.new result }
+    ensures takes { Takes (text_codec (replicate count 0)) (λ _. replicate count 0) bytes.now at.old at.new result }
+    ensures memory { IfErr result (λ fault. fault ≢ ReadFault.NoMemory) }
 {
     let zeros = [0; 4096];
     take_text(bytes, at, &zeros[..count])

@@ -1,8 +1,8 @@
 //! Disks by pages of 4,096 bytes, what a crash may leave of one, and the pages that a store shows to the crates above it.
 //!
 //! [`Disk`] is the device with the disk model: what a write, a barrier and a crash may do. [`Pages`] is a list of pages that only grows.
-//! [`MemDisk`] and [`MemPages`] are both in memory, with calls that fail where a test plans it. [`append_at`]
-//! puts bytes into a page, and [`u64_at`] and its like read the fields that stand in one.
+//! [`MemDisk`] and [`MemPages`] are both in memory, with calls that fail where a test plans it. [`PageFront`]
+//! is a page that is filled from its front, and [`page_to`] ends the reading of one.
 #![tactic(auto)]
 
 mod call;
@@ -19,6 +19,6 @@ mod tests;
 pub use disk::Disk;
 pub use memory_disk::MemDisk;
 pub use memory_pages::MemPages;
-pub use page_bytes::{Page, append_at, digest_at, u16_at, u32_at, u64_at};
+pub use page_bytes::{Page, PageFront, page_to};
 pub use pages::Pages;
 pub use tw_base::{Failed, NoMemory};

@@ -1,68 +1,109 @@
-// The bytes of pages, and the fields that stand in them.
+// The bytes of pages, written and read from the front.
 
-ghost use Rattle.std.specs.Prelude.{◌≡◌, ◌+◌, ◌++◌, ◌≤◌, ℕ, List, length, take, drop};
-ghost use Rattle.std.specs.Int.{from_be_bytes, w16, w32, w64};
-ghost use Rattle.tw_disk.specs.PageBytes.{padded};
+ghost use Rattle.std.specs.Prelude.{◌≡◌, ◌↔◌, ◌+◌, ◌-◌, ◌^◌, ◌<◌, ◌++◌, ◌≤◌, [], length, replicate, IfOk, IsTrue};
+ghost use Rattle.tw_base.specs.Fields.{number_bytes};
+ghost use Rattle.tw_disk.specs.PageBytes.{IsPageTo, padded};
 ghost use Rattle.tw_disk.specs.declared.limits.TheConstants.{PAGE_SIZE};
 
 use crate::limits::PAGE_SIZE;
-use tw_base::Digest;
+use std::marker::Model;
+use tw_base::{Digest, ReadFault};
 
 /// The bytes of a page.
 pub type Page = [u8; PAGE_SIZE];
 
-/// Puts bytes into a page at a place, which is from 0 to 4,096 less the number of bytes. Where the
-/// page is some bytes up to that place and zeros from there on, it is then these bytes, the bytes put
-/// in, and zeros to its end; of any other page nothing is promised.
-pub fn append_at(page: &mut Page, at: usize, bytes: &[u8])
-    requires { at + length bytes.now ≤ PAGE_SIZE }
-    ensures { (front : List ℕ) → length front ≡ at → page.old ≡ padded front → page.new ≡ padded (front ++ bytes.now) }
-{
-    page[at..at + bytes.len()].copy_from_slice(bytes);
+/// A page that is filled from its front. Contracts see the bytes that were put in.
+#[derive(Drop)]
+pub struct PageFront {
+    page: Page,
+    filled: usize,
 }
 
-// The bytes from a place on, as many as the array has.
-fn array_at<const N: usize>(bytes: &[u8], at: usize) -> [u8; N]
-    requires { at + N ≤ length bytes.now }
-    ensures { result ≡ take N (drop at bytes.now) }
-{
-    let mut array = [0; N];
-    array.copy_from_slice(&bytes[at..at + N]);
-    array
+impl Model for PageFront {
+    ghost use Rattle.std.specs.Prelude.{◌≡◌, ◌-◌, ◌≤◌, ℕ, List, drop, replicate, take};
+
+    ghost Value = { List ℕ };
+
+    ghost view = { λ p. take p.filled p.page };
+
+    ghost invariant = { λ p. (p.filled ≤ 4096) × (drop p.filled p.page ≡ replicate (4096 - p.filled) 0) };
 }
 
-/// The number that the two bytes from a place on spell, the highest byte first. The place is from 0
-/// to the number of bytes less two.
-pub fn u16_at(bytes: &[u8], at: usize) -> u16
-    requires { at + 2 ≤ length bytes.now }
-    ensures { result ≡ from_be_bytes w16 (take 2 (drop at bytes.now)) }
-{
-    u16::from_be_bytes(array_at(bytes, at))
+impl PageFront {
+    /// A page of zeros, into which nothing was put.
+    pub fn new() -> Self
+        ensures { result ≡ [] }
+    {
+        PageFront {
+            page: [0; PAGE_SIZE],
+            filled: 0,
+        }
+    }
+
+    /// Puts these bytes behind those that were put in.
+    pub fn put(&mut self, bytes: &[u8])
+        requires { length self.old + length bytes.now ≤ PAGE_SIZE }
+        ensures bytes { self.new ≡ self.old ++ bytes.now }
+        ensures size { length self.new ≡ length self.old + length bytes.now }
+    {
+        let end = self.filled + bytes.len();
+        self.page[self.filled..end].copy_from_slice(bytes);
+        self.filled = end;
+    }
+
+    /// Puts a number that fits `width` bytes (at most 8), the highest byte first.
+    pub fn put_number(&mut self, value: u64, width: u8)
+        requires width { width ≤ 8 }
+        requires fits { value < 256 ^ width }
+        requires room { length self.old + width ≤ PAGE_SIZE }
+        ensures bytes { self.new ≡ self.old ++ number_bytes width value }
+        ensures size { length self.new ≡ length self.old + width }
+    {
+        let bytes = value.to_be_bytes();
+        self.put(&bytes[8 - width as usize..]);
+    }
+
+    /// Puts the 32 bytes of a digest.
+    pub fn put_digest(&mut self, digest: &Digest)
+        requires { length self.old + 32 ≤ PAGE_SIZE }
+        ensures bytes { self.new ≡ self.old ++ digest.now }
+        ensures size { length self.new ≡ length self.old + 32 }
+        ensures digest { length digest.now ≡ 32 }
+    {
+        self.put(&digest.0);
+    }
+
+    /// The page: the bytes that were put in, and zeros.
+    pub fn into_page(self) -> Page
+        ensures { result ≡ padded self }
+    {
+        self.page
+    }
 }
 
-/// The number that the four bytes from a place on spell, the highest byte first. The place is from 0
-/// to the number of bytes less four.
-pub fn u32_at(bytes: &[u8], at: usize) -> u32
-    requires { at + 4 ≤ length bytes.now }
-    ensures { result ≡ from_be_bytes w32 (take 4 (drop at bytes.now)) }
+/// Whether the bytes are zeros.
+fn are_zeros(bytes: &[u8]) -> bool
+    requires { length bytes.now ≤ PAGE_SIZE }
+    ensures { IsTrue result ↔ (bytes.now ≡ replicate (length bytes.now) 0) }
 {
-    u32::from_be_bytes(array_at(bytes, at))
+    let zeros = [0; PAGE_SIZE];
+    bytes == &zeros[..bytes.len()]
 }
 
-/// The number that the eight bytes from a place on spell, the highest byte first. The place is from 0
-/// to the number of bytes less eight.
-pub fn u64_at(bytes: &[u8], at: usize) -> u64
-    requires { at + 8 ≤ length bytes.now }
-    ensures { result ≡ from_be_bytes w64 (take 8 (drop at bytes.now)) }
+/// The answer for a page of a reader that read it from the front up to a place, which is at most
+/// 4,096: the value, where zeros follow to the page's end.
+pub fn page_to<T: Drop>(page: &Page, after: u64, read: Result<T, ReadFault>) -> Option<T>
+    requires { IfOk read (λ _. after ≤ PAGE_SIZE) }
+    ensures { IsPageTo page.now after read result }
 {
-    u64::from_be_bytes(array_at(bytes, at))
-}
-
-/// The digest that the 32 bytes from a place on are. The place is from 0 to the number of bytes less
-/// 32.
-pub fn digest_at(bytes: &[u8], at: usize) -> Digest
-    requires { at + 32 ≤ length bytes.now }
-    ensures { result ≡ take 32 (drop at bytes.now) }
-{
-    Digest(array_at(bytes, at))
+    match read {
+        Ok(value) => {
+            if are_zeros(&page[after as usize..]) {
+                Some(value)
+            } else {
+                None
+            }
+        }
+        Err(_) => None,
+    }
 }

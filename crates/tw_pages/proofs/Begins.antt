@@ -1,12 +1,14 @@
 -- What the phases that make a store leave.
 use Rattle.std.proofs.Common.{◌≡◌, ◌≢◌, ℕ, ◌+◌, ◌<◌, ◌≤◌, List, length, get_or, refl, sym, ◌∙◌, ap, arith}
 use Rattle.std.proofs.lemmas.List.{get_or-replicate}
+use Rattle.tw_base.specs.Bytes.{AreBytes}
 use Rattle.tw_disk.specs.Image.{Image, put, page_at}
 use Rattle.tw_disk.specs.PutSteps.{length-put, page_at-put_same, page_at-put_other}
 use Rattle.tw_pages.specs.Store.{OpensAboveOlder, IsBody, open_gate_page, closed_gate_page, body_page}
 use Rattle.tw_pages.specs.InitSteps.{BothClosed, HasBodies}
 use Rattle.tw_pages.specs.Init.{first_opening}
 use Rattle.tw_pages.proofs.Steps.{body_moved}
+use Rattle.tw_pages.proofs.Bodies.{body-fits}
 
 -- two pages put side by side
 module _ (at : ℕ) (one other : List ℕ) (c : Image) (fits : at ≤ length c) where
@@ -51,11 +53,11 @@ gates_closed c =
       room = length_pair 0 closed_gate_page closed_gate_page c low;
     }
 
-body_here : (count : ℕ) (page : List ℕ) (generation : ℕ) (root : List ℕ) → page ≡ body_page generation 4 root → generation < 2 → 4 ≤ count → length root ≤ 512 → IsBody count page generation 4 root
-body_here count page generation root is low room fits = record { bytes = is; generation_fits = omega arith; used_from = omega arith; used_fits = omega arith; room = room; root_fits = fits }
+body_here : (count : ℕ) (page : List ℕ) (generation : ℕ) (root : List ℕ) → page ≡ body_page generation 4 root → generation < 2 → 4 ≤ count → length root ≤ 512 → AreBytes root → IsBody count page generation 4 root
+body_here count page generation root is low room few bytes = record { is = record { bytes = is; fits = body-fits generation 4 root (omega arith) (omega arith) (omega arith) few bytes }; room = room }
 
-pub bodies_stand : (root : List ℕ) (c : Image) → length root ≤ 512 → BothClosed c → BothClosed (put 3 (body_page 0 4 root) (put 2 (body_page 1 4 root) c)) × HasBodies root (put 3 (body_page 0 4 root) (put 2 (body_page 1 4 root) c))
-bodies_stand root c fits closed =
+pub bodies_stand : (root : List ℕ) (c : Image) → length root ≤ 512 → AreBytes root → BothClosed c → BothClosed (put 3 (body_page 0 4 root) (put 2 (body_page 1 4 root) c)) × HasBodies root (put 3 (body_page 0 4 root) (put 2 (body_page 1 4 root) c))
+bodies_stand root c few bytes closed =
     let one = body_page 1 4 root in
     let other = body_page 0 4 root in (
       record {
@@ -64,8 +66,8 @@ bodies_stand root c fits closed =
         room = omega (arith, length_pair 2 one other c closed.room);
       },
       record {
-        first = body_here _ _ 1 root (first_of_pair 2 one other c closed.room) (omega arith) (length_pair 2 one other c closed.room) fits;
-        second = body_here _ _ 0 root (second_of_pair 2 one other c closed.room) (omega arith) (length_pair 2 one other c closed.room) fits;
+        first = body_here _ _ 1 root (first_of_pair 2 one other c closed.room) (omega arith) (length_pair 2 one other c closed.room) few bytes;
+        second = body_here _ _ 0 root (second_of_pair 2 one other c closed.room) (omega arith) (length_pair 2 one other c closed.room) few bytes;
       },
     )
 

@@ -2,21 +2,23 @@
 use Rattle.std.proofs.Common.{◌≡◌, inl, inr, ℕ, ◌+◌, ◌<◌, List, length, take, drop, get_or, sym, ◌∙◌, ap, subst, arith}
 use Rattle.std.proofs.lemmas.Bool.{cases_eq}
 use Rattle.tw_disk.specs.Image.{Image, page_at}
-use Rattle.tw_pages.specs.Store.{Opening, Stands, OpensAs, IsBody, used_of, spare_of}
-use Rattle.tw_pages.proofs.Bodies.{generation_read, used_read, length_read, root_read}
+use Rattle.tw_disk.proofs.PageLaws.{page-once}
+use Rattle.tw_pages.specs.Store.{Opening, Stands, OpensAs, IsBody, body_codec, used_of, spare_of}
+use Rattle.tw_pages.proofs.Bodies.{body-lawful}
 use Rattle.tw_pages.proofs.Openings.{pages_of}
 
 module _ (count : ℕ) (page : List ℕ) (generation used : ℕ) (root : List ℕ) (generation' used' : ℕ) (root' : List ℕ) (is : IsBody count page generation used root) (is' : IsBody count page generation' used' root') where
+  same_body : ◌≡◌ {A = ℕ × (ℕ × List ℕ)} (generation, (used, root)) (generation', (used', root'))
+  same_body = page-once body_codec body-lawful page (generation, (used, root)) (generation', (used', root')) is.is is'.is
+
   pub same_generation : generation ≡ generation'
-  same_generation = sym (generation_read count page generation used root is) ∙ generation_read count page generation' used' root' is'
+  same_generation = ap (λ b. b.0) same_body
 
   pub same_used : used ≡ used'
-  same_used = sym (used_read count page generation used root is) ∙ used_read count page generation' used' root' is'
+  same_used = ap (λ b. b.1.0) same_body
 
   pub same_root : root ≡ root'
-  same_root =
-      let size : length root ≡ length root' = sym (length_read count page generation used root is) ∙ length_read count page generation' used' root' is' in
-      sym (root_read count page generation used root is) ∙ ap (λ (n : ℕ). take n (drop 26 page)) size ∙ root_read count page generation' used' root' is'
+  same_root = ap (λ b. b.1.1) same_body
 
 module _ (o p : Opening) (c : Image) (opens : OpensAs o c) (opens' : OpensAs p c) where
   in_one_slot : o.slot ≡ p.slot → o ≡ p

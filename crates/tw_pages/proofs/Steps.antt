@@ -10,14 +10,7 @@ use Rattle.tw_pages.specs.CommitSteps.{IsReady, Holds, IsNext}
 
 -- the same body on a disk of no fewer pages
 pub body_moved : (count count' : ℕ) (page page' : List ℕ) (generation used : ℕ) (root : List ℕ) → page' ≡ page → count ≤ count' → IsBody count page generation used root → IsBody count' page' generation used root
-body_moved count count' page page' generation used root same le is = record {
-  bytes = same ∙ is.bytes;
-  generation_fits = is.generation_fits;
-  used_from = is.used_from;
-  used_fits = is.used_fits;
-  room = omega (arith, is.room, le);
-  root_fits = is.root_fits;
-}
+body_moved count count' page page' generation used root same le is = record { is = record { bytes = same ∙ is.is.bytes; fits = is.is.fits }; room = omega (arith, is.room, le) }
 
 -- a page that the slot doesn't use
 pub record IsElsewhere (o : Opening) (page : ℕ) : Type 0 where
@@ -102,12 +95,8 @@ readied old new staged page c is step opens holds =
       next = step.next;
       room = omega (arith, count, holds.room, length-put page body c fits);
       body = record {
-        bytes = ap (λ (k : ℕ). page_at (put page body c) k) (omega (arith, step.other)) ∙ page_at-put_same page body c fits;
-        generation_fits = step.generation_fits;
-        used_from = omega arith;
-        used_fits = step.used_fits;
+        is = record { bytes = ap (λ (k : ℕ). page_at (put page body c) k) (omega (arith, step.other)) ∙ page_at-put_same page body c fits; fits = step.fits };
         room = omega (arith, count, holds.room, length-put page body c fits);
-        root_fits = step.root_fits;
       };
       pages = λ k lt. page_at-put_other page body c (4 + k) fits (λ e. absurd (omega arith)) ∙ placed k (omega (arith, count)) (cases_lt k (length old.pages)) ∙ ap (λ (ps : Image). page_at ps k) (sym step.pages);
     }

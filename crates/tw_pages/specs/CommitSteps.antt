@@ -1,9 +1,9 @@
 -- What an image holds between the phases of a commit, which the private calls speak of.
 use Rattle.std.specs.Prelude.{◌≡◌, ℕ, ◌+◌, ◌<◌, ◌≤◌, List, ◌++◌, length}
 use Rattle.tw_disk.specs.Image.{Image, page_at}
-use Rattle.tw_pages.specs.Store.{Opening, OpensAlone, IsBody, used_of, spare_of}
-use Rattle.tw_disk.specs.declared.limits.TheConstants.{FIRST_PAGE, NUMBER_LIMIT}
-use Rattle.tw_pages.specs.declared.limits.TheConstants.{FIRST_BODY, MOST_ROOT_BYTES}
+use Rattle.tw_pages.specs.Store.{Opening, OpensAlone, IsBody, body_codec, used_of, spare_of}
+use Rattle.tw_disk.specs.declared.limits.TheConstants.{FIRST_PAGE}
+use Rattle.tw_pages.specs.declared.limits.TheConstants.{FIRST_BODY}
 
 -- these pages stand in it one after another
 pub record Holds (at : ℕ) (pages : Image) (c : Image) : Type 0 where
@@ -24,9 +24,7 @@ pub record IsNext (old : Opening) (staged : Image) (new : Opening) : Type 0 wher
   pub other : new.slot ≡ spare_of old
   pub next : new.generation ≡ old.generation + 1
   pub pages : new.pages ≡ old.pages ++ staged
-  pub generation_fits : new.generation < NUMBER_LIMIT
-  pub used_fits : used_of new < NUMBER_LIMIT
-  pub root_fits : length new.root ≤ MOST_ROOT_BYTES
+  pub fits : body_codec.Fits (new.generation, (used_of new, new.root))
 
 -- the commit of these pages and this root, by the numbers that the code keeps
 pub record IsCommit (spare used generation : ℕ) (staged : Image) (root : List ℕ) (old new : Opening) : Type 0 where

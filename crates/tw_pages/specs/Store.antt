@@ -1,8 +1,8 @@
 -- What an image of a disk opens as: two slots, each with a gate page and a body page, and then the committed pages.
 use Rattle.std.specs.Prelude.{Bool, true, false, ◌≡◌, ◌≢◌, ◌⊎◌, ℕ, ◌+◌, ◌-◌, ◌<◌, ◌≤◌, List, [], ◌∷◌, ◌++◌, length, replicate, slice_index}
-use Rattle.std.specs.Int.{to_be_bytes, w16, w64}
+use Rattle.tw_base.specs.Codecs.{Codec, behind, number_codec, pair, sized_codec}
 use Rattle.tw_disk.specs.Image.{Image, page_at}
-use Rattle.tw_disk.specs.PageBytes.{padded}
+use Rattle.tw_disk.specs.PageBytes.{IsPageOf, padded}
 use Rattle.tw_disk.specs.declared.limits.TheConstants.{FIRST_PAGE, NUMBER_LIMIT, PAGE_SIZE}
 use Rattle.tw_pages.specs.declared.limits.TheConstants.{FIRST_BODY, MOST_ROOT_BYTES}
 
@@ -10,9 +10,15 @@ use Rattle.tw_pages.specs.declared.limits.TheConstants.{FIRST_BODY, MOST_ROOT_BY
 abbrev pub magic : List ℕ
 magic = 84 ∷ 87 ∷ 83 ∷ 84 ∷ 79 ∷ 82 ∷ 69 ∷ 49 ∷ []
 
--- the page of a body: the letters, the generation, the number of used pages, the root record with its length, and zeros
-unfoldable pub body_page : ℕ → ℕ → List ℕ → List ℕ
-body_page generation used root = padded (magic ++ to_be_bytes w64 generation ++ to_be_bytes w64 used ++ to_be_bytes w16 (length root) ++ root)
+-- a body: the letters, the generation, the number of used pages, and the root record behind its length
+unfoldable pub body_codec : Codec (ℕ × (ℕ × List ℕ))
+body_codec =
+    behind magic
+    (pair (number_codec 8 0 (NUMBER_LIMIT - 1)) (λ generation. pair (number_codec 8 FIRST_PAGE (NUMBER_LIMIT - 1)) (λ used. sized_codec 2 0 MOST_ROOT_BYTES)))
+
+-- its page
+abbrev pub body_page : ℕ → ℕ → List ℕ → List ℕ
+body_page generation used root = padded (body_codec.write (generation, (used, root)))
 
 -- the page of an open gate
 unfoldable pub open_gate_page : List ℕ
@@ -42,12 +48,8 @@ spare_of o = 1 - o.slot
 
 -- the page is this body, whose pages a disk of that many pages has
 pub record IsBody (count : ℕ) (page : List ℕ) (generation used : ℕ) (root : List ℕ) : Type 0 where
-  pub bytes : page ≡ body_page generation used root
-  pub generation_fits : generation < NUMBER_LIMIT
-  pub used_from : FIRST_PAGE ≤ used
-  pub used_fits : used < NUMBER_LIMIT
+  pub is : IsPageOf body_codec page (generation, (used, root))
   pub room : used ≤ count
-  pub root_fits : length root ≤ MOST_ROOT_BYTES
 
 -- the image has this body in its slot, with the gate open, and all the pages
 pub record Stands (o : Opening) (c : Image) : Type 0 where

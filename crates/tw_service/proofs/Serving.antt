@@ -11,7 +11,7 @@ use Rattle.tw_base.specs.declared.root.Root.{Root}
 use Rattle.tw_base.specs.Auth.{tree_label}
 use Rattle.tw_base.specs.History.{History, received, root_of, step_at, with_events}
 use Rattle.tw_base.specs.Names.{IsName}
-use Rattle.tw_base.proofs.Sizes.{auth-size, tree_label-size}
+use Rattle.tw_base.proofs.DigestBytes.{IsDigest, auth-digest, tree_label-digest}
 use Rattle.tw_base.specs.Tree.{tree}
 use Rattle.tw_pages.specs.StoreValue.{IsKept, disk_of, next_opening, opening_of, staged_of}
 use Rattle.tw_pages.specs.Same.{IsSameStore, count_of, pages_of}
@@ -27,6 +27,7 @@ use Rattle.tw_service.specs.declared.root.RootRecord.{RootRecord}
 use Rattle.tw_service.specs.Keeps.{KeepsHistory}
 use Rattle.tw_service.specs.Roots.{FitsStore, root_bytes}
 use Rattle.tw_service.specs.Stands.{HasRoot, StandsFor, StandsForOneOf, TellsArchive}
+use Rattle.tw_service.proofs.RootLaws.{root-fits, root-name}
 use Rattle.tw_service.proofs.EventHistories.{same_received, sound_kept}
 
 no_items : (pages : Image) → length pages ≡ 0 → pages ≡ []
@@ -118,7 +119,7 @@ module _ {D : Type 0} {g : _} (view : D → DiskView) (only_now : (d : D) (c : I
   -- ---- one more step
 
   module _ (old mid : Store D g) (r next : RootRecord) (h : History) (events : List (List ℕ)) (root : List ℕ) (root_is : root ≡ root_bytes next)
-      (size : (text : List ℕ) → length (dig text) ≡ 32) (same : IsSameStore view old mid) (rest : IsAtRest (view (disk_of old)) (KeepsHistory dig old r h))
+      (size : (text : List ℕ) → IsDigest (dig text)) (same : IsSameStore view old mid) (rest : IsAtRest (view (disk_of old)) (KeepsHistory dig old r h))
       (added : (ps : Image) (k : History) → option_map (pages_of old) (view (disk_of old)).content ≡ Some ps → Keeps dig ps k r.head → r.archive ≡ archive_at dig k (length k.steps)
       → Added dig ps (with_events k events) (option_map (pages_of mid) (view (disk_of mid)).content) next.head)
       (named : next.name ≡ r.name) (archive : next.archive ≡ r.archive) (threads : next.threads ≡ r.threads)
@@ -174,7 +175,6 @@ module _ {D : Type 0} {g : _} (view : D → DiskView) (only_now : (d : D) (c : I
         let used : count ≡ used_of opening = counted (pages_of mid rest.image) new_list in
         let was = rest.has.has.allowed.fits in
         record {
-          short = omega (arith, one_more, room);
           steps = record {
             none = λ none. absurd (omega (arith, none, one_more));
             some = λ some. head_page dig opening.pages longer next.head new_keeps some;
@@ -194,9 +194,14 @@ module _ {D : Type 0} {g : _} (view : D → DiskView) (only_now : (d : D) (c : I
     new_root = record {
       bytes = root_is;
       allowed = record {
-        is_name = subst IsName (sym named) rest.has.has.allowed.is_name;
-        auth_size = ap length new_keeps.auth ∙ auth-size dig size longer (length longer.steps);
-        label_size = ap (λ (x : Root). length x.label) new_tells.archive ∙ tree_label-size dig size (tree longer (length longer.steps));
+        spelled =
+            let auth = subst IsDigest (sym new_keeps.auth) (auth-digest dig (λ t. (size t).0) (λ t. (size t).1) longer (length longer.steps)) in
+            let label = subst (λ (x : Root). IsDigest x.label) (sym new_tells.archive) (tree_label-digest dig (λ t. (size t).0) (λ t. (size t).1) (tree longer (length longer.steps))) in
+            let used : count ≡ used_of opening = counted (pages_of mid rest.image) new_list in
+            let below = (new_fits.steps.some (omega (arith, one_more))).1 in
+            let no_page : next.archive.page ≡ 0 = ap (λ (x : Root). x.page) new_tells.archive in
+            root-fits next (subst IsName (sym named) (root-name r rest.has.has.allowed.spelled)) (omega (arith, one_more, room)) auth (omega (arith, below, used, pages, one_more, room))
+            (omega (arith, no_page)) label (omega (arith, new_fits.few_threads, one_more, room));
         fits = new_fits;
       };
     }

@@ -1,6 +1,7 @@
 -- What an image stands for.
 use Rattle.std.proofs.Common.{◌≡◌, ℕ, ◌+◌, ◌^◌, ◌≤◌, List, length, ap, arith, sym, ◌∙◌, subst, ⊎_elim}
 use Rattle.tw_base.specs.History.{History}
+use Rattle.tw_base.proofs.DigestBytes.{IsDigest}
 use Rattle.tw_disk.specs.Image.{Image}
 use Rattle.tw_pages.specs.Store.{Opening, OpensAs, used_of}
 use Rattle.tw_pages.specs.declared.open.StoreFault.{StoreFault}
@@ -12,14 +13,15 @@ use Rattle.tw_skiplist.proofs.Once.{keeps_one}
 use Rattle.tw_service.specs.declared.root.RootRecord.{RootRecord}
 use Rattle.tw_service.specs.EventsOnly.{HasEventsOnly}
 use Rattle.tw_service.specs.Stands.{HasRoot, IsNotOpenedFor, OpensFor, OpensWith, StandsFor}
-use Rattle.tw_service.proofs.RootReading.{root_once}
+use Rattle.tw_pages.proofs.Bodies.{used_fits}
+use Rattle.tw_service.proofs.RootLaws.{root_once}
 
 -- an image that opens with a root record has no other one, and is refused for no reason
 module _ (image : Image) (o : Opening) (opens : OpensAs o image) (r : RootRecord) (has : HasRoot o r) where
   one_root : (p : Opening) → OpensAs p image → (other : RootRecord) → HasRoot p other → r ≡ other
   one_root p opens_too other has_too =
       let root = subst (λ (x : Opening). HasRoot x r) (opens_once o p image opens opens_too) has in
-      root_once (used_of p) p.generation opens_too.stands.body.used_fits p.root r other root.bytes root.allowed has_too.bytes has_too.allowed
+      root_once (used_of p) p.generation p.root r other root.bytes root.allowed has_too.bytes has_too.allowed
 
   never_refused : (fault : StoreFault) → IsNotOpenedFor image fault → ⊥
   never_refused fault why = ⊎_elim (not_refused o image opens fault)
@@ -35,14 +37,14 @@ one_service image one other head last ps qs a b =
       sym a.named ∙ ap (λ (r : RootRecord). r.name) root ∙ b.named,
       sym a.headed ∙ ap (λ (r : RootRecord). r.head) root ∙ b.headed,
       pages,
-      omega (arith, b.opens.stands.body.used_fits, ap length pages, ap length b.pages),
+      omega (arith, used_fits b.opening.generation (used_of b.opening) b.opening.root b.opens.stands.body.is.fits, ap length pages, ap length b.pages),
     )
 
 pub opens_never_refused : (image : Image) (name : List ℕ) (head : Head) (fault : StoreFault) → OpensFor image name head → IsNotOpenedFor image fault → ⊥
 opens_never_refused image name head fault opens why = never_refused image opens.opening opens.opens opens.root opens.has fault why
 
 module _ (dig : List ℕ → List ℕ) where
-  pub stands_once : ((text : List ℕ) → length (dig text) ≡ 32) → (image : Image) (one other : List ℕ) (h g : History) → StandsFor dig image one h → StandsFor dig image other g → h ≡ g
+  pub stands_once : ((text : List ℕ) → IsDigest (dig text)) → (image : Image) (one other : List ℕ) (h g : History) → StandsFor dig image one h → StandsFor dig image other g → h ≡ g
   stands_once size image one other h g s t =
       let same = opens_once s.opening t.opening image s.opens t.opens in
       let root = one_root image s.opening s.opens s.root s.has t.opening t.opens t.root t.has in

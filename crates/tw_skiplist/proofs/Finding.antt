@@ -1,5 +1,6 @@
 -- What walks from a history's head find.
 use Rattle.std.proofs.Common.{◌≡◌, ℕ, ◌<◌, ◌≤◌, List, length, ap, sym, ◌∙◌, arith, subst}
+use Rattle.tw_base.proofs.DigestBytes.{IsDigest}
 use Rattle.tw_disk.specs.Image.{Image}
 use Rattle.tw_base.specs.History.{History}
 use Rattle.tw_base.specs.Auth.{auth}
@@ -14,7 +15,7 @@ use Rattle.tw_skiplist.specs.Records.{FindsPath, TellsInfo, WalksAlong, head_ref
 use Rattle.tw_skiplist.proofs.Kept.{no_bad_page, walk_leads}
 use Rattle.tw_skiplist.proofs.Recording.{info_of}
 
-module _ (dig : List ℕ → List ℕ) (size : (text : List ℕ) → length (dig text) ≡ 32) (ps : Image) (h : History) (head : Head) (keeps : Keeps dig ps h head)
+module _ (dig : List ℕ → List ℕ) (size : (text : List ℕ) → IsDigest (dig text)) (ps : Image) (h : History) (head : Head) (keeps : Keeps dig ps h head)
     (first : StepRef) (first_is : first ≡ head_ref head) where
   -- the first link leads to the last step
   pub leads_to_last : first ≡ link_to dig h keeps.places head.step

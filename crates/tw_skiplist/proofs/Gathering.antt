@@ -12,6 +12,7 @@ use Rattle.tw_base.specs.EventTree.{event_root}
 use Rattle.tw_base.specs.History.{History, Step, events_at, root_of, step_at, with_events}
 use Rattle.tw_base.specs.Levels.{top_level}
 use Rattle.tw_base.specs.Auth.{auth, auths, datum_text_at, link_texts, tree_label}
+use Rattle.tw_base.proofs.DigestBytes.{IsDigest}
 use Rattle.tw_base.proofs.Auths.{auth-suc, auths-at}
 use Rattle.tw_base.proofs.Levels.{divides-less, divides-minus, top_level-divides, top_level-greatest}
 use Rattle.tw_base.proofs.Plus.{auths-plus}
@@ -76,7 +77,7 @@ module _ (dig : List ℕ → List ℕ) where
         labels_is ∙ (λ j. was.1 j ++ dig (link_text (from + 1) level datum (label j)) ∷ []) ∙ sym (labels-push datum (auths dig h from) (from + 1) level),
       )
 
-  module _ (size : (text : List ℕ) → length (dig text) ≡ 32) where
+  module _ (size : (text : List ℕ) → IsDigest (dig text)) where
     -- a bad page is met where no history is kept
     pub bad_link : (ps : Image) (first link : StepRef) (from level : ℕ) → from + 1 < 2 ^ 40 → level < top_level (from + 1)
         → ((h : History) (places : List Place) → KeepsSteps dig ps h places → from ≡ length h.steps → first ≡ link_to dig h places from → link ≡ link_to dig h places (from + 1 - 2 ^ level))

@@ -7,22 +7,24 @@ use Rattle.std.proofs.lemmas.List.Sums.{sum_by-cons}
 use Rattle.std.proofs.lemmas.Nat.{pow_pos}
 use Rattle.std.proofs.Math.Nat.{pow-le-pow_right, mod-eq_of_lt}
 use Rattle.tw_disk.specs.Image.{Image}
+use Rattle.tw_base.specs.Auth.{auth}
 use Rattle.tw_base.specs.History.{History, events_at}
+use Rattle.tw_base.specs.Lists.{Each}
 use Rattle.tw_base.specs.Levels.{top_level}
 use Rattle.tw_base.specs.Tree.{tree}
+use Rattle.tw_base.proofs.DigestBytes.{IsDigest, auth-digest, event_root-digest, tree_label-digest}
 use Rattle.tw_base.proofs.Levels.{top_level-divides}
-use Rattle.tw_base.proofs.EventTrees.{length-event_root}
-use Rattle.tw_base.proofs.Sizes.{auth-size, tree_label-size}
+use Rattle.tw_base.proofs.ListLemmas.{Each-append}
 use Rattle.tw_skipproof.specs.Paths.{hop_level}
 use Rattle.tw_skipproof.proofs.Hops.{hop_level-le, hop-below}
 use Rattle.tw_skiplist.specs.declared.head.StepRef.{StepRef}
 use Rattle.tw_skiplist.specs.declared.fields.StepFields.{StepFields}
 use Rattle.tw_skiplist.specs.Keeping.{KeepsStep, KeepsSteps, Place, fields_at, link_to, links_at, links_to, place_of}
-use Rattle.tw_skiplist.specs.StepBytes.{stream}
-use Rattle.tw_skiplist.specs.StepPages.{AllSized, HasLink, IsStepAt, LiesBelow, link_of, no_ref}
+use Rattle.tw_skiplist.specs.StepBytes.{ref_codec, step_codec, stream}
+use Rattle.tw_skiplist.specs.StepPages.{HasLink, IsStepAt, LiesBelow, link_of, no_ref}
 use Rattle.tw_skiplist.specs.StepWalks.{MeetsBadPage, Walks}
 use Rattle.tw_skiplist.specs.StepWalks.Walks.{here, on}
-use Rattle.tw_skiplist.proofs.Decode.{AllSized-push, fields_read, links_read_all}
+use Rattle.tw_skiplist.proofs.StepCodecs.{fields-fit, ref-fits, same_fields, same_links, step-fits}
 
 -- ---- the stream of a step's events
 
@@ -46,16 +48,11 @@ power-le s level p q l =
 
 -- ---- the links of a history's steps
 
-module _ (dig : List ℕ → List ℕ) (size : (text : List ℕ) → length (dig text) ≡ 32) (h : History) (places : List Place) where
+module _ (dig : List ℕ → List ℕ) (size : (text : List ℕ) → IsDigest (dig text)) (h : History) (places : List Place) where
   pub length-links_to : (i count : ℕ) → length (links_to dig h places i count) ≡ count
   unfolding links_to
   length-links_to i zero = refl
   length-links_to i (suc level) = length_push (links_to dig h places i level) _ ∙ omega (arith, length-links_to i level)
-
-  pub AllSized-links_to : (i count : ℕ) → AllSized (links_to dig h places i count)
-  unfolding links_to
-  AllSized-links_to i zero = tt
-  AllSized-links_to i (suc level) = AllSized-push (links_to dig h places i level) (link_to dig h places (i - 2 ^ level)) (AllSized-links_to i level) (auth-size dig size h (i - 2 ^ level))
 
   pub get_or-links_to : (d : StepRef) (i count j : ℕ) → j < count → get_or (links_to dig h places i count) j d ≡ link_to dig h places (i - 2 ^ j)
   unfolding links_to
@@ -95,6 +92,16 @@ module _ (dig : List ℕ → List ℕ) (size : (text : List ℕ) → length (dig
 
     -- ---- the page of a step
 
+    auth-is : (i : ℕ) → IsDigest (auth dig h i)
+    auth-is = auth-digest dig (λ t. (size t).0) (λ t. (size t).1) h
+
+    links-fit : (i count : ℕ) → i ≤ length h.steps → Each ref_codec.Fits (links_to dig h places i count)
+    unfolding links_to
+    links-fit i zero l = tt
+    links-fit i (suc level) l =
+        Each-append ref_codec.Fits (links_to dig h places i level) (link_to dig h places (i - 2 ^ level) ∷ []) (links-fit i level l)
+        (ref-fits (link_to dig h places (i - 2 ^ level)) (omega (arith, small_page (i - 2 ^ level) (omega (arith, l)))) (auth-is (i - 2 ^ level)), tt)
+
     first_below : (k : ℕ) → (s : KeepsStep dig ps h places k) → (place_of places (suc k)).first < page (suc k)
     first_below k s =
         elim (cases_lt 0 (length (stream (events_at h (suc k))))) [
@@ -132,6 +139,13 @@ module _ (dig : List ℕ → List ℕ) (size : (text : List ℕ) → length (dig
           );
         }
 
+    page-fits : (k : ℕ) → k < length h.steps → KeepsStep dig ps h places k → (step_codec (suc k)).Fits (fields_at dig h places (suc k), links_at dig h places (suc k))
+    page-fits k l s =
+        step-fits (suc k) (fields_at dig h places (suc k)) (links_at dig h places (suc k))
+        (fields-fit (fields_at dig h places (suc k)) (omega (arith, s.limits.are.count)) (omega (arith, length-stream (events_at h (suc k)), s.limits.are.count, s.limits.fit)) (omega (arith, first_below k s, s.small))
+        (event_root-digest dig (λ t. (size t).0) (λ t. (size t).1) (events_at h (suc k))) (tree_label-digest dig (λ t. (size t).0) (λ t. (size t).1) (tree h (suc k))) (omega arith) (auth-is (suc k)))
+        (length-links_to (suc k) (suc (top_level (suc k)))) (links-fit (suc k) (suc (top_level (suc k))) (omega (arith, l)))
+
     kept_next : (k : ℕ) → k < length h.steps → IsStepAt ps (page (suc k)) (suc k) (fields_at dig h places (suc k)) (links_at dig h places (suc k))
     kept_next k l =
         let s = kept.steps k l in
@@ -139,17 +153,8 @@ module _ (dig : List ℕ → List ℕ) (size : (text : List ℕ) → length (dig
           low = s.low;
           below = s.below;
           is = record {
-            bytes_are = s.bytes;
-            link_count = length-links_to (suc k) (suc (top_level (suc k)));
-            widths = record {
-              count = omega (arith, s.limits.are.count);
-              event_root = length-event_root dig size (events_at h (suc k));
-              archive = tree_label-size dig size (tree h (suc k));
-              auth = auth-size dig size h (suc k);
-              each_link = AllSized-links_to (suc k) (suc (top_level (suc k)));
-            };
+            spelled = record { bytes = s.bytes; fits = page-fits k l s };
             field_rules = record {
-              size = omega (arith, length-stream (events_at h (suc k)), s.limits.are.count, s.limits.fit);
               none = (s.stream.none, no_bytes k s);
               first = first_below k s;
               archive = omega (arith, s.low);
@@ -165,14 +170,11 @@ module _ (dig : List ℕ → List ℕ) (size : (text : List ℕ) → length (dig
 
     -- and of no other fields and links
     module _ (i : ℕ) (some : 0 < i) (within : i ≤ length h.steps) (f : StepFields) (links : List StepRef) (is : IsStepAt ps (page i) i f links) where
-      fits : page i < 2 ^ 64
-      fits = omega (arith, small_page i within)
-
       pub fields_are : f ≡ fields_at dig h places i
-      fields_are = sym (fields_read (page i) i f links _ fits is.is) ∙ fields_read (page i) i _ _ _ fits (kept_page i some within).is
+      fields_are = same_fields (page i) i f _ links _ _ is.is (kept_page i some within).is
 
       pub links_are : links ≡ links_at dig h places i
-      links_are = sym (links_read_all (page i) i f links _ fits is.is) ∙ links_read_all (page i) i _ _ _ fits (kept_page i some within).is
+      links_are = same_links (page i) i f _ links _ _ is.is (kept_page i some within).is
 
     -- where a link of the page leads
     pub link_leads : (link next : StepRef) (i level : ℕ) → 0 < i → i ≤ length h.steps → level ≤ top_level i → link ≡ link_to dig h places i

@@ -1,6 +1,6 @@
 pub mod Appending
 pub mod BadPages
-pub mod Decode
+pub mod StepCodecs
 pub mod Finding
 pub mod Gathering
 pub mod Growing

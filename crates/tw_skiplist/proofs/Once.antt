@@ -4,6 +4,7 @@ use Rattle.std.specs.Prelude.{min}
 use Rattle.std.proofs.lemmas.Bool.{cases_lt}
 use Rattle.std.proofs.lemmas.List.{ext_get_or, take_all}
 use Rattle.std.proofs.lemmas.Option.{get_or_from_slice_get}
+use Rattle.tw_base.proofs.DigestBytes.{IsDigest}
 use Rattle.tw_disk.specs.Image.{Image}
 use Rattle.tw_base.specs.History.{History, events_at, root_of, step_at}
 use Rattle.tw_base.specs.Levels.{top_level}
@@ -52,7 +53,7 @@ same_stream ps step first page s t size one two =
 
 -- ---- two histories on the same pages
 
-module _ (dig : List ℕ → List ℕ) (size : (text : List ℕ) → length (dig text) ≡ 32) (ps : Image) (h g : History) (places others : List Place)
+module _ (dig : List ℕ → List ℕ) (size : (text : List ℕ) → IsDigest (dig text)) (ps : Image) (h g : History) (places others : List Place)
     (kept : KeepsSteps dig ps h places) (kept_too : KeepsSteps dig ps g others) (n : ℕ) (n_is : n ≡ length h.steps) (n_is_too : n ≡ length g.steps)
     (last : (place_of places n).page ≡ (place_of others n).page) where
   -- where the pages of a step are the same, so are its fields and links
@@ -110,7 +111,7 @@ module _ (dig : List ℕ → List ℕ) (size : (text : List ℕ) → length (dig
   pub same_history : h.name ≡ g.name → h ≡ g
   same_history e = (λ j. record { name = e j; steps = same_steps j })
 
-module _ (dig : List ℕ → List ℕ) (size : (text : List ℕ) → length (dig text) ≡ 32) where
+module _ (dig : List ℕ → List ℕ) (size : (text : List ℕ) → IsDigest (dig text)) where
   pub keeps_one : (ps : Image) (h g : History) (head : Head) → Keeps dig ps h head → Keeps dig ps g head → h.name ≡ g.name → h ≡ g
   keeps_one ps h g head one two e =
       same_history dig size ps h g one.places two.places one.keeps two.keeps head.step one.step two.step

@@ -13,6 +13,7 @@ use Rattle.tw_base.specs.Tree.{tree}
 use Rattle.tw_base.specs.History.{History, events_at, time_at, time_of}
 use Rattle.tw_base.specs.Levels.{top_level}
 use Rattle.tw_base.specs.Auth.{auths, datum_text_at, link_texts, tree_label}
+use Rattle.tw_base.proofs.DigestBytes.{IsDigest}
 use Rattle.tw_base.proofs.Auths.{auths-at}
 use Rattle.tw_skipproof.specs.HistoryProofs.{labels_at}
 use Rattle.tw_skipproof.specs.declared.path.Link.{Link}
@@ -90,7 +91,7 @@ module _ (dig : List ℕ → List ℕ) where
 
   -- ---- of a history that the pages keep
 
-  module _ (size : (text : List ℕ) → length (dig text) ≡ 32) (h : History) (places : List Place) (ps : Image) (kept : KeepsSteps dig ps h places) where
+  module _ (size : (text : List ℕ) → IsDigest (dig text)) (h : History) (places : List Place) (ps : Image) (kept : KeepsSteps dig ps h places) where
     no_time : (k : ℕ) → k < length h.steps → time_at h (suc k) ≡ None
     no_time k l = ap time_of (kept.steps k l).events_only
 

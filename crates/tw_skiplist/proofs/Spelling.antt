@@ -10,7 +10,8 @@ use Rattle.tw_base.proofs.ByteLemmas.{AreBytes-back, AreBytes-front}
 use Rattle.tw_base.proofs.TextFields.{halves}
 use Rattle.tw_skiplist.specs.Events.{SpellsEvents}
 use Rattle.tw_skiplist.specs.ScanSteps.{HasEventAt, IsNoEventAt}
-use Rattle.tw_skiplist.specs.StepBytes.{event_page_bytes, stream}
+use Rattle.tw_base.specs.Codecs.{behind, bytes_codec}
+use Rattle.tw_skiplist.specs.StepBytes.{event_page_bytes, piece_codec, stream}
 use Rattle.tw_skiplist.proofs.Streams.{stream-append}
 
 abbrev pub AllShort : List (List ℕ) → Type 0
@@ -124,5 +125,5 @@ module _ (bytes : List ℕ) (at size : ℕ) (events : List (List ℕ)) (event : 
 -- ---- the piece that stands in an event page
 
 pub piece_read : (step number count : ℕ) (page bytes : List ℕ) → page ≡ event_page_bytes step number bytes → length bytes ≡ count → take count (drop 11 page) ≡ bytes
-unfolding event_page_bytes
+unfolding event_page_bytes piece_codec behind bytes_codec
 piece_read step number count page bytes is size = ap (λ (p : List ℕ). take count (drop 11 p)) is ∙ take_at bytes _ count size

@@ -7,6 +7,5 @@ pub mod Appended
 pub mod Events
 pub mod Infos
 pub mod Answers
-pub mod FieldSteps
 pub mod ScanSteps
 pub mod GatherSteps

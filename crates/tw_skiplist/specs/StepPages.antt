@@ -2,11 +2,10 @@
 use Rattle.std.specs.Prelude.{◌≡◌, ℕ, suc, ◌+◌, ◌-◌, ◌^◌, ◌<◌, ◌≤◌, ◌↔◌, List, [], ◌∷◌, length, slice_index_or}
 use Rattle.tw_disk.specs.declared.limits.TheConstants.{FIRST_PAGE}
 use Rattle.tw_disk.specs.Image.{Image, page_at}
-use Rattle.tw_base.specs.Levels.{top_level}
+use Rattle.tw_disk.specs.PageBytes.{IsPageOf}
 use Rattle.tw_skiplist.specs.declared.head.StepRef.{StepRef}
 use Rattle.tw_skiplist.specs.declared.fields.StepFields.{StepFields}
-use Rattle.tw_skiplist.specs.declared.limits.TheConstants.{MOST_STREAM_BYTES}
-use Rattle.tw_skiplist.specs.StepBytes.{step_page_bytes}
+use Rattle.tw_skiplist.specs.StepBytes.{step_codec}
 
 abbrev pub no_ref : StepRef
 no_ref = record { page = 0; auth = [] }
@@ -14,10 +13,9 @@ no_ref = record { page = 0; auth = [] }
 abbrev pub link_of : List StepRef → (level : ℕ) → StepRef
 link_of links level = slice_index_or links level no_ref
 
--- the numbers are within their ranges; the first event page lies below the page, and is 0 exactly where the stream has no bytes;
--- the page of the archive's root, 0 for none, lies below the page too
+-- the first event page lies below the page, and is 0 exactly where the stream has no bytes; the page of the archive's root, 0 for
+-- none, lies below the page too
 pub record KeepsFieldRules (page : ℕ) (f : StepFields) : Type 0 where
-  pub size : f.stream.size ≤ MOST_STREAM_BYTES
   pub none : f.stream.size ≡ 0 ↔ f.stream.page ≡ 0
   pub first : f.stream.page < page
   pub archive : f.archive.page < page
@@ -30,23 +28,9 @@ pub record LiesBelow (page step level : ℕ) (link : StepRef) : Type 0 where
 abbrev pub KeepsLinkRules : (page step : ℕ) → List StepRef → Type 0
 KeepsLinkRules page step links = (level : ℕ) → level < length links → LiesBelow page step level (link_of links level)
 
--- digests have 32 bytes
-abbrev pub AllSized : List StepRef → Type 0
-AllSized [] = Unit {0}
-AllSized (l ∷ ls) = (length l.auth ≡ 32) × AllSized ls
-
-pub record HasWidths (f : StepFields) (links : List StepRef) : Type 0 where
-  pub count : f.count < 2 ^ 32
-  pub event_root : length f.event_root ≡ 32
-  pub archive : length f.archive.label ≡ 32
-  pub auth : length f.auth ≡ 32
-  pub each_link : AllSized links
-
 -- the bytes are the page of this step with these fields and links, and stand in the page of this number
 pub record IsStepPage (page step : ℕ) (f : StepFields) (links : List StepRef) (bytes : List ℕ) : Type 0 where
-  pub bytes_are : bytes ≡ step_page_bytes step f links
-  pub link_count : length links ≡ suc (top_level step)
-  pub widths : HasWidths f links
+  pub spelled : IsPageOf (step_codec step) bytes (f, links)
   pub field_rules : KeepsFieldRules page f
   pub link_rules : KeepsLinkRules page step links
 

@@ -130,6 +130,7 @@ fn put_step<P: Pages, H: Hasher>(
     requires size { length recorded.now.stream ≤ MOST_STREAM_BYTES }
     requires links { length links.now.links.items ≤ MOST_LINKS }
     requires labels { length links.now.labels.items ≤ MOST_LINKS }
+    requires count { length links.now.links.items ≡ suc (top_level_of step) }
     ensures put { IfOk result (λ new. (ps : Image) → P.list pages.old ≡ Some ps →
         IsPut ps step recorded.now.stream recorded.now.count recorded.now.event_root recorded.now.archive links.now.links.items (P.list pages.new) new) }
     ensures left { OnErr result ((ps : Image) → P.list pages.old ≡ Some ps → Extends ps (P.list pages.new)) }

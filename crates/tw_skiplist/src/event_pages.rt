@@ -1,6 +1,7 @@
 // Reading the stream of a step's events.
 
 ghost use Rattle.std.specs.Prelude.{◌≡◌, ℕ, ◌+◌, ◌-◌, ◌*◌, ◌<◌, ◌≤◌, ◌^◌, ◌++◌, List, length, take, drop, min, Some, IfOk, OnOk, MatchOption};
+ghost use Rattle.std.specs.Int.{from_be_bytes, w32};
 ghost use Rattle.tw_disk.specs.Image.{Image};
 ghost use Rattle.tw_disk.specs.Pages.{OnlyReads};
 ghost use Rattle.tw_skiplist.specs.Answers.{FaultsRise, IfBadPage, NeverNoStep, NotDiskFault};
@@ -15,7 +16,7 @@ use std::alloc::Global;
 use tw_base::limits::{MOST_EVENT_BYTES, MOST_EVENTS, MOST_STEP_BYTES};
 use tw_base::{Bytes, EventList, NoMemory};
 use tw_disk::limits::FIRST_PAGE;
-use tw_disk::{Pages, u32_at};
+use tw_disk::Pages;
 
 // Reads the event page of this number of the step, and appends its piece of a stream of this size.
 fn add_piece<P: Pages>(
@@ -90,6 +91,16 @@ pub(crate) fn read_stream<P: Pages>(
 }
 
 // ---- the events in it
+
+// The number that the four bytes from a place on spell.
+fn u32_at(bytes: &[u8], at: usize) -> u32
+    requires { at + 4 ≤ length bytes.now }
+    ensures { result ≡ from_be_bytes w32 (take 4 (drop at bytes.now)) }
+{
+    let mut number = [0; 4];
+    number.copy_from_slice(&bytes[at..at + 4]);
+    u32::from_be_bytes(number)
+}
 
 // The size of the event that stands at a place behind its length, where one of at most 1,024 bytes does.
 fn event_size(bytes: &[u8], at: usize) -> Option<usize>

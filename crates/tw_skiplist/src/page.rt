@@ -1,102 +1,91 @@
 // The bytes of step pages and event pages.
 
-ghost use Rattle.std.specs.Prelude.{◌≡◌, ◌<◌, ◌≤◌, ◌^◌, ◌+◌, ◌*◌, ◌++◌, ◌↔◌, List, ℕ, suc, length, take, drop, IsTrue, MatchOption};
-ghost use Rattle.std.specs.Int.{to_be_bytes, w64};
+ghost use Rattle.std.specs.Prelude.{◌≡◌, ◌≢◌, ◌<◌, ◌≤◌, ◌^◌, ◌+◌, ◌*◌, ◌++◌, ◌↔◌, List, ℕ, suc, length, take, drop, flat_map, IfErr, IfOk, IsTrue, MatchOption};
+ghost use Rattle.tw_base.specs.Codecs.{many};
 ghost use Rattle.tw_base.specs.Levels.{top_level as top_level_of};
-ghost use Rattle.tw_disk.specs.PageBytes.{padded};
-ghost use Rattle.tw_skiplist.specs.declared.fields.StepFields.{StepFields};
+ghost use Rattle.tw_base.specs.Lists.{Each};
+ghost use Rattle.tw_base.specs.Taking.{Takes};
 ghost use Rattle.tw_skiplist.specs.declared.head.StepRef.{StepRef};
-ghost use Rattle.tw_skiplist.specs.FieldSteps.{fields_in, link_in, links_in};
-ghost use Rattle.tw_skiplist.specs.StepBytes.{event_page_bytes, step_page_bytes, step_front, step_numbers};
-ghost use Rattle.tw_skiplist.specs.StepPages.{HasWidths, IsStepPage, KeepsFieldRules, KeepsLinkRules, LiesBelow};
+ghost use Rattle.tw_skiplist.specs.declared.fields.StepFields.{StepFields};
+ghost use Rattle.tw_skiplist.specs.StepBytes.{event_page_bytes, fields_codec, ref_codec, step_codec, step_page_bytes};
+ghost use Rattle.tw_skiplist.specs.StepPages.{IsStepPage, KeepsFieldRules, KeepsLinkRules, LiesBelow};
 
 use crate::fields::{StepFields, StreamRef};
 use crate::head::StepRef;
 use crate::limits::{MOST_LINKS, MOST_PIECE_BYTES, MOST_STREAM_BYTES};
 use arrayvec::ArrayVec;
-use tw_base::{Digest, Root, power_of_two, top_level};
-use tw_disk::{append_at, digest_at, u32_at, u64_at};
+use tw_base::{ReadFault, Root, power_of_two, take_digest, take_number, take_text, top_level};
+use tw_disk::{Page, PageFront, page_to};
 
 // ---- writing
 
-fn append_digest(page: &mut [u8; 4096], at: usize, digest: &Digest)
-    requires { at + 32 ≤ 4096 }
-    ensures bytes { (front : List ℕ) → length front ≡ at → page.old ≡ padded front → page.new ≡ padded (front ++ digest.now) }
-    ensures size { length digest.now ≡ 32 }
+// Puts a link.
+#[tactic(auto, unfolding(crate::specs::StepBytes::ref_codec, tw_base::specs::Codecs::bytes_codec, tw_base::specs::Codecs::number_codec, tw_base::specs::Codecs::pair, tw_base::specs::Codecs::seen))]
+fn put_link(page: &mut PageFront, link: &StepRef)
+    requires { length page.old + 40 ≤ 4096 }
+    ensures bytes { page.new ≡ page.old ++ ref_codec.write link.now }
+    ensures size { length page.new ≡ length page.old + 40 }
 {
-    append_at(page, at, &digest.0);
+    page.put_number(link.page, 8);
+    page.put_digest(&link.auth);
 }
 
-fn append_link(page: &mut [u8; 4096], at: usize, link: &StepRef)
-    requires { at + 40 ≤ 4096 }
-    ensures bytes { (front : List ℕ) → length front ≡ at → page.old ≡ padded front → page.new ≡ padded (front ++ (to_be_bytes w64 link.now.page ++ link.now.auth)) }
-    ensures size { length link.now.auth ≡ 32 }
+// Puts the links.
+fn put_links(page: &mut PageFront, links: &[StepRef])
+    requires { length page.old + 40 * length links.now ≤ 4096 }
+    ensures bytes { page.new ≡ page.old ++ flat_map ref_codec.write links.now }
 {
-    append_at(page, at, &link.page.to_be_bytes());
-    append_digest(page, at + 8, &link.auth);
-}
-
-// The fields before the digests.
-fn numbers(step: u64, fields: &StepFields) -> [u8; 4096]
-    ensures bytes { result ≡ padded (step_numbers step fields.now) }
-    ensures count { fields.now.count < 2 ^ 32 }
-{
-    let mut page = [0; 4096];
-    append_at(&mut page, 0, &[1]);
-    append_at(&mut page, 1, &step.to_be_bytes());
-    append_at(&mut page, 9, &[1]);
-    append_at(&mut page, 10, &fields.count.to_be_bytes());
-    append_at(&mut page, 14, &fields.stream.size.to_be_bytes());
-    append_at(&mut page, 18, &fields.stream.page.to_be_bytes());
-    page
-}
-
-// The fields before the links.
-fn front(step: u64, fields: &StepFields, links: u8) -> [u8; 4096]
-    ensures bytes { result ≡ padded (step_front step fields.now links) }
-    ensures size { length (step_front step fields.now links) ≡ 187 }
-    ensures count { fields.now.count < 2 ^ 32 }
-    ensures event_root { length fields.now.event_root ≡ 32 }
-    ensures archive { length fields.now.archive.label ≡ 32 }
-    ensures auth { length fields.now.auth ≡ 32 }
-{
-    let mut page = numbers(step, fields);
-    append_digest(&mut page, 26, &fields.event_root);
-    append_digest(&mut page, 58, &fields.archive.label);
-    append_at(&mut page, 90, &fields.archive.page.to_be_bytes());
-    append_at(&mut page, 98, &[0; 56]);
-    append_digest(&mut page, 154, &fields.auth);
-    append_at(&mut page, 186, &[links]);
-    page
-}
-
-/// The page of a step of events.
-#[tactic(auto, using(crate::proofs::Decode::more))]
-pub(crate) fn step_page(step: u64, fields: &StepFields, links: &[StepRef]) -> [u8; 4096]
-    requires { length links.now ≤ MOST_LINKS }
-    ensures bytes { result ≡ step_page_bytes step fields.now links.now }
-    ensures widths { HasWidths fields.now links.now }
-{
-    let mut page = front(step, fields, links.len() as u8);
-    let mut at = 187;
     for link in links {
-        append_link(&mut page, at, link);
-        at += 40;
+        put_link(page, link);
     }
-    page
+}
+
+// Puts the fields of a step of events.
+#[tactic(auto, unfolding(crate::specs::StepBytes::fields_codec, tw_base::specs::Codecs::behind, tw_base::specs::Codecs::bytes_codec, tw_base::specs::Codecs::number_codec, tw_base::specs::Codecs::pair, tw_base::specs::Codecs::seen))]
+fn put_fields(page: &mut PageFront, fields: &StepFields)
+    requires { length page.old + 176 ≤ 4096 }
+    ensures bytes { page.new ≡ page.old ++ fields_codec.write fields.now }
+    ensures size { length page.new ≡ length page.old + 176 }
+{
+    page.put_number(fields.count as u64, 4);
+    page.put_number(fields.stream.size as u64, 4);
+    page.put_number(fields.stream.page, 8);
+    page.put_digest(&fields.event_root);
+    page.put_digest(&fields.archive.label);
+    page.put_number(fields.archive.page, 8);
+    page.put(&[0; 56]);
+    page.put_digest(&fields.auth);
+}
+
+/// The page of a step of events with these links, of which a step below 2^40 has one a level.
+#[tactic(auto, unfolding(crate::specs::StepBytes::links_codec, crate::specs::StepBytes::step_codec, tw_base::specs::Codecs::behind, tw_base::specs::Codecs::many, tw_base::specs::Codecs::pair))]
+pub(crate) fn step_page(step: u64, fields: &StepFields, links: &[StepRef]) -> Page
+    requires few { length links.now ≤ MOST_LINKS }
+    requires count { length links.now ≡ suc (top_level_of step) }
+    ensures { result ≡ step_page_bytes step fields.now links.now }
+{
+    let mut page = PageFront::new();
+    page.put(&[1]);
+    page.put(&step.to_be_bytes());
+    page.put(&[1]);
+    put_fields(&mut page, fields);
+    page.put(&[links.len() as u8]);
+    put_links(&mut page, links);
+    page.into_page()
 }
 
 /// The event page of this number within a step.
-pub(crate) fn event_page(step: u64, number: u16, piece: &[u8]) -> [u8; 4096]
+#[tactic(auto, unfolding(crate::specs::StepBytes::event_page_bytes, crate::specs::StepBytes::piece_codec, tw_base::specs::Codecs::behind, tw_base::specs::Codecs::bytes_codec))]
+pub(crate) fn event_page(step: u64, number: u16, piece: &[u8]) -> Page
     requires { length piece.now ≤ MOST_PIECE_BYTES }
     ensures { result ≡ event_page_bytes step number piece.now }
 {
-    let mut page = [0; 4096];
-    append_at(&mut page, 0, &[2]);
-    append_at(&mut page, 1, &step.to_be_bytes());
-    append_at(&mut page, 9, &number.to_be_bytes());
-    append_at(&mut page, 11, piece);
-    page
+    let mut page = PageFront::new();
+    page.put(&[2]);
+    page.put(&step.to_be_bytes());
+    page.put(&number.to_be_bytes());
+    page.put(piece);
+    page.into_page()
 }
 
 // ---- reading
@@ -108,54 +97,85 @@ pub(crate) struct StepPage {
     pub links: ArrayVec<StepRef, 40>,
 }
 
-fn fields_at(page: &[u8; 4096]) -> StepFields
-    ensures { result ≡ fields_in page.now }
+// Takes a link.
+#[tactic(auto, unfolding(crate::specs::StepBytes::ref_codec, tw_base::specs::Codecs::pair, tw_base::specs::Codecs::seen))]
+fn take_link(bytes: &[u8], at: &mut u64) -> Result<StepRef, ReadFault>
+    requires { at.old ≤ length bytes.now }
+    ensures takes { Takes ref_codec (λ l. l) bytes.now at.old at.new result }
+    ensures memory { IfErr result (λ fault. fault ≢ ReadFault.NoMemory) }
 {
-    StepFields {
-        count: u32_at(page, 10),
-        stream: StreamRef {
-            page: u64_at(page, 18),
-            size: u32_at(page, 14),
-        },
-        event_root: digest_at(page, 26),
-        archive: Root {
-            page: u64_at(page, 90),
-            label: digest_at(page, 58),
-        },
-        auth: digest_at(page, 154),
-    }
+    let page = take_number(bytes, at, 8, 0, u64::MAX)?;
+    let auth = take_digest(bytes, at)?;
+    Ok(StepRef { page, auth })
 }
 
-fn link_at(page: &[u8; 4096], level: u8) -> StepRef
-    requires { level < MOST_LINKS }
-    ensures { result ≡ link_in page.now level }
-{
-    let at = 187 + 40 * level as usize;
-    StepRef {
-        page: u64_at(page, at),
-        auth: digest_at(page, at + 8),
-    }
-}
-
-// The links of the levels below the count.
-#[tactic(auto, using(crate::proofs::Decode::links_read))]
-fn links_at(page: &[u8; 4096], count: u8) -> ArrayVec<StepRef, 40>
-    requires { count ≤ MOST_LINKS }
-    ensures links { result.items ≡ links_in page.now count }
-    ensures size { length result.items ≡ count }
+// Takes so many links.
+fn take_links(
+    bytes: &[u8],
+    at: &mut u64,
+    count: u8,
+) -> Result<ArrayVec<StepRef, 40>, ReadFault>
+    requires within { at.old ≤ length bytes.now }
+    requires few { count ≤ MOST_LINKS }
+    ensures takes { Takes (many count ref_codec) (λ links. links.items) bytes.now at.old at.new result }
+    ensures memory { IfErr result (λ fault. fault ≢ ReadFault.NoMemory) }
 {
     let mut links: ArrayVec<StepRef, 40> = ArrayVec::new();
-    for level in 0..count {
-        links.push(link_at(page, level));
+    for _i in 0..count {
+        links.push(take_link(bytes, at)?);
     }
-    links
+    Ok(links)
+}
+
+// Takes the fields of a step of events.
+#[tactic(auto, unfolding(crate::specs::StepBytes::fields_codec, tw_base::specs::Codecs::behind, tw_base::specs::Codecs::pair, tw_base::specs::Codecs::seen))]
+fn take_fields(bytes: &[u8], at: &mut u64) -> Result<StepFields, ReadFault>
+    requires { at.old ≤ length bytes.now }
+    ensures takes { Takes fields_codec (λ f. f) bytes.now at.old at.new result }
+    ensures memory { IfErr result (λ fault. fault ≢ ReadFault.NoMemory) }
+{
+    let count = take_number(bytes, at, 4, 0, u32::MAX as u64)? as u32;
+    let size = take_number(bytes, at, 4, 0, MOST_STREAM_BYTES)? as u32;
+    let first = take_number(bytes, at, 8, 0, u64::MAX)?;
+    let event_root = take_digest(bytes, at)?;
+    let label = take_digest(bytes, at)?;
+    let archive = take_number(bytes, at, 8, 0, u64::MAX)?;
+    take_text(bytes, at, &[0; 56])?;
+    let auth = take_digest(bytes, at)?;
+    Ok(StepFields {
+        count,
+        stream: StreamRef { page: first, size },
+        event_root,
+        archive: Root {
+            page: archive,
+            label,
+        },
+        auth,
+    })
+}
+
+// Takes the fields and the links of the step.
+#[tactic(auto, unfolding(crate::specs::StepBytes::links_codec, crate::specs::StepBytes::step_codec, tw_base::specs::Codecs::behind, tw_base::specs::Codecs::pair))]
+fn take_step(bytes: &[u8], at: &mut u64, step: u64) -> Result<StepPage, ReadFault>
+    requires within { at.old ≤ length bytes.now }
+    requires step { step < 2 ^ 40 }
+    ensures takes { Takes (step_codec step) (λ p. (p.fields, p.links.items)) bytes.now at.old at.new result }
+    ensures memory { IfErr result (λ fault. fault ≢ ReadFault.NoMemory) }
+{
+    take_text(bytes, at, &[1])?;
+    take_text(bytes, at, &step.to_be_bytes())?;
+    take_text(bytes, at, &[1])?;
+    let fields = take_fields(bytes, at)?;
+    let count = top_level(step) + 1;
+    take_text(bytes, at, &[count])?;
+    let links = take_links(bytes, at, count)?;
+    Ok(StepPage { fields, links })
 }
 
 fn keeps_field_rules(page: u64, fields: &StepFields) -> bool
     ensures { IsTrue result ↔ KeepsFieldRules page fields.now }
 {
-    fields.stream.size as u64 <= MOST_STREAM_BYTES
-        && (fields.stream.size == 0) == (fields.stream.page == 0)
+    (fields.stream.size == 0) == (fields.stream.page == 0)
         && fields.stream.page < page
         && fields.archive.page < page
 }
@@ -179,29 +199,27 @@ fn keeps_link_rules(page: u64, step: u64, links: &[StepRef]) -> bool
     true
 }
 
-// Whether the bytes are the step's page with what was found in them, and stand where they may.
-fn is_page(page: u64, step: u64, bytes: &[u8; 4096], found: &StepPage) -> bool
-    requires { length found.now.links.items ≡ suc (top_level_of step) }
-    ensures { IsTrue result ↔ IsStepPage page step found.now.fields found.now.links.items bytes.now }
+fn keeps_rules(page: u64, step: u64, found: &StepPage) -> bool
+    requires { length found.now.links.items ≤ MOST_LINKS }
+    ensures { IsTrue result ↔ (KeepsFieldRules page found.now.fields × KeepsLinkRules page step found.now.links.items) }
 {
-    *bytes == step_page(step, &found.fields, found.links.as_slice())
-        && keeps_field_rules(page, &found.fields)
-        && keeps_link_rules(page, step, found.links.as_slice())
+    keeps_field_rules(page, &found.fields) && keeps_link_rules(page, step, found.links.as_slice())
 }
 
 /// The fields and links of the page of this step, where the bytes are one that may stand in the page
 /// of this number.
-pub(crate) fn read_step_page(page: u64, step: u64, bytes: &[u8; 4096]) -> Option<StepPage>
+pub(crate) fn read_step_page(page: u64, step: u64, bytes: &Page) -> Option<StepPage>
     requires { step < 2 ^ 40 }
     ensures { MatchOption result
         ((f : StepFields) (links : List StepRef) → IsStepPage page step f links bytes.now → ⊥)
         (λ p. IsStepPage page step p.fields p.links.items bytes.now) }
 {
-    let found = StepPage {
-        fields: fields_at(bytes),
-        links: links_at(bytes, top_level(step) + 1),
+    let mut at = 0;
+    let read = take_step(bytes, &mut at, step);
+    let Some(found) = page_to(bytes, at, read) else {
+        return None;
     };
-    if is_page(page, step, bytes, &found) {
+    if keeps_rules(page, step, &found) {
         Some(found)
     } else {
         None
@@ -210,7 +228,7 @@ pub(crate) fn read_step_page(page: u64, step: u64, bytes: &[u8; 4096]) -> Option
 
 /// Whether the bytes are the event page of this number of the step with so many bytes of its stream,
 /// those that stand in it.
-pub(crate) fn is_event_page(bytes: &[u8; 4096], step: u64, number: u16, count: usize) -> bool
+pub(crate) fn is_event_page(bytes: &Page, step: u64, number: u16, count: usize) -> bool
     requires { count ≤ MOST_PIECE_BYTES }
     ensures { IsTrue result ↔ (bytes.now ≡ event_page_bytes step number (take count (drop 11 bytes.now))) }
 {

@@ -9,7 +9,7 @@ pub returns-then-bytes-at-lt32 : goal.returns-then-bytes-at-lt32
 unfolding bytes_codec
 returns-then-bytes-at-lt32 c = bytes-short 32 c.args.bytes.now c.args.at.now (λ i. omega (arith, c.type_inv.bytes i)) c.requires (omega arith)
 
-pub returns : goal.returns
+pub returns-clause-takes : goal.returns-clause-takes
 unfolding bytes_codec
-returns c =
+returns-clause-takes c =
     let fits = took-fits (bytes_codec 32) (lawful-bytes 32) c.args.bytes.now c.args.at.now _ _ c.requires c.digest_at-found.ensures in (c.digest_at-found.ensures, fits.0, fits.1)

@@ -32,7 +32,7 @@ returns-in-Ok-commit-clause-done g c = λ h rest.
     let store = c.args.store.now in
     let mid = c.append-added.new.pages in
     commit_keeps d.view g.met.D.Disk.only_now g.H.Hasher.dig store mid c.args.root.now _ h c.args.events.now
-    c.as_slice.result.now (c.as_slice.ensures.value ∙ c.root_record-bytes.ensures.bytes) g.met.H.Hasher.size c.in-Ok.ensures.same rest c.in-Ok.ensures.added refl refl refl c.in-Ok.ensures.step c.requires.step
+    c.as_slice.result.now (c.as_slice.ensures.value ∙ c.root_record-bytes.ensures.bytes) (λ text. (g.met.H.Hasher.size text, g.met.H.Hasher.bytes text)) c.in-Ok.ensures.same rest c.in-Ok.ensures.added refl refl refl c.in-Ok.ensures.step c.requires.step
     (count_of mid) (omega (arith, c.in-Ok.ensures.few, c.requires.pages, c.in-Ok.ensures.step))
     (λ ps list. told_pages d.view mid ((d.view mid.disk).count) ((d.view mid.disk).content) ps (λ i told. g.met.D.Disk.count_is_told mid.disk i told) mid.room mid.used_from list)
     (omega (arith, c.in-Ok.ensures.same.generation, c.requires.commits)) c.commit.new.self c.in-Ok-commit.ensures.done c.in-Ok-commit.ensures.cleared.0
@@ -43,7 +43,7 @@ returns-in-Ok-commit-clause-any_moment g c = λ h rest.
     let store = c.args.store.now in
     let mid = c.append-added.new.pages in
     commit_leaves d.view g.met.D.Disk.only_now g.H.Hasher.dig store mid c.args.root.now _ h c.args.events.now
-    c.as_slice.result.now (c.as_slice.ensures.value ∙ c.root_record-bytes.ensures.bytes) g.met.H.Hasher.size c.in-Ok.ensures.same rest c.in-Ok.ensures.added refl refl refl c.in-Ok.ensures.step c.requires.step
+    c.as_slice.result.now (c.as_slice.ensures.value ∙ c.root_record-bytes.ensures.bytes) (λ text. (g.met.H.Hasher.size text, g.met.H.Hasher.bytes text)) c.in-Ok.ensures.same rest c.in-Ok.ensures.added refl refl refl c.in-Ok.ensures.step c.requires.step
     (count_of mid) (omega (arith, c.in-Ok.ensures.few, c.requires.pages, c.in-Ok.ensures.step))
     (λ ps list. told_pages d.view mid ((d.view mid.disk).count) ((d.view mid.disk).content) ps (λ i told. g.met.D.Disk.count_is_told mid.disk i told) mid.room mid.used_from list)
     (omega (arith, c.in-Ok.ensures.same.generation, c.requires.commits)) c.commit.new.self c.in-Ok-commit.ensures.any_moment
@@ -55,7 +55,7 @@ returns-in-Err-commit-clause-any_moment g c = λ h rest.
     let mid = c.append-added.new.pages in
     subst (λ disk. LeavesOnly (d.view store.disk) (d.view disk) (StandsForOneOf g.H.Hasher.dig c.args.root.now.name h (with_events h c.args.events.now))) (sym c.discard-in-Err-commit.ensures.disk)
     (commit_leaves d.view g.met.D.Disk.only_now g.H.Hasher.dig store mid c.args.root.now _ h c.args.events.now
-    c.as_slice.result.now (c.as_slice.ensures.value ∙ c.root_record-bytes.ensures.bytes) g.met.H.Hasher.size c.in-Ok.ensures.same rest c.in-Ok.ensures.added refl refl refl c.in-Ok.ensures.step c.requires.step
+    c.as_slice.result.now (c.as_slice.ensures.value ∙ c.root_record-bytes.ensures.bytes) (λ text. (g.met.H.Hasher.size text, g.met.H.Hasher.bytes text)) c.in-Ok.ensures.same rest c.in-Ok.ensures.added refl refl refl c.in-Ok.ensures.step c.requires.step
     (count_of mid) (omega (arith, c.in-Ok.ensures.few, c.requires.pages, c.in-Ok.ensures.step))
     (λ ps list. told_pages d.view mid ((d.view mid.disk).count) ((d.view mid.disk).content) ps (λ i told. g.met.D.Disk.count_is_told mid.disk i told) mid.room mid.used_from list)
     (omega (arith, c.in-Ok.ensures.same.generation, c.requires.commits)) c.commit.new.self c.in-Err-commit.ensures.any_moment)
@@ -73,7 +73,7 @@ returns-in-Ok-commit-clause-told g c = λ h rest.
     let store = c.args.store.now in
     let mid = c.append-added.new.pages in
     commit_tells d.view g.met.D.Disk.only_now g.H.Hasher.dig store mid c.args.root.now _ h c.args.events.now
-    c.as_slice.result.now (c.as_slice.ensures.value ∙ c.root_record-bytes.ensures.bytes) g.met.H.Hasher.size c.in-Ok.ensures.same rest c.in-Ok.ensures.added refl refl refl c.in-Ok.ensures.step c.requires.step
+    c.as_slice.result.now (c.as_slice.ensures.value ∙ c.root_record-bytes.ensures.bytes) (λ text. (g.met.H.Hasher.size text, g.met.H.Hasher.bytes text)) c.in-Ok.ensures.same rest c.in-Ok.ensures.added refl refl refl c.in-Ok.ensures.step c.requires.step
     (count_of mid) (omega (arith, c.in-Ok.ensures.few, c.requires.pages, c.in-Ok.ensures.step))
     (λ ps list. told_pages d.view mid ((d.view mid.disk).count) ((d.view mid.disk).content) ps (λ i told. g.met.D.Disk.count_is_told mid.disk i told) mid.room mid.used_from list)
     (omega (arith, c.in-Ok.ensures.same.generation, c.requires.commits)) c.commit.new.self c.in-Ok-commit.ensures.told
@@ -85,7 +85,7 @@ returns-in-Err-commit-clause-told g c = λ h rest.
     let mid = c.append-added.new.pages in
     subst (λ disk. Reads (d.view disk) (StandsForOneOf g.H.Hasher.dig c.args.root.now.name h (with_events h c.args.events.now))) (sym c.discard-in-Err-commit.ensures.disk)
     (commit_tells d.view g.met.D.Disk.only_now g.H.Hasher.dig store mid c.args.root.now _ h c.args.events.now
-    c.as_slice.result.now (c.as_slice.ensures.value ∙ c.root_record-bytes.ensures.bytes) g.met.H.Hasher.size c.in-Ok.ensures.same rest c.in-Ok.ensures.added refl refl refl c.in-Ok.ensures.step c.requires.step
+    c.as_slice.result.now (c.as_slice.ensures.value ∙ c.root_record-bytes.ensures.bytes) (λ text. (g.met.H.Hasher.size text, g.met.H.Hasher.bytes text)) c.in-Ok.ensures.same rest c.in-Ok.ensures.added refl refl refl c.in-Ok.ensures.step c.requires.step
     (count_of mid) (omega (arith, c.in-Ok.ensures.few, c.requires.pages, c.in-Ok.ensures.step))
     (λ ps list. told_pages d.view mid ((d.view mid.disk).count) ((d.view mid.disk).content) ps (λ i told. g.met.D.Disk.count_is_told mid.disk i told) mid.room mid.used_from list)
     (omega (arith, c.in-Ok.ensures.same.generation, c.requires.commits)) c.commit.new.self c.in-Err-commit.ensures.told)

@@ -2,7 +2,7 @@ use Rattle.tw_service.proofs.Standing.{opens_never_refused, stands_events, stand
 use Rattle.tw_service.proofs.laws.standing_laws.Goals as goal
 
 pub returns-clause-once : goal.returns-clause-once
-returns-clause-once g c = stands_once g.H.Hasher.dig g.met.H.Hasher.size
+returns-clause-once g c = stands_once g.H.Hasher.dig (λ text. (g.met.H.Hasher.size text, g.met.H.Hasher.bytes text))
 
 pub returns-clause-sound : goal.returns-clause-sound
 returns-clause-sound g c = λ image name h s. (s.sound, s.named, stands_events g.H.Hasher.dig image name h s)

@@ -50,7 +50,7 @@ loop-level-preserved g c =
       link = λ ps told.
           let has = c.in_ok-link.ensures.next ps (inv.kept.list_kept ∙ told) in
           let has_level = subst (λ (p : ℕ). HasLink ps c.loop-level.link.page (from + 1 - p) level c.in_ok-link.link) c.power_of_two.ensures has in
-          next_link dig g.met.H.Hasher.size ps c.args.first.now c.loop-level.link c.in_ok-link.link from level c.requires.step lower (inv.link ps told) has_level;
+          next_link dig (λ text. (g.met.H.Hasher.size text, g.met.H.Hasher.bytes text)) ps c.args.first.now c.loop-level.link c.in_ok-link.link from level c.requires.step lower (inv.link ps told) has_level;
       links = λ ps told. HasLinks-more dig ps c.args.first.now c.loop-level.link from c.args.datum.now c.loop-level.links.links.items c.add.new.self.links.items c.loop-level.links.labels.items c.add.new.self.labels.items
           level (inv.link ps told) c.add.ensures.links c.add.ensures.labels (inv.links ps told);
       gathers = λ ps told.
@@ -76,7 +76,7 @@ returns-in_err-link-clause-good g c =
     let from = c.args.from in
     let lower : level < top_level_of (from + 1) = omega (arith, c.loop-level-test.true, c.top_level-top.ensures.value) in
     let bad = λ (ps : Image) (told : g.P.Pages.list c.args.pages.now ≡ Some ps) (no : IsNoStepAt ps c.loop-level.link.page (from + 1 - c.power_of_two.result)).
-    bad_link dig g.met.H.Hasher.size ps c.args.first.now c.loop-level.link from level c.requires.step lower (inv.link ps told)
+    bad_link dig (λ text. (g.met.H.Hasher.size text, g.met.H.Hasher.bytes text)) ps c.args.first.now c.loop-level.link from level c.requires.step lower (inv.link ps told)
     (subst (λ (p : ℕ). IsNoStepAt ps c.loop-level.link.page (from + 1 - p)) c.power_of_two.ensures no) in
     bad_page_passed c.from_residual.result c.in_err-link.field-0.0
     (λ p. (p ≡ c.loop-level.link.page) × ((ps : Image) → g.P.Pages.list c.loop-level.pages ≡ Some ps → IsNoStepAt ps c.loop-level.link.page (from + 1 - c.power_of_two.result)))

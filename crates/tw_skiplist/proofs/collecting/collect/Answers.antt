@@ -67,9 +67,9 @@ loop-at-preserved g c =
           (one_more c.loop-at.links c.loop-at.last at link next (inv.along ps told) under (hops ps told)));
       leads = λ ps h places told kept within first_is.
           let walks = inv.walks ps told in
-          let leads = walk_leads dig g.met.H.Hasher.size h places ps kept first from to c.loop-at.last at c.requires.below within first_is walks in
+          let leads = walk_leads dig (λ text. (g.met.H.Hasher.size text, g.met.H.Hasher.bytes text)) h places ps kept first from to c.loop-at.last at c.requires.below within first_is walks in
           let has = hops ps told in
-          let record_is = record_of dig g.met.H.Hasher.size h places ps kept c.loop-at.last.page at (hop_level at to) link next (omega (arith, under)) (omega (arith, leads.high, within))
+          let record_is = record_of dig (λ text. (g.met.H.Hasher.size text, g.met.H.Hasher.bytes text)) h places ps kept c.loop-at.last.page at (hop_level at to) link next (omega (arith, under)) (omega (arith, leads.high, within))
           (ap (λ (x : StepRef). x.page) leads.link_is) has in
           let so_far : LeadsTo dig h c.loop-at.links from at to = inv.leads ps h places told kept within first_is in
           let further : LeadsTo dig h (c.loop-at.links ++ link ∷ []) from (hop at to) to =

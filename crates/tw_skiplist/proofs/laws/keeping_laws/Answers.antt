@@ -16,7 +16,7 @@ pub returns-clause-page : goal.returns-clause-page
 returns-clause-page g c = head_page g.H.Hasher.dig
 
 pub returns-clause-one : goal.returns-clause-one
-returns-clause-one g c = keeps_one g.H.Hasher.dig g.met.H.Hasher.size
+returns-clause-one g c = keeps_one g.H.Hasher.dig (λ text. (g.met.H.Hasher.size text, g.met.H.Hasher.bytes text))
 
 pub returns-clause-sound : goal.returns-clause-sound
 returns-clause-sound g c = keeps_sound g.H.Hasher.dig

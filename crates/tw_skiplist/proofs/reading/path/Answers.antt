@@ -1,4 +1,5 @@
-use Rattle.std.proofs.Common.{◌≡◌, ◌≤◌, ◌∙◌, Some, arith, subst}
+use Rattle.std.proofs.Common.{ℕ, List, ◌≡◌, ◌≤◌, ◌∙◌, Some, arith, subst}
+use Rattle.tw_base.proofs.DigestBytes.{IsDigest}
 use Rattle.tw_disk.specs.Image.{Image}
 use Rattle.tw_skipproof.proofs.Greedy.{few_links}
 use Rattle.tw_base.specs.History.{History}
@@ -18,7 +19,7 @@ returns-in_err-link-clause-good g c =
     (λ p. (ps : Image) → list c.args.pages.now ≡ Some ps → MeetsBadPageAbove ps c.link_to_head.result head.step c.args.n p)
     (λ _. (ps : Image) (h : History) → list c.args.pages.now ≡ Some ps → Keeps g.H.Hasher.dig ps h head → ⊥)
     c.from_residual.ensures.1
-    (λ p at ps h told keeps. meets_none g.H.Hasher.dig g.met.H.Hasher.size ps h head keeps c.link_to_head.result c.link_to_head.ensures
+    (λ p at ps h told keeps. meets_none g.H.Hasher.dig (λ text. (g.met.H.Hasher.size text, g.met.H.Hasher.bytes text)) ps h head keeps c.link_to_head.result c.link_to_head.ensures
     c.args.n p below (met_above ps c.link_to_head.result head.step c.args.n p (at ps told)))
     c.in_err-link.ensures.bad
 
@@ -32,7 +33,7 @@ returns-in_err-links-clause-good g c =
     (λ p. (ps : Image) → list c.descend.new.pages ≡ Some ps → MeetsBadPageAbove ps c.in_ok-link.link c.args.n c.args.i p)
     (λ _. (ps : Image) (h : History) → list c.args.pages.now ≡ Some ps → Keeps g.H.Hasher.dig ps h head → ⊥)
     c.from_residual-in_err-links.ensures.1
-    (λ p at ps h told keeps. meets_none_further g.H.Hasher.dig g.met.H.Hasher.size ps h head keeps c.link_to_head.result c.link_to_head.ensures
+    (λ p at ps h told keeps. meets_none_further g.H.Hasher.dig (λ text. (g.met.H.Hasher.size text, g.met.H.Hasher.bytes text)) ps h head keeps c.link_to_head.result c.link_to_head.ensures
     c.args.n c.in_ok-link.link below (c.in_ok-link.ensures.walks ps told) c.args.i p lower
     (met_above ps c.in_ok-link.link c.args.n c.args.i p (at ps (c.in_ok-link.ensures.kept.list_kept ∙ told))))
     c.in_err-links.ensures.bad
@@ -40,7 +41,7 @@ returns-in_err-links-clause-good g c =
 pub returns-clause-path : goal.returns-clause-path
 returns-clause-path g c = λ ps h told keeps.
     let dig = g.H.Hasher.dig in
-    let size = g.met.H.Hasher.size in
+    let size : (text : List ℕ) → IsDigest (g.H.Hasher.dig text) = λ text. (g.met.H.Hasher.size text, g.met.H.Hasher.bytes text) in
     let head = c.args.head.now in
     let below : c.args.n ≤ head.step = omega (arith, c.if-n-last.false) in
     let down = c.in_ok-link.ensures.walks ps told in

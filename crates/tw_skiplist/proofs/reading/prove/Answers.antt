@@ -1,4 +1,5 @@
-use Rattle.std.proofs.Common.{◌≡◌, ◌<◌, ◌≤◌, ◌∙◌, Some, arith}
+use Rattle.std.proofs.Common.{ℕ, List, ◌≡◌, ◌<◌, ◌≤◌, ◌∙◌, Some, arith}
+use Rattle.tw_base.proofs.DigestBytes.{IsDigest}
 use Rattle.std.proofs.lemmas.Result.{IfOk-weaker}
 use Rattle.tw_disk.specs.Image.{Image}
 use Rattle.tw_skipproof.proofs.Greedy.{few_links}
@@ -19,7 +20,7 @@ returns-in_err-link-clause-good g c =
     (λ p. (ps : Image) → list c.args.pages.now ≡ Some ps → MeetsBadPageAbove ps c.link_to_head.result head.step c.args.top p)
     (λ _. (ps : Image) (h : History) → list c.args.pages.now ≡ Some ps → Keeps g.H.Hasher.dig ps h head → ⊥)
     c.from_residual.ensures.1
-    (λ p at ps h told keeps. meets_none g.H.Hasher.dig g.met.H.Hasher.size ps h head keeps c.link_to_head.result c.link_to_head.ensures
+    (λ p at ps h told keeps. meets_none g.H.Hasher.dig (λ text. (g.met.H.Hasher.size text, g.met.H.Hasher.bytes text)) ps h head keeps c.link_to_head.result c.link_to_head.ensures
     c.args.top p below (met_above ps c.link_to_head.result head.step c.args.top p (at ps told)))
     c.in_err-link.ensures.bad
 
@@ -44,14 +45,14 @@ returns-clause-good g c =
     IfBadPage-weaker c.collect_proof.result
     (λ p. (ps : Image) → list c.descend.new.pages ≡ Some ps → MeetsBadPage ps c.in_ok-link.link c.args.top c.args.i p)
     (λ _. (ps : Image) (h : History) → list c.args.pages.now ≡ Some ps → Keeps g.H.Hasher.dig ps h head → ⊥)
-    (λ p at ps h told keeps. meets_none_further g.H.Hasher.dig g.met.H.Hasher.size ps h head keeps c.link_to_head.result c.link_to_head.ensures
+    (λ p at ps h told keeps. meets_none_further g.H.Hasher.dig (λ text. (g.met.H.Hasher.size text, g.met.H.Hasher.bytes text)) ps h head keeps c.link_to_head.result c.link_to_head.ensures
     c.args.top c.in_ok-link.link below (c.in_ok-link.ensures.walks ps told) c.args.i p lower (at ps (c.in_ok-link.ensures.kept.list_kept ∙ told)))
     c.collect_proof.ensures.bad
 
 pub returns-clause-path : goal.returns-clause-path
 returns-clause-path g c =
     let dig = g.H.Hasher.dig in
-    let size = g.met.H.Hasher.size in
+    let size : (text : List ℕ) → IsDigest (g.H.Hasher.dig text) = λ text. (g.met.H.Hasher.size text, g.met.H.Hasher.bytes text) in
     let head = c.args.head.now in
     let below : c.args.top ≤ head.step = omega (arith, c.if-top-last.false) in
     IfOk-weaker c.collect_proof.result _ _
@@ -71,7 +72,7 @@ returns-clause-info g c =
     IfOk-weaker c.collect_proof.result _ _
     (λ proof told_info ps h told keeps.
     let found = told_info ps (c.in_ok-link.ensures.kept.list_kept ∙ told) in
-    tells_info_further g.H.Hasher.dig g.met.H.Hasher.size ps h head keeps c.link_to_head.result c.link_to_head.ensures
+    tells_info_further g.H.Hasher.dig (λ text. (g.met.H.Hasher.size text, g.met.H.Hasher.bytes text)) ps h head keeps c.link_to_head.result c.link_to_head.ensures
     c.args.top c.in_ok-link.link below (c.in_ok-link.ensures.walks ps told) c.args.i found.0 proof.info some lower found.1 found.2)
     c.collect_proof.ensures.info
 

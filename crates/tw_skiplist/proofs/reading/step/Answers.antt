@@ -16,7 +16,7 @@ returns-clause-good g c =
     IfBadPage-weaker c.find_info.result
     (λ p. (ps : Image) → list c.args.pages.now ≡ Some ps → MeetsBadPage ps c.link_to_head.result head.step c.args.i p)
     (λ _. (ps : Image) (h : History) → list c.args.pages.now ≡ Some ps → Keeps g.H.Hasher.dig ps h head → ⊥)
-    (λ p at ps h told keeps. meets_none g.H.Hasher.dig g.met.H.Hasher.size ps h head keeps c.link_to_head.result c.link_to_head.ensures
+    (λ p at ps h told keeps. meets_none g.H.Hasher.dig (λ text. (g.met.H.Hasher.size text, g.met.H.Hasher.bytes text)) ps h head keeps c.link_to_head.result c.link_to_head.ensures
     c.args.i p below (at ps told))
     c.find_info.ensures.bad
 
@@ -27,6 +27,6 @@ returns-clause-info g c =
     IfOk-weaker c.find_info.result _ _
     (λ info told_info ps h told keeps.
     let found = told_info ps told in
-    tells_info g.H.Hasher.dig g.met.H.Hasher.size ps h c.args.head.now keeps c.link_to_head.result c.link_to_head.ensures
+    tells_info g.H.Hasher.dig (λ text. (g.met.H.Hasher.size text, g.met.H.Hasher.bytes text)) ps h c.args.head.now keeps c.link_to_head.result c.link_to_head.ensures
     c.args.i found.0 info some below found.1 found.2)
     c.find_info.ensures.info
