@@ -145,15 +145,6 @@ module _ {X : Type 0} where
     read = λ whole at. c.read whole at >>= (λ x. (text_codec last).read whole x.after >>= (λ t. Ok (record { value = x.value; after = t.after })));
   }
 
-  -- a page: zeros behind, up to so many bytes
-  unfoldable pub padded : ℕ → Codec X → Codec X
-  padded size c = record {
-    format = then_by c.format (λ x. then_by (text (replicate (size - length (c.write x)) 0)) (λ zeros. Done x));
-    Fits = c.Fits;
-    write = λ x. c.write x ++ replicate (size - length (c.write x)) 0;
-    read = λ whole at. c.read whole at >>= (λ x. read_at (text (replicate (size - length (c.write x.value)) 0)) whole x.after >>= (λ zeros. Ok (record { value = x.value; after = zeros.after })));
-  }
-
 module _ {X : Type 0} where
   -- a value that there is
   unfoldable pub present : Codec X → Codec (Option X)

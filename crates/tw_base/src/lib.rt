@@ -65,8 +65,7 @@ pub use sequence::{Bytes, EventList, Sequence};
 pub use side::Side;
 pub use step_events::StepEvents;
 pub use taking::{
-    take_bytes, take_digest, take_labels, take_name, take_number, take_sized, take_slice,
-    take_text, take_zeros,
+    take_bytes, take_digest, take_labels, take_name, take_number, take_sized, take_slice, take_text,
 };
 pub use thread::{Entries, Entry, Key, Place, Thread, Threads, compare_keys, entry_key};
 pub use time::{put_time, take_time};

@@ -12,9 +12,7 @@ ghost use Rattle.tw_service.specs.Roots.{FitsStore, HasLastPage, IsAllowed, root
 use crate::limits::{MOST_PAGES_OF_A_STEP, ROOT_BYTES};
 use arrayvec::ArrayVec;
 use tw_base::limits::LAST_STEP;
-use tw_base::{
-    Digest, Name, ReadFault, Root, put, take_digest, take_name, take_number, whole_to,
-};
+use tw_base::{Digest, Name, ReadFault, Root, put, take_digest, take_name, take_number, whole_to};
 use tw_disk::limits::FIRST_PAGE;
 use tw_skiplist::Head;
 
