@@ -2,7 +2,8 @@
 // is the place of the first byte that cannot stand there, or the length of bytes that end too early.
 // Numbers are big-endian.
 
-ghost use Rattle.std.specs.Prelude.{◌≡◌, ℕ, ◌+◌, ◌*◌, ◌^◌, ◌<◌, ◌≤◌, length, take, drop, ◌&&◌, ◌||◌, ◌==◌, IfOk};
+ghost use Rattle.std.specs.Prelude.{◌≡◌, ℕ, ◌+◌, ◌*◌, ◌^◌, ◌<◌, ◌≤◌, length, take, drop, ◌&&◌, ◌||◌, ◌==◌, IfOk, IfSome};
+ghost use Rattle.std.specs.Int.{to_be_bytes, w64};
 ghost use Rattle.tw_base.specs.Fields.{digest, high_after, low_after, name, number, text as fixed_text};
 ghost use Rattle.tw_base.specs.Formats.{Gives, GivesFront, front, read_at};
 ghost use Rattle.tw_base.specs.Names.{is_name_byte as is_name_byte_of};
@@ -75,8 +76,45 @@ fn high_of(unit: u64, b: u64, most: u64) -> u64
     }
 }
 
-/// The number at a place, byte by byte.
+/// The number that the eight bytes at a place are, where there are so many.
+fn eight_at(bytes: &[u8], at: usize) -> Option<u64>
+    requires { at ≤ length bytes.now }
+    ensures { IfSome result (λ n. (at + 8 ≤ length bytes.now) × (to_be_bytes w64 n ≡ take 8 (drop at bytes.now))) }
+{
+    match bytes[at..].first_chunk::<8>() {
+        Some(eight) => Some(u64::from_be_bytes(*eight)),
+        None => None,
+    }
+}
+
+/// The number at a place: eight bytes at once where they are within the range, and else byte by byte.
 pub(crate) fn number_at(
+    bytes: &[u8],
+    at: usize,
+    width: u8,
+    least: u64,
+    most: u64,
+) -> Result<u64, u64>
+    requires width { width ≤ 8 }
+    requires within { at ≤ length bytes.now }
+    requires range { least ≤ most }
+    requires fits { most < 256 ^ width }
+    ensures read { GivesFront (λ n. n) result (at + width) (front (number width least most) (drop at bytes.now) at) }
+    ensures within { IfOk result (λ _. at + width ≤ length bytes.now) }
+    ensures range { IfOk result (λ n. (least ≤ n) × (n ≤ most)) }
+{
+    if width == 8 {
+        if let Some(found) = eight_at(bytes, at) {
+            if least <= found && found <= most {
+                return Ok(found);
+            }
+        }
+    }
+    number_by_bytes(bytes, at, width, least, most)
+}
+
+/// The number at a place, byte by byte.
+fn number_by_bytes(
     bytes: &[u8],
     at: usize,
     width: u8,
@@ -104,7 +142,7 @@ pub(crate) fn number_at(
     }
     let low = low_of(unit, b, least);
     let high = high_of(unit, b, most);
-    match number_at(bytes, at + 1, width - 1, low, high) {
+    match number_by_bytes(bytes, at + 1, width - 1, low, high) {
         Ok(rest) => Ok(b * unit + rest),
         Err(place) => Err(place),
     }

@@ -1,8 +1,8 @@
 use Rattle.std.proofs.Common.{◌≡◌, ◌+◌, ◌-◌, ◌*◌, ◌^◌, get_or, refl, ◌∙◌, ap, arith, inl, inr}
 use Rattle.tw_base.specs.Formats.Reading.{Took}
 use Rattle.tw_base.proofs.NumberLaws.{code-none, code-short, code-stops, code-more, shift-took, shift-stopped, range_after, number-fits}
-use Rattle.tw_base.proofs.fields.+number_at.Goals as goal
-use Rattle.tw_base.proofs.fields.+number_at.Goals.{then-b-least-via-then-b-least, then-b-least-via-else-b-least+then-most-unit}
+use Rattle.tw_base.proofs.fields.+number_by_bytes.Goals as goal
+use Rattle.tw_base.proofs.fields.+number_by_bytes.Goals.{then-b-least-via-then-b-least, then-b-least-via-else-b-least+then-most-unit}
 
 pub returns-then-width-eq0-clause-read : goal.returns-then-width-eq0-clause-read
 returns-then-width-eq0-clause-read t c = code-none c.args.width c.args.least c.args.most c.args.bytes.now c.args.at c.if-width-eq0.true
@@ -20,8 +20,8 @@ returns-then-b-least-clause-read t c =
     code-stops c.args.width (c.args.width - 1) c.unit_of-unit.result c.args.least c.args.most _ c.args.bytes.now c.args.at (omega arith) c.unit_of-unit.ensures.value (omega arith) refl
     (elim c.then-b-least.branch [ then-b-least-via-then-b-least w ↦ inl w.if-b-least.true | then-b-least-via-else-b-least+then-most-unit w ↦ inr w.if-most-unit.true ])
 
-pub number_at-requires : goal.number_at-requires
-number_at-requires t c =
+pub number_by_bytes-requires : goal.number_by_bytes-requires
+number_by_bytes-requires t c =
     let after = range_after c.unit_of-unit.result (get_or c.args.bytes.now c.args.at 0) c.args.least c.args.most c.unit_of-unit.ensures.some c.requires.range in (
       omega arith,
       (

@@ -1,4 +1,0 @@
-use Rattle.tw_base.proofs.fields.+number_at.Given as goal
-
-abbrev pub decreases-number_at : goal.decreases-number_at
-decreases-number_at l = l.width
