@@ -5,9 +5,9 @@ use Rattle.tw_base.proofs.FieldLaws.{bytes-short}
 use Rattle.tw_base.proofs.TakeLaws.{took-fits}
 use Rattle.tw_base.proofs.taking.take_digest.Goals as goal
 
-pub returns-then-bytes-at-lt32 : goal.returns-then-bytes-at-lt32
+pub returns-then-bytes-at-lt32-clause-takes : goal.returns-then-bytes-at-lt32-clause-takes
 unfolding bytes_codec
-returns-then-bytes-at-lt32 c = bytes-short 32 c.args.bytes.now c.args.at.now (λ i. omega (arith, c.type_inv.bytes i)) c.requires (omega arith)
+returns-then-bytes-at-lt32-clause-takes c = bytes-short 32 c.args.bytes.now c.args.at.now (λ i. omega (arith, c.type_inv.bytes i)) c.requires (omega arith)
 
 pub returns-clause-takes : goal.returns-clause-takes
 unfolding bytes_codec
