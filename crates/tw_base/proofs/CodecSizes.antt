@@ -1,7 +1,7 @@
 -- How many bytes the words of a codec have at most.
-use Rattle.std.proofs.Common.{◌≡◌, ℕ, ◌+◌, ◌-◌, ◌*◌, ◌≤◌, List, [], ◌∷◌, length, flat_map, replicate, ap, arith}
+use Rattle.std.proofs.Common.{◌≡◌, ℕ, ◌+◌, ◌*◌, ◌≤◌, List, [], ◌∷◌, length, flat_map, ap, arith}
 use Rattle.std.specs.Prelude.{Bool, true, false, Some, None}
-use Rattle.std.proofs.lemmas.List.{length-append, length-replicate}
+use Rattle.std.proofs.lemmas.List.{length-append}
 use Rattle.std.proofs.Math.Nat.{mul-le-mul_right, suc-mul}
 use Rattle.tw_base.specs.Codecs.{Codec, HasBytes, before, behind, by_kind, bytes_codec, cased, choose, counted, flag_codec, labels_codec, many, name_codec, nothing, number_codec, optional, present, pair, seen, sized_codec}
 use Rattle.tw_base.specs.Fields.{number_bytes}

@@ -1,6 +1,6 @@
 -- Codecs. One declaration of a format: which bytes spell what, which values have a spelling and which one, and how a
 -- reader goes over the bytes field by field. The laws that join the four are in proofs/CodecLaws.
-use Rattle.std.specs.Prelude.{◌≡◌, ℕ, ◌-◌, ◌≤◌, List, [], ◌∷◌, ◌++◌, length, replicate, flat_map, Bool, true, false, Option, Some, None, MatchOption, Result, Ok, if◌then◌else◌}
+use Rattle.std.specs.Prelude.{◌≡◌, ℕ, ◌≤◌, List, [], ◌∷◌, ◌++◌, length, flat_map, Bool, true, false, Option, Some, None, MatchOption, Result, Ok, if◌then◌else◌}
 use Rattle.std.specs.Option.{option_map_or}
 use Rattle.tw_base.specs.Bytes.{AreBytes}
 use Rattle.tw_base.specs.Formats.{Format, OneSpelling, Placed, Spells, WrittenAs, then_by, read_at, ◌>>=◌}

@@ -25,8 +25,6 @@ pub use fixed::{fault_disk, fault_input, no_memory};
 pub use line::{print_line, print_usage};
 pub use number::{read_digest, read_number};
 pub use path::FilePath;
-pub use refusal::{
-    BadInput, Refusal, StoreCause, print_bad_input, print_refused, print_store,
-};
+pub use refusal::{BadInput, Refusal, StoreCause, print_bad_input, print_refused, print_store};
 pub use report::{print_rejected, print_report};
 pub use words::{WordFault, read_words};
