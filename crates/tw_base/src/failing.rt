@@ -52,3 +52,6 @@ impl FailingCalls {
         fails
     }
 }
+
+#[cfg(test)]
+mod tests;
