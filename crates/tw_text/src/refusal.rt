@@ -51,7 +51,7 @@ pub enum BadInput {
     /// This line, counted from 1, may not follow the lines before it.
     BadLine { file: Bytes, line: u64 },
     /// The history isn't sound: this step, counted from 1, is the first that breaks a rule, and this
-    /// rule, 1 to 6, the first that it breaks.
+    /// rule, 1 to 7, the first that it breaks.
     Unsound { file: Bytes, step: u64, rule: u8 },
 }
 
