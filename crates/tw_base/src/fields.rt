@@ -114,13 +114,7 @@ pub(crate) fn number_at(
 }
 
 /// The number at a place, byte by byte.
-fn number_by_bytes(
-    bytes: &[u8],
-    at: usize,
-    width: u8,
-    least: u64,
-    most: u64,
-) -> Result<u64, u64>
+fn number_by_bytes(bytes: &[u8], at: usize, width: u8, least: u64, most: u64) -> Result<u64, u64>
     requires width { width ≤ 8 }
     requires within { at ≤ length bytes.now }
     requires range { least ≤ most }
