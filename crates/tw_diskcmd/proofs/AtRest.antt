@@ -14,7 +14,7 @@ use Rattle.tw_service.specs.declared.service.Service.{Service}
 use Rattle.tw_service.specs.Serves.{HasSameDisk, disk_of}
 use Rattle.tw_service.specs.Stands.{StandsFor, StandsForOneOf, no_history}
 use Rattle.tw_text.specs.declared.fault.CommandFault.{CommandFault}
-use Rattle.tw_text.specs.declared.fault.CommandFault.TheVariants.{Refused, Unserved, Unreadable, InputFault, DiskFault, NoMemory}
+use Rattle.tw_text.specs.declared.fault.CommandFault.TheVariants.{DiskFault}
 use Rattle.tw_diskcmd.specs.Disks.{IsLeft, IsOf, IsOldOrBegun, Keeps, LeavesOldOrOneOf, MayBegin, ReadsAs, ReadsAsOneOf, Rests, Stands}
 use Rattle.tw_diskcmd.specs.WorkSteps.{LeavesStep}
 

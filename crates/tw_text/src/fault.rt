@@ -5,9 +5,7 @@ ghost use Rattle.tw_text.specs.Faults.{fault_of_input, fault_status as fault_sta
 ghost use Rattle.tw_text.specs.declared.fault.CommandFault.TheVariants.{NoMemory as WantedMemory};
 
 use crate::fixed::{fault_disk, fault_input, no_memory};
-use crate::refusal::{
-    BadInput, Refusal, StoreCause, print_bad_input, print_refused, print_store,
-};
+use crate::refusal::{BadInput, Refusal, StoreCause, print_bad_input, print_refused, print_store};
 use std::alloc::Global;
 use tw_base::{Bytes, NoMemory};
 use tw_outside::InputFault;

@@ -16,6 +16,7 @@ impl std::marker::Model for FilePath {
     ghost use Rattle.std.specs.String.{string_bytes};
 
     ghost Value = { List ℕ };
+
     ghost view = { λ path. string_bytes path.text };
 }
 
