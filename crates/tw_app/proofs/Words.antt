@@ -8,7 +8,8 @@ use Rattle.tw_text.specs.declared.command.Command.{Command}
 use Rattle.tw_text.specs.declared.words.WordFault.{WordFault}
 use Rattle.tw_text.specs.declared.words.WordFault.TheVariants.{NoMemory}
 use Rattle.tw_app.specs.declared.outcome.Outcome.{Outcome}
-use Rattle.tw_app.specs.declared.outcome.Outcome.TheVariants.{NoMemory as NoMemoryOutcome}
+use Rattle.tw_app.specs.declared.outcome.Outcome.TheVariants.{Undone}
+use Rattle.tw_text.specs.declared.fault.CommandFault.TheVariants.{NoMemory as NoMemoryFault}
 use Rattle.tw_app.specs.Around.{Met}
 use Rattle.tw_app.proofs.Commands.{no_memory_comes}
 use Rattle.tw_app.specs.Running.{ComesTo, HasOutcome, HaveNoForm, Leaves, LeavesTo}
@@ -35,9 +36,9 @@ module _ (words : List (List ℕ)) (c : Command) (is : command_of words ≡ Some
       subst (λ (o : Option Command). MatchOption o (new ≡ old) (λ d. LeavesTo view old new told d outcome)) (sym is) leaves
 
 -- want of memory for the command is free
-pub no_memory_outcome : (words : List (List ℕ)) (m : Met) → HasOutcome m words NoMemoryOutcome
+pub no_memory_outcome : (words : List (List ℕ)) (m : Met) → HasOutcome m words (Undone NoMemoryFault)
 no_memory_outcome words m = by (command_of words)
   where
-    by : (o : Option Command) → MatchOption o (HaveNoForm words NoMemoryOutcome) (λ c. ComesTo m c NoMemoryOutcome)
+    by : (o : Option Command) → MatchOption o (HaveNoForm words (Undone NoMemoryFault)) (λ c. ComesTo m c (Undone NoMemoryFault))
     by None = tt
     by (Some c) = no_memory_comes m c

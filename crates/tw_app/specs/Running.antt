@@ -7,6 +7,7 @@ use Rattle.tw_outside.specs.TakenBytes.{Appends, AppendsPart}
 use Rattle.tw_text.specs.CommandLine.{command_of, forms}
 use Rattle.tw_text.specs.Forms.{IsFirstBad}
 use Rattle.tw_text.specs.declared.command.Command.{Command}
+use Rattle.tw_text.specs.declared.fault.CommandFault.TheVariants.{NoMemory}
 use Rattle.tw_text.specs.declared.command.Command.TheVariants.{Init, Append, ProveEvent, Show, VerifyFile, VerifyOne}
 use Rattle.tw_filecmd.specs.Showing.{ShowComes}
 use Rattle.tw_filecmd.specs.Verifying.{VerifyFileComes, VerifyOneComes}
@@ -15,36 +16,36 @@ use Rattle.tw_diskcmd.specs.Disks.{Keeps}
 use Rattle.tw_diskcmd.specs.Making.{InitComes, InitLeaves, InitSafe}
 use Rattle.tw_diskcmd.specs.Proving.{ProveComes, ProveLeaves}
 use Rattle.tw_app.specs.declared.outcome.Outcome.{Outcome}
-use Rattle.tw_app.specs.declared.outcome.Outcome.TheVariants.{BadWords, NoMemory}
+use Rattle.tw_app.specs.declared.outcome.Outcome.TheVariants.{BadWords, Undone}
 use Rattle.tw_app.specs.Around.{Around, Met, Span}
-use Rattle.tw_app.specs.Outcomes.{judged, made, proved, shown, status_of, text_of}
+use Rattle.tw_app.specs.Outcomes.{judged, made, proved, status_of, text_of}
 
 -- ---- what a command comes to
 
 -- the outcome is that of a result for which P holds
-abbrev pub Of : {X : Type 0} → (outcome_of : X → Outcome) → (P : X → Type 0) → Outcome → Type 0
-Of {X} outcome_of P outcome = (x : X) × P x × (outcome ≡ outcome_of x)
+abbrev pub IsOutcomeOf : {X : Type 0} → (outcome_of : X → Outcome) → (P : X → Type 0) → Outcome → Type 0
+IsOutcomeOf {X} outcome_of P outcome = (x : X) × P x × (outcome ≡ outcome_of x)
 
 -- what a command comes to that isn't built
 abbrev pub IsUnbuilt : Outcome → Type 0
 IsUnbuilt (BadWords number) = number ≡ 0
-IsUnbuilt NoMemory = Unit {0}
+IsUnbuilt (Undone NoMemory) = Unit {0}
 IsUnbuilt _ = ⊥
 
 -- what each command may come to
 abbrev pub ComesTo : Met → Command → Outcome → Type 0
-ComesTo m (Init name) outcome = Of made (InitComes m.disk name) outcome
-ComesTo m (Append file) outcome = Of made (AppendComes m.inputs m.disk file) outcome
-ComesTo m (ProveEvent step index top) outcome = Of proved (ProveComes m.disk step index top) outcome
-ComesTo m (Show history step index) outcome = Of shown (ShowComes m.inputs history step index) outcome
-ComesTo m (VerifyFile proof anchors) outcome = Of judged (VerifyFileComes m.inputs proof anchors) outcome
-ComesTo m (VerifyOne proof anchor) outcome = Of judged (VerifyOneComes m.inputs proof anchor) outcome
+ComesTo m (Init name) outcome = IsOutcomeOf made (InitComes m.disk name) outcome
+ComesTo m (Append file) outcome = IsOutcomeOf made (AppendComes m.inputs m.disk file) outcome
+ComesTo m (ProveEvent step index top) outcome = IsOutcomeOf proved (ProveComes m.disk step index top) outcome
+ComesTo m (Show history step index) outcome = IsOutcomeOf proved (ShowComes m.inputs history step index) outcome
+ComesTo m (VerifyFile proof anchors) outcome = IsOutcomeOf judged (VerifyFileComes m.inputs proof anchors) outcome
+ComesTo m (VerifyOne proof anchor) outcome = IsOutcomeOf judged (VerifyOneComes m.inputs proof anchor) outcome
 ComesTo m _ outcome = IsUnbuilt outcome
 
 -- what words come to that have no form: the number is that of the first word at which none goes on
 abbrev pub HaveNoForm : (words : List (List ℕ)) → Outcome → Type 0
 HaveNoForm words (BadWords number) = IsFirstBad forms words number
-HaveNoForm words NoMemory = Unit {0}
+HaveNoForm words (Undone NoMemory) = Unit {0}
 HaveNoForm words _ = ⊥
 
 -- what the words come to
@@ -74,9 +75,9 @@ EndsLeaving around status LeavesDisk = (outcome : Outcome) × EndsAs around stat
 module _ {D : Type 0} (view : D → DiskView) (old new : D) where
   -- what each command leaves; one without a directory makes no device call
   abbrev pub LeavesTo : (told : Option Files) → Command → Outcome → Type 0
-  LeavesTo told (Init name) outcome = Of made (InitLeaves view old new name) outcome
-  LeavesTo told (Append file) outcome = Of made (AppendLeaves view old new told file) outcome
-  LeavesTo told (ProveEvent step index top) outcome = Of proved (ProveLeaves view old new) outcome
+  LeavesTo told (Init name) outcome = IsOutcomeOf made (InitLeaves view old new name) outcome
+  LeavesTo told (Append file) outcome = IsOutcomeOf made (AppendLeaves view old new told file) outcome
+  LeavesTo told (ProveEvent step index top) outcome = IsOutcomeOf proved (ProveLeaves view old new) outcome
   LeavesTo told _ outcome = new ≡ old
 
   abbrev pub Leaves : (told : Option Files) (words : List (List ℕ)) → Outcome → Type 0

@@ -13,22 +13,21 @@ use Rattle.tw_outside.specs.Files.{Files, IsThere, Tells}
 use Rattle.tw_outside.specs.TakenBytes.{Appends}
 use Rattle.tw_text.specs.CommandLine.{command_of, forms}
 use Rattle.tw_text.specs.Forms.{IsFirstBad}
-use Rattle.tw_text.specs.Lines.{fault_disk_text, fault_input_text, usage_text}
-use Rattle.tw_text.specs.Refusals.{bad_input_text, refused_text, store_text}
+use Rattle.tw_text.specs.Lines.{usage_text}
 use Rattle.tw_text.specs.Reports.{rejected_text, report_text}
 use Rattle.tw_text.specs.declared.command.Command.{Command}
 use Rattle.tw_text.specs.declared.command.Command.TheVariants.{Append, ProveEvent, VerifyFile, VerifyOne}
-use Rattle.tw_text.specs.declared.refusal.BadInput.{BadInput}
-use Rattle.tw_text.specs.declared.refusal.Refusal.{Refusal}
-use Rattle.tw_text.specs.declared.refusal.StoreCause.{StoreCause}
+use Rattle.tw_text.specs.declared.fault.CommandFault.TheVariants.{InputFault, DiskFault}
 use Rattle.tw_chain.specs.declared.proof.Proof.{Proof}
 use Rattle.tw_chain.specs.Proofs.{proof_layout}
 use Rattle.tw_chain.specs.Accepting.{Accepts, claim_of, held, proof_texts, report_of}
 use Rattle.tw_chain.specs.Reasons.{IsLowest}
 use Rattle.tw_filecmd.specs.Verifying.{HasAnchors}
-use Rattle.tw_app.specs.declared.outcome.Outcome.TheVariants as outcome
+use Rattle.tw_app.specs.declared.outcome.Outcome.{Outcome}
+use Rattle.tw_app.specs.declared.outcome.Outcome.TheVariants.{BadWords, Undone}
 use Rattle.tw_app.specs.Around.{Around, Met, Writes}
 use Rattle.tw_app.specs.Commands.{NamesFile, UsesDisk}
+use Rattle.tw_app.specs.Outcomes.{text_of}
 use Rattle.tw_app.specs.Running.{ComesTo}
 
 -- ---- what the words ask for
@@ -37,38 +36,25 @@ use Rattle.tw_app.specs.Running.{ComesTo}
 abbrev pub AreOf : (Command → Type 0) → (words : List (List ℕ)) → Type 0
 AreOf P words = MatchOption (command_of words) ⊥ P
 
--- the command that judges a proof, that which adds a step, and that which proves an event
+-- the command that judges a proof
 abbrev pub IsVerify : Command → Type 0
 IsVerify (VerifyFile proof anchors) = Unit {0}
 IsVerify (VerifyOne proof anchor) = Unit {0}
 IsVerify _ = ⊥
 
+-- the command that adds a step
 abbrev pub IsAppend : Command → Type 0
 IsAppend (Append file) = Unit {0}
 IsAppend _ = ⊥
 
-abbrev pub IsProve : Command → Type 0
-IsProve (ProveEvent step index top) = Unit {0}
-IsProve _ = ⊥
+-- the commands that work on a disk and write nothing
+abbrev pub OnlyReads : Command → Type 0
+OnlyReads (ProveEvent step index top) = Unit {0}
+OnlyReads _ = ⊥
 
 -- the command is built: its work never comes to the usage line
 abbrev pub IsBuilt : Command → Type 0
-IsBuilt command = (m : Met) (number : ℕ) → ComesTo m command (outcome.BadWords number) → ⊥
-
-abbrev pub AreBuilt : (words : List (List ℕ)) → Type 0
-AreBuilt words = AreOf IsBuilt words
-
-abbrev pub AskForVerdict : (words : List (List ℕ)) → Type 0
-AskForVerdict words = AreOf IsVerify words
-
-abbrev pub AskForStep : (words : List (List ℕ)) → Type 0
-AskForStep words = AreOf IsAppend words
-
-abbrev pub AskForProof : (words : List (List ℕ)) → Type 0
-AskForProof words = AreOf IsProve words
-
-abbrev pub AskForDisk : (words : List (List ℕ)) → Type 0
-AskForDisk words = AreOf UsesDisk words
+IsBuilt command = (m : Met) (number : ℕ) → ComesTo m command (BadWords number) → ⊥
 
 -- ---- the statuses
 
@@ -134,42 +120,15 @@ IsUsage words number =
 abbrev pub IsUsageRun : Around → Type 0
 IsUsageRun around = (number : ℕ) × IsUsage around.words number × Writes around (usage_text number)
 
--- status 3: the words are of a command that is built and names a file, the inputs failed, and the line that says so was written whole
-pub record IsInputFaultRun (around : Around) : Type 0 where
-  pub built : AreBuilt around.words
-  pub named : AreOf NamesFile around.words
-  pub failed : Rose around.met.inputs.before around.met.inputs.after
-  pub written : Writes around fault_input_text
+-- the words are of a command that comes to this outcome, and its text was written whole
+abbrev pub Says : Around → Outcome → Type 0
+Says around outcome = (command : Command) × (command_of around.words ≡ Some command) × ComesTo around.met command outcome × Writes around (text_of outcome)
 
--- status 5: the words ask for work on a disk, to which the command came, the disk failed, and the line that says so was written whole
-pub record IsDiskFaultRun (around : Around) : Type 0 where
-  pub command : Command
-  pub is_command : command_of around.words ≡ Some command
-  pub asked : AskForDisk around.words
-  pub reached : ComesTo around.met command outcome.DiskFault
-  pub failed : Rose around.met.disk.before around.met.disk.after
-  pub written : Writes around fault_disk_text
+-- status 3: the words are of a command that is built and names a file, and the inputs failed
+abbrev pub IsInputFaultRun : Around → Type 0
+IsInputFaultRun around =
+    AreOf IsBuilt around.words × AreOf NamesFile around.words × Rose around.met.inputs.before around.met.inputs.after × Says around (Undone InputFault)
 
--- status 7: the command refuses what it was asked for, and the line of the refusal was written whole
-pub record IsRefusedRun (around : Around) : Type 0 where
-  pub command : Command
-  pub refusal : Refusal
-  pub is_command : command_of around.words ≡ Some command
-  pub refuses : ComesTo around.met command (outcome.Refused refusal)
-  pub written : Writes around (refused_text refusal)
-
--- status 8: the command wants a service that the disk can't serve, and the line that says why was written whole
-pub record IsUnservedRun (around : Around) : Type 0 where
-  pub command : Command
-  pub cause : StoreCause
-  pub is_command : command_of around.words ≡ Some command
-  pub cant : ComesTo around.met command (outcome.Unserved cause)
-  pub written : Writes around (store_text cause)
-
--- status 9: a file of the command isn't what it reads, and the line that says where was written whole
-pub record IsUnreadableRun (around : Around) : Type 0 where
-  pub command : Command
-  pub bad : BadInput
-  pub is_command : command_of around.words ≡ Some command
-  pub cant : ComesTo around.met command (outcome.Unreadable bad)
-  pub written : Writes around (bad_input_text bad)
+-- status 5: the words ask for work on a disk, to which the command came, and the disk failed
+abbrev pub IsDiskFaultRun : Around → Type 0
+IsDiskFaultRun around = AreOf UsesDisk around.words × Rose around.met.disk.before around.met.disk.after × Says around (Undone DiskFault)

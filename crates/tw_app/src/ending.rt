@@ -9,12 +9,13 @@ ghost use Rattle.tw_outside.specs.TakenBytes.{Appends, AppendsPart};
 ghost use Rattle.tw_text.specs.CommandLine.{command_of};
 ghost use Rattle.tw_text.specs.declared.command.Command.{Command};
 ghost use Rattle.tw_text.specs.Lines.{anchor_text};
-ghost use Rattle.tw_app.specs.declared.outcome.Outcome.TheVariants.{NoMemory as NoMemoryOutcome};
+ghost use Rattle.tw_app.specs.declared.outcome.Outcome.TheVariants.{Undone};
+ghost use Rattle.tw_text.specs.declared.fault.CommandFault.TheVariants.{NoMemory as NoMemoryFault};
 ghost use Rattle.tw_app.specs.Around.{around, met, span};
-ghost use Rattle.tw_app.specs.Commands.{files_of};
+ghost use Rattle.tw_app.specs.Commands.{UsesDisk, files_of};
 ghost use Rattle.tw_app.specs.Outcomes.{TakesMemory, status_of as status_of_outcome};
 ghost use Rattle.tw_app.specs.Running.{EndsLeaving, EndsWith, IsCrashSafe, Leaves};
-ghost use Rattle.tw_app.specs.Statuses.{AskForDisk, AskForProof, AskForStep, AskForVerdict, IsAcceptedRun, IsIdle, IsStatus};
+ghost use Rattle.tw_app.specs.Statuses.{AreOf, IsAcceptedRun, IsAppend, IsIdle, IsStatus, IsVerify, OnlyReads};
 
 use crate::following::{Followed, follow_words};
 use crate::outcome::Outcome;
@@ -24,7 +25,7 @@ use tw_base::{NoMemory, Thread};
 use tw_chain::Verdict;
 use tw_disk::Disk;
 use tw_outside::{Inputs, Sink, write_all};
-use tw_text::{anchor_line, fault_disk, fault_input, no_memory};
+use tw_text::{CommandFault, anchor_line, fault_disk, fault_input, fault_status, no_memory};
 
 /// Status 4: the sink failed.
 const OUTPUT_FAULT: u8 = 4;
@@ -55,15 +56,10 @@ fn status_of(outcome: &Outcome) -> u8
     ensures { result ≡ status_of_outcome outcome.now }
 {
     match outcome {
-        Outcome::Judged(Verdict::Yes(_)) | Outcome::Shown(_) | Outcome::Made(_) => 0,
+        Outcome::Judged(Verdict::Yes(_)) | Outcome::Proof(_) | Outcome::Made(_) => 0,
         Outcome::Judged(Verdict::No(_)) => 1,
         Outcome::BadWords { .. } => 2,
-        Outcome::InputFault => 3,
-        Outcome::DiskFault => 5,
-        Outcome::NoMemory => 6,
-        Outcome::Refused(_) => 7,
-        Outcome::Unserved(_) => 8,
-        Outcome::Unreadable(_) => 9,
+        Outcome::Undone(fault) => fault_status(fault),
     }
 }
 
@@ -71,14 +67,14 @@ fn status_of(outcome: &Outcome) -> u8
 /// no memory for its text. What became of the disk, a step that was made or a fault, takes none.
 fn conclude<S: Sink>(alloc: Global, outcome: &Outcome, out: &mut S) -> u8
     ensures { EndsWith (span (S.taken out.old) (S.taken out.new)) (span (S.faults out.old) (S.faults out.new)) result outcome.now
-        ⊎ (TakesMemory outcome.now × EndsWith (span (S.taken out.old) (S.taken out.new)) (span (S.faults out.old) (S.faults out.new)) result NoMemoryOutcome) }
+        ⊎ (TakesMemory outcome.now × EndsWith (span (S.taken out.old) (S.taken out.new)) (span (S.faults out.old) (S.faults out.new)) result (Undone NoMemoryFault)) }
 {
     match outcome {
-        Outcome::InputFault => tell(out, 3, fault_input()),
-        Outcome::DiskFault => tell(out, 5, fault_disk()),
+        Outcome::Undone(CommandFault::InputFault) => tell(out, 3, fault_input()),
+        Outcome::Undone(CommandFault::DiskFault) => tell(out, 5, fault_disk()),
+        Outcome::Undone(CommandFault::NoMemory) => tell(out, 6, no_memory()),
         Outcome::Made(thread) => tell_thread(out, thread),
-        Outcome::NoMemory => tell(out, 6, no_memory()),
-        Outcome::Shown(proof) => tell(out, 0, proof.as_slice()),
+        Outcome::Proof(proof) => tell(out, 0, proof.as_slice()),
         _ => match print(alloc, outcome) {
             Ok(text) => tell(out, status_of(outcome), text.as_slice()),
             Err(NoMemory) => tell(out, 6, no_memory()),
@@ -147,21 +143,21 @@ pub fn run<D: Disk, I: Inputs, S: Sink>(
         result.status (Leaves D.view disk result.disk (I.told inputs.old) (map string_bytes words.now)) }
 
     // An accepted proof's claim holds, or a collision is at hand.
-    ensures accepted { result.status ≡ 0 → AskForVerdict (map string_bytes words.now)
+    ensures accepted { result.status ≡ 0 → AreOf IsVerify (map string_bytes words.now)
         → IsAcceptedRun (I.told inputs.old) (map string_bytes words.now) (S.taken out.old) (S.taken out.new) }
     ensures statuses { IsStatus result.status }
 
     // The disk: whatever the status, a crash at any moment leaves the history or the longer one; nothing is written where nothing was
-    // made and no disk failed, nor by a proof; a command that was answered makes the disk stable; one without a directory hands it
-    // back as it is.
+    // made and no disk failed, nor by a command that only reads; a proof that was made and what was refused leave a stable disk; a
+    // command without a directory hands it back as it is.
     ensures crash { (command : Command) → command_of (map string_bytes words.now) ≡ Some command
         → IsCrashSafe D.view disk result.disk (I.told inputs.old) command }
-    ensures unwritten { (AskForDisk (map string_bytes words.now) × IsIdle result.status) ⊎ AskForProof (map string_bytes words.now)
+    ensures unwritten { (AreOf UsesDisk (map string_bytes words.now) × IsIdle result.status) ⊎ AreOf OnlyReads (map string_bytes words.now)
         → IsLeft D.view disk result.disk }
-    ensures settled { (AskForProof (map string_bytes words.now) × (result.status ≡ 0))
-        ⊎ ((AskForStep (map string_bytes words.now) ⊎ AskForProof (map string_bytes words.now)) × (result.status ≡ 7))
+    ensures settled { (AreOf OnlyReads (map string_bytes words.now) × (result.status ≡ 0))
+        ⊎ ((AreOf IsAppend (map string_bytes words.now) ⊎ AreOf OnlyReads (map string_bytes words.now)) × (result.status ≡ 7))
         → Settles D.view disk result.disk }
-    ensures untouched { (AskForDisk (map string_bytes words.now) → ⊥) → result.disk ≡ disk }
+    ensures untouched { (AreOf UsesDisk (map string_bytes words.now) → ⊥) → result.disk ≡ disk }
 {
     run_to_the_end(alloc, words, disk, inputs, out)
 }

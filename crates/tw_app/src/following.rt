@@ -9,13 +9,13 @@ ghost use Rattle.tw_app.specs.Commands.{UsesDisk, files_of};
 ghost use Rattle.tw_app.specs.Running.{ComesTo, HasOutcome, Leaves, LeavesTo};
 ghost use Rattle.tw_diskcmd.specs.Disks.{Touched, touched};
 
-use crate::outcome::{Outcome, judged, made, proved, shown};
+use crate::outcome::{Outcome, judged, made, proved};
 use std::alloc::Global;
 use tw_disk::Disk;
 use tw_diskcmd::{append, make, prove};
 use tw_filecmd::{show, verify_file, verify_one};
 use tw_outside::Inputs;
-use tw_text::{Command, WordFault, read_words};
+use tw_text::{Command, CommandFault, WordFault, read_words};
 
 /// What a run came to on a disk, and that disk.
 #[derive(Drop)]
@@ -43,7 +43,7 @@ pub(crate) fn follow_words<D: Disk, I: Inputs>(
             disk,
         },
         Err(WordFault::NoMemory) => Followed {
-            outcome: Outcome::NoMemory,
+            outcome: Outcome::Undone(CommandFault::NoMemory),
             disk,
         },
     }
@@ -101,7 +101,7 @@ fn follow_files<I: Inputs>(alloc: Global, command: &Command, inputs: &mut I) -> 
             history,
             step,
             index,
-        } => shown(show(alloc, inputs, history.as_str(), *step, *index)),
+        } => proved(show(alloc, inputs, history.as_str(), *step, *index)),
         Command::VerifyFile { proof, anchors } => judged(verify_file(
             alloc,
             inputs,

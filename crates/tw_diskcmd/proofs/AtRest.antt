@@ -13,8 +13,8 @@ use Rattle.tw_pages.specs.Slots.{IsOpen, IsTaken}
 use Rattle.tw_service.specs.declared.service.Service.{Service}
 use Rattle.tw_service.specs.Serves.{HasSameDisk, disk_of}
 use Rattle.tw_service.specs.Stands.{StandsFor, StandsForOneOf, no_history}
-use Rattle.tw_diskcmd.specs.declared.fault.DiskCommandFault.{DiskCommandFault}
-use Rattle.tw_diskcmd.specs.declared.fault.DiskCommandFault.TheVariants.{Refused, Unserved, Unreadable, InputFault, DiskFault, NoMemory}
+use Rattle.tw_text.specs.declared.fault.CommandFault.{CommandFault}
+use Rattle.tw_text.specs.declared.fault.CommandFault.TheVariants.{DiskFault}
 use Rattle.tw_diskcmd.specs.Disks.{IsLeft, IsOf, IsOldOrBegun, Keeps, LeavesOldOrOneOf, MayBegin, ReadsAs, ReadsAsOneOf, Rests, Stands}
 use Rattle.tw_diskcmd.specs.WorkSteps.{LeavesStep}
 
@@ -156,7 +156,7 @@ module _ {D : Type 0} (view : D → DiskView) where
       (λ image. ⊎_elim (λ was. inl (stands.each image was)) (λ one. one)) left
 
   -- a run before it that left nothing new
-  pub leaves_from : (old mid new : D) (next : History) (h : History) (came : Result Thread DiskCommandFault) → LeavesOnly (view old) (view mid) (view old).may_leave
+  pub leaves_from : (old mid new : D) (next : History) (h : History) (came : Result Thread CommandFault) → LeavesOnly (view old) (view mid) (view old).may_leave
       → LeavesStep view mid new h next came → LeavesStep view old new h next came
   leaves_from old mid new next h came run = by came
     where
@@ -166,7 +166,7 @@ module _ {D : Type 0} (view : D → DiskView) where
           (leaves_weaker (view mid) (view new) (OldOrOneOf mid next h) (OldOrOneOf old next h)
           (λ image. ⊎_elim (λ was. inl (run.now image was)) (λ one. inr one)) left)
 
-      by : (came : Result Thread DiskCommandFault) → LeavesStep view mid new h next came → LeavesStep view old new h next came
+      by : (came : Result Thread CommandFault) → LeavesStep view mid new h next came → LeavesStep view old new h next came
       by (Ok thread) left = (left.0, joined left.1)
       by (Err DiskFault) left = (joined left.0, left.1)
       by _ left = left

@@ -25,7 +25,7 @@ use Rattle.tw_service.specs.Limits.{event_refusal, is_in_order, or_else, order_r
 use Rattle.tw_service.specs.Machine.{Answers, IsStepOf, Reply}
 use Rattle.tw_service.specs.Machine.Call.{ProveEvent}
 use Rattle.tw_service.specs.Machine.Reply.{OfProof, Refused}
-use Rattle.tw_diskcmd.specs.declared.fault.DiskCommandFault.{DiskCommandFault}
+use Rattle.tw_text.specs.declared.fault.CommandFault.{CommandFault}
 use Rattle.tw_diskcmd.specs.Disks.{OpensAsService, OpensAsServiceWith, ReadsAs, touched}
 use Rattle.tw_diskcmd.specs.Proving.{MeetsBadPage, ProveComes, Proves, ProvesUnder, top_of}
 use Rattle.tw_diskcmd.specs.Faults.{fault_of_service}
@@ -185,14 +185,14 @@ module _ (found : Option Image) (before after : ℕ) (step index at : ℕ) (aske
             accepted = accepted h (serves h reads);
           }
 
-  pub proof_refused : (r : Refusal) (came : DiskCommandFault) → came ≡ fault_of_service r → Table (order_refusal is_broken head.step step top) (Err r)
+  pub proof_refused : (r : Refusal) (came : CommandFault) → came ≡ fault_of_service r → Table (order_refusal is_broken head.step step top) (Err r)
       → (is_broken ≡ false → (h : History) → OldServes h → Answers sha256 h (ProveEvent step at top) (λ b. OfProof b) (Err r) NewServes)
       → (refusal r ≡ Err service.DiskFault → Rose before after) → (IsBadPage r → (h : History) → OldServes h → ⊥)
       → OfBadPage r (λ page. (pages : Image) → told ≡ Some pages → LacksProof sha256 pages head step at top page)
       → OfNoEvent r (λ count. (pages : Image) → told ≡ Some pages → FindsCount sha256 pages head step at top count)
       → ProveComes (touched found before after) step index asked (Err came)
   proof_refused r came is table_then machine fault bad met counts =
-      subst (λ (f : DiskCommandFault). ProveComes (touched found before after) step index asked (Err f)) (sym is) (by r table_then machine fault bad met counts)
+      subst (λ (f : CommandFault). ProveComes (touched found before after) step index asked (Err f)) (sym is) (by r table_then machine fault bad met counts)
     where
       only : OpensAsService found name head
       only = only_opens found name head (λ pages. told ≡ Some pages) opens

@@ -19,8 +19,8 @@ use Rattle.tw_service.specs.Stands.{IsNotOpenedFor, OpensWith}
 use Rattle.tw_service.proofs.Exclusions.{links_or_bad, one_bad_link}
 use Rattle.tw_service.proofs.FindingLaws.{count_or_bad, event_or_bad, event_or_count, one_bad, one_count}
 use Rattle.tw_service.proofs.Standing.{one_service, opens_never_refused}
-use Rattle.tw_diskcmd.specs.declared.fault.DiskCommandFault.{DiskCommandFault}
-use Rattle.tw_diskcmd.specs.declared.fault.DiskCommandFault.TheVariants.{Refused, Unserved, DiskFault, NoMemory}
+use Rattle.tw_text.specs.declared.fault.CommandFault.{CommandFault}
+use Rattle.tw_text.specs.declared.fault.CommandFault.TheVariants.{Refused, Unserved, DiskFault, NoMemory}
 use Rattle.tw_text.specs.declared.refusal.Refusal.{Refusal}
 use Rattle.tw_text.specs.declared.refusal.Refusal.TheVariants.{NoStep, NoEvent, Full, TooMany, TooLong}
 use Rattle.tw_text.specs.declared.refusal.StoreCause.{StoreCause}
@@ -183,13 +183,13 @@ module _ (image : Image) where
         let same = both (adds one a) (adds other b) in
         (a.from ∙ same.names ∙ sym b.from, a.next ∙ ap (λ (h : Head). h.step + 1) same.heads ∙ sym b.next)
 
-    abbrev Comes : Result Thread DiskCommandFault → Type 0
+    abbrev Comes : Result Thread CommandFault → Type 0
     Comes outcome = StepComes (touched (Some image) before after) events outcome
 
-    pub agree_step : (one other : Result Thread DiskCommandFault) → TellsContent one → TellsContent other → Comes one → Comes other → Agrees HasSameService one other
+    pub agree_step : (one other : Result Thread CommandFault) → TellsContent one → TellsContent other → Comes one → Comes other → Agrees HasSameService one other
     agree_step (Ok s) other tells tells' a b = by other tells' b
       where
-        by : (other : Result Thread DiskCommandFault) → TellsContent other → Comes other → Agrees HasSameService (Ok s) other
+        by : (other : Result Thread CommandFault) → TellsContent other → Comes other → Agrees HasSameService (Ok s) other
         by (Ok t) tells' b = made_once s t a b
         by (Err (Refused r)) tells' b = refused_after_adds r (adds s a) b
         by (Err (Unserved cause)) tells' b = bad_after_adds (adds s a) cause b
@@ -198,7 +198,7 @@ module _ (image : Image) where
         by _ tells' b = absurd b
     agree_step (Err (Refused r)) other tells tells' a b = by other tells' b
       where
-        by : (other : Result Thread DiskCommandFault) → TellsContent other → Comes other → Agrees HasSameService (Err (Refused r)) other
+        by : (other : Result Thread CommandFault) → TellsContent other → Comes other → Agrees HasSameService (Err (Refused r)) other
         by (Ok t) tells' b = refused_after_adds r (adds t b) a
         by (Err (Refused q)) tells' b = one_refusal r q a b
         by (Err (Unserved cause)) tells' b = refused_or_unserved r cause a b
@@ -207,7 +207,7 @@ module _ (image : Image) where
         by _ tells' b = absurd b
     agree_step (Err (Unserved cause)) other tells tells' a b = by other tells' b
       where
-        by : (other : Result Thread DiskCommandFault) → TellsContent other → Comes other → Agrees HasSameService (Err (Unserved cause)) other
+        by : (other : Result Thread CommandFault) → TellsContent other → Comes other → Agrees HasSameService (Err (Unserved cause)) other
         by (Ok t) tells' b = bad_after_adds (adds t b) cause a
         by (Err (Refused q)) tells' b = refused_or_unserved q cause b a
         by (Err (Unserved why)) tells' b = one_cause (MeetsBadLink events) one_link cause why a b
@@ -301,13 +301,13 @@ module _ (image : Image) where
     abbrev AnyTwo : List ℕ → List ℕ → Type 0
     AnyTwo one other = Unit {0}
 
-    abbrev ComesProof : Result (List ℕ) DiskCommandFault → Type 0
+    abbrev ComesProof : Result (List ℕ) CommandFault → Type 0
     ComesProof outcome = ProveComes (touched (Some image) before after) step index top outcome
 
-    pub agree_proof : (one other : Result (List ℕ) DiskCommandFault) → TellsContent one → TellsContent other → ComesProof one → ComesProof other → Agrees AnyTwo one other
+    pub agree_proof : (one other : Result (List ℕ) CommandFault) → TellsContent one → TellsContent other → ComesProof one → ComesProof other → Agrees AnyTwo one other
     agree_proof (Ok s) other tells tells' a b = by other tells' b
       where
-        by : (other : Result (List ℕ) DiskCommandFault) → TellsContent other → ComesProof other → Agrees AnyTwo (Ok s) other
+        by : (other : Result (List ℕ) CommandFault) → TellsContent other → ComesProof other → Agrees AnyTwo (Ok s) other
         by (Ok t) tells' b = tt
         by (Err (Refused r)) tells' b = proved_or_refused r (proves s a) b
         by (Err (Unserved cause)) tells' b = proved_or_unserved cause (proves s a) b
@@ -316,7 +316,7 @@ module _ (image : Image) where
         by _ tells' b = absurd b
     agree_proof (Err (Refused r)) other tells tells' a b = by other tells' b
       where
-        by : (other : Result (List ℕ) DiskCommandFault) → TellsContent other → ComesProof other → Agrees AnyTwo (Err (Refused r)) other
+        by : (other : Result (List ℕ) CommandFault) → TellsContent other → ComesProof other → Agrees AnyTwo (Err (Refused r)) other
         by (Ok t) tells' b = proved_or_refused r (proves t b) a
         by (Err (Refused q)) tells' b = refused_once_of r q a b
         by (Err (Unserved cause)) tells' b = refused_or_not r cause a b
@@ -325,7 +325,7 @@ module _ (image : Image) where
         by _ tells' b = absurd b
     agree_proof (Err (Unserved cause)) other tells tells' a b = by other tells' b
       where
-        by : (other : Result (List ℕ) DiskCommandFault) → TellsContent other → ComesProof other → Agrees AnyTwo (Err (Unserved cause)) other
+        by : (other : Result (List ℕ) CommandFault) → TellsContent other → ComesProof other → Agrees AnyTwo (Err (Unserved cause)) other
         by (Ok t) tells' b = proved_or_unserved cause (proves t b) a
         by (Err (Refused q)) tells' b = refused_or_not q cause b a
         by (Err (Unserved why)) tells' b = one_cause (MeetsBadPage step index top) one_page cause why a b

@@ -16,7 +16,7 @@ use Rattle.tw_service.specs.Limits.{append_refusal, first_long, bytes_of, length
 use Rattle.tw_service.specs.Machine.{Answers, IsStepOf, last_thread}
 use Rattle.tw_service.specs.Machine.Call.{Append}
 use Rattle.tw_service.specs.Machine.Reply.{OfThread, Refused}
-use Rattle.tw_diskcmd.specs.declared.fault.DiskCommandFault.{DiskCommandFault}
+use Rattle.tw_text.specs.declared.fault.CommandFault.{CommandFault}
 use Rattle.tw_diskcmd.specs.Appending.{AddsStep, MeetsBadLink, StepComes}
 use Rattle.tw_diskcmd.proofs.Openings.{only_opens, opens_with}
 use Rattle.tw_diskcmd.specs.Disks.{IsLeft, LeavesOldOrOneOf, OpensAsService, OpensAsServiceWith, ReadsAs, ReadsAsOneOf, Rests, touched}
@@ -123,12 +123,12 @@ module _ (found : Option Image) (before after : ℕ) (events : List (List ℕ)) 
     machine = λ h reads. let step = machine whole h (serves h reads) in to_longer h step.0 events thread step.1;
   }
 
-  pub step_refused : (r : Refusal) (came : DiskCommandFault) → came ≡ fault_of_service r → Table (append_refusal is_broken head.step events) (Err r)
+  pub step_refused : (r : Refusal) (came : CommandFault) → came ≡ fault_of_service r → Table (append_refusal is_broken head.step events) (Err r)
       → (is_broken ≡ false → (h : History) → OldServes h → Answers sha256 h (Append events) (λ t. OfThread t) (Err r) NewServes)
       → (refusal r ≡ Err service.DiskFault → Rose before after) → (IsBadPage r → (h : History) → OldServes h → ⊥)
       → OfBadPage r (λ page. (pages : Image) → told ≡ Some pages → LacksLinks pages head page)
       → StepComes (touched found before after) events (Err came)
-  step_refused r came is table_then machine fault bad met = subst (λ (f : DiskCommandFault). StepComes (touched found before after) events (Err f)) (sym is) (by r table_then machine fault bad met)
+  step_refused r came is table_then machine fault bad met = subst (λ (f : CommandFault). StepComes (touched found before after) events (Err f)) (sym is) (by r table_then machine fault bad met)
     where
       only : OpensAsService found name head
       only = only_opens found name head (λ pages. told ≡ Some pages) opens
@@ -170,9 +170,9 @@ module _ {D : Type 0} (view : D → DiskView)
   abbrev Kept : Type 0
   Kept = Rests view new h
 
-  pub step_leaves : (r : Refusal) (came : DiskCommandFault) → came ≡ fault_of_service r → LeavesOldOrOneOf view old new h next × ReadsAsOneOf view new h next
+  pub step_leaves : (r : Refusal) (came : CommandFault) → came ≡ fault_of_service r → LeavesOldOrOneOf view old new h next × ReadsAsOneOf view new h next
       → (r ≡ service.DiskFault) ⊎ Kept → LeavesStep view old new h next (Err came)
-  step_leaves r came is any kept = subst (λ (f : DiskCommandFault). LeavesStep view old new h next (Err f)) (sym is) (by r kept)
+  step_leaves r came is any kept = subst (λ (f : CommandFault). LeavesStep view old new h next (Err f)) (sym is) (by r kept)
     where
       here : (r : Refusal) → (r ≡ service.DiskFault → ⊥) → (r ≡ service.DiskFault) ⊎ Kept → Kept
       here r other (inl same) = absurd (other same)
@@ -191,7 +191,7 @@ module _ {D : Type 0} (view : D → DiskView)
 
 module _ {D : Type 0} (view : D → DiskView) (old new : D) where
   -- what it wrote: nothing, but where there was a disk fault
-  pub step_unwritten : (r : Refusal) (came : DiskCommandFault) → came ≡ fault_of_service r
+  pub step_unwritten : (r : Refusal) (came : CommandFault) → came ≡ fault_of_service r
       → (r ≡ service.DiskFault) ⊎ IsLeft view old new → WritesNothing (Err came) → IsLeft view old new
   step_unwritten r came is (inr left) nothing = left
-  step_unwritten r came is (inl fault) nothing = absurd (subst (λ (f : DiskCommandFault). WritesNothing (Err f)) (is ∙ ap fault_of_service fault) nothing)
+  step_unwritten r came is (inl fault) nothing = absurd (subst (λ (f : CommandFault). WritesNothing (Err f)) (is ∙ ap fault_of_service fault) nothing)

@@ -23,8 +23,8 @@ use Rattle.tw_text.specs.declared.refusal.BadInput.TheVariants.{BadByte}
 use Rattle.tw_text.specs.declared.refusal.Refusal.{Refusal}
 use Rattle.tw_text.specs.declared.refusal.Refusal.TheVariants.{Full, TooMany, TooLong}
 use Rattle.tw_diskcmd.specs.declared.limits.TheConstants.{EVENTS_LIMIT}
-use Rattle.tw_diskcmd.specs.declared.fault.DiskCommandFault.{DiskCommandFault}
-use Rattle.tw_diskcmd.specs.declared.fault.DiskCommandFault.TheVariants as fault
+use Rattle.tw_text.specs.declared.fault.CommandFault.{CommandFault}
+use Rattle.tw_text.specs.declared.fault.CommandFault.TheVariants as fault
 use Rattle.tw_diskcmd.specs.Disks.{Adds, IsLeft, IsOf, IsUnserved, KeepsOrAdds, LeavesOldOrOneOf, OpensAsService, OpensAsServiceWith, ReadsAs, ReadsAsOneOf, Settles, Stands, Touched}
 
 -- the file is there; where the inputs tell its bytes, they are the events file of these events
@@ -79,7 +79,7 @@ RefusesAs found events (TooLong bytes) = RefusesEvents found events (service.Too
 RefusesAs found events _ = ⊥
 
 -- what the adding of these events comes to on the disk; want of memory is free
-abbrev pub StepComes : Touched → (events : List (List ℕ)) → Result Thread DiskCommandFault → Type 0
+abbrev pub StepComes : Touched → (events : List (List ℕ)) → Result Thread CommandFault → Type 0
 StepComes t events (Ok thread) = AddsStep t.found events thread
 StepComes t events (Err (fault.Refused refusal)) = RefusesAs t.found events refusal
 StepComes t events (Err (fault.Unserved cause)) = IsUnserved (MeetsBadLink events) t.found cause
@@ -88,7 +88,7 @@ StepComes t events (Err fault.NoMemory) = Unit {0}
 StepComes t events _ = ⊥
 
 -- what the command comes to: the file isn't what it reads, or the inputs failed; else what the adding of its events comes to
-abbrev pub AppendComes : Asked → Touched → (file : List ℕ) → Result Thread DiskCommandFault → Type 0
+abbrev pub AppendComes : Asked → Touched → (file : List ℕ) → Result Thread CommandFault → Type 0
 AppendComes a t file (Err (fault.Unreadable (BadByte named place))) =
     (named ≡ file) × IsThere a.told file × ((bytes : List ℕ) → Tells a.told file bytes → IsBadEventsByte bytes place)
 AppendComes a t file (Err fault.InputFault) = Rose a.before a.after
@@ -98,7 +98,7 @@ AppendComes a t file result = OfEvents a.told file (λ events. StepComes t event
 module _ {D : Type 0} (view : D → DiskView) (old new : D) where
   -- the step is added, or a disk fault came and it may be; where it was refused, nothing was written and the disk became stable; where
   -- the file wasn't read or is none, no device call was made; at every other result nothing was written
-  abbrev pub AppendLeaves : (told : Option Files) (file : List ℕ) → Result Thread DiskCommandFault → Type 0
+  abbrev pub AppendLeaves : (told : Option Files) (file : List ℕ) → Result Thread CommandFault → Type 0
   AppendLeaves told file (Ok thread) = OfEvents told file (λ events. AddsStep (view old).content events thread × Adds view (Append events) old new)
   AppendLeaves told file (Err fault.DiskFault) = OfEvents told file (λ events. KeepsOrAdds view (Append events) old new)
   AppendLeaves told file (Err (fault.Refused refusal)) = IsLeft view old new × Settles view old new

@@ -1,22 +1,15 @@
--- How the faults of inputs and stores and the refusals of services are told.
-use Rattle.std.specs.Prelude.{◌≡◌, ◌⊎◌}
-use Rattle.tw_outside.specs.declared.reading.InputFault.{InputFault as ReadingFault}
-use Rattle.tw_outside.specs.declared.reading.InputFault.TheVariants as reading
+-- How the faults of stores and the refusals of services are told.
 use Rattle.tw_pages.specs.declared.open.StoreFault.{StoreFault}
 use Rattle.tw_pages.specs.declared.open.StoreFault.TheVariants as store
 use Rattle.tw_service.specs.declared.refusal.Refusal.{Refusal}
 use Rattle.tw_service.specs.declared.refusal.Refusal.TheVariants as service
 use Rattle.tw_text.specs.declared.refusal.Refusal.TheVariants.{NoStep, NoEvent, Taken, Full, TooMany, TooLong}
 use Rattle.tw_text.specs.declared.refusal.StoreCause.TheVariants.{Blank, NotAStore, BadPage}
-use Rattle.tw_diskcmd.specs.declared.fault.DiskCommandFault.{DiskCommandFault}
-use Rattle.tw_diskcmd.specs.declared.fault.DiskCommandFault.TheVariants.{Refused, Unserved, InputFault, DiskFault, NoMemory}
-
-abbrev pub fault_of_input : ReadingFault → DiskCommandFault
-fault_of_input reading.Failed = InputFault
-fault_of_input reading.NoMemory = NoMemory
+use Rattle.tw_text.specs.declared.fault.CommandFault.{CommandFault}
+use Rattle.tw_text.specs.declared.fault.CommandFault.TheVariants.{Refused, Unserved, DiskFault, NoMemory}
 
 -- what a store that isn't made or opened comes to
-abbrev pub fault_of_store : StoreFault → DiskCommandFault
+abbrev pub fault_of_store : StoreFault → CommandFault
 fault_of_store store.Taken = Refused Taken
 fault_of_store store.Blank = Unserved Blank
 fault_of_store (store.NotAStore slot) = Unserved (NotAStore slot)
@@ -24,7 +17,7 @@ fault_of_store store.DiskFault = DiskFault
 fault_of_store store.NoMemory = NoMemory
 
 -- what a service's refusal comes to; the value is given up after each call, so that it has to be opened anew never comes
-abbrev pub fault_of_service : Refusal → DiskCommandFault
+abbrev pub fault_of_service : Refusal → CommandFault
 fault_of_service (service.NoStep last) = Refused (NoStep last)
 fault_of_service (service.NoEvent count) = Refused (NoEvent count)
 fault_of_service (service.TooMany count) = Refused (TooMany count)
@@ -34,7 +27,3 @@ fault_of_service (service.BadPage page) = Unserved (BadPage page)
 fault_of_service service.DiskFault = DiskFault
 fault_of_service service.Reopen = DiskFault
 fault_of_service service.NoMemory = NoMemory
-
--- the wanted fault, or there was no memory for it
-abbrev pub IsWhereMemory : (wanted : DiskCommandFault) → DiskCommandFault → Type 0
-IsWhereMemory wanted fault = (fault ≡ wanted) ⊎ (fault ≡ NoMemory)

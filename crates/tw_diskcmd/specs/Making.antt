@@ -9,8 +9,8 @@ use Rattle.tw_pages.specs.Slots.{IsTaken}
 use Rattle.tw_service.specs.Machine.{last_thread}
 use Rattle.tw_service.specs.Stands.{no_history}
 use Rattle.tw_text.specs.declared.refusal.Refusal.TheVariants.{Taken}
-use Rattle.tw_diskcmd.specs.declared.fault.DiskCommandFault.{DiskCommandFault}
-use Rattle.tw_diskcmd.specs.declared.fault.DiskCommandFault.TheVariants.{Refused, DiskFault, NoMemory}
+use Rattle.tw_text.specs.declared.fault.CommandFault.{CommandFault}
+use Rattle.tw_text.specs.declared.fault.CommandFault.TheVariants.{Refused, DiskFault, NoMemory}
 use Rattle.tw_diskcmd.specs.Disks.{Begins, IsLeft, Keeps, MayBegin, SparesStore, Touched}
 
 -- there was no store, where the disk tells what it reads as, and the thread is that of the history of this name without a step
@@ -23,7 +23,7 @@ abbrev pub HasStore : (found : Option Image) → Type 0
 HasStore found = (image : Image) → found ≡ Some image → IsTaken image
 
 -- what it comes to; want of memory is free
-abbrev pub InitComes : Touched → (name : List ℕ) → Result Thread DiskCommandFault → Type 0
+abbrev pub InitComes : Touched → (name : List ℕ) → Result Thread CommandFault → Type 0
 InitComes t name (Ok thread) = MakesService t.found name thread
 InitComes t name (Err (Refused Taken)) = HasStore t.found
 InitComes t name (Err DiskFault) = Rose t.before t.after
@@ -37,7 +37,7 @@ module _ {D : Type 0} (view : D → DiskView) (old new : D) where
   InitSafe name = MayBegin view name old new × Keeps view old new × SparesStore view old new
 
   -- a service is made, or a disk fault came and it may be; else the disk is left as it was
-  abbrev pub InitLeaves : (name : List ℕ) → Result Thread DiskCommandFault → Type 0
+  abbrev pub InitLeaves : (name : List ℕ) → Result Thread CommandFault → Type 0
   InitLeaves name (Ok thread) = Begins view name old new × InitSafe name
   InitLeaves name (Err DiskFault) = InitSafe name
   InitLeaves name _ = IsLeft view old new

@@ -20,8 +20,8 @@ use Rattle.tw_service.specs.Machine.Call.{ProveEvent}
 use Rattle.tw_service.specs.Machine.Reply.{OfProof, Refused}
 use Rattle.tw_text.specs.declared.refusal.Refusal.{Refusal}
 use Rattle.tw_text.specs.declared.refusal.Refusal.TheVariants.{NoStep, NoEvent}
-use Rattle.tw_diskcmd.specs.declared.fault.DiskCommandFault.{DiskCommandFault}
-use Rattle.tw_diskcmd.specs.declared.fault.DiskCommandFault.TheVariants as fault
+use Rattle.tw_text.specs.declared.fault.CommandFault.{CommandFault}
+use Rattle.tw_text.specs.declared.fault.CommandFault.TheVariants as fault
 use Rattle.tw_diskcmd.specs.Disks.{IsLeft, IsUnserved, OpensAsService, OpensAsServiceWith, ReadsAs, Settles, Touched}
 
 -- the top that the words give, or the last step where they give none
@@ -77,7 +77,7 @@ MeetsBadPage step index top pages head page =
     (order_refusal false head.step step (top_of top head.step) ≡ None) × LacksProof sha256 pages head step index (top_of top head.step) page
 
 -- what it comes to; want of memory is free
-abbrev pub ProveComes : Touched → (step index : ℕ) (top : Option ℕ) → Result (List ℕ) DiskCommandFault → Type 0
+abbrev pub ProveComes : Touched → (step index : ℕ) (top : Option ℕ) → Result (List ℕ) CommandFault → Type 0
 ProveComes t step index top (Ok proof) = Proves t.found step index top proof
 ProveComes t step index top (Err (fault.Refused refusal)) = RefusesProof t.found step index top refusal
 ProveComes t step index top (Err (fault.Unserved cause)) = IsUnserved (MeetsBadPage step index top) t.found cause
@@ -87,7 +87,7 @@ ProveComes t step index top _ = ⊥
 
 module _ {D : Type 0} (view : D → DiskView) (old new : D) where
   -- a proof writes nothing, and where it was made or refused, the disk became stable
-  abbrev pub ProveLeaves : Result (List ℕ) DiskCommandFault → Type 0
+  abbrev pub ProveLeaves : Result (List ℕ) CommandFault → Type 0
   ProveLeaves (Ok proof) = IsLeft view old new × Settles view old new
   ProveLeaves (Err (fault.Refused refusal)) = IsLeft view old new × Settles view old new
   ProveLeaves _ = IsLeft view old new

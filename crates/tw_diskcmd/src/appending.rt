@@ -10,8 +10,7 @@ ghost use Rattle.tw_diskcmd.specs.Appending.{AppendComes, AppendLeaves, AreEvent
 ghost use Rattle.tw_diskcmd.specs.Disks.{IsLeft, OpensAsServiceWith, ReadsAs, touched};
 ghost use Rattle.tw_diskcmd.specs.WorkSteps.{ComesOfFile, LeavesStep, WritesNothing};
 
-use crate::bad_file::refuse_byte;
-use crate::fault::DiskCommandFault;
+use crate::faults::{fault_of_service, fault_of_store, refuse_byte};
 use crate::limits::{EVENTS_LIMIT, EVENTS_READ};
 use crate::worked::Worked;
 use std::alloc::Global;
@@ -20,6 +19,7 @@ use tw_disk::Disk;
 use tw_msg::read_events;
 use tw_outside::{Inputs, read_all};
 use tw_service::Service;
+use tw_text::CommandFault;
 
 /// Adds a step of the events of the named file to the service on the disk, and answers its thread.
 /// The file is read and judged before the disk is touched.
@@ -48,7 +48,7 @@ fn read_step<I: Inputs>(
     alloc: Global,
     inputs: &mut I,
     file: &str,
-) -> Result<EventList, DiskCommandFault>
+) -> Result<EventList, CommandFault>
     requires { I.may_ask inputs.old file.now }
     ensures read { IfOk result (AreEventsOf (I.told inputs.old) file.now) }
     ensures stopped { IfErr result (ComesOfFile (asked (I.told inputs.old) (I.faults inputs.old) (I.faults inputs.new)) file.now) }
@@ -60,7 +60,7 @@ fn read_step<I: Inputs>(
     match read_events(alloc, bytes.as_slice()) {
         Ok(events) => Ok(events),
         Err(ReadFault::Malformed { place }) => Err(refuse_byte(alloc, file, place)),
-        Err(ReadFault::NoMemory) => Err(DiskCommandFault::NoMemory),
+        Err(ReadFault::NoMemory) => Err(CommandFault::NoMemory),
     }
 }
 
@@ -74,7 +74,7 @@ fn append_events<D: Disk>(alloc: Global, disk: D, events: &EventList) -> Worked<
     match Service::<D, Sha>::open(alloc, disk) {
         Ok(service) => append_to(service, events),
         Err((disk, fault)) => Worked {
-            outcome: Err(DiskCommandFault::from(fault)),
+            outcome: Err(fault_of_store(fault)),
             disk,
         },
     }
@@ -97,7 +97,7 @@ fn append_to<D: Disk>(service: Service<D, Sha>, events: &EventList) -> Worked<D,
             disk: service.close(),
         },
         Err(refusal) => Worked {
-            outcome: Err(DiskCommandFault::from(refusal)),
+            outcome: Err(fault_of_service(refusal)),
             disk: service.close(),
         },
     }

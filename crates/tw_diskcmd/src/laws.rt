@@ -3,7 +3,7 @@
 ghost use Rattle.std.specs.Prelude.{ℕ, List, Option, Some, Result};
 ghost use Rattle.tw_base.specs.declared.thread.Thread.{Thread};
 ghost use Rattle.tw_disk.specs.Image.{Image};
-ghost use Rattle.tw_diskcmd.specs.declared.fault.DiskCommandFault.{DiskCommandFault};
+ghost use Rattle.tw_text.specs.declared.fault.CommandFault.{CommandFault};
 ghost use Rattle.tw_diskcmd.specs.Agreeing.{Agrees, HasSameService, TellsContent};
 ghost use Rattle.tw_diskcmd.specs.Appending.{StepComes};
 ghost use Rattle.tw_diskcmd.specs.Disks.{IsLeft, Keeps, touched};
@@ -15,9 +15,9 @@ use tw_disk::Disk;
 /// a step of one service and number, one refusal, or one reason why nothing is served. So is it with
 /// the proof of an event. A fault of the disk and want of memory are excepted.
 pub fn told_laws()
-    ensures adding { (image : Image) (events : List (List ℕ)) (before after : ℕ) (one other : Result Thread DiskCommandFault) → TellsContent one → TellsContent other →
+    ensures adding { (image : Image) (events : List (List ℕ)) (before after : ℕ) (one other : Result Thread CommandFault) → TellsContent one → TellsContent other →
         StepComes (touched (Some image) before after) events one → StepComes (touched (Some image) before after) events other → Agrees HasSameService one other }
-    ensures proving { (image : Image) (step index : ℕ) (top : Option ℕ) (before after : ℕ) (one other : Result (List ℕ) DiskCommandFault) → TellsContent one → TellsContent other →
+    ensures proving { (image : Image) (step index : ℕ) (top : Option ℕ) (before after : ℕ) (one other : Result (List ℕ) CommandFault) → TellsContent one → TellsContent other →
         ProveComes (touched (Some image) before after) step index top one → ProveComes (touched (Some image) before after) step index top other → Agrees (λ _ _. Unit {0}) one other }
 {}
 

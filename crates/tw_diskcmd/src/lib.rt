@@ -2,8 +2,7 @@
 #![tactic(auto)]
 
 mod appending;
-mod bad_file;
-mod fault;
+mod faults;
 mod laws;
 mod limits;
 mod making;
@@ -11,7 +10,6 @@ mod proving;
 mod worked;
 
 pub use appending::append;
-pub use fault::DiskCommandFault;
 pub use laws::{idle_laws, told_laws};
 pub use making::make;
 pub use proving::prove;

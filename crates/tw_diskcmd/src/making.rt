@@ -7,7 +7,7 @@ ghost use Rattle.tw_service.specs.Stands.{no_history};
 ghost use Rattle.tw_diskcmd.specs.Disks.{touched};
 ghost use Rattle.tw_diskcmd.specs.Making.{InitComes, InitLeaves};
 
-use crate::fault::DiskCommandFault;
+use crate::faults::fault_of_store;
 use crate::worked::Worked;
 use std::alloc::Global;
 use tw_base::{Name, Sha, Thread, genesis};
@@ -25,7 +25,7 @@ pub fn make<D: Disk>(alloc: Global, disk: D, name: Name) -> Worked<D, Thread>
             disk: service.close(),
         },
         Err((disk, fault)) => Worked {
-            outcome: Err(DiskCommandFault::from(fault)),
+            outcome: Err(fault_of_store(fault)),
             disk,
         },
     }

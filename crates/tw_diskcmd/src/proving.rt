@@ -8,7 +8,7 @@ ghost use Rattle.tw_service.specs.Serves.{Serves, disk_of, has_failed, head_of, 
 ghost use Rattle.tw_diskcmd.specs.Disks.{IsLeft, OpensAsServiceWith, ReadsAs, Rests, touched};
 ghost use Rattle.tw_diskcmd.specs.Proving.{ProveComes, ProveLeaves, top_of};
 
-use crate::fault::DiskCommandFault;
+use crate::faults::{fault_of_service, fault_of_store};
 use crate::worked::Worked;
 use std::alloc::Global;
 use tw_base::{Bytes, Sha};
@@ -30,7 +30,7 @@ pub fn prove<D: Disk>(
     match Service::<D, Sha>::open(alloc, disk) {
         Ok(service) => prove_by(service, step, index, top),
         Err((disk, fault)) => Worked {
-            outcome: Err(DiskCommandFault::from(fault)),
+            outcome: Err(fault_of_store(fault)),
             disk,
         },
     }
@@ -59,7 +59,7 @@ fn prove_by<D: Disk>(
             disk: service.close(),
         },
         Err(refusal) => Worked {
-            outcome: Err(DiskCommandFault::from(refusal)),
+            outcome: Err(fault_of_service(refusal)),
             disk: service.close(),
         },
     }

@@ -1,6 +1,6 @@
 -- From a history file that was read to what showing an event of it comes to.
 use Rattle.std.proofs.Common.{◌≡◌, ℕ, ◌<◌, ◌≤◌, List, length, take, min, refl, sym, subst, ap, ◌∙◌, arith, inl, inr}
-use Rattle.std.specs.Prelude.{Result, Ok, Err, IfOk, IsErrAnd}
+use Rattle.std.specs.Prelude.{Result, Ok, Err, IfOk}
 use Rattle.std.proofs.lemmas.Bool.{cases_lt}
 use Rattle.std.proofs.lemmas.List.{length-take, length-take-le, take_all}
 use Rattle.sha2.specs.Sha256.{sha256}
@@ -24,8 +24,9 @@ use Rattle.tw_history.specs.declared.fault.ShowFault.{ShowFault}
 use Rattle.tw_history.specs.declared.fault.ShowFault.TheVariants as show
 use Rattle.tw_text.specs.declared.refusal.Refusal.TheVariants.{NoStep, NoEvent}
 use Rattle.tw_outside.specs.Asked.{Asked}
-use Rattle.tw_filecmd.specs.declared.fault.FileCommandFault.{FileCommandFault}
-use Rattle.tw_filecmd.specs.Faults.{IsWhereMemory, fault_of_history, fault_of_show}
+use Rattle.tw_text.specs.declared.fault.CommandFault.{CommandFault}
+use Rattle.tw_text.specs.Faults.{IsWhereMemory}
+use Rattle.tw_filecmd.specs.Faults.{fault_of_history, fault_of_show}
 use Rattle.tw_filecmd.specs.Showing.{OfHistory, ProvesEvent, RefusesToShow, ShowComes}
 use Rattle.tw_filecmd.proofs.Judging.{where_memory}
 
@@ -73,17 +74,16 @@ module _ (a : Asked) (file all : List ℕ) (there : IsThere a.told file) (read :
   )
   of_fault step index NoMemory reads = tt
 
-  pub refuses_file : (step index : ℕ) (f : HistoryFault) (came : FileCommandFault) → ReadsHistory all (Err f)
+  pub refuses_file : (step index : ℕ) (f : HistoryFault) (came : CommandFault) → ReadsHistory all (Err f)
       → IsWhereMemory (fault_of_history file f) came → ShowComes a file step index (Err came)
   refuses_file step index f came reads is =
-      where_memory (λ (fault : FileCommandFault). ShowComes a file step index (Err fault)) (fault_of_history file f) came tt is (of_fault step index f reads)
+      where_memory (λ (fault : CommandFault). ShowComes a file step index (Err fault)) (fault_of_history file f) came tt is (of_fault step index f reads)
 
   -- what the history refuses, the command does
-  pub refuses_show : (step index : ℕ) (h : History) (f : ShowFault) (r : Result (List ℕ) FileCommandFault) → ReadsHistory all (Ok h) → RefusesEvent h step index f
-      → IsErrAnd r (λ e. e ≡ fault_of_show f) → ShowComes a file step index r
-  refuses_show step index h f (Ok proof) reads refuses is = absurd is
-  refuses_show step index h f (Err came) reads refuses is =
-      subst (λ (e : FileCommandFault). ShowComes a file step index (Err e)) (sym is) (by f refuses)
+  pub refuses_show : (step index : ℕ) (h : History) (f : ShowFault) (came : CommandFault) → ReadsHistory all (Ok h) → RefusesEvent h step index f
+      → came ≡ fault_of_show f → ShowComes a file step index (Err came)
+  refuses_show step index h f came reads refuses is =
+      subst (λ (e : CommandFault). ShowComes a file step index (Err e)) (sym is) (by f refuses)
     where
       by : (f : ShowFault) → RefusesEvent h step index f → ShowComes a file step index (Err (fault_of_show f))
       by (show.NoStep last) refuses = of_history (RefusesToShow step index (NoStep last)) h reads refuses

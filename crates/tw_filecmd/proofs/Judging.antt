@@ -10,9 +10,9 @@ use Rattle.tw_chain.specs.Binding.{BindsHistories}
 use Rattle.tw_chain.specs.Reasons.{IsVerdict}
 use Rattle.tw_outside.specs.Asked.{Asked}
 use Rattle.tw_text.specs.declared.refusal.BadInput.TheVariants.{BadLine}
-use Rattle.tw_filecmd.specs.declared.fault.FileCommandFault.{FileCommandFault}
-use Rattle.tw_filecmd.specs.declared.fault.FileCommandFault.TheVariants.{Unreadable, NoMemory}
-use Rattle.tw_filecmd.specs.Faults.{IsWhereMemory}
+use Rattle.tw_text.specs.declared.fault.CommandFault.{CommandFault}
+use Rattle.tw_text.specs.declared.fault.CommandFault.TheVariants.{Unreadable, NoMemory}
+use Rattle.tw_text.specs.Faults.{IsWhereMemory}
 use Rattle.tw_filecmd.specs.Verifying.{HasAnchors, IsJudged, VerifyFileComes}
 use Rattle.tw_filecmd.proofs.AnchorFronts.{file_limit, first_bad_of_front, good_is_whole}
 use Rattle.tw_chain.proofs.Fronts.{binds_of_front, verdict_of_front}
@@ -46,15 +46,15 @@ judges_file a proof file anchors verdict all all_lines lines_there lines_read ar
 )
 
 -- what holds of the wanted fault and of want of memory holds of the one that came
-pub where_memory : (P : FileCommandFault → Type 0) (wanted came : FileCommandFault) → P NoMemory → IsWhereMemory wanted came → P wanted → P came
+pub where_memory : (P : CommandFault → Type 0) (wanted came : CommandFault) → P NoMemory → IsWhereMemory wanted came → P wanted → P came
 where_memory P wanted came none (inl is) holds = subst P (sym is) holds
 where_memory P wanted came none (inr is) holds = subst P (sym is) none
 
-pub refuses_line : (a : Asked) (proof file : List ℕ) (number : ℕ) (all_lines : List ℕ) (came : FileCommandFault)
+pub refuses_line : (a : Asked) (proof file : List ℕ) (number : ℕ) (all_lines : List ℕ) (came : CommandFault)
     → IsThere a.told proof → IsThere a.told file → IsReadTo a.told file file_limit all_lines → IsFirstBadLine (lines all_lines) number
     → IsWhereMemory (Unreadable (BadLine file number)) came → VerifyFileComes a proof file (Err came)
 refuses_line a proof file number all_lines came proof_there there read bad is =
-    where_memory (λ (fault : FileCommandFault). VerifyFileComes a proof file (Err fault)) (Unreadable (BadLine file number)) came tt is (
+    where_memory (λ (fault : CommandFault). VerifyFileComes a proof file (Err fault)) (Unreadable (BadLine file number)) came tt is (
       refl,
       record {
         proof_there = proof_there;

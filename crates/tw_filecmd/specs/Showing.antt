@@ -20,8 +20,8 @@ use Rattle.tw_history.specs.declared.fault.ShowFault.TheVariants as fault
 use Rattle.tw_text.specs.declared.refusal.BadInput.TheVariants.{BadByte, Unsound}
 use Rattle.tw_text.specs.declared.refusal.Refusal.{Refusal}
 use Rattle.tw_text.specs.declared.refusal.Refusal.TheVariants.{NoStep, NoEvent}
-use Rattle.tw_filecmd.specs.declared.fault.FileCommandFault.{FileCommandFault}
-use Rattle.tw_filecmd.specs.declared.fault.FileCommandFault.TheVariants.{Refused, Unreadable, InputFault, NoMemory}
+use Rattle.tw_text.specs.declared.fault.CommandFault.{CommandFault}
+use Rattle.tw_text.specs.declared.fault.CommandFault.TheVariants.{Refused, Unreadable, InputFault, NoMemory}
 
 -- the bytes are a history file of this sound history
 pub record IsFileOf (bytes : List ℕ) (h : History) : Type 0 where
@@ -60,7 +60,7 @@ BreaksRule bytes step rule =
     (length bytes ≤ MOST_HISTORY_BYTES) × ((h : History) × Spells history_layout bytes h × IsFirstBroken h step rule)
 
 -- what it comes to; want of memory is free
-abbrev pub ShowComes : Asked → (file : List ℕ) → (step index : ℕ) → Result (List ℕ) FileCommandFault → Type 0
+abbrev pub ShowComes : Asked → (file : List ℕ) → (step index : ℕ) → Result (List ℕ) CommandFault → Type 0
 ShowComes a file step index (Ok proof) = OfHistory a.told file (ProvesEvent step index proof)
 ShowComes a file step index (Err (Refused refusal)) = OfHistory a.told file (RefusesToShow step index refusal)
 ShowComes a file step index (Err (Unreadable (BadByte named place))) =

@@ -10,8 +10,8 @@ use Rattle.tw_msg.specs.AnchorsFile.{AllGood, IsFirstBadLine, anchor, lines}
 use Rattle.tw_chain.specs.declared.verdict.Verdict.{Verdict}
 use Rattle.tw_chain.specs.Binding.{BindsHistories}
 use Rattle.tw_chain.specs.Reasons.{IsVerdict}
-use Rattle.tw_filecmd.specs.declared.fault.FileCommandFault.{FileCommandFault}
-use Rattle.tw_filecmd.specs.declared.fault.FileCommandFault.TheVariants.{Unreadable, InputFault, NoMemory}
+use Rattle.tw_text.specs.declared.fault.CommandFault.{CommandFault}
+use Rattle.tw_text.specs.declared.fault.CommandFault.TheVariants.{Unreadable, InputFault, NoMemory}
 
 -- the anchors file is there; where the inputs tell its bytes, each of its lines is good, and these are their anchors
 pub record HasAnchors (told : Option Files) (file : List ℕ) (anchors : List Thread) : Type 0 where
@@ -32,7 +32,7 @@ pub record HasBadLine (told : Option Files) (proof file : List ℕ) (number : �
   pub bad : (bytes : List ℕ) → Tells told file bytes → IsFirstBadLine (lines bytes) number
 
 -- what judging a proof under the anchors of a file comes to; want of memory is free
-abbrev pub VerifyFileComes : Asked → (proof file : List ℕ) → Result Verdict FileCommandFault → Type 0
+abbrev pub VerifyFileComes : Asked → (proof file : List ℕ) → Result Verdict CommandFault → Type 0
 VerifyFileComes a proof file (Ok verdict) = (anchors : List Thread) × HasAnchors a.told file anchors × IsJudged a.told proof anchors verdict
 VerifyFileComes a proof file (Err (Unreadable (BadLine named number))) = (named ≡ file) × HasBadLine a.told proof file number
 VerifyFileComes a proof file (Err InputFault) = Rose a.before a.after
@@ -40,7 +40,7 @@ VerifyFileComes a proof file (Err NoMemory) = Unit {0}
 VerifyFileComes a proof file _ = ⊥
 
 -- the same under one anchor
-abbrev pub VerifyOneComes : Asked → (proof : List ℕ) → (anchor : Thread) → Result Verdict FileCommandFault → Type 0
+abbrev pub VerifyOneComes : Asked → (proof : List ℕ) → (anchor : Thread) → Result Verdict CommandFault → Type 0
 VerifyOneComes a proof anchor (Ok verdict) = IsJudged a.told proof (anchor ∷ []) verdict
 VerifyOneComes a proof anchor (Err InputFault) = Rose a.before a.after
 VerifyOneComes a proof anchor (Err NoMemory) = Unit {0}

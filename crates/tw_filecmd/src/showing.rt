@@ -6,13 +6,13 @@ ghost use Rattle.tw_history.specs.Refusals.{RefusesEvent};
 ghost use Rattle.tw_outside.specs.Asked.{asked};
 ghost use Rattle.tw_filecmd.specs.Showing.{ProvesEvent, ShowComes};
 
-use crate::bad_file::refuse_history;
-use crate::fault::FileCommandFault;
+use crate::faults::{fault_of_show, refuse_history};
 use crate::limits::HISTORY_READ;
 use std::alloc::Global;
 use tw_base::{Bytes, Sha};
 use tw_history::{History, ShowFault, read_history, show_event};
 use tw_outside::{Inputs, read_all};
+use tw_text::CommandFault;
 
 /// Shows the event of this index in this step of the named history.
 pub fn show<I: Inputs>(
@@ -21,7 +21,7 @@ pub fn show<I: Inputs>(
     file: &str,
     step: u64,
     index: u64,
-) -> Result<Bytes, FileCommandFault>
+) -> Result<Bytes, CommandFault>
     requires { I.may_ask inputs.old file.now }
     ensures { ShowComes (asked (I.told inputs.old) (I.faults inputs.old) (I.faults inputs.new)) file.now step index result }
 {
@@ -30,7 +30,10 @@ pub fn show<I: Inputs>(
         Ok(history) => history,
         Err(fault) => return Err(refuse_history(alloc, file, fault)),
     };
-    Ok(show_at(alloc, &history, step, index)?)
+    match show_at(alloc, &history, step, index) {
+        Ok(proof) => Ok(proof),
+        Err(fault) => Err(fault_of_show(fault)),
+    }
 }
 
 /// The proof of the event of this index in this step of a sound history. No step has an event of an

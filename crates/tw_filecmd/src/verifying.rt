@@ -3,8 +3,7 @@
 ghost use Rattle.tw_outside.specs.Asked.{asked};
 ghost use Rattle.tw_filecmd.specs.Verifying.{VerifyFileComes, VerifyOneComes};
 
-use crate::bad_file::refuse_line;
-use crate::fault::FileCommandFault;
+use crate::faults::refuse_line;
 use crate::limits::PROOF_READ;
 use crate::pair::read_pair;
 use std::alloc::Global;
@@ -12,6 +11,7 @@ use tw_base::{Sha, Thread};
 use tw_chain::{Verdict, verify};
 use tw_msg::{AnchorFault, read_anchors};
 use tw_outside::{Inputs, read_all};
+use tw_text::CommandFault;
 
 /// Judges the named proof under one anchor.
 pub fn verify_one<I: Inputs>(
@@ -19,7 +19,7 @@ pub fn verify_one<I: Inputs>(
     inputs: &mut I,
     proof: &str,
     anchor: Thread,
-) -> Result<Verdict, FileCommandFault>
+) -> Result<Verdict, CommandFault>
     requires { I.may_ask inputs.old proof.now }
     ensures { VerifyOneComes (asked (I.told inputs.old) (I.faults inputs.old) (I.faults inputs.new)) proof.now anchor result }
 {
@@ -34,7 +34,7 @@ pub fn verify_file<I: Inputs>(
     inputs: &mut I,
     proof: &str,
     anchors: &str,
-) -> Result<Verdict, FileCommandFault>
+) -> Result<Verdict, CommandFault>
     requires proof { I.may_ask inputs.old proof.now }
     requires anchors { I.may_ask inputs.old anchors.now }
     ensures { VerifyFileComes (asked (I.told inputs.old) (I.faults inputs.old) (I.faults inputs.new)) proof.now anchors.now result }
@@ -43,7 +43,7 @@ pub fn verify_file<I: Inputs>(
     let held = match read_anchors(alloc, pair.first.as_slice()) {
         Ok(held) => held,
         Err(AnchorFault::BadLine { line }) => return Err(refuse_line(alloc, anchors, line)),
-        Err(AnchorFault::NoMemory) => return Err(FileCommandFault::NoMemory),
+        Err(AnchorFault::NoMemory) => return Err(CommandFault::NoMemory),
     };
     Ok(verify::<Sha>(alloc, pair.second.as_slice(), held.as_slice())?)
 }

@@ -1,6 +1,6 @@
 -- What stands behind the path of an existence proof, as parts that are waited for.
-use Rattle.std.proofs.Common.{◌≡◌, ℕ, ◌+◌, ◌-◌, ◌*◌, ◌<◌, ◌≤◌, List, [], ◌++◌, length, take, drop, ap, sym, ◌∙◌, subst, arith, refl}
-use Rattle.std.specs.Prelude.{Ok}
+use Rattle.std.proofs.Common.{◌≡◌, ℕ, ◌+◌, ◌-◌, ◌*◌, ◌<◌, ◌≤◌, List, [], ◌++◌, length, take, drop, ap, sym, ◌∙◌, subst, arith, refl, lit≤}
+use Rattle.std.specs.Prelude.{Ok, Option}
 use Rattle.std.proofs.lemmas.List.{length-append, length-drop, length-take-le, take-append-drop}
 use Rattle.tw_base.specs.declared.limits.TheConstants.{MOST_EVENTS, MOST_EVENT_BYTES}
 use Rattle.tw_base.specs.declared.resuming.Attempt.TheVariants.{Front}
@@ -14,7 +14,7 @@ use Rattle.tw_base.specs.Levels.{top_level}
 use Rattle.tw_base.specs.Resuming.{Attempts, StaysFront}
 use Rattle.tw_base.specs.Texts.{joined}
 use Rattle.tw_base.proofs.ByteLemmas.{AreBytes-drop, AreBytes-take}
-use Rattle.tw_base.proofs.CodecLaws.{Lawful, goes-then, lawful}
+use Rattle.tw_base.proofs.CodecLaws.{Lawful, goes-then, lawful, lawful-bytes, lawful-pair}
 use Rattle.tw_base.proofs.CodecSizes.{length-joined}
 use Rattle.tw_base.proofs.NumberLaws.{length-number_bytes}
 use Rattle.tw_base.proofs.PieceLaws.{behind-first}
@@ -25,15 +25,16 @@ use Rattle.tw_skipproof.specs.declared.opening.Opening.{Opening}
 use Rattle.tw_skipproof.specs.declared.path.Link.{Link}
 use Rattle.tw_skipproof.specs.declared.so_far.ExistenceSoFar.TheVariants.{Within}
 use Rattle.tw_skipproof.specs.declared.so_far.Middle.{Middle}
-use Rattle.tw_skipproof.specs.Codecs.{event_codec, link_codec, opening_codec}
+use Rattle.tw_skipproof.specs.Codecs.{count_codec, event_codec, link_codec, opening_codec}
 use Rattle.tw_skipproof.specs.Pieces.{rest, tail_codec}
-use Rattle.tw_skipproof.specs.PieceSteps.{AfterEvent, AllGoOn, StaysUntil, body_codec, from_link, from_roots, from_sizes, roots_codec, sizes_codec}
-use Rattle.tw_skipproof.proofs.LawfulCodecs.{link-lawful}
+use Rattle.tw_skipproof.specs.PieceSteps.{AfterEvent, AllGoOn, Roots, StaysUntil, body_codec, from_link, from_roots, from_sizes, roots_codec, sizes_codec}
+use Rattle.tw_skipproof.proofs.LawfulCodecs.{count-lawful, link-lawful}
 use Rattle.tw_skipproof.proofs.PieceCodecs.{behind_tail, link-any, link-some, rest-tail}
 
 pub roots-lawful : Lawful roots_codec
 unfolding roots_codec
-roots-lawful = search lawful depth 20
+roots-lawful =
+    lawful-pair digest_codec _ (lawful-bytes 32) (λ event_root fits. lawful-pair digest_codec _ (lawful-bytes 32) (λ archive_root also. count-lawful 1 (lit≤ tt)))
 
 pub sizes-lawful : (count : ℕ) → count ≤ MOST_EVENTS → Lawful (sizes_codec count)
 unfolding sizes_codec
@@ -43,9 +44,9 @@ body-lawful : (count : ℕ) (s : ℕ × ℕ) → Lawful (body_codec count s)
 unfolding body_codec
 body-lawful count s = search lawful depth 20
 
-roots-some : (r : List ℕ × (List ℕ × ℕ)) → roots_codec.Fits r → 0 < length (roots_codec.write r)
-unfolding roots_codec pair bytes_codec number_codec
-roots-some r fits = omega (arith, fits.0.0, length-append r.0 (r.1.0 ++ number_bytes 4 r.1.1))
+roots-some : (r : Roots) → roots_codec.Fits r → 0 < length (roots_codec.write r)
+unfolding roots_codec pair bytes_codec
+roots-some r fits = omega (arith, fits.0.0, length-append r.0 (r.1.0 ++ (count_codec 1).write r.1.1))
 
 sizes-some : (count : ℕ) (s : ℕ × ℕ) → (sizes_codec count).Fits s → 0 < length ((sizes_codec count).write s)
 unfolding sizes_codec pair number_codec
@@ -99,12 +100,12 @@ link-then step count few next held size until is are enough inner short =
     (segment-nothing (sizes_codec count) (sizes-lawful count few) (λ s. then_by (body_codec count s).format (next l.0 s)) (sizes-some count))
     (inner l.0 (omega (arith, short, length-drop size held, enough)))
 
-pub roots-then : (step : ℕ) (next : (List ℕ × (List ℕ × ℕ)) → Link → AfterEvent) (held : List ℕ) (after until : ℕ) (r : List ℕ × (List ℕ × ℕ))
-    → roots_codec.read held 0 ≡ Ok (record { value = r; after = after }) → StaysUntil (from_link step r.1.1 (next r)) (drop after held) until → StaysUntil (from_roots step next) held (after + until)
+pub roots-then : (step : ℕ) (next : Roots → Link → AfterEvent) (held : List ℕ) (after until : ℕ) (r : Roots)
+    → roots_codec.read held 0 ≡ Ok (record { value = r; after = after }) → StaysUntil (from_link step r.1.1.0 (next r)) (drop after held) until → StaysUntil (from_roots step next) held (after + until)
 roots-then step next held after until r e inner short =
-    let found = segment-ended roots_codec roots-lawful (λ r. from_link step r.1.1 (next r)) roots-some held after r e in
-    stays-behind (from_roots step next) (from_link step r.1.1 (next r)) held after until found.1 found.2
-    (segment-nothing (link_codec step) (link-lawful step) (λ l. from_sizes r.1.1 (next r l)) (link-some step))
+    let found = segment-ended roots_codec roots-lawful (λ r. from_link step r.1.1.0 (next r)) roots-some held after r e in
+    stays-behind (from_roots step next) (from_link step r.1.1.0 (next r)) held after until found.1 found.2
+    (segment-nothing (link_codec step) (link-lawful step) (λ l. from_sizes r.1.1.0 (next r l)) (link-some step))
     (inner (omega (arith, short, length-drop after held, found.1)))
 
 -- ---- the chain
@@ -143,28 +144,28 @@ sizes-flat count g =
 
 flat_opening : (step : ℕ) → (Opening → Format ExistenceProof) → Format ExistenceProof
 flat_opening step g =
-    then_by digest_codec.format (λ event_root. then_by digest_codec.format (λ archive_root. then_by (number_codec 4 1 MOST_EVENTS).format (λ count.
+    then_by digest_codec.format (λ event_root. then_by digest_codec.format (λ archive_root. then_by (count_codec 1).format (λ count.
     then_by digest_codec.format (λ prev. then_by (labels_codec (top_level step)).format (λ others.
-    g (record { event_root = event_root; archive_root = archive_root; count = count; prev = prev; others = others }))))))
+    g (record { event_root = event_root; archive_root = archive_root; count = count.0; time = count.1; prev = prev; others = others }))))))
 
 opening-flat : (step : ℕ) (g : Opening → Format ExistenceProof) → then_by (opening_codec 1 step).format g ≡ flat_opening step g
 unfolding opening_codec flat_opening
 opening-flat step g =
-    let to : (List ℕ × (List ℕ × (ℕ × (List ℕ × List (List ℕ))))) → Opening = λ t. record { event_root = t.0; archive_root = t.1.0; count = t.1.1.0; prev = t.1.1.1.0; others = t.1.1.1.1 } in
+    let to : (List ℕ × (List ℕ × ((ℕ × Option ℕ) × (List ℕ × List (List ℕ))))) → Opening = λ t. record { event_root = t.0; archive_root = t.1.0; count = t.1.1.0.0; time = t.1.1.0.1; prev = t.1.1.1.0; others = t.1.1.1.1 } in
     let last = λ (prev : List ℕ). labels_codec (top_level step) in
-    let from_prev = λ (count : ℕ). pair digest_codec last in
-    let from_count = λ (archive_root : List ℕ). pair (number_codec 4 1 MOST_EVENTS) from_prev in
+    let from_prev = λ (count : ℕ × Option ℕ). pair digest_codec last in
+    let from_count = λ (archive_root : List ℕ). pair (count_codec 1) from_prev in
     let from_archive = λ (event_root : List ℕ). pair digest_codec from_count in
     then_seen to _ (pair digest_codec from_archive) g
     ∙ then_pair digest_codec from_archive (λ t. g (to t))
     ∙ (λ k. then_by digest_codec.format (λ event_root. (
     then_pair digest_codec from_count (λ y. g (to (event_root, y)))
     ∙ (λ k. then_by digest_codec.format (λ archive_root. (
-    then_pair (number_codec 4 1 MOST_EVENTS) from_prev (λ y. g (to (event_root, (archive_root, y))))
-    ∙ (λ k. then_by (number_codec 4 1 MOST_EVENTS).format (λ count. then_pair digest_codec last (λ y. g (to (event_root, (archive_root, (count, y))))) k))) k))) k))
+    then_pair (count_codec 1) from_prev (λ y. g (to (event_root, (archive_root, y))))
+    ∙ (λ k. then_by (count_codec 1).format (λ count. then_pair digest_codec last (λ y. g (to (event_root, (archive_root, (count, y))))) k))) k))) k))
 
-abbrev opening_of : (List ℕ × (List ℕ × ℕ)) → Link → Opening
-opening_of r l = record { event_root = r.0; archive_root = r.1.0; count = r.1.1; prev = l.datum; others = l.others }
+abbrev opening_of : Roots → Link → Opening
+opening_of r l = record { event_root = r.0; archive_root = r.1.0; count = r.1.1.0; time = r.1.1.1; prev = l.datum; others = l.others }
 
 roots-flat : (step : ℕ) (g : Opening → Format ExistenceProof)
     → then_by roots_codec.format (λ r. then_by (link_codec step).format (λ l. g (opening_of r l))) ≡ flat_opening step g
@@ -173,12 +174,12 @@ roots-flat step g =
     let last = λ (prev : List ℕ). labels_codec (top_level step) in
     let to : (List ℕ × List (List ℕ)) → Link = λ t. record { datum = t.0; others = t.1 } in
     let from : Link → (List ℕ × List (List ℕ)) = λ l. (l.datum, l.others) in
-    let behind = λ (r : List ℕ × (List ℕ × ℕ)). then_by (link_codec step).format (λ l. g (opening_of r l)) in
-    let count_part = λ (archive_root : List ℕ). number_codec 4 1 MOST_EVENTS in
+    let behind = λ (r : Roots). then_by (link_codec step).format (λ l. g (opening_of r l)) in
+    let count_part = λ (archive_root : List ℕ). count_codec 1 in
     then_pair digest_codec (λ event_root. pair digest_codec count_part) behind
     ∙ (λ k. then_by digest_codec.format (λ event_root. (
     then_pair digest_codec count_part (λ y. behind (event_root, y))
-    ∙ (λ k. then_by digest_codec.format (λ archive_root. then_by (number_codec 4 1 MOST_EVENTS).format (λ count. (
+    ∙ (λ k. then_by digest_codec.format (λ archive_root. then_by (count_codec 1).format (λ count. (
     then_seen to from (pair digest_codec last) (λ l. g (opening_of (event_root, (archive_root, count)) l))
     ∙ then_pair digest_codec last (λ t. g (opening_of (event_root, (archive_root, count)) (record { datum = t.0; others = t.1 })))) k)))) k))
 
@@ -188,10 +189,10 @@ unfolding tail_codec
 tail-flat step h =
     let g : Opening → Format ExistenceProof = λ o. then_by (event_codec o.count).format (λ e. h (o, e)) in
     then_pair (opening_codec 1 step) (λ opening. event_codec opening.count) h ∙ opening-flat step g ∙ sym (roots-flat step g)
-    ∙ (λ k. then_by roots_codec.format (λ r. then_by (link_codec step).format (λ l. (event-flat r.1.1 (λ e. h (opening_of r l, e)) ∙ sym (sizes-flat r.1.1 (λ e. h (opening_of r l, e)))) k)))
+    ∙ (λ k. then_by roots_codec.format (λ r. then_by (link_codec step).format (λ l. (event-flat r.1.1.0 (λ e. h (opening_of r l, e)) ∙ sym (sizes-flat r.1.1.0 (λ e. h (opening_of r l, e)))) k)))
 
 pub tail-waits : (m : Middle) (held : List ℕ) (until : ℕ) → m.at ≤ m.step
-    → ((next : (List ℕ × (List ℕ × ℕ)) → Link → AfterEvent) → ((r : List ℕ × (List ℕ × ℕ)) (l : Link) → AllGoOn (next r l)) → StaysUntil (from_roots m.step next) held until)
+    → ((next : Roots → Link → AfterEvent) → ((r : Roots) (l : Link) → AllGoOn (next r l)) → StaysUntil (from_roots m.step next) held until)
     → length held < until → Attempts rest (Within m) held (Ok (Front (Within m) until))
 tail-waits m held until none waits few =
     let P : Format ExistenceProof → Type 0 = λ f. StaysFront f held until in

@@ -1,17 +1,21 @@
 -- What stands behind the path of an existence proof, by the parts that its reader in pieces waits for.
-use Rattle.std.specs.Prelude.{ℕ, ◌-◌, ◌<◌, List, length}
-use Rattle.tw_base.specs.declared.limits.TheConstants.{MOST_EVENTS, MOST_EVENT_BYTES}
+use Rattle.std.specs.Prelude.{ℕ, ◌-◌, ◌<◌, List, length, Option}
+use Rattle.tw_base.specs.declared.limits.TheConstants.{MOST_EVENT_BYTES}
 use Rattle.tw_base.specs.AuditPath.{path_length}
 use Rattle.tw_base.specs.Codecs.{Codec, bytes_codec, digest_codec, labels_codec, number_codec, pair}
 use Rattle.tw_base.specs.Formats.{Format, GoesOn, then_by}
 use Rattle.tw_base.specs.Resuming.{StaysFront}
 use Rattle.tw_skipproof.specs.declared.existence.ExistenceProof.{ExistenceProof}
 use Rattle.tw_skipproof.specs.declared.path.Link.{Link}
-use Rattle.tw_skipproof.specs.Codecs.{link_codec}
+use Rattle.tw_skipproof.specs.Codecs.{count_codec, link_codec}
 
--- an opening up to its count of events; behind it stands what a link has, a digest and the labels of the step
-unfoldable pub roots_codec : Codec (List ℕ × (List ℕ × ℕ))
-roots_codec = pair digest_codec (λ event_root. pair digest_codec (λ archive_root. number_codec 4 1 MOST_EVENTS))
+-- the event root, the archive root, and the count of events with the time
+abbrev pub Roots : Type 0
+Roots = List ℕ × (List ℕ × (ℕ × Option ℕ))
+
+-- an opening up to its time; behind it stands what a link has, a digest and the labels of the step
+unfoldable pub roots_codec : Codec Roots
+roots_codec = pair digest_codec (λ event_root. pair digest_codec (λ archive_root. count_codec 1))
 
 -- the index and the size of an event
 unfoldable pub sizes_codec : (count : ℕ) → Codec (ℕ × ℕ)
@@ -36,8 +40,8 @@ from_sizes count next = then_by (sizes_codec count).format (λ s. then_by (body_
 abbrev pub from_link : (step count : ℕ) → (Link → AfterEvent) → Format ExistenceProof
 from_link step count next = then_by (link_codec step).format (λ l. from_sizes count (next l))
 
-abbrev pub from_roots : (step : ℕ) → ((List ℕ × (List ℕ × ℕ)) → Link → AfterEvent) → Format ExistenceProof
-from_roots step next = then_by roots_codec.format (λ r. from_link step r.1.1 (next r))
+abbrev pub from_roots : (step : ℕ) → (Roots → Link → AfterEvent) → Format ExistenceProof
+from_roots step next = then_by roots_codec.format (λ r. from_link step r.1.1.0 (next r))
 
 -- while they are fewer than so many, the bytes are a front, with any bytes behind
 abbrev pub StaysUntil : Format ExistenceProof → (held : List ℕ) (until : ℕ) → Type 0

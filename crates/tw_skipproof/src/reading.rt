@@ -21,7 +21,7 @@ use tw_base::{
 
 /// Takes the count of events, and the time where there is to be one.
 #[tactic(auto, unfolding(tw_base::specs::Codecs::pair))]
-fn take_counted(
+pub(crate) fn take_counted(
     bytes: &[u8],
     at: &mut u64,
     least: u64,
@@ -39,7 +39,11 @@ fn take_counted(
 
 /// Takes the count word with a count of events of at least `least`, and the time where one follows.
 #[tactic(auto)]
-fn take_count(bytes: &[u8], at: &mut u64, least: u64) -> Result<(u32, Option<u64>), ReadFault>
+pub(crate) fn take_count(
+    bytes: &[u8],
+    at: &mut u64,
+    least: u64,
+) -> Result<(u32, Option<u64>), ReadFault>
     requires within { at.old ≤ length bytes.now }
     requires least { least ≤ MOST_EVENTS }
     ensures takes { Takes (count_codec least) (λ c. c) bytes.now at.old at.new result }

@@ -5,21 +5,25 @@ ghost use Rattle.std.specs.Prelude.{ℕ, ◌+◌, ◌<◌, ◌≤◌, List, leng
 ghost use Rattle.tw_base.specs.declared.limits.TheConstants.{LAST_STEP, MOST_EVENTS, MOST_EVENT_BYTES};
 ghost use Rattle.tw_base.specs.Taking.{Takes};
 ghost use Rattle.tw_skipproof.specs.declared.path.Link.{Link as AnyLink};
-ghost use Rattle.tw_skipproof.specs.PieceSteps.{AfterEvent, AllGoOn, StaysUntil, from_link, from_roots, from_sizes, roots_codec, sizes_codec};
+ghost use Rattle.tw_skipproof.specs.PieceSteps.{AfterEvent, AllGoOn, Roots, StaysUntil, from_link, from_roots, from_sizes, roots_codec, sizes_codec};
 
-use tw_base::limits::{MOST_EVENT_BYTES, MOST_EVENTS};
+use crate::reading::take_count;
+use tw_base::limits::MOST_EVENT_BYTES;
 use tw_base::{Digest, ReadFault, path_length, take_digest, take_number, top_level};
 
-/// Takes the roots of an opening and its count of events.
-fn take_roots(bytes: &[u8], at: &mut u64) -> Result<(Digest, (Digest, u64)), ReadFault>
+/// Takes the roots of an opening, its count of events and its time.
+fn take_roots(
+    bytes: &[u8],
+    at: &mut u64,
+) -> Result<(Digest, (Digest, (u32, Option<u64>))), ReadFault>
     requires { at.old ≤ length bytes.now }
     ensures takes { Takes roots_codec (λ r. r) bytes.now at.old at.new result }
-    ensures range { IfOk result (λ r. (1 ≤ r.1.1) × (r.1.1 ≤ MOST_EVENTS)) }
+    ensures range { IfOk result (λ r. (1 ≤ r.1.1.0) × (r.1.1.0 ≤ MOST_EVENTS)) }
 {
     let event_root = take_digest(bytes, at)?;
     let archive_root = take_digest(bytes, at)?;
-    let count = take_number(bytes, at, 4, 1, MOST_EVENTS)?;
-    Ok((event_root, (archive_root, count)))
+    let counted = take_count(bytes, at, 1)?;
+    Ok((event_root, (archive_root, counted)))
 }
 
 /// Takes the index of an event and the number of its bytes.
@@ -73,12 +77,12 @@ fn opening_until(held: &[u8], step: u64, count: u32) -> usize
 #[tactic(auto)]
 pub(crate) fn tail_until(held: &[u8], step: u64) -> usize
     requires { step ≤ LAST_STEP }
-    ensures { (next : (List ℕ × (List ℕ × ℕ)) → AnyLink → AfterEvent) → ((r : List ℕ × (List ℕ × ℕ)) (l : AnyLink) → AllGoOn (next r l)) → StaysUntil (from_roots step next) held.now result }
+    ensures { (next : Roots → AnyLink → AfterEvent) → ((r : Roots) (l : AnyLink) → AllGoOn (next r l)) → StaysUntil (from_roots step next) held.now result }
 {
     let mut at = 0;
     match take_roots(held, &mut at) {
-        Ok((_, (_, count))) => {
-            at as usize + opening_until(&held[at as usize..], step, count as u32)
+        Ok((_, (_, (count, _)))) => {
+            at as usize + opening_until(&held[at as usize..], step, count)
         }
         Err(_) => 0,
     }

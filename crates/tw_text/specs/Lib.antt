@@ -5,4 +5,5 @@ pub mod RowSteps
 pub mod TakenSteps
 pub mod Lines
 pub mod Refusals
+pub mod Faults
 pub mod Reports

@@ -56,7 +56,7 @@ pub enum BadInput {
 }
 
 /// The line `refused` with the refusal's name and fields.
-pub fn print_refused(alloc: Global, refusal: &Refusal) -> Result<Bytes, NoMemory>
+pub(crate) fn print_refused(alloc: Global, refusal: &Refusal) -> Result<Bytes, NoMemory>
     ensures { IfOk result (λ text. text ≡ refused_text refusal.now) }
 {
     let mut fields = FieldList::new(alloc);
@@ -79,7 +79,7 @@ fn put_refusal(alloc: Global, fields: &mut FieldList, refusal: &Refusal) -> Resu
 }
 
 /// The line `store` with the name of the cause and its field.
-pub fn print_store(alloc: Global, cause: &StoreCause) -> Result<Bytes, NoMemory>
+pub(crate) fn print_store(alloc: Global, cause: &StoreCause) -> Result<Bytes, NoMemory>
     ensures { IfOk result (λ text. text ≡ store_text cause.now) }
 {
     let mut fields = FieldList::new(alloc);
@@ -99,7 +99,7 @@ fn put_cause(alloc: Global, fields: &mut FieldList, cause: &StoreCause) -> Resul
 }
 
 /// The line that names the file and says where it isn't what its command reads.
-pub fn print_bad_input(alloc: Global, bad: &BadInput) -> Result<Bytes, NoMemory>
+pub(crate) fn print_bad_input(alloc: Global, bad: &BadInput) -> Result<Bytes, NoMemory>
     ensures { IfOk result (λ text. text ≡ bad_input_text bad.now) }
 {
     match bad {

@@ -19,12 +19,12 @@ returns-in-Ok-clause-leaves g c = λ h reads.
 pub returns-in-Err-clause-comes : goal.returns-in-Err-clause-comes
 returns-in-Err-clause-comes g c =
     unopened_step (g.D.Disk.view c.args.disk).content (g.D.Disk.view c.args.disk).faults (g.D.Disk.view c.in-Err.disk).faults c.args.events.now c.in-Err.fault
-    c.in-Err.ensures.refused c.in-Err.ensures.answers c.in-Err.ensures.fault c.from.result c.from.ensures
+    c.in-Err.ensures.refused c.in-Err.ensures.answers c.in-Err.ensures.fault c.fault_of_store.result c.fault_of_store.ensures
 
 pub returns-in-Err-clause-leaves : goal.returns-in-Err-clause-leaves
 returns-in-Err-clause-leaves g c = λ h reads.
     let d = g.D.Disk in
-    unopened_leaves d.view c.args.disk c.in-Err.disk c.args.events.now h reads c.in-Err.ensures.unchanged c.in-Err.fault c.from.result c.from.ensures
+    unopened_leaves d.view c.args.disk c.in-Err.disk c.args.events.now h reads c.in-Err.ensures.unchanged c.in-Err.fault c.fault_of_store.result c.fault_of_store.ensures
     (c.in-Err.ensures.served reads.image h.name h reads.told reads.stands) c.in-Err.ensures.any_moment_err
 
 pub returns-in-Ok-clause-unwritten : goal.returns-in-Ok-clause-unwritten

@@ -33,7 +33,7 @@ returns-in-Err-clause-comes g c = λ found before opens serves le.
     let d = g.D.Disk in
     step_refused found before (d.view c.close-in-Err.result).faults c.args.events.now c.args.service.is_broken c.args.service.root.name c.args.service.root.head (pages_of d.view c.args.service) opens c.requires
     (Serves sha256 d.view c.args.service) (Serves sha256 d.view c.append.new.self) serves
-    c.in-Err.refusal c.from.result c.from.ensures c.in-Err.ensures.table c.in-Err.ensures.machine
+    c.in-Err.refusal c.fault_of_service.result c.fault_of_service.ensures c.in-Err.ensures.table c.in-Err.ensures.machine
     (λ is. rose_since before (d.view (disk_of c.args.service)).faults (d.view c.close-in-Err.result).faults le
     (subst (λ disk. Rose (d.view (disk_of c.args.service)).faults (d.view disk).faults) (sym c.close-in-Err.ensures.disk) (c.in-Err.ensures.fault is)))
     c.in-Err.ensures.good c.in-Err.ensures.bad
@@ -45,7 +45,7 @@ returns-in-Err-clause-leaves g c = λ h served.
     let new = c.append.new.self in
     let events = c.args.events.now in
     let next = with_events h events in
-    step_leaves d.view (disk_of old) c.close-in-Err.result h next c.in-Err.refusal c.from.result c.from.ensures
+    step_leaves d.view (disk_of old) c.close-in-Err.result h next c.in-Err.refusal c.fault_of_service.result c.fault_of_service.ensures
     (subst
     (λ disk. LeavesOldOrOneOf d.view (disk_of old) disk h next × ReadsAsOneOf d.view disk h next)
     (sym c.close-in-Err.ensures.disk) (
@@ -62,5 +62,5 @@ returns-in-Err-clause-unwritten g c = λ nothing.
     let old = c.args.service in
     let new = c.append.new.self in
     subst (λ disk. IsLeft d.view (disk_of old) disk) (sym c.close-in-Err.ensures.disk)
-    (step_unwritten d.view (disk_of old) (disk_of new) c.in-Err.refusal c.from.result c.from.ensures
+    (step_unwritten d.view (disk_of old) (disk_of new) c.in-Err.refusal c.fault_of_service.result c.fault_of_service.ensures
     (⊎_elim (λ is. inl is) (λ same. inr (same_left d.view g.met.D.Disk.only_now old new same)) c.in-Err.ensures.unwritten) nothing)

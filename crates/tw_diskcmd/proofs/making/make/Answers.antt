@@ -35,13 +35,13 @@ returns-in-Ok-clause-leaves g c =
 pub returns-in-Err-clause-comes : goal.returns-in-Err-clause-comes
 returns-in-Err-clause-comes g c =
     unmade (touched (g.D.Disk.view c.args.disk).content (g.D.Disk.view c.args.disk).faults (g.D.Disk.view c.in-Err.disk).faults) c.args.name c.in-Err.fault
-    c.from.result c.from.ensures c.in-Err.ensures.answers c.in-Err.ensures.taken c.in-Err.ensures.fault
+    c.fault_of_store.result c.fault_of_store.ensures c.in-Err.ensures.answers c.in-Err.ensures.taken c.in-Err.ensures.fault
 
 pub returns-in-Err-clause-leaves : goal.returns-in-Err-clause-leaves
 returns-in-Err-clause-leaves g c =
     let d = g.D.Disk in
     unmade_leaves d.view c.args.disk c.in-Err.disk c.args.name c.in-Err.fault
-    c.from.result c.from.ensures c.in-Err.ensures.answers c.in-Err.ensures.unchanged (
+    c.fault_of_store.result c.fault_of_store.ensures c.in-Err.ensures.answers c.in-Err.ensures.unchanged (
       λ image told_image. (c.in-Err.ensures.any_moment_err image told_image, c.in-Err.ensures.told image told_image),
       held_keeps d.view g.met.D.Disk.as_it_reads c.args.disk c.in-Err.disk c.in-Err.ensures.held,
       λ image told_image taken. let held = c.in-Err.ensures.held image told_image taken in (held.0 ∙ sym told_image, held.1),

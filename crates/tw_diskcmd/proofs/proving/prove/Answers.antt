@@ -22,9 +22,9 @@ returns-in-Ok-clause-leaves g c =
 pub returns-in-Err-clause-comes : goal.returns-in-Err-clause-comes
 returns-in-Err-clause-comes g c =
     unopened_proof (g.D.Disk.view c.args.disk).content (g.D.Disk.view c.args.disk).faults (g.D.Disk.view c.in-Err.disk).faults [] c.in-Err.fault
-    c.in-Err.ensures.refused c.in-Err.ensures.answers c.in-Err.ensures.fault c.args.step c.args.index c.args.top c.from.result c.from.ensures
+    c.in-Err.ensures.refused c.in-Err.ensures.answers c.in-Err.ensures.fault c.args.step c.args.index c.args.top c.fault_of_store.result c.fault_of_store.ensures
 
 pub returns-in-Err-clause-leaves : goal.returns-in-Err-clause-leaves
 returns-in-Err-clause-leaves g c =
-    unopened_proof_leaves g.D.Disk.view c.args.disk c.in-Err.disk c.in-Err.fault c.from.result c.from.ensures
+    unopened_proof_leaves g.D.Disk.view c.args.disk c.in-Err.disk c.in-Err.fault c.fault_of_store.result c.fault_of_store.ensures
     c.in-Err.ensures.answers.0 (c.in-Err.ensures.unchanged, c.in-Err.ensures.any_moment_err)

@@ -27,7 +27,7 @@ returns-in-Err-clause-comes g c = λ found before opens serves le.
     let d = g.D.Disk in
     proof_refused found before (d.view c.close-in-Err.result).faults c.args.step c.args.index c.min.result c.args.top c.top_for-top.result c.args.service.is_broken c.args.service.root.name c.args.service.root.head (pages_of d.view c.args.service) opens c.requires
     c.min.ensures (c.top_for-top.ensures ∙ ap (top_of c.args.top) c.steps.ensures.value) (Serves sha256 d.view c.args.service) (Serves sha256 d.view c.prove_event.new.self) serves (λ h served. sym c.steps.ensures.value ∙ c.steps.ensures.served h served)
-    c.in-Err.refusal c.from.result c.from.ensures
+    c.in-Err.refusal c.fault_of_service.result c.fault_of_service.ensures
     c.in-Err.ensures.table
     c.in-Err.ensures.machine
     (λ is. rose_since before (d.view (disk_of c.args.service)).faults (d.view c.close-in-Err.result).faults le
