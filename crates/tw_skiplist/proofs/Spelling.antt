@@ -8,8 +8,7 @@ use Rattle.tw_base.specs.declared.limits.TheConstants.{MOST_EVENT_BYTES}
 use Rattle.tw_base.specs.Lists.{Each}
 use Rattle.tw_base.proofs.ByteLemmas.{AreBytes-back, AreBytes-front}
 use Rattle.tw_base.proofs.TextFields.{halves}
-use Rattle.tw_skiplist.specs.Events.{SpellsEvents}
-use Rattle.tw_skiplist.specs.ScanSteps.{HasEventAt, IsNoEventAt}
+use Rattle.tw_skiplist.specs.ScanSteps.{HasEventAt, IsNoEventAt, SpellsEvents}
 use Rattle.tw_base.specs.Codecs.{behind, bytes_codec}
 use Rattle.tw_skiplist.specs.StepBytes.{event_page_bytes, piece_codec, stream}
 use Rattle.tw_skiplist.proofs.Streams.{stream-append}
