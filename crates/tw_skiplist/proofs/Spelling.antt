@@ -49,13 +49,6 @@ length-none : (xs : List (List ℕ)) → length xs ≡ 0 → xs ≡ []
 length-none [] e = refl
 length-none (x ∷ xs) e = absurd (omega arith)
 
--- a stream spells one list of events of a count at most
-pub spells_one : (bytes : List ℕ) (count : ℕ) (xs es : List (List ℕ)) → SpellsEvents bytes count xs → SpellsEvents bytes count es → xs ≡ es
-spells_one bytes count xs es one two =
-    let on = begins xs es [] one.limits.are.sizes two.limits.are.sizes (omega (arith, one.count_is, two.count_is)) (append-nil (stream xs) ∙ one.stream_is ∙ sym two.stream_is) in
-    let none : on.more ≡ [] = length-none on.more (omega (arith, ap (λ (l : List (List ℕ)). length l) on.all, length-append xs on.more, one.count_is, two.count_is)) in
-    sym (on.all ∙ ap (λ (m : List (List ℕ)). xs ++ m) none ∙ append-nil xs)
-
 -- ---- while a stream is taken apart
 
 module _ (bytes : List ℕ) (count at index : ℕ) (events es : List (List ℕ)) (so_far : stream events ≡ take at bytes) (within : at ≤ length bytes) (count_is : length events ≡ index)

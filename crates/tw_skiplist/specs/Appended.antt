@@ -11,7 +11,7 @@ use Rattle.tw_skiplist.specs.declared.head.StepRef.{StepRef}
 use Rattle.tw_skiplist.specs.Events.{piece_count}
 use Rattle.tw_skiplist.specs.Found.{Found, ◌>>=◌}
 use Rattle.tw_skiplist.specs.Found.Found.{Is}
-use Rattle.tw_skiplist.specs.Records.{page_datum, page_labels}
+use Rattle.tw_skiplist.specs.Records.{page_labels}
 use Rattle.tw_skiplist.specs.StepBytes.{event_pages, step_page_bytes, stream}
 use Rattle.tw_skiplist.specs.Walks.{next_links}
 
@@ -41,7 +41,7 @@ module _ (dig : List ℕ → List ℕ) (pages : Image) (head : Head) (events : L
 
   -- its authenticator, from the labels of its links
   abbrev pub new_auth : List StepRef → List ℕ
-  new_auth links = dig (authenticator_text (head.step + 1) (page_labels dig (head.step + 1) (page_datum dig (new_fields [])) links (length links)))
+  new_auth links = dig (authenticator_text (head.step + 1) (page_labels dig (head.step + 1) (dig (datum_text (event_root dig events) archive.label (length events))) links (length links)))
 
   abbrev pub next_of : List StepRef → Next
   next_of links = record {

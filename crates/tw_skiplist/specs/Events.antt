@@ -1,8 +1,8 @@
 -- Reading the events of a step from its event pages.
-use Rattle.std.specs.Prelude.{ℕ, suc, zero, ◌+◌, ◌-◌, ◌*◌, ◌/◌, ◌==◌, ◌&&◌, min, List, [], ◌++◌, length, nat_le, nat_lt, sum_by, Result, Ok, Err, if◌then◌else◌}
+use Rattle.std.specs.Prelude.{ℕ, suc, zero, ◌+◌, ◌-◌, ◌*◌, ◌/◌, ◌&&◌, min, List, [], ◌++◌, length, nat_le, nat_lt, sum_by, Bool, if◌then◌else◌}
 use Rattle.tw_base.specs.Codecs.{Codec, many, sized_codec}
-use Rattle.tw_base.specs.Formats.{Placed}
 use Rattle.tw_base.specs.declared.limits.TheConstants.{MOST_EVENTS, MOST_EVENT_BYTES, MOST_STEP_BYTES}
+use Rattle.tw_disk.specs.declared.limits.TheConstants.{PAGE_SIZE}
 use Rattle.tw_disk.specs.Image.{Image}
 use Rattle.tw_skiplist.specs.declared.info.StepInfo.{StepInfo}
 use Rattle.tw_skiplist.specs.declared.limits.TheConstants.{MOST_PIECE_BYTES, MOST_STREAM_BYTES}
@@ -23,7 +23,7 @@ module _ (pages : Image) (info : StepInfo) where
   abbrev pub piece_in : (number : ℕ) → Found (List ℕ)
   piece_in number =
       bytes_in pages (info.stream.page + number)
-      >>= spelled (info.stream.page + number) (piece_codec info.step number (piece_size info.stream.size number))
+      >>= spelled (info.stream.page + number) PAGE_SIZE (piece_codec info.step number (piece_size info.stream.size number))
 
   -- the pieces of the numbers below this count
   unfoldable pub pieces_below : (count : ℕ) → Found (List ℕ)
@@ -39,18 +39,16 @@ last_page info (suc number) = info.stream.page + number
 abbrev pub events_codec : (count : ℕ) → Codec (List (List ℕ))
 events_codec count = many count (sized_codec 4 0 MOST_EVENT_BYTES)
 
--- events that were read of a stream of this size are all of it, and within the limits of a step
-abbrev pub if_whole : (page size : ℕ) → Result (Placed (List (List ℕ))) ℕ → Found (List (List ℕ))
-if_whole page size (Ok read) =
-    when ((read.after == size && nat_le (length read.value) MOST_EVENTS) && nat_le (sum_by (λ event. length event) read.value) MOST_STEP_BYTES) page read.value
-if_whole page size (Err place) = Bad page
+-- within the limits of a step
+abbrev pub may_be_recorded : List (List ℕ) → Bool
+may_be_recorded events = nat_le (length events) MOST_EVENTS && nat_le (sum_by (λ event. length event) events) MOST_STEP_BYTES
 
 -- the events that a stream spells, so many; where it spells none, this page is bad
 unfoldable pub events_in : (page count : ℕ) → (stream : List ℕ) → Found (List (List ℕ))
-events_in page count stream = if_whole page (length stream) ((events_codec count).read stream 0)
+events_in page count stream = spelled page 0 (events_codec count) stream >>= (λ events. when (may_be_recorded events) page events)
 
--- The events of a step, from its event pages. The step's page is bad where it tells of a longer stream than any step's, and the
--- page that is read last where the stream spells no such events.
+-- The events of a step, from its event pages. The step's page is bad where the info tells of a longer stream than
+-- any step's, as none from a page does, and the page that is read last where the stream spells no such events.
 unfoldable pub events_of_info : Image → StepInfo → Found (List (List ℕ))
 events_of_info pages info =
     if nat_lt MOST_STREAM_BYTES info.stream.size then Bad info.page

@@ -1,4 +1,4 @@
--- What is read of pages under a head.
+-- What is read of pages under a head, for steps that are there, in their order.
 use Rattle.std.specs.Prelude.{ℕ, List}
 use Rattle.tw_disk.specs.Image.{Image}
 use Rattle.tw_skipproof.specs.declared.path.Path.{Path}

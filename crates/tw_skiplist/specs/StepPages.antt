@@ -1,5 +1,6 @@
 -- The pages of steps of events.
 use Rattle.std.specs.Prelude.{ℕ, suc, zero, ◌^◌, ◌==◌, ◌&&◌, List, [], length, nat_lt, slice_index_or, Bool, true, if◌then◌else◌}
+use Rattle.tw_disk.specs.declared.limits.TheConstants.{PAGE_SIZE}
 use Rattle.tw_disk.specs.Image.{Image}
 use Rattle.tw_skiplist.specs.declared.head.StepRef.{StepRef}
 use Rattle.tw_skiplist.specs.declared.fields.StepFields.{StepFields}
@@ -29,8 +30,8 @@ keeps_link_rules page step links (suc level) =
 -- the fields and links that the bytes spell, if they may stand in the page of this number as the page of this step
 unfoldable pub step_in : (page step : ℕ) → List ℕ → Found (StepFields × List StepRef)
 step_in page step bytes =
-    spelled page (step_codec step) bytes >>= (λ p. when (keeps_field_rules page p.0 && keeps_link_rules page step p.1 (length p.1)) page p)
+    spelled page PAGE_SIZE (step_codec step) bytes >>= (λ p. when (keeps_field_rules page p.0 && keeps_link_rules page step p.1 (length p.1)) page p)
 
 -- the same of the page of this number
-unfoldable pub step_page : Image → (page step : ℕ) → Found (StepFields × List StepRef)
-step_page pages page step = bytes_in pages page >>= step_in page step
+unfoldable pub page_of_step : Image → (page step : ℕ) → Found (StepFields × List StepRef)
+page_of_step pages page step = bytes_in pages page >>= step_in page step

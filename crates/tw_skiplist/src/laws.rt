@@ -9,6 +9,7 @@ ghost use Rattle.tw_base.specs.Names.{IsName};
 ghost use Rattle.tw_base.specs.Sound.{IsSound};
 ghost use Rattle.tw_skiplist.specs.declared.head.Head.{Head};
 ghost use Rattle.tw_base.specs.declared.limits.TheConstants.{LAST_STEP};
+ghost use Rattle.tw_base.specs.declared.root.Root.{Root};
 ghost use Rattle.tw_base.specs.History.{events_at, with_events};
 ghost use Rattle.tw_base.specs.Limits.{MayRecord};
 ghost use Rattle.tw_skipproof.specs.HistoryProofs.{IsPathOf};
@@ -39,9 +40,9 @@ pub fn keeping_laws<H: Hasher>()
 
 /// What is read of pages that keep a history under the head is the history's, and no page is bad: a
 /// step, a path from a step down to another (or to step 0), both under a top, the events of a step that
-/// was told, and those of a step. After one more step, of events within the limits of a step and with
-/// the same archive, the pages are the earlier ones and more, and keep the longer history under the new
-/// head; before it fewer than 2^47 pages are used.
+/// was told, and those of a step. After one more step, of events within the limits of a step, the pages
+/// are the earlier ones and more; where the step has the history's archive, they keep the longer history
+/// under the new head. Before it fewer than 2^47 pages are used.
 pub fn reading_laws<H: Hasher>()
     ensures step { (ps : Image) (h : History) (head : Head) (i : ℕ) → Keeps H.dig ps h head → 1 ≤ i → i ≤ head.step →
         (info : StepInfo) × (found_step H.dig ps head i ≡ Is info) × IsInfoOf H.dig ps h i info }
@@ -53,8 +54,8 @@ pub fn reading_laws<H: Hasher>()
         events_of_info ps info ≡ Is (events_at h i) }
     ensures events { (ps : Image) (h : History) (head : Head) (i : ℕ) → Keeps H.dig ps h head → 1 ≤ i → i ≤ head.step →
         found_events H.dig ps head i ≡ Is (events_at h i) }
-    ensures appended { (ps : Image) (h : History) (head : Head) (events : List (List ℕ)) → Keeps H.dig ps h head → head.step < LAST_STEP →
+    ensures appended { (ps : Image) (h : History) (head : Head) (events : List (List ℕ)) (archive : Root) → Keeps H.dig ps h head → head.step < LAST_STEP →
         MayRecord events → FIRST_PAGE + length ps < 2 ^ 47 →
-        (more : Image) × (new : Head) × (appended H.dig ps head events (archive_at H.dig h (length h.steps)) ≡ Is (record { pages = ps ++ more; head = new }))
-        × Keeps H.dig (ps ++ more) (with_events h events) new }
+        (more : Image) × (new : Head) × (appended H.dig ps head events archive ≡ Is (record { pages = ps ++ more; head = new }))
+        × (archive ≡ archive_at H.dig h (length h.steps) → Keeps H.dig (ps ++ more) (with_events h events) new) }
 {}

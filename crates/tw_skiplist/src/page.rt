@@ -1,7 +1,8 @@
 // The bytes of step pages and event pages.
 
 ghost use Rattle.std.specs.Prelude.{◌≡◌, ◌≢◌, ◌<◌, ◌≤◌, ◌^◌, ◌+◌, ◌*◌, ◌++◌, ◌↔◌, ◌&&◌, ℕ, suc, length, take, drop, flat_map, IfErr, IfOk, IfSome, IsTrue, MatchOption};
-ghost use Rattle.tw_base.specs.Codecs.{many};
+ghost use Rattle.tw_base.specs.Bytes.{AreBytes};
+ghost use Rattle.tw_base.specs.Codecs.{HasBytes, many};
 ghost use Rattle.tw_base.specs.Levels.{top_level as top_level_of};
 ghost use Rattle.tw_base.specs.Lists.{Each};
 ghost use Rattle.tw_base.specs.Taking.{Takes};
@@ -77,7 +78,8 @@ pub(crate) fn step_page(step: u64, fields: &StepFields, links: &[StepRef]) -> Pa
 #[tactic(auto, unfolding(crate::specs::StepBytes::event_page_bytes, crate::specs::StepBytes::piece_codec, tw_base::specs::Codecs::behind, tw_base::specs::Codecs::bytes_codec))]
 pub(crate) fn event_page(step: u64, number: u16, piece: &[u8]) -> Page
     requires { length piece.now ≤ MOST_PIECE_BYTES }
-    ensures { result ≡ event_page_bytes step number piece.now }
+    ensures page { result ≡ event_page_bytes step number piece.now }
+    ensures bytes { AreBytes piece.now }
 {
     let mut page = PageFront::new();
     page.put(&[2]);
@@ -226,7 +228,8 @@ pub(crate) fn read_step_page(page: u64, step: u64, bytes: &Page) -> Option<StepP
 /// those that stand in it.
 pub(crate) fn is_event_page(bytes: &Page, step: u64, number: u16, count: usize) -> bool
     requires { count ≤ MOST_PIECE_BYTES }
-    ensures { IsTrue result ↔ (bytes.now ≡ event_page_bytes step number (take count (drop 11 bytes.now))) }
+    ensures answer { IsTrue result ↔ (bytes.now ≡ event_page_bytes step number (take count (drop 11 bytes.now))) }
+    ensures piece { HasBytes count (take count (drop 11 bytes.now)) }
 {
     *bytes == event_page(step, number, &bytes[11..11 + count])
 }

@@ -5,7 +5,7 @@ ghost use Rattle.tw_disk.specs.Image.{Image};
 ghost use Rattle.tw_disk.specs.Pages.{OnlyReads};
 ghost use Rattle.tw_base.specs.Levels.{top_level};
 ghost use Rattle.tw_skiplist.specs.Answers.{Answers, AnswersAs, FaultsRise, NeverNoStep, NotDiskFault};
-ghost use Rattle.tw_skiplist.specs.StepPages.{step_page};
+ghost use Rattle.tw_skiplist.specs.StepPages.{page_of_step};
 ghost use Rattle.tw_skiplist.specs.Walks.{link_in, walk};
 
 use crate::fault::ListFault;
@@ -24,7 +24,7 @@ pub(crate) fn read_step<P: Pages>(
     step: u64,
 ) -> Result<StepPage, ListFault>
     requires { step < 2 ^ 40 }
-    ensures answer { (ps : Image) → P.list pages.old ≡ Some ps → AnswersAs (λ p. (p.fields, p.links.items)) result (step_page ps page step) }
+    ensures answer { (ps : Image) → P.list pages.old ≡ Some ps → AnswersAs (λ p. (p.fields, p.links.items)) result (page_of_step ps page step) }
     ensures link_count { IfOk result (λ s. length s.links.items ≡ suc (top_level step)) }
     ensures no_step { NeverNoStep result }
     ensures kept { OnlyReads P.used_count P.list P.same P.unbroken pages.old pages.new (NotDiskFault result) }
