@@ -1,7 +1,6 @@
 -- The events that a stream spells are those that the codec reads.
 use Rattle.std.proofs.Common.{◌≡◌, ℕ, ◌-◌, ◌≤◌, List, [], ◌∷◌, ◌++◌, length, replicate, refl, ap, sym, ◌∙◌, arith, Bool, true, false, append_assoc}
-use Rattle.std.specs.Prelude.{nat_le, ◌&&◌, sum_by}
-use Rattle.std.specs.Int.{to_be_bytes, w32}
+use Rattle.std.specs.Prelude.{nat_le, sum_by}
 use Rattle.std.proofs.lemmas.Bool.{and_parts, le-leb, leb-true}
 use Rattle.std.proofs.lemmas.List.{append-nil}
 use Rattle.tw_base.specs.Bytes.{AreBytes}
@@ -64,7 +63,7 @@ module _ (bytes : List ℕ) (count : ℕ) where
         fits = fits count events s.count_is (each_fits events s.limits.are.sizes s.limits.are.bytes);
       }))
       ∙ ap (λ (b : Bool). when b page events) (both_true (nat_le (length events) MOST_EVENTS) (nat_le (sum_by (λ event. length event) events) MOST_STEP_BYTES)
-        (le-leb (length events) MOST_EVENTS s.limits.are.count) (le-leb (sum_by (λ event. length event) events) MOST_STEP_BYTES s.limits.fit))
+      (le-leb (length events) MOST_EVENTS s.limits.are.count) (le-leb (sum_by (λ event. length event) events) MOST_STEP_BYTES s.limits.fit))
 
   module _ (none : (events : List (List ℕ)) → SpellsEvents bytes count events → ⊥) (page : ℕ) where
     tested : (events : List (List ℕ)) → Spelt 0 (events_codec count) bytes events → (b : Bool) → may_be_recorded events ≡ b → when b page events ≡ Bad page

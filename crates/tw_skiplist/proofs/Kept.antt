@@ -1,5 +1,5 @@
 -- What the pages of a history's steps are, and where their links lead.
-use Rattle.std.proofs.Common.{◌≡◌, ℕ, suc, zero, ◌+◌, ◌-◌, ◌*◌, ◌^◌, ◌%◌, ◌<◌, ◌≤◌, List, [], ◌∷◌, length, get_or, refl, ap, sym, ◌∙◌, arith, inl, inr, subst, lit<, Bool, true}
+use Rattle.std.proofs.Common.{◌≡◌, ℕ, suc, zero, ◌+◌, ◌-◌, ◌^◌, ◌%◌, ◌<◌, ◌≤◌, List, [], ◌∷◌, length, get_or, refl, ap, sym, ◌∙◌, arith, inl, inr, subst, lit<, Bool, true}
 use Rattle.std.specs.Prelude.{◌==◌}
 use Rattle.std.proofs.lemmas.Bool.{cases_lt, lt-ltb}
 use Rattle.std.proofs.lemmas.List.{length_push, get_or_push, get_or_append_left}
@@ -149,7 +149,7 @@ module _ (dig : List ℕ → List ℕ) (size : (text : List ℕ) → IsDigest (d
         let rules = link_rules-all (page (suc k)) (suc k) links (length links) (λ level under. link_rule k level l (omega (arith, under, length-links_to (suc k) (suc (top_level (suc k)))))) in
         ap (λ (b : Found (List ℕ)). b >>= step_in (page (suc k)) (suc k)) (bytes_in-within ps (page (suc k)) s.low s.below)
         ∙ is_on (spelled (page (suc k)) 4096 (step_codec (suc k)) (page_at ps (page (suc k) - 4))) _ (f, links)
-          (page-is (page (suc k)) (step_codec (suc k)) (step-lawful (suc k)) (page_at ps (page (suc k) - 4)) (f, links) (record { bytes = s.bytes; fits = page-fits k l s }))
+        (page-is (page (suc k)) (step_codec (suc k)) (step-lawful (suc k)) (page_at ps (page (suc k) - 4)) (f, links) (record { bytes = s.bytes; fits = page-fits k l s }))
         ∙ ap (λ (b : Bool). when b (page (suc k)) (f, links)) (both_true _ _ fields rules)
 
     -- where a link of it leads

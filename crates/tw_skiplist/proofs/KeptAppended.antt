@@ -1,6 +1,6 @@
 -- One more step of a history that the pages keep.
-use Rattle.std.proofs.Common.{◌≡◌, ℕ, suc, zero, ◌+◌, ◌-◌, ◌*◌, ◌^◌, ◌<◌, ◌≤◌, List, [], ◌∷◌, ◌++◌, length, refl, ap, sym, ◌∙◌, arith, subst, append_assoc, Bool}
-use Rattle.std.specs.Prelude.{map, ◌==◌, if◌then◌else◌}
+use Rattle.std.proofs.Common.{◌≡◌, ℕ, suc, zero, ◌+◌, ◌-◌, ◌^◌, ◌<◌, ◌≤◌, List, [], ◌∷◌, ◌++◌, length, refl, ap, sym, ◌∙◌, arith, subst, append_assoc, Bool}
+use Rattle.std.specs.Prelude.{map, if◌then◌else◌}
 use Rattle.std.proofs.lemmas.Bool.{eq-eqb, ne_eqb}
 use Rattle.std.proofs.lemmas.List.{length_push}
 use Rattle.std.proofs.lemmas.Nat.{pow_pos}
@@ -21,16 +21,15 @@ use Rattle.tw_base.proofs.Plus.{auths-plus}
 use Rattle.tw_skiplist.specs.declared.head.Head.{Head}
 use Rattle.tw_skiplist.specs.declared.head.StepRef.{StepRef}
 use Rattle.tw_skiplist.specs.declared.fields.StepFields.{StepFields}
-use Rattle.tw_skiplist.specs.declared.limits.TheConstants.{MOST_PIECE_BYTES, MOST_STREAM_BYTES}
 use Rattle.tw_skiplist.specs.Appended.{Next, appended, first_page, new_auth, new_fields, next_of}
 use Rattle.tw_skiplist.specs.Events.{piece_count}
-use Rattle.tw_skiplist.specs.Found.{Found, ◌>>=◌}
+use Rattle.tw_skiplist.specs.Found.{◌>>=◌}
 use Rattle.tw_skiplist.specs.Found.Found.{Is}
 use Rattle.tw_skiplist.specs.Keeping.{Keeps, KeepsSteps, Place, archive_at, event_step, fields_at, link_to, links_at, links_to, place_of}
 use Rattle.tw_skiplist.specs.Records.{page_labels}
 use Rattle.tw_skiplist.specs.StepBytes.{event_pages, step_page_bytes, stream}
 use Rattle.tw_skiplist.specs.StepPages.{link_of, no_ref}
-use Rattle.tw_skiplist.specs.Walks.{head_ref, link_in, links_up_to, next_links}
+use Rattle.tw_skiplist.specs.Walks.{link_in, links_up_to, next_links}
 use Rattle.tw_skiplist.proofs.EventHistories.{new_datum, new_events, same_tree}
 use Rattle.tw_skiplist.proofs.FoundLaws.{is_on}
 use Rattle.tw_skiplist.proofs.Growing.{below_head}

@@ -1,5 +1,5 @@
 -- The event pages of a step that the pages keep.
-use Rattle.std.proofs.Common.{◌≡◌, ℕ, suc, zero, ◌+◌, ◌-◌, ◌*◌, ◌<◌, ◌≤◌, List, [], ◌∷◌, ◌++◌, length, take, drop, refl, ap, sym, ◌∙◌, arith, subst, length-take, length-drop, Bool, false}
+use Rattle.std.proofs.Common.{◌≡◌, ℕ, suc, zero, ◌+◌, ◌-◌, ◌*◌, ◌<◌, ◌≤◌, List, [], ◌∷◌, ◌++◌, length, take, drop, refl, ap, sym, ◌∙◌, arith, length-take, length-drop, Bool}
 use Rattle.std.specs.Prelude.{if◌then◌else◌}
 use Rattle.std.specs.Int.{to_be_bytes, w32}
 use Rattle.std.proofs.lemmas.Bool.{le-ltb}
@@ -67,9 +67,9 @@ module _ (dig : List ℕ → List ℕ) (ps : Image) (h : History) (i : ℕ) (inf
       let all = is.stream_size in
       ap (λ (b : Found (List ℕ)). b >>= spelled (first + number) 4096 (piece_codec info.step number (piece_size size number))) (bytes_in-within ps (first + number) (omega (arith, low)) (omega (arith, under, is.page_below)))
       ∙ page-is (first + number) (piece_codec info.step number (piece_size size number)) (piece-lawful info.step number (piece_size size number)) (page_at ps (first + number - 4)) (piece bytes_of number)
-        (event_page_of info.step number (piece_size size number) (page_at ps (first + number - 4)) (piece bytes_of number)
-        (is.stream.pieces number less ∙ ap (λ (k : ℕ). event_page_bytes k number (piece bytes_of number)) (sym is.step))
-        (own ∙ omega (arith, rest, all), AreBytes-take MOST_PIECE_BYTES (drop (MOST_PIECE_BYTES * number) bytes_of) (AreBytes-drop (MOST_PIECE_BYTES * number) bytes_of (stream_bytes (events_at h i) is.limits.are.bytes))))
+      (event_page_of info.step number (piece_size size number) (page_at ps (first + number - 4)) (piece bytes_of number)
+      (is.stream.pieces number less ∙ ap (λ (k : ℕ). event_page_bytes k number (piece bytes_of number)) (sym is.step))
+      (own ∙ omega (arith, rest, all), AreBytes-take MOST_PIECE_BYTES (drop (MOST_PIECE_BYTES * number) bytes_of) (AreBytes-drop (MOST_PIECE_BYTES * number) bytes_of (stream_bytes (events_at h i) is.limits.are.bytes))))
 
   pieces_are : (number : ℕ) → number ≤ piece_count size → pieces_below ps info number ≡ Is (take (MOST_PIECE_BYTES * number) bytes_of)
   pieces_are zero l = pieces-none ps info

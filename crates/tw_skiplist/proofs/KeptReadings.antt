@@ -1,7 +1,6 @@
 -- What is read of pages that keep a history is the history's.
-use Rattle.std.proofs.Common.{◌≡◌, ℕ, suc, zero, ◌+◌, ◌-◌, ◌^◌, ◌<◌, ◌≤◌, List, [], ◌∷◌, ◌++◌, length, refl, ap, sym, ◌∙◌, arith, inl, inr, subst}
+use Rattle.std.proofs.Common.{◌≡◌, ℕ, suc, zero, ◌+◌, ◌-◌, ◌^◌, ◌<◌, ◌≤◌, List, [], ◌∷◌, length, ap, sym, ◌∙◌, arith, inl, inr}
 use Rattle.std.proofs.lemmas.Bool.{cases_lt}
-use Rattle.std.proofs.lemmas.Nat.{pow_pos}
 use Rattle.tw_disk.specs.Image.{Image}
 use Rattle.tw_base.specs.Auth.{auth}
 use Rattle.tw_base.specs.History.{History, events_at}
@@ -13,14 +12,12 @@ use Rattle.tw_skipproof.specs.HistoryProofs.{IsPathOf}
 use Rattle.tw_skipproof.specs.Paths.{hop, hop_level}
 use Rattle.tw_skipproof.proofs.GreedySteps.{hop-less}
 use Rattle.tw_skipproof.proofs.Hops.{hop-below, hop_level-le}
-use Rattle.tw_skiplist.specs.declared.collecting.Collected.{Collected}
-use Rattle.tw_skiplist.specs.declared.collecting.Hop.{Hop}
 use Rattle.tw_skiplist.specs.declared.head.Head.{Head}
 use Rattle.tw_skiplist.specs.declared.head.StepRef.{StepRef}
 use Rattle.tw_skiplist.specs.declared.info.StepInfo.{StepInfo}
 use Rattle.tw_skiplist.specs.declared.info.StepProof.{StepProof}
 use Rattle.tw_skiplist.specs.Events.{events_of_info}
-use Rattle.tw_skiplist.specs.Found.{Found, ◌>>=◌}
+use Rattle.tw_skiplist.specs.Found.{◌>>=◌}
 use Rattle.tw_skiplist.specs.Found.Found.{Is}
 use Rattle.tw_skiplist.specs.Infos.{IsInfoOf}
 use Rattle.tw_skiplist.specs.Keeping.{Keeps, KeepsSteps, Place, fields_at, link_to, links_at, place_of}
@@ -77,7 +74,7 @@ module _ (dig : List ℕ → List ℕ) (size : (text : List ℕ) → IsDigest (d
   hop_kept (suc k) level some l fine =
       is_on (page_of_step ps (page (suc k)) (suc k)) (λ p. Is (record { link = link_record dig (suc k) p.0 p.1 level; next = link_of p.1 level })) (fields_at dig h places (suc k), links_at dig h places (suc k)) (kept_page dig size h places ps kept k (omega (arith, l)))
       ∙ ap (λ (next : StepRef). Is (record { link = link_record dig (suc k) (fields_at dig h places (suc k)) (links_at dig h places (suc k)) level; next = next }))
-        (get_or-links_to dig size h places no_ref (suc k) (suc (top_level (suc k))) level (omega (arith, fine)))
+      (get_or-links_to dig size h places no_ref (suc k) (suc (top_level (suc k))) level (omega (arith, fine)))
 
   path_on : (from to : ℕ) → to < from → from ≤ length h.steps → (links : List Link) → IsPathOf dig h links (hop from to) to
       → IsPathOf dig h (link_record dig from (fields_at dig h places from) (links_at dig h places from) (hop_level from to) ∷ links) from to
@@ -109,7 +106,7 @@ module _ (dig : List ℕ → List ℕ) (size : (text : List ℕ) → IsDigest (d
               links = link ∷ rest.links;
               is = collected-on ps (to_step from) from to dig under
                   ∙ is_on (hop_in dig ps (page from) from (hop_level from to)) (λ hopped. collected dig ps hopped.next (hop from to) to >>= link_before dig ps hopped.link)
-                    (record { link = link; next = to_step (hop from to) }) (hop_kept from (hop_level from to) (omega (arith, under)) l (hop_level-le from to))
+                  (record { link = link; next = to_step (hop from to) }) (hop_kept from (hop_level from to) (omega (arith, under)) l (hop_level-le from to))
                   ∙ is_on (collected dig ps (to_step (hop from to)) (hop from to) to) (link_before dig ps link) (record { links = rest.links; last = to_step to }) rest.is;
               path = path_on from to under l rest.links rest.path;
             })

@@ -1,11 +1,10 @@
 -- The rules of step pages, as tests.
-use Rattle.std.proofs.Common.{◌≡◌, ℕ, suc, zero, ◌+◌, ◌^◌, ◌<◌, ◌≤◌, List, length, refl, ap, sym, ◌∙◌, arith, inl, inr, Bool, true, false}
+use Rattle.std.proofs.Common.{◌≡◌, ℕ, suc, zero, ◌+◌, ◌^◌, ◌<◌, List, refl, ap, ◌∙◌, arith, inl, inr, Bool, true, false}
 use Rattle.std.specs.Prelude.{nat_lt, ◌==◌, ◌&&◌, if◌then◌else◌}
 use Rattle.std.proofs.lemmas.Bool.{lt-ltb}
 use Rattle.std.proofs.lemmas.Bool.Decides.{eqb_tells}
-use Rattle.tw_skiplist.specs.declared.fields.StepFields.{StepFields}
 use Rattle.tw_skiplist.specs.declared.head.StepRef.{StepRef}
-use Rattle.tw_skiplist.specs.StepPages.{keeps_field_rules, keeps_link_rules, lies_below, link_of}
+use Rattle.tw_skiplist.specs.StepPages.{keeps_link_rules, lies_below, link_of}
 
 pub both_true : (a b : Bool) → a ≡ true → b ≡ true → (a && b) ≡ true
 both_true a b one two = ap (λ (x : Bool). x && b) one ∙ two
@@ -21,7 +20,7 @@ below_where n m page above less none some =
     (elim (eqb_tells n m) [
       | inl is ↦ ap (λ (b : Bool). if b then page == 0 else nat_lt 0 page) is.0 ∙ ap (λ (p : ℕ). p == 0) (none is.1)
       | inr not ↦ ap (λ (b : Bool). if b then page == 0 else nat_lt 0 page) not.0
-          ∙ lt-ltb 0 page (elim (eqb_tells page 0) [ | inl zero_page ↦ absurd (not.1 (some zero_page.1)) | inr more ↦ (let ne = more.1 in omega (arith, ne)) ])
+          ∙ lt-ltb 0 page (elim (eqb_tells page 0) [ inl zero_page ↦ absurd (not.1 (some zero_page.1)) | inr more ↦ (let ne = more.1 in omega (arith, ne)) ])
     ])
 
 -- the rules at each level

@@ -1,5 +1,5 @@
 -- The codecs of step pages are lawful, and what fits them.
-use Rattle.std.proofs.Common.{◌≡◌, ℕ, suc, ◌<◌, ◌≤◌, ◌^◌, List, length, ap, arith}
+use Rattle.std.proofs.Common.{◌≡◌, ℕ, suc, ◌<◌, ◌≤◌, ◌^◌, List, length, arith}
 use Rattle.tw_base.specs.Codecs.{HasBytes, behind, bytes_codec, many, number_codec, pair, seen}
 use Rattle.tw_base.specs.Levels.{top_level}
 use Rattle.tw_base.specs.Lists.{Each}

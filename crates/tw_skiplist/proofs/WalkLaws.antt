@@ -1,17 +1,15 @@
 -- Walks down the greedy path, step by step.
-use Rattle.std.proofs.Common.{◌≡◌, ℕ, suc, zero, ◌+◌, ◌-◌, ◌^◌, ◌<◌, ◌≤◌, List, [], ◌∷◌, ◌++◌, length, refl, ap, sym, ◌∙◌, arith, append_assoc}
+use Rattle.std.proofs.Common.{◌≡◌, ℕ, suc, zero, ◌+◌, ◌-◌, ◌^◌, ◌<◌, ◌≤◌, List, [], ◌∷◌, ◌++◌, refl, ap, sym, ◌∙◌, arith, append_assoc}
 use Rattle.tw_disk.specs.Image.{Image}
 use Rattle.tw_skipproof.specs.declared.path.Link.{Link}
 use Rattle.tw_skipproof.specs.Paths.{hop, hop_level}
 use Rattle.tw_skipproof.proofs.GreedySteps.{greedy_steps-more, greedy_steps-none}
 use Rattle.tw_skiplist.specs.declared.collecting.Collected.{Collected}
-use Rattle.tw_skiplist.specs.declared.collecting.Hop.{Hop}
 use Rattle.tw_skiplist.specs.declared.head.StepRef.{StepRef}
 use Rattle.tw_skiplist.specs.Found.{Found, ◌>>=◌}
 use Rattle.tw_skiplist.specs.Found.Found.{Is, Bad}
 use Rattle.tw_skiplist.specs.StepPages.{link_of}
 use Rattle.tw_skiplist.specs.Walks.{collect_along, collected, hop_in, link_before, link_in, links_up_to, walk, walk_along}
-use Rattle.tw_skiplist.proofs.FoundLaws.{is_on}
 
 module _ (ps : Image) (link : StepRef) (at to : ℕ) where
   pub walk-here : at ≤ to → walk ps link at to ≡ Is link

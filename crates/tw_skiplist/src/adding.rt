@@ -122,11 +122,11 @@ fn put_step<P: Pages, H: Hasher>(
     requires count { length links.now.links.items ≡ suc (top_level_of step) }
     ensures put { IfOk result (λ new. (ps : Image) → P.list pages.old ≡ Some ps →
         P.list pages.new ≡ Some (with_step ps step recorded.now.stream (record {
-            count = recorded.now.count;
-            stream = record { page = first_page_of ps (length recorded.now.stream); size = length recorded.now.stream };
-            event_root = recorded.now.event_root;
-            archive = recorded.now.archive;
-            auth = new.auth;
+          count = recorded.now.count;
+          stream = record { page = first_page_of ps (length recorded.now.stream); size = length recorded.now.stream };
+          event_root = recorded.now.event_root;
+          archive = recorded.now.archive;
+          auth = new.auth;
         }) links.now.links.items)) }
     ensures at { IfOk result (λ new. new.page ≡ P.used_count pages.old + piece_count (length recorded.now.stream)) }
     ensures left { OnErr result ((ps : Image) → P.list pages.old ≡ Some ps → Extends ps (P.list pages.new)) }

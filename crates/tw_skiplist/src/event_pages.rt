@@ -17,8 +17,8 @@ use crate::page::is_event_page;
 use std::alloc::Global;
 use tw_base::limits::{MOST_EVENT_BYTES, MOST_EVENTS, MOST_STEP_BYTES};
 use tw_base::{Bytes, EventList, NoMemory};
-use tw_disk::limits::FIRST_PAGE;
 use tw_disk::Pages;
+use tw_disk::limits::FIRST_PAGE;
 
 // Reads the event page of this number of the step, and appends its piece of a stream of this size.
 fn add_piece<P: Pages>(

@@ -111,11 +111,7 @@ fn take_link(bytes: &[u8], at: &mut u64) -> Result<StepRef, ReadFault>
 }
 
 // Takes so many links.
-fn take_links(
-    bytes: &[u8],
-    at: &mut u64,
-    count: u8,
-) -> Result<ArrayVec<StepRef, 40>, ReadFault>
+fn take_links(bytes: &[u8], at: &mut u64, count: u8) -> Result<ArrayVec<StepRef, 40>, ReadFault>
     requires within { at.old ≤ length bytes.now }
     requires few { count ≤ MOST_LINKS }
     ensures takes { Takes (many count ref_codec) (λ links. links.items) bytes.now at.old at.new result }

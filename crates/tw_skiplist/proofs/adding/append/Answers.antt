@@ -1,7 +1,5 @@
 use Rattle.std.proofs.Common.{◌≡◌, ◌+◌, ℕ, List, length, ap, sym, ◌∙◌, arith}
-use Rattle.tw_disk.specs.Image.{Image}
 use Rattle.tw_base.specs.Texts.{authenticator_text, datum_text}
-use Rattle.tw_skiplist.specs.declared.head.StepRef.{StepRef}
 use Rattle.tw_skiplist.specs.Appended.{appended, first_page, new_auth, next_of, with_step}
 use Rattle.tw_skiplist.specs.Events.{piece_count}
 use Rattle.tw_skiplist.specs.Found.Found.{Is}
@@ -36,7 +34,7 @@ returns-clause-answer g c = λ ps told.
     let label_is : new.auth ≡ new_auth dig ps head events archive links =
     c.in_ok-new.ensures.auth
     ∙ ap (λ (ls : List (List ℕ)). dig (authenticator_text step ls)) (c.in_ok-links.ensures.labels
-      ∙ ap (λ (d : List ℕ). page_labels dig step d links (length links)) (c.datum-datum.ensures.label ∙ (λ j. dig (datum_text (root_is j) archive.label (count_is j))))) in
+    ∙ ap (λ (d : List ℕ). page_labels dig step d links (length links)) (c.datum-datum.ensures.label ∙ (λ j. dig (datum_text (root_is j) archive.label (count_is j))))) in
     let used = g.met.P.Pages.told_count c.args.pages.now ps told in
     let page_is : new.page ≡ 4 + length ps + piece_count (length bytes) = c.in_ok-new.ensures.at ∙ omega (arith, c.in_ok-links.ensures.kept.used_kept, used) in
     let put = c.in_ok-new.ensures.put ps (c.in_ok-links.ensures.kept.list_kept ∙ told) in (

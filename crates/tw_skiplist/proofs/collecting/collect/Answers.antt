@@ -1,6 +1,5 @@
-use Rattle.std.proofs.Common.{◌≡◌, ◌<◌, ◌-◌, ◌^◌, ◌++◌, ◌∷◌, [], ℕ, List, length, ap, sym, ◌∙◌, subst, arith}
+use Rattle.std.proofs.Common.{◌≡◌, ◌<◌, ◌-◌, ◌^◌, ◌++◌, [], ℕ, List, length, ap, sym, ◌∙◌, subst, arith}
 use Rattle.std.proofs.lemmas.List.{append-nil}
-use Rattle.tw_disk.specs.Image.{Image}
 use Rattle.tw_disk.proofs.ReadingLaws.{only_reads_itself, only_reads_on}
 use Rattle.tw_base.specs.Levels.{top_level}
 use Rattle.tw_base.proofs.Levels.{top_level-below}
@@ -8,13 +7,11 @@ use Rattle.tw_skipproof.specs.Paths.{HasShape, hop, hop_level}
 use Rattle.tw_skipproof.specs.declared.path.Link.{Link}
 use Rattle.tw_skipproof.proofs.Hops.{hop_level-le, hop_level-short}
 use Rattle.tw_skiplist.specs.declared.collecting.Collected.{Collected}
-use Rattle.tw_skiplist.specs.declared.collecting.Hop.{Hop}
-use Rattle.tw_skiplist.specs.declared.head.StepRef.{StepRef}
 use Rattle.tw_skiplist.specs.Answers.{IsFaultOf}
 use Rattle.tw_skiplist.specs.Found.{Found, ◌>>=◌}
 use Rattle.tw_skiplist.specs.Found.Found.{Is}
 use Rattle.tw_skiplist.specs.Walks.{collected, hop_in, link_before}
-use Rattle.tw_skiplist.proofs.FoundLaws.{bad_on, in_turn, is_on, passed}
+use Rattle.tw_skiplist.proofs.FoundLaws.{bad_on, is_on, passed}
 use Rattle.tw_skiplist.proofs.Shapes.{ShapesTo, shapes-end, shapes-further}
 use Rattle.tw_skiplist.proofs.WalkLaws.{ahead, ahead-more, ahead-none, collected-here, collected-on}
 use Rattle.tw_skiplist.proofs.collecting.collect.Goals as goal
@@ -80,7 +77,7 @@ loop-at-preserved g c =
           subst (λ (l : ℕ). hop_in dig ps last.page at l ≡ Is (record { link = link; next = next })) level (c.in_ok-link.ensures.answer ps (inv.kept.list_kept ∙ told)) in
           inv.on ps told
           ∙ ap (λ (f : Found Collected). f >>= ahead links) (collected-on ps last at to dig under
-            ∙ is_on (hop_in dig ps last.page at (hop_level at to)) (λ hopped. collected dig ps hopped.next (hop at to) to >>= link_before dig ps hopped.link) (record { link = link; next = next }) own)
+          ∙ is_on (hop_in dig ps last.page at (hop_level at to)) (λ hopped. collected dig ps hopped.next (hop at to) to >>= link_before dig ps hopped.link) (record { link = link; next = next }) own)
           ∙ ahead-more dig ps links link (collected dig ps next (hop at to) to)
           ∙ ap (λ (ls : List Link). collected dig ps next (hop at to) to >>= ahead ls) (sym c.in_ok-push.ensures.ok)
           ∙ ap (λ (p : ℕ). collected dig ps next (at - p) to >>= ahead c.push.new.self) (sym power);

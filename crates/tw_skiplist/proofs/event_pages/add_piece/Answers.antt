@@ -1,7 +1,7 @@
 use Rattle.std.proofs.Common.{◌≡◌, false, IsTrue, ℕ, ◌+◌, ◌-◌, ◌++◌, List, ap, sym, ◌∙◌, arith, refl, inl, inr, take, drop}
 use Rattle.tw_disk.specs.Image.{page_at}
 use Rattle.tw_skiplist.specs.Events.{piece_size}
-use Rattle.tw_skiplist.specs.Found.{Found, bytes_in, spelled, ◌>>=◌}
+use Rattle.tw_skiplist.specs.Found.{Found, spelled, ◌>>=◌}
 use Rattle.tw_skiplist.specs.Found.Found.{Bad}
 use Rattle.tw_skiplist.specs.StepBytes.{event_page_bytes, piece_codec}
 use Rattle.tw_skiplist.proofs.FoundLaws.{bytes_in-out, bytes_in-within, page-is, page-none}
@@ -58,9 +58,9 @@ returns-else-is_event_page-clause-answer g c = λ ps told.
     ∙ ap (λ (b : List ℕ). spelled at 4096 (piece_codec info.step number size) b) (sym page_is)
     ∙ ap (λ (n : ℕ). spelled at 4096 (piece_codec info.step number n) page) (sym c.min-count.ensures)
     ∙ page-none at (piece_codec info.step number count) (piece-lawful info.step number count) page
-      (λ bytes is.
-      let own = of_event_page info.step number count page bytes is in
-      let read = piece_read info.step number count page bytes own.0 own.1 in
-      let bad : IsTrue false = c.if-is_event_page.ensures.answer.1 (own.0 ∙ ap (λ (b : List ℕ). event_page_bytes info.step number b) (sym read)) in
-      cc)
+    (λ bytes is.
+    let own = of_event_page info.step number count page bytes is in
+    let read = piece_read info.step number count page bytes own.0 own.1 in
+    let bad : IsTrue false = c.if-is_event_page.ensures.answer.1 (own.0 ∙ ap (λ (b : List ℕ). event_page_bytes info.step number b) (sym read)) in
+    cc)
     ∙ ap (λ (p : ℕ). Bad p) (sym c.requires.page)

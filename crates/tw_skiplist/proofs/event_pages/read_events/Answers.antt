@@ -83,12 +83,14 @@ returns-clause-limits c =
     let end : c.loop-index.at ≡ length bytes = omega (arith, c.if-at-bytes.false) in
     let sum = length-stream events in
     let size : length (stream events) ≡ c.loop-index.at = ap (λ (t : List ℕ). length t) inv.so_far ∙ length-take c.loop-index.at bytes ∙ omega (arith, inv.within) in
-    let spelt : stream events ≡ bytes = inv.so_far ∙ take_all c.loop-index.at bytes (omega (arith, end)) in
-    (record {
+    let spelt : stream events ≡ bytes = inv.so_far ∙ take_all c.loop-index.at bytes (omega (arith, end)) in (
+      record {
         are = record {
           count = omega (arith, inv.count, done, c.if-count-gt-MOST_EVENTS.false);
           sizes = inv.sizes;
           bytes = spelled_bytes events (subst AreBytes (sym spelt) (AreBytes-from bytes (λ i. omega (arith, c.type_inv.bytes i))));
         };
         fit = omega (arith, sum, size, inv.count, done, c.if-at-count.false);
-      }, inv.count ∙ done)
+      },
+      inv.count ∙ done,
+    )

@@ -1,5 +1,4 @@
 use Rattle.std.proofs.Common.{◌≡◌, ◌+◌, ◌-◌, ◌++◌, ℕ, suc, List, ap, sym, ◌∙◌, subst, arith, refl}
-use Rattle.tw_disk.specs.Image.{Image}
 use Rattle.tw_disk.proofs.ReadingLaws.{only_reads_itself, only_reads_on}
 use Rattle.tw_skiplist.specs.declared.event_pages.StreamRead.{StreamRead}
 use Rattle.tw_skiplist.specs.Answers.{IsFaultOf}

@@ -1,5 +1,3 @@
-use Rattle.std.proofs.Common.{ℕ, List}
-use Rattle.tw_base.proofs.DigestBytes.{IsDigest}
 use Rattle.tw_skiplist.proofs.KeptAppended.{grown}
 use Rattle.tw_skiplist.proofs.KeptEvents.{events_are}
 use Rattle.tw_skiplist.proofs.KeptReadings.{events_found, path_found, proof_found, step_found}

@@ -1,5 +1,5 @@
-use Rattle.std.proofs.Common.{◌≡◌, ◌+◌, ◌-◌, ◌^◌, ◌<◌, ℕ, suc, zero, List, [], ◌∷◌, get_or, refl, ap, sym, ◌∙◌, arith, false, true, Bool}
-use Rattle.std.specs.Prelude.{◌==◌, ◌&&◌, length}
+use Rattle.std.proofs.Common.{◌≡◌, ◌+◌, ◌-◌, ◌^◌, ◌<◌, ℕ, suc, zero, List, [], ◌∷◌, get_or, refl, ap, sym, ◌∙◌, arith, false, true}
+use Rattle.std.specs.Prelude.{◌==◌, length}
 use Rattle.tw_skiplist.specs.declared.head.StepRef.{StepRef}
 use Rattle.tw_skiplist.specs.StepPages.{keeps_link_rules, lies_below, link_of, no_ref}
 use Rattle.tw_skiplist.proofs.Rules.{and_false, both_true, link_rules-first, link_rules-more, link_rules-no}

@@ -1,4 +1,4 @@
-use Rattle.std.proofs.Common.{◌≤◌, ◌*◌, ◌+◌, length, arith}
+use Rattle.std.proofs.Common.{arith}
 use Rattle.tw_base.proofs.PutLaws.{put-all, put-more, put-none}
 use Rattle.tw_skiplist.specs.StepBytes.{ref_codec}
 use Rattle.tw_skiplist.proofs.page.put_links.Goals as goal

@@ -1,4 +1,4 @@
-use Rattle.std.proofs.Common.{◌≡◌, List, length, ap, sym, ◌∙◌, arith, Bool}
+use Rattle.std.proofs.Common.{List, length, ap, sym, ◌∙◌, Bool}
 use Rattle.std.specs.Prelude.{◌&&◌}
 use Rattle.tw_disk.proofs.PageLaws.{takes-page}
 use Rattle.tw_skiplist.specs.declared.fields.StepFields.{StepFields}

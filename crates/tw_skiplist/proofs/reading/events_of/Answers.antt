@@ -1,5 +1,5 @@
 use Rattle.std.proofs.Common.{◌≡◌, ◌<◌, ◌≤◌, ℕ, List, Option, Some, None, ap, sym, ◌∙◌, subst, arith, Bool}
-use Rattle.std.specs.Prelude.{MatchOption, nat_lt, if◌then◌else◌}
+use Rattle.std.specs.Prelude.{MatchOption, if◌then◌else◌}
 use Rattle.std.proofs.lemmas.Bool.{le-ltb, lt-ltb}
 use Rattle.tw_disk.specs.Image.{Image}
 use Rattle.tw_skiplist.specs.declared.info.StepInfo.{StepInfo}
@@ -7,7 +7,7 @@ use Rattle.tw_skiplist.specs.declared.limits.TheConstants.{MOST_STREAM_BYTES}
 use Rattle.tw_skiplist.specs.Answers.{IsFaultOf}
 use Rattle.tw_skiplist.specs.Events.{events_in, events_of_info, last_page, piece_count, pieces_below}
 use Rattle.tw_skiplist.specs.Found.{Found, ◌>>=◌}
-use Rattle.tw_skiplist.specs.Found.Found.{Is, Bad}
+use Rattle.tw_skiplist.specs.Found.Found.{Bad}
 use Rattle.tw_skiplist.proofs.FoundLaws.{bad_on, is_on, passed}
 use Rattle.tw_skiplist.proofs.reading.events_of.Goals as goal
 

@@ -1,6 +1,5 @@
 use Rattle.std.proofs.Common.{◌≡◌, ◌≤◌, ◌∙◌, ap, sym, arith}
 use Rattle.tw_disk.proofs.ReadingLaws.{only_reads_on}
-use Rattle.tw_disk.specs.Image.{Image}
 use Rattle.tw_skipproof.proofs.Greedy.{few_links}
 use Rattle.tw_skiplist.specs.declared.collecting.Collected.{Collected}
 use Rattle.tw_skiplist.specs.declared.head.StepRef.{StepRef}
@@ -54,8 +53,10 @@ returns-in_err-info-clause-answer g c = λ ps told.
     let i = c.args.i in
     let down : walk ps (head_ref head) head.step top ≡ Is link = ap (λ (first : StepRef). walk ps first head.step top) (sym c.link_to_head.ensures) ∙ c.in_ok-link.ensures.answer ps told in
     passed (λ (x : StepProof). x) c.from_residual-in_err-info.result fault (found_proof dig ps head top i) c.from_residual-in_err-info.ensures.1
-    (rw (is_on (walk ps (head_ref head) head.step top) (λ middle. collected dig ps middle top i >>= (λ way. info_in dig ps way.last.page i >>= with_info way)) link down,
-    is_on (collected dig ps link top i) (λ way. info_in dig ps way.last.page i >>= with_info way) way (c.in_ok-links.ensures.answer ps (c.in_ok-link.ensures.kept.list_kept ∙ told)))
+    (rw (
+      is_on (walk ps (head_ref head) head.step top) (λ middle. collected dig ps middle top i >>= (λ way. info_in dig ps way.last.page i >>= with_info way)) link down,
+      is_on (collected dig ps link top i) (λ way. info_in dig ps way.last.page i >>= with_info way) way (c.in_ok-links.ensures.answer ps (c.in_ok-link.ensures.kept.list_kept ∙ told)),
+    )
     (bad_on fault (info_in dig ps way.last.page i) (with_info way) (c.in_err-info.ensures.answer ps (c.in_ok-links.ensures.kept.list_kept ∙ c.in_ok-link.ensures.kept.list_kept ∙ told))))
 
 pub returns-clause-answer : goal.returns-clause-answer

@@ -1,4 +1,4 @@
-use Rattle.std.proofs.Common.{◌∙◌, arith, inl, inr, sym}
+use Rattle.std.proofs.Common.{◌∙◌, arith, inl, inr}
 use Rattle.tw_skiplist.proofs.FoundLaws.{step_page-in, step_page-out}
 use Rattle.tw_skiplist.proofs.walking.read_step.Goals as goal
 use Rattle.tw_skiplist.proofs.walking.read_step.Goals.{then-page-lt-FIRST_PAGE-via-then-page-lt-FIRST_PAGE, then-page-lt-FIRST_PAGE-via-else-page-lt-FIRST_PAGE+then-page-used}
