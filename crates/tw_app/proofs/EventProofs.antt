@@ -13,6 +13,7 @@ use Rattle.tw_chain.specs.Accepting.{Accepts}
 use Rattle.tw_skipproof.specs.HistoryProofs.{MakesExistence}
 use Rattle.tw_disk.specs.Image.{Image}
 use Rattle.tw_base.specs.Faults.{Rose}
+use Rattle.tw_skiplist.proofs.StepCodecs.{events-few}
 use Rattle.tw_skiplist.specs.declared.head.Head.{Head}
 use Rattle.tw_skiplist.specs.declared.info.StepInfo.{StepInfo}
 use Rattle.tw_skiplist.specs.Records.{FindsProof}
@@ -104,7 +105,7 @@ module _ (h : History) (step index top : ℕ) (sound : IsSound h) where
 -- ---- what the pages have of an event of an index of more than 32 bits
 
 few_told : (pages : Image) (head : Head) (top step : ℕ) (info : StepInfo) → FindsProof sha256 pages head top step info → info.count < 4294967296
-few_told pages head top step info finds = omega (arith, ap (λ (i : StepInfo). i.count) finds.tells.info_is, finds.tells.is.is.widths.count)
+few_told pages head top step info finds = omega (arith, ap (λ (i : StepInfo). i.count) finds.tells.info_is, events-few step finds.tells.fields finds.tells.links finds.tells.is.is.spelled.fits)
 
 below_least : (index count : ℕ) → count < 4294967296 → min index 4294967295 < count → index < count
 below_least index count few below = omega (arith, few, below)

@@ -1,10 +1,10 @@
 -- The laws of a codec, field by field.
-use Rattle.std.proofs.Common.{◌≡◌, ℕ, suc, zero, ◌-◌, ◌<◌, ◌≤◌, ◌^◌, List, [], ◌∷◌, ◌++◌, length, replicate, flat_map, refl, ap, sym, ◌∙◌, subst, arith}
+use Rattle.std.proofs.Common.{◌≡◌, ℕ, suc, zero, ◌<◌, ◌≤◌, ◌^◌, List, [], ◌∷◌, ◌++◌, length, flat_map, refl, ap, sym, ◌∙◌, subst, arith}
 use Rattle.std.specs.Prelude.{Result, Ok, Err, nat_le, nat_lt, ◌&&◌, Bool, true, false}
 use Rattle.std.proofs.lemmas.List.{append-nil}
 use Rattle.std.proofs.lemmas.Bool.{and_parts, leb-true, ltb-true}
 use Rattle.tw_base.specs.Bytes.{AreBytes}
-use Rattle.tw_base.specs.Codecs.{Codec, EachFits, HasBytes, IsUnambiguous, before, behind, by_kind, bytes_codec, cased, choose, counted, each, each_format, labels_codec, many, name_codec, number_codec, padded, pair, seen, sized_codec, text_codec}
+use Rattle.tw_base.specs.Codecs.{Codec, EachFits, HasBytes, IsUnambiguous, before, behind, by_kind, bytes_codec, cased, choose, counted, each, each_format, labels_codec, many, name_codec, number_codec, pair, seen, sized_codec, text_codec}
 use Rattle.tw_base.specs.Formats.{Format, GoesOn, Placed, Spells, read_at, then_by, ◌>>=◌}
 use Rattle.tw_base.specs.Formats.Format.{Done, Byte}
 use Rattle.tw_base.specs.Fields.{bytes, number, repeated, sized_bytes, text}
@@ -246,25 +246,6 @@ module _ {X : Type 0} where
         spells_then c.format _ (c.write x) _ x x (l.spells x f) (subst P (append-nil last) (spells_then (text last) _ last [] last x (text-spells last) refl)));
   }
 
-  pub lawful-padded : (size : ℕ) (c : Codec X) → Lawful c → Lawful (padded size c)
-  unfolding padded
-  lawful-padded size c l =
-      let zeros : X → List ℕ = λ x. replicate (size - length (c.write x)) 0 in
-      record {
-        goes = goes_on-then c.format _ l.goes (λ x. goes_on-then (text (zeros x)) _ (goes_on-text (zeros x)) (λ t. tt));
-        reads = λ whole at. simp (read_at-then, read_at-done, l.reads);
-        words =
-            all_words-then c.format _ _ (λ one x s.
-            all_words-then (text (zeros x)) _ _ (λ other t u.
-            let first = l.words one x s in
-            let word : one ++ (other ++ []) ≡ c.write x ++ zeros x = (λ k. first.0 k ++ (append-nil other ∙ text-word (zeros x) other t u) k) in
-            all_words-done x _ (word, first.1)));
-        spells = λ x f. (
-            let P : List ℕ → Type 0 = λ w. Spells (then_by (text (zeros x)) (λ t. Done x)) w x in
-            spells_then c.format _ (c.write x) _ x x (l.spells x f)
-            (subst P (append-nil (zeros x)) (spells_then (text (zeros x)) _ (zeros x) [] (zeros x) x (text-spells (zeros x)) refl)));
-      }
-
 -- ---- so many values
 module _ {X : Type 0} (c : Codec X) (l : Lawful c) where
   many-words : (n : ℕ) → AllWords (repeated n c.format) (λ word xs. (word ≡ flat_map c.write xs) × ((length xs ≡ n) × Each c.Fits xs))
@@ -349,4 +330,4 @@ pub lawful-counted_numeral : {X : Type 0} (c : Codec X) → Lawful c → (width 
 lawful-counted_numeral c l width least most is = let r = in_range width least most is in lawful-counted c l width least most r.0 r.1
 
 -- with them `search` finds the laws of a layout
-pub ruleset lawful = (lawful-seen, lawful-cased, lawful-choose, lawful-pair, lawful-behind, lawful-before, lawful-padded, lawful-bytes, lawful-counted_numeral, lawful-labels, lawful-many, lawful-name, lawful-numeral, lawful-numeral_from, lawful-sized_numeral, lawful-number, lawful-text)
+pub ruleset lawful = (lawful-seen, lawful-cased, lawful-choose, lawful-pair, lawful-behind, lawful-before, lawful-bytes, lawful-counted_numeral, lawful-labels, lawful-many, lawful-name, lawful-numeral, lawful-numeral_from, lawful-sized_numeral, lawful-number, lawful-text)

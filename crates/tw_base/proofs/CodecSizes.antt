@@ -1,14 +1,14 @@
 -- How many bytes the words of a codec have at most.
-use Rattle.std.proofs.Common.{◌≡◌, ℕ, ◌+◌, ◌-◌, ◌*◌, ◌≤◌, List, [], ◌∷◌, length, flat_map, replicate, ap, arith}
+use Rattle.std.proofs.Common.{◌≡◌, ℕ, ◌+◌, ◌*◌, ◌≤◌, List, [], ◌∷◌, length, flat_map, ap, arith}
 use Rattle.std.specs.Prelude.{Bool, true, false}
-use Rattle.std.proofs.lemmas.List.{length-append, length-replicate}
+use Rattle.std.proofs.lemmas.List.{length-append}
 use Rattle.std.proofs.Math.Nat.{mul-le-mul_right, suc-mul}
-use Rattle.tw_base.specs.Codecs.{Codec, HasBytes, before, behind, by_kind, bytes_codec, cased, choose, counted, labels_codec, many, name_codec, number_codec, padded, pair, seen, sized_codec}
+use Rattle.tw_base.specs.Codecs.{Codec, HasBytes, before, behind, by_kind, bytes_codec, cased, choose, counted, labels_codec, many, name_codec, number_codec, pair, seen, sized_codec}
 use Rattle.tw_base.specs.Fields.{number_bytes}
 use Rattle.tw_base.specs.Formats.{Spells}
 use Rattle.tw_base.specs.Lists.{Each}
 use Rattle.tw_base.specs.Texts.{joined}
-use Rattle.tw_base.proofs.CodecLaws.{Lawful, lawful-padded}
+use Rattle.tw_base.proofs.CodecLaws.{Lawful}
 use Rattle.tw_base.proofs.Naming.{IsName-size}
 use Rattle.tw_base.proofs.NumberLaws.{length-number_bytes}
 
@@ -88,10 +88,3 @@ module _ {X : Type 0} where
   -- so of the words
   pub word-size : (c : Codec X) → Lawful c → (n : ℕ) → AtMost c n → (word : List ℕ) (x : X) → Spells c.format word x → length word ≤ n
   word-size c l n most word x s = let is = l.words word x s in omega (arith, ap length is.0, most x is.1)
-
-  -- each word of a page has the page's size
-  pub page-size : (size : ℕ) (c : Codec X) → Lawful c → AtMost c size → (word : List ℕ) (x : X) → Spells (padded size c).format word x → length word ≡ size
-  unfolding padded
-  page-size size c l most word x s =
-      let is = (lawful-padded size c l).words word x s in
-      omega (arith, ap length is.0, most x is.1, length-append (c.write x) (replicate (size - length (c.write x)) 0), length-replicate {A = ℕ} (size - length (c.write x)) 0)

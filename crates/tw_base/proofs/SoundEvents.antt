@@ -1,10 +1,10 @@
 -- The events of each step of a sound history are within the limits.
-use Rattle.std.proofs.Common.{◌≡◌, ℕ, suc, zero, List, [], refl, sym, subst, lit≤}
+use Rattle.std.proofs.Common.{◌≡◌, ℕ, suc, zero, [], refl, lit≤}
 use Rattle.std.specs.Prelude.{Option, Some, None}
 use Rattle.tw_base.specs.declared.content.Content.{Content}
 use Rattle.tw_base.specs.declared.content.Content.TheVariants.{Events, Received}
 use Rattle.tw_base.specs.History.{History, Step, events_at, events_of, step_at}
-use Rattle.tw_base.specs.Limits.{AreEvents, FitTogether, IsWithinLimits, MayRecord}
+use Rattle.tw_base.specs.Limits.{AreEvents, IsWithinLimits, MayRecord}
 use Rattle.tw_base.specs.Rules.Rule.{EventsFit}
 use Rattle.tw_base.specs.Sound.{IsSound}
 

@@ -1,19 +1,25 @@
 -- From what readers of a codec answer at a place to what a reader of the whole bytes answers, and loops over lists.
-use Rattle.std.proofs.Common.{◌≡◌, ℕ, suc, ◌+◌, ◌≤◌, List, [], ◌∷◌, ◌++◌, length, refl, ap, sym, ◌∙◌, subst, arith, append_assoc}
-use Rattle.std.specs.Prelude.{IfOk, Result, Ok, Err}
+use Rattle.std.proofs.Common.{◌≡◌, ℕ, suc, ◌+◌, ◌≤◌, List, [], ◌∷◌, ◌++◌, length, refl, ap, sym, ◌∙◌, subst, arith, append_assoc, inl, inr}
+use Rattle.std.specs.Prelude.{IfErr, IfOk, MatchResult, Result, Ok, Err, ◌≢◌}
+use Rattle.std.proofs.lemmas.Bool.{cases_lt}
 use Rattle.std.proofs.lemmas.List.{append-nil, length-append, length-drop}
 use Rattle.tw_base.specs.declared.failure.ReadFault.{ReadFault}
 use Rattle.tw_base.specs.declared.failure.ReadFault.TheVariants.{Malformed, NoMemory}
 use Rattle.tw_base.specs.Codecs.{Codec, EachFits, by_kind, counted, each, each_format, many, number_codec}
 use Rattle.tw_base.specs.Fields.{repeated}
-use Rattle.tw_base.specs.Formats.{GivesIfMemory, GivesWithEnd, IsFrontTo, IsWholeTo, Placed, ReadsAs, ReadsFrontAs, read_at, ◌>>=◌}
+use Rattle.tw_base.specs.Formats.{GivesIfMemory, GivesWithEnd, IsFrontTo, IsWholeTo, Placed, ReadsAs, ReadsFrontAs, Spells, read_at, ◌>>=◌}
 use Rattle.tw_base.specs.Lists.{Each}
 use Rattle.tw_base.specs.Taking.{Takes}
 use Rattle.tw_base.proofs.CodecLaws.{Lawful, spelled-fits}
 use Rattle.tw_base.proofs.ListLemmas.{Each-append}
-use Rattle.tw_base.proofs.FormatLaws.{read_at-done, read_at-spells, read_at-then, reads_front, reads_whole_to}
+use Rattle.tw_base.proofs.FormatLaws.{one_value, read_at-done, read_at-spells, read_at-then, reads_front, reads_whole_to}
 
 module _ {X : Type 0} (c : Codec X) (l : Lawful c) where
+  -- bytes are the spelling of one value at most
+  pub word-once : (bytes : List ℕ) (x y : X) → bytes ≡ c.write x → c.Fits x → bytes ≡ c.write y → c.Fits y → x ≡ y
+  word-once bytes x y is fits other others =
+      one_value c.format bytes x y (subst (λ word. Spells c.format word x) (sym is) (l.spells x fits)) (subst (λ word. Spells c.format word y) (sym other) (l.spells y others))
+
   -- what was read fits, and stands within the bytes
   pub took-fits : (bytes : List ℕ) (at after : ℕ) (x : X) → at ≤ length bytes → c.read bytes at ≡ Ok (record { value = x; after = after })
       → c.Fits x × (after ≤ length bytes)
@@ -36,6 +42,21 @@ module _ {X Y : Type 0} (c : Codec X) (l : Lawful c) (view : Y → X) where
   -- a reader of the whole bytes
   pub takes-whole : (bytes : List ℕ) (after : ℕ) (read r : Result Y ReadFault) → Takes c view bytes 0 after read → IsWholeTo bytes after read r → ReadsAs view c.format bytes r
   takes-whole bytes after read r t w = reads_whole_to c.format l.goes view bytes after read r (gives bytes after read t) w
+
+  ends-so : (bytes : List ℕ) (after : ℕ) (read : Result Y ReadFault) → IfErr read (λ fault. fault ≢ NoMemory) → IsWholeTo bytes after read (Err NoMemory) → ⊥
+  ends-so bytes after (Ok y) memory w = elim (cases_lt after (length bytes)) [
+    | inl less ↦ (let bad = w.0 less in cc)
+    | inr more ↦ (let bad = w.1 more in cc)
+  ]
+  ends-so bytes after (Err fault) memory w = memory (let same : Err NoMemory ≡ Err fault = w in cc)
+
+  -- the same of a reader that takes no memory: the value whose spelling the bytes are, where they are one
+  pub takes-word : (bytes : List ℕ) (after : ℕ) (read r : Result Y ReadFault) → Takes c view bytes 0 after read → IfErr read (λ fault. fault ≢ NoMemory) → IsWholeTo bytes after read r
+      → MatchResult r (λ y. (bytes ≡ c.write (view y)) × c.Fits (view y)) (λ fault. (x : X) → bytes ≡ c.write x → c.Fits x → ⊥)
+  takes-word bytes after read (Ok y) t memory w = l.words bytes (view y) (takes-whole bytes after read (Ok y) t w)
+  takes-word bytes after read (Err (Malformed place)) t memory w = λ x is fits.
+      (takes-whole bytes after read (Err (Malformed place)) t w).0 x (let P : List ℕ → Type 0 = λ word. Spells c.format word x in subst P (sym is) (l.spells x fits))
+  takes-word bytes after read (Err NoMemory) t memory w = absurd (ends-so bytes after read memory w)
 
   gives-end : (bytes : List ℕ) (after : ℕ) (read : Result Y ReadFault) (r : Result (Y × ℕ) ReadFault) → Takes c view bytes 0 after read → IsFrontTo after read r → GivesWithEnd view r (read_at c.format bytes 0)
   gives-end bytes after (Ok y) r t e = let P : Result (Y × ℕ) ReadFault → Type 0 = λ s. GivesWithEnd view s (read_at c.format bytes 0) in subst P (sym e) (l.reads bytes 0 ∙ t.0)

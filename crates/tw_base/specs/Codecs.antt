@@ -1,6 +1,6 @@
 -- Codecs. One declaration of a format: which bytes spell what, which values have a spelling and which one, and how a
 -- reader goes over the bytes field by field. The laws that join the four are in proofs/CodecLaws.
-use Rattle.std.specs.Prelude.{◌≡◌, ℕ, ◌-◌, ◌≤◌, List, [], ◌∷◌, ◌++◌, length, replicate, flat_map, Bool, true, false, Result, Ok}
+use Rattle.std.specs.Prelude.{◌≡◌, ℕ, ◌≤◌, List, [], ◌∷◌, ◌++◌, length, flat_map, Bool, true, false, Result, Ok}
 use Rattle.tw_base.specs.Bytes.{AreBytes}
 use Rattle.tw_base.specs.Formats.{Format, OneSpelling, Placed, Spells, WrittenAs, then_by, read_at, ◌>>=◌}
 use Rattle.tw_base.specs.Formats.Format.{Done}
@@ -140,15 +140,6 @@ module _ {X : Type 0} where
     Fits = c.Fits;
     write = λ x. c.write x ++ last;
     read = λ whole at. c.read whole at >>= (λ x. (text_codec last).read whole x.after >>= (λ t. Ok (record { value = x.value; after = t.after })));
-  }
-
-  -- a page: zeros behind, up to so many bytes
-  unfoldable pub padded : ℕ → Codec X → Codec X
-  padded size c = record {
-    format = then_by c.format (λ x. then_by (text (replicate (size - length (c.write x)) 0)) (λ zeros. Done x));
-    Fits = c.Fits;
-    write = λ x. c.write x ++ replicate (size - length (c.write x)) 0;
-    read = λ whole at. c.read whole at >>= (λ x. read_at (text (replicate (size - length (c.write x.value)) 0)) whole x.after >>= (λ zeros. Ok (record { value = x.value; after = zeros.after })));
   }
 
 -- ---- lists

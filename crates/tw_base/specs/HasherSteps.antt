@@ -1,9 +1,9 @@
 -- That digests are bytes, for the laws of the hashers.
-use Rattle.std.specs.Prelude.{ℕ, suc, zero, ◌<◌, ◌+◌, ◌%◌, ◌/◌, ◌^◌, List, [], ◌∷◌, ◌++◌, sum, replicate, slice_index}
+use Rattle.std.specs.Prelude.{ℕ, suc, zero, ◌<◌, ◌/◌, ◌^◌, List, [], ◌∷◌, ◌++◌, sum, replicate, slice_index}
 use Rattle.std.specs.Int.{byte_at, bytes_high_first, to_be_bytes, w32}
-use Rattle.std.proofs.Common.{arith, lit<}
+use Rattle.std.proofs.Common.{lit<}
 use Rattle.std.proofs.Math.Nat.{mod-lt}
-use Rattle.sha2.specs.Sha256.{digest_bytes, final_hash, initial_hash_256, sha256}
+use Rattle.sha2.specs.Sha256.{digest_bytes, sha256}
 use Rattle.tw_base.specs.Bytes.{AreBytes}
 use Rattle.tw_base.specs.Weak.{weak}
 

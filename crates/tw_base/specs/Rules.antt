@@ -1,5 +1,5 @@
 -- The six rules that each step of a sound history keeps.
-use Rattle.std.specs.Prelude.{◌≡◌, ◌≢◌, ℕ, suc, ◌<◌, ◌≤◌, List, [], ◌∷◌, length, Some, IsSome, IfSome}
+use Rattle.std.specs.Prelude.{◌≡◌, ◌≢◌, ℕ, suc, ◌<◌, List, [], ◌∷◌, length, Some, IsSome, IfSome}
 use Rattle.tw_base.specs.Lists.{Each}
 use Rattle.tw_base.specs.History.{History, Step, Node, events_of, thread_of, entry_to, received}
 use Rattle.tw_base.specs.Limits.{FitTogether}

@@ -62,8 +62,7 @@ pub use root::Root;
 pub use sequence::{Bytes, EventList, Sequence};
 pub use side::Side;
 pub use taking::{
-    take_bytes, take_digest, take_labels, take_name, take_number, take_sized, take_slice,
-    take_text, take_zeros,
+    take_bytes, take_digest, take_labels, take_name, take_number, take_sized, take_slice, take_text,
 };
 pub use thread::{Entries, Entry, Key, Place, Thread, Threads, compare_keys, entry_key};
 pub use writers::{put_bytes, put_digest, put_labels, put_name, put_number, put_sized, put_text};

@@ -3,7 +3,7 @@
 // place. Only those that are given an allocator take memory.
 #![tactic(auto, unfolding(crate::specs::Codecs::bytes_codec, crate::specs::Codecs::labels_codec, crate::specs::Codecs::name_codec, crate::specs::Codecs::number_codec, crate::specs::Codecs::sized_codec, crate::specs::Codecs::text_codec))]
 
-ghost use Rattle.std.specs.Prelude.{◌≡◌, ◌≢◌, ◌^◌, ◌<◌, ◌≤◌, length, replicate, IfErr, IfOk};
+ghost use Rattle.std.specs.Prelude.{◌≡◌, ◌≢◌, ◌^◌, ◌<◌, ◌≤◌, length, IfErr, IfOk};
 ghost use Rattle.tw_base.specs.Codecs.{bytes_codec, digest_codec, labels_codec, name_codec, number_codec, sized_codec, text_codec};
 ghost use Rattle.tw_base.specs.Taking.{Takes};
 
@@ -145,17 +145,6 @@ pub fn take_slice<'a>(bytes: &'a [u8], at: &mut u64, count: u64) -> Result<&'a [
     }
     *at += count;
     Ok(&bytes[start as usize..(start + count) as usize])
-}
-
-/// Takes so many zeros.
-pub fn take_zeros(bytes: &[u8], at: &mut u64, count: usize) -> Result<(), ReadFault>
-    requires within { at.old ≤ length bytes.now }
-    requires few { count ≤ 4096 }
-    ensures takes { Takes (text_codec (replicate count 0)) (λ _. replicate count 0) bytes.now at.old at.new result }
-    ensures memory { IfErr result (λ fault. fault ≢ ReadFault.NoMemory) }
-{
-    let zeros = [0; 4096];
-    take_text(bytes, at, &zeros[..count])
 }
 
 #[cfg(test)]

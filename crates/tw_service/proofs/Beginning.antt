@@ -1,5 +1,5 @@
 -- The history that has no step yet.
-use Rattle.std.proofs.Common.{◌≡◌, ℕ, ◌≤◌, List, [], length, refl, ap, sym, ◌∙◌, arith, lit≤, inl, inr, ⊎_elim, ◌⊎◌}
+use Rattle.std.proofs.Common.{◌≡◌, ℕ, ◌≤◌, List, [], length, refl, ap, sym, ◌∙◌, arith, subst, lit≤, inl, inr, ⊎_elim, ◌⊎◌}
 use Rattle.tw_disk.specs.Image.{Image}
 use Rattle.tw_disk.specs.Disk.{DiskView, IsAtRest, LeavesOnly, Reads}
 use Rattle.tw_disk.proofs.Moments.{leaves_weaker}
@@ -22,6 +22,7 @@ use Rattle.tw_skiplist.proofs.Growing.{Keeps-first}
 use Rattle.tw_service.specs.declared.root.RootRecord.{RootRecord}
 use Rattle.tw_service.specs.Keeps.{KeepsHistory}
 use Rattle.tw_service.specs.Roots.{FitsStore, root_bytes}
+use Rattle.tw_service.proofs.RootLaws.{root-fits}
 use Rattle.tw_service.specs.Stands.{HasRoot, IsBlankOrNew, StandsFor, TellsArchive, no_history}
 
 pub sound_none : (name : List ℕ) → IsName name → IsSound (no_history name)
@@ -56,7 +57,6 @@ module _ (dig : List ℕ → List ℕ) (size : (text : List ℕ) → IsDigest (d
 
   fits_none : (used generation : ℕ) → used ≡ 4 → generation ≤ 1 → FitsStore used generation r
   fits_none used generation few low = record {
-    short = omega (arith, first);
     steps = record { none = λ _. no_page; some = λ some. absurd (omega (arith, some, first)) };
     threads = record { none = λ _. no_archive; some = λ some. absurd (omega (arith, some, no_threads)) };
     few_threads = omega (arith, no_threads);
@@ -68,9 +68,7 @@ module _ (dig : List ℕ → List ℕ) (size : (text : List ℕ) → IsDigest (d
   has_root root is o root_is pages_is low = record {
     bytes = root_is ∙ is;
     allowed = record {
-      is_name = is_name;
-      auth_size = ap length label ∙ size (genesis_text r.name);
-      label_size = ap length empty ∙ size empty_tree_text;
+      spelled = root-fits r is_name (omega (arith, first)) (subst IsDigest (sym label) (size (genesis_text r.name))) (omega (arith, no_page)) (omega (arith, no_archive)) (subst IsDigest (sym empty) (size empty_tree_text)) (omega (arith, no_threads));
       fits = fits_none (used_of o) o.generation (let none = ap length pages_is in omega (arith, none)) low;
     };
   }

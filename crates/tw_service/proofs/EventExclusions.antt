@@ -7,29 +7,15 @@ use Rattle.std.proofs.lemmas.List.{append_cancel_left, take_at}
 use Rattle.tw_disk.specs.Image.{Image}
 use Rattle.tw_skiplist.specs.declared.info.StepInfo.{StepInfo}
 use Rattle.tw_skiplist.specs.declared.limits.TheConstants.{MOST_PIECE_BYTES, MOST_STREAM_BYTES}
-use Rattle.tw_skiplist.specs.StepBytes.{event_page_bytes}
+use Rattle.tw_skiplist.proofs.Spelling.{piece_read}
 use Rattle.tw_skiplist.specs.Events.{FindsEvents, FindsNoEvents, HasPieces, HasStream, IsEventPageAt, MeetsBadPiece, SpellsEvents, last_page}
 use Rattle.tw_skiplist.specs.Events.HasPieces.{none, more}
 
 -- ---- an event page has one piece of its size
 
-abbrev head_bytes : (step number : ℕ) → List ℕ
-head_bytes step number = 2 ∷ (to_be_bytes w64 step ++ to_be_bytes w16 number)
-
-abbrev zeros : (step number : ℕ) → List ℕ → List ℕ
-zeros step number bytes = replicate (4096 - length (head_bytes step number ++ bytes)) 0
-
-laid : (step number : ℕ) (bytes : List ℕ) → event_page_bytes step number bytes ≡ head_bytes step number ++ (bytes ++ zeros step number bytes)
-unfolding event_page_bytes
-laid step number bytes = append_assoc (head_bytes step number) bytes (zeros step number bytes)
-
 one_piece : (pages : Image) (page step number size : ℕ) (bytes other : List ℕ) → IsEventPageAt pages page step number size bytes → IsEventPageAt pages page step number size other → bytes ≡ other
 one_piece pages page step number size bytes other one two =
-    let same = sym (laid step number bytes) ∙ sym one.bytes_are ∙ two.bytes_are ∙ laid step number other in
-    let rest = append_cancel_left (head_bytes step number) (bytes ++ zeros step number bytes) (other ++ zeros step number other) same in
-    sym (take_at bytes (zeros step number bytes) (length bytes) refl)
-    ∙ ap (take (length bytes)) rest
-    ∙ take_at other (zeros step number other) (length bytes) (two.size_is ∙ sym one.size_is)
+    sym (piece_read step number (length bytes) _ bytes one.bytes_are refl) ∙ piece_read step number (length bytes) _ other two.bytes_are (two.size_is ∙ sym one.size_is)
 
 module _ (pages : Image) (info : StepInfo) where
   abbrev Pieces : (number : ℕ) → List ℕ → Type 0

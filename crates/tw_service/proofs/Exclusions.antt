@@ -9,17 +9,14 @@ use Rattle.tw_skiplist.specs.StepPages.{HasLink, IsNoStepAt, link_of}
 use Rattle.tw_skiplist.specs.StepWalks.{Gathers, GathersBadPage, MeetsBadPage, MeetsBadPageVia, Walks, WalksVia}
 use Rattle.tw_skiplist.specs.StepWalks.Gathers.{start, next}
 use Rattle.tw_skiplist.specs.StepWalks.Walks.{here, on}
-use Rattle.tw_skiplist.proofs.Decode.{links_read_all}
+use Rattle.tw_skiplist.proofs.StepCodecs.{same_links}
 
 module _ (pages : Image) (few : 4 + length pages ≤ 2 ^ 64) where
   -- ---- a page has one link of a level
 
   one_next : (page step level : ℕ) (after other : StepRef) → HasLink pages page step level after → HasLink pages page step level other → after ≡ other
   one_next page step level after other one two =
-      let fits : page < 2 ^ 64 = omega (arith, one.is.below, few) in
-      let links =
-      sym (links_read_all page step one.fields one.links (page_at pages (page - 4)) fits one.is.is)
-      ∙ links_read_all page step two.fields two.links (page_at pages (page - 4)) fits two.is.is in
+      let links = same_links page step one.fields two.fields one.links two.links (page_at pages (page - 4)) one.is.is two.is.is in
       one.next_is ∙ ap (λ (ls : List StepRef). link_of ls level) links ∙ sym two.next_is
 
   no_next : (page step level : ℕ) (after : StepRef) → IsNoStepAt pages page step → HasLink pages page step level after → ⊥

@@ -7,7 +7,7 @@ use Rattle.tw_skiplist.specs.declared.info.StepInfo.{StepInfo}
 use Rattle.tw_skiplist.specs.Events.{FindsNoEvents}
 use Rattle.tw_skiplist.specs.Records.{FindsBadPageVia, FindsProof, TellsInfo, head_ref, info_record}
 use Rattle.tw_skiplist.specs.declared.limits.TheConstants.{MOST_STREAM_BYTES}
-use Rattle.tw_skiplist.proofs.Decode.{fields_read, links_read_all}
+use Rattle.tw_skiplist.proofs.StepCodecs.{same_fields, same_links, stream-short}
 use Rattle.tw_service.specs.Finds.{FindsCount, FindsEvent, LacksEvents, LacksProof}
 use Rattle.tw_service.proofs.EventExclusions.{events_or_none, one_page}
 use Rattle.tw_service.proofs.Exclusions.{meets_none_via, one_bad_via, one_end_via}
@@ -16,12 +16,8 @@ module _ (dig : List ℕ → List ℕ) (pages : Image) (few : 4 + length pages �
   -- a page tells one info
   one_told : (page step : ℕ) (one two : StepInfo) → TellsInfo dig pages page step one → TellsInfo dig pages page step two → one ≡ two
   one_told page step one two a b =
-      let fits : page < 2 ^ 64 = omega (arith, a.is.below, few) in
-      let bytes = page_at pages (page - 4) in
-      let fields =
-      sym (fields_read page step a.fields a.links bytes fits a.is.is) ∙ fields_read page step b.fields b.links bytes fits b.is.is in
-      let links =
-      sym (links_read_all page step a.fields a.links bytes fits a.is.is) ∙ links_read_all page step b.fields b.links bytes fits b.is.is in
+      let fields = same_fields page step a.fields b.fields a.links b.links (page_at pages (page - 4)) a.is.is b.is.is in
+      let links = same_links page step a.fields b.fields a.links b.links (page_at pages (page - 4)) a.is.is b.is.is in
       a.info_is ∙ (λ j. info_record dig page step (fields j) (links j)) ∙ sym b.info_is
 
   module _ (head : Head) (step top : ℕ) where
@@ -31,7 +27,7 @@ module _ (dig : List ℕ → List ℕ) (pages : Image) (few : 4 + length pages �
         one_told b.link.page step one two (subst (λ (l : StepRef). TellsInfo dig pages l.page step one) link a.tells) b.tells
 
     short : (info : StepInfo) → FindsProof dig pages head top step info → info.stream.size ≤ MOST_STREAM_BYTES
-    short info finds = omega (arith, ap (λ (i : StepInfo). i.stream.size) finds.tells.info_is, finds.tells.is.is.field_rules.size)
+    short info finds = omega (arith, ap (λ (i : StepInfo). i.stream.size) finds.tells.info_is, stream-short step finds.tells.fields finds.tells.links finds.tells.is.is.spelled.fits)
 
     -- where the step is found, no page of another kind is met
     no_bad_page : (info : StepInfo) (page : ℕ) → FindsProof dig pages head top step info → FindsBadPageVia pages head top step page → ⊥

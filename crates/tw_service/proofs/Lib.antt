@@ -1,7 +1,6 @@
 pub mod EventLimits
 pub mod EventHistories
-pub mod RootFields
-pub mod RootReading
+pub mod RootLaws
 pub mod Answering
 pub mod BadPages
 pub mod Beginning

@@ -20,7 +20,7 @@ use Rattle.tw_service.specs.declared.root.RootRecord.{RootRecord}
 use Rattle.tw_service.specs.Keeps.{KeepsHistory}
 use Rattle.tw_service.specs.Roots.{IsAllowed, root_bytes}
 use Rattle.tw_service.specs.Stands.{HasRoot, IsNotOpenedFor, OpensWith, StandsFor, TellsArchive}
-use Rattle.tw_service.proofs.RootReading.{root_once}
+use Rattle.tw_service.proofs.RootLaws.{root_once}
 
 module _ {D : Type 0} {g : _} (view : D → DiskView) (dig : List ℕ → List ℕ)
     (store : Store D g) (c : Image) (at : IsAtRest (view (disk_of store)) (λ i. (i ≡ c) × IsKept store i)) (root : List ℕ) (root_is : root ≡ root_of store)
@@ -33,9 +33,6 @@ module _ {D : Type 0} {g : _} (view : D → DiskView) (dig : List ℕ → List �
 
   opens : OpensAs here c
   opens = kept_opens view store c kept
-
-  used_fits : used_of here < 2 ^ 48
-  used_fits = opens.stands.body.used_fits
 
   told_still : (view (disk_of store)).content ≡ Some c
   told_still = at.told ∙ ap (λ (i : Image). Some i) at.has.0
@@ -83,7 +80,7 @@ module _ {D : Type 0} {g : _} (view : D → DiskView) (dig : List ℕ → List �
     served of h stands clean =
         let same = opens_once stands.opening here c stands.opens opens in
         let theirs = subst (λ o. HasRoot o stands.root) same stands.has in
-        let one : stands.root ≡ r = root_once (used_of here) store.generation used_fits here.root stands.root r theirs.bytes theirs.allowed has_root.bytes has_root.allowed in
+        let one : stands.root ≡ r = root_once (used_of here) store.generation here.root stands.root r theirs.bytes theirs.allowed has_root.bytes has_root.allowed in
         let keeps = subst (λ (x : RootRecord). Keeps dig here.pages h x.head) one (subst (λ (o : Opening). Keeps dig o.pages h stands.root.head) same stands.keeps) in
         let now : KeepsHistory dig store r h c = record {
           sound = stands.sound;

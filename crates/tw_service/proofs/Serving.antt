@@ -27,6 +27,7 @@ use Rattle.tw_service.specs.declared.root.RootRecord.{RootRecord}
 use Rattle.tw_service.specs.Keeps.{KeepsHistory}
 use Rattle.tw_service.specs.Roots.{FitsStore, root_bytes}
 use Rattle.tw_service.specs.Stands.{HasRoot, StandsFor, StandsForOneOf, TellsArchive}
+use Rattle.tw_service.proofs.RootLaws.{root-fits, root-name}
 use Rattle.tw_service.proofs.EventHistories.{same_received, sound_kept}
 
 no_items : (pages : Image) → length pages ≡ 0 → pages ≡ []
@@ -174,7 +175,6 @@ module _ {D : Type 0} {g : _} (view : D → DiskView) (only_now : (d : D) (c : I
         let used : count ≡ used_of opening = counted (pages_of mid rest.image) new_list in
         let was = rest.has.has.allowed.fits in
         record {
-          short = omega (arith, one_more, room);
           steps = record {
             none = λ none. absurd (omega (arith, none, one_more));
             some = λ some. head_page dig opening.pages longer next.head new_keeps some;
@@ -194,9 +194,14 @@ module _ {D : Type 0} {g : _} (view : D → DiskView) (only_now : (d : D) (c : I
     new_root = record {
       bytes = root_is;
       allowed = record {
-        is_name = subst IsName (sym named) rest.has.has.allowed.is_name;
-        auth_size = ap length new_keeps.auth ∙ auth-size dig size longer (length longer.steps);
-        label_size = ap (λ (x : Root). length x.label) new_tells.archive ∙ tree_label-size dig size (tree longer (length longer.steps));
+        spelled =
+            let auth = subst IsDigest (sym new_keeps.auth) (auth-digest dig (λ t. (size t).0) (λ t. (size t).1) longer (length longer.steps)) in
+            let label = subst (λ (x : Root). IsDigest x.label) (sym new_tells.archive) (tree_label-digest dig (λ t. (size t).0) (λ t. (size t).1) (tree longer (length longer.steps))) in
+            let used : count ≡ used_of opening = counted (pages_of mid rest.image) new_list in
+            let below = (new_fits.steps.some (omega (arith, one_more))).1 in
+            let no_page : next.archive.page ≡ 0 = ap (λ (x : Root). x.page) new_tells.archive in
+            root-fits next (subst IsName (sym named) (root-name r rest.has.has.allowed.spelled)) (omega (arith, one_more, room)) auth (omega (arith, below, used, pages, one_more, room))
+            (omega (arith, no_page)) label (omega (arith, new_fits.few_threads, one_more, room));
         fits = new_fits;
       };
     }

@@ -13,14 +13,15 @@ use Rattle.tw_skiplist.proofs.Once.{keeps_one}
 use Rattle.tw_service.specs.declared.root.RootRecord.{RootRecord}
 use Rattle.tw_service.specs.EventsOnly.{HasEventsOnly}
 use Rattle.tw_service.specs.Stands.{HasRoot, IsNotOpenedFor, OpensFor, OpensWith, StandsFor}
-use Rattle.tw_service.proofs.RootReading.{root_once}
+use Rattle.tw_pages.proofs.Bodies.{used_fits}
+use Rattle.tw_service.proofs.RootLaws.{root_once}
 
 -- an image that opens with a root record has no other one, and is refused for no reason
 module _ (image : Image) (o : Opening) (opens : OpensAs o image) (r : RootRecord) (has : HasRoot o r) where
   one_root : (p : Opening) → OpensAs p image → (other : RootRecord) → HasRoot p other → r ≡ other
   one_root p opens_too other has_too =
       let root = subst (λ (x : Opening). HasRoot x r) (opens_once o p image opens opens_too) has in
-      root_once (used_of p) p.generation opens_too.stands.body.used_fits p.root r other root.bytes root.allowed has_too.bytes has_too.allowed
+      root_once (used_of p) p.generation p.root r other root.bytes root.allowed has_too.bytes has_too.allowed
 
   never_refused : (fault : StoreFault) → IsNotOpenedFor image fault → ⊥
   never_refused fault why = ⊎_elim (not_refused o image opens fault)
@@ -36,7 +37,7 @@ one_service image one other head last ps qs a b =
       sym a.named ∙ ap (λ (r : RootRecord). r.name) root ∙ b.named,
       sym a.headed ∙ ap (λ (r : RootRecord). r.head) root ∙ b.headed,
       pages,
-      omega (arith, b.opens.stands.body.used_fits, ap length pages, ap length b.pages),
+      omega (arith, used_fits b.opening.generation (used_of b.opening) b.opening.root b.opens.stands.body.is.fits, ap length pages, ap length b.pages),
     )
 
 pub opens_never_refused : (image : Image) (name : List ℕ) (head : Head) (fault : StoreFault) → OpensFor image name head → IsNotOpenedFor image fault → ⊥

@@ -5,7 +5,7 @@ use crate::content_taking::take_content;
 use crate::digest::Digest;
 use crate::failure::ReadFault;
 use crate::sequence::Bytes;
-use crate::taking::{take_bytes, take_labels, take_number, take_sized, take_slice, take_zeros};
+use crate::taking::{take_bytes, take_labels, take_number, take_sized, take_slice};
 use crate::writers::{put_number, put_sized, put_text};
 use std::test::Fail;
 
@@ -34,7 +34,6 @@ fn runs_of_bytes(rt: HostRuntime) -> Result<(), Fail> {
         [Digest([7; 32])].as_slice()
     );
     assert_eq!(rt; take_slice(&bytes, &mut at, 5), Ok([7; 5].as_slice()));
-    assert_eq!(rt; take_zeros(&[0, 0, 1], &mut 0, 2), Ok(()));
     Ok(())
 }
 
