@@ -28,10 +28,3 @@ module _ (dig : List ℕ → List ℕ) (ps : Image) (h : History) (step : ℕ) (
     event = ap (λ (es : List (List ℕ)). slice_get es index) (sym same) ∙ there;
     event_path = audit ∙ ap (λ (es : List (List ℕ)). audit_path dig es index) same;
   }
-
-  pub makes : (bytes : List ℕ) → IsSound h → step ≤ top → top ≤ length h.steps
-      → (IsExistenceInRange (made_of name top index proof event path) → IsShaped (made_of name top index proof event path) → Spells existence_layout bytes (made_of name top index proof event path))
-      → MakesExistence dig h step index top bytes
-  makes bytes sound order has spelled =
-      let within = within-made dig h step index top (made_of name top index proof event path) is_existence sound order has in
-      (made_of name top index proof event path, spelled within.0 within.1, is_existence)

@@ -2,13 +2,11 @@ pub mod EventLimits
 pub mod EventHistories
 pub mod RootLaws
 pub mod Answering
-pub mod BadPages
 pub mod Beginning
 pub mod Counted
 pub mod Opened
 pub mod Serving
-pub mod EventExclusions
-pub mod Exclusions
-pub mod FindingLaws
 pub mod Existences
 pub mod Standing
+pub mod FoundAnswers
+pub mod KeptAnswers

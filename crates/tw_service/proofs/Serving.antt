@@ -1,5 +1,5 @@
 -- From what a store says of its images to what they stand for.
-use Rattle.std.proofs.Common.{◌≡◌, ℕ, suc, ◌+◌, ◌*◌, ◌<◌, ◌≤◌, List, [], ◌∷◌, ◌++◌, length, refl, ap, sym, ◌∙◌, arith, subst, inl, inr, ⊎_elim, Bool}
+use Rattle.std.proofs.Common.{◌≡◌, ℕ, suc, ◌+◌, ◌*◌, ◌^◌, ◌<◌, ◌≤◌, List, [], ◌∷◌, ◌++◌, length, refl, ap, sym, ◌∙◌, arith, subst, inl, inr, ⊎_elim, Bool}
 use Rattle.std.specs.Prelude.{Option, Some}
 use Rattle.std.specs.Option.{option_map}
 use Rattle.std.proofs.lemmas.List.{append-nil, length_push}
@@ -18,10 +18,15 @@ use Rattle.tw_pages.specs.Same.{IsSameStore, count_of, pages_of}
 use Rattle.tw_pages.specs.Store.{IsAbove, Opening, OpensAs, OpensAsEither, used_of}
 use Rattle.tw_pages.specs.declared.store.Store.{Store}
 use Rattle.tw_pages.proofs.StillKept.{kept_opens, same_leaves as store_leaves, same_opens}
-use Rattle.tw_skiplist.specs.Infos.{Added}
+use Rattle.tw_skiplist.specs.declared.head.Head.{Head}
+use Rattle.tw_skiplist.specs.Appended.{Next, appended}
+use Rattle.tw_skiplist.specs.Found.Found.{Is}
 use Rattle.tw_skiplist.specs.Keeping.{Keeps, archive_at, event_step}
 use Rattle.tw_skiplist.proofs.EventHistories.{same_tree}
+use Rattle.tw_skiplist.proofs.FoundLaws.{same_found}
 use Rattle.tw_skiplist.proofs.Growing.{head_page}
+use Rattle.tw_skiplist.proofs.KeptAppended.{grown}
+use Rattle.tw_base.specs.Limits.{MayRecord}
 use Rattle.tw_service.specs.declared.limits.TheConstants.{MOST_PAGES_OF_A_STEP}
 use Rattle.tw_service.specs.declared.root.RootRecord.{RootRecord}
 use Rattle.tw_service.specs.Keeps.{KeepsHistory}
@@ -33,6 +38,26 @@ use Rattle.tw_service.proofs.EventHistories.{same_received, sound_kept}
 no_items : (pages : Image) → length pages ≡ 0 → pages ≡ []
 no_items [] none = refl
 no_items (page ∷ pages) none = absurd (omega (arith, none))
+
+-- the pages told now are the earlier ones and more, and keep the longer history under the new head
+pub record Added (dig : List ℕ → List ℕ) (before : Image) (longer : History) (now : Option Image) (new : Head) : Type 0 where
+  pub more : Image
+  pub told : now ≡ Some (before ++ more)
+  pub keeps : Keeps dig (before ++ more) longer new
+
+-- where the step that was found was put, and the pages kept a history
+pub added_to : (dig : List ℕ → List ℕ) (size : (text : List ℕ) → IsDigest (dig text)) (ps : Image) (h : History) (head : Head) (events : List (List ℕ)) (archive : Root) (now : Option Image) (new : Head)
+    → Keeps dig ps h head → archive ≡ archive_at dig h (length h.steps) → head.step < LAST_STEP → MayRecord events → 4 + length ps < 2 ^ 47
+    → (pages : Image) → now ≡ Some pages → appended dig ps head events archive ≡ Is (record { pages = pages; head = new }) → Added dig ps (with_events h events) now new
+added_to dig size ps h head events archive now new keeps archived short limits room pages told is =
+    let own = grown dig size ps h head keeps events archive short limits room in
+    let same : ◌≡◌ {A = Next} (record { pages = ps ++ own.more; head = own.new }) (record { pages = pages; head = new }) = same_found _ _ (sym own.is ∙ is) in
+    let heads : own.new ≡ new = ap (λ (n : Next). n.head) same in
+    record {
+      more = own.more;
+      told = told ∙ ap (λ (n : Next). Some n.pages) (sym same);
+      keeps = subst (λ (x : Head). Keeps dig (ps ++ own.more) (with_events h events) x) heads (own.keeps archived);
+    }
 
 module _ {D : Type 0} {g : _} (view : D → DiskView) (only_now : (d : D) (c : Image) → (view d).left_since (view d).moment c → (view d).may_leave c) (dig : List ℕ → List ℕ) where
   -- a store that was only read and staged on leaves what it might have left

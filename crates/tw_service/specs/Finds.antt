@@ -1,53 +1,62 @@
 -- What the calls of a service find in its pages, whether or not these keep a history.
-use Rattle.std.specs.Prelude.{◌≡◌, ◌⊎◌, ℕ, ◌+◌, ◌<◌, ◌≤◌, List}
+use Rattle.std.specs.Prelude.{◌≡◌, ℕ, List, [], slice_index_or, Bool, Option, Some, None, Result, Ok, Err}
+use Rattle.tw_base.specs.declared.root.Root.{Root}
+use Rattle.tw_base.specs.declared.thread.Thread.{Thread}
+use Rattle.tw_base.specs.EventTree.{audit_path}
 use Rattle.tw_disk.specs.Image.{Image}
-use Rattle.tw_base.specs.Levels.{top_level}
+use Rattle.tw_skipproof.specs.Existence.{existence_bytes}
 use Rattle.tw_skiplist.specs.declared.head.Head.{Head}
-use Rattle.tw_skiplist.specs.declared.head.StepRef.{StepRef}
-use Rattle.tw_skiplist.specs.declared.info.StepInfo.{StepInfo}
-use Rattle.tw_skiplist.specs.Events.{FindsEvents, FindsNoEvents}
-use Rattle.tw_skiplist.specs.StepWalks.{Gathers, GathersBadPage}
-use Rattle.tw_skiplist.specs.Records.{FindsBadPageVia, FindsProof, head_ref}
+use Rattle.tw_skiplist.specs.declared.info.StepProof.{StepProof}
+use Rattle.tw_skiplist.specs.Appended.{appended}
+use Rattle.tw_skiplist.specs.Events.{events_of_info}
+use Rattle.tw_skiplist.specs.Found.{Found, ◌>>=◌}
+use Rattle.tw_skiplist.specs.Found.Found.{Is, Bad}
+use Rattle.tw_skiplist.specs.Readings.{found_proof}
+use Rattle.tw_service.specs.declared.refusal.Refusal.{Refusal}
+use Rattle.tw_service.specs.declared.refusal.Refusal.TheVariants.{BadPage, DiskFault, NoMemory}
+use Rattle.tw_service.specs.Limits.{append_refusal, event_refusal, order_refusal}
+use Rattle.tw_service.specs.MadeSteps.{made_of}
 
--- ---- adding a step
+module _ {X : Type 0} where
+  -- the refusal of a table, where there is one, and else what is found
+  abbrev pub unless : Option Refusal → Found (Result X Refusal) → Found (Result X Refusal)
+  unless (Some refusal) found = Is (Err refusal)
+  unless None found = found
 
-module _ (pages : Image) (head : Head) where
-  -- the pages have each link of the next step: the walk for them, from the head on, comes to the one of the top level
-  abbrev pub FindsLinks : Type 0
-  FindsLinks = (last : StepRef) × Gathers pages (head_ref head) head.step (top_level (head.step + 1)) last
+  -- a refusal is what is found, and BadPage tells the page that is; a failed device call and want of memory are excepted
+  abbrev pub IsRefusalOf : Refusal → Found (Result X Refusal) → Type 0
+  IsRefusalOf (BadPage page) found = found ≡ Bad page
+  IsRefusalOf DiskFault found = Unit {0}
+  IsRefusalOf NoMemory found = Unit {0}
+  IsRefusalOf refusal found = found ≡ Is (Err refusal)
 
-  -- that walk comes to this page first that isn't the page of the step that the link to it leads to
-  abbrev pub LacksLinks : (page : ℕ) → Type 0
-  LacksLinks page = GathersBadPage pages (head_ref head) head.step page
+  -- an answer is what is found, with these exceptions
+  abbrev pub IsAnswer : Result X Refusal → Found (Result X Refusal) → Type 0
+  IsAnswer (Ok value) found = found ≡ Is (Ok value)
+  IsAnswer (Err refusal) found = IsRefusalOf refusal found
 
--- ---- proving an event
+-- the thread that ends with a head
+abbrev pub thread_at : (name : List ℕ) → Head → Thread
+thread_at name head = record { from = name; step = head.step; auth = head.auth }
 
-module _ (dig : List ℕ → List ℕ) (pages : Image) (head : Head) where
+-- the bytes of the proof of the event at the index, made of what is told of the step
+abbrev pub proof_bytes : (dig : List ℕ → List ℕ) → (name : List ℕ) → (top index : ℕ) → StepProof → (events : List (List ℕ)) → List ℕ
+proof_bytes dig name top index proof events = existence_bytes (made_of name top index proof (slice_index_or events index []) (audit_path dig events index))
+
+module _ (dig : List ℕ → List ℕ) (pages : Image) (name : List ℕ) (head : Head) where
+  -- the thread of one more step, of these events and with this archive
+  unfoldable pub found_thread : (is_broken : Bool) → (events : List (List ℕ)) → (archive : Root) → Found (Result Thread Refusal)
+  found_thread is_broken events archive =
+      unless (append_refusal is_broken head.step events) (appended dig pages head events archive >>= (λ next. Is (Ok (thread_at name next.head))))
+
   module _ (step index top : ℕ) where
-    -- the walk from the head by the top comes to the step's page, which tells of an event at the index; the event pages spell the
-    -- events
-    pub record FindsEvent : Type 0 where
-      pub info : StepInfo
-      pub finds : FindsProof dig pages head top step info
-      pub below : index < info.count
-      pub events : List (List ℕ)
-      pub spelled : FindsEvents pages info events
+    -- the step under the top is read; where its page tells of an event at the index, so are its events
+    unfoldable pub event_proof : Found (Result (List ℕ) Refusal)
+    event_proof =
+        found_proof dig pages head top step
+        >>= (λ proof. unless (event_refusal proof.info.count index)
+        (events_of_info pages proof.info >>= (λ events. Is (Ok (proof_bytes dig name top index proof events)))))
 
-    -- it comes to the step's page, which tells of so many events, and of none at the index
-    pub record FindsCount (count : ℕ) : Type 0 where
-      pub info : StepInfo
-      pub finds : FindsProof dig pages head top step info
-      pub count_is : info.count ≡ count
-      pub beyond : count ≤ index
-
-    -- it comes to the step's page, which tells of an event at the index, but the event pages give no events, for the reason that
-    -- this page has
-    pub record LacksEvents (page : ℕ) : Type 0 where
-      pub info : StepInfo
-      pub finds : FindsProof dig pages head top step info
-      pub below : index < info.count
-      pub nothing : FindsNoEvents pages info page
-
-    -- it comes to this page first that isn't the page of its step; or it comes to the step's page, whose events aren't there
-    abbrev pub LacksProof : (page : ℕ) → Type 0
-    LacksProof page = FindsBadPageVia pages head top step page ⊎ LacksEvents page
+    -- the proof, where the steps are in their order
+    abbrev pub found_event : (is_broken : Bool) → Found (Result (List ℕ) Refusal)
+    found_event is_broken = unless (order_refusal is_broken head.step step top) event_proof

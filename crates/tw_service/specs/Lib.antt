@@ -2,9 +2,10 @@ pub mod EventsOnly
 pub mod Roots
 pub mod Stands
 pub mod Refusals
-pub mod Finds
 pub mod Limits
-pub mod Machine
 pub mod MadeSteps
+pub mod Finds
+pub mod AddedSteps
+pub mod Machine
 pub mod Keeps
 pub mod Serves

@@ -8,8 +8,9 @@ ghost use Rattle.tw_disk.specs.Disk.{IsAtRest, LeavesOnly, Reads};
 ghost use Rattle.tw_disk.specs.Image.{Image};
 ghost use Rattle.tw_pages.specs.StoreValue.{disk_of, generation_of, is_broken, root_of, staged_of};
 ghost use Rattle.tw_pages.specs.Same.{IsSameStore, count_of, list_of};
-ghost use Rattle.tw_service.specs.Refusals.{IsBadPage, IsFault, OfBadPage};
-ghost use Rattle.tw_service.specs.Finds.{FindsLinks, LacksLinks};
+ghost use Rattle.tw_service.specs.Refusals.{IsBadPage, IsFault};
+ghost use Rattle.tw_skiplist.specs.Appended.{appended};
+ghost use Rattle.tw_service.specs.AddedSteps.{AddsAs};
 ghost use Rattle.tw_service.specs.Keeps.{KeepsHistory};
 ghost use Rattle.tw_service.specs.Roots.{root_bytes};
 ghost use Rattle.tw_service.specs.Stands.{StandsFor, StandsForOneOf};
@@ -57,8 +58,7 @@ pub(crate) fn add_step<D: Disk, H: Hasher>(
         → Reads (D.view (disk_of store.new)) (StandsForOneOf H.dig root.now.name h (with_events h events.now)) }
     ensures same { IfErr result (λ refusal. (refusal ≡ Refusal.DiskFault) ⊎ IsSameStore D.view store.old store.new) }
     ensures clean { staged_of store.new ≡ [] }
-    ensures found { IfOk result (λ _. (ps : Image) → list_of D.view store.old ≡ Some ps → FindsLinks ps root.now.head) }
-    ensures bad { IfErr result (λ refusal. OfBadPage refusal (λ page. (ps : Image) → list_of D.view store.old ≡ Some ps → LacksLinks ps root.now.head page)) }
+    ensures answer { (ps : Image) → list_of D.view store.old ≡ Some ps → AddsAs result (appended H.dig ps root.now.head events.now root.now.archive) }
     ensures good { IfErr result (λ refusal. IsBadPage refusal → (h : History) → IsAtRest (D.view (disk_of store.old)) (KeepsHistory H.dig store.old root.now h) → ⊥) }
     ensures fault { result ≡ Err Refusal.DiskFault → Rose ((D.view (disk_of store.old)).faults) ((D.view (disk_of store.new)).faults) }
     ensures later { (D.view (disk_of store.old)).faults ≤ (D.view (disk_of store.new)).faults }

@@ -1,15 +1,21 @@
 // The laws of what images stand for.
 
-ghost use Rattle.std.specs.Prelude.{◌≡◌, ℕ, ◌+◌, ◌^◌, ◌<◌, ◌≤◌, List, length};
+ghost use Rattle.std.specs.Prelude.{◌≡◌, ℕ, ◌+◌, ◌^◌, ◌<◌, ◌≤◌, List, length, None, Ok, Err, false};
 ghost use Rattle.tw_base.specs.declared.limits.TheConstants.{LAST_STEP};
-ghost use Rattle.tw_base.specs.History.{History, with_events};
+ghost use Rattle.tw_base.specs.History.{History, events_at, with_events};
 ghost use Rattle.tw_base.specs.Limits.{MayRecord};
 ghost use Rattle.tw_base.specs.Sound.{IsSound};
 ghost use Rattle.tw_disk.specs.Image.{Image};
 ghost use Rattle.tw_pages.specs.declared.open.StoreFault.{StoreFault};
 ghost use Rattle.tw_skiplist.specs.declared.head.Head.{Head};
 ghost use Rattle.tw_service.specs.EventsOnly.{HasEventsOnly};
-ghost use Rattle.tw_service.specs.Finds.{FindsCount, FindsEvent, FindsLinks, LacksLinks, LacksProof};
+ghost use Rattle.tw_skipproof.specs.HistoryProofs.{MakesExistence};
+ghost use Rattle.tw_skiplist.specs.Found.Found.{Is};
+ghost use Rattle.tw_skiplist.specs.Keeping.{Keeps, archive_at};
+ghost use Rattle.tw_service.specs.Finds.{event_proof, found_thread};
+ghost use Rattle.tw_service.specs.Limits.{append_refusal};
+ghost use Rattle.tw_service.specs.Machine.{last_thread};
+ghost use Rattle.tw_service.specs.declared.refusal.Refusal.TheVariants.{NoEvent};
 ghost use Rattle.tw_service.specs.Stands.{IsNotOpenedFor, OpensFor, OpensWith, StandsFor};
 
 use tw_base::Hasher;
@@ -24,25 +30,20 @@ pub fn standing_laws<H: Hasher>()
     ensures opened { (image : Image) (name : List ℕ) (head : Head) (fault : StoreFault) → OpensFor image name head → IsNotOpenedFor image fault → ⊥ }
 {}
 
-/// An image opens as one service at most, whose pages have numbers that fit; and what the calls find in
-/// such pages excludes what these lack. Where the links of a head's next step are there, no page of
-/// another kind is met for them; where a step's event is there, or its page counts too few, none for
-/// it; and each number that is told is the only one.
+/// An image opens as one service at most. And what is found in pages that keep a sound history of the
+/// name under the head is the history's, and no page is bad: the thread of the next step, of events that
+/// the table allows, where fewer than 2^47 pages are used and the archive is the history's; and, for
+/// steps in their order, the history's own proof of the event at the index, or that there is none.
 pub fn finding_laws<H: Hasher>()
     ensures one_service { (image : Image) (one other : List ℕ) (head last : Head) (ps qs : Image) → OpensWith image one head (λ x. x ≡ ps) →
         OpensWith image other last (λ x. x ≡ qs) → (one ≡ other) × (head ≡ last) × (ps ≡ qs) × (4 + length ps ≤ 2 ^ 64) }
-    ensures links { (ps : Image) (head : Head) (page : ℕ) → 4 + length ps ≤ 2 ^ 64 → FindsLinks ps head → LacksLinks ps head page → ⊥ }
-    ensures one_link { (ps : Image) (head : Head) (page other : ℕ) → 4 + length ps ≤ 2 ^ 64 → LacksLinks ps head page → LacksLinks ps head other → page ≡ other }
-    ensures event { (ps : Image) (head : Head) (step index top page : ℕ) → 4 + length ps ≤ 2 ^ 64 →
-        FindsEvent H.dig ps head step index top → LacksProof H.dig ps head step index top page → ⊥ }
-    ensures count { (ps : Image) (head : Head) (step index top n page : ℕ) → 4 + length ps ≤ 2 ^ 64 →
-        FindsCount H.dig ps head step index top n → LacksProof H.dig ps head step index top page → ⊥ }
-    ensures either { (ps : Image) (head : Head) (step index top n : ℕ) → 4 + length ps ≤ 2 ^ 64 →
-        FindsEvent H.dig ps head step index top → FindsCount H.dig ps head step index top n → ⊥ }
-    ensures one_count { (ps : Image) (head : Head) (step index top n m : ℕ) → 4 + length ps ≤ 2 ^ 64 →
-        FindsCount H.dig ps head step index top n → FindsCount H.dig ps head step index top m → n ≡ m }
-    ensures one_page { (ps : Image) (head : Head) (step index top page other : ℕ) → 4 + length ps ≤ 2 ^ 64 →
-        LacksProof H.dig ps head step index top page → LacksProof H.dig ps head step index top other → page ≡ other }
+    ensures thread { (ps : Image) (h : History) (head : Head) (events : List (List ℕ)) → Keeps H.dig ps h head → 4 + length ps < 2 ^ 47 → MayRecord events →
+        append_refusal false head.step events ≡ None → head.step < LAST_STEP →
+        found_thread H.dig ps h.name head false events (archive_at H.dig h (length h.steps)) ≡ Is (Ok (last_thread H.dig (with_events h events))) }
+    ensures event { (ps : Image) (h : History) (head : Head) (step index top : ℕ) → Keeps H.dig ps h head → IsSound h → 1 ≤ step → step ≤ top → top ≤ head.step →
+        index < length (events_at h step) → (bytes : List ℕ) × (event_proof H.dig ps h.name head step index top ≡ Is (Ok bytes)) × MakesExistence H.dig h step index top bytes }
+    ensures no_event { (ps : Image) (h : History) (head : Head) (step index top : ℕ) → Keeps H.dig ps h head → IsSound h → 1 ≤ step → step ≤ top → top ≤ head.step →
+        length (events_at h step) ≤ index → event_proof H.dig ps h.name head step index top ≡ Is (Err (NoEvent (length (events_at h step)))) }
 {}
 
 /// A sound history of steps of events with one more, within the limits of a step and of a history, is

@@ -1,18 +1,12 @@
 // The existence proof of an event of a history that pages keep.
 
-ghost use Rattle.std.specs.Prelude.{◌≡◌, ◌⊎◌, ℕ, ◌<◌, ◌≤◌, ◌^◌, length, slice_get, IfOk, IfErr, Some, Err};
-ghost use Rattle.tw_base.specs.History.{History, events_at};
+ghost use Rattle.std.specs.Prelude.{◌≡◌, ◌⊎◌, ◌<◌, ◌≤◌, ◌^◌, length, slice_get, IfOk, IfErr, Some, Err};
 ghost use Rattle.tw_base.specs.Limits.{MayRecord};
-ghost use Rattle.tw_base.specs.Sound.{IsSound};
 ghost use Rattle.tw_base.specs.Faults.{Rose};
 ghost use Rattle.tw_disk.specs.Image.{Image};
 ghost use Rattle.tw_disk.specs.Pages.{OnlyReads};
-ghost use Rattle.tw_skiplist.specs.Infos.{IsInfoOf};
-ghost use Rattle.tw_skiplist.specs.Keeping.{Keeps};
-ghost use Rattle.tw_skipproof.specs.HistoryProofs.{IsPathOf, MakesExistence};
-ghost use Rattle.tw_service.specs.Refusals.{IsBadPage, IsFault, IsNoEvent, OfBadPage, OfNoEvent};
-ghost use Rattle.tw_service.specs.Finds.{FindsCount, FindsEvent, LacksProof};
-ghost use Rattle.tw_service.specs.Limits.{event_refusal as event_refusal_of};
+ghost use Rattle.tw_service.specs.Refusals.{IsFault, IsNoEvent};
+ghost use Rattle.tw_service.specs.Finds.{IsAnswer, event_proof, proof_bytes};
 ghost use Rattle.tw_service.specs.MadeSteps.{made_of};
 
 use crate::limits::event_refusal;
@@ -71,8 +65,7 @@ fn write_proof<H: Hasher>(
     requires index { index < proof.info.count }
     requires count { length events ≡ proof.info.count }
     requires limits { MayRecord events }
-    ensures made { IfOk result (λ bytes. (ps : Image) (h : History) (step : ℕ) → IsSound h → h.name ≡ name.now → step ≤ top → top ≤ length h.steps →
-        IsPathOf H.dig h proof.path.links top step → IsInfoOf H.dig ps h step proof.info → events ≡ events_at h step → MakesExistence H.dig h step index top bytes) }
+    ensures bytes { IfOk result (λ bytes. bytes ≡ proof_bytes H.dig name.now top index proof events) }
 {
     let path = event_path::<H>(alloc, events.as_slice(), index)?;
     let event = take_event(events, index);
@@ -94,15 +87,7 @@ pub(crate) fn make_proof<P: Pages, H: Hasher>(
     requires from { 1 ≤ step }
     requires order { step ≤ top }
     requires last { top ≤ head.now.step }
-    ensures made { IfOk result (λ bytes. (ps : Image) (h : History) → P.list pages.old ≡ Some ps → Keeps H.dig ps h head.now → IsSound h → h.name ≡ name.now →
-        MakesExistence H.dig h step index top bytes) }
-    ensures no_event { (ps : Image) (h : History) → P.list pages.old ≡ Some ps → Keeps H.dig ps h head.now →
-        IfErr result (λ refusal. IsNoEvent refusal → event_refusal_of (length (events_at h step)) index ≡ Some refusal) }
-    ensures event { IfOk result (λ _. (ps : Image) (h : History) → P.list pages.old ≡ Some ps → Keeps H.dig ps h head.now → index < length (events_at h step)) }
-    ensures found { IfOk result (λ _. (ps : Image) → P.list pages.old ≡ Some ps → FindsEvent H.dig ps head.now step index top) }
-    ensures count { IfErr result (λ refusal. OfNoEvent refusal (λ count. (ps : Image) → P.list pages.old ≡ Some ps → FindsCount H.dig ps head.now step index top count)) }
-    ensures bad { IfErr result (λ refusal. OfBadPage refusal (λ page. (ps : Image) → P.list pages.old ≡ Some ps → LacksProof H.dig ps head.now step index top page)) }
-    ensures good { IfErr result (λ refusal. IsBadPage refusal → (ps : Image) (h : History) → P.list pages.old ≡ Some ps → Keeps H.dig ps h head.now → ⊥) }
+    ensures answer { (ps : Image) → P.list pages.old ≡ Some ps → IsAnswer result (event_proof H.dig ps name.now head.now step index top) }
     ensures answers { IfErr result (λ refusal. IsFault refusal ⊎ IsNoEvent refusal) }
     ensures kept { OnlyReads P.used_count P.list P.same P.unbroken pages.old pages.new (result ≡ Err Refusal.DiskFault → ⊥) }
     ensures fault { result ≡ Err Refusal.DiskFault → Rose (P.faults pages.old) (P.faults pages.new) }

@@ -48,8 +48,8 @@ impl<D: Disk, H: Hasher> Service<D, H> {
     ghost use Rattle.tw_disk.specs.Image.{Image};
     ghost use Rattle.tw_pages.specs.Slots.{IsTaken};
     ghost use Rattle.tw_pages.specs.declared.open.StoreFault.{StoreFault as Fault};
-    ghost use Rattle.tw_service.specs.Refusals.{IsBadPage, IsFault, IsNoEvent, OfBadPage, OfNoEvent};
-    ghost use Rattle.tw_service.specs.Finds.{FindsCount, FindsEvent, FindsLinks, LacksLinks, LacksProof};
+    ghost use Rattle.tw_service.specs.Refusals.{IsFault, IsNoEvent};
+    ghost use Rattle.tw_service.specs.Finds.{IsAnswer, found_event, found_thread};
     ghost use Rattle.tw_service.specs.Limits.{append_refusal as append_refusal_of, order_refusal as order_refusal_of, proof_refusal};
     ghost use Rattle.tw_service.specs.Machine.{Answers, IsStepOf, last_thread};
     ghost use Rattle.tw_service.specs.Machine.Call.{Append, CountSteps, ProveEvent, TellHead, TellName};
@@ -267,12 +267,11 @@ impl<D: Disk, H: Hasher> Service<D, H> {
         ensures broken { IsTrue (has_failed self.new) ↔ (IsTrue (has_failed self.old) ⊎ (result ≡ Err Refusal.DiskFault)) }
         ensures fault { result ≡ Err Refusal.DiskFault → Rose ((D.view (disk_of self.old)).faults) ((D.view (disk_of self.new)).faults) }
         ensures later { (D.view (disk_of self.old)).faults ≤ (D.view (disk_of self.new)).faults }
-        // Whatever the pages are: after Ok they have each link of the new step, and BadPage tells the first page met that isn't its
-        // step's; where they keep a history it never comes.
-        ensures found { IfOk result (λ _. (ps : Image) → pages_of D.view self.old ≡ Some ps → FindsLinks ps (head_of self.old)) }
-        ensures bad { IfErr result (λ refusal. OfBadPage refusal (λ page. (ps : Image) → pages_of D.view self.old ≡ Some ps
-            → LacksLinks ps (head_of self.old) page)) }
-        ensures good { IfErr result (λ refusal. IsBadPage refusal → (h : History) → Serves H.dig D.view self.old h → ⊥) }
+
+        // Whatever the pages are, the answer is what is found in them, but for a failed device call and want of memory: BadPage tells
+        // the first page met for the new step's links that isn't its step's.
+        ensures answer { (ps : Image) → pages_of D.view self.old ≡ Some ps
+            → IsAnswer result (found_thread H.dig ps (name_of self.old) (head_of self.old) (has_failed self.old) events.now (archive_of self.old)) }
 
         // The call is a step of the machine.
         ensures machine { has_failed self.old ≡ false → (h : History) → Serves H.dig D.view self.old h
@@ -323,16 +322,12 @@ impl<D: Disk, H: Hasher> Service<D, H> {
         ensures broken { IsTrue (has_failed self.new) ↔ (IsTrue (has_failed self.old) ⊎ (result ≡ Err Refusal.DiskFault)) }
         ensures fault { result ≡ Err Refusal.DiskFault → Rose ((D.view (disk_of self.old)).faults) ((D.view (disk_of self.new)).faults) }
         ensures later { (D.view (disk_of self.old)).faults ≤ (D.view (disk_of self.new)).faults }
-        // Whatever the pages are: after Ok they have the step, with an event at the index; NoEvent tells how many the step's page
-        // counts, and BadPage the first page met that isn't of its kind, or the last one read where the event pages don't spell the
-        // step's events; where they keep a history it never comes.
-        ensures found { IfOk result (λ _. (ps : Image) → pages_of D.view self.old ≡ Some ps
-            → FindsEvent H.dig ps (head_of self.old) step index top) }
-        ensures count { IfErr result (λ refusal. OfNoEvent refusal (λ count. (ps : Image) → pages_of D.view self.old ≡ Some ps
-            → FindsCount H.dig ps (head_of self.old) step index top count)) }
-        ensures bad { IfErr result (λ refusal. OfBadPage refusal (λ page. (ps : Image) → pages_of D.view self.old ≡ Some ps
-            → LacksProof H.dig ps (head_of self.old) step index top page)) }
-        ensures good { IfErr result (λ refusal. IsBadPage refusal → (h : History) → Serves H.dig D.view self.old h → ⊥) }
+
+        // Whatever the pages are, the answer is what is found in them, but for a failed device call and want of memory: NoEvent tells
+        // how many events the step's page counts, and BadPage the first page met that isn't of its kind, or the last one read where
+        // the event pages don't spell the step's events.
+        ensures answer { (ps : Image) → pages_of D.view self.old ≡ Some ps
+            → IsAnswer result (found_event H.dig ps (name_of self.old) (head_of self.old) step index top (has_failed self.old)) }
     {
         if let Some(refusal) = order_refusal(self.is_broken, self.root.head.step, step, top) {
             return Err(refusal);

@@ -1,6 +1,5 @@
 -- The links and labels of one more step, over any pages.
-use Rattle.std.proofs.Common.{◌≡◌, ℕ, suc, zero, ◌+◌, ◌<◌, ◌≤◌, List, [], ◌∷◌, ◌++◌, length, refl, ap, sym, ◌∙◌, arith, inl, inr, subst}
-use Rattle.std.proofs.lemmas.Bool.{cases_lt}
+use Rattle.std.proofs.Common.{◌≡◌, ℕ, suc, zero, ◌+◌, ◌<◌, ◌≤◌, List, [], ◌∷◌, ◌++◌, length, refl, ap, sym, ◌∙◌, arith}
 use Rattle.std.proofs.lemmas.List.{get_or_append_left, get_or_push}
 use Rattle.tw_base.specs.Texts.{link_text}
 use Rattle.tw_skiplist.specs.declared.head.StepRef.{StepRef}
@@ -25,15 +24,6 @@ module _ (links : List StepRef) (link : StepRef) (level : ℕ) (size : length li
     page_labels-push =
         ap (λ (n : ℕ). page_labels dig step datum (links ++ link ∷ []) n) (let e : level + 1 ≡ suc level = omega arith in e)
         ∙ (λ j. labels_before level (omega arith) j ++ dig (link_text step level datum (link_of-new j).auth) ∷ [])
-
-  pub each_push : (P : ℕ → StepRef → Type 0) → ((k : ℕ) → k < level → P k (link_of links k)) → P level link → (k : ℕ) → k < level + 1 → P k (link_of (links ++ link ∷ []) k)
-  each_push P all here k l =
-      elim (cases_lt k level) [
-        | inl less ↦ subst (λ (x : StepRef). P k x) (sym (link_of-before k less)) (all k less)
-        | inr more ↦ (
-            let e : level ≡ k = omega (arith, l, more) in
-            subst (λ (n : ℕ). P n (link_of (links ++ link ∷ []) n)) e (subst (λ (x : StepRef). P level x) (sym link_of-new) here))
-      ]
 
 -- labels that were added with their link
 pub labels_on : (dig : List ℕ → List ℕ) (step : ℕ) (datum : List ℕ) (links new_links : List StepRef) (labels new_labels : List (List ℕ)) (link : StepRef) (level : ℕ) → length links ≡ level

@@ -1,12 +1,11 @@
 -- What the pages of a history's steps are, and where their links lead.
-use Rattle.std.proofs.Common.{◌≡◌, ℕ, suc, zero, ◌+◌, ◌-◌, ◌*◌, ◌^◌, ◌%◌, ◌<◌, ◌≤◌, List, [], ◌∷◌, length, get_or, refl, ap, sym, ◌∙◌, arith, inl, inr, subst, length-append, lit<}
-use Rattle.std.specs.Prelude.{sum_by}
-use Rattle.std.proofs.lemmas.Bool.{cases_lt}
+use Rattle.std.proofs.Common.{◌≡◌, ℕ, suc, zero, ◌+◌, ◌-◌, ◌^◌, ◌%◌, ◌<◌, ◌≤◌, List, [], ◌∷◌, length, get_or, refl, ap, sym, ◌∙◌, arith, inl, inr, subst, lit<, Bool, true}
+use Rattle.std.specs.Prelude.{◌==◌}
+use Rattle.std.proofs.lemmas.Bool.{cases_lt, lt-ltb}
 use Rattle.std.proofs.lemmas.List.{length_push, get_or_push, get_or_append_left}
-use Rattle.std.proofs.lemmas.List.Sums.{sum_by-cons}
 use Rattle.std.proofs.lemmas.Nat.{pow_pos}
 use Rattle.std.proofs.Math.Nat.{pow-le-pow_right, mod-eq_of_lt}
-use Rattle.tw_disk.specs.Image.{Image}
+use Rattle.tw_disk.specs.Image.{Image, page_at}
 use Rattle.tw_base.specs.Auth.{auth}
 use Rattle.tw_base.specs.History.{History, events_at}
 use Rattle.tw_base.specs.Lists.{Each}
@@ -15,22 +14,18 @@ use Rattle.tw_base.specs.Tree.{tree}
 use Rattle.tw_base.proofs.DigestBytes.{IsDigest, auth-digest, event_root-digest, tree_label-digest}
 use Rattle.tw_base.proofs.Levels.{top_level-divides}
 use Rattle.tw_base.proofs.ListLemmas.{Each-append}
-use Rattle.tw_skipproof.specs.Paths.{hop_level}
-use Rattle.tw_skipproof.proofs.Hops.{hop_level-le, hop-below}
 use Rattle.tw_skiplist.specs.declared.head.StepRef.{StepRef}
 use Rattle.tw_skiplist.specs.declared.fields.StepFields.{StepFields}
 use Rattle.tw_skiplist.specs.Keeping.{KeepsStep, KeepsSteps, Place, fields_at, link_to, links_at, links_to, place_of}
 use Rattle.tw_skiplist.specs.StepBytes.{ref_codec, step_codec, stream}
-use Rattle.tw_skiplist.specs.StepPages.{HasLink, IsStepAt, LiesBelow, link_of, no_ref}
-use Rattle.tw_skiplist.specs.StepWalks.{MeetsBadPage, Walks}
-use Rattle.tw_skiplist.specs.StepWalks.Walks.{here, on}
-use Rattle.tw_skiplist.proofs.StepCodecs.{fields-fit, ref-fits, same_fields, same_links, step-fits}
-
--- ---- the stream of a step's events
-
-pub length-stream : (events : List (List ℕ)) → length (stream events) ≡ 4 * length events + sum_by (λ event. length event) events
-length-stream [] = refl
-length-stream (e ∷ es) = let rest = length-stream es in omega (arith, rest, length-append e (stream es), sum_by-cons (λ event. length event) e es)
+use Rattle.tw_skiplist.specs.Found.{Found, spelled, when, ◌>>=◌}
+use Rattle.tw_skiplist.specs.Found.Found.{Is}
+use Rattle.tw_skiplist.specs.StepPages.{lies_below, link_of, no_ref, step_in, page_of_step}
+use Rattle.tw_skiplist.specs.Walks.{link_in}
+use Rattle.tw_skiplist.proofs.FoundLaws.{bytes_in-within, is_on, page-is}
+use Rattle.tw_skiplist.proofs.Rules.{below_where, both_true, link_rules-all}
+use Rattle.tw_skiplist.proofs.StepCodecs.{fields-fit, ref-fits, step-fits, step-lawful}
+use Rattle.tw_skiplist.proofs.Streams.{length-stream}
 
 -- ---- powers
 
@@ -122,22 +117,19 @@ module _ (dig : List ℕ → List ℕ) (size : (text : List ℕ) → IsDigest (d
     no_page zero l none = refl
     no_page (suc k) l none = absurd (omega (arith, (kept.steps k (omega (arith, l))).low, none))
 
-    link_rules : (k level : ℕ) → k < length h.steps → level < suc (top_level (suc k)) → LiesBelow (page (suc k)) (suc k) level (link_of (links_at dig h places (suc k)) level)
-    link_rules k level l within =
-        let at = get_or-links_to no_ref (suc k) (suc (top_level (suc k))) level within in
+    link_rule : (k level : ℕ) → k < length h.steps → level < suc (top_level (suc k)) → lies_below (suc k == 2 ^ level) (link_of (links_at dig h places (suc k)) level).page (page (suc k)) ≡ true
+    link_rule k level l within =
+        let at = ap (λ (x : StepRef). x.page) (get_or-links_to no_ref (suc k) (suc (top_level (suc k))) level within) in
         let some = pow_pos level in
-        record {
-          below = omega (arith, ap (λ (x : StepRef). x.page) at, rises (suc k - 2 ^ level) (suc k) (omega (arith, some)) (omega (arith, l)));
-          genesis = (
-            λ same.
-                let none : suc k - 2 ^ level ≡ 0 = omega (arith, same) in
-                ap (λ (x : StepRef). x.page) at ∙ ap (λ (i : ℕ). page i) none ∙ ap (λ (p : Place). p.page) kept.nowhere,
-            λ none.
-                let first : suc k - 2 ^ level ≡ 0 = no_page (suc k - 2 ^ level) (omega (arith, l)) (sym (ap (λ (x : StepRef). x.page) at) ∙ none) in
-                let within_step = power-le (suc k) level (omega arith) (omega (arith, l, kept.short)) (omega (arith, within)) in
-                omega (arith, first, within_step),
-          );
-        }
+        let within_step = power-le (suc k) level (omega arith) (omega (arith, l, kept.short)) (omega (arith, within)) in
+        below_where (suc k) (2 ^ level) (link_of (links_at dig h places (suc k)) level).page (page (suc k))
+        (omega (arith, at, rises (suc k - 2 ^ level) (suc k) (omega (arith, some)) (omega (arith, l))))
+        (λ same.
+        let none : suc k - 2 ^ level ≡ 0 = omega (arith, same) in
+        at ∙ ap (λ (i : ℕ). page i) none ∙ ap (λ (p : Place). p.page) kept.nowhere)
+        (λ none.
+        let first : suc k - 2 ^ level ≡ 0 = no_page (suc k - 2 ^ level) (omega (arith, l)) (sym at ∙ none) in
+        omega (arith, first, within_step))
 
     page-fits : (k : ℕ) → k < length h.steps → KeepsStep dig ps h places k → (step_codec (suc k)).Fits (fields_at dig h places (suc k), links_at dig h places (suc k))
     page-fits k l s =
@@ -146,66 +138,22 @@ module _ (dig : List ℕ → List ℕ) (size : (text : List ℕ) → IsDigest (d
         (event_root-digest dig (λ t. (size t).0) (λ t. (size t).1) (events_at h (suc k))) (tree_label-digest dig (λ t. (size t).0) (λ t. (size t).1) (tree h (suc k))) (omega arith) (auth-is (suc k)))
         (length-links_to (suc k) (suc (top_level (suc k)))) (links-fit (suc k) (suc (top_level (suc k))) (omega (arith, l)))
 
-    kept_next : (k : ℕ) → k < length h.steps → IsStepAt ps (page (suc k)) (suc k) (fields_at dig h places (suc k)) (links_at dig h places (suc k))
-    kept_next k l =
-        let s = kept.steps k l in
-        record {
-          low = s.low;
-          below = s.below;
-          is = record {
-            spelled = record { bytes = s.bytes; fits = page-fits k l s };
-            field_rules = record {
-              none = (s.stream.none, no_bytes k s);
-              first = first_below k s;
-              archive = omega (arith, s.low);
-            };
-            link_rules = λ level under. link_rules k level l (omega (arith, under, length-links_to (suc k) (suc (top_level (suc k)))));
-          };
-        }
-
     -- a step's page is the page of that step
-    pub kept_page : (i : ℕ) → 0 < i → i ≤ length h.steps → IsStepAt ps (page i) i (fields_at dig h places i) (links_at dig h places i)
-    kept_page zero p l = absurd (omega arith)
-    kept_page (suc k) p l = kept_next k (omega arith)
+    pub kept_page : (k : ℕ) → k < length h.steps → page_of_step ps (page (suc k)) (suc k) ≡ Is (fields_at dig h places (suc k), links_at dig h places (suc k))
+    unfolding page_of_step step_in
+    kept_page k l =
+        let s = kept.steps k l in
+        let f : StepFields = fields_at dig h places (suc k) in
+        let links : List StepRef = links_at dig h places (suc k) in
+        let fields = both_true _ _ (below_where f.stream.size 0 f.stream.page (page (suc k)) (first_below k s) s.stream.none (no_bytes k s)) (lt-ltb f.archive.page (page (suc k)) (omega (arith, s.low))) in
+        let rules = link_rules-all (page (suc k)) (suc k) links (length links) (λ level under. link_rule k level l (omega (arith, under, length-links_to (suc k) (suc (top_level (suc k)))))) in
+        ap (λ (b : Found (List ℕ)). b >>= step_in (page (suc k)) (suc k)) (bytes_in-within ps (page (suc k)) s.low s.below)
+        ∙ is_on (spelled (page (suc k)) 4096 (step_codec (suc k)) (page_at ps (page (suc k) - 4))) _ (f, links)
+        (page-is (page (suc k)) (step_codec (suc k)) (step-lawful (suc k)) (page_at ps (page (suc k) - 4)) (f, links) (record { bytes = s.bytes; fits = page-fits k l s }))
+        ∙ ap (λ (b : Bool). when b (page (suc k)) (f, links)) (both_true _ _ fields rules)
 
-    -- and of no other fields and links
-    module _ (i : ℕ) (some : 0 < i) (within : i ≤ length h.steps) (f : StepFields) (links : List StepRef) (is : IsStepAt ps (page i) i f links) where
-      pub fields_are : f ≡ fields_at dig h places i
-      fields_are = same_fields (page i) i f _ links _ _ is.is (kept_page i some within).is
-
-      pub links_are : links ≡ links_at dig h places i
-      links_are = same_links (page i) i f _ links _ _ is.is (kept_page i some within).is
-
-    -- where a link of the page leads
-    pub link_leads : (link next : StepRef) (i level : ℕ) → 0 < i → i ≤ length h.steps → level ≤ top_level i → link ≡ link_to dig h places i
-        → HasLink ps link.page i level next → next ≡ link_to dig h places (i - 2 ^ level)
-    link_leads link next i level some within fine link_is has =
-        let is = subst (λ (k : StepRef). IsStepAt ps k.page i has.fields has.links) link_is has.is in
-        has.next_is ∙ ap (λ (ls : List StepRef). link_of ls level) (links_are i some within has.fields has.links is)
-        ∙ get_or-links_to no_ref i (suc (top_level i)) level (omega (arith, fine))
-
-    -- where a walk leads
-    pub record Leads (from to : ℕ) (link : StepRef) (at : ℕ) : Type 0 where
-      pub link_is : link ≡ link_to dig h places at
-      pub low : to ≤ at
-      pub high : at ≤ from
-
-    pub walk_leads : (first : StepRef) (from to : ℕ) (link : StepRef) (at : ℕ) → to ≤ from → from ≤ length h.steps → first ≡ link_to dig h places from
-        → Walks ps first from to link at → Leads from to link at
-    walk_leads first from to _ _ order within first_is here = record { link_is = first_is; low = order; high = omega arith }
-    walk_leads first from to _ _ order within first_is (on link at next walks under has) =
-        let so_far = walk_leads first from to link at order within first_is walks in
-        record {
-          link_is = link_leads link next at (hop_level at to) (omega (arith, under)) (omega (arith, so_far.high, within)) (hop_level-le at to) so_far.link_is has;
-          low = hop-below at to under;
-          high = omega (arith, so_far.high);
-        }
-
-    -- a walk meets no bad page
-    pub no_bad_page : (first : StepRef) (from to page : ℕ) → to ≤ from → from ≤ length h.steps → first ≡ link_to dig h places from
-        → MeetsBadPage ps first from to page → ⊥
-    no_bad_page first from to page order within first_is meets =
-        let leads = walk_leads first from to meets.link meets.at order within first_is meets.walks in
-        let is = kept_page meets.at meets.recorded (omega (arith, leads.high, within)) in
-        meets.bad (fields_at dig h places meets.at) (links_at dig h places meets.at)
-        (subst (λ (k : StepRef). IsStepAt ps k.page meets.at (fields_at dig h places meets.at) (links_at dig h places meets.at)) (sym leads.link_is) is)
+    -- where a link of it leads
+    pub kept_link_in : (k level : ℕ) → k < length h.steps → level ≤ top_level (suc k) → link_in ps (page (suc k)) (suc k) level ≡ Is (link_to dig h places (suc k - 2 ^ level))
+    kept_link_in k level l fine =
+        is_on (page_of_step ps (page (suc k)) (suc k)) (λ p. Is (link_of p.1 level)) (fields_at dig h places (suc k), links_at dig h places (suc k)) (kept_page k l)
+        ∙ ap (λ (link : StepRef). Is link) (get_or-links_to no_ref (suc k) (suc (top_level (suc k))) level (omega (arith, fine)))

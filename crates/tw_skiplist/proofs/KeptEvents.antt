@@ -1,17 +1,50 @@
 -- The event pages of a step that the pages keep.
-use Rattle.std.proofs.Common.{◌≡◌, ℕ, suc, ◌+◌, ◌*◌, ◌<◌, ◌≤◌, List, ◌++◌, length, take, drop, refl, ap, sym, ◌∙◌, arith, inl, inr, length-take, length-drop}
+use Rattle.std.proofs.Common.{◌≡◌, ℕ, suc, zero, ◌+◌, ◌-◌, ◌*◌, ◌<◌, ◌≤◌, List, [], ◌∷◌, ◌++◌, length, take, drop, refl, ap, sym, ◌∙◌, arith, length-take, length-drop, Bool}
+use Rattle.std.specs.Prelude.{if◌then◌else◌}
+use Rattle.std.specs.Int.{to_be_bytes, w32}
+use Rattle.std.proofs.lemmas.Bool.{le-ltb}
 use Rattle.std.proofs.lemmas.List.{take_all}
-use Rattle.tw_disk.specs.Image.{Image}
+use Rattle.tw_base.specs.Bytes.{AreBytes}
+use Rattle.tw_base.specs.Codecs.{HasBytes, behind, bytes_codec}
 use Rattle.tw_base.specs.History.{History, events_at}
+use Rattle.tw_base.specs.Lists.{Each}
+use Rattle.tw_base.proofs.ByteLemmas.{AreBytes-append, AreBytes-drop, AreBytes-take}
+use Rattle.tw_base.proofs.CodecLaws.{Lawful, lawful}
+use Rattle.tw_disk.specs.Image.{Image, page_at}
+use Rattle.tw_disk.specs.PageBytes.{IsPageOf}
 use Rattle.tw_skiplist.specs.declared.info.StepInfo.{StepInfo}
-use Rattle.tw_skiplist.specs.Events.{FindsEvents, FindsNoEvents, HasPieces, HasStream, IsEventPageAt, MeetsBadPiece, MisspellsEvents, SpellsEvents, piece_size}
-use Rattle.tw_skiplist.specs.StepBytes.{event_page_bytes, piece, stream}
-use Rattle.tw_skiplist.specs.Events.HasPieces.{none, more}
-use Rattle.tw_skiplist.specs.Infos.{IsInfoOf}
-use Rattle.tw_skiplist.proofs.Growing.{has_bytes}
-use Rattle.tw_skiplist.proofs.Kept.{length-stream}
-use Rattle.tw_skiplist.proofs.Spelling.{piece_read, spells_one, take_on}
 use Rattle.tw_skiplist.specs.declared.limits.TheConstants.{MOST_PIECE_BYTES, MOST_STREAM_BYTES}
+use Rattle.tw_skiplist.specs.Events.{events_in, events_of_info, last_page, piece_count, piece_in, piece_size, pieces_below}
+use Rattle.tw_skiplist.specs.Found.{Found, spelled, ◌>>=◌}
+use Rattle.tw_skiplist.specs.Found.Found.{Is, Bad}
+use Rattle.tw_skiplist.specs.Infos.{IsInfoOf}
+use Rattle.tw_skiplist.specs.StepBytes.{event_page_bytes, piece, piece_codec, stream}
+use Rattle.tw_skiplist.proofs.EventWords.{found-events}
+use Rattle.tw_skiplist.proofs.FoundLaws.{bytes_in-within, is_on, page-is}
+use Rattle.tw_skiplist.proofs.Growing.{has_bytes}
+use Rattle.tw_skiplist.proofs.PieceCounts.{count_all, count_needed, pieces-more, pieces-none}
+use Rattle.tw_skiplist.proofs.Spelling.{take_on}
+use Rattle.tw_skiplist.proofs.Streams.{length-stream}
+
+pub piece-lawful : (step number count : ℕ) → Lawful (piece_codec step number count)
+unfolding piece_codec
+piece-lawful step number count = search lawful depth 20
+
+-- an event page is the page of its piece
+pub event_page_of : (step number count : ℕ) (page bytes : List ℕ) → page ≡ event_page_bytes step number bytes → HasBytes count bytes → IsPageOf (piece_codec step number count) page bytes
+unfolding event_page_bytes piece_codec behind bytes_codec
+event_page_of step number count page bytes is fits = record { bytes = is; fits = fits }
+
+pub of_event_page : (step number count : ℕ) (page bytes : List ℕ) → IsPageOf (piece_codec step number count) page bytes → (page ≡ event_page_bytes step number bytes) × (length bytes ≡ count)
+unfolding event_page_bytes piece_codec behind bytes_codec
+of_event_page step number count page bytes is = (is.bytes, is.fits.0)
+
+stream_bytes : (events : List (List ℕ)) → Each AreBytes events → AreBytes (stream events)
+stream_bytes [] all = tt
+stream_bytes (e ∷ es) all = AreBytes-append (to_be_bytes w32 (length e)) (e ++ stream es) (length_bytes (length e)) (AreBytes-append e (stream es) all.0 (stream_bytes es all.1))
+  where
+    length_bytes : (n : ℕ) → AreBytes (to_be_bytes w32 n)
+    length_bytes n = (omega arith, (omega arith, (omega arith, (omega arith, tt))))
 
 module _ (dig : List ℕ → List ℕ) (ps : Image) (h : History) (i : ℕ) (info : StepInfo) (is : IsInfoOf dig ps h i info) where
   abbrev bytes_of : List ℕ
@@ -24,51 +57,39 @@ module _ (dig : List ℕ → List ℕ) (ps : Image) (h : History) (i : ℕ) (inf
   size = info.stream.size
 
   -- an event page of the step
-  piece_at : (number : ℕ) → MOST_PIECE_BYTES * number < size → IsEventPageAt ps (first + number) info.step number size (piece bytes_of number)
+  piece_at : (number : ℕ) → MOST_PIECE_BYTES * number < size → piece_in ps info number ≡ Is (piece bytes_of number)
   piece_at number l =
       let less : MOST_PIECE_BYTES * number < length bytes_of = omega (arith, l, is.stream_size) in
       let low = is.stream.low (has_bytes number _ less) in
       let under = is.stream.below number less in
-      record {
-        low = omega (arith, low);
-        below = omega (arith, under, is.page_below);
-        bytes_are = is.stream.pieces number less ∙ ap (λ (k : ℕ). event_page_bytes k number (piece bytes_of number)) (sym is.step);
-        size_is = length-take MOST_PIECE_BYTES (drop (MOST_PIECE_BYTES * number) bytes_of) ∙ omega (arith, length-drop (MOST_PIECE_BYTES * number) bytes_of, is.stream_size);
-      }
+      let own = length-take MOST_PIECE_BYTES (drop (MOST_PIECE_BYTES * number) bytes_of) in
+      let rest = length-drop (MOST_PIECE_BYTES * number) bytes_of in
+      let all = is.stream_size in
+      ap (λ (b : Found (List ℕ)). b >>= spelled (first + number) 4096 (piece_codec info.step number (piece_size size number))) (bytes_in-within ps (first + number) (omega (arith, low)) (omega (arith, under, is.page_below)))
+      ∙ page-is (first + number) (piece_codec info.step number (piece_size size number)) (piece-lawful info.step number (piece_size size number)) (page_at ps (first + number - 4)) (piece bytes_of number)
+      (event_page_of info.step number (piece_size size number) (page_at ps (first + number - 4)) (piece bytes_of number)
+      (is.stream.pieces number less ∙ ap (λ (k : ℕ). event_page_bytes k number (piece bytes_of number)) (sym is.step))
+      (own ∙ omega (arith, rest, all), AreBytes-take MOST_PIECE_BYTES (drop (MOST_PIECE_BYTES * number) bytes_of) (AreBytes-drop (MOST_PIECE_BYTES * number) bytes_of (stream_bytes (events_at h i) is.limits.are.bytes))))
 
-  -- has no other piece
-  one_piece : (number : ℕ) (bytes : List ℕ) → MOST_PIECE_BYTES * number < size → IsEventPageAt ps (first + number) info.step number size bytes → bytes ≡ piece bytes_of number
-  one_piece number bytes l at =
-      let own = piece_at number l in
-      sym (piece_read info.step number (piece_size size number) _ bytes at.bytes_are at.size_is) ∙ piece_read info.step number (piece_size size number) _ (piece bytes_of number) own.bytes_are own.size_is
-
-  pieces_are : (number : ℕ) (bytes : List ℕ) → HasPieces ps first info.step size number bytes → bytes ≡ take (MOST_PIECE_BYTES * number) bytes_of
-  pieces_are _ _ none = refl
-  pieces_are _ _ (more number before bytes has l at) =
-      (λ j. pieces_are number before has j ++ one_piece number bytes l at j) ∙ take_on (MOST_PIECE_BYTES * number) MOST_PIECE_BYTES bytes_of
-      ∙ ap (λ (n : ℕ). take n bytes_of) (let e : MOST_PIECE_BYTES * number + MOST_PIECE_BYTES ≡ MOST_PIECE_BYTES * suc number = omega arith in e)
-
-  stream_is : (bytes : List ℕ) → HasStream ps info bytes → bytes ≡ bytes_of
-  stream_is bytes has = pieces_are has.number bytes has.pieces ∙ take_all (MOST_PIECE_BYTES * has.number) bytes_of (omega (arith, has.all, is.stream_size))
-
-  own_events : (bytes : List ℕ) → bytes ≡ bytes_of → SpellsEvents bytes info.count (events_at h i)
-  own_events bytes same = record { stream_is = sym same; count_is = sym is.count; limits = is.limits }
+  pieces_are : (number : ℕ) → number ≤ piece_count size → pieces_below ps info number ≡ Is (take (MOST_PIECE_BYTES * number) bytes_of)
+  pieces_are zero l = pieces-none ps info
+  pieces_are (suc number) l =
+      let so_far = pieces_are number (omega (arith, l)) in
+      ap (pieces_below ps info) (let e : suc number ≡ number + 1 = omega arith in e) ∙ pieces-more ps info number
+      ∙ is_on (pieces_below ps info number) (λ before. piece_in ps info number >>= (λ p. Is (before ++ p))) (take (MOST_PIECE_BYTES * number) bytes_of) so_far
+      ∙ is_on (piece_in ps info number) (λ p. Is (take (MOST_PIECE_BYTES * number) bytes_of ++ p)) (piece bytes_of number) (piece_at number (count_needed size number (omega (arith, l))))
+      ∙ ap (λ (b : List ℕ). Is b) (take_on (MOST_PIECE_BYTES * number) MOST_PIECE_BYTES bytes_of)
+      ∙ ap (λ (n : ℕ). Is (take n bytes_of)) (let e : MOST_PIECE_BYTES * number + MOST_PIECE_BYTES ≡ MOST_PIECE_BYTES * suc number = omega arith in e)
 
   -- the events that are found are the history's
-  pub events_are : (events : List (List ℕ)) → FindsEvents ps info events → events ≡ events_at h i
-  events_are events found = spells_one found.bytes info.count events (events_at h i) found.spells (own_events found.bytes (stream_is found.bytes found.has))
-
-  no_bad_piece : (page : ℕ) → MeetsBadPiece ps info page → ⊥
-  no_bad_piece page meets = meets.bad (piece bytes_of meets.number) (piece_at meets.number meets.needed)
-
-  spelled : (page : ℕ) → MisspellsEvents ps info page → ⊥
-  spelled page bad = bad.nothing (events_at h i) (own_events bad.bytes (stream_is bad.bytes bad.has))
-
-  short_stream : size ≤ MOST_STREAM_BYTES
-  short_stream = omega (arith, is.stream_size, length-stream (events_at h i), is.limits.are.count, is.limits.fit)
-
-  -- and some are found
-  pub finds_some : (page : ℕ) → FindsNoEvents ps info page → ⊥
-  finds_some page (inl long) = omega (arith, long.0, short_stream)
-  finds_some page (inr (inl meets)) = no_bad_piece page meets
-  finds_some page (inr (inr bad)) = spelled page bad
+  pub events_are : events_of_info ps info ≡ Is (events_at h i)
+  unfolding events_of_info
+  events_are =
+      let count : ℕ = piece_count size in
+      let all = count_all size in
+      let long : length bytes_of ≤ MOST_PIECE_BYTES * count = omega (arith, all, is.stream_size) in
+      let few : size ≤ MOST_STREAM_BYTES = omega (arith, is.stream_size, length-stream (events_at h i), is.limits.are.count, is.limits.fit) in
+      let read : Found (List (List ℕ)) = pieces_below ps info count >>= events_in (last_page info count) info.count in
+      ap (λ (b : Bool). if b then Bad info.page else read) (le-ltb MOST_STREAM_BYTES size few)
+      ∙ is_on (pieces_below ps info count) (events_in (last_page info count) info.count) bytes_of (pieces_are count (omega arith) ∙ ap (λ (b : List ℕ). Is b) (take_all (MOST_PIECE_BYTES * count) bytes_of long))
+      ∙ found-events bytes_of info.count (events_at h i) (record { stream_is = refl; count_is = sym is.count; limits = is.limits }) (last_page info count)

@@ -14,10 +14,12 @@ use Rattle.tw_skiplist.specs.declared.fields.StepFields.{StepFields}
 use Rattle.tw_skiplist.specs.Keeping.{event_step}
 use Rattle.tw_skiplist.specs.Keeping.{Keeps, KeepsSteps, KeepsStream, Place, fields_at, links_at, place_of}
 use Rattle.tw_skiplist.specs.StepBytes.{piece, stream}
-use Rattle.tw_skiplist.specs.StepPages.{IsStepAt, link_of, no_ref}
+use Rattle.tw_skiplist.specs.StepPages.{link_of, no_ref, page_of_step}
 use Rattle.tw_skiplist.proofs.EventHistories.{roots_none}
-use Rattle.tw_skiplist.proofs.Kept.{fields_are, get_or-links_to, kept_page, links_are}
-use Rattle.tw_skiplist.proofs.Spelling.{piece_read, spells_one, take_on}
+use Rattle.tw_skiplist.proofs.Kept.{get_or-links_to, kept_page}
+use Rattle.tw_skiplist.proofs.EventWords.{found-events}
+use Rattle.tw_skiplist.proofs.FoundLaws.{same_found}
+use Rattle.tw_skiplist.proofs.Spelling.{piece_read, take_on}
 use Rattle.tw_skiplist.specs.declared.limits.TheConstants.{MOST_PIECE_BYTES}
 
 -- ---- a stream is known by its pieces
@@ -57,15 +59,18 @@ module _ (dig : List ℕ → List ℕ) (size : (text : List ℕ) → IsDigest (d
     (kept : KeepsSteps dig ps h places) (kept_too : KeepsSteps dig ps g others) (n : ℕ) (n_is : n ≡ length h.steps) (n_is_too : n ≡ length g.steps)
     (last : (place_of places n).page ≡ (place_of others n).page) where
   -- where the pages of a step are the same, so are its fields and links
-  module _ (k : ℕ) (l : k < n) (same : (place_of places (suc k)).page ≡ (place_of others (suc k)).page) where
-    own : IsStepAt ps (place_of places (suc k)).page (suc k) (fields_at dig g others (suc k)) (links_at dig g others (suc k))
-    own = subst (λ (p : ℕ). IsStepAt ps p (suc k) (fields_at dig g others (suc k)) (links_at dig g others (suc k))) (sym same) (kept_page dig size g others ps kept_too (suc k) (omega arith) (omega (arith, l, n_is_too)))
+  module _ (k : ℕ) (l : k < n) (same_place : (place_of places (suc k)).page ≡ (place_of others (suc k)).page) where
+    same : ◌≡◌ {A = StepFields × List StepRef} (fields_at dig g others (suc k), links_at dig g others (suc k)) (fields_at dig h places (suc k), links_at dig h places (suc k))
+    same =
+        same_found _ _ (
+        sym (kept_page dig size g others ps kept_too k (omega (arith, l, n_is_too))) ∙ ap (λ (p : ℕ). page_of_step ps p (suc k)) (sym same_place)
+        ∙ kept_page dig size h places ps kept k (omega (arith, l, n_is)))
 
     same_fields : fields_at dig g others (suc k) ≡ fields_at dig h places (suc k)
-    same_fields = fields_are dig size h places ps kept (suc k) (omega arith) (omega (arith, l, n_is)) _ _ own
+    same_fields = ap (λ p. p.0) same
 
     same_links : links_at dig g others (suc k) ≡ links_at dig h places (suc k)
-    same_links = links_are dig size h places ps kept (suc k) (omega arith) (omega (arith, l, n_is)) _ _ own
+    same_links = ap (λ p. p.1) same
 
     -- the step before has one page too
     page_before : (place_of places k).page ≡ (place_of others k).page
@@ -83,11 +88,12 @@ module _ (dig : List ℕ → List ℕ) (size : (text : List ℕ) → IsDigest (d
         let sizes : length (stream (events_at g (suc k))) ≡ length (stream (events_at h (suc k))) = ap (λ (f : StepFields). f.stream.size) same_fields in
         let counts : length (events_at g (suc k)) ≡ length (events_at h (suc k)) = ap (λ (f : StepFields). f.count) same_fields in
         let stream_too : KeepsStream ps (suc k) (place_of places (suc k)).first (place_of places (suc k)).page (stream (events_at g (suc k))) =
-        subst (λ (p : ℕ). KeepsStream ps (suc k) (place_of places (suc k)).first p (stream (events_at g (suc k)))) (sym same)
+        subst (λ (p : ℕ). KeepsStream ps (suc k) (place_of places (suc k)).first p (stream (events_at g (suc k)))) (sym same_place)
         (subst (λ (f : ℕ). KeepsStream ps (suc k) f (place_of others (suc k)).page (stream (events_at g (suc k)))) first two.stream) in
         let streams = same_stream ps (suc k) (place_of places (suc k)).first (place_of places (suc k)).page _ _ (sym sizes) one.stream stream_too in
-        spells_one (stream (events_at g (suc k))) (length (events_at g (suc k))) (events_at h (suc k)) (events_at g (suc k))
-        (record { stream_is = streams; count_is = sym counts; limits = one.limits }) (record { stream_is = refl; count_is = refl; limits = two.limits })
+        same_found _ _ (
+        sym (found-events (stream (events_at g (suc k))) (length (events_at g (suc k))) (events_at h (suc k)) (record { stream_is = streams; count_is = sym counts; limits = one.limits }) 0)
+        ∙ found-events (stream (events_at g (suc k))) (length (events_at g (suc k))) (events_at g (suc k)) (record { stream_is = refl; count_is = refl; limits = two.limits }) 0)
 
     same_root : root_of (step_at h k) ≡ root_of (step_at g k)
     same_root = roots_none dig ps h places kept k (omega (arith, l, n_is)) ∙ sym (roots_none dig ps g others kept_too k (omega (arith, l, n_is_too)))

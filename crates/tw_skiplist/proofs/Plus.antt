@@ -12,7 +12,6 @@ use Rattle.tw_base.specs.Auth.{tree_label}
 use Rattle.tw_base.proofs.Plus.{auth-plus, step_at-new, step_at-plus, tree-plus}
 use Rattle.tw_skiplist.specs.declared.head.StepRef.{StepRef}
 use Rattle.tw_skiplist.specs.declared.fields.StepFields.{StepFields}
-use Rattle.tw_skiplist.specs.Appended.{IsPieceCount}
 use Rattle.tw_base.specs.Limits.{MayRecord}
 use Rattle.tw_base.specs.History.{with_events}
 use Rattle.tw_skiplist.specs.Keeping.{event_step}
@@ -83,7 +82,7 @@ module _ (dig : List ℕ → List ℕ) (h : History) (places : List Place) (s : 
 
 -- one more step of events, with its event pages and its step page
 module _ (dig : List ℕ → List ℕ) (pages : Image) (h : History) (places : List Place) (events : List (List ℕ)) (kept : KeepsSteps dig pages h places)
-    (short : length h.steps < LAST_STEP) (limits : MayRecord events) (count first page : ℕ) (pieces : IsPieceCount (length (stream events)) count)
+    (short : length h.steps < LAST_STEP) (limits : MayRecord events) (count first page : ℕ) (all : length (stream events) ≤ MOST_PIECE_BYTES * count)
     (none : length (stream events) ≡ 0 → first ≡ 0) (some : 0 < length (stream events) → first ≡ 4 + length pages)
     (page_is : page ≡ 4 + length pages + count) (small : page < 2 ^ 48) (rises : (place_of places (length h.steps)).page < page) where
   abbrev n : ℕ
@@ -126,7 +125,7 @@ module _ (dig : List ℕ → List ℕ) (pages : Image) (h : History) (places : L
         ∙ page_at-event_pages (suc n) (stream events) count number l
 
     within : (number : ℕ) → MOST_PIECE_BYTES * number < length (stream events) → number < count
-    within number l = omega (arith, l, pieces.all)
+    within number l = omega (arith, l, all)
 
     new_stream : KeepsStream grown (suc n) first page (stream events)
     new_stream = record {

@@ -1,5 +1,5 @@
 -- The records of paths and openings that pages make, and those of the history that the pages keep.
-use Rattle.std.proofs.Common.{◌≡◌, ℕ, suc, zero, ◌+◌, ◌-◌, ◌^◌, ◌<◌, ◌≤◌, List, [], ◌∷◌, ◌++◌, length, get_or, drop, refl, ap, sym, ◌∙◌, arith, inl, inr, subst, Option, None}
+use Rattle.std.proofs.Common.{◌≡◌, ℕ, suc, zero, ◌+◌, ◌-◌, ◌^◌, ◌<◌, ◌≤◌, List, [], ◌∷◌, ◌++◌, length, get_or, drop, refl, ap, sym, ◌∙◌, arith, inl, inr, Option, None}
 use Rattle.std.specs.Prelude.{map, remove, ◌==◌, if◌then◌else◌}
 use Rattle.std.proofs.lemmas.Bool.{cases_lt}
 use Rattle.std.proofs.lemmas.Bool.Decides.{eqb_tells}
@@ -18,12 +18,11 @@ use Rattle.tw_base.proofs.Auths.{auths-at}
 use Rattle.tw_skipproof.specs.HistoryProofs.{labels_at}
 use Rattle.tw_skipproof.specs.declared.path.Link.{Link}
 use Rattle.tw_skiplist.specs.declared.head.StepRef.{StepRef}
-use Rattle.tw_skiplist.specs.declared.info.StepInfo.{StepInfo}
 use Rattle.tw_skiplist.specs.Infos.{IsInfoOf}
 use Rattle.tw_skiplist.specs.Keeping.{KeepsSteps, Place, fields_at, links_at, place_of}
-use Rattle.tw_skiplist.specs.StepPages.{HasLink, IsStepAt, link_of, no_ref}
-use Rattle.tw_skiplist.specs.Records.{HasHop, TellsInfo, info_record, link_record, other_labels, page_datum, page_labels}
-use Rattle.tw_skiplist.proofs.Kept.{fields_are, get_or-links_to, length-links_to, links_are}
+use Rattle.tw_skiplist.specs.StepPages.{link_of, no_ref}
+use Rattle.tw_skiplist.specs.Records.{info_record, link_record, other_labels, page_datum, page_labels}
+use Rattle.tw_skiplist.proofs.Kept.{get_or-links_to, length-links_to}
 
 -- ---- a list without one of its elements
 
@@ -85,10 +84,6 @@ module _ (dig : List ℕ → List ℕ) where
       sym (remove_push (page_labels dig step datum links level) _ level without (length-page_labels step datum links level))
       ∙ ap (λ (k : ℕ). remove (page_labels dig step datum links k) without) (let e : suc level ≡ level + 1 = omega arith in e)
 
-  -- a hop has its link
-  pub hop_link : (ps : Image) (page step level : ℕ) (link : Link) (next : StepRef) → HasHop dig ps page step level link next → HasLink ps page step level next
-  hop_link ps page step level link next has = record { fields = has.fields; links = has.links; is = has.is; next_is = has.next_is }
-
   -- ---- of a history that the pages keep
 
   module _ (size : (text : List ℕ) → IsDigest (dig text)) (h : History) (places : List Place) (ps : Image) (kept : KeepsSteps dig ps h places) where
@@ -100,7 +95,7 @@ module _ (dig : List ℕ → List ℕ) where
     kept_datum k l =
         ap (λ (time : Option ℕ). dig (step_datum_text (event_root dig (events_at h (suc k))) (tree_label dig (tree h (suc k))) (length (events_at h (suc k))) time)) (sym (no_time k l))
 
-    labels_to : (k : ℕ) (datum : List ℕ) (count : ℕ) → count ≤ suc (top_level (suc k))
+    pub labels_to : (k : ℕ) (datum : List ℕ) (count : ℕ) → count ≤ suc (top_level (suc k))
         → page_labels dig (suc k) datum (links_at dig h places (suc k)) count ≡ map dig (link_texts dig datum (auths dig h k) (suc k) count)
     unfolding page_labels link_texts
     labels_to k datum zero l = refl
@@ -120,32 +115,18 @@ module _ (dig : List ℕ → List ℕ) where
         ∙ ap (λ (n : ℕ). map dig (link_texts dig (dig (datum_text_at dig h (suc k))) (auths dig h n) (suc k) (suc (top_level (suc k))))) before
 
     -- the record of a link is the history's
-    pub record_of : (page i level : ℕ) (link : Link) (next : StepRef) → 0 < i → i ≤ length h.steps → page ≡ (place_of places i).page
-        → HasHop dig ps page i level link next → (link.datum ≡ dig (datum_text_at dig h i)) × (link.others ≡ remove (labels_at dig h i) level)
-    record_of page zero level link next some within page_is has = absurd (omega arith)
-    record_of page (suc k) level link next some within page_is has =
-        let is = subst (λ (p : ℕ). IsStepAt ps p (suc k) has.fields has.links) page_is has.is in
-        let f = fields_are dig size h places ps kept (suc k) some within has.fields has.links is in
-        let ls = links_are dig size h places ps kept (suc k) some within has.fields has.links is in
-        let rec : link ≡ link_record dig (suc k) (fields_at dig h places (suc k)) (links_at dig h places (suc k)) level = has.record_is ∙ (λ j. link_record dig (suc k) (f j) (ls j) level) in (
-          ap (λ (x : Link). x.datum) rec ∙ kept_datum k (omega (arith, within)),
-          ap (λ (x : Link). x.others) rec ∙ ap (λ (xs : List (List ℕ)). remove xs level) (kept_labels k (omega (arith, within))),
-        )
+    pub kept_link : (k level : ℕ) → k < length h.steps → let link : Link = link_record dig (suc k) (fields_at dig h places (suc k)) (links_at dig h places (suc k)) level in
+        (link.datum ≡ dig (datum_text_at dig h (suc k))) × (link.others ≡ remove (labels_at dig h (suc k)) level)
+    kept_link k level l = (kept_datum k l, ap (λ (xs : List (List ℕ)). remove xs level) (kept_labels k l))
 
     -- what a page tells is the history's
-    pub info_of : (page i : ℕ) (info : StepInfo) → 0 < i → i ≤ length h.steps → page ≡ (place_of places i).page → TellsInfo dig ps page i info → IsInfoOf dig ps h i info
-    info_of page zero info some within page_is tells = absurd (omega arith)
-    info_of page (suc k) info some within page_is tells =
-        let is = subst (λ (p : ℕ). IsStepAt ps p (suc k) tells.fields tells.links) page_is tells.is in
-        let f = fields_are dig size h places ps kept (suc k) some within tells.fields tells.links is in
-        let ls = links_are dig size h places ps kept (suc k) some within tells.fields tells.links is in
-        let s = kept.steps k (omega (arith, within)) in
-        let own : StepInfo = info_record dig (place_of places (suc k)).page (suc k) (fields_at dig h places (suc k)) (links_at dig h places (suc k)) in
-        let rec : own ≡ info = sym (tells.info_is ∙ (λ j. info_record dig (page_is j) (suc k) (f j) (ls j))) in
+    pub kept_info : (k : ℕ) → k < length h.steps → IsInfoOf dig ps h (suc k) (info_record dig (place_of places (suc k)).page (suc k) (fields_at dig h places (suc k)) (links_at dig h places (suc k)))
+    kept_info k l =
+        let s = kept.steps k l in
         let first = get_or-links_to dig size h places no_ref (suc k) (suc (top_level (suc k))) 0 (omega arith) in
-        subst (λ (x : StepInfo). IsInfoOf dig ps h (suc k) x) rec (record {
+        record {
           step = refl;
-          short = omega (arith, within, kept.short);
+          short = omega (arith, l, kept.short);
           event_root = refl;
           count = refl;
           archive = refl;
@@ -155,13 +136,13 @@ module _ (dig : List ℕ → List ℕ) where
               event_root = refl;
               archive_root = refl;
               count = refl;
-              time = no_time k (omega (arith, within));
+              time = no_time k l;
               prev = sym (ap (λ (x : StepRef). x.auth) first);
             };
-            others = ap (λ (xs : List (List ℕ)). remove xs 0) (kept_labels k (omega (arith, within))) ∙ remove_first (labels_at dig h (suc k));
+            others = ap (λ (xs : List (List ℕ)). remove xs 0) (kept_labels k l) ∙ remove_first (labels_at dig h (suc k));
           };
           limits = s.limits;
           page_below = s.below;
           stream_size = refl;
           stream = s.stream;
-        })
+        }

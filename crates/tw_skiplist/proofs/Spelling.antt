@@ -8,8 +8,7 @@ use Rattle.tw_base.specs.declared.limits.TheConstants.{MOST_EVENT_BYTES}
 use Rattle.tw_base.specs.Lists.{Each}
 use Rattle.tw_base.proofs.ByteLemmas.{AreBytes-back, AreBytes-front}
 use Rattle.tw_base.proofs.TextFields.{halves}
-use Rattle.tw_skiplist.specs.Events.{SpellsEvents}
-use Rattle.tw_skiplist.specs.ScanSteps.{HasEventAt, IsNoEventAt}
+use Rattle.tw_skiplist.specs.ScanSteps.{HasEventAt, IsNoEventAt, SpellsEvents}
 use Rattle.tw_base.specs.Codecs.{behind, bytes_codec}
 use Rattle.tw_skiplist.specs.StepBytes.{event_page_bytes, piece_codec, stream}
 use Rattle.tw_skiplist.proofs.Streams.{stream-append}
@@ -49,13 +48,6 @@ begins (x ∷ xs) (e ∷ es) rest p q l same =
 length-none : (xs : List (List ℕ)) → length xs ≡ 0 → xs ≡ []
 length-none [] e = refl
 length-none (x ∷ xs) e = absurd (omega arith)
-
--- a stream spells one list of events of a count at most
-pub spells_one : (bytes : List ℕ) (count : ℕ) (xs es : List (List ℕ)) → SpellsEvents bytes count xs → SpellsEvents bytes count es → xs ≡ es
-spells_one bytes count xs es one two =
-    let on = begins xs es [] one.limits.are.sizes two.limits.are.sizes (omega (arith, one.count_is, two.count_is)) (append-nil (stream xs) ∙ one.stream_is ∙ sym two.stream_is) in
-    let none : on.more ≡ [] = length-none on.more (omega (arith, ap (λ (l : List (List ℕ)). length l) on.all, length-append xs on.more, one.count_is, two.count_is)) in
-    sym (on.all ∙ ap (λ (m : List (List ℕ)). xs ++ m) none ∙ append-nil xs)
 
 -- ---- while a stream is taken apart
 

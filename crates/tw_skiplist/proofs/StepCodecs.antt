@@ -1,14 +1,12 @@
 -- The codecs of step pages are lawful, and what fits them.
-use Rattle.std.proofs.Common.{◌≡◌, ℕ, suc, ◌<◌, ◌≤◌, ◌^◌, List, length, ap, arith}
+use Rattle.std.proofs.Common.{◌≡◌, ℕ, suc, ◌<◌, ◌≤◌, ◌^◌, List, length, arith}
 use Rattle.tw_base.specs.Codecs.{HasBytes, behind, bytes_codec, many, number_codec, pair, seen}
 use Rattle.tw_base.specs.Levels.{top_level}
 use Rattle.tw_base.specs.Lists.{Each}
 use Rattle.tw_base.proofs.CodecLaws.{Lawful, lawful}
-use Rattle.tw_disk.proofs.PageLaws.{page-once}
 use Rattle.tw_skiplist.specs.declared.head.StepRef.{StepRef}
 use Rattle.tw_skiplist.specs.declared.fields.StepFields.{StepFields}
 use Rattle.tw_skiplist.specs.StepBytes.{fields_codec, links_codec, ref_codec, step_codec}
-use Rattle.tw_skiplist.specs.StepPages.{IsStepPage}
 
 pub ref-lawful : Lawful ref_codec
 unfolding ref_codec
@@ -55,14 +53,3 @@ module _ (step : ℕ) (f : StepFields) (links : List StepRef) where
     pub stream-short : f.stream.size ≤ 69632
     unfolding step_codec behind pair fields_codec seen number_codec
     stream-short = fits.0.1.0.1
-
--- a page is that of a step with one value of its fields and links at most
-module _ (page step : ℕ) (f g : StepFields) (links others : List StepRef) (bytes : List ℕ) (one : IsStepPage page step f links bytes) (other : IsStepPage page step g others bytes) where
-  same : ◌≡◌ {A = StepFields × List StepRef} (f, links) (g, others)
-  same = page-once (step_codec step) (step-lawful step) bytes (f, links) (g, others) one.spelled other.spelled
-
-  pub same_fields : f ≡ g
-  same_fields = ap (λ p. p.0) same
-
-  pub same_links : links ≡ others
-  same_links = ap (λ p. p.1) same

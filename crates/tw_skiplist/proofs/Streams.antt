@@ -1,10 +1,11 @@
 -- The stream of events and its pieces.
-use Rattle.std.proofs.Common.{◌≡◌, ℕ, suc, zero, ◌+◌, ◌<◌, List, [], ◌∷◌, ◌++◌, length, get_or, take, refl, ap, sym, ◌∙◌, arith, inl, inr, append_assoc, Option, Some, None}
-use Rattle.std.specs.Prelude.{min}
+use Rattle.std.proofs.Common.{◌≡◌, ℕ, suc, zero, ◌+◌, ◌*◌, ◌<◌, List, [], ◌∷◌, ◌++◌, length, get_or, take, refl, ap, sym, ◌∙◌, arith, inl, inr, append_assoc, Option, Some, None}
+use Rattle.std.specs.Prelude.{min, sum_by}
 use Rattle.std.specs.Option.{option_map}
 use Rattle.std.specs.Int.{to_be_bytes, w32}
 use Rattle.std.proofs.lemmas.Bool.{cases_lt}
-use Rattle.std.proofs.lemmas.List.{take_all, take_more, length_push, get_or_push, get_or_append_left, append-nil}
+use Rattle.std.proofs.lemmas.List.Sums.{sum_by-cons}
+use Rattle.std.proofs.lemmas.List.{length-append, take_all, take_more, length_push, get_or_push, get_or_append_left, append-nil}
 use Rattle.tw_base.specs.Lists.{Each}
 use Rattle.tw_disk.specs.Image.{Image, page_at}
 use Rattle.tw_skiplist.specs.StepBytes.{event_page_bytes, event_pages, piece, stream}
@@ -20,6 +21,10 @@ stream-append [] ys = refl
 stream-append (x ∷ xs) ys =
     ap (λ (t : List ℕ). to_be_bytes w32 (length x) ++ (x ++ t)) (stream-append xs ys)
     ∙ ap (λ (t : List ℕ). to_be_bytes w32 (length x) ++ t) (sym (append_assoc x (stream xs) (stream ys)))
+
+pub length-stream : (events : List (List ℕ)) → length (stream events) ≡ 4 * length events + sum_by (λ event. length event) events
+length-stream [] = refl
+length-stream (e ∷ es) = let rest = length-stream es in omega (arith, rest, length-append e (stream es), sum_by-cons (λ event. length event) e es)
 
 -- one more event
 pub stream-more : (xs : List (List ℕ)) (i : ℕ) (d : List ℕ) → i < length xs → stream (take (i + 1) xs) ≡ stream (take i xs) ++ (to_be_bytes w32 (length (get_or xs i d)) ++ get_or xs i d)

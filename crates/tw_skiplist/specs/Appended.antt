@@ -1,48 +1,57 @@
 -- What one more step puts behind the pages.
-use Rattle.std.specs.Prelude.{◌≡◌, ℕ, suc, ◌+◌, ◌*◌, ◌<◌, ◌≤◌, List, [], ◌∷◌, ◌++◌, length, Option, Some}
+use Rattle.std.specs.Prelude.{◌≡◌, ℕ, ◌+◌, ◌==◌, List, [], ◌∷◌, ◌++◌, length, Option, Some, if◌then◌else◌}
 use Rattle.tw_disk.specs.declared.limits.TheConstants.{FIRST_PAGE}
 use Rattle.tw_disk.specs.Image.{Image}
 use Rattle.tw_base.specs.declared.root.Root.{Root}
 use Rattle.tw_base.specs.EventTree.{event_root}
-use Rattle.tw_base.specs.Levels.{top_level}
 use Rattle.tw_base.specs.Texts.{authenticator_text, datum_text}
+use Rattle.tw_skiplist.specs.declared.fields.StepFields.{StepFields}
 use Rattle.tw_skiplist.specs.declared.head.Head.{Head}
 use Rattle.tw_skiplist.specs.declared.head.StepRef.{StepRef}
-use Rattle.tw_skiplist.specs.declared.limits.TheConstants.{MOST_PIECE_BYTES}
+use Rattle.tw_skiplist.specs.Events.{piece_count}
+use Rattle.tw_skiplist.specs.Found.{Found, ◌>>=◌}
+use Rattle.tw_skiplist.specs.Found.Found.{Is}
+use Rattle.tw_skiplist.specs.Records.{page_labels}
 use Rattle.tw_skiplist.specs.StepBytes.{event_pages, step_page_bytes, stream}
-use Rattle.tw_skiplist.specs.StepPages.{link_of}
-use Rattle.tw_skiplist.specs.StepWalks.{Gathers}
-use Rattle.tw_skiplist.specs.Records.{head_ref, page_labels}
+use Rattle.tw_skiplist.specs.Walks.{next_links}
 
--- so many pieces make up a stream
-pub record IsPieceCount (size count : ℕ) : Type 0 where
-  pub all : size ≤ MOST_PIECE_BYTES * count
-  pub needed : (number : ℕ) → number < count → MOST_PIECE_BYTES * number < size
+-- pages with a step behind them: its event pages, which have this stream, and then its own page
+abbrev pub with_step : Image → (step : ℕ) → (bytes : List ℕ) → StepFields → List StepRef → Image
+with_step pages step bytes f links = (pages ++ event_pages step bytes (piece_count (length bytes))) ++ step_page_bytes step f links ∷ []
 
--- the event pages of the stream and then the step page were put behind the pages, and the new head is that step
-pub record IsPut (before : Image) (step : ℕ) (bytes : List ℕ) (count : ℕ) (root : List ℕ) (archive : Root) (links : List StepRef) (now : Option Image) (new : Head) : Type 0 where
-  pub first : ℕ
-  pub pieces : ℕ
-  pub piece_count : IsPieceCount (length bytes) pieces
-  pub none : length bytes ≡ 0 → first ≡ 0
-  pub some : 0 < length bytes → first ≡ FIRST_PAGE + length before
-  pub step_is : new.step ≡ step
-  pub page_is : new.page ≡ FIRST_PAGE + length before + pieces
-  pub told : now ≡ Some ((before ++ event_pages step bytes pieces)
-      ++ step_page_bytes step (record { count = count; stream = record { page = first; size = length bytes }; event_root = root; archive = archive; auth = new.auth }) links ∷ [])
+-- where the stream of a step begins that is put behind the pages; one of no bytes has no page
+abbrev pub first_page : Image → (size : ℕ) → ℕ
+first_page pages size = if size == 0 then 0 else FIRST_PAGE + length pages
 
--- the datum of a step of these events, after which the archive has this label
-abbrev pub events_datum : (List ℕ → List ℕ) → (events : List (List ℕ)) → (archive : List ℕ) → List ℕ
-events_datum dig events archive = dig (datum_text (event_root dig events) archive (length events))
+-- the pages and the head after one more step
+pub record Next : Type 0 where
+  pub pages : Image
+  pub head : Head
 
--- The step after the head's, of these events and with this archive, was put behind the pages, and the new head is that step. Its
--- link of each level is the one that `Gathers` comes to, and its authenticator is that of the labels of these links.
-pub record IsAppended (dig : List ℕ → List ℕ) (before : Image) (head : Head) (events : List (List ℕ)) (archive : Root) (now : Option Image) (new : Head) : Type 0 where
-  pub links : List StepRef
-  pub link_count : length links ≡ suc (top_level (head.step + 1))
-  pub gathered : (level : ℕ) → level < length links → Gathers before (head_ref head) head.step level (link_of links level)
-  pub auth : new.auth ≡ dig (authenticator_text (head.step + 1) (page_labels dig (head.step + 1) (events_datum dig events archive.label) links (length links)))
-  pub put : IsPut before (head.step + 1) (stream events) (length events) (event_root dig events) archive links now new
+module _ (dig : List ℕ → List ℕ) (pages : Image) (head : Head) (events : List (List ℕ)) (archive : Root) where
+  -- the fields of the step with this authenticator
+  abbrev pub new_fields : (auth : List ℕ) → StepFields
+  new_fields auth = record {
+    count = length events;
+    stream = record { page = first_page pages (length (stream events)); size = length (stream events) };
+    event_root = event_root dig events;
+    archive = archive;
+    auth = auth;
+  }
+
+  -- its authenticator, from the labels of its links
+  abbrev pub new_auth : List StepRef → List ℕ
+  new_auth links = dig (authenticator_text (head.step + 1) (page_labels dig (head.step + 1) (dig (datum_text (event_root dig events) archive.label (length events))) links (length links)))
+
+  abbrev pub next_of : List StepRef → Next
+  next_of links = record {
+    pages = with_step pages (head.step + 1) (stream events) (new_fields (new_auth links)) links;
+    head = record { step = head.step + 1; auth = new_auth links; page = FIRST_PAGE + length pages + piece_count (length (stream events)) };
+  }
+
+  -- the step after the head's, of these events and with this archive: its links are read, and it is put behind the pages
+  unfoldable pub appended : Found Next
+  appended = next_links pages head >>= (λ links. Is (next_of links))
 
 -- the pages told now are the earlier ones, and perhaps more behind them
 pub record Extends (before : Image) (now : Option Image) : Type 0 where

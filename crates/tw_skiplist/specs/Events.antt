@@ -1,75 +1,55 @@
 -- Reading the events of a step from its event pages.
-use Rattle.std.specs.Prelude.{◌≡◌, ℕ, suc, zero, ◌+◌, ◌-◌, ◌*◌, ◌<◌, ◌≤◌, ◌⊎◌, min, List, [], ◌++◌, length}
-use Rattle.tw_disk.specs.declared.limits.TheConstants.{FIRST_PAGE}
-use Rattle.tw_disk.specs.Image.{Image, page_at}
+use Rattle.std.specs.Prelude.{ℕ, suc, zero, ◌+◌, ◌-◌, ◌*◌, ◌/◌, ◌&&◌, min, List, [], ◌++◌, length, nat_le, nat_lt, sum_by, Bool, if◌then◌else◌}
+use Rattle.tw_base.specs.Codecs.{Codec, many, sized_codec}
+use Rattle.tw_base.specs.declared.limits.TheConstants.{MOST_EVENTS, MOST_EVENT_BYTES, MOST_STEP_BYTES}
+use Rattle.tw_disk.specs.declared.limits.TheConstants.{PAGE_SIZE}
+use Rattle.tw_disk.specs.Image.{Image}
 use Rattle.tw_skiplist.specs.declared.info.StepInfo.{StepInfo}
 use Rattle.tw_skiplist.specs.declared.limits.TheConstants.{MOST_PIECE_BYTES, MOST_STREAM_BYTES}
-use Rattle.tw_base.specs.Limits.{MayRecord}
-use Rattle.tw_skiplist.specs.StepBytes.{event_page_bytes, stream}
+use Rattle.tw_skiplist.specs.Found.{Found, bytes_in, spelled, when, ◌>>=◌}
+use Rattle.tw_skiplist.specs.Found.Found.{Is, Bad}
+use Rattle.tw_skiplist.specs.StepBytes.{piece_codec}
 
--- how many bytes of a stream of this size the event page of this number has
+-- how many event pages a stream of this size has
+abbrev pub piece_count : (size : ℕ) → ℕ
+piece_count size = (size + (MOST_PIECE_BYTES - 1)) / MOST_PIECE_BYTES
+
+-- how many bytes of it the event page of this number has
 abbrev pub piece_size : (size number : ℕ) → ℕ
 piece_size size number = min (size - MOST_PIECE_BYTES * number) MOST_PIECE_BYTES
 
--- the page of this number is one of the pages, and the event page of that number of the step, with this piece of a stream of
--- this size
-pub record IsEventPageAt (pages : Image) (page step number size : ℕ) (bytes : List ℕ) : Type 0 where
-  pub low : FIRST_PAGE ≤ page
-  pub below : page < FIRST_PAGE + length pages
-  pub bytes_are : page_at pages (page - FIRST_PAGE) ≡ event_page_bytes step number bytes
-  pub size_is : length bytes ≡ piece_size size number
+module _ (pages : Image) (info : StepInfo) where
+  -- the piece of the step's stream that the event page of this number has; the event pages follow one another
+  abbrev pub piece_in : (number : ℕ) → Found (List ℕ)
+  piece_in number =
+      bytes_in pages (info.stream.page + number)
+      >>= spelled (info.stream.page + number) PAGE_SIZE (piece_codec info.step number (piece_size info.stream.size number))
 
-abbrev pub IsNoEventPageAt : Image → (page step number size : ℕ) → Type 0
-IsNoEventPageAt pages page step number size = (bytes : List ℕ) → IsEventPageAt pages page step number size bytes → ⊥
+  -- the pieces of the numbers below this count
+  unfoldable pub pieces_below : (count : ℕ) → Found (List ℕ)
+  pieces_below zero = Is []
+  pieces_below (suc number) = pieces_below number >>= (λ before. piece_in number >>= (λ piece. Is (before ++ piece)))
 
--- the event pages from this one on, in their order, have these bytes, up to the number told
-pub data HasPieces (pages : Image) (first step size : ℕ) : (number : ℕ) → List ℕ → Type 0 where
-  none : HasPieces pages first step size 0 []
-  more : (number : ℕ) (before bytes : List ℕ) → HasPieces pages first step size number before → MOST_PIECE_BYTES * number < size
-      → IsEventPageAt pages (first + number) step number size bytes → HasPieces pages first step size (suc number) (before ++ bytes)
-
--- the events are spelled by the bytes, as many as the count, within the limits of a step
-pub record SpellsEvents (bytes : List ℕ) (count : ℕ) (events : List (List ℕ)) : Type 0 where
-  pub stream_is : stream events ≡ bytes
-  pub count_is : length events ≡ count
-  pub limits : MayRecord events
-
--- ---- the events of an info
-
--- the event pages have all bytes of the stream
-pub record HasStream (pages : Image) (info : StepInfo) (bytes : List ℕ) : Type 0 where
-  pub number : ℕ
-  pub pieces : HasPieces pages info.stream.page info.step info.stream.size number bytes
-  pub all : info.stream.size ≤ MOST_PIECE_BYTES * number
-
--- the event pages have a stream that spells these events
-pub record FindsEvents (pages : Image) (info : StepInfo) (events : List (List ℕ)) : Type 0 where
-  pub bytes : List ℕ
-  pub has : HasStream pages info bytes
-  pub spells : SpellsEvents bytes info.count events
-
--- the event pages before this one are as they have to be, and it isn't
-pub record MeetsBadPiece (pages : Image) (info : StepInfo) (page : ℕ) : Type 0 where
-  pub number : ℕ
-  pub before : List ℕ
-  pub pieces : HasPieces pages info.stream.page info.step info.stream.size number before
-  pub needed : MOST_PIECE_BYTES * number < info.stream.size
-  pub page_is : page ≡ info.stream.page + number
-  pub bad : IsNoEventPageAt pages (info.stream.page + number) info.step number info.stream.size
-
--- the page that is read last before the stream is taken apart
-abbrev pub last_page : StepInfo → (number : ℕ) → ℕ
+-- the page that is read last: the step's own where its stream has no bytes
+abbrev pub last_page : StepInfo → (pieces : ℕ) → ℕ
 last_page info zero = info.page
 last_page info (suc number) = info.stream.page + number
 
--- the event pages have a stream, and it spells no events of the count
-pub record MisspellsEvents (pages : Image) (info : StepInfo) (page : ℕ) : Type 0 where
-  pub bytes : List ℕ
-  pub has : HasStream pages info bytes
-  pub page_is : page ≡ last_page info has.number
-  pub nothing : (events : List (List ℕ)) → SpellsEvents bytes info.count events → ⊥
+-- each event behind its length, which takes four bytes
+abbrev pub events_codec : (count : ℕ) → Codec (List (List ℕ))
+events_codec count = many count (sized_codec 4 0 MOST_EVENT_BYTES)
 
--- why this page is told: the step's page has a stream longer than any step's, an event page isn't of its kind, or the stream
--- doesn't spell the events
-abbrev pub FindsNoEvents : Image → StepInfo → (page : ℕ) → Type 0
-FindsNoEvents pages info page = ((MOST_STREAM_BYTES < info.stream.size) × (page ≡ info.page)) ⊎ MeetsBadPiece pages info page ⊎ MisspellsEvents pages info page
+-- within the limits of a step
+abbrev pub may_be_recorded : List (List ℕ) → Bool
+may_be_recorded events = nat_le (length events) MOST_EVENTS && nat_le (sum_by (λ event. length event) events) MOST_STEP_BYTES
+
+-- the events that a stream spells, so many; where it spells none, this page is bad
+unfoldable pub events_in : (page count : ℕ) → (stream : List ℕ) → Found (List (List ℕ))
+events_in page count stream = spelled page 0 (events_codec count) stream >>= (λ events. when (may_be_recorded events) page events)
+
+-- The events of a step, from its event pages. The step's page is bad where the info tells of a longer stream than
+-- any step's, as none from a page does, and the page that is read last where the stream spells no such events.
+unfoldable pub events_of_info : Image → StepInfo → Found (List (List ℕ))
+events_of_info pages info =
+    if nat_lt MOST_STREAM_BYTES info.stream.size then Bad info.page
+    else (pieces_below pages info (piece_count info.stream.size) >>= events_in (last_page info (piece_count info.stream.size)) info.count)

@@ -1,5 +1,5 @@
--- What the calls answer of a history that the pages keep.
-use Rattle.std.specs.Prelude.{◌≡◌, ℕ, ◌+◌, ◌<◌, ◌≤◌, List, ◌++◌, length, Option, Some}
+-- What a step of a history is, in pages that keep it.
+use Rattle.std.specs.Prelude.{◌≡◌, ℕ, ◌+◌, ◌<◌, ◌≤◌, List, length}
 use Rattle.tw_disk.specs.declared.limits.TheConstants.{FIRST_PAGE}
 use Rattle.tw_disk.specs.Image.{Image}
 use Rattle.tw_base.specs.declared.limits.TheConstants.{LAST_STEP}
@@ -7,11 +7,10 @@ use Rattle.tw_base.specs.EventTree.{event_root}
 use Rattle.tw_base.specs.History.{History, events_at}
 use Rattle.tw_base.specs.Auth.{auth}
 use Rattle.tw_skipproof.specs.HistoryProofs.{IsOpeningOf}
-use Rattle.tw_skiplist.specs.declared.head.Head.{Head}
 use Rattle.tw_skiplist.specs.declared.info.StepInfo.{StepInfo}
 use Rattle.tw_base.specs.Limits.{MayRecord}
 use Rattle.tw_skiplist.specs.StepBytes.{stream}
-use Rattle.tw_skiplist.specs.Keeping.{Keeps, KeepsStream, archive_at}
+use Rattle.tw_skiplist.specs.Keeping.{KeepsStream, archive_at}
 
 -- the info is of this step of the history, and the pages keep the step's events where it says
 pub record IsInfoOf (dig : List ℕ → List ℕ) (pages : Image) (h : History) (i : ℕ) (info : StepInfo) : Type 0 where
@@ -26,9 +25,3 @@ pub record IsInfoOf (dig : List ℕ → List ℕ) (pages : Image) (h : History) 
   pub page_below : info.page < FIRST_PAGE + length pages
   pub stream_size : info.stream.size ≡ length (stream (events_at h i))
   pub stream : KeepsStream pages i info.stream.page info.page (stream (events_at h i))
-
--- the pages told now are the earlier ones and more, and keep the longer history under the new head
-pub record Added (dig : List ℕ → List ℕ) (before : Image) (longer : History) (now : Option Image) (new : Head) : Type 0 where
-  pub more : Image
-  pub told : now ≡ Some (before ++ more)
-  pub keeps : Keeps dig (before ++ more) longer new

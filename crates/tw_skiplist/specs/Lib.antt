@@ -1,11 +1,12 @@
 pub mod StepBytes
 pub mod Keeping
 pub mod StepPages
-pub mod StepWalks
+pub mod Walks
 pub mod Records
 pub mod Appended
 pub mod Events
 pub mod Infos
 pub mod Answers
 pub mod ScanSteps
-pub mod GatherSteps
+pub mod Found
+pub mod Readings

@@ -1,21 +1,16 @@
 // One more step.
 
-ghost use Rattle.std.specs.Prelude.{◌≡◌, ℕ, suc, ◌+◌, ◌<◌, ◌≤◌, ◌^◌, ◌++◌, ◌∷◌, [], List, length, Some, IfOk, OnErr};
+ghost use Rattle.std.specs.Prelude.{◌≡◌, ℕ, suc, ◌+◌, ◌<◌, ◌≤◌, ◌^◌, ◌++◌, ◌∷◌, [], length, Some, IfOk, OnErr};
 ghost use Rattle.tw_disk.specs.Image.{Image};
 ghost use Rattle.tw_disk.specs.Pages.{OnlyReads};
-ghost use Rattle.tw_base.specs.History.{History, with_events};
 ghost use Rattle.tw_base.specs.Limits.{MayRecord};
 ghost use Rattle.tw_base.specs.Levels.{top_level as top_level_of};
 ghost use Rattle.tw_base.specs.Texts.{authenticator_text, link_text};
-ghost use Rattle.tw_skiplist.specs.Answers.{FaultsRise, IfBadPage, NeverNoStep, NotDiskFault};
-ghost use Rattle.tw_skiplist.specs.Infos.{Added};
-ghost use Rattle.tw_skiplist.specs.GatherSteps.{HasLinks, LeadsNowhere};
-ghost use Rattle.tw_skiplist.specs.Keeping.{Keeps, archive_at};
-ghost use Rattle.tw_skiplist.specs.StepPages.{link_of};
-ghost use Rattle.tw_skiplist.specs.StepWalks.{Gathers, GathersBadPage};
-ghost use Rattle.tw_skiplist.specs.Records.{head_ref, page_labels};
-ghost use Rattle.tw_skiplist.specs.declared.head.StepRef.{StepRef};
-ghost use Rattle.tw_skiplist.specs.Appended.{Extends, IsAppended, IsPut};
+ghost use Rattle.tw_skiplist.specs.Answers.{AnswersAs, AnswersNext, FaultsRise, NeverNoStep, NotDiskFault};
+ghost use Rattle.tw_skiplist.specs.Appended.{Extends, appended, first_page as first_page_of, with_step};
+ghost use Rattle.tw_skiplist.specs.Events.{piece_count};
+ghost use Rattle.tw_skiplist.specs.Records.{page_labels};
+ghost use Rattle.tw_skiplist.specs.Walks.{head_ref, links_up_to};
 
 use crate::fault::ListFault;
 use crate::fields::{StepFields, StreamRef};
@@ -75,17 +70,11 @@ fn gather<P: Pages, H: Hasher>(
     datum: &Digest,
 ) -> Result<Links, ListFault>
     requires step { from + 1 < 2 ^ 40 }
-    ensures links { IfOk result (λ l. (ps : Image) → P.list pages.old ≡ Some ps →
-        HasLinks H.dig ps first.now from datum.now l.links.items l.labels.items (suc (top_level_of (from + 1)))) }
+    ensures answer { (ps : Image) → P.list pages.old ≡ Some ps →
+        AnswersAs (λ l. l.links.items) result (links_up_to ps first.now from (top_level_of (from + 1))) }
     ensures count { IfOk result (λ l. length l.links.items ≡ suc (top_level_of (from + 1))) }
     ensures labels { IfOk result (λ l. l.labels.items ≡ page_labels H.dig (from + 1) datum.now l.links.items (length l.links.items)) }
-    ensures gathered { IfOk result (λ l. (ps : Image) → P.list pages.old ≡ Some ps → (level : ℕ) → level < length l.links.items →
-        Gathers ps first.now from level (link_of l.links.items level)) }
     ensures sizes { IfOk result (λ l. (length l.links.items ≤ MOST_LINKS) × (length l.labels.items ≤ MOST_LINKS)) }
-    ensures found { IfOk result (λ _. (ps : Image) → P.list pages.old ≡ Some ps →
-        (last : StepRef) × Gathers ps first.now from (top_level_of (from + 1)) last) }
-    ensures bad { IfBadPage result (λ p. (ps : Image) → P.list pages.old ≡ Some ps → GathersBadPage ps first.now from p) }
-    ensures good { IfBadPage result (λ _. (ps : Image) → P.list pages.old ≡ Some ps → LeadsNowhere H.dig ps first.now from) }
     ensures no_step { NeverNoStep result }
     ensures kept { OnlyReads P.used_count P.list P.same P.unbroken pages.old pages.new (NotDiskFault result) }
     ensures faults { FaultsRise (P.faults pages.old) (P.faults pages.new) result }
@@ -132,7 +121,14 @@ fn put_step<P: Pages, H: Hasher>(
     requires labels { length links.now.labels.items ≤ MOST_LINKS }
     requires count { length links.now.links.items ≡ suc (top_level_of step) }
     ensures put { IfOk result (λ new. (ps : Image) → P.list pages.old ≡ Some ps →
-        IsPut ps step recorded.now.stream recorded.now.count recorded.now.event_root recorded.now.archive links.now.links.items (P.list pages.new) new) }
+        P.list pages.new ≡ Some (with_step ps step recorded.now.stream (record {
+          count = recorded.now.count;
+          stream = record { page = first_page_of ps (length recorded.now.stream); size = length recorded.now.stream };
+          event_root = recorded.now.event_root;
+          archive = recorded.now.archive;
+          auth = new.auth;
+        }) links.now.links.items)) }
+    ensures at { IfOk result (λ new. new.page ≡ P.used_count pages.old + piece_count (length recorded.now.stream)) }
     ensures left { OnErr result ((ps : Image) → P.list pages.old ≡ Some ps → Extends ps (P.list pages.new)) }
     ensures auth { IfOk result (λ new. new.auth ≡ H.dig (authenticator_text step links.now.labels.items)) }
     ensures step { IfOk result (λ new. new.step ≡ step) }
@@ -182,20 +178,13 @@ pub fn append<P: Pages, H: Hasher>(
     requires step { head.now.step < LAST_STEP }
     requires used { P.used_count pages.old < 2 ^ 47 }
     requires limits { MayRecord events.now }
-    ensures added { IfOk result (λ new. (ps : Image) (h : History) → P.list pages.old ≡ Some ps → Keeps H.dig ps h head.now →
-        archive.now ≡ archive_at H.dig h (length h.steps) → Added H.dig ps (with_events h events.now) (P.list pages.new) new) }
-    ensures put { IfOk result (λ new. (ps : Image) → P.list pages.old ≡ Some ps →
-        IsAppended H.dig ps head.now events.now archive.now (P.list pages.new) new) }
+    ensures answer { (ps : Image) → P.list pages.old ≡ Some ps →
+        AnswersNext result (P.list pages.new) (appended H.dig ps head.now events.now archive.now) }
     ensures left { OnErr result ((ps : Image) → P.list pages.old ≡ Some ps → Extends ps (P.list pages.new)) }
     ensures step { IfOk result (λ new. new.step ≡ head.now.step + 1) }
     ensures page { IfOk result (λ new. P.used_count pages.new ≡ new.page + 1) }
     ensures used { P.used_count pages.old ≤ P.used_count pages.new }
     ensures few { P.used_count pages.new ≤ P.used_count pages.old + 19 }
-    ensures found { IfOk result (λ _. (ps : Image) → P.list pages.old ≡ Some ps →
-        (last : StepRef) × Gathers ps (head_ref head.now) head.now.step (top_level_of (head.now.step + 1)) last) }
-    ensures bad { IfBadPage result (λ p. (ps : Image) → P.list pages.old ≡ Some ps →
-        GathersBadPage ps (head_ref head.now) head.now.step p) }
-    ensures good { IfBadPage result (λ _. (ps : Image) (h : History) → P.list pages.old ≡ Some ps → Keeps H.dig ps h head.now → ⊥) }
     ensures no_step { NeverNoStep result }
     ensures same { P.same pages.old pages.new }
     ensures unbroken { NotDiskFault result → P.unbroken pages.old → P.unbroken pages.new }

@@ -1,12 +1,14 @@
 // Reading the stream of a step's events.
 
-ghost use Rattle.std.specs.Prelude.{◌≡◌, ℕ, ◌+◌, ◌-◌, ◌*◌, ◌<◌, ◌≤◌, ◌^◌, ◌++◌, List, length, take, drop, min, Some, IfOk, OnOk, MatchOption};
+ghost use Rattle.std.specs.Prelude.{◌≡◌, ℕ, ◌+◌, ◌*◌, ◌<◌, ◌≤◌, ◌^◌, length, take, drop, Some, IfOk, IfSome, OnOk, MatchOption};
 ghost use Rattle.std.specs.Int.{from_be_bytes, w32};
 ghost use Rattle.tw_disk.specs.Image.{Image};
 ghost use Rattle.tw_disk.specs.Pages.{OnlyReads};
-ghost use Rattle.tw_skiplist.specs.Answers.{FaultsRise, IfBadPage, NeverNoStep, NotDiskFault};
-ghost use Rattle.tw_skiplist.specs.ScanSteps.{HasEventAt, IsNoEventAt};
-ghost use Rattle.tw_skiplist.specs.Events.{HasStream, IsEventPageAt, IsNoEventPageAt, MeetsBadPiece, SpellsEvents, last_page};
+ghost use Rattle.tw_skiplist.specs.Answers.{AnswersAs, FaultsRise, NeverNoStep, NotDiskFault};
+ghost use Rattle.tw_base.specs.Limits.{MayRecord};
+ghost use Rattle.tw_skiplist.specs.ScanSteps.{AddsPiece, HasEventAt, IsNoEventAt};
+ghost use Rattle.tw_skiplist.specs.Found.Found.{Is, Bad};
+ghost use Rattle.tw_skiplist.specs.Events.{events_in, last_page, piece_count, piece_in, pieces_below};
 
 use crate::fault::ListFault;
 use crate::info::StepInfo;
@@ -21,17 +23,15 @@ use tw_disk::limits::FIRST_PAGE;
 // Reads the event page of this number of the step, and appends its piece of a stream of this size.
 fn add_piece<P: Pages>(
     pages: &mut P,
+    info: &StepInfo,
     page: u64,
-    step: u64,
     number: u16,
-    size: u32,
     into: &mut Bytes,
 ) -> Result<(), ListFault>
-    requires { MOST_PIECE_BYTES * number < size }
-    ensures piece { OnOk result ((ps : Image) → P.list pages.old ≡ Some ps →
-        (bytes : List ℕ) × (into.new ≡ into.old ++ bytes) × IsEventPageAt ps page step number size bytes) }
+    requires page { page ≡ info.now.stream.page + number }
+    requires more { MOST_PIECE_BYTES * number < info.now.stream.size }
+    ensures answer { (ps : Image) → P.list pages.old ≡ Some ps → AddsPiece into.old into.new result (piece_in ps info.now number) }
     ensures next { OnOk result (page + 1 < 2 ^ 64) }
-    ensures bad { IfBadPage result (λ p. (p ≡ page) × ((ps : Image) → P.list pages.old ≡ Some ps → IsNoEventPageAt ps page step number size)) }
     ensures no_step { NeverNoStep result }
     ensures kept { OnlyReads P.used_count P.list P.same P.unbroken pages.old pages.new (NotDiskFault result) }
     ensures faults { FaultsRise (P.faults pages.old) (P.faults pages.new) result }
@@ -39,12 +39,13 @@ fn add_piece<P: Pages>(
     if page < FIRST_PAGE || page >= pages.used() {
         return Err(ListFault::BadPage { page });
     }
-    let count = (size as u64 - MOST_PIECE_BYTES * number as u64).min(MOST_PIECE_BYTES) as usize;
+    let left = info.stream.size as u64 - MOST_PIECE_BYTES * number as u64;
+    let count = left.min(MOST_PIECE_BYTES) as usize;
     let mut bytes = [0; 4096];
     match pages.read(page, &mut bytes) {
         Err(_) => Err(ListFault::DiskFault),
         Ok(()) => {
-            if is_event_page(&bytes, step, number, count) {
+            if is_event_page(&bytes, info.step, number, count) {
                 into.extend_from_slice(&bytes[11..11 + count])?;
                 Ok(())
             } else {
@@ -69,20 +70,20 @@ pub(crate) fn read_stream<P: Pages>(
     info: &StepInfo,
 ) -> Result<StreamRead, ListFault>
     requires { info.now.stream.size ≤ MOST_STREAM_BYTES }
-    ensures pieces { IfOk result (λ r. (ps : Image) → P.list pages.old ≡ Some ps →
-        (has : HasStream ps info.now r.bytes) × (r.last ≡ last_page info.now has.number)) }
-    ensures bad { IfBadPage result (λ p. (ps : Image) → P.list pages.old ≡ Some ps → MeetsBadPiece ps info.now p) }
+    ensures answer { (ps : Image) → P.list pages.old ≡ Some ps →
+        AnswersAs (λ r. r.bytes) result (pieces_below ps info.now (piece_count info.now.stream.size)) }
+    ensures last { IfOk result (λ r. r.last ≡ last_page info.now (piece_count info.now.stream.size)) }
     ensures no_step { NeverNoStep result }
     ensures kept { OnlyReads P.used_count P.list P.same P.unbroken pages.old pages.new (NotDiskFault result) }
     ensures faults { FaultsRise (P.faults pages.old) (P.faults pages.new) result }
 {
-    let size = info.stream.size;
+    let size = info.stream.size as u64;
     let mut bytes = Bytes::new(alloc);
     let mut page = info.stream.page;
     let mut last = info.page;
     let mut number = 0u16;
-    while MOST_PIECE_BYTES * (number as u64) < size as u64 {
-        add_piece(pages, page, info.step, number, size, &mut bytes)?;
+    while MOST_PIECE_BYTES * (number as u64) < size {
+        add_piece(pages, info, page, number, &mut bytes)?;
         last = page;
         page += 1;
         number += 1;
@@ -124,8 +125,8 @@ pub(crate) fn read_events(
     bytes: &[u8],
     count: u32,
 ) -> Result<Option<EventList>, NoMemory>
-    ensures { IfOk result (λ found. MatchOption found ((events : List (List ℕ)) → SpellsEvents bytes.now count events → ⊥)
-        (λ events. SpellsEvents bytes.now count events)) }
+    ensures answer { IfOk result (λ found. (page : ℕ) → MatchOption found (events_in page count bytes.now ≡ Bad page) (λ events. events_in page count bytes.now ≡ Is events)) }
+    ensures limits { IfOk result (λ found. IfSome found (λ events. MayRecord events × (length events ≡ count))) }
 {
     if count as u64 > MOST_EVENTS {
         return Ok(None);

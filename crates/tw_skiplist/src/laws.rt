@@ -1,6 +1,6 @@
-// The laws of pages that keep a history, on which the service builds.
+// The laws of pages that keep a history, and of what is read of them, on which the service builds.
 
-ghost use Rattle.std.specs.Prelude.{◌≡◌, ℕ, ◌+◌, ◌<◌, ◌≤◌, List, [], ◌++◌, length};
+ghost use Rattle.std.specs.Prelude.{◌≡◌, ℕ, ◌+◌, ◌<◌, ◌≤◌, ◌^◌, List, [], ◌++◌, length};
 ghost use Rattle.tw_disk.specs.declared.limits.TheConstants.{FIRST_PAGE};
 ghost use Rattle.tw_disk.specs.Image.{Image};
 ghost use Rattle.tw_base.specs.Auth.{auth};
@@ -8,7 +8,20 @@ ghost use Rattle.tw_base.specs.History.{History};
 ghost use Rattle.tw_base.specs.Names.{IsName};
 ghost use Rattle.tw_base.specs.Sound.{IsSound};
 ghost use Rattle.tw_skiplist.specs.declared.head.Head.{Head};
-ghost use Rattle.tw_skiplist.specs.Keeping.{Keeps};
+ghost use Rattle.tw_base.specs.declared.limits.TheConstants.{LAST_STEP};
+ghost use Rattle.tw_base.specs.declared.root.Root.{Root};
+ghost use Rattle.tw_base.specs.History.{events_at, with_events};
+ghost use Rattle.tw_base.specs.Limits.{MayRecord};
+ghost use Rattle.tw_skipproof.specs.HistoryProofs.{IsPathOf};
+ghost use Rattle.tw_skiplist.specs.declared.info.StepInfo.{StepInfo};
+ghost use Rattle.tw_skiplist.specs.declared.info.StepProof.{StepProof};
+ghost use Rattle.tw_skipproof.specs.declared.path.Path.{Path};
+ghost use Rattle.tw_skiplist.specs.Appended.{appended};
+ghost use Rattle.tw_skiplist.specs.Events.{events_of_info};
+ghost use Rattle.tw_skiplist.specs.Found.Found.{Is};
+ghost use Rattle.tw_skiplist.specs.Infos.{IsInfoOf};
+ghost use Rattle.tw_skiplist.specs.Keeping.{Keeps, archive_at};
+ghost use Rattle.tw_skiplist.specs.Readings.{found_events, found_path, found_proof, found_step};
 
 use tw_base::Hasher;
 
@@ -23,4 +36,26 @@ pub fn keeping_laws<H: Hasher>()
     ensures page { (ps : Image) (h : History) (head : Head) → Keeps H.dig ps h head → 0 < head.step → (FIRST_PAGE ≤ head.page) × (head.page < FIRST_PAGE + length ps) }
     ensures one { (ps : Image) (h g : History) (head : Head) → Keeps H.dig ps h head → Keeps H.dig ps g head → h.name ≡ g.name → h ≡ g }
     ensures sound { (ps : Image) (h : History) (head : Head) → Keeps H.dig ps h head → IsName h.name → IsSound h }
+{}
+
+/// What is read of pages that keep a history under the head is the history's, and no page is bad: a
+/// step, a path from a step down to another (or to step 0), both under a top, the events of a step that
+/// was told, and those of a step. After one more step, of events within the limits of a step, the pages
+/// are the earlier ones and more; where the step has the history's archive, they keep the longer history
+/// under the new head. Before it fewer than 2^47 pages are used.
+pub fn reading_laws<H: Hasher>()
+    ensures step { (ps : Image) (h : History) (head : Head) (i : ℕ) → Keeps H.dig ps h head → 1 ≤ i → i ≤ head.step →
+        (info : StepInfo) × (found_step H.dig ps head i ≡ Is info) × IsInfoOf H.dig ps h i info }
+    ensures path { (ps : Image) (h : History) (head : Head) (n i : ℕ) → Keeps H.dig ps h head → i ≤ n → n ≤ head.step →
+        (path : Path) × (found_path H.dig ps head n i ≡ Is path) × IsPathOf H.dig h path.links n i }
+    ensures proof { (ps : Image) (h : History) (head : Head) (top i : ℕ) → Keeps H.dig ps h head → 1 ≤ i → i ≤ top → top ≤ head.step →
+        (proof : StepProof) × (found_proof H.dig ps head top i ≡ Is proof) × IsPathOf H.dig h proof.path.links top i × IsInfoOf H.dig ps h i proof.info }
+    ensures events_of { (dig : List ℕ → List ℕ) (ps : Image) (h : History) (i : ℕ) (info : StepInfo) → IsInfoOf dig ps h i info →
+        events_of_info ps info ≡ Is (events_at h i) }
+    ensures events { (ps : Image) (h : History) (head : Head) (i : ℕ) → Keeps H.dig ps h head → 1 ≤ i → i ≤ head.step →
+        found_events H.dig ps head i ≡ Is (events_at h i) }
+    ensures appended { (ps : Image) (h : History) (head : Head) (events : List (List ℕ)) (archive : Root) → Keeps H.dig ps h head → head.step < LAST_STEP →
+        MayRecord events → FIRST_PAGE + length ps < 2 ^ 47 →
+        (more : Image) × (new : Head) × (appended H.dig ps head events archive ≡ Is (record { pages = ps ++ more; head = new }))
+        × (archive ≡ archive_at H.dig h (length h.steps) → Keeps H.dig (ps ++ more) (with_events h events) new) }
 {}

@@ -23,5 +23,5 @@ pub use fault::ListFault;
 pub use fields::StreamRef;
 pub use head::{Head, StepRef};
 pub use info::{StepInfo, StepProof};
-pub use laws::keeping_laws;
+pub use laws::{keeping_laws, reading_laws};
 pub use reading::{events, events_of, path, prove, step};

@@ -1,14 +1,14 @@
 // The bytes of step pages and event pages.
 
-ghost use Rattle.std.specs.Prelude.{◌≡◌, ◌≢◌, ◌<◌, ◌≤◌, ◌^◌, ◌+◌, ◌*◌, ◌++◌, ◌↔◌, List, ℕ, suc, length, take, drop, flat_map, IfErr, IfOk, IsTrue, MatchOption};
-ghost use Rattle.tw_base.specs.Codecs.{many};
+ghost use Rattle.std.specs.Prelude.{◌≡◌, ◌≢◌, ◌<◌, ◌≤◌, ◌^◌, ◌+◌, ◌*◌, ◌++◌, ◌↔◌, ◌&&◌, ℕ, suc, length, take, drop, flat_map, IfErr, IfOk, IfSome, IsTrue, MatchOption};
+ghost use Rattle.tw_base.specs.Bytes.{AreBytes};
+ghost use Rattle.tw_base.specs.Codecs.{HasBytes, many};
 ghost use Rattle.tw_base.specs.Levels.{top_level as top_level_of};
 ghost use Rattle.tw_base.specs.Lists.{Each};
 ghost use Rattle.tw_base.specs.Taking.{Takes};
-ghost use Rattle.tw_skiplist.specs.declared.head.StepRef.{StepRef};
-ghost use Rattle.tw_skiplist.specs.declared.fields.StepFields.{StepFields};
 ghost use Rattle.tw_skiplist.specs.StepBytes.{event_page_bytes, fields_codec, ref_codec, step_codec, step_page_bytes};
-ghost use Rattle.tw_skiplist.specs.StepPages.{IsStepPage, KeepsFieldRules, KeepsLinkRules, LiesBelow};
+ghost use Rattle.tw_skiplist.specs.StepPages.{keeps_field_rules as field_rules, keeps_link_rules as link_rules, lies_below as is_below, step_in};
+ghost use Rattle.tw_skiplist.specs.Found.Found.{Is, Bad};
 
 use crate::fields::{StepFields, StreamRef};
 use crate::head::StepRef;
@@ -78,7 +78,8 @@ pub(crate) fn step_page(step: u64, fields: &StepFields, links: &[StepRef]) -> Pa
 #[tactic(auto, unfolding(crate::specs::StepBytes::event_page_bytes, crate::specs::StepBytes::piece_codec, tw_base::specs::Codecs::behind, tw_base::specs::Codecs::bytes_codec))]
 pub(crate) fn event_page(step: u64, number: u16, piece: &[u8]) -> Page
     requires { length piece.now ≤ MOST_PIECE_BYTES }
-    ensures { result ≡ event_page_bytes step number piece.now }
+    ensures page { result ≡ event_page_bytes step number piece.now }
+    ensures bytes { AreBytes piece.now }
 {
     let mut page = PageFront::new();
     page.put(&[2]);
@@ -168,27 +169,25 @@ fn take_step(bytes: &[u8], at: &mut u64, step: u64) -> Result<StepPage, ReadFaul
     Ok(StepPage { fields, links })
 }
 
-fn keeps_field_rules(page: u64, fields: &StepFields) -> bool
-    ensures { IsTrue result ↔ KeepsFieldRules page fields.now }
+// Whether a page lies below another one, and is 0 exactly where it is of nothing.
+fn lies_below(is_of_nothing: bool, page: u64, above: u64) -> bool
+    ensures { result ≡ is_below is_of_nothing page above }
 {
-    (fields.stream.size == 0) == (fields.stream.page == 0)
-        && fields.stream.page < page
-        && fields.archive.page < page
+    page < above && is_of_nothing == (page == 0)
 }
 
-fn lies_below(page: u64, step: u64, level: u8, link: &StepRef) -> bool
-    requires { level < MOST_LINKS }
-    ensures { IsTrue result ↔ LiesBelow page step level link.now }
+fn keeps_field_rules(page: u64, fields: &StepFields) -> bool
+    ensures { result ≡ field_rules page fields.now }
 {
-    link.page < page && (step == power_of_two(level)) == (link.page == 0)
+    lies_below(fields.stream.size == 0, fields.stream.page, page) && fields.archive.page < page
 }
 
 fn keeps_link_rules(page: u64, step: u64, links: &[StepRef]) -> bool
     requires { length links.now ≤ MOST_LINKS }
-    ensures { IsTrue result ↔ KeepsLinkRules page step links.now }
+    ensures { result ≡ link_rules page step links.now (length links.now) }
 {
     for level in 0..links.len() {
-        if !lies_below(page, step, level as u8, &links[level]) {
+        if !lies_below(step == power_of_two(level as u8), links[level].page, page) {
             return false;
         }
     }
@@ -197,7 +196,7 @@ fn keeps_link_rules(page: u64, step: u64, links: &[StepRef]) -> bool
 
 fn keeps_rules(page: u64, step: u64, found: &StepPage) -> bool
     requires { length found.now.links.items ≤ MOST_LINKS }
-    ensures { IsTrue result ↔ (KeepsFieldRules page found.now.fields × KeepsLinkRules page step found.now.links.items) }
+    ensures { result ≡ (field_rules page found.now.fields && link_rules page step found.now.links.items (length found.now.links.items)) }
 {
     keeps_field_rules(page, &found.fields) && keeps_link_rules(page, step, found.links.as_slice())
 }
@@ -206,9 +205,8 @@ fn keeps_rules(page: u64, step: u64, found: &StepPage) -> bool
 /// of this number.
 pub(crate) fn read_step_page(page: u64, step: u64, bytes: &Page) -> Option<StepPage>
     requires { step < 2 ^ 40 }
-    ensures { MatchOption result
-        ((f : StepFields) (links : List StepRef) → IsStepPage page step f links bytes.now → ⊥)
-        (λ p. IsStepPage page step p.fields p.links.items bytes.now) }
+    ensures answer { MatchOption result (step_in page step bytes.now ≡ Bad page) (λ p. step_in page step bytes.now ≡ Is (p.fields, p.links.items)) }
+    ensures link_count { IfSome result (λ p. length p.links.items ≡ suc (top_level_of step)) }
 {
     let mut at = 0;
     let read = take_step(bytes, &mut at, step);
@@ -226,7 +224,8 @@ pub(crate) fn read_step_page(page: u64, step: u64, bytes: &Page) -> Option<StepP
 /// those that stand in it.
 pub(crate) fn is_event_page(bytes: &Page, step: u64, number: u16, count: usize) -> bool
     requires { count ≤ MOST_PIECE_BYTES }
-    ensures { IsTrue result ↔ (bytes.now ≡ event_page_bytes step number (take count (drop 11 bytes.now))) }
+    ensures answer { IsTrue result ↔ (bytes.now ≡ event_page_bytes step number (take count (drop 11 bytes.now))) }
+    ensures piece { HasBytes count (take count (drop 11 bytes.now)) }
 {
     *bytes == event_page(step, number, &bytes[11..11 + count])
 }

@@ -5,7 +5,8 @@ ghost use Rattle.std.specs.Int.{to_be_bytes, w32};
 ghost use Rattle.std.specs.Option.{option_map};
 ghost use Rattle.tw_base.specs.Lists.{Each};
 ghost use Rattle.tw_disk.specs.Image.{Image};
-ghost use Rattle.tw_skiplist.specs.Appended.{Extends, IsPieceCount};
+ghost use Rattle.tw_skiplist.specs.Appended.{Extends};
+ghost use Rattle.tw_skiplist.specs.Events.{piece_count};
 ghost use Rattle.tw_base.specs.Limits.{MayRecord};
 ghost use Rattle.tw_skiplist.specs.StepBytes.{event_page_bytes, event_pages, piece, stream};
 
@@ -67,7 +68,7 @@ pub(crate) fn stage_pieces<P: Pages>(
     requires size { length stream.now ≤ MOST_STREAM_BYTES }
     ensures list { IfOk result (λ count. P.list pages.new ≡ option_map (λ ps. ps ++ event_pages step stream.now count) (P.list pages.old)) }
     ensures left { OnErr result ((ps : Image) → P.list pages.old ≡ Some ps → Extends ps (P.list pages.new)) }
-    ensures count { IfOk result (λ count. IsPieceCount (length stream.now) count) }
+    ensures count { IfOk result (λ count. count ≡ piece_count (length stream.now)) }
     ensures used { IfOk result (λ count. P.used_count pages.new ≡ P.used_count pages.old + count) }
     ensures few { P.used_count pages.new ≤ P.used_count pages.old + MOST_EVENT_PAGES }
     ensures grown { P.used_count pages.old ≤ P.used_count pages.new }

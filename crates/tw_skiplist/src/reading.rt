@@ -1,21 +1,15 @@
 // Reading steps.
 
-ghost use Rattle.std.specs.Prelude.{◌≡◌, ℕ, ◌+◌, ◌*◌, ◌<◌, ◌≤◌, ◌^◌, ◌⊎◌, List, length, Some, IfOk};
+ghost use Rattle.std.specs.Prelude.{◌≡◌, ℕ, ◌*◌, ◌<◌, ◌≤◌, ◌^◌, length, Some, IfOk};
 ghost use Rattle.tw_disk.specs.Image.{Image};
 ghost use Rattle.tw_disk.specs.Pages.{OnlyReads};
-ghost use Rattle.tw_base.specs.History.{History, events_at};
-ghost use Rattle.tw_skipproof.specs.HistoryProofs.{IsPathOf};
-ghost use Rattle.tw_skiplist.specs.Answers.{FaultsRise, IfBadPage, NeverNoStep, NoStepUnless, NotDiskFault};
-ghost use Rattle.tw_skiplist.specs.declared.info.StepInfo.{StepInfo};
-ghost use Rattle.tw_skiplist.specs.Events.{FindsEvents, FindsNoEvents};
-ghost use Rattle.tw_skiplist.specs.Infos.{IsInfoOf};
-ghost use Rattle.tw_skiplist.specs.declared.head.StepRef.{StepRef};
 ghost use Rattle.tw_base.specs.Limits.{MayRecord};
-ghost use Rattle.tw_skiplist.specs.Keeping.{Keeps};
-ghost use Rattle.tw_skiplist.specs.StepWalks.{WalksVia};
-ghost use Rattle.tw_skiplist.specs.Records.{FindsBadPage, FindsBadPageOfPath, FindsBadPageVia, FindsInfo, FindsPath, FindsProof, head_ref};
+ghost use Rattle.tw_skiplist.specs.Answers.{Answers, FaultsRise, NeverNoStep, NoStepUnless, NotDiskFault};
+ghost use Rattle.tw_skiplist.specs.Events.{events_of_info};
+ghost use Rattle.tw_skiplist.specs.Readings.{found_events, found_path, found_proof, found_step};
+ghost use Rattle.tw_skiplist.specs.Walks.{head_ref};
 
-use crate::collecting::{Collected, collect, collect_proof, find_info};
+use crate::collecting::{Collected, collect, read_info};
 use crate::event_pages::{StreamRead, read_events, read_stream};
 use crate::fault::ListFault;
 use crate::head::{Head, StepRef};
@@ -51,11 +45,7 @@ pub fn step<P: Pages, H: Hasher>(
     i: u64,
 ) -> Result<StepInfo, ListFault>
     requires { head.now.step ≤ LAST_STEP }
-    ensures info { IfOk result (λ info. (ps : Image) (h : History) → P.list pages.old ≡ Some ps → Keeps H.dig ps h head.now →
-        IsInfoOf H.dig ps h i info) }
-    ensures found { IfOk result (λ info. (ps : Image) → P.list pages.old ≡ Some ps → FindsInfo H.dig ps head.now i info) }
-    ensures bad { IfBadPage result (λ p. (ps : Image) → P.list pages.old ≡ Some ps → FindsBadPage ps head.now i p) }
-    ensures good { IfBadPage result (λ _. (ps : Image) (h : History) → P.list pages.old ≡ Some ps → Keeps H.dig ps h head.now → ⊥) }
+    ensures answer { (ps : Image) → P.list pages.old ≡ Some ps → Answers result (found_step H.dig ps head.now i) }
     ensures no_step { NoStepUnless result head.now.step ((1 ≤ i) × (i ≤ head.now.step)) }
     ensures kept { OnlyReads P.used_count P.list P.same P.unbroken pages.old pages.new (NotDiskFault result) }
     ensures faults { FaultsRise (P.faults pages.old) (P.faults pages.new) result }
@@ -64,7 +54,8 @@ pub fn step<P: Pages, H: Hasher>(
     if i == 0 || i > last {
         return Err(ListFault::NoStep { last });
     }
-    find_info::<P, H>(alloc, pages, &link_to_head(head), last, i)
+    let link = descend(pages, &link_to_head(head), last, i)?;
+    read_info::<P, H>(alloc, pages, &link, i)
 }
 
 /// The path from the step n down to the step i, of the history whose head is given (a step below
@@ -84,14 +75,8 @@ pub fn path<P: Pages, H: Hasher>(
     i: u64,
 ) -> Result<Path, ListFault>
     requires { head.now.step ≤ LAST_STEP }
-    ensures path { IfOk result (λ path. (ps : Image) (h : History) → P.list pages.old ≡ Some ps → Keeps H.dig ps h head.now →
-        IsPathOf H.dig h path.links n i) }
+    ensures answer { (ps : Image) → P.list pages.old ≡ Some ps → Answers result (found_path H.dig ps head.now n i) }
     ensures bound { IfOk result (λ path. (digits : ℕ) → n < 2 ^ digits → length path.links ≤ 2 * digits) }
-    ensures found { IfOk result (λ _. (ps : Image) → P.list pages.old ≡ Some ps →
-        (last : StepRef) × WalksVia ps (head_ref head.now) head.now.step n i last) }
-    ensures recorded { IfOk result (λ path. (ps : Image) → P.list pages.old ≡ Some ps → FindsPath H.dig ps head.now n i path.links) }
-    ensures bad { IfBadPage result (λ p. (ps : Image) → P.list pages.old ≡ Some ps → FindsBadPageOfPath ps head.now n i p) }
-    ensures good { IfBadPage result (λ _. (ps : Image) (h : History) → P.list pages.old ≡ Some ps → Keeps H.dig ps h head.now → ⊥) }
     ensures no_step { NoStepUnless result head.now.step ((i ≤ n) × (n ≤ head.now.step)) }
     ensures kept { OnlyReads P.used_count P.list P.same P.unbroken pages.old pages.new (NotDiskFault result) }
     ensures faults { FaultsRise (P.faults pages.old) (P.faults pages.new) result }
@@ -120,15 +105,8 @@ pub fn prove<P: Pages, H: Hasher>(
     i: u64,
 ) -> Result<StepProof, ListFault>
     requires { head.now.step ≤ LAST_STEP }
-    ensures path { IfOk result (λ proof. (ps : Image) (h : History) → P.list pages.old ≡ Some ps → Keeps H.dig ps h head.now →
-        IsPathOf H.dig h proof.path.links top i) }
+    ensures answer { (ps : Image) → P.list pages.old ≡ Some ps → Answers result (found_proof H.dig ps head.now top i) }
     ensures bound { IfOk result (λ proof. (digits : ℕ) → top < 2 ^ digits → length proof.path.links ≤ 2 * digits) }
-    ensures info { IfOk result (λ proof. (ps : Image) (h : History) → P.list pages.old ≡ Some ps → Keeps H.dig ps h head.now →
-        IsInfoOf H.dig ps h i proof.info) }
-    ensures found { IfOk result (λ proof. (ps : Image) → P.list pages.old ≡ Some ps → FindsProof H.dig ps head.now top i proof.info) }
-    ensures recorded { IfOk result (λ proof. (ps : Image) → P.list pages.old ≡ Some ps → FindsPath H.dig ps head.now top i proof.path.links) }
-    ensures bad { IfBadPage result (λ p. (ps : Image) → P.list pages.old ≡ Some ps → FindsBadPageVia ps head.now top i p) }
-    ensures good { IfBadPage result (λ _. (ps : Image) (h : History) → P.list pages.old ≡ Some ps → Keeps H.dig ps h head.now → ⊥) }
     ensures no_step { NoStepUnless result head.now.step ((1 ≤ i) × (i ≤ top) × (top ≤ head.now.step)) }
     ensures kept { OnlyReads P.used_count P.list P.same P.unbroken pages.old pages.new (NotDiskFault result) }
     ensures faults { FaultsRise (P.faults pages.old) (P.faults pages.new) result }
@@ -137,8 +115,13 @@ pub fn prove<P: Pages, H: Hasher>(
     if i == 0 || i > top || top > last {
         return Err(ListFault::NoStep { last });
     }
-    let link = descend(pages, &link_to_head(head), last, top)?;
-    collect_proof::<P, H>(alloc, pages, &link, top, i)
+    let link = descend(pages, &link_to_head(head), head.step, top)?;
+    let Collected { links, last } = collect::<P, H>(alloc, pages, &link, top, i)?;
+    let info = read_info::<P, H>(alloc, pages, &last, i)?;
+    Ok(StepProof {
+        path: Path { links },
+        info,
+    })
 }
 
 /// The events of a step that `step` or `prove` told of the same pages, from its event pages alone.
@@ -153,13 +136,8 @@ pub fn events_of<P: Pages>(
     pages: &mut P,
     info: &StepInfo,
 ) -> Result<EventList, ListFault>
-    ensures events { IfOk result (λ events. (dig : List ℕ → List ℕ) (ps : Image) (h : History) (i : ℕ) → P.list pages.old ≡ Some ps →
-        IsInfoOf dig ps h i info.now → events ≡ events_at h i) }
+    ensures answer { (ps : Image) → P.list pages.old ≡ Some ps → Answers result (events_of_info ps info.now) }
     ensures counted { IfOk result (λ events. MayRecord events × (length events ≡ info.now.count)) }
-    ensures found { IfOk result (λ events. (ps : Image) → P.list pages.old ≡ Some ps → FindsEvents ps info.now events) }
-    ensures bad { IfBadPage result (λ p. (ps : Image) → P.list pages.old ≡ Some ps → FindsNoEvents ps info.now p) }
-    ensures good { IfBadPage result (λ _. (dig : List ℕ → List ℕ) (ps : Image) (h : History) (i : ℕ) → P.list pages.old ≡ Some ps →
-        IsInfoOf dig ps h i info.now → ⊥) }
     ensures no_step { NeverNoStep result }
     ensures kept { OnlyReads P.used_count P.list P.same P.unbroken pages.old pages.new (NotDiskFault result) }
     ensures faults { FaultsRise (P.faults pages.old) (P.faults pages.new) result }
@@ -186,12 +164,7 @@ pub fn events<P: Pages, H: Hasher>(
     i: u64,
 ) -> Result<EventList, ListFault>
     requires { head.now.step ≤ LAST_STEP }
-    ensures events { IfOk result (λ events. (ps : Image) (h : History) → P.list pages.old ≡ Some ps → Keeps H.dig ps h head.now →
-        events ≡ events_at h i) }
-    ensures found { IfOk result (λ events. (ps : Image) → P.list pages.old ≡ Some ps → (info : StepInfo) × FindsInfo H.dig ps head.now i info × FindsEvents ps info events) }
-    ensures bad { IfBadPage result (λ p. (ps : Image) → P.list pages.old ≡ Some ps →
-        FindsBadPage ps head.now i p ⊎ ((info : StepInfo) × FindsInfo H.dig ps head.now i info × FindsNoEvents ps info p)) }
-    ensures good { IfBadPage result (λ _. (ps : Image) (h : History) → P.list pages.old ≡ Some ps → Keeps H.dig ps h head.now → ⊥) }
+    ensures answer { (ps : Image) → P.list pages.old ≡ Some ps → Answers result (found_events H.dig ps head.now i) }
     ensures no_step { NoStepUnless result head.now.step ((1 ≤ i) × (i ≤ head.now.step)) }
     ensures kept { OnlyReads P.used_count P.list P.same P.unbroken pages.old pages.new (NotDiskFault result) }
     ensures faults { FaultsRise (P.faults pages.old) (P.faults pages.new) result }

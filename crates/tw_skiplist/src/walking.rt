@@ -1,12 +1,12 @@
 // Walking down the links.
 
-ghost use Rattle.std.specs.Prelude.{◌≡◌, ℕ, suc, ◌+◌, ◌<◌, ◌≤◌, ◌^◌, List, length, Some, IfOk};
+ghost use Rattle.std.specs.Prelude.{◌≡◌, suc, ◌<◌, ◌≤◌, ◌^◌, length, Some, IfOk};
 ghost use Rattle.tw_disk.specs.Image.{Image};
 ghost use Rattle.tw_disk.specs.Pages.{OnlyReads};
 ghost use Rattle.tw_base.specs.Levels.{top_level};
-ghost use Rattle.tw_skiplist.specs.Answers.{FaultsRise, IfBadPage, NeverNoStep, NotDiskFault};
-ghost use Rattle.tw_skiplist.specs.StepPages.{HasLink, IsNoStepAt, IsStepAt, link_of};
-ghost use Rattle.tw_skiplist.specs.StepWalks.{MeetsBadPageAbove, Walks};
+ghost use Rattle.tw_skiplist.specs.Answers.{Answers, AnswersAs, FaultsRise, NeverNoStep, NotDiskFault};
+ghost use Rattle.tw_skiplist.specs.StepPages.{page_of_step};
+ghost use Rattle.tw_skiplist.specs.Walks.{link_in, walk};
 
 use crate::fault::ListFault;
 use crate::head::StepRef;
@@ -24,9 +24,8 @@ pub(crate) fn read_step<P: Pages>(
     step: u64,
 ) -> Result<StepPage, ListFault>
     requires { step < 2 ^ 40 }
-    ensures is { IfOk result (λ s. (ps : Image) → P.list pages.old ≡ Some ps → IsStepAt ps page step s.fields s.links.items) }
+    ensures answer { (ps : Image) → P.list pages.old ≡ Some ps → AnswersAs (λ p. (p.fields, p.links.items)) result (page_of_step ps page step) }
     ensures link_count { IfOk result (λ s. length s.links.items ≡ suc (top_level step)) }
-    ensures bad { IfBadPage result (λ p. (p ≡ page) × ((ps : Image) → P.list pages.old ≡ Some ps → IsNoStepAt ps page step)) }
     ensures no_step { NeverNoStep result }
     ensures kept { OnlyReads P.used_count P.list P.same P.unbroken pages.old pages.new (NotDiskFault result) }
     ensures faults { FaultsRise (P.faults pages.old) (P.faults pages.new) result }
@@ -53,8 +52,7 @@ pub(crate) fn follow<P: Pages>(
 ) -> Result<StepRef, ListFault>
     requires step { at < 2 ^ 40 }
     requires level { level ≤ top_level at }
-    ensures next { IfOk result (λ next. (ps : Image) → P.list pages.old ≡ Some ps → HasLink ps link.now.page at level next) }
-    ensures bad { IfBadPage result (λ p. (p ≡ link.now.page) × ((ps : Image) → P.list pages.old ≡ Some ps → IsNoStepAt ps link.now.page at)) }
+    ensures answer { (ps : Image) → P.list pages.old ≡ Some ps → Answers result (link_in ps link.now.page at level) }
     ensures no_step { NeverNoStep result }
     ensures kept { OnlyReads P.used_count P.list P.same P.unbroken pages.old pages.new (NotDiskFault result) }
     ensures faults { FaultsRise (P.faults pages.old) (P.faults pages.new) result }
@@ -73,8 +71,7 @@ pub(crate) fn descend<P: Pages>(
 ) -> Result<StepRef, ListFault>
     requires below { to ≤ from }
     requires step { from < 2 ^ 40 }
-    ensures walks { IfOk result (λ link. (ps : Image) → P.list pages.old ≡ Some ps → Walks ps first.now from to link to) }
-    ensures bad { IfBadPage result (λ p. (ps : Image) → P.list pages.old ≡ Some ps → MeetsBadPageAbove ps first.now from to p) }
+    ensures answer { (ps : Image) → P.list pages.old ≡ Some ps → Answers result (walk ps first.now from to) }
     ensures no_step { NeverNoStep result }
     ensures kept { OnlyReads P.used_count P.list P.same P.unbroken pages.old pages.new (NotDiskFault result) }
     ensures faults { FaultsRise (P.faults pages.old) (P.faults pages.new) result }

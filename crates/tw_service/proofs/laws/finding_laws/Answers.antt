@@ -1,29 +1,19 @@
-use Rattle.tw_skiplist.specs.Records.{head_ref}
-use Rattle.tw_service.proofs.Exclusions.{links_or_bad, one_bad_link}
-use Rattle.tw_service.proofs.FindingLaws.{count_or_bad, event_or_bad, event_or_count, one_bad, one_count}
+use Rattle.std.proofs.Common.{refl}
+use Rattle.tw_service.proofs.KeptAnswers.{beyond, in_range, kept_thread}
 use Rattle.tw_service.proofs.Standing.{one_service}
 use Rattle.tw_service.proofs.laws.finding_laws.Goals as goal
 
 pub returns-clause-one_service : goal.returns-clause-one_service
 returns-clause-one_service g c = one_service
 
-pub returns-clause-links : goal.returns-clause-links
-returns-clause-links g c = λ ps head page few all met. links_or_bad ps few (head_ref head) head.step all.0 page all.1 met
-
-pub returns-clause-one_link : goal.returns-clause-one_link
-returns-clause-one_link g c = λ ps head page other few one two. one_bad_link ps few (head_ref head) head.step page other one two
+pub returns-clause-thread : goal.returns-clause-thread
+returns-clause-thread g c = λ ps h head events keeps room limits none short. kept_thread g.H.Hasher.dig (λ text. (g.met.H.Hasher.size text, g.met.H.Hasher.bytes text)) ps h head events keeps room limits none short
 
 pub returns-clause-event : goal.returns-clause-event
-returns-clause-event g c = λ ps head step index top page few event lacks. event_or_bad g.H.Hasher.dig ps few head step top index page event lacks
+returns-clause-event g c = λ ps h head step index top keeps sound some order below inside.
+    let own = in_range g.H.Hasher.dig (λ text. (g.met.H.Hasher.size text, g.met.H.Hasher.bytes text)) ps h head keeps sound h.name refl step index top some order below inside in
+    (own.bytes, own.is, own.makes)
 
-pub returns-clause-count : goal.returns-clause-count
-returns-clause-count g c = λ ps head step index top n page few found lacks. count_or_bad g.H.Hasher.dig ps few head step top index n page found lacks
-
-pub returns-clause-either : goal.returns-clause-either
-returns-clause-either g c = λ ps head step index top n few event found. event_or_count g.H.Hasher.dig ps few head step top index n event found
-
-pub returns-clause-one_count : goal.returns-clause-one_count
-returns-clause-one_count g c = λ ps head step index top n m few one two. one_count g.H.Hasher.dig ps few head step top index n m one two
-
-pub returns-clause-one_page : goal.returns-clause-one_page
-returns-clause-one_page g c = λ ps head step index top page other few one two. one_bad g.H.Hasher.dig ps few head step top index page other one two
+pub returns-clause-no_event : goal.returns-clause-no_event
+returns-clause-no_event g c = λ ps h head step index top keeps sound some order below past.
+    beyond g.H.Hasher.dig (λ text. (g.met.H.Hasher.size text, g.met.H.Hasher.bytes text)) ps h head keeps sound h.name refl step index top some order below past

@@ -1,18 +1,19 @@
 use Rattle.std.proofs.Common.{◌≡◌, ◌+◌, ◌-◌, ℕ, List, ap, sym, ◌∙◌, arith, subst, length, length-take, take, drop}
 use Rattle.std.proofs.lemmas.List.{length_push, take_all}
 use Rattle.tw_skiplist.specs.StepBytes.{stream}
-use Rattle.tw_skiplist.proofs.Kept.{length-stream}
+use Rattle.tw_skiplist.proofs.Streams.{length-stream}
 use Rattle.tw_base.specs.Bytes.{AreBytes}
 use Rattle.tw_base.proofs.ByteLemmas.{AreBytes-from}
+use Rattle.tw_skiplist.proofs.EventWords.{found-events, found-none}
 use Rattle.tw_skiplist.proofs.Spelling.{AllShort, all_taken, more_sizes, more_taken, no_event, spelled_bytes}
 use Rattle.tw_skiplist.proofs.event_pages.read_events.Goals as goal
 use Rattle.tw_skiplist.proofs.event_pages.read_events.Goals.{then-at-bytes-via-then-at-bytes, then-at-bytes-via-else-at-bytes+then-at-count}
 
-pub returns-in_default : goal.returns-in_default
-returns-in_default c = λ es spells.
+pub returns-in_default-clause-answer : goal.returns-in_default-clause-answer
+returns-in_default-clause-answer c = λ page. found-none c.args.bytes.now c.args.count (λ es spells.
     let inv = c.loop-index.invariant in
     no_event c.args.bytes.now c.args.count c.loop-index.at c.loop-index.index c.loop-index.events es inv.so_far inv.within inv.count inv.sizes spells (omega (arith, c.loop-index-test.true))
-    (omega (arith, c.loop-index-test.true)) c.in_default.ensures
+    (omega (arith, c.loop-index-test.true)) c.in_default.ensures) page
 
 pub loop-index-preserved : goal.loop-index-preserved
 loop-index-preserved c =
@@ -32,8 +33,12 @@ loop-index-preserved c =
       sizes = subst AllShort (sym pushed) (more_sizes bytes at size c.loop-index.events event inv.so_far has event_is inv.sizes);
     }
 
-pub returns-then-at-bytes : goal.returns-then-at-bytes
-returns-then-at-bytes c = λ es spells.
+pub returns-then-count-gt-MOST_EVENTS-clause-answer : goal.returns-then-count-gt-MOST_EVENTS-clause-answer
+returns-then-count-gt-MOST_EVENTS-clause-answer c = λ page. found-none c.args.bytes.now c.args.count (λ es spells.
+    omega (arith, spells.count_is, spells.limits.are.count, c.if-count-gt-MOST_EVENTS.true)) page
+
+pub returns-then-at-bytes-clause-answer : goal.returns-then-at-bytes-clause-answer
+returns-then-at-bytes-clause-answer c = λ page. found-none c.args.bytes.now c.args.count (λ es spells.
     let inv = c.loop-index.invariant in
     let events = c.loop-index.events in
     let done : c.loop-index.index ≡ c.args.count = omega (arith, c.loop-index-test.false, c.loop-index.auto.index-end) in
@@ -43,10 +48,10 @@ returns-then-at-bytes c = λ es spells.
     elim c.then-at-bytes.branch [
       | then-at-bytes-via-then-at-bytes w ↦ w.if-at-bytes.true taken.0
       | then-at-bytes-via-else-at-bytes+then-at-count w ↦ omega (arith, w.if-at-count.true, sum, size, taken.0, spells.count_is, spells.limits.fit)
-    ]
+    ]) page
 
-pub returns : goal.returns
-returns c =
+pub returns-clause-answer : goal.returns-clause-answer
+returns-clause-answer c = λ page.
     let inv = c.loop-index.invariant in
     let events = c.loop-index.events in
     let bytes = c.args.bytes.now in
@@ -55,6 +60,7 @@ returns c =
     let sum = length-stream events in
     let size : length (stream events) ≡ c.loop-index.at = ap (λ (t : List ℕ). length t) inv.so_far ∙ length-take c.loop-index.at bytes ∙ omega (arith, inv.within) in
     let spelt : stream events ≡ bytes = inv.so_far ∙ take_all c.loop-index.at bytes (omega (arith, end)) in
+    found-events bytes c.args.count events (
     record {
       stream_is = spelt;
       count_is = inv.count ∙ done;
@@ -66,4 +72,25 @@ returns c =
         };
         fit = omega (arith, sum, size, inv.count, done, c.if-at-count.false);
       };
-    }
+    }) page
+
+pub returns-clause-limits : goal.returns-clause-limits
+returns-clause-limits c =
+    let inv = c.loop-index.invariant in
+    let events = c.loop-index.events in
+    let bytes = c.args.bytes.now in
+    let done : c.loop-index.index ≡ c.args.count = omega (arith, c.loop-index-test.false, c.loop-index.auto.index-end) in
+    let end : c.loop-index.at ≡ length bytes = omega (arith, c.if-at-bytes.false) in
+    let sum = length-stream events in
+    let size : length (stream events) ≡ c.loop-index.at = ap (λ (t : List ℕ). length t) inv.so_far ∙ length-take c.loop-index.at bytes ∙ omega (arith, inv.within) in
+    let spelt : stream events ≡ bytes = inv.so_far ∙ take_all c.loop-index.at bytes (omega (arith, end)) in (
+      record {
+        are = record {
+          count = omega (arith, inv.count, done, c.if-count-gt-MOST_EVENTS.false);
+          sizes = inv.sizes;
+          bytes = spelled_bytes events (subst AreBytes (sym spelt) (AreBytes-from bytes (λ i. omega (arith, c.type_inv.bytes i))));
+        };
+        fit = omega (arith, sum, size, inv.count, done, c.if-at-count.false);
+      },
+      inv.count ∙ done,
+    )

@@ -1,31 +1,52 @@
-use Rattle.std.proofs.Common.{◌≡◌, false, IsTrue, List, refl, subst}
-use Rattle.tw_disk.proofs.PageLaws.{page-once, takes-page}
+use Rattle.std.proofs.Common.{List, length, ap, sym, ◌∙◌, Bool}
+use Rattle.std.specs.Prelude.{◌&&◌}
+use Rattle.tw_disk.proofs.PageLaws.{takes-page}
 use Rattle.tw_skiplist.specs.declared.fields.StepFields.{StepFields}
 use Rattle.tw_skiplist.specs.declared.head.StepRef.{StepRef}
 use Rattle.tw_skiplist.specs.declared.page.StepPage.{StepPage}
+use Rattle.tw_skiplist.specs.Found.{Found, spelled, when, ◌>>=◌}
 use Rattle.tw_skiplist.specs.StepBytes.{step_codec}
-use Rattle.tw_skiplist.specs.StepPages.{KeepsFieldRules, KeepsLinkRules}
-use Rattle.tw_skiplist.proofs.StepCodecs.{step-lawful}
+use Rattle.tw_skiplist.specs.StepPages.{keeps_field_rules, keeps_link_rules, step_in}
+use Rattle.tw_skiplist.proofs.FoundLaws.{is_on, page-is, page-none}
+use Rattle.tw_skiplist.proofs.StepCodecs.{links-count, step-lawful}
 use Rattle.tw_skiplist.proofs.page.read_step_page.Goals as goal
 
 abbrev parts : StepPage → StepFields × List StepRef
 parts p = (p.fields, p.links.items)
 
-pub returns-in_default : goal.returns-in_default
-returns-in_default c = λ f links is.
-    takes-page (step_codec c.args.step) (step-lawful c.args.step) parts c.args.bytes.now _ _ _ c.take_step-read.ensures.takes c.take_step-read.ensures.memory c.in_default.ensures (f, links) is.spelled
+pub returns-in_default-clause-answer : goal.returns-in_default-clause-answer
+unfolding step_in
+returns-in_default-clause-answer c =
+    let page = c.args.page in
+    let step = c.args.step in
+    let bytes = c.args.bytes.now in
+    let none = takes-page (step_codec step) (step-lawful step) parts bytes _ _ _ c.take_step-read.ensures.takes c.take_step-read.ensures.memory c.in_default.ensures in
+    ap (λ (f : Found (StepFields × List StepRef)). f >>= (λ p. when (keeps_field_rules page p.0 && keeps_link_rules page step p.1 (length p.1)) page p))
+    (page-none page (step_codec step) (step-lawful step) bytes none)
 
-pub returns-then-keeps_rules : goal.returns-then-keeps_rules
-returns-then-keeps_rules c =
-    let found = takes-page (step_codec c.args.step) (step-lawful c.args.step) parts c.args.bytes.now _ _ _ c.take_step-read.ensures.takes c.take_step-read.ensures.memory c.in-Some.ensures in
-    let kept = c.if-keeps_rules.ensures.0 refl in
-    record { spelled = found; field_rules = kept.0; link_rules = kept.1 }
+pub returns-then-keeps_rules-clause-answer : goal.returns-then-keeps_rules-clause-answer
+unfolding step_in
+returns-then-keeps_rules-clause-answer c =
+    let page = c.args.page in
+    let step = c.args.step in
+    let bytes = c.args.bytes.now in
+    let p = c.in-Some.found in
+    let found = takes-page (step_codec step) (step-lawful step) parts bytes _ _ _ c.take_step-read.ensures.takes c.take_step-read.ensures.memory c.in-Some.ensures in
+    is_on (spelled page 4096 (step_codec step) bytes) (λ p. when (keeps_field_rules page p.0 && keeps_link_rules page step p.1 (length p.1)) page p) (parts p) (page-is page (step_codec step) (step-lawful step) bytes (parts p) found)
+    ∙ ap (λ (b : Bool). when b page (parts p)) (sym c.if-keeps_rules.ensures)
 
-pub returns-else-keeps_rules : goal.returns-else-keeps_rules
-returns-else-keeps_rules c = λ f links is.
+pub returns-then-keeps_rules-clause-link_count : goal.returns-then-keeps_rules-clause-link_count
+returns-then-keeps_rules-clause-link_count c =
     let found = takes-page (step_codec c.args.step) (step-lawful c.args.step) parts c.args.bytes.now _ _ _ c.take_step-read.ensures.takes c.take_step-read.ensures.memory c.in-Some.ensures in
-    let same : ◌≡◌ {A = StepFields × List StepRef} (f, links) (c.in-Some.found.fields, c.in-Some.found.links.items) =
-    page-once (step_codec c.args.step) (step-lawful c.args.step) c.args.bytes.now (f, links) (c.in-Some.found.fields, c.in-Some.found.links.items) is.spelled found in
-    let P : StepFields × List StepRef → Type 0 = λ p. KeepsFieldRules c.args.page p.0 × KeepsLinkRules c.args.page c.args.step p.1 in
-    let bad : IsTrue false = c.if-keeps_rules.ensures.1 (subst P same (is.field_rules, is.link_rules)) in
-    cc
+    links-count c.args.step c.in-Some.found.fields c.in-Some.found.links.items found.fits
+
+pub returns-else-keeps_rules-clause-answer : goal.returns-else-keeps_rules-clause-answer
+unfolding step_in
+returns-else-keeps_rules-clause-answer c =
+    let page = c.args.page in
+    let step = c.args.step in
+    let bytes = c.args.bytes.now in
+    let p = c.in-Some.found in
+    let found = takes-page (step_codec step) (step-lawful step) parts bytes _ _ _ c.take_step-read.ensures.takes c.take_step-read.ensures.memory c.in-Some.ensures in
+    is_on (spelled page 4096 (step_codec step) bytes) (λ p. when (keeps_field_rules page p.0 && keeps_link_rules page step p.1 (length p.1)) page p) (parts p) (page-is page (step_codec step) (step-lawful step) bytes (parts p) found)
+    ∙ ap (λ (b : Bool). when b page (parts p)) (sym c.if-keeps_rules.ensures)

@@ -1,93 +1,84 @@
-use Rattle.std.proofs.Common.{ℕ, List, ◌≡◌, ◌<◌, ◌≤◌, ◌∙◌, Some, arith}
-use Rattle.tw_base.proofs.DigestBytes.{IsDigest}
-use Rattle.std.proofs.lemmas.Result.{IfOk-weaker}
-use Rattle.tw_disk.specs.Image.{Image}
+use Rattle.std.proofs.Common.{◌≡◌, ◌≤◌, ◌∙◌, ap, sym, arith}
+use Rattle.tw_disk.proofs.ReadingLaws.{only_reads_on}
 use Rattle.tw_skipproof.proofs.Greedy.{few_links}
-use Rattle.tw_base.specs.History.{History}
-use Rattle.tw_skiplist.specs.Keeping.{Keeps}
-use Rattle.tw_skiplist.specs.StepWalks.{MeetsBadPage, MeetsBadPageAbove}
-use Rattle.tw_skiplist.specs.Records.{FindsBadPageVia}
-use Rattle.tw_skiplist.proofs.BadPages.{bad_page_passed, IfBadPage-weaker, met_above, met_on_the_way}
-use Rattle.tw_skiplist.proofs.Finding.{found_path, meets_none, meets_none_further, middle_is, tells_info_further, top_within}
+use Rattle.tw_skiplist.specs.declared.collecting.Collected.{Collected}
+use Rattle.tw_skiplist.specs.declared.head.StepRef.{StepRef}
+use Rattle.tw_skiplist.specs.declared.info.StepInfo.{StepInfo}
+use Rattle.tw_skiplist.specs.declared.info.StepProof.{StepProof}
+use Rattle.tw_skiplist.specs.Found.{Found, ◌>>=◌}
+use Rattle.tw_skiplist.specs.Found.Found.{Is}
+use Rattle.tw_skiplist.specs.Readings.{found_proof}
+use Rattle.tw_skiplist.specs.Walks.{collected, head_ref, info_in, walk}
+use Rattle.tw_skiplist.proofs.FoundLaws.{bad_on, is_on, passed}
 use Rattle.tw_skiplist.proofs.reading.prove.Goals as goal
 
-pub returns-in_err-link-clause-good : goal.returns-in_err-link-clause-good
-returns-in_err-link-clause-good g c =
-    let list = g.P.Pages.list in
-    let head = c.args.head.now in
-    let below : c.args.top ≤ head.step = omega (arith, c.if-top-last.false) in
-    bad_page_passed c.from_residual.result c.in_err-link.field-0.0
-    (λ p. (ps : Image) → list c.args.pages.now ≡ Some ps → MeetsBadPageAbove ps c.link_to_head.result head.step c.args.top p)
-    (λ _. (ps : Image) (h : History) → list c.args.pages.now ≡ Some ps → Keeps g.H.Hasher.dig ps h head → ⊥)
-    c.from_residual.ensures.1
-    (λ p at ps h told keeps. meets_none g.H.Hasher.dig (λ text. (g.met.H.Hasher.size text, g.met.H.Hasher.bytes text)) ps h head keeps c.link_to_head.result c.link_to_head.ensures
-    c.args.top p below (met_above ps c.link_to_head.result head.step c.args.top p (at ps told)))
-    c.in_err-link.ensures.bad
+-- the proof of a way and what is told at its end
+abbrev with_info : Collected → StepInfo → Found StepProof
+with_info way info = Is (record { path = record { links = way.links }; info = info })
 
-pub returns-in_err-link-clause-bad : goal.returns-in_err-link-clause-bad
-returns-in_err-link-clause-bad g c =
-    let list = g.P.Pages.list in
+pub returns-in_err-link-clause-answer : goal.returns-in_err-link-clause-answer
+unfolding found_proof
+returns-in_err-link-clause-answer g c = λ ps told.
     let dig = g.H.Hasher.dig in
     let head = c.args.head.now in
-    bad_page_passed c.from_residual.result c.in_err-link.field-0.0
-    (λ p. (ps : Image) → list c.args.pages.now ≡ Some ps → MeetsBadPageAbove ps c.link_to_head.result head.step c.args.top p)
-    (λ p. (ps : Image) → list c.args.pages.now ≡ Some ps → FindsBadPageVia ps head c.args.top c.args.i p)
-    c.from_residual.ensures.1
-    (λ p met ps told. met_on_the_way ps head c.args.top c.args.i c.link_to_head.result c.link_to_head.ensures p (met ps told))
-    c.in_err-link.ensures.bad
+    let fault = c.in_err-link.field-0.0 in
+    let top = c.args.top in
+    let i = c.args.i in
+    passed (λ (x : StepProof). x) c.from_residual.result fault (found_proof dig ps head top i) c.from_residual.ensures.1
+    (bad_on fault (walk ps (head_ref head) head.step top) (λ middle. collected dig ps middle top i >>= (λ way. info_in dig ps way.last.page i >>= with_info way)) (rw (sym c.link_to_head.ensures) (c.in_err-link.ensures.answer ps told)))
 
-pub returns-clause-good : goal.returns-clause-good
-returns-clause-good g c =
-    let list = g.P.Pages.list in
-    let head = c.args.head.now in
-    let below : c.args.top ≤ head.step = omega (arith, c.if-top-last.false) in
-    let lower : c.args.i ≤ c.args.top = omega (arith, c.if-i-top.false) in
-    IfBadPage-weaker c.collect_proof.result
-    (λ p. (ps : Image) → list c.descend.new.pages ≡ Some ps → MeetsBadPage ps c.in_ok-link.link c.args.top c.args.i p)
-    (λ _. (ps : Image) (h : History) → list c.args.pages.now ≡ Some ps → Keeps g.H.Hasher.dig ps h head → ⊥)
-    (λ p at ps h told keeps. meets_none_further g.H.Hasher.dig (λ text. (g.met.H.Hasher.size text, g.met.H.Hasher.bytes text)) ps h head keeps c.link_to_head.result c.link_to_head.ensures
-    c.args.top c.in_ok-link.link below (c.in_ok-link.ensures.walks ps told) c.args.i p lower (at ps (c.in_ok-link.ensures.kept.list_kept ∙ told)))
-    c.collect_proof.ensures.bad
-
-pub returns-clause-path : goal.returns-clause-path
-returns-clause-path g c =
+pub returns-in_err-links-clause-answer : goal.returns-in_err-links-clause-answer
+unfolding found_proof
+returns-in_err-links-clause-answer g c = λ ps told.
     let dig = g.H.Hasher.dig in
-    let size : (text : List ℕ) → IsDigest (g.H.Hasher.dig text) = λ text. (g.met.H.Hasher.size text, g.met.H.Hasher.bytes text) in
     let head = c.args.head.now in
-    let below : c.args.top ≤ head.step = omega (arith, c.if-top-last.false) in
-    IfOk-weaker c.collect_proof.result _ _
-    (λ proof is_path ps h told keeps.
-    let down = c.in_ok-link.ensures.walks ps told in
-    is_path ps h keeps.places (c.in_ok-link.ensures.kept.list_kept ∙ told) keeps.keeps
-    (top_within dig size ps h head keeps c.link_to_head.result c.link_to_head.ensures c.args.top c.in_ok-link.link below down)
-    (middle_is dig size ps h head keeps c.link_to_head.result c.link_to_head.ensures c.args.top c.in_ok-link.link below down))
-    c.collect_proof.ensures.path
+    let link = c.in_ok-link.link in
+    let fault = c.in_err-links.field-0.0 in
+    let top = c.args.top in
+    let i = c.args.i in
+    let down : walk ps (head_ref head) head.step top ≡ Is link = ap (λ (first : StepRef). walk ps first head.step top) (sym c.link_to_head.ensures) ∙ c.in_ok-link.ensures.answer ps told in
+    passed (λ (x : StepProof). x) c.from_residual-in_err-links.result fault (found_proof dig ps head top i) c.from_residual-in_err-links.ensures.1
+    (rw (is_on (walk ps (head_ref head) head.step top) (λ middle. collected dig ps middle top i >>= (λ way. info_in dig ps way.last.page i >>= with_info way)) link down)
+    (bad_on fault (collected dig ps link top i) (λ way. info_in dig ps way.last.page i >>= with_info way) (c.in_err-links.ensures.answer ps (c.in_ok-link.ensures.kept.list_kept ∙ told))))
 
-pub returns-clause-info : goal.returns-clause-info
-returns-clause-info g c =
+pub returns-in_err-info-clause-answer : goal.returns-in_err-info-clause-answer
+unfolding found_proof
+returns-in_err-info-clause-answer g c = λ ps told.
+    let dig = g.H.Hasher.dig in
     let head = c.args.head.now in
-    let below : c.args.top ≤ head.step = omega (arith, c.if-top-last.false) in
-    let lower : c.args.i ≤ c.args.top = omega (arith, c.if-i-top.false) in
-    let some : 0 < c.args.i = omega (arith, c.if-i-eq0.false) in
-    IfOk-weaker c.collect_proof.result _ _
-    (λ proof told_info ps h told keeps.
-    let found = told_info ps (c.in_ok-link.ensures.kept.list_kept ∙ told) in
-    tells_info_further g.H.Hasher.dig (λ text. (g.met.H.Hasher.size text, g.met.H.Hasher.bytes text)) ps h head keeps c.link_to_head.result c.link_to_head.ensures
-    c.args.top c.in_ok-link.link below (c.in_ok-link.ensures.walks ps told) c.args.i found.0 proof.info some lower found.1 found.2)
-    c.collect_proof.ensures.info
+    let link = c.in_ok-link.link in
+    let way = c.in_ok-links.field-0 in
+    let fault = c.in_err-info.field-0.0 in
+    let top = c.args.top in
+    let i = c.args.i in
+    let down : walk ps (head_ref head) head.step top ≡ Is link = ap (λ (first : StepRef). walk ps first head.step top) (sym c.link_to_head.ensures) ∙ c.in_ok-link.ensures.answer ps told in
+    passed (λ (x : StepProof). x) c.from_residual-in_err-info.result fault (found_proof dig ps head top i) c.from_residual-in_err-info.ensures.1
+    (rw (
+      is_on (walk ps (head_ref head) head.step top) (λ middle. collected dig ps middle top i >>= (λ way. info_in dig ps way.last.page i >>= with_info way)) link down,
+      is_on (collected dig ps link top i) (λ way. info_in dig ps way.last.page i >>= with_info way) way (c.in_ok-links.ensures.answer ps (c.in_ok-link.ensures.kept.list_kept ∙ told)),
+    )
+    (bad_on fault (info_in dig ps way.last.page i) (with_info way) (c.in_err-info.ensures.answer ps (c.in_ok-links.ensures.kept.list_kept ∙ c.in_ok-link.ensures.kept.list_kept ∙ told))))
+
+pub returns-clause-answer : goal.returns-clause-answer
+unfolding found_proof
+returns-clause-answer g c = λ ps told.
+    let dig = g.H.Hasher.dig in
+    let head = c.args.head.now in
+    let link = c.in_ok-link.link in
+    let way = c.in_ok-links.field-0 in
+    let top = c.args.top in
+    let i = c.args.i in
+    let down : walk ps (head_ref head) head.step top ≡ Is link = ap (λ (first : StepRef). walk ps first head.step top) (sym c.link_to_head.ensures) ∙ c.in_ok-link.ensures.answer ps told in
+    is_on (walk ps (head_ref head) head.step top) (λ middle. collected dig ps middle top i >>= (λ way. info_in dig ps way.last.page i >>= with_info way)) link down
+    ∙ is_on (collected dig ps link top i) (λ way. info_in dig ps way.last.page i >>= with_info way) way (c.in_ok-links.ensures.answer ps (c.in_ok-link.ensures.kept.list_kept ∙ told))
+    ∙ is_on (info_in dig ps way.last.page i) (with_info way) c.in_ok-info.info (c.in_ok-info.ensures.answer ps (c.in_ok-links.ensures.kept.list_kept ∙ c.in_ok-link.ensures.kept.list_kept ∙ told))
 
 pub returns-clause-bound : goal.returns-clause-bound
-returns-clause-bound g c =
+returns-clause-bound g c = λ digits under.
     let below : c.args.top ≤ c.args.head.now.step = omega (arith, c.if-top-last.false) in
-    IfOk-weaker c.collect_proof.result _ _
-    (λ proof shape digits under. few_links proof.path.links c.args.top c.args.i digits (omega (arith, below, c.requires)) under shape)
-    c.collect_proof.ensures.shape
+    few_links c.in_ok-links.field-0.links c.args.top c.args.i digits (omega (arith, below, c.requires)) under c.in_ok-links.ensures.shape
 
-pub returns-clause-recorded : goal.returns-clause-recorded
-returns-clause-recorded g c =
-    IfOk-weaker c.collect_proof.result _ _
-    (λ proof goes_along ps told.
-    let along = goes_along ps (c.in_ok-link.ensures.kept.list_kept ∙ told) in
-    found_path g.H.Hasher.dig ps c.args.head.now c.args.top c.args.i c.link_to_head.result c.link_to_head.ensures
-    c.in_ok-link.link (c.in_ok-link.ensures.walks ps told) proof.path.links along.0 along.1)
-    c.collect_proof.ensures.along
+pub returns-clause-kept : goal.returns-clause-kept
+returns-clause-kept g c =
+    only_reads_on g.P.Pages.used_count g.P.Pages.list g.P.Pages.same g.P.Pages.unbroken _ _ _ _ _ _ g.met.P.Pages.same_on (λ good. tt) (λ good. tt) c.in_ok-link.ensures.kept
+    (only_reads_on g.P.Pages.used_count g.P.Pages.list g.P.Pages.same g.P.Pages.unbroken _ _ _ _ _ (Unit {0}) g.met.P.Pages.same_on (λ good. tt) (λ good. tt) c.in_ok-links.ensures.kept c.in_ok-info.ensures.kept)

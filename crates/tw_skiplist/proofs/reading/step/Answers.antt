@@ -1,32 +1,29 @@
-use Rattle.std.proofs.Common.{◌≡◌, ◌<◌, ◌≤◌, Some, arith}
-use Rattle.std.proofs.lemmas.Result.{IfOk-weaker}
-use Rattle.tw_disk.specs.Image.{Image}
-use Rattle.tw_base.specs.History.{History}
-use Rattle.tw_skiplist.specs.Keeping.{Keeps}
-use Rattle.tw_skiplist.specs.StepWalks.{MeetsBadPage}
-use Rattle.tw_skiplist.proofs.BadPages.{IfBadPage-weaker}
-use Rattle.tw_skiplist.proofs.Finding.{meets_none, tells_info}
+use Rattle.std.proofs.Common.{◌≡◌, ◌∙◌, ap, sym, subst}
+use Rattle.tw_skiplist.specs.declared.head.StepRef.{StepRef}
+use Rattle.tw_skiplist.specs.declared.info.StepInfo.{StepInfo}
+use Rattle.tw_skiplist.specs.Answers.{Answers}
+use Rattle.tw_skiplist.specs.Found.{Found}
+use Rattle.tw_skiplist.specs.Readings.{found_step}
+use Rattle.tw_skiplist.specs.Walks.{head_ref, info_in, walk}
+use Rattle.tw_skiplist.proofs.FoundLaws.{bad_on, is_on, passed}
 use Rattle.tw_skiplist.proofs.reading.step.Goals as goal
 
-pub returns-clause-good : goal.returns-clause-good
-returns-clause-good g c =
-    let list = g.P.Pages.list in
+pub returns-in_err-link-clause-answer : goal.returns-in_err-link-clause-answer
+unfolding found_step
+returns-in_err-link-clause-answer g c = λ ps told.
     let head = c.args.head.now in
-    let below : c.args.i ≤ head.step = omega (arith, c.if-i-last.false) in
-    IfBadPage-weaker c.find_info.result
-    (λ p. (ps : Image) → list c.args.pages.now ≡ Some ps → MeetsBadPage ps c.link_to_head.result head.step c.args.i p)
-    (λ _. (ps : Image) (h : History) → list c.args.pages.now ≡ Some ps → Keeps g.H.Hasher.dig ps h head → ⊥)
-    (λ p at ps h told keeps. meets_none g.H.Hasher.dig (λ text. (g.met.H.Hasher.size text, g.met.H.Hasher.bytes text)) ps h head keeps c.link_to_head.result c.link_to_head.ensures
-    c.args.i p below (at ps told))
-    c.find_info.ensures.bad
+    let fault = c.in_err-link.field-0.0 in
+    let next : StepRef → Found StepInfo = λ link. info_in g.H.Hasher.dig ps link.page c.args.i in
+    passed (λ (x : StepInfo). x) c.from_residual.result fault (found_step g.H.Hasher.dig ps head c.args.i) c.from_residual.ensures.1
+    (bad_on fault (walk ps (head_ref head) head.step c.args.i) next (rw (sym c.link_to_head.ensures) (c.in_err-link.ensures.answer ps told)))
 
-pub returns-clause-info : goal.returns-clause-info
-returns-clause-info g c =
-    let some : 0 < c.args.i = omega (arith, c.if-i-eq0.false) in
-    let below : c.args.i ≤ c.args.head.now.step = omega (arith, c.if-i-last.false) in
-    IfOk-weaker c.find_info.result _ _
-    (λ info told_info ps h told keeps.
-    let found = told_info ps told in
-    tells_info g.H.Hasher.dig (λ text. (g.met.H.Hasher.size text, g.met.H.Hasher.bytes text)) ps h c.args.head.now keeps c.link_to_head.result c.link_to_head.ensures
-    c.args.i found.0 info some below found.1 found.2)
-    c.find_info.ensures.info
+pub returns-clause-answer : goal.returns-clause-answer
+unfolding found_step
+returns-clause-answer g c = λ ps told.
+    let dig = g.H.Hasher.dig in
+    let head = c.args.head.now in
+    let i = c.args.i in
+    let next : StepRef → Found StepInfo = λ link. info_in dig ps link.page i in
+    let down : walk ps (head_ref head) head.step i ≡ _ = ap (λ (first : StepRef). walk ps first head.step i) (sym c.link_to_head.ensures) ∙ c.in_ok-link.ensures.answer ps told in
+    subst (λ (f : Found StepInfo). Answers c.read_info.result f) (sym (is_on (walk ps (head_ref head) head.step i) next c.in_ok-link.link down))
+    (c.read_info.ensures.answer ps (c.in_ok-link.ensures.kept.list_kept ∙ told))

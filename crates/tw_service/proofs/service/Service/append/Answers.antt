@@ -1,5 +1,5 @@
-use Rattle.std.proofs.Common.{◌∙◌, ℕ, Bool, ap, inl, inr, length, ⊎_elim, sym}
-use Rattle.std.specs.Prelude.{false}
+use Rattle.std.proofs.Common.{◌≡◌, ◌∙◌, ℕ, List, Bool, subst, ap, inl, inr, length, ⊎_elim, sym}
+use Rattle.std.specs.Prelude.{false, Option, None, Result, Ok}
 use Rattle.tw_base.specs.History.{with_events}
 use Rattle.tw_base.specs.declared.thread.Thread.{Thread}
 use Rattle.tw_pages.specs.SameSteps.{is_same_itself}
@@ -10,8 +10,17 @@ use Rattle.tw_service.specs.Limits.{append_refusal}
 use Rattle.tw_service.specs.Machine.Call.{Append}
 use Rattle.tw_service.specs.Machine.Reply.{OfThread}
 use Rattle.tw_service.specs.Serves.{Serves}
-use Rattle.tw_service.proofs.Answering.{IsTold, NoFault, answers_fault, answers_refusal, append_done, append_no_fault, append_refused, append_told, is_bad_fault, is_disk_fault, of_some}
-use Rattle.tw_service.proofs.BadPages.{no_bad_page}
+use Rattle.tw_service.proofs.Answering.{IsTold, NoFault, answers_fault, answers_refusal, append_done, append_no_fault, append_refused, append_told, is_disk_fault, of_some}
+use Rattle.tw_base.specs.declared.root.Root.{Root}
+use Rattle.tw_disk.specs.Image.{Image}
+use Rattle.tw_skiplist.specs.declared.head.Head.{Head}
+use Rattle.tw_skiplist.specs.Appended.{Next, appended}
+use Rattle.tw_skiplist.specs.Found.{Found, ◌>>=◌}
+use Rattle.tw_skiplist.specs.Found.Found.{Is}
+use Rattle.tw_skiplist.proofs.FoundLaws.{is_on}
+use Rattle.tw_service.specs.declared.refusal.Refusal.{Refusal}
+use Rattle.tw_service.specs.Finds.{IsRefusalOf, found_thread, thread_at, unless}
+use Rattle.tw_service.proofs.FoundAnswers.{fault_page, page_on, table_found}
 use Rattle.tw_service.proofs.Serving.{rest_stands, same_leaves, same_tells, still_keeps}
 use Rattle.tw_service.proofs.service.Service.append.Goals as goal
 
@@ -34,14 +43,41 @@ returns-in-Some-clause-fault g c =
     let no_fault = of_some NoFault _ c.in-Some.refusal (sym c.in-Some.is ∙ c.append_refusal.ensures.answer) (append_no_fault c.args.self.now.is_broken c.args.self.now.root.head.step c.args.events.now) in
     λ is. absurd (no_fault (is_disk_fault Thread c.in-Some.refusal is))
 
-pub returns-in-Some-clause-good : goal.returns-in-Some-clause-good
-returns-in-Some-clause-good g c =
-    let no_fault = of_some NoFault _ c.in-Some.refusal (sym c.in-Some.is ∙ c.append_refusal.ensures.answer) (append_no_fault c.args.self.now.is_broken c.args.self.now.root.head.step c.args.events.now) in
-    λ bad h served. no_fault (is_bad_fault c.in-Some.refusal bad)
+pub returns-in-Some-clause-answer : goal.returns-in-Some-clause-answer
+unfolding found_thread
+returns-in-Some-clause-answer g c = λ ps list.
+    let s = c.args.self.now in
+    let events = c.args.events.now in
+    let is = sym c.in-Some.is ∙ c.append_refusal.ensures.answer in
+    let no_fault = of_some NoFault _ c.in-Some.refusal is (append_no_fault s.is_broken s.root.head.step events) in
+    table_found c.in-Some.refusal (found_thread g.H.Hasher.dig ps s.root.name s.root.head s.is_broken events s.root.archive) no_fault
+    (ap (λ (o : Option Refusal). unless o (appended g.H.Hasher.dig ps s.root.head events s.root.archive >>= (λ next. Is (Ok (thread_at s.root.name next.head))))) (sym is))
 
-pub returns-in-Some-clause-bad : goal.returns-in-Some-clause-bad
-returns-in-Some-clause-bad g c =
-    no_bad_page _ c.in-Some.refusal (of_some NoFault _ c.in-Some.refusal (sym c.in-Some.is ∙ c.append_refusal.ensures.answer) (append_no_fault c.args.self.now.is_broken c.args.self.now.root.head.step c.args.events.now))
+-- where the table refuses nothing, the step is what is found
+thread_found : (dig : List ℕ → List ℕ) (ps : Image) (name : List ℕ) (head : Head) (broken : Bool) (events : List (List ℕ)) (archive : Root) → append_refusal broken head.step events ≡ None
+    → found_thread dig ps name head broken events archive ≡ (appended dig ps head events archive >>= (λ next. Is (Ok (thread_at name next.head))))
+unfolding found_thread
+thread_found dig ps name head broken events archive none = ap (λ (o : Option Refusal). unless o (appended dig ps head events archive >>= (λ next. Is (Ok (thread_at name next.head))))) none
+
+pub returns-in-Ok-clause-answer : goal.returns-in-Ok-clause-answer
+returns-in-Ok-clause-answer g c = λ ps list.
+    let s = c.args.self.now in
+    let events = c.args.events.now in
+    let own = c.in-Ok.ensures.answer ps list in
+    let dig = g.H.Hasher.dig in
+    thread_found dig ps s.root.name s.root.head s.is_broken events s.root.archive (sym (sym c.in_default.is ∙ c.append_refusal.ensures.answer))
+    ∙ is_on (appended dig ps s.root.head events s.root.archive) (λ next. Is (Ok (thread_at s.root.name next.head))) _ own.1
+    ∙ ap (λ (n : List ℕ). Is (Ok (thread_at n c.in-Ok.next.head))) (sym c.in-Ok.ensures.rest.0) ∙ ap (λ (t : Thread). Is (Ok t)) (sym c.head.ensures.value)
+
+pub returns-in-Err-clause-answer : goal.returns-in-Err-clause-answer
+returns-in-Err-clause-answer g c = λ ps list.
+    let s = c.args.self.now in
+    let events = c.args.events.now in
+    let dig = g.H.Hasher.dig in
+    let next : Next → Found (Result Thread Refusal) = λ next. Is (Ok (thread_at s.root.name next.head)) in
+    let whole : Found (Result Thread Refusal) = appended dig ps s.root.head events s.root.archive >>= next in
+    subst (λ (f : Found (Result Thread Refusal)). IsRefusalOf c.in-Err.refusal f) (sym (thread_found dig ps s.root.name s.root.head s.is_broken events s.root.archive (sym (sym c.in_default.is ∙ c.append_refusal.ensures.answer))))
+    (fault_page c.in-Err.refusal whole c.in-Err.ensures.answers (page_on c.in-Err.refusal (appended dig ps s.root.head events s.root.archive) next (c.in-Err.ensures.answer ps list)))
 
 pub returns-in-Some-clause-machine : goal.returns-in-Some-clause-machine
 returns-in-Some-clause-machine g c = λ whole h served.

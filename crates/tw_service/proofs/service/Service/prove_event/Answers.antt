@@ -1,16 +1,20 @@
-use Rattle.std.proofs.Common.{◌∙◌, List, ℕ, Bool, ap, inl, inr, length, ⊎_elim, sym}
-use Rattle.std.specs.Prelude.{false, is_some}
+use Rattle.std.proofs.Common.{◌∙◌, List, ℕ, Bool, ap, inl, inr, length, ⊎_elim, subst, sym}
+use Rattle.std.specs.Prelude.{false, is_some, Option, Result}
 use Rattle.tw_chain.proofs.Completeness.{Accepts-made}
 use Rattle.tw_disk.specs.Disk.{IsAtRest}
 use Rattle.tw_pages.specs.StoreValue.{disk_of}
 use Rattle.tw_pages.specs.SameSteps.{is_same_itself}
-use Rattle.tw_service.specs.Refusals.{OfNoEvent}
 use Rattle.tw_service.specs.Keeps.{KeepsHistory}
 use Rattle.tw_service.specs.Limits.{order_refusal}
 use Rattle.tw_service.specs.Machine.Call.{ProveEvent}
 use Rattle.tw_service.specs.Machine.Reply.{OfProof}
-use Rattle.tw_service.proofs.Answering.{IsTold, NoFault, answers_fault, answers_refusal, is_bad_fault, is_disk_fault, no_event_told, of_some, order_counts, order_no_fault, order_told, proof_disordered, proof_made, proof_without_event}
-use Rattle.tw_service.proofs.BadPages.{no_bad_page}
+use Rattle.tw_service.proofs.Answering.{IsTold, NoFault, answers_fault, answers_refusal, is_disk_fault, no_event_told, of_some, order_no_fault, order_told, proof_disordered, proof_made, proof_without_event}
+use Rattle.tw_pages.specs.StoreValue.{opening_of}
+use Rattle.tw_skiplist.specs.Found.{Found}
+use Rattle.tw_service.specs.declared.refusal.Refusal.{Refusal}
+use Rattle.tw_service.specs.Finds.{IsRefusalOf, event_proof, found_event, unless}
+use Rattle.tw_service.proofs.FoundAnswers.{table_found}
+use Rattle.tw_service.proofs.KeptAnswers.{answer_makes, answer_refuses}
 use Rattle.tw_service.proofs.Serving.{read_keeps, read_leaves, told_list}
 use Rattle.tw_service.proofs.service.Service.prove_event.Goals as goal
 
@@ -42,36 +46,44 @@ returns-in-Some-clause-fault g c =
     let no_fault = of_some NoFault _ c.in-Some.refusal (sym c.in-Some.is ∙ c.order_refusal.ensures.answer) (order_no_fault s.is_broken s.root.head.step c.args.step c.args.top) in
     λ is. absurd (no_fault (is_disk_fault (List ℕ) c.in-Some.refusal is))
 
-pub returns-in-Some-clause-good : goal.returns-in-Some-clause-good
-returns-in-Some-clause-good g c =
-    let d = g.D.Disk in
+pub returns-in-Some-clause-answer : goal.returns-in-Some-clause-answer
+returns-in-Some-clause-answer g c = λ ps list.
     let s = c.args.self.now in
-    let no_fault = of_some NoFault _ c.in-Some.refusal (sym c.in-Some.is ∙ c.order_refusal.ensures.answer) (order_no_fault s.is_broken s.root.head.step c.args.step c.args.top) in
-    λ bad h served. no_fault (is_bad_fault c.in-Some.refusal bad)
+    let is = sym c.in-Some.is ∙ c.order_refusal.ensures.answer in
+    let no_fault = of_some NoFault _ c.in-Some.refusal is (order_no_fault s.is_broken s.root.head.step c.args.step c.args.top) in
+    table_found c.in-Some.refusal (found_event g.H.Hasher.dig ps s.root.name s.root.head c.args.step c.args.index c.args.top s.is_broken) no_fault
+    (ap (λ (o : Option Refusal). unless o (event_proof g.H.Hasher.dig ps s.root.name s.root.head c.args.step c.args.index c.args.top)) (sym is))
 
-pub returns-in-Some-clause-bad : goal.returns-in-Some-clause-bad
-returns-in-Some-clause-bad g c =
+pub returns-in-Ok-clause-answer : goal.returns-in-Ok-clause-answer
+returns-in-Ok-clause-answer g c = λ ps list.
     let s = c.args.self.now in
-    no_bad_page _ c.in-Some.refusal (of_some NoFault _ c.in-Some.refusal (sym c.in-Some.is ∙ c.order_refusal.ensures.answer) (order_no_fault s.is_broken s.root.head.step c.args.step c.args.top))
+    ap (λ (o : Option Refusal). unless o (event_proof g.H.Hasher.dig ps s.root.name s.root.head c.args.step c.args.index c.args.top)) (sym (sym c.in_default.is ∙ c.order_refusal.ensures.answer))
+    ∙ c.in-Ok.ensures.answer ps list
 
-pub returns-in-Some-clause-count : goal.returns-in-Some-clause-count
-returns-in-Some-clause-count g c =
+pub returns-in-Err-clause-answer : goal.returns-in-Err-clause-answer
+returns-in-Err-clause-answer g c = λ ps list.
     let s = c.args.self.now in
-    of_some (λ r. OfNoEvent r _) _ c.in-Some.refusal (sym c.in-Some.is ∙ c.order_refusal.ensures.answer) (order_counts _ s.is_broken s.root.head.step c.args.step c.args.top)
+    subst (λ (f : Found (Result (List ℕ) Refusal)). IsRefusalOf c.in-Err.refusal f)
+    (ap (λ (o : Option Refusal). unless o (event_proof g.H.Hasher.dig ps s.root.name s.root.head c.args.step c.args.index c.args.top)) (sym c.in_default.is ∙ c.order_refusal.ensures.answer))
+    (c.in-Err.ensures.answer ps list)
 
 pub returns-in-Ok-clause-made : goal.returns-in-Ok-clause-made
 returns-in-Ok-clause-made g c = λ h served.
     let d = g.D.Disk in
     let s = c.args.self.now in
     let list = told_list d.view g.met.D.Disk.only_now g.H.Hasher.dig s.store s.root h served in
-    c.in-Ok.ensures.made _ h list served.has.keeps served.has.sound served.has.named
+    let order = c.order_refusal.ensures.order (ap is_some c.in_default.is) in
+    (answer_makes g.H.Hasher.dig (λ text. (g.met.H.Hasher.size text, g.met.H.Hasher.bytes text)) (opening_of s.store served.image).pages h s.root.head served.has.keeps served.has.sound s.root.name served.has.named
+    c.args.step c.args.index c.args.top order.0 order.1 order.2 c.in-Ok.bytes (c.in-Ok.ensures.answer _ list)).0
 
 pub returns-in-Ok-clause-accepted : goal.returns-in-Ok-clause-accepted
 returns-in-Ok-clause-accepted g c = λ h served anchors anchor held reached.
     let d = g.D.Disk in
     let s = c.args.self.now in
     let list = told_list d.view g.met.D.Disk.only_now g.H.Hasher.dig s.store s.root h served in
-    Accepts-made g.H.Hasher.dig h c.args.step c.args.index c.args.top c.in-Ok.bytes anchors anchor (c.order_refusal.ensures.order (ap is_some c.in_default.is)).1 (c.in-Ok.ensures.made _ h list served.has.keeps served.has.sound served.has.named) held reached
+    let order = c.order_refusal.ensures.order (ap is_some c.in_default.is) in
+    Accepts-made g.H.Hasher.dig h c.args.step c.args.index c.args.top c.in-Ok.bytes anchors anchor order.1 (answer_makes g.H.Hasher.dig (λ text. (g.met.H.Hasher.size text, g.met.H.Hasher.bytes text)) (opening_of s.store served.image).pages h s.root.head served.has.keeps served.has.sound s.root.name served.has.named
+    c.args.step c.args.index c.args.top order.0 order.1 order.2 c.in-Ok.bytes (c.in-Ok.ensures.answer _ list)).0 held reached
 
 pub returns-in-Ok-clause-machine : goal.returns-in-Ok-clause-machine
 returns-in-Ok-clause-machine g c = λ whole h served.
@@ -79,7 +91,10 @@ returns-in-Ok-clause-machine g c = λ whole h served.
     let s = c.args.self.now in
     let list = told_list d.view g.met.D.Disk.only_now g.H.Hasher.dig s.store s.root h served in
     let is = sym c.in_default.is ∙ c.order_refusal.ensures.answer ∙ ap (λ (b : Bool). order_refusal b s.root.head.step c.args.step c.args.top) whole ∙ ap (λ (n : ℕ). order_refusal false n c.args.step c.args.top) served.has.keeps.step in
-    (h, proof_made g.H.Hasher.dig h c.args.step c.args.index c.args.top c.in-Ok.bytes is (c.in-Ok.ensures.event _ h list served.has.keeps) (c.in-Ok.ensures.made _ h list served.has.keeps served.has.sound served.has.named), read_keeps d.view g.met.D.Disk.only_now g.H.Hasher.dig s.store c.make_proof.new.pages s.root h c.in-Ok.ensures.kept.same_kept c.in-Ok.ensures.kept.used_kept served)
+    let order = c.order_refusal.ensures.order (ap is_some c.in_default.is) in
+    let own = (answer_makes g.H.Hasher.dig (λ text. (g.met.H.Hasher.size text, g.met.H.Hasher.bytes text)) (opening_of s.store served.image).pages h s.root.head served.has.keeps served.has.sound s.root.name served.has.named
+    c.args.step c.args.index c.args.top order.0 order.1 order.2 c.in-Ok.bytes (c.in-Ok.ensures.answer _ list)) in
+    (h, proof_made g.H.Hasher.dig h c.args.step c.args.index c.args.top c.in-Ok.bytes is own.1 own.0, read_keeps d.view g.met.D.Disk.only_now g.H.Hasher.dig s.store c.make_proof.new.pages s.root h c.in-Ok.ensures.kept.same_kept c.in-Ok.ensures.kept.used_kept served)
 
 pub returns-in-Ok-clause-same : goal.returns-in-Ok-clause-same
 returns-in-Ok-clause-same g c = λ h served.
@@ -93,13 +108,6 @@ returns-in-Err-clause-same g c = λ h served.
     let s = c.args.self.now in
     (read_keeps d.view g.met.D.Disk.only_now g.H.Hasher.dig s.store c.make_proof.new.pages s.root h c.in-Err.ensures.kept.same_kept c.in-Err.ensures.kept.used_kept served, read_leaves d.view g.met.D.Disk.only_now g.H.Hasher.dig s.store c.make_proof.new.pages s.root h c.in-Err.ensures.kept.same_kept served)
 
-pub returns-in-Err-clause-good : goal.returns-in-Err-clause-good
-returns-in-Err-clause-good g c = λ bad h served.
-    let d = g.D.Disk in
-    let s = c.args.self.now in
-    let list = told_list d.view g.met.D.Disk.only_now g.H.Hasher.dig s.store s.root h served in
-    c.in-Err.ensures.good bad _ h list served.has.keeps
-
 pub returns-in-Err-clause-machine : goal.returns-in-Err-clause-machine
 returns-in-Err-clause-machine g c = λ whole h served.
     let d = g.D.Disk in
@@ -107,6 +115,9 @@ returns-in-Err-clause-machine g c = λ whole h served.
     let list = told_list d.view g.met.D.Disk.only_now g.H.Hasher.dig s.store s.root h served in
     let is = sym c.in_default.is ∙ c.order_refusal.ensures.answer ∙ ap (λ (b : Bool). order_refusal b s.root.head.step c.args.step c.args.top) whole ∙ ap (λ (n : ℕ). order_refusal false n c.args.step c.args.top) served.has.keeps.step in
     let still = read_keeps d.view g.met.D.Disk.only_now g.H.Hasher.dig s.store c.make_proof.new.pages s.root h c.in-Err.ensures.kept.same_kept c.in-Err.ensures.kept.used_kept served in
-    ⊎_elim (λ fault. answers_fault g.H.Hasher.dig h (ProveEvent c.args.step c.args.index c.args.top) (λ (b : List ℕ). OfProof b) (λ k. IsAtRest (d.view (disk_of c.make_proof.new.pages)) (KeepsHistory g.H.Hasher.dig c.make_proof.new.pages s.root k)) c.in-Err.refusal fault (λ bad. c.in-Err.ensures.good bad _ h list served.has.keeps) (inr still))
-    (λ none. answers_refusal g.H.Hasher.dig h (ProveEvent c.args.step c.args.index c.args.top) (λ (b : List ℕ). OfProof b) (λ k. IsAtRest (d.view (disk_of c.make_proof.new.pages)) (KeepsHistory g.H.Hasher.dig c.make_proof.new.pages s.root k)) c.in-Err.refusal (no_event_told c.in-Err.refusal none) (proof_without_event g.H.Hasher.dig h c.args.step c.args.index c.args.top c.in-Err.refusal is (c.in-Err.ensures.no_event _ h list served.has.keeps none)) still)
+    let order = c.order_refusal.ensures.order (ap is_some c.in_default.is) in
+    let own = answer_refuses g.H.Hasher.dig (λ text. (g.met.H.Hasher.size text, g.met.H.Hasher.bytes text)) (opening_of s.store served.image).pages h s.root.head served.has.keeps served.has.sound s.root.name served.has.named
+    c.args.step c.args.index c.args.top order.0 order.1 order.2 c.in-Err.refusal (c.in-Err.ensures.answer _ list) c.in-Err.ensures.answers in
+    ⊎_elim (λ fault. answers_fault g.H.Hasher.dig h (ProveEvent c.args.step c.args.index c.args.top) (λ (b : List ℕ). OfProof b) (λ k. IsAtRest (d.view (disk_of c.make_proof.new.pages)) (KeepsHistory g.H.Hasher.dig c.make_proof.new.pages s.root k)) c.in-Err.refusal fault own.0 (inr still))
+    (λ none. answers_refusal g.H.Hasher.dig h (ProveEvent c.args.step c.args.index c.args.top) (λ (b : List ℕ). OfProof b) (λ k. IsAtRest (d.view (disk_of c.make_proof.new.pages)) (KeepsHistory g.H.Hasher.dig c.make_proof.new.pages s.root k)) c.in-Err.refusal (no_event_told c.in-Err.refusal none) (proof_without_event g.H.Hasher.dig h c.args.step c.args.index c.args.top c.in-Err.refusal is (own.1 none)) still)
     c.in-Err.ensures.answers

@@ -1,0 +1,94 @@
+-- The events that a stream spells are those that the codec reads.
+use Rattle.std.proofs.Common.{◌≡◌, ℕ, ◌-◌, ◌≤◌, List, [], ◌∷◌, ◌++◌, length, replicate, refl, ap, sym, ◌∙◌, arith, Bool, true, false, append_assoc}
+use Rattle.std.specs.Prelude.{nat_le, sum_by}
+use Rattle.std.proofs.lemmas.Bool.{and_parts, le-leb, leb-true}
+use Rattle.std.proofs.lemmas.List.{append-nil}
+use Rattle.tw_base.specs.Bytes.{AreBytes}
+use Rattle.tw_base.specs.Codecs.{bytes_codec, many, number_codec, sized_codec}
+use Rattle.tw_base.specs.declared.limits.TheConstants.{MOST_EVENTS, MOST_EVENT_BYTES, MOST_STEP_BYTES}
+use Rattle.tw_base.specs.Lists.{Each}
+use Rattle.tw_base.proofs.CodecLaws.{Lawful, lawful}
+use Rattle.tw_base.proofs.ListLemmas.{Each-map}
+use Rattle.tw_base.proofs.NumberLaws.{number_bytes-four}
+use Rattle.tw_skiplist.specs.Events.{events_codec, events_in, may_be_recorded}
+use Rattle.tw_skiplist.specs.Found.{Found, spelled, when, ◌>>=◌}
+use Rattle.tw_skiplist.specs.Found.Found.{Is, Bad}
+use Rattle.tw_skiplist.specs.ScanSteps.{SpellsEvents}
+use Rattle.tw_skiplist.specs.StepBytes.{stream}
+use Rattle.tw_skiplist.proofs.FoundLaws.{Spelt, is-spelled, is_on, spelled-bad, spelled-is}
+use Rattle.tw_skiplist.proofs.Rules.{both_true}
+
+events-lawful : (count : ℕ) → Lawful (events_codec count)
+events-lawful count = search lawful depth 20
+
+written : (count : ℕ) (events : List (List ℕ)) → (events_codec count).write events ≡ stream events
+unfolding many sized_codec number_codec bytes_codec
+written count [] = refl
+written count (e ∷ es) =
+    append_assoc _ e _ ∙ (λ j. number_bytes-four (length e) j ++ (e ++ written count es j))
+
+abbrev IsSized : List ℕ → Type 0
+IsSized event = ((0 ≤ length event) × (length event ≤ MOST_EVENT_BYTES)) × AreBytes event
+
+each_fits : (events : List (List ℕ)) → Each (λ event. length event ≤ MOST_EVENT_BYTES) events → Each AreBytes events → Each (sized_codec 4 0 1024).Fits events
+unfolding sized_codec number_codec bytes_codec
+each_fits [] sizes bytes = tt
+each_fits (e ∷ es) sizes bytes = (((omega arith, sizes.0), bytes.0), each_fits es sizes.1 bytes.1)
+
+fits : (count : ℕ) (events : List (List ℕ)) → length events ≡ count → Each (sized_codec 4 0 1024).Fits events → (events_codec count).Fits events
+unfolding many
+fits count events size each = (size, each)
+
+fit_sizes : (event : List ℕ) → (sized_codec 4 0 1024).Fits event → length event ≤ MOST_EVENT_BYTES
+unfolding sized_codec number_codec bytes_codec
+fit_sizes event f = f.0.1
+
+fit_bytes : (event : List ℕ) → (sized_codec 4 0 1024).Fits event → AreBytes event
+unfolding sized_codec number_codec bytes_codec
+fit_bytes event f = f.1
+
+fit_each : (count : ℕ) (events : List (List ℕ)) → (events_codec count).Fits events → (length events ≡ count) × Each (sized_codec 4 0 1024).Fits events
+unfolding many
+fit_each count events f = f
+
+module _ (bytes : List ℕ) (count : ℕ) where
+  pub found-events : (events : List (List ℕ)) → SpellsEvents bytes count events → (page : ℕ) → events_in page count bytes ≡ Is events
+  unfolding events_in
+  found-events events s page =
+      let word : List ℕ = (events_codec count).write events in
+      let word_is : word ≡ bytes = written count events ∙ s.stream_is in
+      is_on (spelled page 0 (events_codec count) bytes) (λ events. when (may_be_recorded events) page events) events
+      (spelled-is page 0 (events_codec count) (events-lawful count) bytes events (record {
+        bytes_are = sym word_is ∙ sym (append-nil word) ∙ ap (λ (n : ℕ). word ++ replicate n 0) (let e : 0 ≡ 0 - length word = omega arith in e);
+        fits = fits count events s.count_is (each_fits events s.limits.are.sizes s.limits.are.bytes);
+      }))
+      ∙ ap (λ (b : Bool). when b page events) (both_true (nat_le (length events) MOST_EVENTS) (nat_le (sum_by (λ event. length event) events) MOST_STEP_BYTES)
+      (le-leb (length events) MOST_EVENTS s.limits.are.count) (le-leb (sum_by (λ event. length event) events) MOST_STEP_BYTES s.limits.fit))
+
+  module _ (none : (events : List (List ℕ)) → SpellsEvents bytes count events → ⊥) (page : ℕ) where
+    tested : (events : List (List ℕ)) → Spelt 0 (events_codec count) bytes events → (b : Bool) → may_be_recorded events ≡ b → when b page events ≡ Bad page
+    tested events is false e = refl
+    tested events is true e =
+        let each = fit_each count events is.fits in
+        let parts = and_parts (nat_le (length events) MOST_EVENTS) (nat_le (sum_by (λ event. length event) events) MOST_STEP_BYTES) e in
+        let word : List ℕ = (events_codec count).write events in
+        absurd (none events (record {
+          stream_is = sym (written count events) ∙ sym (append-nil word) ∙ ap (λ (n : ℕ). word ++ replicate n 0) (let e : 0 ≡ 0 - length word = omega arith in e) ∙ sym is.bytes_are;
+          count_is = each.0;
+          limits = record {
+            are = record {
+              count = leb-true (length events) MOST_EVENTS parts.0;
+              sizes = Each-map _ _ events fit_sizes each.1;
+              bytes = Each-map _ _ events fit_bytes each.1;
+            };
+            fit = leb-true (sum_by (λ event. length event) events) MOST_STEP_BYTES parts.1;
+          };
+        }))
+
+    after_reading : (f : Found (List (List ℕ))) → spelled page 0 (events_codec count) bytes ≡ f → (f >>= (λ events. when (may_be_recorded events) page events)) ≡ Bad page
+    after_reading (Bad p) e = sym e ∙ spelled-bad page 0 (events_codec count) (events-lawful count) bytes p e
+    after_reading (Is events) e = tested events (is-spelled page 0 (events_codec count) (events-lawful count) bytes events e) (may_be_recorded events) refl
+
+    pub found-none : events_in page count bytes ≡ Bad page
+    unfolding events_in
+    found-none = after_reading (spelled page 0 (events_codec count) bytes) refl

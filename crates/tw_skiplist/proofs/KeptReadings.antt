@@ -1,0 +1,188 @@
+-- What is read of pages that keep a history is the history's.
+use Rattle.std.proofs.Common.{◌≡◌, ℕ, suc, zero, ◌+◌, ◌-◌, ◌^◌, ◌<◌, ◌≤◌, List, [], ◌∷◌, length, ap, sym, ◌∙◌, arith, inl, inr}
+use Rattle.std.proofs.lemmas.Bool.{cases_lt}
+use Rattle.tw_disk.specs.Image.{Image}
+use Rattle.tw_base.specs.Auth.{auth}
+use Rattle.tw_base.specs.History.{History, events_at}
+use Rattle.tw_base.specs.Levels.{top_level}
+use Rattle.tw_base.proofs.DigestBytes.{IsDigest}
+use Rattle.tw_skipproof.specs.declared.path.Link.{Link}
+use Rattle.tw_skipproof.specs.declared.path.Path.{Path}
+use Rattle.tw_skipproof.specs.HistoryProofs.{IsPathOf}
+use Rattle.tw_skipproof.specs.Paths.{hop, hop_level}
+use Rattle.tw_skipproof.proofs.GreedySteps.{hop-less}
+use Rattle.tw_skipproof.proofs.Hops.{hop-below, hop_level-le}
+use Rattle.tw_skiplist.specs.declared.head.Head.{Head}
+use Rattle.tw_skiplist.specs.declared.head.StepRef.{StepRef}
+use Rattle.tw_skiplist.specs.declared.info.StepInfo.{StepInfo}
+use Rattle.tw_skiplist.specs.declared.info.StepProof.{StepProof}
+use Rattle.tw_skiplist.specs.Events.{events_of_info}
+use Rattle.tw_skiplist.specs.Found.{◌>>=◌}
+use Rattle.tw_skiplist.specs.Found.Found.{Is}
+use Rattle.tw_skiplist.specs.Infos.{IsInfoOf}
+use Rattle.tw_skiplist.specs.Keeping.{Keeps, KeepsSteps, Place, fields_at, link_to, links_at, place_of}
+use Rattle.tw_skiplist.specs.Readings.{found_events, found_path, found_proof, found_step}
+use Rattle.tw_skiplist.specs.Records.{info_record, link_record}
+use Rattle.tw_skiplist.specs.StepPages.{link_of, no_ref, page_of_step}
+use Rattle.tw_skiplist.specs.Walks.{collected, head_ref, hop_in, info_in, link_before, link_in, walk}
+use Rattle.tw_skiplist.proofs.FoundLaws.{is_on}
+use Rattle.tw_skiplist.proofs.Kept.{get_or-links_to, kept_link_in, kept_page}
+use Rattle.tw_skiplist.proofs.KeptEvents.{events_are}
+use Rattle.tw_skiplist.proofs.Recording.{kept_info, kept_link}
+use Rattle.tw_skiplist.proofs.WalkLaws.{collected-here, collected-on, walk-here, walk-on}
+
+module _ (dig : List ℕ → List ℕ) (size : (text : List ℕ) → IsDigest (dig text)) (h : History) (places : List Place) (ps : Image) (kept : KeepsSteps dig ps h places) where
+  abbrev to_step : ℕ → StepRef
+  to_step i = link_to dig h places i
+
+  abbrev page : ℕ → ℕ
+  page i = (place_of places i).page
+
+  -- a link of a step that has one at the level
+  pub link_kept : (i level : ℕ) → 0 < i → i ≤ length h.steps → level ≤ top_level i → link_in ps (page i) i level ≡ Is (to_step (i - 2 ^ level))
+  link_kept zero level some l fine = absurd (omega arith)
+  link_kept (suc k) level some l fine = kept_link_in dig size h places ps kept k level (omega (arith, l)) fine
+
+  walk_kept : (d from to : ℕ) → to ≤ from → from ≤ to + d → from ≤ length h.steps → walk ps (to_step from) from to ≡ Is (to_step to)
+  walk_kept zero from to order near l =
+      let same : from ≡ to = omega (arith, order, near) in
+      walk-here ps (to_step from) from to (omega (arith, near)) ∙ ap (λ (i : ℕ). Is (to_step i)) same
+  walk_kept (suc d) from to order near l =
+      elim (cases_lt to from) [
+        | inr end ↦ (
+            let same : from ≡ to = omega (arith, order, end) in
+            walk-here ps (to_step from) from to end ∙ ap (λ (i : ℕ). Is (to_step i)) same)
+        | inl under ↦ (
+            let less = hop-less from to under in
+            walk-on ps (to_step from) from to under
+            ∙ is_on (link_in ps (page from) from (hop_level from to)) (λ next. walk ps next (hop from to) to) (to_step (hop from to)) (link_kept from (hop_level from to) (omega (arith, under)) l (hop_level-le from to))
+            ∙ walk_kept d (hop from to) to (hop-below from to under) (omega (arith, less, near)) (omega (arith, less, l)))
+      ]
+
+  pub walk_is : (from to : ℕ) → to ≤ from → from ≤ length h.steps → walk ps (to_step from) from to ≡ Is (to_step to)
+  walk_is from to order l = walk_kept from from to order (omega arith) l
+
+  -- a path of the history, and the link to its lower step
+  pub record Collects (from to : ℕ) : Type 0 where
+    pub links : List Link
+    pub is : collected dig ps (to_step from) from to ≡ Is (record { links = links; last = to_step to })
+    pub path : IsPathOf dig h links from to
+
+  hop_kept : (i level : ℕ) → 0 < i → i ≤ length h.steps → level ≤ top_level i → hop_in dig ps (page i) i level
+      ≡ Is (record { link = link_record dig i (fields_at dig h places i) (links_at dig h places i) level; next = to_step (i - 2 ^ level) })
+  hop_kept zero level some l fine = absurd (omega arith)
+  hop_kept (suc k) level some l fine =
+      is_on (page_of_step ps (page (suc k)) (suc k)) (λ p. Is (record { link = link_record dig (suc k) p.0 p.1 level; next = link_of p.1 level })) (fields_at dig h places (suc k), links_at dig h places (suc k)) (kept_page dig size h places ps kept k (omega (arith, l)))
+      ∙ ap (λ (next : StepRef). Is (record { link = link_record dig (suc k) (fields_at dig h places (suc k)) (links_at dig h places (suc k)) level; next = next }))
+      (get_or-links_to dig size h places no_ref (suc k) (suc (top_level (suc k))) level (omega (arith, fine)))
+
+  path_on : (from to : ℕ) → to < from → from ≤ length h.steps → (links : List Link) → IsPathOf dig h links (hop from to) to
+      → IsPathOf dig h (link_record dig from (fields_at dig h places from) (links_at dig h places from) (hop_level from to) ∷ links) from to
+  path_on zero to under l links path = absurd (omega arith)
+  path_on (suc k) to under l links path = let own = kept_link dig size h places ps kept k (hop_level (suc k) to) (omega (arith, l)) in (under, own.0, own.1, path)
+
+  collected_kept : (d from to : ℕ) → to ≤ from → from ≤ to + d → from ≤ length h.steps → Collects from to
+  collected_kept zero from to order near l =
+      let same : from ≡ to = omega (arith, order, near) in
+      record {
+        links = [];
+        is = collected-here ps (to_step from) from to dig (omega (arith, near)) ∙ ap (λ (i : ℕ). Is (record { links = []; last = to_step i })) same;
+        path = omega (arith, near);
+      }
+  collected_kept (suc d) from to order near l =
+      elim (cases_lt to from) [
+        | inr end ↦ (
+            let same : from ≡ to = omega (arith, order, end) in
+            record {
+              links = [];
+              is = collected-here ps (to_step from) from to dig end ∙ ap (λ (i : ℕ). Is (record { links = []; last = to_step i })) same;
+              path = end;
+            })
+        | inl under ↦ (
+            let less = hop-less from to under in
+            let rest = collected_kept d (hop from to) to (hop-below from to under) (omega (arith, less, near)) (omega (arith, less, l)) in
+            let link : Link = link_record dig from (fields_at dig h places from) (links_at dig h places from) (hop_level from to) in
+            record {
+              links = link ∷ rest.links;
+              is = collected-on ps (to_step from) from to dig under
+                  ∙ is_on (hop_in dig ps (page from) from (hop_level from to)) (λ hopped. collected dig ps hopped.next (hop from to) to >>= link_before dig ps hopped.link)
+                  (record { link = link; next = to_step (hop from to) }) (hop_kept from (hop_level from to) (omega (arith, under)) l (hop_level-le from to))
+                  ∙ is_on (collected dig ps (to_step (hop from to)) (hop from to) to) (link_before dig ps link) (record { links = rest.links; last = to_step to }) rest.is;
+              path = path_on from to under l rest.links rest.path;
+            })
+      ]
+
+  pub collects : (from to : ℕ) → to ≤ from → from ≤ length h.steps → Collects from to
+  collects from to order l = collected_kept from from to order (omega arith) l
+
+  -- what is told of a step
+  pub record Tells (i : ℕ) : Type 0 where
+    pub info : StepInfo
+    pub is : info_in dig ps (page i) i ≡ Is info
+    pub of : IsInfoOf dig ps h i info
+
+  pub tells : (i : ℕ) → 0 < i → i ≤ length h.steps → Tells i
+  unfolding info_in
+  tells zero some l = absurd (omega arith)
+  tells (suc k) some l = record {
+    info = info_record dig (page (suc k)) (suc k) (fields_at dig h places (suc k)) (links_at dig h places (suc k));
+    is = is_on (page_of_step ps (page (suc k)) (suc k)) (λ p. Is (info_record dig (page (suc k)) (suc k) p.0 p.1)) (fields_at dig h places (suc k), links_at dig h places (suc k))
+        (kept_page dig size h places ps kept k (omega (arith, l)));
+    of = kept_info dig size h places ps kept k (omega (arith, l));
+  }
+
+-- ---- under a head
+
+module _ (dig : List ℕ → List ℕ) (size : (text : List ℕ) → IsDigest (dig text)) (ps : Image) (h : History) (head : Head) (keeps : Keeps dig ps h head) where
+  abbrev places : List Place
+  places = keeps.places
+
+  -- the head is the link to the last step
+  pub first_is : head_ref head ≡ link_to dig h places head.step
+  first_is = (λ j. record {
+    page = (keeps.page ∙ ap (λ (i : ℕ). (place_of places i).page) (sym keeps.step)) j;
+    auth = (keeps.auth ∙ ap (λ (i : ℕ). auth dig h i) (sym keeps.step)) j;
+  })
+
+  down : (to : ℕ) → to ≤ head.step → walk ps (head_ref head) head.step to ≡ Is (link_to dig h places to)
+  down to order =
+      ap (λ (first : StepRef). walk ps first head.step to) first_is ∙ walk_is dig size h places ps keeps.keeps head.step to order (omega (arith, keeps.step))
+
+  pub step_found : (i : ℕ) → 1 ≤ i → i ≤ head.step → (info : StepInfo) × (found_step dig ps head i ≡ Is info) × IsInfoOf dig ps h i info
+  unfolding found_step
+  step_found i some order =
+      let told = tells dig size h places ps keeps.keeps i some (omega (arith, order, keeps.step)) in (
+        told.info,
+        is_on (walk ps (head_ref head) head.step i) (λ link. info_in dig ps link.page i) (link_to dig h places i) (down i order) ∙ told.is,
+        told.of,
+      )
+
+  pub path_found : (n i : ℕ) → i ≤ n → n ≤ head.step → (path : Path) × (found_path dig ps head n i ≡ Is path) × IsPathOf dig h path.links n i
+  unfolding found_path
+  path_found n i order below =
+      let way = collects dig size h places ps keeps.keeps n i order (omega (arith, below, keeps.step)) in (
+        record { links = way.links },
+        is_on (walk ps (head_ref head) head.step n) (λ middle. collected dig ps middle n i >>= (λ way. Is (record { links = way.links }))) (link_to dig h places n) (down n below)
+            ∙ is_on (collected dig ps (link_to dig h places n) n i) (λ way. Is (record { links = way.links })) (record { links = way.links; last = link_to dig h places i }) way.is,
+        way.path,
+      )
+
+  pub proof_found : (top i : ℕ) → 1 ≤ i → i ≤ top → top ≤ head.step
+      → (proof : StepProof) × (found_proof dig ps head top i ≡ Is proof) × IsPathOf dig h proof.path.links top i × IsInfoOf dig ps h i proof.info
+  unfolding found_proof
+  proof_found top i some order below =
+      let way = collects dig size h places ps keeps.keeps top i order (omega (arith, below, keeps.step)) in
+      let told = tells dig size h places ps keeps.keeps i some (omega (arith, order, below, keeps.step)) in (
+        record { path = record { links = way.links }; info = told.info },
+        is_on (walk ps (head_ref head) head.step top) (λ middle. collected dig ps middle top i >>= (λ way. info_in dig ps way.last.page i >>= (λ info. Is (record { path = record { links = way.links }; info = info })))) (link_to dig h places top) (down top below)
+            ∙ is_on (collected dig ps (link_to dig h places top) top i) (λ way. info_in dig ps way.last.page i >>= (λ info. Is (record { path = record { links = way.links }; info = info }))) (record { links = way.links; last = link_to dig h places i }) way.is
+            ∙ is_on (info_in dig ps (place_of places i).page i) (λ info. Is (record { path = record { links = way.links }; info = info })) told.info told.is,
+        way.path,
+        told.of,
+      )
+
+  pub events_found : (i : ℕ) → 1 ≤ i → i ≤ head.step → found_events dig ps head i ≡ Is (events_at h i)
+  unfolding found_events
+  events_found i some order =
+      let told = step_found i some order in
+      is_on (found_step dig ps head i) (events_of_info ps) told.0 told.1 ∙ events_are dig ps h i told.0 told.2

@@ -1,0 +1,70 @@
+-- In which order the pages of steps are read: down the greedy path, and for the links of one more step.
+use Rattle.std.specs.Prelude.{ℕ, suc, zero, ◌+◌, ◌-◌, ◌^◌, List, [], ◌∷◌, ◌++◌}
+use Rattle.tw_disk.specs.Image.{Image}
+use Rattle.tw_base.specs.Levels.{top_level}
+use Rattle.tw_skipproof.specs.declared.path.Link.{Link}
+use Rattle.tw_skipproof.specs.Paths.{greedy_steps, hop_level}
+use Rattle.tw_skiplist.specs.declared.head.Head.{Head}
+use Rattle.tw_skiplist.specs.declared.head.StepRef.{StepRef}
+use Rattle.tw_skiplist.specs.declared.collecting.Collected.{Collected}
+use Rattle.tw_skiplist.specs.declared.collecting.Hop.{Hop}
+use Rattle.tw_skiplist.specs.declared.info.StepInfo.{StepInfo}
+use Rattle.tw_skiplist.specs.Found.{Found, ◌>>=◌}
+use Rattle.tw_skiplist.specs.Found.Found.{Is}
+use Rattle.tw_skiplist.specs.Records.{info_record, link_record}
+use Rattle.tw_skiplist.specs.StepPages.{link_of, page_of_step}
+
+-- the link that a head is
+abbrev pub head_ref : Head → StepRef
+head_ref head = record { page = head.page; auth = head.auth }
+
+-- ---- down the greedy path
+
+-- the link of this level that the page of a step has
+abbrev pub link_in : Image → (page step level : ℕ) → Found StepRef
+link_in pages page step level = page_of_step pages page step >>= (λ p. Is (link_of p.1 level))
+
+-- From the link to the first of these steps of a greedy path, which goes down to a lower step: the link that the last one's
+-- page has to that step. The page of each is read, and its link of the path's level is followed.
+unfoldable pub walk_along : Image → (to : ℕ) → List ℕ → StepRef → Found StepRef
+walk_along pages to [] link = Is link
+walk_along pages to (at ∷ steps) link = link_in pages link.page at (hop_level at to) >>= walk_along pages to steps
+
+abbrev pub walk : Image → StepRef → (from to : ℕ) → Found StepRef
+walk pages link from to = walk_along pages to (greedy_steps from to) link
+
+module _ (dig : List ℕ → List ℕ) (pages : Image) where
+  -- the same with the record of the link
+  abbrev pub hop_in : (page step level : ℕ) → Found Hop
+  hop_in page step level = page_of_step pages page step >>= (λ p. Is (record { link = link_record dig step p.0 p.1 level; next = link_of p.1 level }))
+
+  -- a record in front of those of the rest of the way
+  abbrev pub link_before : Link → Collected → Found Collected
+  link_before link rest = Is (record { links = link ∷ rest.links; last = rest.last })
+
+  -- the same walk, with the record of each link that it follows
+  unfoldable pub collect_along : (to : ℕ) → List ℕ → StepRef → Found Collected
+  collect_along to [] link = Is (record { links = []; last = link })
+  collect_along to (at ∷ steps) link = hop_in link.page at (hop_level at to) >>= (λ hop. collect_along to steps hop.next >>= link_before hop.link)
+
+  abbrev pub collected : StepRef → (from to : ℕ) → Found Collected
+  collected link from to = collect_along to (greedy_steps from to) link
+
+  -- what the page of a step tells of it
+  unfoldable pub info_in : (page step : ℕ) → Found StepInfo
+  info_in page step = page_of_step pages page step >>= (λ p. Is (info_record dig page step p.0 p.1))
+
+-- ---- the links of one more step
+
+-- From the link to the step that is the last, the links of the next one up to a level: the link of the level above is the one
+-- of the same level that the page of the step it leads to has.
+unfoldable pub links_up_to : Image → (first : StepRef) → (last level : ℕ) → Found (List StepRef)
+links_up_to pages first last zero = Is (first ∷ [])
+links_up_to pages first last (suc level) =
+    links_up_to pages first last level
+    >>= (λ links. link_in pages (link_of links level).page (last + 1 - 2 ^ level) level
+    >>= (λ next. Is (links ++ next ∷ [])))
+
+-- all links of the step after the head's
+abbrev pub next_links : Image → Head → Found (List StepRef)
+next_links pages head = links_up_to pages (head_ref head) head.step (top_level (head.step + 1))
