@@ -4,7 +4,7 @@ use Rattle.std.specs.Prelude.{nat_le, sum_by}
 use Rattle.std.proofs.lemmas.Bool.{and_parts, le-leb, leb-true}
 use Rattle.std.proofs.lemmas.List.{append-nil}
 use Rattle.tw_base.specs.Bytes.{AreBytes}
-use Rattle.tw_base.specs.Codecs.{bytes_codec, many, number_codec, sized_codec}
+use Rattle.tw_base.specs.Codecs.{by_kind, bytes_codec, many, number_codec, sized_codec}
 use Rattle.tw_base.specs.declared.limits.TheConstants.{MOST_EVENTS, MOST_EVENT_BYTES, MOST_STEP_BYTES}
 use Rattle.tw_base.specs.Lists.{Each}
 use Rattle.tw_base.proofs.CodecLaws.{Lawful, lawful}
@@ -22,7 +22,7 @@ events-lawful : (count : ℕ) → Lawful (events_codec count)
 events-lawful count = search lawful depth 20
 
 written : (count : ℕ) (events : List (List ℕ)) → (events_codec count).write events ≡ stream events
-unfolding many sized_codec number_codec bytes_codec
+unfolding many sized_codec by_kind number_codec bytes_codec
 written count [] = refl
 written count (e ∷ es) =
     append_assoc _ e _ ∙ (λ j. number_bytes-four (length e) j ++ (e ++ written count es j))
@@ -31,21 +31,21 @@ abbrev IsSized : List ℕ → Type 0
 IsSized event = ((0 ≤ length event) × (length event ≤ MOST_EVENT_BYTES)) × AreBytes event
 
 each_fits : (events : List (List ℕ)) → Each (λ event. length event ≤ MOST_EVENT_BYTES) events → Each AreBytes events → Each (sized_codec 4 0 1024).Fits events
-unfolding sized_codec number_codec bytes_codec
+unfolding sized_codec by_kind number_codec bytes_codec
 each_fits [] sizes bytes = tt
-each_fits (e ∷ es) sizes bytes = (((omega arith, sizes.0), bytes.0), each_fits es sizes.1 bytes.1)
+each_fits (e ∷ es) sizes bytes = (((omega arith, sizes.0), (refl, bytes.0)), each_fits es sizes.1 bytes.1)
 
 fits : (count : ℕ) (events : List (List ℕ)) → length events ≡ count → Each (sized_codec 4 0 1024).Fits events → (events_codec count).Fits events
 unfolding many
 fits count events size each = (size, each)
 
 fit_sizes : (event : List ℕ) → (sized_codec 4 0 1024).Fits event → length event ≤ MOST_EVENT_BYTES
-unfolding sized_codec number_codec bytes_codec
+unfolding sized_codec by_kind number_codec bytes_codec
 fit_sizes event f = f.0.1
 
 fit_bytes : (event : List ℕ) → (sized_codec 4 0 1024).Fits event → AreBytes event
-unfolding sized_codec number_codec bytes_codec
-fit_bytes event f = f.1
+unfolding sized_codec by_kind number_codec bytes_codec
+fit_bytes event f = f.1.1
 
 fit_each : (count : ℕ) (events : List (List ℕ)) → (events_codec count).Fits events → (length events ≡ count) × Each (sized_codec 4 0 1024).Fits events
 unfolding many
