@@ -1,5 +1,6 @@
 use Rattle.std.proofs.Common.{◌≡◌, List, ℕ, [], ap, arith, length, sym, ◌∙◌}
 use Rattle.std.proofs.lemmas.Option.{get_or_from_slice_get}
+use Rattle.tw_base.specs.EventTree.{audit_path}
 use Rattle.tw_skipproof.specs.Existence.{existence_bytes}
 use Rattle.tw_skipproof.specs.declared.existence.ExistenceProof.{ExistenceProof}
 use Rattle.tw_service.specs.MadeSteps.{made_of}
@@ -18,5 +19,5 @@ returns g c = record {
       let event = get_or_from_slice_get c.args.events c.args.index c.take_event-event.result [] c.take_event-event.ensures in
       if_ok c.write_existence.result _ _ (λ bytes is.
       is ∙ ap existence_bytes (c.existence_of-made.ensures
-      ∙ (λ j. made_of c.args.name.now c.args.top c.args.index c.args.proof (sym event j) (c.in_ok-path.ensures.path j)))) c.write_existence.ensures.bytes;
+      ∙ (λ j. made_of c.args.name.now c.args.top c.args.index c.args.proof (sym event j) ((c.in_ok-path.ensures.path ∙ ap (λ (es : List (List ℕ)). audit_path g.H.Hasher.dig es c.args.index) c.as_slice.ensures) j)))) c.write_existence.ensures.bytes;
 }
