@@ -52,10 +52,10 @@ returns-in-Ok-commit-clause-done g c = λ h rest.
     let mid = c.append-added.new.pages in
     commit_keeps d.view g.met.D.Disk.only_now g.H.Hasher.dig store mid c.args.root.now _ h c.args.events.now
     c.as_slice.result.now (c.as_slice.ensures.value ∙ c.root_record-bytes.ensures.bytes) (λ text. (g.met.H.Hasher.size text, g.met.H.Hasher.bytes text)) c.in-Ok.ensures.same rest (λ ps k list keeps archived.
-      let own = c.in-Ok.ensures.answer ps list in
-      let count = told_pages d.view store ((d.view store.disk).count) ((d.view store.disk).content) ps (λ i told. g.met.D.Disk.count_is_told store.disk i told) store.room store.used_from list in
-      added_to g.H.Hasher.dig (λ text. (g.met.H.Hasher.size text, g.met.H.Hasher.bytes text)) ps k c.args.root.now.head c.args.events.now c.args.root.now.archive (list_of d.view mid) c.in-Ok.head keeps archived
-      c.requires.step c.requires.limits (few (count_of store) c.args.root.now.head.step (length ps) c.requires.pages c.requires.step count) own.0 own.1 own.2) refl refl refl c.in-Ok.ensures.step c.requires.step
+    let own = c.in-Ok.ensures.answer ps list in
+    let count = told_pages d.view store ((d.view store.disk).count) ((d.view store.disk).content) ps (λ i told. g.met.D.Disk.count_is_told store.disk i told) store.room store.used_from list in
+    added_to g.H.Hasher.dig (λ text. (g.met.H.Hasher.size text, g.met.H.Hasher.bytes text)) ps k c.args.root.now.head c.args.events.now c.args.root.now.archive (list_of d.view mid) c.in-Ok.head keeps archived
+    c.requires.step c.requires.limits (few (count_of store) c.args.root.now.head.step (length ps) c.requires.pages c.requires.step count) own.0 own.1 own.2) refl refl refl c.in-Ok.ensures.step c.requires.step
     (count_of mid) (omega (arith, c.in-Ok.ensures.few, c.requires.pages, c.in-Ok.ensures.step))
     (λ ps list. told_pages d.view mid ((d.view mid.disk).count) ((d.view mid.disk).content) ps (λ i told. g.met.D.Disk.count_is_told mid.disk i told) mid.room mid.used_from list)
     (omega (arith, c.in-Ok.ensures.same.generation, c.requires.commits)) c.commit.new.self c.in-Ok-commit.ensures.done c.in-Ok-commit.ensures.cleared.0
@@ -67,10 +67,10 @@ returns-in-Ok-commit-clause-any_moment g c = λ h rest.
     let mid = c.append-added.new.pages in
     commit_leaves d.view g.met.D.Disk.only_now g.H.Hasher.dig store mid c.args.root.now _ h c.args.events.now
     c.as_slice.result.now (c.as_slice.ensures.value ∙ c.root_record-bytes.ensures.bytes) (λ text. (g.met.H.Hasher.size text, g.met.H.Hasher.bytes text)) c.in-Ok.ensures.same rest (λ ps k list keeps archived.
-      let own = c.in-Ok.ensures.answer ps list in
-      let count = told_pages d.view store ((d.view store.disk).count) ((d.view store.disk).content) ps (λ i told. g.met.D.Disk.count_is_told store.disk i told) store.room store.used_from list in
-      added_to g.H.Hasher.dig (λ text. (g.met.H.Hasher.size text, g.met.H.Hasher.bytes text)) ps k c.args.root.now.head c.args.events.now c.args.root.now.archive (list_of d.view mid) c.in-Ok.head keeps archived
-      c.requires.step c.requires.limits (few (count_of store) c.args.root.now.head.step (length ps) c.requires.pages c.requires.step count) own.0 own.1 own.2) refl refl refl c.in-Ok.ensures.step c.requires.step
+    let own = c.in-Ok.ensures.answer ps list in
+    let count = told_pages d.view store ((d.view store.disk).count) ((d.view store.disk).content) ps (λ i told. g.met.D.Disk.count_is_told store.disk i told) store.room store.used_from list in
+    added_to g.H.Hasher.dig (λ text. (g.met.H.Hasher.size text, g.met.H.Hasher.bytes text)) ps k c.args.root.now.head c.args.events.now c.args.root.now.archive (list_of d.view mid) c.in-Ok.head keeps archived
+    c.requires.step c.requires.limits (few (count_of store) c.args.root.now.head.step (length ps) c.requires.pages c.requires.step count) own.0 own.1 own.2) refl refl refl c.in-Ok.ensures.step c.requires.step
     (count_of mid) (omega (arith, c.in-Ok.ensures.few, c.requires.pages, c.in-Ok.ensures.step))
     (λ ps list. told_pages d.view mid ((d.view mid.disk).count) ((d.view mid.disk).content) ps (λ i told. g.met.D.Disk.count_is_told mid.disk i told) mid.room mid.used_from list)
     (omega (arith, c.in-Ok.ensures.same.generation, c.requires.commits)) c.commit.new.self c.in-Ok-commit.ensures.any_moment
@@ -83,10 +83,10 @@ returns-in-Err-commit-clause-any_moment g c = λ h rest.
     subst (λ disk. LeavesOnly (d.view store.disk) (d.view disk) (StandsForOneOf g.H.Hasher.dig c.args.root.now.name h (with_events h c.args.events.now))) (sym c.discard-in-Err-commit.ensures.disk)
     (commit_leaves d.view g.met.D.Disk.only_now g.H.Hasher.dig store mid c.args.root.now _ h c.args.events.now
     c.as_slice.result.now (c.as_slice.ensures.value ∙ c.root_record-bytes.ensures.bytes) (λ text. (g.met.H.Hasher.size text, g.met.H.Hasher.bytes text)) c.in-Ok.ensures.same rest (λ ps k list keeps archived.
-      let own = c.in-Ok.ensures.answer ps list in
-      let count = told_pages d.view store ((d.view store.disk).count) ((d.view store.disk).content) ps (λ i told. g.met.D.Disk.count_is_told store.disk i told) store.room store.used_from list in
-      added_to g.H.Hasher.dig (λ text. (g.met.H.Hasher.size text, g.met.H.Hasher.bytes text)) ps k c.args.root.now.head c.args.events.now c.args.root.now.archive (list_of d.view mid) c.in-Ok.head keeps archived
-      c.requires.step c.requires.limits (few (count_of store) c.args.root.now.head.step (length ps) c.requires.pages c.requires.step count) own.0 own.1 own.2) refl refl refl c.in-Ok.ensures.step c.requires.step
+    let own = c.in-Ok.ensures.answer ps list in
+    let count = told_pages d.view store ((d.view store.disk).count) ((d.view store.disk).content) ps (λ i told. g.met.D.Disk.count_is_told store.disk i told) store.room store.used_from list in
+    added_to g.H.Hasher.dig (λ text. (g.met.H.Hasher.size text, g.met.H.Hasher.bytes text)) ps k c.args.root.now.head c.args.events.now c.args.root.now.archive (list_of d.view mid) c.in-Ok.head keeps archived
+    c.requires.step c.requires.limits (few (count_of store) c.args.root.now.head.step (length ps) c.requires.pages c.requires.step count) own.0 own.1 own.2) refl refl refl c.in-Ok.ensures.step c.requires.step
     (count_of mid) (omega (arith, c.in-Ok.ensures.few, c.requires.pages, c.in-Ok.ensures.step))
     (λ ps list. told_pages d.view mid ((d.view mid.disk).count) ((d.view mid.disk).content) ps (λ i told. g.met.D.Disk.count_is_told mid.disk i told) mid.room mid.used_from list)
     (omega (arith, c.in-Ok.ensures.same.generation, c.requires.commits)) c.commit.new.self c.in-Err-commit.ensures.any_moment)
@@ -105,10 +105,10 @@ returns-in-Ok-commit-clause-told g c = λ h rest.
     let mid = c.append-added.new.pages in
     commit_tells d.view g.met.D.Disk.only_now g.H.Hasher.dig store mid c.args.root.now _ h c.args.events.now
     c.as_slice.result.now (c.as_slice.ensures.value ∙ c.root_record-bytes.ensures.bytes) (λ text. (g.met.H.Hasher.size text, g.met.H.Hasher.bytes text)) c.in-Ok.ensures.same rest (λ ps k list keeps archived.
-      let own = c.in-Ok.ensures.answer ps list in
-      let count = told_pages d.view store ((d.view store.disk).count) ((d.view store.disk).content) ps (λ i told. g.met.D.Disk.count_is_told store.disk i told) store.room store.used_from list in
-      added_to g.H.Hasher.dig (λ text. (g.met.H.Hasher.size text, g.met.H.Hasher.bytes text)) ps k c.args.root.now.head c.args.events.now c.args.root.now.archive (list_of d.view mid) c.in-Ok.head keeps archived
-      c.requires.step c.requires.limits (few (count_of store) c.args.root.now.head.step (length ps) c.requires.pages c.requires.step count) own.0 own.1 own.2) refl refl refl c.in-Ok.ensures.step c.requires.step
+    let own = c.in-Ok.ensures.answer ps list in
+    let count = told_pages d.view store ((d.view store.disk).count) ((d.view store.disk).content) ps (λ i told. g.met.D.Disk.count_is_told store.disk i told) store.room store.used_from list in
+    added_to g.H.Hasher.dig (λ text. (g.met.H.Hasher.size text, g.met.H.Hasher.bytes text)) ps k c.args.root.now.head c.args.events.now c.args.root.now.archive (list_of d.view mid) c.in-Ok.head keeps archived
+    c.requires.step c.requires.limits (few (count_of store) c.args.root.now.head.step (length ps) c.requires.pages c.requires.step count) own.0 own.1 own.2) refl refl refl c.in-Ok.ensures.step c.requires.step
     (count_of mid) (omega (arith, c.in-Ok.ensures.few, c.requires.pages, c.in-Ok.ensures.step))
     (λ ps list. told_pages d.view mid ((d.view mid.disk).count) ((d.view mid.disk).content) ps (λ i told. g.met.D.Disk.count_is_told mid.disk i told) mid.room mid.used_from list)
     (omega (arith, c.in-Ok.ensures.same.generation, c.requires.commits)) c.commit.new.self c.in-Ok-commit.ensures.told
@@ -121,10 +121,10 @@ returns-in-Err-commit-clause-told g c = λ h rest.
     subst (λ disk. Reads (d.view disk) (StandsForOneOf g.H.Hasher.dig c.args.root.now.name h (with_events h c.args.events.now))) (sym c.discard-in-Err-commit.ensures.disk)
     (commit_tells d.view g.met.D.Disk.only_now g.H.Hasher.dig store mid c.args.root.now _ h c.args.events.now
     c.as_slice.result.now (c.as_slice.ensures.value ∙ c.root_record-bytes.ensures.bytes) (λ text. (g.met.H.Hasher.size text, g.met.H.Hasher.bytes text)) c.in-Ok.ensures.same rest (λ ps k list keeps archived.
-      let own = c.in-Ok.ensures.answer ps list in
-      let count = told_pages d.view store ((d.view store.disk).count) ((d.view store.disk).content) ps (λ i told. g.met.D.Disk.count_is_told store.disk i told) store.room store.used_from list in
-      added_to g.H.Hasher.dig (λ text. (g.met.H.Hasher.size text, g.met.H.Hasher.bytes text)) ps k c.args.root.now.head c.args.events.now c.args.root.now.archive (list_of d.view mid) c.in-Ok.head keeps archived
-      c.requires.step c.requires.limits (few (count_of store) c.args.root.now.head.step (length ps) c.requires.pages c.requires.step count) own.0 own.1 own.2) refl refl refl c.in-Ok.ensures.step c.requires.step
+    let own = c.in-Ok.ensures.answer ps list in
+    let count = told_pages d.view store ((d.view store.disk).count) ((d.view store.disk).content) ps (λ i told. g.met.D.Disk.count_is_told store.disk i told) store.room store.used_from list in
+    added_to g.H.Hasher.dig (λ text. (g.met.H.Hasher.size text, g.met.H.Hasher.bytes text)) ps k c.args.root.now.head c.args.events.now c.args.root.now.archive (list_of d.view mid) c.in-Ok.head keeps archived
+    c.requires.step c.requires.limits (few (count_of store) c.args.root.now.head.step (length ps) c.requires.pages c.requires.step count) own.0 own.1 own.2) refl refl refl c.in-Ok.ensures.step c.requires.step
     (count_of mid) (omega (arith, c.in-Ok.ensures.few, c.requires.pages, c.in-Ok.ensures.step))
     (λ ps list. told_pages d.view mid ((d.view mid.disk).count) ((d.view mid.disk).content) ps (λ i told. g.met.D.Disk.count_is_told mid.disk i told) mid.room mid.used_from list)
     (omega (arith, c.in-Ok.ensures.same.generation, c.requires.commits)) c.commit.new.self c.in-Err-commit.ensures.told)
