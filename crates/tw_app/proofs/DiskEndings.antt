@@ -1,469 +1,235 @@
--- What a run's status says by itself of a command that works on a disk, and what the run leaves of the disk.
+-- What a run leaves of the disk.
 use Rattle.std.proofs.Common.{◌≡◌, ◌∙◌, ℕ, List, ap, sym, subst, arith, inl, inr, ◌⊎◌, ⊎_elim, refl}
-use Rattle.std.specs.Prelude.{Option, Some, None, MatchOption}
+use Rattle.std.specs.Prelude.{Option, Some, None, MatchOption, Result, Ok, Err}
 use Rattle.tw_base.specs.declared.thread.Thread.{Thread}
-use Rattle.tw_base.specs.History.{History}
 use Rattle.tw_disk.specs.Disk.{DiskView}
 use Rattle.tw_disk.specs.Image.{Image}
-use Rattle.sha2.specs.Sha256.{sha256}
 use Rattle.tw_outside.specs.Files.{Files}
-use Rattle.tw_pages.specs.declared.open.StoreFault.TheVariants as fault
-use Rattle.tw_skiplist.specs.declared.head.Head.{Head}
-use Rattle.tw_service.proofs.Standing.{stands_opened}
+use Rattle.tw_service.specs.Machine.Call.{Append as AppendCall}
 use Rattle.tw_text.specs.CommandLine.{command_of}
+use Rattle.tw_text.specs.Lines.{anchor_text}
 use Rattle.tw_text.specs.declared.command.Command.{Command}
 use Rattle.tw_text.specs.declared.command.Command.TheVariants.{Append, Init, ProveEvent}
-use Rattle.tw_chain.specs.declared.verdict.Verdict.{Verdict}
-use Rattle.tw_chain.specs.declared.verdict.Verdict.TheVariants.{Yes, No}
+use Rattle.tw_text.specs.declared.fault.CommandFault.{CommandFault}
+use Rattle.tw_text.specs.declared.fault.CommandFault.TheVariants as fault
+use Rattle.tw_diskcmd.specs.Appending.{AddsStep, AppendLeaves, OfEvents}
+use Rattle.tw_diskcmd.specs.Disks.{Adds, Begins, IsLeft, Keeps, Settles}
+use Rattle.tw_diskcmd.specs.Making.{InitComes, InitLeaves, MakesService}
+use Rattle.tw_diskcmd.specs.Proving.{ProveLeaves}
+use Rattle.tw_diskcmd.proofs.AtRest.{left_keeps, untouched_left}
+use Rattle.tw_diskcmd.proofs.Landings.{append_safe, init_safe, prove_left}
 use Rattle.tw_app.specs.declared.outcome.Outcome.{Outcome}
-use Rattle.tw_app.specs.declared.outcome.Outcome.TheVariants.{Judged, Shown, Made, Refused, Unserved, Unreadable, BadWords, InputFault, DiskFault, NoMemory}
-use Rattle.tw_app.specs.Commands.{IsAppend, IsInit, IsProve, UsesDisk}
-use Rattle.tw_app.specs.declared.outcome.StoreCause.{StoreCause}
-use Rattle.tw_app.specs.declared.outcome.StoreCause.TheVariants as store
-use Rattle.tw_app.specs.Appending.{MeetsBadLink}
-use Rattle.tw_app.specs.Disks.{IsCause, IsLeft, Keeps, MayBegin, ReadsAs, Settles, SparesStore}
-use Rattle.tw_app.specs.DiskStatuses.{AddsAtMost, IsAppendedRun, IsCrashSafe, IsDiskFaultRun, IsMadeRun, IsProvedRun, IsUnservedRun}
-use Rattle.tw_app.specs.Leaving.{AppendLeaves, CommandLeaves, InitLeaves, Leaves}
-use Rattle.tw_app.specs.Outcomes.{status_of}
-use Rattle.tw_app.specs.Running.{CantServe, ComesTo, Ends, EndsWith, HasOutcome, HaveNoForm, ReachesDisk}
-use Rattle.tw_app.specs.Proving.{MeetsBadPage}
-use Rattle.tw_app.specs.Statuses.{AskForDisk, AskForProof, AskForService, AskForStep}
-use Rattle.tw_app.proofs.AtRest.{free_keeps, left_begins, left_keeps, rests_reads, untouched_left}
-use Rattle.tw_app.proofs.Landings.{proof_left}
-use Rattle.tw_app.proofs.Endings.{Ended, judging_is_verify, making_is, not_show_make, not_verify_make, not_verify_show, of_command, of_option, of_words, outcome_is, showing_is}
-
--- the command, by what it is
-is_init : (c : Command) → IsInit c → (dir : List ℕ) × (name : List ℕ) × (c ≡ Init dir name)
-is_init (Init dir name) is = (dir, name, refl)
-is_init _ is = absurd is
-
-reaches_disk : (told : Option Files) (c : Command) → ReachesDisk told c → UsesDisk c
-reaches_disk told (Init dir name) is = tt
-reaches_disk told (Append dir file) is = tt
-reaches_disk told (ProveEvent dir step index top) is = tt
-reaches_disk told _ is = absurd is
-
-is_append : (c : Command) → IsAppend c → (dir : List ℕ) × (file : List ℕ) × (c ≡ Append dir file)
-is_append (Append dir file) is = (dir, file, refl)
-is_append _ is = absurd is
-
-record OfProve (c : Command) : Type 0 where
-  dir : List ℕ
-  step : ℕ
-  index : ℕ
-  top : Option ℕ
-  is : c ≡ ProveEvent dir step index top
-
-is_prove : (c : Command) → IsProve c → OfProve c
-is_prove (ProveEvent dir step index top) is = record { dir = dir; step = step; index = index; top = top; is = refl }
-is_prove _ is = absurd is
+use Rattle.tw_app.specs.declared.outcome.Outcome.TheVariants.{Undone}
+use Rattle.tw_app.specs.Around.{Around, Writes}
+use Rattle.tw_app.specs.Commands.{UsesDisk}
+use Rattle.tw_app.specs.Outcomes.{TakesMemory, made, proved, status_of}
+use Rattle.tw_app.specs.Running.{EndsAs, IsCrashSafe, Leaves, LeavesTo}
+use Rattle.tw_app.specs.Statuses.{AreOf, IsAppend, IsIdle, OnlyReads}
+use Rattle.tw_app.proofs.Commands.{fault_not_zero, of_option}
+use Rattle.tw_app.proofs.Endings.{Told, comes_by, told_of, zero_not_four}
 
 module _ {D : Type 0} (view : D → DiskView)
     (only_now : (d : D) (image : Image) → (view d).left_since (view d).moment image → (view d).may_leave image)
-    (as_it_reads : (d : D) (image : Image) → (view d).content ≡ Some image → (view d).may_leave image) (old new : D)
-    (told : Option Files) (before after disk_before disk_after : ℕ) (words : List (List ℕ)) (taken taken_after : Option (List ℕ)) (faults faults_after : ℕ) (status : ℕ) where
-  abbrev Left : Outcome → Type 0
-  Left outcome = Leaves view old new told words outcome
+    (as_it_reads : (d : D) (image : Image) → (view d).content ≡ Some image → (view d).may_leave image) (old new : D) where
+  abbrev LeavesC : Option Files → Command → Outcome → Type 0
+  LeavesC told c o = LeavesTo view old new told c o
 
-  abbrev CommandLeft : Command → Outcome → Type 0
-  CommandLeft c outcome = CommandLeaves view old new told c outcome
+  abbrev Left : Type 0
+  Left = IsLeft view old new
 
-  abbrev EndsNow : Type 0
-  EndsNow = Ends told before after (view old).content disk_before disk_after words taken taken_after faults faults_after Left status
-
-  abbrev Has : Outcome → Type 0
-  Has outcome = HasOutcome told before after (view old).content disk_before disk_after words outcome
-
-  abbrev ComesToNow : Command → Outcome → Type 0
-  ComesToNow c outcome = ComesTo told before after (view old).content disk_before disk_after c outcome
-
-  abbrev EndedBy : ℕ → Outcome → Type 0
-  EndedBy n outcome = Ended told before after (view old).content disk_before disk_after words taken taken_after faults faults_after Left status n outcome
-
-  left_by : (c : Command) (outcome : Outcome) → command_of words ≡ Some c → Left outcome → CommandLeft c outcome
-  left_by c outcome is left = subst (λ (o : Option Command). MatchOption o (new ≡ old) (λ d. CommandLeft d outcome)) is left
-
-  abbrev OfCommand : Outcome → Type 0
-  OfCommand outcome = (c : Command) × (command_of words ≡ Some c) × ComesToNow c outcome
-
-  command_by : (outcome : Outcome) → (HaveNoForm words outcome → ⊥) → Has outcome → OfCommand outcome
-  command_by outcome none has = of_words told before after (view old).content disk_before disk_after words taken taken_after faults faults_after Left status outcome none has
-
-  ended_by : (n : ℕ) → (n ≡ 4 → ⊥) → status ≡ n → (outcome : Outcome) → EndsWith taken taken_after faults faults_after status outcome → EndedBy n outcome
-  ended_by n other is outcome ends = outcome_is told before after (view old).content disk_before disk_after words taken taken_after faults faults_after Left status n other is outcome ends
-
-  -- ---- status 0
-
-  made_by : (c : Command) (thread : Thread) → command_of words ≡ Some c → IsInit c → ComesToNow c (Made thread) → Left (Made thread) → EndedBy 0 (Made thread)
-      → IsMadeRun view old new words taken taken_after
-  made_by c thread is init comes left ended =
-      let of = is_init c init in
-      let is_of : command_of words ≡ Some (Init of.0 of.1) = is ∙ ap (λ (d : Command). Some d) of.2 in
-      record {
-        dir = of.0;
-        name = of.1;
-        thread = thread;
-        is_command = is_of;
-        makes = subst (λ (d : Command). ComesToNow d (Made thread)) of.2 comes;
-        begins = left_by (Init of.0 of.1) (Made thread) is_of left;
-        written = ended.1;
-      }
-
-  appended_by : (c : Command) (thread : Thread) → command_of words ≡ Some c → IsAppend c → Left (Made thread) → EndedBy 0 (Made thread)
-      → IsAppendedRun view old new told words taken taken_after
-  appended_by c thread is append left ended =
-      let of = is_append c append in
-      let is_of : command_of words ≡ Some (Append of.0 of.1) = is ∙ ap (λ (d : Command). Some d) of.2 in
-      let leaves = left_by (Append of.0 of.1) (Made thread) is_of left in
-      record {
-        dir = of.0;
-        file = of.1;
-        thread = thread;
-        is_command = is_of;
-        events = leaves.0;
-        are = leaves.1;
-        added = leaves.2.0;
-        adds = leaves.2.1;
-        written = ended.1;
-      }
-
-  proved_by : (c : Command) (proof : List ℕ) → command_of words ≡ Some c → IsProve c → ComesToNow c (Shown proof) → EndedBy 0 (Shown proof)
-      → IsProvedRun (view old).content words taken taken_after
-  proved_by c proof is prove comes ended =
-      let of = is_prove c prove in
-      record {
-        dir = of.dir;
-        step = of.step;
-        index = of.index;
-        top = of.top;
-        proof = proof;
-        is_command = is ∙ ap (λ (d : Command). Some d) of.is;
-        proves = subst (λ (d : Command). ComesToNow d (Shown proof)) of.is comes;
-        written = ended.1;
-      }
-
-  pub made : EndsNow → status ≡ 0 → AskForService words → IsMadeRun view old new words taken taken_after
-  made e is asks = by e.outcome e.has e.leaves (ended_by 0 (λ four. omega arith) is e.outcome e.ends)
-    where
-      by : (outcome : Outcome) → Has outcome → Left outcome → EndedBy 0 outcome → IsMadeRun view old new words taken taken_after
-      by (Made thread) has left ended =
-          let of = command_by (Made thread) (λ none. none) has in made_by of.0 thread of.1 (of_command IsInit words of.0 of.1 asks) of.2 left ended
-      by (Judged verdict) has left ended =
-          let of = command_by (Judged verdict) (λ none. none) has in
-          absurd (not_verify_make of.0 (judging_is_verify told of.0 verdict of.2) (inl (of_command IsInit words of.0 of.1 asks)))
-      by (Shown proof) has left ended =
-          let of = command_by (Shown proof) (λ none. none) has in
-          absurd (not_show_make of.0 (showing_is told (view old).content of.0 proof of.2) (inl (of_command IsInit words of.0 of.1 asks)))
-      by (Refused refusal) has left ended = absurd (omega (arith, ended.0))
-      by (Unserved cause) has left ended = absurd (omega (arith, ended.0))
-      by (Unreadable bad) has left ended = absurd (omega (arith, ended.0))
-      by (BadWords number) has left ended = absurd (omega (arith, ended.0))
-      by InputFault has left ended = absurd (omega (arith, ended.0))
-      by DiskFault has left ended = absurd (omega (arith, ended.0))
-      by NoMemory has left ended = absurd (omega (arith, ended.0))
-
-  pub appended : EndsNow → status ≡ 0 → AskForStep words → IsAppendedRun view old new told words taken taken_after
-  appended e is asks = by e.outcome e.has e.leaves (ended_by 0 (λ four. omega arith) is e.outcome e.ends)
-    where
-      by : (outcome : Outcome) → Has outcome → Left outcome → EndedBy 0 outcome → IsAppendedRun view old new told words taken taken_after
-      by (Made thread) has left ended =
-          let of = command_by (Made thread) (λ none. none) has in appended_by of.0 thread of.1 (of_command IsAppend words of.0 of.1 asks) left ended
-      by (Judged verdict) has left ended =
-          let of = command_by (Judged verdict) (λ none. none) has in
-          absurd (not_verify_make of.0 (judging_is_verify told of.0 verdict of.2) (inr (of_command IsAppend words of.0 of.1 asks)))
-      by (Shown proof) has left ended =
-          let of = command_by (Shown proof) (λ none. none) has in
-          absurd (not_show_make of.0 (showing_is told (view old).content of.0 proof of.2) (inr (of_command IsAppend words of.0 of.1 asks)))
-      by (Refused refusal) has left ended = absurd (omega (arith, ended.0))
-      by (Unserved cause) has left ended = absurd (omega (arith, ended.0))
-      by (Unreadable bad) has left ended = absurd (omega (arith, ended.0))
-      by (BadWords number) has left ended = absurd (omega (arith, ended.0))
-      by InputFault has left ended = absurd (omega (arith, ended.0))
-      by DiskFault has left ended = absurd (omega (arith, ended.0))
-      by NoMemory has left ended = absurd (omega (arith, ended.0))
-
-  pub proved : EndsNow → status ≡ 0 → AskForProof words → IsProvedRun (view old).content words taken taken_after
-  proved e is asks = by e.outcome e.has (ended_by 0 (λ four. omega arith) is e.outcome e.ends)
-    where
-      by : (outcome : Outcome) → Has outcome → EndedBy 0 outcome → IsProvedRun (view old).content words taken taken_after
-      by (Shown proof) has ended =
-          let of = command_by (Shown proof) (λ none. none) has in proved_by of.0 proof of.1 (of_command IsProve words of.0 of.1 asks) of.2 ended
-      by (Judged verdict) has ended =
-          let of = command_by (Judged verdict) (λ none. none) has in
-          absurd (not_verify_show of.0 (judging_is_verify told of.0 verdict of.2) (inr (of_command IsProve words of.0 of.1 asks)))
-      by (Made thread) has ended =
-          let of = command_by (Made thread) (λ none. none) has in
-          absurd (not_show_make of.0 (inr (of_command IsProve words of.0 of.1 asks)) (making_is told (view old).content of.0 thread of.2))
-      by (Refused refusal) has ended = absurd (omega (arith, ended.0))
-      by (Unserved cause) has ended = absurd (omega (arith, ended.0))
-      by (Unreadable bad) has ended = absurd (omega (arith, ended.0))
-      by (BadWords number) has ended = absurd (omega (arith, ended.0))
-      by InputFault has ended = absurd (omega (arith, ended.0))
-      by DiskFault has ended = absurd (omega (arith, ended.0))
-      by NoMemory has ended = absurd (omega (arith, ended.0))
-
-  -- ---- statuses 5 and 8
-
-  not_verdict : (verdict : Verdict) (n : ℕ) → (1 ≡ n → ⊥) → (0 ≡ n → ⊥) → n ≡ status_of (Judged verdict) → ⊥
-  not_verdict (Yes report) n one zeroth is = zeroth (sym is)
-  not_verdict (No reason) n one zeroth is = one (sym is)
-
-  pub disk_fault : EndsNow → status ≡ 5 → IsDiskFaultRun told disk_before disk_after words taken taken_after
-  disk_fault e is = by e.outcome e.has (ended_by 5 (λ four. omega arith) is e.outcome e.ends)
-    where
-      by : (outcome : Outcome) → Has outcome → EndedBy 5 outcome → IsDiskFaultRun told disk_before disk_after words taken taken_after
-      by DiskFault has ended =
-          let of = command_by DiskFault (λ none. none) has in
-          record { command = of.0; is_command = of.1; asked = of_option UsesDisk words of.0 of.1 (reaches_disk told of.0 of.2.0); reached = of.2.0; failed = of.2.1; written = ended.1 }
-      by (Judged verdict) has ended = absurd (not_verdict verdict 5 (λ n. omega arith) (λ n. omega arith) ended.0)
-      by (Shown proof) has ended = absurd (omega (arith, ended.0))
-      by (Made thread) has ended = absurd (omega (arith, ended.0))
-      by (Refused refusal) has ended = absurd (omega (arith, ended.0))
-      by (Unserved cause) has ended = absurd (omega (arith, ended.0))
-      by (Unreadable bad) has ended = absurd (omega (arith, ended.0))
-      by (BadWords number) has ended = absurd (omega (arith, ended.0))
-      by InputFault has ended = absurd (omega (arith, ended.0))
-      by NoMemory has ended = absurd (omega (arith, ended.0))
-
-  pub unserved : EndsNow → status ≡ 8 → IsUnservedRun told (view old).content words taken taken_after
-  unserved e is = by e.outcome e.has (ended_by 8 (λ four. omega arith) is e.outcome e.ends)
-    where
-      by : (outcome : Outcome) → Has outcome → EndedBy 8 outcome → IsUnservedRun told (view old).content words taken taken_after
-      by (Unserved cause) has ended =
-          let of = command_by (Unserved cause) (λ none. none) has in
-          record { command = of.0; cause = cause; is_command = of.1; cant = of.2; written = ended.1 }
-      by (Judged verdict) has ended = absurd (not_verdict verdict 8 (λ n. omega arith) (λ n. omega arith) ended.0)
-      by (Shown proof) has ended = absurd (omega (arith, ended.0))
-      by (Made thread) has ended = absurd (omega (arith, ended.0))
-      by (Refused refusal) has ended = absurd (omega (arith, ended.0))
-      by (Unreadable bad) has ended = absurd (omega (arith, ended.0))
-      by (BadWords number) has ended = absurd (omega (arith, ended.0))
-      by InputFault has ended = absurd (omega (arith, ended.0))
-      by DiskFault has ended = absurd (omega (arith, ended.0))
-      by NoMemory has ended = absurd (omega (arith, ended.0))
-
-  -- a disk that reads as one that stands for a history can serve every command
-  served_cause : (Meets : (pages : Image) → Head → (page : ℕ) → Type 0) (h : History) → (reads : ReadsAs (view old).content h) → (cause : StoreCause) → IsCause Meets reads.image cause → ⊥
-  served_cause Meets h reads store.Blank is = stands_opened sha256 reads.image h.name h fault.Blank reads.stands is
-  served_cause Meets h reads (store.NotAStore slot) is = stands_opened sha256 reads.image h.name h (fault.NotAStore slot) reads.stands is
-  served_cause Meets h reads (store.BadPage page) is = is.1 h reads.stands
-
-  served_command : (h : History) → ReadsAs (view old).content h → (c : Command) (cause : StoreCause) → CantServe told (view old).content c cause → ⊥
-  served_command h reads (Append dir file) cause cant = served_cause (MeetsBadLink cant.0) h reads cause (cant.2 reads.image reads.told)
-  served_command h reads (ProveEvent dir step index top) cause cant = served_cause (MeetsBadPage step index top) h reads cause (cant reads.image reads.told)
-  served_command h reads _ cause cant = cant
-
-  pub complete : EndsNow → (h : History) → ReadsAs (view old).content h → status ≡ 8 → ⊥
-  complete e h reads is = let run = unserved e is in served_command h reads run.command run.cause run.cant
-
-  -- ---- the disk
-
-  abbrev InitSafe : (name : List ℕ) → Type 0
-  InitSafe name =
-      MayBegin view name old new × Keeps view old new × SparesStore view old new
-
-  begin_safe : (dir name : List ℕ) (outcome : Outcome) → ComesToNow (Init dir name) outcome → InitLeaves view old new name outcome → InitSafe name
-  begin_safe dir name outcome comes left = by outcome comes left
-    where
-      wider : IsLeft view old new → InitSafe name
-      wider left = (
-        left_begins view as_it_reads old new name left,
-        left_keeps view old new left,
-        λ image told_image taken. left,
-      )
-
-      by : (outcome : Outcome) → ComesToNow (Init dir name) outcome → InitLeaves view old new name outcome → InitSafe name
-      by (Made thread) comes left = (
-        left.0,
-        free_keeps view as_it_reads old new comes.free,
-        λ image told_image taken. absurd (comes.free image told_image taken),
-      )
-      by DiskFault comes left = left
-      by (Judged verdict) comes left = wider left
-      by (Shown proof) comes left = wider left
-      by (Refused refusal) comes left = wider left
-      by (Unserved cause) comes left = wider left
-      by (Unreadable bad) comes left = wider left
-      by (BadWords number) comes left = wider left
-      by InputFault comes left = wider left
-      by NoMemory comes left = wider left
-
-  same_left : new ≡ old → IsLeft view old new
+  same_left : new ≡ old → Left
   same_left is = untouched_left view old new only_now is
 
-  same_keeps : new ≡ old → Keeps view old new
-  same_keeps is = left_keeps view old new (same_left is)
+  -- ---- what is known of each command that works on a disk
 
-  left_adds : (file : List ℕ) → IsLeft view old new → AddsAtMost view old new told file
-  left_adds file left = λ h. (λ reads. inl (left.1, record { image = reads.image; told = left.0 ∙ reads.told; stands = reads.stands }), λ stands. inl ((left_keeps view old new left h).0 stands).0)
+  -- where there was no memory for the text, what is left is as right for that; a run of which nothing was made and no disk failed wrote
+  -- nothing; and whatever the outcome, a crash leaves what it may
+  record Row (told : Option Files) (c : Command) : Type 0 where
+    uses : UsesDisk c
+    memory : (o : Outcome) → TakesMemory o → LeavesC told c o → LeavesC told c (Undone fault.NoMemory)
+    untouched : new ≡ old → LeavesC told c (Undone fault.NoMemory)
+    crash : (o : Outcome) → LeavesC told c o → IsCrashSafe view old new told c
+    idle : (o : Outcome) → (status_of o ≡ 0 → ⊥) → (status_of o ≡ 5 → ⊥) → LeavesC told c o → Left
 
-  append_safe : (file : List ℕ) (outcome : Outcome) → AppendLeaves view old new told file outcome
-      → AddsAtMost view old new told file
-  append_safe file (Made thread) left = λ h. (
-    λ reads. let adds = left.2.1 h in let made = adds.2 reads in inr (left.0, left.1, (adds.0, adds.1, made.1, rests_reads view as_it_reads new adds.0 h (ap (λ (n : History). n.name) adds.1) made.0)),
-    λ stands. let adds = left.2.1 h in inr (left.0, left.1, (adds.0, adds.1, adds.3 stands)),
-  )
-  append_safe file DiskFault left = λ h. (
-    λ reads. let adds = left.2 h in let made = adds.2 reads in inr (left.0, left.1, (adds.0, adds.1, made.0, made.1)),
-    λ stands. let adds = left.2 h in inr (left.0, left.1, (adds.0, adds.1, adds.3 stands)),
-  )
-  append_safe file (Judged verdict) left = left_adds file left
-  append_safe file (Shown proof) left = left_adds file left
-  append_safe file (Refused refusal) left = left_adds file left.0
-  append_safe file (Unserved cause) left = left_adds file left
-  append_safe file (Unreadable bad) left = left_adds file (same_left left)
-  append_safe file (BadWords number) left = left_adds file left
-  append_safe file InputFault left = left_adds file (same_left left)
-  append_safe file NoMemory left = left_adds file left
+  module _ (told : Option Files) where
+    init_row : (name : List ℕ) → Row told (Init name)
+    init_row name = record {
+      uses = tt;
+      memory = λ o takes came. (Err fault.NoMemory, quiet came.0 came.1 (λ is. subst TakesMemory (came.2 ∙ ap made is) takes) (λ t is. subst TakesMemory (came.2 ∙ ap made is) takes), refl);
+      untouched = λ is. (Err fault.NoMemory, same_left is, refl);
+      crash = λ o came. init_safe view old new only_now as_it_reads name came.0 came.1;
+      idle = λ o zeroth fifth came. quiet came.0 came.1 (λ is. fifth (ap status_of (came.2 ∙ ap made is))) (λ t is. zeroth (ap status_of (came.2 ∙ ap made is)));
+    }
+      where
+        quiet : (r : Result Thread CommandFault) → InitLeaves view old new name r → (r ≡ Err fault.DiskFault → ⊥) → ((t : Thread) → r ≡ Ok t → ⊥) → Left
+        quiet (Ok thread) left failed done = absurd (done thread refl)
+        quiet (Err fault.DiskFault) left failed done = absurd (failed refl)
+        quiet _ left failed done = left
 
-  safe_by : (c : Command) (outcome : Outcome) → ComesToNow c outcome → CommandLeft c outcome → IsCrashSafe view old new told c
-  safe_by (Init dir name) outcome comes left = begin_safe dir name outcome comes left
-  safe_by (Append dir file) outcome comes left = append_safe file outcome left
-  safe_by (ProveEvent dir step index top) outcome comes left = left_keeps view old new (proof_left view old new outcome left)
-  safe_by _ outcome comes left = same_keeps left
+    append_row : (file : List ℕ) → Row told (Append file)
+    append_row file = record {
+      uses = tt;
+      memory = λ o takes came. (Err fault.NoMemory, quiet came.0 came.1 (λ is. subst TakesMemory (came.2 ∙ ap made is) takes) (λ t is. subst TakesMemory (came.2 ∙ ap made is) takes), refl);
+      untouched = λ is. (Err fault.NoMemory, same_left is, refl);
+      crash = λ o came. append_safe view old new only_now as_it_reads told file came.0 came.1;
+      idle = λ o zeroth fifth came. quiet came.0 came.1 (λ is. fifth (ap status_of (came.2 ∙ ap made is))) (λ t is. zeroth (ap status_of (came.2 ∙ ap made is)));
+    }
+      where
+        quiet : (r : Result Thread CommandFault) → AppendLeaves view old new told file r → (r ≡ Err fault.DiskFault → ⊥) → ((t : Thread) → r ≡ Ok t → ⊥) → Left
+        quiet (Ok thread) left failed done = absurd (done thread refl)
+        quiet (Err fault.DiskFault) left failed done = absurd (failed refl)
+        quiet (Err (fault.Refused refusal)) left failed done = left.0
+        quiet (Err (fault.Unreadable bad)) left failed done = same_left left
+        quiet (Err fault.InputFault) left failed done = same_left left
+        quiet _ left failed done = left
 
-  comes_by : (c : Command) (outcome : Outcome) → command_of words ≡ Some c → Has outcome → ComesToNow c outcome
-  comes_by c outcome is has = subst (λ (o : Option Command). MatchOption o (HaveNoForm words outcome) (λ d. ComesToNow d outcome)) is has
+    prove_row : (step index : ℕ) (top : Option ℕ) → Row told (ProveEvent step index top)
+    prove_row step index top = record {
+      uses = tt;
+      memory = λ o takes came. (Err fault.NoMemory, prove_left view old new came.0 came.1, refl);
+      untouched = λ is. (Err fault.NoMemory, same_left is, refl);
+      crash = λ o came. left_keeps view old new (prove_left view old new came.0 came.1);
+      idle = λ o zeroth fifth came. prove_left view old new came.0 came.1;
+    }
 
-  pub crash : EndsNow → (c : Command) → command_of words ≡ Some c → IsCrashSafe view old new told c
-  crash e c is = safe_by c e.outcome (comes_by c e.outcome is e.has) (left_by c e.outcome is e.leaves)
+    -- the row of a command, or it leaves the disk untouched
+    record Without (c : Command) : Type 0 where
+      unused : UsesDisk c → ⊥
+      same : (o : Outcome) → LeavesC told c o → new ≡ old
+      left : new ≡ old → (o : Outcome) → LeavesC told c o
+      safe : Keeps view old new → IsCrashSafe view old new told c
 
-  -- the statuses of outcomes that make nothing, and after which no disk failed
-  abbrev MakesNothing : Outcome → Type 0
-  MakesNothing (Made thread) = ⊥
-  MakesNothing DiskFault = ⊥
-  MakesNothing _ = Unit {0}
+    rows : (c : Command) → Row told c ⊎ Without c
+    rows (Init name) = inl (init_row name)
+    rows (Append file) = inl (append_row file)
+    rows (ProveEvent step index top) = inl (prove_row step index top)
+    rows _ = inr (record { unused = λ no. no; same = λ o is. is; left = λ is o. is; safe = λ keeps. keeps })
 
-  nothing_made : (status ≡ 0 → ⊥) → (status ≡ 4 → ⊥) → (status ≡ 5 → ⊥) → (outcome : Outcome) → EndsWith taken taken_after faults faults_after status outcome → MakesNothing outcome
-  nothing_made zeroth fourth fifth outcome (inr ends) = absurd (fourth ends.0)
-  nothing_made zeroth fourth fifth (Made thread) (inl ends) = zeroth ends.0
-  nothing_made zeroth fourth fifth DiskFault (inl ends) = fifth ends.0
-  nothing_made zeroth fourth fifth _ (inl ends) = tt
+    memory_leaves_of : (c : Command) (o : Outcome) → TakesMemory o → LeavesC told c o → LeavesC told c (Undone fault.NoMemory)
+    memory_leaves_of c o takes came = ⊎_elim (λ row. row.memory o takes came) (λ un. un.left (un.same o came) (Undone fault.NoMemory)) (rows c)
 
-  unwritten_by : (c : Command) (outcome : Outcome) → MakesNothing outcome → UsesDisk c → CommandLeft c outcome → IsLeft view old new
-  unwritten_by (Init dir name) outcome nothing uses left = by outcome nothing left
-    where
-      by : (outcome : Outcome) → MakesNothing outcome → InitLeaves view old new name outcome → IsLeft view old new
-      by (Made thread) nothing left = absurd nothing
-      by DiskFault nothing left = absurd nothing
-      by (Judged verdict) nothing left = left
-      by (Shown proof) nothing left = left
-      by (Refused refusal) nothing left = left
-      by (Unserved cause) nothing left = left
-      by (Unreadable bad) nothing left = left
-      by (BadWords number) nothing left = left
-      by InputFault nothing left = left
-      by NoMemory nothing left = left
-  unwritten_by (Append dir file) outcome nothing uses left = by outcome nothing left
-    where
-      by : (outcome : Outcome) → MakesNothing outcome → AppendLeaves view old new told file outcome → IsLeft view old new
-      by (Made thread) nothing left = absurd nothing
-      by DiskFault nothing left = absurd nothing
-      by (Judged verdict) nothing left = left
-      by (Shown proof) nothing left = left
-      by (Refused refusal) nothing left = left.0
-      by (Unserved cause) nothing left = left
-      by (Unreadable bad) nothing left = untouched_left view old new only_now left
-      by (BadWords number) nothing left = left
-      by InputFault nothing left = untouched_left view old new only_now left
-      by NoMemory nothing left = left
-  unwritten_by (ProveEvent dir step index top) outcome nothing uses left = proof_left view old new outcome left
-  unwritten_by _ outcome nothing uses left = absurd uses
+    no_memory_of : new ≡ old → (c : Command) → LeavesC told c (Undone fault.NoMemory)
+    no_memory_of is c = ⊎_elim (λ row. row.untouched is) (λ un. un.left is (Undone fault.NoMemory)) (rows c)
 
-  pub unwritten : EndsNow → (status ≡ 0 → ⊥) → (status ≡ 4 → ⊥) → (status ≡ 5 → ⊥) → AskForDisk words → IsLeft view old new
-  unwritten e zeroth fourth fifth asks = by (command_of words) refl asks
-    where
-      by : (o : Option Command) → command_of words ≡ o → MatchOption o ⊥ UsesDisk → IsLeft view old new
-      by None is asks = absurd asks
-      by (Some c) is asks = unwritten_by c e.outcome (nothing_made zeroth fourth fifth e.outcome e.ends) asks (left_by c e.outcome is e.leaves)
+    pub other_of : new ≡ old → (c : Command) (o : Outcome) → (UsesDisk c → ⊥) → LeavesC told c o
+    other_of is c o other = ⊎_elim (λ row. absurd (other row.uses)) (λ un. un.left is o) (rows c)
 
-  pub kept : EndsNow → (status ≡ 0 → ⊥) → (status ≡ 4 → ⊥) → (status ≡ 5 → ⊥) → AskForDisk words → Keeps view old new
-  kept e zeroth fourth fifth asks = left_keeps view old new (unwritten e zeroth fourth fifth asks)
+    crash_by : (c : Command) (o : Outcome) → LeavesC told c o → IsCrashSafe view old new told c
+    crash_by c o came = ⊎_elim (λ row. row.crash o came) (λ un. un.safe (left_keeps view old new (same_left (un.same o came)))) (rows c)
 
-  pub proving : EndsNow → AskForProof words → IsLeft view old new
-  proving e asks = by (command_of words) refl asks
-    where
-      by : (o : Option Command) → command_of words ≡ o → MatchOption o ⊥ IsProve → IsLeft view old new
-      by None is asks = absurd asks
-      by (Some c) is asks =
-          let of = is_prove c asks in
-          proof_left view old new e.outcome (left_by (ProveEvent of.dir of.step of.index of.top) e.outcome (is ∙ ap (λ (d : Command). Some d) of.is) e.leaves)
+    untouched_by : (c : Command) (o : Outcome) → (UsesDisk c → ⊥) → LeavesC told c o → new ≡ old
+    untouched_by c o other came = ⊎_elim (λ row. absurd (other row.uses)) (λ un. un.same o came) (rows c)
 
-  -- a command that was answered over a disk that reads as a history made it stable
-  zero_or_seven : (n k : ℕ) → (n ≡ 0) ⊎ (n ≡ 7) → (k ≡ 0 → ⊥) → (k ≡ 7 → ⊥) → n ≡ k → ⊥
-  zero_or_seven n k (inl is) zeroth seventh same = zeroth (sym same ∙ is)
-  zero_or_seven n k (inr is) zeroth seventh same = seventh (sym same ∙ is)
+    idle_by : (c : Command) (o : Outcome) → UsesDisk c → (status_of o ≡ 0 → ⊥) → (status_of o ≡ 5 → ⊥) → LeavesC told c o → Left
+    idle_by c o uses zeroth fifth came = ⊎_elim (λ row. row.idle o zeroth fifth came) (λ un. absurd (un.unused uses)) (rows c)
 
-  settles_proof : (n : ℕ) → (n ≡ 0) ⊎ (n ≡ 7) → (c : Command) → IsProve c → (outcome : Outcome) → ComesToNow c outcome → CommandLeft c outcome → n ≡ status_of outcome
-      → Settles view old new
-  settles_proof n which (ProveEvent dir step index top) prove outcome comes left same = by outcome comes left same
-    where
-      by : (outcome : Outcome) → ComesToNow (ProveEvent dir step index top) outcome → CommandLeft (ProveEvent dir step index top) outcome → n ≡ status_of outcome
-          → Settles view old new
-      by (Shown proof) comes left same = left.1
-      by (Refused refusal) comes left same = left.1
-      by (Judged verdict) comes left same = absurd (judging_is_verify told (ProveEvent dir step index top) verdict comes)
-      by (Made thread) comes left same = absurd comes
-      by (Unserved cause) comes left same = absurd (zero_or_seven n 8 which (λ k. omega arith) (λ k. omega arith) same)
-      by (Unreadable bad) comes left same = absurd comes
-      by (BadWords number) comes left same = absurd (comes.1 tt)
-      by InputFault comes left same = absurd comes.1
-      by DiskFault comes left same = absurd (zero_or_seven n 5 which (λ k. omega arith) (λ k. omega arith) same)
-      by NoMemory comes left same = absurd (zero_or_seven n 6 which (λ k. omega arith) (λ k. omega arith) same)
-  settles_proof n which _ prove outcome comes left same = absurd prove
+    pub memory_leaves : (words : List (List ℕ)) (o : Outcome) → Leaves view old new told words o → TakesMemory o → Leaves view old new told words (Undone fault.NoMemory)
+    memory_leaves words o leaves takes = by (command_of words) leaves
+      where
+        by : (option : Option Command) → MatchOption option (new ≡ old) (λ c. LeavesC told c o) → MatchOption option (new ≡ old) (λ c. LeavesC told c (Undone fault.NoMemory))
+        by None leaves = leaves
+        by (Some c) leaves = memory_leaves_of c o takes leaves
 
-  settles_step : (c : Command) → IsAppend c → (outcome : Outcome) → ComesToNow c outcome → CommandLeft c outcome → 7 ≡ status_of outcome
-      → Settles view old new
-  settles_step (Append dir file) append outcome comes left same = by outcome comes left same
-    where
-      by : (outcome : Outcome) → ComesToNow (Append dir file) outcome → CommandLeft (Append dir file) outcome → 7 ≡ status_of outcome
-          → Settles view old new
-      by (Refused refusal) comes left same = left.1
-      by (Shown proof) comes left same = absurd comes
-      by (Judged verdict) comes left same = absurd (judging_is_verify told (Append dir file) verdict comes)
-      by (Made thread) comes left same = absurd (omega (arith, same))
-      by (Unserved cause) comes left same = absurd (omega (arith, same))
-      by (Unreadable bad) comes left same = absurd (omega (arith, same))
-      by (BadWords number) comes left same = absurd (comes.1 tt)
-      by InputFault comes left same = absurd (omega (arith, same))
-      by DiskFault comes left same = absurd (omega (arith, same))
-      by NoMemory comes left same = absurd (omega (arith, same))
-  settles_step _ append outcome comes left same = absurd append
+    pub no_memory_leaves : (words : List (List ℕ)) → new ≡ old → Leaves view old new told words (Undone fault.NoMemory)
+    no_memory_leaves words is = by (command_of words)
+      where
+        by : (o : Option Command) → MatchOption o (new ≡ old) (λ c. LeavesC told c (Undone fault.NoMemory))
+        by None = is
+        by (Some c) = no_memory_of is c
 
-  pub settled_proof : EndsNow → (n : ℕ) → (n ≡ 0) ⊎ (n ≡ 7) → status ≡ n → AskForProof words → Settles view old new
-  settled_proof e n which is asks = by (command_of words) refl asks
-    where
-      by : (o : Option Command) → command_of words ≡ o → MatchOption o ⊥ IsProve → Settles view old new
-      by None made asks = absurd asks
-      by (Some c) made asks =
-          settles_proof n which c asks e.outcome (comes_by c e.outcome made e.has) (left_by c e.outcome made e.leaves)
-          (ended_by n (λ four. zero_or_seven n 4 which (λ k. omega arith) (λ k. omega arith) four) is e.outcome e.ends).0
+  -- an answer that was made or refused leaves a stable disk
+  abbrev IsAnswered : ℕ → Type 0
+  IsAnswered n = (n ≡ 0) ⊎ (n ≡ 7)
 
-  settled_step : EndsNow → status ≡ 7 → AskForStep words → Settles view old new
-  settled_step e is asks = by (command_of words) refl asks
-    where
-      by : (o : Option Command) → command_of words ≡ o → MatchOption o ⊥ IsAppend → Settles view old new
-      by None made asks = absurd asks
-      by (Some c) made asks =
-          settles_step c asks e.outcome (comes_by c e.outcome made e.has) (left_by c e.outcome made e.leaves)
-          (ended_by 7 (λ four. omega arith) is e.outcome e.ends).0
+  not_answered : (n : ℕ) → (n ≡ 0 → ⊥) → (n ≡ 7 → ⊥) → IsAnswered n → ⊥
+  not_answered n zeroth seventh is = ⊎_elim zeroth seventh is
 
-  pub settled : EndsNow → (status ≡ 0 → AskForProof words → Settles view old new)
-      × (status ≡ 7 → AskForStep words ⊎ AskForProof words → Settles view old new)
-  settled e = (
-    λ is asks. settled_proof e 0 (inl refl) is asks,
-    λ is. ⊎_elim (λ asks. settled_step e is asks) (λ asks. settled_proof e 7 (inr refl) is asks),
-  )
+  prove_settles : (r : Result (List ℕ) CommandFault) → ProveLeaves view old new r → IsAnswered (status_of (proved r)) → Settles view old new
+  prove_settles (Ok proof) left is = left.1
+  prove_settles (Err (fault.Refused refusal)) left is = left.1
+  prove_settles (Err (fault.Unserved cause)) left is = absurd (not_answered 8 (λ k. omega arith) (λ k. omega arith) is)
+  prove_settles (Err (fault.Unreadable bad)) left is = absurd (not_answered 9 (λ k. omega arith) (λ k. omega arith) is)
+  prove_settles (Err fault.InputFault) left is = absurd (not_answered 3 (λ k. omega arith) (λ k. omega arith) is)
+  prove_settles (Err fault.DiskFault) left is = absurd (not_answered 5 (λ k. omega arith) (λ k. omega arith) is)
+  prove_settles (Err fault.NoMemory) left is = absurd (not_answered 6 (λ k. omega arith) (λ k. omega arith) is)
 
-  untouched_by : (c : Command) (outcome : Outcome) → (UsesDisk c → ⊥) → CommandLeft c outcome → new ≡ old
-  untouched_by (Init dir name) outcome other left = absurd (other tt)
-  untouched_by (Append dir file) outcome other left = absurd (other tt)
-  untouched_by (ProveEvent dir step index top) outcome other left = absurd (other tt)
-  untouched_by _ outcome other left = left
+  append_settles : (told : Option Files) (file : List ℕ) (r : Result Thread CommandFault) → AppendLeaves view old new told file r → status_of (made r) ≡ 7 → Settles view old new
+  append_settles told file (Err (fault.Refused refusal)) left is = left.1
+  append_settles told file _ left is = absurd (omega (arith, is))
 
-  pub untouched : EndsNow → (AskForDisk words → ⊥) → new ≡ old
-  untouched e other = by (command_of words) refl e.leaves
-    where
-      by : (o : Option Command) → command_of words ≡ o → MatchOption o (new ≡ old) (λ c. CommandLeft c e.outcome) → new ≡ old
-      by None is left = left
-      by (Some c) is left = untouched_by c e.outcome (λ uses. other (of_option UsesDisk words c is uses)) left
+  module _ (a : Around) (status : ℕ) (outcome : Outcome) (e : EndsAs a status outcome) (leaves : Leaves view old new a.met.inputs.told a.words outcome) where
+    left_by : (c : Command) → command_of a.words ≡ Some c → LeavesC a.met.inputs.told c outcome
+    left_by c is = subst (λ (o : Option Command). MatchOption o (new ≡ old) (λ d. LeavesC a.met.inputs.told d outcome)) is leaves
+
+    pub crash : (c : Command) → command_of a.words ≡ Some c → IsCrashSafe view old new a.met.inputs.told c
+    crash c is = crash_by a.met.inputs.told c outcome (left_by c is)
+
+    pub untouched : (AreOf UsesDisk a.words → ⊥) → new ≡ old
+    untouched other = by (command_of a.words) refl leaves
+      where
+        by : (o : Option Command) → command_of a.words ≡ o → MatchOption o (new ≡ old) (λ c. LeavesC a.met.inputs.told c outcome) → new ≡ old
+        by None is left = left
+        by (Some c) is left = untouched_by a.met.inputs.told c outcome (λ uses. other (of_option UsesDisk a.words c is uses)) left
+
+    -- the status of a result, where it is none of the sink's
+    status_is : (o : Outcome) → outcome ≡ o → (status ≡ 4 → ⊥) → status ≡ status_of o
+    status_is o is other = (told_of a status outcome e o is other).0
+
+    idle : IsIdle status → (c : Command) → UsesDisk c → LeavesC a.met.inputs.told c outcome → Left
+    idle is c uses came =
+        let same = status_is outcome refl is.1 in idle_by a.met.inputs.told c outcome uses (λ zeroth. is.0 (same ∙ zeroth)) (λ fifth. is.2 (same ∙ fifth)) came
+
+    proof_left : (c : Command) → OnlyReads c → LeavesC a.met.inputs.told c outcome → Left
+    proof_left (ProveEvent step index top) is of = prove_left view old new of.0 of.1
+    proof_left _ is of = absurd is
+
+    proof_settles : IsAnswered status → (status ≡ 4 → ⊥) → (c : Command) → OnlyReads c → LeavesC a.met.inputs.told c outcome → Settles view old new
+    proof_settles is other (ProveEvent step index top) prove of = prove_settles of.0 of.1 (subst IsAnswered (status_is (proved of.0) of.2 other) is)
+    proof_settles is other _ prove of = absurd prove
+
+    step_settles : status ≡ 7 → (c : Command) → IsAppend c → LeavesC a.met.inputs.told c outcome → Settles view old new
+    step_settles is (Append file) append of =
+        append_settles a.met.inputs.told file of.0 of.1 (sym (status_is (made of.0) of.2 (λ four. omega (arith, is, four))) ∙ is)
+    step_settles is _ append of = absurd append
+
+    -- what holds of what the command left, where the words are of a command for which P holds
+    of_left : {Q : Type 0} (P : Command → Type 0) → ((c : Command) → P c → LeavesC a.met.inputs.told c outcome → Q) → MatchOption (command_of a.words) ⊥ P → Q
+    of_left {Q} P then asks = by (command_of a.words) leaves asks
+      where
+        by : (o : Option Command) → MatchOption o (new ≡ old) (λ c. LeavesC a.met.inputs.told c outcome) → MatchOption o ⊥ P → Q
+        by None left asks = absurd asks
+        by (Some c) left asks = then c asks left
+
+    pub unwritten : (AreOf UsesDisk a.words × IsIdle status) ⊎ AreOf OnlyReads a.words → Left
+    unwritten (inl asks) = of_left UsesDisk (idle asks.1) asks.0
+    unwritten (inr asks) = of_left OnlyReads proof_left asks
+
+    pub settled : (AreOf OnlyReads a.words × (status ≡ 0)) ⊎ ((AreOf IsAppend a.words ⊎ AreOf OnlyReads a.words) × (status ≡ 7)) → Settles view old new
+    settled (inl asks) = of_left OnlyReads (proof_settles (inl asks.1) (zero_not_four status asks.1)) asks.0
+    settled (inr asks) =
+        ⊎_elim (λ step. of_left IsAppend (step_settles asks.1) step) (λ proof. of_left OnlyReads (proof_settles (inr asks.1) (λ four. omega (arith, asks.1, four))) proof) asks.0
+
+    -- ---- status 0 of words that make a service or a step
+
+    pub initialised : status ≡ 0 → (name : List ℕ) → command_of a.words ≡ Some (Init name)
+        → (thread : Thread) × MakesService a.met.disk.found name thread × Begins view name old new × Writes a (anchor_text thread)
+    initialised zeroth name is =
+        let comes = comes_by a status outcome e (Init name) is in
+        let left = left_by (Init name) is in
+        by comes.0 comes.1 (told_of a status outcome e (made comes.0) comes.2 (zero_not_four status zeroth)) left.0 left.1 (status_is (made left.0) left.2 (zero_not_four status zeroth))
+      where
+        by : (r : Result Thread CommandFault) → InitComes a.met.disk name r → Told a status outcome e (made r)
+            → (s : Result Thread CommandFault) → InitLeaves view old new name s → status ≡ status_of (made s)
+            → (thread : Thread) × MakesService a.met.disk.found name thread × Begins view name old new × Writes a (anchor_text thread)
+        by (Ok thread) comes ended (Ok other) left same = (thread, comes, left.0, ended.1)
+        by (Ok thread) comes ended (Err f) left same = absurd (fault_not_zero f (sym same ∙ zeroth))
+        by (Err f) comes ended s left same = absurd (fault_not_zero f (sym ended.0 ∙ zeroth))
+
+    pub appended : status ≡ 0 → (file : List ℕ) → command_of a.words ≡ Some (Append file)
+        → (thread : Thread) × OfEvents a.met.inputs.told file (λ events. AddsStep (view old).content events thread × Adds view (AppendCall events) old new) × Writes a (anchor_text thread)
+    appended zeroth file is = let left = left_by (Append file) is in by left.0 left.1 (told_of a status outcome e (made left.0) left.2 (zero_not_four status zeroth))
+      where
+        by : (r : Result Thread CommandFault) → AppendLeaves view old new a.met.inputs.told file r → Told a status outcome e (made r)
+            → (thread : Thread) × OfEvents a.met.inputs.told file (λ events. AddsStep (view old).content events thread × Adds view (AppendCall events) old new) × Writes a (anchor_text thread)
+        by (Ok thread) left ended = (thread, left, ended.1)
+        by (Err f) left ended = absurd (fault_not_zero f (sym ended.0 ∙ zeroth))

@@ -1,13 +1,4 @@
-pub mod CommandWords
-pub mod AnchorFronts
-pub mod Outcomes
-pub mod Histories
-pub mod EventFiles
-pub mod AtRest
-pub mod Openings
-pub mod Steps
-pub mod EventProofs
-pub mod Landings
+pub mod Commands
+pub mod Words
 pub mod Endings
 pub mod DiskEndings
-pub mod OneAnswer

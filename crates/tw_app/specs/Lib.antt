@@ -1,16 +1,5 @@
+pub mod Around
 pub mod Commands
 pub mod Outcomes
-pub mod Verifying
-pub mod Showing
-pub mod Disks
-pub mod Making
-pub mod Appending
-pub mod Proving
-pub mod BadInputs
-pub mod ServiceFaults
 pub mod Running
-pub mod Stepping
-pub mod Agreeing
-pub mod Leaving
 pub mod Statuses
-pub mod DiskStatuses

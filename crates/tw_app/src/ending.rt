@@ -1,31 +1,31 @@
 // How a run ends.
 
-ghost use Rattle.std.specs.Prelude.{◌≡◌, ◌⊎◌, ℕ, List, Some, map, string_bytes, IfSome};
-ghost use Rattle.tw_base.specs.History.{History};
+ghost use Rattle.std.specs.Prelude.{◌≡◌, ◌⊎◌, map, string_bytes, Some, IfSome};
 ghost use Rattle.tw_base.specs.Lists.{Each};
 ghost use Rattle.tw_base.specs.Faults.{Rose};
+ghost use Rattle.tw_diskcmd.specs.Disks.{IsLeft, Settles, touched};
+ghost use Rattle.tw_outside.specs.Asked.{asked};
 ghost use Rattle.tw_outside.specs.TakenBytes.{Appends, AppendsPart};
 ghost use Rattle.tw_text.specs.CommandLine.{command_of};
 ghost use Rattle.tw_text.specs.declared.command.Command.{Command};
-ghost use Rattle.tw_text.specs.Lines.{anchor_text, no_memory_text};
-ghost use Rattle.tw_app.specs.declared.outcome.Outcome.TheVariants.{NoMemory as NoMemoryOutcome};
-ghost use Rattle.tw_app.specs.Commands.{files_of};
+ghost use Rattle.tw_text.specs.Lines.{anchor_text};
+ghost use Rattle.tw_app.specs.declared.outcome.Outcome.TheVariants.{Undone};
+ghost use Rattle.tw_text.specs.declared.fault.CommandFault.TheVariants.{NoMemory as NoMemoryFault};
+ghost use Rattle.tw_app.specs.Around.{around, met, span};
+ghost use Rattle.tw_app.specs.Commands.{UsesDisk, files_of};
 ghost use Rattle.tw_app.specs.Outcomes.{TakesMemory, status_of as status_of_outcome};
-ghost use Rattle.tw_app.specs.Disks.{IsLeft, Keeps, ReadsAs, Settles};
-ghost use Rattle.tw_app.specs.DiskStatuses.{IsAppendedRun, IsCrashSafe, IsDiskFaultRun, IsMadeRun, IsProvedRun, IsUnservedRun};
-ghost use Rattle.tw_app.specs.Leaving.{Leaves};
-ghost use Rattle.tw_app.specs.Running.{Ends, EndsWith};
-ghost use Rattle.tw_app.specs.Statuses.{AreBuilt, AskForDisk, AskForEvent, AskForProof, AskForService, AskForStep, AskForVerdict, IsAcceptedRun, IsFaultRun, IsRefusedRun, IsRejectedRun, IsShownRun, IsStatus, IsUnreadableRun, IsUsageRun};
+ghost use Rattle.tw_app.specs.Running.{EndsLeaving, EndsWith, IsCrashSafe, Leaves};
+ghost use Rattle.tw_app.specs.Statuses.{AreOf, IsAcceptedRun, IsAppend, IsIdle, IsStatus, IsVerify, OnlyReads};
 
-use crate::following::follow_words;
-use crate::outcome::{Outcome, Worked};
+use crate::following::{Followed, follow_words};
+use crate::outcome::Outcome;
 use crate::printing::print;
 use std::alloc::Global;
 use tw_base::{NoMemory, Thread};
 use tw_chain::Verdict;
 use tw_disk::Disk;
 use tw_outside::{Inputs, Sink, write_all};
-use tw_text::{anchor_line, fault_disk, fault_input, no_memory};
+use tw_text::{CommandFault, anchor_line, fault_disk, fault_input, fault_status, no_memory};
 
 /// Status 4: the sink failed.
 const OUTPUT_FAULT: u8 = 4;
@@ -56,30 +56,25 @@ fn status_of(outcome: &Outcome) -> u8
     ensures { result ≡ status_of_outcome outcome.now }
 {
     match outcome {
-        Outcome::Judged(Verdict::Yes(_)) | Outcome::Shown(_) | Outcome::Made(_) => 0,
+        Outcome::Judged(Verdict::Yes(_)) | Outcome::Proof(_) | Outcome::Made(_) => 0,
         Outcome::Judged(Verdict::No(_)) => 1,
         Outcome::BadWords { .. } => 2,
-        Outcome::InputFault => 3,
-        Outcome::DiskFault => 5,
-        Outcome::NoMemory => 6,
-        Outcome::Refused(_) => 7,
-        Outcome::Unserved(_) => 8,
-        Outcome::Unreadable(_) => 9,
+        Outcome::Undone(fault) => fault_status(fault),
     }
 }
 
 /// Writes the text of the outcome and answers its status; or those of want of memory, where there is
 /// no memory for its text. What became of the disk, a step that was made or a fault, takes none.
 fn conclude<S: Sink>(alloc: Global, outcome: &Outcome, out: &mut S) -> u8
-    ensures { EndsWith (S.taken out.old) (S.taken out.new) (S.faults out.old) (S.faults out.new) result outcome.now
-        ⊎ (TakesMemory outcome.now × EndsWith (S.taken out.old) (S.taken out.new) (S.faults out.old) (S.faults out.new) result NoMemoryOutcome) }
+    ensures { EndsWith (span (S.taken out.old) (S.taken out.new)) (span (S.faults out.old) (S.faults out.new)) result outcome.now
+        ⊎ (TakesMemory outcome.now × EndsWith (span (S.taken out.old) (S.taken out.new)) (span (S.faults out.old) (S.faults out.new)) result (Undone NoMemoryFault)) }
 {
     match outcome {
-        Outcome::InputFault => tell(out, 3, fault_input()),
-        Outcome::DiskFault => tell(out, 5, fault_disk()),
+        Outcome::Undone(CommandFault::InputFault) => tell(out, 3, fault_input()),
+        Outcome::Undone(CommandFault::DiskFault) => tell(out, 5, fault_disk()),
+        Outcome::Undone(CommandFault::NoMemory) => tell(out, 6, no_memory()),
         Outcome::Made(thread) => tell_thread(out, thread),
-        Outcome::NoMemory => tell(out, 6, no_memory()),
-        Outcome::Shown(proof) => tell(out, 0, proof.as_slice()),
+        Outcome::Proof(proof) => tell(out, 0, proof.as_slice()),
         _ => match print(alloc, outcome) {
             Ok(text) => tell(out, status_of(outcome), text.as_slice()),
             Err(NoMemory) => tell(out, 6, no_memory()),
@@ -103,11 +98,12 @@ fn run_to_the_end<D: Disk, I: Inputs, S: Sink>(
     out: &mut S,
 ) -> Ran<D>
     requires { IfSome (command_of (map string_bytes words.now)) (λ command. Each (I.may_ask inputs.old) (files_of command)) }
-    ensures { Ends (I.told inputs.old) (I.faults inputs.old) (I.faults inputs.new) (D.view disk).content (D.view disk).faults (D.view result.disk).faults
-        (map string_bytes words.now) (S.taken out.old) (S.taken out.new) (S.faults out.old) (S.faults out.new)
-        (Leaves D.view disk result.disk (I.told inputs.old) (map string_bytes words.now)) result.status }
+    ensures { EndsLeaving (around (map string_bytes words.now)
+        (met (asked (I.told inputs.old) (I.faults inputs.old) (I.faults inputs.new)) (touched (D.view disk).content (D.view disk).faults (D.view result.disk).faults))
+        (span (S.taken out.old) (S.taken out.new)) (span (S.faults out.old) (S.faults out.new)))
+        result.status (Leaves D.view disk result.disk (I.told inputs.old) (map string_bytes words.now)) }
 {
-    let Worked { outcome, disk } = follow_words(alloc, words, disk, inputs);
+    let Followed { outcome, disk } = follow_words(alloc, words, disk, inputs);
     let status = conclude(alloc, &outcome, out);
     Ran { status, disk }
 }
@@ -140,49 +136,28 @@ pub fn run<D: Disk, I: Inputs, S: Sink>(
     out: &mut S,
 ) -> Ran<D>
     requires { IfSome (command_of (map string_bytes words.now)) (λ command. Each (I.may_ask inputs.old) (files_of command)) }
-    ensures ends { Ends (I.told inputs.old) (I.faults inputs.old) (I.faults inputs.new) (D.view disk).content (D.view disk).faults (D.view result.disk).faults
-        (map string_bytes words.now) (S.taken out.old) (S.taken out.new) (S.faults out.old) (S.faults out.new)
-        (Leaves D.view disk result.disk (I.told inputs.old) (map string_bytes words.now)) result.status }
+    // It ends as its command allows, and leaves the disk so; `status_laws` and `disk_status_laws` say what each status then means.
+    ensures ends { EndsLeaving (around (map string_bytes words.now)
+        (met (asked (I.told inputs.old) (I.faults inputs.old) (I.faults inputs.new)) (touched (D.view disk).content (D.view disk).faults (D.view result.disk).faults))
+        (span (S.taken out.old) (S.taken out.new)) (span (S.faults out.old) (S.faults out.new)))
+        result.status (Leaves D.view disk result.disk (I.told inputs.old) (map string_bytes words.now)) }
 
-    // Status 0, by what the words ask for.
-    ensures built { result.status ≡ 0 → AreBuilt (map string_bytes words.now) }
-    ensures accepted { result.status ≡ 0 → AskForVerdict (map string_bytes words.now)
+    // An accepted proof's claim holds, or a collision is at hand.
+    ensures accepted { result.status ≡ 0 → AreOf IsVerify (map string_bytes words.now)
         → IsAcceptedRun (I.told inputs.old) (map string_bytes words.now) (S.taken out.old) (S.taken out.new) }
-    ensures shown { result.status ≡ 0 → AskForEvent (map string_bytes words.now)
-        → IsShownRun (I.told inputs.old) (D.view disk).content (map string_bytes words.now) (S.taken out.old) (S.taken out.new) }
-    ensures initialised { result.status ≡ 0 → AskForService (map string_bytes words.now)
-        → IsMadeRun D.view disk result.disk (map string_bytes words.now) (S.taken out.old) (S.taken out.new) }
-    ensures appended { result.status ≡ 0 → AskForStep (map string_bytes words.now)
-        → IsAppendedRun D.view disk result.disk (I.told inputs.old) (map string_bytes words.now) (S.taken out.old) (S.taken out.new) }
-    ensures proved { result.status ≡ 0 → AskForProof (map string_bytes words.now)
-        → IsProvedRun (D.view disk).content (map string_bytes words.now) (S.taken out.old) (S.taken out.new) }
-
-    // The other statuses.
-    ensures rejected { result.status ≡ 1 → IsRejectedRun (I.told inputs.old) (map string_bytes words.now) (S.taken out.old) (S.taken out.new) }
-    ensures usage { result.status ≡ 2 → IsUsageRun (map string_bytes words.now) (S.taken out.old) (S.taken out.new) }
-    ensures input_fault { result.status ≡ 3 → IsFaultRun (I.faults inputs.old) (I.faults inputs.new) (map string_bytes words.now) (S.taken out.old) (S.taken out.new) }
-    ensures output_fault { result.status ≡ 4 → Rose (S.faults out.old) (S.faults out.new) }
-    ensures disk_fault { result.status ≡ 5 → IsDiskFaultRun (I.told inputs.old) (D.view disk).faults (D.view result.disk).faults (map string_bytes words.now) (S.taken out.old) (S.taken out.new) }
-    ensures no_memory { result.status ≡ 6 → Appends (S.taken out.old) (S.taken out.new) no_memory_text }
-    ensures refused { result.status ≡ 7 → IsRefusedRun (I.told inputs.old) (D.view disk).content (map string_bytes words.now) (S.taken out.old) (S.taken out.new) }
-    ensures store { result.status ≡ 8 → IsUnservedRun (I.told inputs.old) (D.view disk).content (map string_bytes words.now) (S.taken out.old) (S.taken out.new) }
-    ensures complete { (h : History) → ReadsAs (D.view disk).content h → result.status ≡ 8 → ⊥ }
-    ensures unreadable { result.status ≡ 9 → IsUnreadableRun (I.told inputs.old) (map string_bytes words.now) (S.taken out.old) (S.taken out.new) }
     ensures statuses { IsStatus result.status }
 
-    // The disk: whatever the status, a crash at any moment leaves the history or the longer one; a command without a directory
-    // hands the disk back as it is.
+    // The disk: whatever the status, a crash at any moment leaves the history or the longer one; nothing is written where nothing was
+    // made and no disk failed, nor by a command that only reads; a proof that was made and what was refused leave a stable disk; a
+    // command without a directory hands it back as it is.
     ensures crash { (command : Command) → command_of (map string_bytes words.now) ≡ Some command
         → IsCrashSafe D.view disk result.disk (I.told inputs.old) command }
-    ensures kept { (result.status ≡ 0 → ⊥) → (result.status ≡ 4 → ⊥) → (result.status ≡ 5 → ⊥)
-        → AskForDisk (map string_bytes words.now) → Keeps D.view disk result.disk }
-    ensures unwritten { (result.status ≡ 0 → ⊥) → (result.status ≡ 4 → ⊥) → (result.status ≡ 5 → ⊥)
-        → AskForDisk (map string_bytes words.now) → IsLeft D.view disk result.disk }
-    ensures proving { AskForProof (map string_bytes words.now) → IsLeft D.view disk result.disk }
-    ensures settled { (result.status ≡ 0 → AskForProof (map string_bytes words.now) → Settles D.view disk result.disk)
-        × (result.status ≡ 7 → AskForStep (map string_bytes words.now) ⊎ AskForProof (map string_bytes words.now)
-        → Settles D.view disk result.disk) }
-    ensures untouched { (AskForDisk (map string_bytes words.now) → ⊥) → result.disk ≡ disk }
+    ensures unwritten { (AreOf UsesDisk (map string_bytes words.now) × IsIdle result.status) ⊎ AreOf OnlyReads (map string_bytes words.now)
+        → IsLeft D.view disk result.disk }
+    ensures settled { (AreOf OnlyReads (map string_bytes words.now) × (result.status ≡ 0))
+        ⊎ ((AreOf IsAppend (map string_bytes words.now) ⊎ AreOf OnlyReads (map string_bytes words.now)) × (result.status ≡ 7))
+        → Settles D.view disk result.disk }
+    ensures untouched { (AreOf UsesDisk (map string_bytes words.now) → ⊥) → result.disk ≡ disk }
 {
     run_to_the_end(alloc, words, disk, inputs, out)
 }

@@ -1,23 +1,28 @@
 // From words to what they come to.
 
-ghost use Rattle.std.specs.Prelude.{◌≡◌, ℕ, List, map, string_bytes, Some, IfSome};
+ghost use Rattle.std.specs.Prelude.{map, string_bytes, IfSome};
 ghost use Rattle.tw_base.specs.Lists.{Each};
-ghost use Rattle.tw_text.specs.CommandLine.{command_of, word_at};
+ghost use Rattle.tw_outside.specs.Asked.{asked};
+ghost use Rattle.tw_text.specs.CommandLine.{command_of};
+ghost use Rattle.tw_app.specs.Around.{met};
 ghost use Rattle.tw_app.specs.Commands.{UsesDisk, files_of};
-ghost use Rattle.tw_app.specs.Leaving.{CommandLeaves, Leaves};
-ghost use Rattle.tw_app.specs.Running.{ComesOfFiles, ComesTo, HasOutcome};
+ghost use Rattle.tw_app.specs.Running.{ComesTo, HasOutcome, Leaves, LeavesTo};
+ghost use Rattle.tw_diskcmd.specs.Disks.{Touched, touched};
 
-use crate::appending::append;
-use crate::making::make;
-use crate::outcome::{Outcome, Worked};
-use crate::proving::prove;
-use crate::showing::show;
-use crate::verifying::{verify_file, verify_one};
+use crate::outcome::{Outcome, judged, made, proved};
 use std::alloc::Global;
-use tw_base::Thread;
 use tw_disk::Disk;
+use tw_diskcmd::{append, make, prove};
+use tw_filecmd::{show, verify_file, verify_one};
 use tw_outside::Inputs;
-use tw_text::{Command, WordFault, read_words};
+use tw_text::{Command, CommandFault, WordFault, read_words};
+
+/// What a run came to on a disk, and that disk.
+#[derive(Drop)]
+pub(crate) struct Followed<D> {
+    pub(crate) outcome: Outcome,
+    pub(crate) disk: D,
+}
 
 /// What the words come to.
 pub(crate) fn follow_words<D: Disk, I: Inputs>(
@@ -25,99 +30,87 @@ pub(crate) fn follow_words<D: Disk, I: Inputs>(
     words: &[String],
     disk: D,
     inputs: &mut I,
-) -> Worked<D>
+) -> Followed<D>
     requires { IfSome (command_of (map string_bytes words.now)) (λ command. Each (I.may_ask inputs.old) (files_of command)) }
-    ensures comes { HasOutcome (I.told inputs.old) (I.faults inputs.old) (I.faults inputs.new) (D.view disk).content (D.view disk).faults (D.view result.disk).faults
-        (map string_bytes words.now) result.outcome }
+    ensures comes { HasOutcome (met (asked (I.told inputs.old) (I.faults inputs.old) (I.faults inputs.new))
+        (touched (D.view disk).content (D.view disk).faults (D.view result.disk).faults)) (map string_bytes words.now) result.outcome }
     ensures leaves { Leaves D.view disk result.disk (I.told inputs.old) (map string_bytes words.now) result.outcome }
 {
     match read_words(alloc, words) {
-        Ok(command) => follow(alloc, &command, words, disk, inputs),
-        Err(WordFault::BadWord { number }) => Worked {
+        Ok(command) => follow(alloc, &command, disk, inputs),
+        Err(WordFault::BadWord { number }) => Followed {
             outcome: Outcome::BadWords { number },
             disk,
         },
-        Err(WordFault::NoMemory) => Worked {
-            outcome: Outcome::NoMemory,
+        Err(WordFault::NoMemory) => Followed {
+            outcome: Outcome::Undone(CommandFault::NoMemory),
             disk,
         },
     }
 }
 
-/// What the words' command comes to. Commands without a directory leave the disk as it is.
+/// What the command comes to. Commands without a directory leave the disk as it is.
 fn follow<D: Disk, I: Inputs>(
     alloc: Global,
     command: &Command,
-    words: &[String],
     disk: D,
     inputs: &mut I,
-) -> Worked<D>
-    requires command { command_of (map string_bytes words.now) ≡ Some command.now }
-    requires files { Each (I.may_ask inputs.old) (files_of command.now) }
-    ensures comes { ComesTo (I.told inputs.old) (I.faults inputs.old) (I.faults inputs.new) (D.view disk).content (D.view disk).faults (D.view result.disk).faults command.now result.outcome }
-    ensures leaves { CommandLeaves D.view disk result.disk (I.told inputs.old) command.now result.outcome }
+) -> Followed<D>
+    requires { Each (I.may_ask inputs.old) (files_of command.now) }
+    ensures comes { ComesTo (met (asked (I.told inputs.old) (I.faults inputs.old) (I.faults inputs.new))
+        (touched (D.view disk).content (D.view disk).faults (D.view result.disk).faults)) command.now result.outcome }
+    ensures leaves { LeavesTo D.view disk result.disk (I.told inputs.old) command.now result.outcome }
 {
     match command {
-        Command::Init { dir: _, name } => make(alloc, disk, *name),
-        Command::Append { dir: _, file: _ } => append(alloc, disk, inputs, word(words, 2)),
-        Command::ProveEvent {
-            dir: _,
-            step,
-            index,
-            top,
-        } => prove(alloc, disk, *step, *index, *top),
-        _ => Worked {
-            outcome: follow_files(alloc, command, words, inputs),
+        Command::Init { name } => {
+            let worked = make(alloc, disk, *name);
+            Followed {
+                outcome: made(worked.outcome),
+                disk: worked.disk,
+            }
+        }
+        Command::Append { file } => {
+            let worked = append(alloc, disk, inputs, file.as_str());
+            Followed {
+                outcome: made(worked.outcome),
+                disk: worked.disk,
+            }
+        }
+        Command::ProveEvent { step, index, top } => {
+            let worked = prove(alloc, disk, *step, *index, *top);
+            Followed {
+                outcome: proved(worked.outcome),
+                disk: worked.disk,
+            }
+        }
+        _ => Followed {
+            outcome: follow_files(alloc, command, inputs),
             disk,
         },
     }
 }
 
-/// What the words' command comes to that has no directory.
-fn follow_files<I: Inputs>(
-    alloc: Global,
-    command: &Command,
-    words: &[String],
-    inputs: &mut I,
-) -> Outcome
-    requires command { command_of (map string_bytes words.now) ≡ Some command.now }
+/// What the command comes to that has no directory.
+fn follow_files<I: Inputs>(alloc: Global, command: &Command, inputs: &mut I) -> Outcome
     requires files { Each (I.may_ask inputs.old) (files_of command.now) }
     requires no_disk { UsesDisk command.now → ⊥ }
-    ensures { ComesOfFiles (I.told inputs.old) (I.faults inputs.old) (I.faults inputs.new) command.now result }
+    ensures { (disk : Touched) → ComesTo (met (asked (I.told inputs.old) (I.faults inputs.old) (I.faults inputs.new)) disk) command.now result }
 {
     match command {
         Command::Show {
-            history: _,
+            history,
             step,
             index,
-        } => show(alloc, inputs, word(words, 1), *step, *index),
-        Command::VerifyFile {
-            proof: _,
-            anchors: _,
-        } => verify_file(alloc, inputs, word(words, 1), word(words, 2)),
-        Command::VerifyOne {
-            proof: _,
-            name,
-            pos,
-            auth,
-        } => {
-            let anchor = Thread {
-                from: *name,
-                step: *pos,
-                auth: *auth,
-            };
-            verify_one(alloc, inputs, word(words, 1), anchor)
+        } => proved(show(alloc, inputs, history.as_str(), *step, *index)),
+        Command::VerifyFile { proof, anchors } => judged(verify_file(
+            alloc,
+            inputs,
+            proof.as_str(),
+            anchors.as_str(),
+        )),
+        Command::VerifyOne { proof, anchor } => {
+            judged(verify_one(alloc, inputs, proof.as_str(), *anchor))
         }
         _ => Outcome::BadWords { number: 0 },
-    }
-}
-
-/// The word at a place, counted from 0; no bytes where there are fewer words.
-fn word(words: &[String], i: usize) -> &str
-    ensures { result.now ≡ word_at (map string_bytes words.now) i }
-{
-    match words.get(i) {
-        Some(word) => word.as_str(),
-        None => "",
     }
 }

@@ -1,3 +1,4 @@
 pub mod Files
+pub mod Asked
 pub mod TakenBytes
 pub mod Memory

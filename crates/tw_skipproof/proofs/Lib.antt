@@ -10,3 +10,4 @@ pub mod GreedySteps
 pub mod LawfulCodecs
 pub mod Shapes
 pub mod PieceCodecs
+pub mod WideIndex

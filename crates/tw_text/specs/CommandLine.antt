@@ -3,6 +3,7 @@ use Rattle.std.specs.Prelude.{ℕ, ◌-◌, List, [], ◌∷◌, length, map, dr
 use Rattle.std.specs.List.{slice_index_or}
 use Rattle.tw_base.specs.declared.limits.TheConstants.{LAST_STEP}
 use Rattle.tw_base.specs.Names.{padded_name}
+use Rattle.tw_base.specs.declared.thread.Thread.{Thread as Anchor}
 use Rattle.tw_text.specs.Words.{word_number, word_digest}
 use Rattle.tw_text.specs.Forms.{Part, More, Form, command_by, IsFirstBad}
 use Rattle.tw_text.specs.Forms.Part.{Fixed, Path, Service, Number, Hex}
@@ -47,6 +48,10 @@ digest_at words i = word_digest (word_at words i)
 abbrev pub top_at : List (List ℕ) → ℕ → Option ℕ
 top_at words i = if nat_lt i (length words) then Some (number_at words i) else None
 
+-- the anchor that is written as a name, a step and a digest, behind a fixed word and a path
+abbrev pub anchor_at : List (List ℕ) → Anchor
+anchor_at words = record { from = name_at words 2; step = number_at words 3; auth = digest_at words 4 }
+
 -- ---- the table
 
 abbrev pub form : List Part → More → (List (List ℕ) → Command) → Form
@@ -54,30 +59,30 @@ form parts more command = record { parts = parts; more = more; command = command
 
 -- each form: its parts, what may follow, and the command of the words w
 unfoldable pub form_of : FormName → Form
-form_of Init = form (Fixed (codes "init") ∷ Path ∷ Service ∷ []) Nothing (λ w. command.Init (word_at w 1) (name_at w 2))
-form_of Append = form (Fixed (codes "append") ∷ Path ∷ Path ∷ []) Nothing (λ w. command.Append (word_at w 1) (word_at w 2))
-form_of Thread = form (Fixed (codes "thread") ∷ Path ∷ number_part ∷ []) Nothing (λ w. command.Thread (word_at w 1) (number_at w 2))
-form_of Receive = form (Fixed (codes "receive") ∷ Path ∷ Path ∷ []) Nothing (λ w. command.Receive (word_at w 1) (word_at w 2))
+form_of Init = form (Fixed (codes "init") ∷ Path ∷ Service ∷ []) Nothing (λ w. command.Init (name_at w 2))
+form_of Append = form (Fixed (codes "append") ∷ Path ∷ Path ∷ []) Nothing (λ w. command.Append (word_at w 2))
+form_of Thread = form (Fixed (codes "thread") ∷ Path ∷ number_part ∷ []) Nothing (λ w. command.Thread (number_at w 2))
+form_of Receive = form (Fixed (codes "receive") ∷ Path ∷ Path ∷ []) Nothing (λ w. command.Receive (word_at w 2))
 form_of ProveEvent = form (Fixed (codes "prove") ∷ Path ∷ Fixed (codes "event") ∷ number_part ∷ number_part ∷ []) maybe_top
-    (λ w. command.ProveEvent (word_at w 1) (number_at w 3) (number_at w 4) (top_at w 5))
+    (λ w. command.ProveEvent (number_at w 3) (number_at w 4) (top_at w 5))
 form_of ProveThread = form (Fixed (codes "prove") ∷ Path ∷ Fixed (codes "thread") ∷ number_part ∷ Service ∷ step_part ∷ []) maybe_top
-    (λ w. command.ProveThread (word_at w 1) (number_at w 3) (name_at w 4) (number_at w 5) (top_at w 6))
+    (λ w. command.ProveThread (number_at w 3) (name_at w 4) (number_at w 5) (top_at w 6))
 form_of ProveAbsent = form (Fixed (codes "prove") ∷ Path ∷ Fixed (codes "absent") ∷ number_part ∷ Service ∷ step_part ∷ []) maybe_top
-    (λ w. command.ProveAbsent (word_at w 1) (number_at w 3) (name_at w 4) (number_at w 5) (top_at w 6))
+    (λ w. command.ProveAbsent (number_at w 3) (name_at w 4) (number_at w 5) (top_at w 6))
 form_of ProveLink = form (Fixed (codes "prove") ∷ Path ∷ Fixed (codes "link") ∷ number_part ∷ []) maybe_top
-    (λ w. command.ProveLink (word_at w 1) (number_at w 3) (top_at w 4))
+    (λ w. command.ProveLink (number_at w 3) (top_at w 4))
 form_of MapLow = form (Fixed (codes "map") ∷ Path ∷ Fixed (codes "low") ∷ number_part ∷ Service ∷ []) maybe_top
-    (λ w. command.MapLow (word_at w 1) (number_at w 3) (name_at w 4) (top_at w 5))
+    (λ w. command.MapLow (number_at w 3) (name_at w 4) (top_at w 5))
 form_of MapHigh = form (Fixed (codes "map") ∷ Path ∷ Fixed (codes "high") ∷ step_part ∷ Service ∷ []) maybe_top
-    (λ w. command.MapHigh (word_at w 1) (number_at w 3) (name_at w 4) (top_at w 5))
-form_of Export = form (Fixed (codes "export") ∷ Path ∷ []) Nothing (λ w. command.Export (word_at w 1))
+    (λ w. command.MapHigh (number_at w 3) (name_at w 4) (top_at w 5))
+form_of Export = form (Fixed (codes "export") ∷ Path ∷ []) Nothing (λ w. command.Export)
 form_of Show = form (Fixed (codes "show") ∷ Path ∷ number_part ∷ number_part ∷ []) Nothing
     (λ w. command.Show (word_at w 1) (number_at w 2) (number_at w 3))
 form_of Join = form (Fixed (codes "join") ∷ Path ∷ Path ∷ []) (AnyNumberOf Path) (λ w. command.Join (drop 1 w))
 form_of VerifyFile = form (Fixed (codes "verify") ∷ Path ∷ Path ∷ []) Nothing
     (λ w. command.VerifyFile (word_at w 1) (word_at w 2))
 form_of VerifyOne = form (Fixed (codes "verify") ∷ Path ∷ Service ∷ step_part ∷ Hex ∷ []) Nothing
-    (λ w. command.VerifyOne (word_at w 1) (name_at w 2) (number_at w 3) (digest_at w 4))
+    (λ w. command.VerifyOne (word_at w 1) (anchor_at w))
 form_of Strict = form (Fixed (codes "strict") ∷ Path ∷ Path ∷ []) Nothing (λ w. command.Strict (word_at w 1) (word_at w 2))
 form_of CheckMap = form (Fixed (codes "checkmap") ∷ Path ∷ Path ∷ Path ∷ []) Nothing
     (λ w. command.CheckMap (word_at w 1) (word_at w 2) (word_at w 3))

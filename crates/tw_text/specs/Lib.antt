@@ -4,4 +4,6 @@ pub mod CommandLine
 pub mod RowSteps
 pub mod TakenSteps
 pub mod Lines
+pub mod Refusals
+pub mod Faults
 pub mod Reports

@@ -3,6 +3,7 @@
 
 mod anchor;
 mod command;
+mod fault;
 mod field;
 mod fixed;
 mod form;
@@ -10,6 +11,8 @@ pub mod limits;
 mod line;
 mod number;
 mod part;
+mod path;
+mod refusal;
 mod report;
 mod taking;
 #[cfg(test)]
@@ -18,9 +21,12 @@ mod words;
 
 pub use anchor::{AnchorLine, anchor_line};
 pub use command::Command;
+pub use fault::{CommandFault, fault_status, print_fault};
 pub use field::{Field, FieldList};
 pub use fixed::{fault_disk, fault_input, no_memory};
 pub use line::{print_line, print_usage};
 pub use number::{read_digest, read_number};
+pub use path::FilePath;
+pub use refusal::{BadInput, Refusal, StoreCause};
 pub use report::{print_rejected, print_report};
 pub use words::{WordFault, read_words};

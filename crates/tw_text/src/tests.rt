@@ -24,13 +24,11 @@ fn a_command_is_read(rt: HostRuntime) -> Result<(), Fail> {
     let words = words(alloc, "prove d thread 6 a 5 7")?;
     match read_words(alloc, words.as_slice())? {
         Command::ProveThread {
-            dir,
+            peer: _,
             step,
             k,
             top,
-            ..
         } => {
-            assert!(rt; is(&dir, "d"));
             assert_eq!(rt; step, 6);
             assert_eq!(rt; k, 5);
             assert_eq!(rt; top, Some(7));

@@ -10,9 +10,10 @@ ghost use Rattle.tw_text.specs.TakenSteps.{most_taken, taken_by};
 use crate::command::Command;
 use crate::form::{FORMS, Form, FormName, form_named};
 use crate::number::{read_digest, read_number};
+use crate::path::FilePath;
 use crate::taking::count_taken;
 use std::alloc::Global;
-use tw_base::{Bytes, Digest, Name, NoMemory, Sequence};
+use tw_base::{Digest, Name, NoMemory, Sequence, Thread};
 
 /// Why words are no command.
 #[derive(Clone, Copy, PartialEq, Eq, Debug, Drop)]
@@ -95,61 +96,49 @@ fn make_command(alloc: Global, form: FormName, words: &[String]) -> Result<Comma
 {
     match form {
         FormName::Init => Ok(Command::Init {
-            dir: path(alloc, words, 1)?,
             name: name(words, 2),
         }),
         FormName::Append => Ok(Command::Append {
-            dir: path(alloc, words, 1)?,
             file: path(alloc, words, 2)?,
         }),
         FormName::Thread => Ok(Command::Thread {
-            dir: path(alloc, words, 1)?,
             since: number(words, 2),
         }),
         FormName::Receive => Ok(Command::Receive {
-            dir: path(alloc, words, 1)?,
             file: path(alloc, words, 2)?,
         }),
         FormName::ProveEvent => Ok(Command::ProveEvent {
-            dir: path(alloc, words, 1)?,
             step: number(words, 3),
             index: number(words, 4),
             top: top(words, 5),
         }),
         FormName::ProveThread => Ok(Command::ProveThread {
-            dir: path(alloc, words, 1)?,
             step: number(words, 3),
             peer: name(words, 4),
             k: number(words, 5),
             top: top(words, 6),
         }),
         FormName::ProveAbsent => Ok(Command::ProveAbsent {
-            dir: path(alloc, words, 1)?,
             step: number(words, 3),
             peer: name(words, 4),
             k: number(words, 5),
             top: top(words, 6),
         }),
         FormName::ProveLink => Ok(Command::ProveLink {
-            dir: path(alloc, words, 1)?,
             step: number(words, 3),
             top: top(words, 4),
         }),
         FormName::MapLow => Ok(Command::MapLow {
-            dir: path(alloc, words, 1)?,
             step: number(words, 3),
             peer: name(words, 4),
             top: top(words, 5),
         }),
         FormName::MapHigh => Ok(Command::MapHigh {
-            dir: path(alloc, words, 1)?,
             pos: number(words, 3),
             peer: name(words, 4),
             top: top(words, 5),
         }),
-        FormName::Export => Ok(Command::Export {
-            dir: path(alloc, words, 1)?,
-        }),
+        FormName::Export => Ok(Command::Export),
         FormName::Show => Ok(Command::Show {
             history: path(alloc, words, 1)?,
             step: number(words, 2),
@@ -164,9 +153,11 @@ fn make_command(alloc: Global, form: FormName, words: &[String]) -> Result<Comma
         }),
         FormName::VerifyOne => Ok(Command::VerifyOne {
             proof: path(alloc, words, 1)?,
-            name: name(words, 2),
-            pos: number(words, 3),
-            auth: digest(words, 4),
+            anchor: Thread {
+                from: name(words, 2),
+                step: number(words, 3),
+                auth: digest(words, 4),
+            },
         }),
         FormName::Strict => Ok(Command::Strict {
             proof: path(alloc, words, 1)?,
@@ -203,14 +194,14 @@ fn word(words: &[String], i: usize) -> &str
 }
 
 /// The path at a place.
-fn path(alloc: Global, words: &[String], i: usize) -> Result<Bytes, NoMemory>
+fn path(alloc: Global, words: &[String], i: usize) -> Result<FilePath, NoMemory>
     ensures { IfOk result (λ path. path ≡ word_at (map string_bytes words.now) i) }
 {
-    Bytes::from_slice(alloc, word(words, i).as_bytes())
+    FilePath::new(alloc, word(words, i))
 }
 
 /// The paths from a place on.
-fn paths(alloc: Global, words: &[String], first: usize) -> Result<Sequence<Bytes>, NoMemory>
+fn paths(alloc: Global, words: &[String], first: usize) -> Result<Sequence<FilePath>, NoMemory>
     ensures { IfOk result (λ paths. paths ≡ drop first (map string_bytes words.now)) }
 {
     let mut paths = Sequence::new(alloc);

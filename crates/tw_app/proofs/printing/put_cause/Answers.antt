@@ -1,4 +1,0 @@
-use Rattle.tw_app.proofs.printing.put_cause.Goals as goal
-
-pub returns-in-NotAStore : goal.returns-in-NotAStore
-returns-in-NotAStore c = rw c.in-NotAStore.is c.put_number.ensures

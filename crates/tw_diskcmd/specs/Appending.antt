@@ -1,0 +1,120 @@
+-- `append`: when a step of the events of a file is added, when it isn't, what the command comes to, and what it leaves of the disk.
+use Rattle.std.specs.Prelude.{◌≡◌, ◌⊎◌, ℕ, ◌+◌, ◌<◌, ◌≤◌, List, length, Option, Some, None, Result, Ok, Err, false}
+use Rattle.sha2.specs.Sha256.{sha256}
+use Rattle.tw_base.specs.declared.thread.Thread.{Thread}
+use Rattle.tw_base.specs.Formats.{IsPlace, Spells, SpellsNothing}
+use Rattle.tw_base.specs.History.{History, with_events}
+use Rattle.tw_base.specs.Faults.{Rose}
+use Rattle.tw_disk.specs.Disk.{DiskView, LeavesOnly}
+use Rattle.tw_disk.specs.Image.{Image}
+use Rattle.tw_msg.specs.EventsFile.{events_file}
+use Rattle.tw_outside.specs.Asked.{Asked}
+use Rattle.tw_outside.specs.Files.{Files, IsThere, Tells}
+use Rattle.tw_skiplist.specs.declared.head.Head.{Head}
+use Rattle.tw_service.specs.declared.refusal.Refusal.{Refusal as ServiceRefusal}
+use Rattle.tw_service.specs.declared.refusal.Refusal.TheVariants as service
+use Rattle.tw_skiplist.specs.declared.head.StepRef.{StepRef}
+use Rattle.tw_skiplist.specs.Found.Found.{Is, Bad}
+use Rattle.tw_skiplist.specs.Walks.{next_links}
+use Rattle.tw_service.specs.Limits.{append_refusal}
+use Rattle.tw_service.specs.Machine.{IsStepOf, NextOf, last_thread}
+use Rattle.tw_service.specs.Machine.Call.{Append}
+use Rattle.tw_service.specs.Machine.Reply.{OfThread, Refused}
+use Rattle.tw_service.specs.Stands.{StandsForOneOf}
+use Rattle.tw_text.specs.declared.refusal.BadInput.TheVariants.{BadByte}
+use Rattle.tw_text.specs.declared.refusal.Refusal.{Refusal}
+use Rattle.tw_text.specs.declared.refusal.Refusal.TheVariants.{Full, TooMany, TooLong}
+use Rattle.tw_diskcmd.specs.declared.limits.TheConstants.{EVENTS_LIMIT}
+use Rattle.tw_text.specs.declared.fault.CommandFault.{CommandFault}
+use Rattle.tw_text.specs.declared.fault.CommandFault.TheVariants as fault
+use Rattle.tw_diskcmd.specs.Disks.{Adds, IsLeft, IsOf, IsUnserved, KeepsOrAdds, LeavesOldOrOneOf, OpensAsService, OpensAsServiceWith, ReadsAs, ReadsAsOneOf, Settles, Stands, Touched}
+
+-- the file is there; where the inputs tell its bytes, they are the events file of these events
+pub record AreEventsOf (told : Option Files) (file : List ℕ) (events : List (List ℕ)) : Type 0 where
+  pub there : IsThere told file
+  pub short : (bytes : List ℕ) → Tells told file bytes → length bytes ≤ EVENTS_LIMIT
+  pub spelled : (bytes : List ℕ) → Tells told file bytes → Spells events_file bytes events
+
+-- the place at which the bytes are no events file: the limit, where they are more than that; else that of the first byte at which
+-- no events file goes on
+abbrev pub IsBadEventsByte : (bytes : List ℕ) (place : ℕ) → Type 0
+IsBadEventsByte bytes place =
+    ((EVENTS_LIMIT < length bytes) × (place ≡ EVENTS_LIMIT))
+    ⊎ ((length bytes ≤ EVENTS_LIMIT) × SpellsNothing events_file bytes × IsPlace events_file bytes place)
+
+-- the disk opened as a service of this name and head, whose pages have each link of the next step and which refuses nothing, and
+-- the thread told is of its name and of the next step; where the disk reads as a history, this is a step of the machine to the
+-- longer one, whose last thread is told
+pub record AddsStep (found : Option Image) (events : List (List ℕ)) (thread : Thread) : Type 0 where
+  pub name : List ℕ
+  pub head : Head
+  pub opens : OpensAsServiceWith found name head (λ pages. (links : List StepRef) × (next_links pages head ≡ Is links))
+  pub allowed : append_refusal false head.step events ≡ None
+  pub from : thread.from ≡ name
+  pub next : thread.step ≡ head.step + 1
+  pub last : (h : History) → ReadsAs found h → thread ≡ last_thread sha256 (with_events h events)
+  pub machine : (h : History) → ReadsAs found h → IsStepOf sha256 h (Append events) (OfThread thread) (with_events h events)
+
+-- the disk opened as a service of this name and head, which refuses the events; where the disk reads as a history, so does the
+-- machine
+pub record RefusesEvents (found : Option Image) (events : List (List ℕ)) (refusal : ServiceRefusal) : Type 0 where
+  pub name : List ℕ
+  pub head : Head
+  pub opens : OpensAsService found name head
+  pub refused : append_refusal false head.step events ≡ Some refusal
+  pub machine : (h : History) → ReadsAs found h → IsStepOf sha256 h (Append events) (Refused refusal) h
+
+-- a service with these pages and this head refuses nothing, and the reading of the next step's links meets this page first that
+-- isn't the page of its step
+abbrev pub MeetsBadLink : (events : List (List ℕ)) → (pages : Image) → (name : List ℕ) → Head → (page : ℕ) → Type 0
+MeetsBadLink events pages name head page = (append_refusal false head.step events ≡ None) × (next_links pages head ≡ Bad page)
+
+-- P holds of the events of the file
+abbrev pub OfEvents : (told : Option Files) (file : List ℕ) → (List (List ℕ) → Type 0) → Type 0
+OfEvents told file P = (events : List (List ℕ)) × AreEventsOf told file events × P events
+
+-- the refusal is one of the table's for a step
+abbrev pub RefusesAs : (found : Option Image) (events : List (List ℕ)) → Refusal → Type 0
+RefusesAs found events Full = RefusesEvents found events service.Full
+RefusesAs found events (TooMany count) = RefusesEvents found events (service.TooMany count)
+RefusesAs found events (TooLong bytes) = RefusesEvents found events (service.TooLong bytes)
+RefusesAs found events _ = ⊥
+
+-- what the adding of these events comes to on the disk; want of memory is free
+abbrev pub StepComes : Touched → (events : List (List ℕ)) → Result Thread CommandFault → Type 0
+StepComes t events (Ok thread) = AddsStep t.found events thread
+StepComes t events (Err (fault.Refused refusal)) = RefusesAs t.found events refusal
+StepComes t events (Err (fault.Unserved cause)) = IsUnserved (MeetsBadLink events) t.found cause
+StepComes t events (Err fault.DiskFault) = Rose t.before t.after
+StepComes t events (Err fault.NoMemory) = Unit {0}
+StepComes t events _ = ⊥
+
+-- what the command comes to: the file isn't what it reads, or the inputs failed; else what the adding of its events comes to
+abbrev pub AppendComes : Asked → Touched → (file : List ℕ) → Result Thread CommandFault → Type 0
+AppendComes a t file (Err (fault.Unreadable (BadByte named place))) =
+    (named ≡ file) × IsThere a.told file × ((bytes : List ℕ) → Tells a.told file bytes → IsBadEventsByte bytes place)
+AppendComes a t file (Err fault.InputFault) = Rose a.before a.after
+AppendComes a t file (Err fault.NoMemory) = Unit {0}
+AppendComes a t file result = OfEvents a.told file (λ events. StepComes t events result)
+
+module _ {D : Type 0} (view : D → DiskView) (old new : D) where
+  -- the step is added, or a disk fault came and it may be; where it was refused, nothing was written and the disk became stable; where
+  -- the file wasn't read or is none, no device call was made; at every other result nothing was written
+  abbrev pub AppendLeaves : (told : Option Files) (file : List ℕ) → Result Thread CommandFault → Type 0
+  AppendLeaves told file (Ok thread) = OfEvents told file (λ events. AddsStep (view old).content events thread × Adds view (Append events) old new)
+  AppendLeaves told file (Err fault.DiskFault) = OfEvents told file (λ events. KeepsOrAdds view (Append events) old new)
+  AppendLeaves told file (Err (fault.Refused refusal)) = IsLeft view old new × Settles view old new
+  AppendLeaves told file (Err (fault.Unreadable bad)) = new ≡ old
+  AppendLeaves told file (Err fault.InputFault) = new ≡ old
+  AppendLeaves told file _ = IsLeft view old new
+
+  -- Of a history that the disk read as, each image since is one that a crash might have left before, and the content is told still and
+  -- stands for it; or the file has events, and each image stands for it or for the next one, by the machine's adding of them, or is
+  -- one that might have been left before, and the content stands for one of the two. Of a history that it stood for for good, each
+  -- image stands for it, or for one of the two.
+  abbrev pub AppendSafe : (told : Option Files) (file : List ℕ) → Type 0
+  AppendSafe told file = (h : History) →
+      (ReadsAs (view old).content h → (LeavesOnly (view old) (view new) (view old).may_leave × ReadsAs (view new).content h)
+      ⊎ OfEvents told file (λ events. (next : History) × NextOf (Append events) h next × LeavesOldOrOneOf view old new h next × ReadsAsOneOf view new h next))
+      × (Stands view old h → LeavesOnly (view old) (view new) (IsOf h)
+      ⊎ OfEvents told file (λ events. (next : History) × NextOf (Append events) h next × LeavesOnly (view old) (view new) (StandsForOneOf sha256 h.name h next)))

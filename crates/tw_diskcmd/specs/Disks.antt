@@ -1,0 +1,123 @@
+-- What a disk reads as, what it stands for, and what a run leaves of it.
+use Rattle.std.specs.Prelude.{◌≡◌, ◌⊎◌, ℕ, List, Option, Some}
+use Rattle.sha2.specs.Sha256.{sha256}
+use Rattle.tw_base.specs.History.{History}
+use Rattle.tw_disk.specs.Disk.{DiskView, LeavesOnly, Only, Reads}
+use Rattle.tw_disk.specs.Image.{Image}
+use Rattle.tw_pages.specs.Slots.{IsTaken}
+use Rattle.tw_pages.specs.declared.open.StoreFault.TheVariants as fault
+use Rattle.tw_skiplist.specs.declared.head.Head.{Head}
+use Rattle.tw_service.specs.Machine.{Call, NextOf}
+use Rattle.tw_service.specs.Stands.{IsBlankOrNew, IsNotOpenedFor, OpensFor, OpensWith, StandsFor, StandsForOneOf, no_history}
+use Rattle.tw_text.specs.declared.refusal.StoreCause.{StoreCause}
+use Rattle.tw_text.specs.declared.refusal.StoreCause.TheVariants.{Blank, NotAStore, BadPage}
+
+-- what a command met of a disk: what it read as at first, where it tells that, and how often it had failed before and after
+pub record Touched : Type 0 where
+  pub found : Option Image
+  pub before : ℕ
+  pub after : ℕ
+
+abbrev pub touched : (found : Option Image) (before after : ℕ) → Touched
+touched found before after = record { found = found; before = before; after = after }
+
+-- the image stands for the history, under its name
+abbrev pub IsOf : History → Image → Type 0
+IsOf h image = StandsFor sha256 image h.name h
+
+-- what the disk reads as is told, and stands for the history
+pub record ReadsAs (found : Option Image) (h : History) : Type 0 where
+  pub image : Image
+  pub told : found ≡ Some image
+  pub stands : IsOf h image
+
+-- the image opens as a service of some name and head, and the command meets this page in its pages
+abbrev pub HasBadPage : (Meets : (pages : Image) → (name : List ℕ) → Head → (page : ℕ) → Type 0) → Image → (page : ℕ) → Type 0
+HasBadPage Meets image page = (name : List ℕ) × (head : Head) × OpensWith image name head (λ pages. Meets pages name head page)
+
+-- why an image can't be served to a command that meets such pages: it opens as no service; or it opens as one, has such a page, and
+-- stands for no history
+abbrev pub IsCause : (Meets : (pages : Image) → (name : List ℕ) → Head → (page : ℕ) → Type 0) → Image → StoreCause → Type 0
+IsCause Meets image Blank = IsNotOpenedFor image fault.Blank
+IsCause Meets image (NotAStore slot) = IsNotOpenedFor image (fault.NotAStore slot)
+IsCause Meets image (BadPage page) = HasBadPage Meets image page × ((h : History) → IsOf h image → ⊥)
+
+-- the same of what the disk reads as, where it is told
+abbrev pub IsUnserved : (Meets : (pages : Image) → (name : List ℕ) → Head → (page : ℕ) → Type 0) → (found : Option Image) → StoreCause → Type 0
+IsUnserved Meets found cause = (image : Image) → found ≡ Some image → IsCause Meets image cause
+
+-- where what the disk reads as is told, it opens as a service of this name and head
+abbrev pub OpensAsService : (found : Option Image) → (name : List ℕ) → Head → Type 0
+OpensAsService found name head = (image : Image) → found ≡ Some image → OpensFor image name head
+
+-- the same, and P holds of the service's pages
+abbrev pub OpensAsServiceWith : (found : Option Image) → (name : List ℕ) → Head → (Image → Type 0) → Type 0
+OpensAsServiceWith found name head P = (image : Image) → found ≡ Some image → OpensWith image name head P
+
+module _ {D : Type 0} (view : D → DiskView) where
+  -- the disk stands for the history for good: its content is told, and each image that a crash now may leave, of which the content is
+  -- one, stands for it
+  pub record Stands (disk : D) (h : History) : Type 0 where
+    pub image : Image
+    pub told : (view disk).content ≡ Some image
+    pub each : (i : Image) → (view disk).may_leave i → IsOf h i
+
+  -- the same, and a crash now leaves nothing but the content
+  pub record Rests (disk : D) (h : History) : Type 0 where
+    pub stands : Stands disk h
+    pub only : Only stands.image (view disk).may_leave
+
+  -- the history that the disk stood for stands in each image that a crash since the start may leave, and now for good, at rest where
+  -- it was at rest
+  abbrev pub Keeps : (old new : D) → Type 0
+  Keeps old new =
+      (h : History) → (Stands old h → LeavesOnly (view old) (view new) (IsOf h) × Stands new h) × (Rests old h → Rests new h)
+
+  -- the disk has become stable: it stands for the history that it read as, at rest
+  abbrev pub Settles : (old new : D) → Type 0
+  Settles old new = (h : History) → ReadsAs (view old).content h → Rests new h
+
+  -- each image since is one that a crash might have left before, or stands for this history or for the next one
+  abbrev pub LeavesOldOrOneOf : (old new : D) → (h next : History) → Type 0
+  LeavesOldOrOneOf old new h next = LeavesOnly (view old) (view new) (λ i. (view old).may_leave i ⊎ StandsForOneOf sha256 h.name h next i)
+
+  -- the content is told, and stands for this history or for the next one
+  abbrev pub ReadsAsOneOf : (disk : D) → (h next : History) → Type 0
+  ReadsAsOneOf disk h next = Reads (view disk) (StandsForOneOf sha256 h.name h next)
+
+  -- of each history there is a next one, by the machine's call. Where the disk read as the history, with writes pending or not, each
+  -- image since is one that a crash might have left before, or stands for one of the two, and the content is told still and stands
+  -- for one of the two; where it stood for it for good, each image stands for one of the two
+  abbrev pub KeepsOrAdds : Call → (old new : D) → Type 0
+  KeepsOrAdds call old new =
+      (h : History) → (next : History) × NextOf call h next
+      × (ReadsAs (view old).content h → LeavesOldOrOneOf old new h next × ReadsAsOneOf new h next)
+      × (Stands old h → LeavesOnly (view old) (view new) (StandsForOneOf sha256 h.name h next))
+
+  -- the same of the images, and where it read as the history, it now stands for the next one, at rest
+  abbrev pub Adds : Call → (old new : D) → Type 0
+  Adds call old new =
+      (h : History) → (next : History) × NextOf call h next
+      × (ReadsAs (view old).content h → Rests new next × LeavesOldOrOneOf old new h next)
+      × (Stands old h → LeavesOnly (view old) (view new) (StandsForOneOf sha256 h.name h next))
+
+  -- an image that a crash might have left before, or a blank one, or one that stands for the history of this name that has no step
+  abbrev pub IsOldOrBegun : (name : List ℕ) → (old : D) → Image → Type 0
+  IsOldOrBegun name old image = (view old).may_leave image ⊎ IsBlankOrNew sha256 name image
+
+  -- where the content is told, each image since is such a one, and the content is told still and is one
+  abbrev pub MayBegin : (name : List ℕ) → (old new : D) → Type 0
+  MayBegin name old new =
+      (image : Image) → (view old).content ≡ Some image → LeavesOnly (view old) (view new) (IsOldOrBegun name old) × Reads (view new) (IsOldOrBegun name old)
+
+  -- the same, and now it stands for that history, at rest
+  abbrev pub Begins : (name : List ℕ) → (old new : D) → Type 0
+  Begins name old new = MayBegin name old new × ((image : Image) → (view old).content ≡ Some image → Rests new (no_history name))
+
+  -- it reads as before, and a crash leaves nothing else than before
+  abbrev pub IsLeft : (old new : D) → Type 0
+  IsLeft old new = ((view new).content ≡ (view old).content) × LeavesOnly (view old) (view new) (view old).may_leave
+
+  -- a store that is there, that of a service or not, is left so, with writes pending or not
+  abbrev pub SparesStore : (old new : D) → Type 0
+  SparesStore old new = (image : Image) → (view old).content ≡ Some image → IsTaken image → IsLeft old new

@@ -1,0 +1,104 @@
+// The command that adds a step.
+
+ghost use Rattle.std.specs.Prelude.{◌≡◌, ◌≤◌, ℕ, Option, Some, IfErr, IfOk, false};
+ghost use Rattle.sha2.specs.Sha256.{sha256};
+ghost use Rattle.tw_base.specs.History.{History, with_events};
+ghost use Rattle.tw_disk.specs.Image.{Image};
+ghost use Rattle.tw_outside.specs.Asked.{asked};
+ghost use Rattle.tw_service.specs.Serves.{Serves, disk_of, has_failed, head_of, name_of, pages_of};
+ghost use Rattle.tw_diskcmd.specs.Appending.{AppendComes, AppendLeaves, AreEventsOf, StepComes};
+ghost use Rattle.tw_diskcmd.specs.Disks.{IsLeft, OpensAsServiceWith, ReadsAs, touched};
+ghost use Rattle.tw_diskcmd.specs.WorkSteps.{ComesOfFile, LeavesStep, WritesNothing};
+
+use crate::faults::{fault_of_service, fault_of_store, refuse_byte};
+use crate::limits::{EVENTS_LIMIT, EVENTS_READ};
+use crate::worked::Worked;
+use std::alloc::Global;
+use tw_base::{EventList, ReadFault, Sha, Thread};
+use tw_disk::Disk;
+use tw_msg::read_events;
+use tw_outside::{Inputs, read_all};
+use tw_service::Service;
+use tw_text::CommandFault;
+
+/// Adds a step of the events of the named file to the service on the disk, and answers its thread.
+/// The file is read and judged before the disk is touched.
+pub fn append<D: Disk, I: Inputs>(
+    alloc: Global,
+    disk: D,
+    inputs: &mut I,
+    file: &str,
+) -> Worked<D, Thread>
+    requires { I.may_ask inputs.old file.now }
+    ensures comes { AppendComes (asked (I.told inputs.old) (I.faults inputs.old) (I.faults inputs.new))
+        (touched (D.view disk).content (D.view disk).faults (D.view result.disk).faults) file.now result.outcome }
+    ensures leaves { AppendLeaves D.view disk result.disk (I.told inputs.old) file.now result.outcome }
+{
+    match read_step(alloc, inputs, file) {
+        Ok(events) => append_events(alloc, disk, &events),
+        Err(fault) => Worked {
+            outcome: Err(fault),
+            disk,
+        },
+    }
+}
+
+/// The events of the named file, or what comes of a file that isn't read or is none.
+fn read_step<I: Inputs>(
+    alloc: Global,
+    inputs: &mut I,
+    file: &str,
+) -> Result<EventList, CommandFault>
+    requires { I.may_ask inputs.old file.now }
+    ensures read { IfOk result (AreEventsOf (I.told inputs.old) file.now) }
+    ensures stopped { IfErr result (ComesOfFile (asked (I.told inputs.old) (I.faults inputs.old) (I.faults inputs.new)) file.now) }
+{
+    let bytes = read_all(alloc, inputs, file, EVENTS_READ)?;
+    if bytes.len() > EVENTS_LIMIT {
+        return Err(refuse_byte(alloc, file, EVENTS_LIMIT as u64));
+    }
+    match read_events(alloc, bytes.as_slice()) {
+        Ok(events) => Ok(events),
+        Err(ReadFault::Malformed { place }) => Err(refuse_byte(alloc, file, place)),
+        Err(ReadFault::NoMemory) => Err(CommandFault::NoMemory),
+    }
+}
+
+/// Adds a step of these events to the service on the disk.
+fn append_events<D: Disk>(alloc: Global, disk: D, events: &EventList) -> Worked<D, Thread>
+    ensures comes { StepComes (touched (D.view disk).content (D.view disk).faults (D.view result.disk).faults) events.now result.outcome }
+    ensures leaves { (h : History) → ReadsAs (D.view disk).content h
+        → LeavesStep D.view disk result.disk h (with_events h events.now) result.outcome }
+    ensures unwritten { WritesNothing result.outcome → IsLeft D.view disk result.disk }
+{
+    match Service::<D, Sha>::open(alloc, disk) {
+        Ok(service) => append_to(service, events),
+        Err((disk, fault)) => Worked {
+            outcome: Err(fault_of_store(fault)),
+            disk,
+        },
+    }
+}
+
+/// Adds a step of these events to the service, and gives its disk back.
+fn append_to<D: Disk>(service: Service<D, Sha>, events: &EventList) -> Worked<D, Thread>
+    requires { has_failed service ≡ false }
+    ensures comes { (found : Option Image) (before : ℕ) → OpensAsServiceWith found (name_of service) (head_of service) (λ ps. pages_of D.view service ≡ Some ps)
+        → ((h : History) → ReadsAs found h → Serves sha256 D.view service h) → before ≤ (D.view (disk_of service)).faults
+        → StepComes (touched found before (D.view result.disk).faults) events.now result.outcome }
+    ensures leaves { (h : History) → Serves sha256 D.view service h
+        → LeavesStep D.view (disk_of service) result.disk h (with_events h events.now) result.outcome }
+    ensures unwritten { WritesNothing result.outcome → IsLeft D.view (disk_of service) result.disk }
+{
+    let mut service = service;
+    match service.append(events) {
+        Ok(thread) => Worked {
+            outcome: Ok(thread),
+            disk: service.close(),
+        },
+        Err(refusal) => Worked {
+            outcome: Err(fault_of_service(refusal)),
+            disk: service.close(),
+        },
+    }
+}

@@ -1,0 +1,3 @@
+pub mod AnchorFronts
+pub mod Judging
+pub mod Histories

@@ -1,0 +1,47 @@
+-- `verify`: under which anchors a proof file is judged, what the verdict then says, and what the command comes to.
+use Rattle.std.specs.Prelude.{◌≡◌, ℕ, List, [], ◌∷◌, map, Option, Result, Ok, Err}
+use Rattle.sha2.specs.Sha256.{sha256}
+use Rattle.tw_base.specs.declared.thread.Thread.{Thread}
+use Rattle.tw_base.specs.Faults.{Rose}
+use Rattle.tw_outside.specs.Asked.{Asked}
+use Rattle.tw_outside.specs.Files.{Files, IsThere, Tells}
+use Rattle.tw_text.specs.declared.refusal.BadInput.TheVariants.{BadLine}
+use Rattle.tw_msg.specs.AnchorsFile.{AllGood, IsFirstBadLine, anchor, lines}
+use Rattle.tw_chain.specs.declared.verdict.Verdict.{Verdict}
+use Rattle.tw_chain.specs.Binding.{BindsHistories}
+use Rattle.tw_chain.specs.Reasons.{IsVerdict}
+use Rattle.tw_text.specs.declared.fault.CommandFault.{CommandFault}
+use Rattle.tw_text.specs.declared.fault.CommandFault.TheVariants.{Unreadable, InputFault, NoMemory}
+
+-- the anchors file is there; where the inputs tell its bytes, each of its lines is good, and these are their anchors
+pub record HasAnchors (told : Option Files) (file : List ℕ) (anchors : List Thread) : Type 0 where
+  pub there : IsThere told file
+  pub good : (bytes : List ℕ) → Tells told file bytes → AllGood (lines bytes)
+  pub same : (bytes : List ℕ) → Tells told file bytes → anchors ≡ map anchor (lines bytes)
+
+-- the verdict on what the proof file holds, under these anchors, with its theorem
+pub record IsJudged (told : Option Files) (file : List ℕ) (anchors : List Thread) (verdict : Verdict) : Type 0 where
+  pub there : IsThere told file
+  pub is_verdict : (bytes : List ℕ) → Tells told file bytes → IsVerdict sha256 anchors bytes verdict
+  pub binds : (bytes : List ℕ) → Tells told file bytes → BindsHistories sha256 anchors bytes verdict
+
+-- both files are there, and this is the number of the first bad line of the anchors file
+pub record HasBadLine (told : Option Files) (proof file : List ℕ) (number : ℕ) : Type 0 where
+  pub proof_there : IsThere told proof
+  pub there : IsThere told file
+  pub bad : (bytes : List ℕ) → Tells told file bytes → IsFirstBadLine (lines bytes) number
+
+-- what judging a proof under the anchors of a file comes to; want of memory is free
+abbrev pub VerifyFileComes : Asked → (proof file : List ℕ) → Result Verdict CommandFault → Type 0
+VerifyFileComes a proof file (Ok verdict) = (anchors : List Thread) × HasAnchors a.told file anchors × IsJudged a.told proof anchors verdict
+VerifyFileComes a proof file (Err (Unreadable (BadLine named number))) = (named ≡ file) × HasBadLine a.told proof file number
+VerifyFileComes a proof file (Err InputFault) = Rose a.before a.after
+VerifyFileComes a proof file (Err NoMemory) = Unit {0}
+VerifyFileComes a proof file _ = ⊥
+
+-- the same under one anchor
+abbrev pub VerifyOneComes : Asked → (proof : List ℕ) → (anchor : Thread) → Result Verdict CommandFault → Type 0
+VerifyOneComes a proof anchor (Ok verdict) = IsJudged a.told proof (anchor ∷ []) verdict
+VerifyOneComes a proof anchor (Err InputFault) = Rose a.before a.after
+VerifyOneComes a proof anchor (Err NoMemory) = Unit {0}
+VerifyOneComes a proof anchor _ = ⊥

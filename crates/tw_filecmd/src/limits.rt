@@ -1,0 +1,7 @@
+// How much of each file is read.
+
+/// Of a history file so many bytes are read: one more than it may have.
+pub(crate) const HISTORY_READ: usize = 67_108_865;
+
+/// Of a proof file so many bytes are read: more than any proof has.
+pub(crate) const PROOF_READ: usize = 5_242_880;

@@ -1,0 +1,33 @@
+-- Why a command isn't done: the status of each fault, and its line.
+use Rattle.std.specs.Prelude.{◌≡◌, ◌⊎◌, ℕ, List}
+use Rattle.tw_outside.specs.declared.reading.InputFault.{InputFault as ReadingFault}
+use Rattle.tw_outside.specs.declared.reading.InputFault.TheVariants as reading
+use Rattle.tw_text.specs.Lines.{fault_disk_text, fault_input_text, no_memory_text}
+use Rattle.tw_text.specs.Refusals.{bad_input_text, refused_text, store_text}
+use Rattle.tw_text.specs.declared.fault.CommandFault.{CommandFault}
+use Rattle.tw_text.specs.declared.fault.CommandFault.TheVariants.{InputFault, DiskFault, NoMemory, Refused, Unserved, Unreadable}
+
+abbrev pub fault_status : CommandFault → ℕ
+fault_status InputFault = 3
+fault_status DiskFault = 5
+fault_status NoMemory = 6
+fault_status (Refused refusal) = 7
+fault_status (Unserved cause) = 8
+fault_status (Unreadable bad) = 9
+
+abbrev pub fault_text : CommandFault → List ℕ
+fault_text InputFault = fault_input_text
+fault_text DiskFault = fault_disk_text
+fault_text NoMemory = no_memory_text
+fault_text (Refused refusal) = refused_text refusal
+fault_text (Unserved cause) = store_text cause
+fault_text (Unreadable bad) = bad_input_text bad
+
+-- a fault of reading, as the command's
+abbrev pub fault_of_input : ReadingFault → CommandFault
+fault_of_input reading.Failed = InputFault
+fault_of_input reading.NoMemory = NoMemory
+
+-- the wanted fault, or there was no memory for it
+abbrev pub IsWhereMemory : (wanted : CommandFault) → CommandFault → Type 0
+IsWhereMemory wanted fault = (fault ≡ wanted) ⊎ (fault ≡ NoMemory)
