@@ -108,21 +108,24 @@ module _ (h : History) (step index top : ℕ) (sound : IsSound h) where
 
 -- a step's page counts fewer events, so such an index is past them all
 module _ (pages : Image) (name : List ℕ) (head : Head) (step index top : ℕ) where
+  past : (count i : ℕ) → count ≤ i → event_refusal count i ≡ Some (service.NoEvent count)
+  unfolding event_refusal
+  past count i l = ap (λ (b : Bool). if b then None else Some (service.NoEvent count)) (le-ltb i count l)
+
   abbrev rest_at : ℕ → StepProof → Found (Result (List ℕ) Refusal)
   rest_at i proof = unless (event_refusal proof.info.count i) (events_of_info pages proof.info >>= (λ events. Is (Ok (proof_bytes sha256 name top i proof events))))
+
+  -- past the count each index comes to the same
+  rest_past : (i : ℕ) (proof : StepProof) → proof.info.count ≤ i → rest_at i proof ≡ Is (Err (service.NoEvent proof.info.count))
+  rest_past i proof more =
+      ap (λ (o : Option Refusal). unless o (events_of_info pages proof.info >>= (λ events. Is (Ok (proof_bytes sha256 name top i proof events))))) (past proof.info.count i more)
 
   same_rest : (proof : StepProof) → proof.info.count < 4294967296 → rest_at (min index 4294967295) proof ≡ rest_at index proof
   same_rest proof few =
       elim (cases_lt index proof.info.count) [
         | inl less ↦ ap (λ (i : ℕ). rest_at i proof) (let e : min index 4294967295 ≡ index = omega (arith, less, few) in e)
-        | inr more ↦ (
-            ap (λ (o : Option Refusal). unless o _) (past proof.info.count (min index 4294967295) (omega (arith, more, few)))
-            ∙ sym (ap (λ (o : Option Refusal). unless o _) (past proof.info.count index more)))
+        | inr more ↦ rest_past (min index 4294967295) proof (omega (arith, more, few)) ∙ sym (rest_past index proof more)
       ]
-    where
-      past : (count i : ℕ) → count ≤ i → event_refusal count i ≡ Some (service.NoEvent count)
-      unfolding event_refusal
-      past count i l = ap (λ (b : Bool). if b then None else Some (service.NoEvent count)) (le-ltb i count l)
 
   same_after : (f : Found StepProof) → found_proof sha256 pages head top step ≡ f → (f >>= rest_at (min index 4294967295)) ≡ (f >>= rest_at index)
   same_after (Bad page) is = refl
