@@ -1,7 +1,7 @@
 -- From what a service answers to the asking for a proof to what the command comes to.
-use Rattle.std.proofs.Common.{◌≡◌, ◌∙◌, ℕ, ◌<◌, List, length, min, Bool, true, false, refl, ap, sym, subst, arith, inl, inr, ◌⊎◌, ⊎_elim}
+use Rattle.std.proofs.Common.{◌≡◌, ◌∙◌, ℕ, ◌<◌, ◌≤◌, List, length, min, Bool, true, false, refl, ap, sym, subst, arith, inl, inr, ◌⊎◌, ⊎_elim}
 use Rattle.std.specs.Prelude.{Option, Some, None, Result, Ok, Err, IfErr, MatchOption, nat_lt, if◌then◌else◌}
-use Rattle.std.proofs.lemmas.Bool.{cases_lt}
+use Rattle.std.proofs.lemmas.Bool.{cases_lt, le-ltb}
 use Rattle.std.proofs.lemmas.Bool.Decides.{nat_tests}
 use Rattle.sha2.specs.Sha256.{sha256}
 use Rattle.tw_base.specs.declared.thread.Thread.{Thread}
@@ -13,14 +13,17 @@ use Rattle.tw_chain.specs.Accepting.{Accepts}
 use Rattle.tw_skipproof.specs.HistoryProofs.{MakesExistence}
 use Rattle.tw_disk.specs.Image.{Image}
 use Rattle.tw_base.specs.Faults.{Rose}
-use Rattle.tw_skiplist.proofs.StepCodecs.{events-few}
+use Rattle.tw_skiplist.proofs.FewEvents.{few_told}
 use Rattle.tw_skiplist.specs.declared.head.Head.{Head}
-use Rattle.tw_skiplist.specs.declared.info.StepInfo.{StepInfo}
-use Rattle.tw_skiplist.specs.Records.{FindsProof}
+use Rattle.tw_skiplist.specs.declared.info.StepProof.{StepProof}
+use Rattle.tw_skiplist.specs.Events.{events_of_info}
+use Rattle.tw_skiplist.specs.Found.{Found, ◌>>=◌}
+use Rattle.tw_skiplist.specs.Found.Found.{Is, Bad}
+use Rattle.tw_skiplist.specs.Readings.{found_proof}
 use Rattle.tw_service.specs.declared.refusal.Refusal.{Refusal}
 use Rattle.tw_service.specs.declared.refusal.Refusal.TheVariants as service
-use Rattle.tw_service.specs.Refusals.{IsBadPage, IsFault, IsNoEvent, OfBadPage, OfNoEvent}
-use Rattle.tw_service.specs.Finds.{FindsCount, FindsEvent, LacksProof}
+use Rattle.tw_service.specs.Refusals.{IsFault, IsNoEvent}
+use Rattle.tw_service.specs.Finds.{IsRefusalOf, event_proof, found_event, proof_bytes, unless}
 use Rattle.tw_service.specs.Limits.{event_refusal, is_in_order, or_else, order_refusal, proof_refusal}
 use Rattle.tw_service.specs.Machine.{Answers, IsStepOf, Reply}
 use Rattle.tw_service.specs.Machine.Call.{ProveEvent}
@@ -103,33 +106,34 @@ module _ (h : History) (step index top : ℕ) (sound : IsSound h) where
 
 -- ---- what the pages have of an event of an index of more than 32 bits
 
-few_told : (pages : Image) (head : Head) (top step : ℕ) (info : StepInfo) → FindsProof sha256 pages head top step info → info.count < 4294967296
-few_told pages head top step info finds = omega (arith, ap (λ (i : StepInfo). i.count) finds.tells.info_is, events-few step finds.tells.fields finds.tells.links finds.tells.is.is.spelled.fits)
+-- a step's page counts fewer events, so such an index is past them all
+module _ (pages : Image) (name : List ℕ) (head : Head) (step index top : ℕ) where
+  past : (count i : ℕ) → count ≤ i → event_refusal count i ≡ Some (service.NoEvent count)
+  unfolding event_refusal
+  past count i l = ap (λ (b : Bool). if b then None else Some (service.NoEvent count)) (le-ltb i count l)
 
-below_least : (index count : ℕ) → count < 4294967296 → min index 4294967295 < count → index < count
-below_least index count few below = omega (arith, few, below)
+  abbrev rest_at : ℕ → StepProof → Found (Result (List ℕ) Refusal)
+  rest_at i proof = unless (event_refusal proof.info.count i) (events_of_info pages proof.info >>= (λ events. Is (Ok (proof_bytes sha256 name top i proof events))))
 
-module _ (pages : Image) (head : Head) (step index top : ℕ) where
-  event_at_index : FindsEvent sha256 pages head step (min index 4294967295) top → FindsEvent sha256 pages head step index top
-  event_at_index e = record {
-    info = e.info;
-    finds = e.finds;
-    below = below_least index e.info.count (few_told pages head top step e.info e.finds) e.below;
-    events = e.events;
-    spelled = e.spelled;
-  }
+  -- past the count each index comes to the same
+  rest_past : (i : ℕ) (proof : StepProof) → proof.info.count ≤ i → rest_at i proof ≡ Is (Err (service.NoEvent proof.info.count))
+  rest_past i proof more =
+      ap (λ (o : Option Refusal). unless o (events_of_info pages proof.info >>= (λ events. Is (Ok (proof_bytes sha256 name top i proof events))))) (past proof.info.count i more)
 
-  count_at_index : (count : ℕ) → FindsCount sha256 pages head step (min index 4294967295) top count → FindsCount sha256 pages head step index top count
-  count_at_index count f = record { info = f.info; finds = f.finds; count_is = f.count_is; beyond = omega (arith, f.beyond) }
+  same_rest : (proof : StepProof) → proof.info.count < 4294967296 → rest_at (min index 4294967295) proof ≡ rest_at index proof
+  same_rest proof few =
+      elim (cases_lt index proof.info.count) [
+        | inl less ↦ ap (λ (i : ℕ). rest_at i proof) (let e : min index 4294967295 ≡ index = omega (arith, less, few) in e)
+        | inr more ↦ rest_past (min index 4294967295) proof (omega (arith, more, few)) ∙ sym (rest_past index proof more)
+      ]
 
-  lacks_at_index : (page : ℕ) → LacksProof sha256 pages head step (min index 4294967295) top page → LacksProof sha256 pages head step index top page
-  lacks_at_index page (inl met) = inl met
-  lacks_at_index page (inr lacks) = inr (record {
-    info = lacks.info;
-    finds = lacks.finds;
-    below = below_least index lacks.info.count (few_told pages head top step lacks.info lacks.finds) lacks.below;
-    nothing = lacks.nothing;
-  })
+  same_after : (f : Found StepProof) → found_proof sha256 pages head top step ≡ f → (f >>= rest_at (min index 4294967295)) ≡ (f >>= rest_at index)
+  same_after (Bad page) is = refl
+  same_after (Is proof) is = same_rest proof (few_told sha256 pages head top step proof is)
+
+  proof_at_index : event_proof sha256 pages name head step (min index 4294967295) top ≡ event_proof sha256 pages name head step index top
+  unfolding event_proof
+  proof_at_index = same_after (found_proof sha256 pages head top step) refl
 
 -- ---- what the service's answer comes to
 
@@ -146,30 +150,27 @@ module _ (found : Option Image) (before after : ℕ) (step index at : ℕ) (aske
       subst (λ (t : ℕ). IsStepOf sha256 h (ProveEvent step index t) reply h) (the_top h reads)
       (step_at_index h step index top reads.stands.sound reply next (subst (λ (i : ℕ). IsStepOf sha256 h (ProveEvent step i top) reply next) at_is is))
 
-  event_here : (pages : Image) → FindsEvent sha256 pages head step at top → FindsEvent sha256 pages head step index (top_of asked head.step)
-  event_here pages e =
-      subst (λ (t : ℕ). FindsEvent sha256 pages head step index t) top_is
-      (event_at_index pages head step index top (subst (λ (i : ℕ). FindsEvent sha256 pages head step i top) at_is e))
+  proof_here : (pages : Image) → event_proof sha256 pages name head step at top ≡ event_proof sha256 pages name head step index (top_of asked head.step)
+  proof_here pages =
+      ap (λ (i : ℕ). event_proof sha256 pages name head step i top) at_is ∙ proof_at_index pages name head step index top
+      ∙ ap (event_proof sha256 pages name head step index) top_is
 
-  count_here : (pages : Image) (count : ℕ) → FindsCount sha256 pages head step at top count → FindsCount sha256 pages head step index (top_of asked head.step) count
-  count_here pages count f =
-      subst (λ (t : ℕ). FindsCount sha256 pages head step index t count) top_is
-      (count_at_index pages head step index top count (subst (λ (i : ℕ). FindsCount sha256 pages head step i top count) at_is f))
-
-  lacks_here : (pages : Image) (page : ℕ) → LacksProof sha256 pages head step at top page → LacksProof sha256 pages head step index (top_of asked head.step) page
-  lacks_here pages page lacks =
-      subst (λ (t : ℕ). LacksProof sha256 pages head step index t page) top_is
-      (lacks_at_index pages head step index top page (subst (λ (i : ℕ). LacksProof sha256 pages head step i top page) at_is lacks))
+  -- where the table refuses nothing, what is found is the proof
+  found_here : (pages : Image) → order_refusal false head.step step top ≡ None → found_event sha256 pages name head step at top is_broken ≡ event_proof sha256 pages name head step index (top_of asked head.step)
+  found_here pages none =
+      ap (λ (b : Bool). found_event sha256 pages name head step at top b) whole
+      ∙ ap (λ (o : Option Refusal). unless o (event_proof sha256 pages name head step at top)) none ∙ proof_here pages
 
   pub proof_done : (bytes : List ℕ) → Table (order_refusal is_broken head.step step top) (Ok bytes) → ((h : History) → OldServes h → MakesExistence sha256 h step at top bytes)
       → ((h : History) → OldServes h → (anchors : List Thread) (anchor : Thread) → anchor_of anchors h.name top ≡ Some anchor → anchor.auth ≡ auth sha256 h top → Accepts sha256 anchors bytes)
       → (is_broken ≡ false → (h : History) → OldServes h → Answers sha256 h (ProveEvent step at top) (λ b. OfProof b) (Ok bytes) NewServes)
-      → ((pages : Image) → told ≡ Some pages → FindsEvent sha256 pages head step at top)
+      → ((pages : Image) → told ≡ Some pages → found_event sha256 pages name head step at top is_broken ≡ Is (Ok bytes))
       → Proves found step index asked bytes
   proof_done bytes table made accepted machine finds = record {
     name = name;
     head = head;
-    opens = opens_with found name head (λ pages. told ≡ Some pages) (λ pages. FindsEvent sha256 pages head step index (top_of asked head.step)) (λ pages is. event_here pages (finds pages is)) opens;
+    opens = opens_with found name head (λ pages. told ≡ Some pages) (λ pages. event_proof sha256 pages name head step index (top_of asked head.step) ≡ Is (Ok bytes))
+        (λ pages is. sym (found_here pages (no_refusal (order_refusal false head.step step top) bytes (subst (λ b. Table (order_refusal b head.step step top) (Ok bytes)) whole table))) ∙ finds pages is) opens;
     allowed =
         subst (λ (t : ℕ). order_refusal false head.step step t ≡ None) top_is
         (no_refusal (order_refusal false head.step step top) bytes (subst (λ b. Table (order_refusal b head.step step top) (Ok bytes)) whole table));
@@ -187,12 +188,11 @@ module _ (found : Option Image) (before after : ℕ) (step index at : ℕ) (aske
 
   pub proof_refused : (r : Refusal) (came : CommandFault) → came ≡ fault_of_service r → Table (order_refusal is_broken head.step step top) (Err r)
       → (is_broken ≡ false → (h : History) → OldServes h → Answers sha256 h (ProveEvent step at top) (λ b. OfProof b) (Err r) NewServes)
-      → (refusal r ≡ Err service.DiskFault → Rose before after) → (IsBadPage r → (h : History) → OldServes h → ⊥)
-      → OfBadPage r (λ page. (pages : Image) → told ≡ Some pages → LacksProof sha256 pages head step at top page)
-      → OfNoEvent r (λ count. (pages : Image) → told ≡ Some pages → FindsCount sha256 pages head step at top count)
+      → (refusal r ≡ Err service.DiskFault → Rose before after)
+      → ((pages : Image) → told ≡ Some pages → IsRefusalOf r (found_event sha256 pages name head step at top is_broken))
       → ProveComes (touched found before after) step index asked (Err came)
-  proof_refused r came is table_then machine fault bad met counts =
-      subst (λ (f : CommandFault). ProveComes (touched found before after) step index asked (Err f)) (sym is) (by r table_then machine fault bad met counts)
+  proof_refused r came is table_then machine fault met =
+      subst (λ (f : CommandFault). ProveComes (touched found before after) step index asked (Err f)) (sym is) (by r table_then machine fault met)
     where
       only : OpensAsService found name head
       only = only_opens found name head (λ pages. told ≡ Some pages) opens
@@ -212,6 +212,9 @@ module _ (found : Option Image) (before after : ℕ) (step index at : ℕ) (aske
       no_step told table =
           subst (λ (t : ℕ). order_refusal false head.step step t ≡ Some (service.NoStep told)) top_is (table_of (service.NoStep told) table (λ no. no) (λ no. no))
 
+      none_of : (q : Refusal) → (IsOfOrder head.step q → ⊥) → Table (order_refusal is_broken head.step step top) (Err q) → order_refusal false head.step step top ≡ None
+      none_of q other table = in_order head.step step top q other (subst (λ b. Table (order_refusal b head.step step top) (Err q)) whole table)
+
       allowed : (q : Refusal) → (IsOfOrder head.step q → ⊥) → Table (order_refusal is_broken head.step step top) (Err q)
           → order_refusal false head.step step (top_of asked head.step) ≡ None
       allowed q other table =
@@ -220,28 +223,28 @@ module _ (found : Option Image) (before after : ℕ) (step index at : ℕ) (aske
 
       by : (r : Refusal) → Table (order_refusal is_broken head.step step top) (Err r)
           → (is_broken ≡ false → (h : History) → OldServes h → Answers sha256 h (ProveEvent step at top) (λ b. OfProof b) (Err r) NewServes)
-          → (refusal r ≡ Err service.DiskFault → Rose before after) → (IsBadPage r → (h : History) → OldServes h → ⊥)
-          → OfBadPage r (λ page. (pages : Image) → told ≡ Some pages → LacksProof sha256 pages head step at top page)
-          → OfNoEvent r (λ count. (pages : Image) → told ≡ Some pages → FindsCount sha256 pages head step at top count)
+          → (refusal r ≡ Err service.DiskFault → Rose before after)
+          → ((pages : Image) → told ≡ Some pages → IsRefusalOf r (found_event sha256 pages name head step at top is_broken))
           → ProveComes (touched found before after) step index asked (Err (fault_of_service r))
-      by (service.NoStep told) table machine fault bad met counts =
+      by (service.NoStep told) table machine fault met =
           (record { name = name; head = head; opens = only; table = no_step told table; machine = λ h reads. machine_at (Refused (service.NoStep told)) h h reads (machine whole h (serves h reads)).0 }, last_told told table)
-      by (service.NoEvent count) table machine fault bad met counts = (
+      by (service.NoEvent count) table machine fault met = (
         record { name = name; head = head; opens = only; table = allowed (service.NoEvent count) (λ no. no) table; machine = λ h reads. machine_at (Refused (service.NoEvent count)) h h reads (machine whole h (serves h reads)).0 },
-        opens_with found name head (λ pages. told ≡ Some pages) (λ pages. FindsCount sha256 pages head step index (top_of asked head.step) count) (λ pages is. count_here pages count (counts pages is)) opens,
+        opens_with found name head (λ pages. told ≡ Some pages) (λ pages. event_proof sha256 pages name head step index (top_of asked head.step) ≡ Is (Err (service.NoEvent count)))
+            (λ pages is. sym (found_here pages (none_of (service.NoEvent count) (λ no. no) table)) ∙ met pages is) opens,
       )
-      by service.Full table machine fault bad met counts = absurd (never service.Full table (λ no. no) (λ no. no) (λ no. no))
-      by (service.TooMany count) table machine fault bad met counts = absurd (never (service.TooMany count) table (λ no. no) (λ no. no) (λ no. no))
-      by (service.TooLong bytes) table machine fault bad met counts = absurd (never (service.TooLong bytes) table (λ no. no) (λ no. no) (λ no. no))
-      by service.Reopen table machine fault bad met counts = absurd (never service.Reopen table (λ no. no) (λ no. no) (λ no. no))
-      by (service.BadPage page) table machine fault bad met counts = λ image reads. (
+      by service.Full table machine fault met = absurd (never service.Full table (λ no. no) (λ no. no) (λ no. no))
+      by (service.TooMany count) table machine fault met = absurd (never (service.TooMany count) table (λ no. no) (λ no. no) (λ no. no))
+      by (service.TooLong bytes) table machine fault met = absurd (never (service.TooLong bytes) table (λ no. no) (λ no. no) (λ no. no))
+      by service.Reopen table machine fault met = absurd (never service.Reopen table (λ no. no) (λ no. no) (λ no. no))
+      by (service.BadPage page) table machine fault met = λ image reads. (
         (
           name,
           head,
-          opens_with found name head (λ pages. told ≡ Some pages) (λ pages. MeetsBadPage step index asked pages head page)
-              (λ pages is. (allowed (service.BadPage page) (λ no. no) table, lacks_here pages page (met pages is))) opens image reads,
+          opens_with found name head (λ pages. told ≡ Some pages) (λ pages. MeetsBadPage step index asked pages name head page)
+              (λ pages is. (allowed (service.BadPage page) (λ no. no) table, sym (found_here pages (none_of (service.BadPage page) (λ no. no) table)) ∙ met pages is)) opens image reads,
         ),
-        λ h stands. bad tt h (serves h (record { image = image; told = reads; stands = stands })),
+        λ h stands. machine whole h (serves h (record { image = image; told = reads; stands = stands })),
       )
-      by service.DiskFault table machine fault bad met counts = fault refl
-      by service.NoMemory table machine fault bad met counts = tt
+      by service.DiskFault table machine fault met = fault refl
+      by service.NoMemory table machine fault met = tt

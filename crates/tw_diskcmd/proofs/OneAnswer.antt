@@ -10,14 +10,16 @@ use Rattle.tw_pages.specs.declared.open.StoreFault.TheVariants as fault
 use Rattle.tw_pages.proofs.NotRefused.{not_refused, refused_once}
 use Rattle.tw_pages.proofs.Once.{opens_once}
 use Rattle.tw_skiplist.specs.declared.head.Head.{Head}
-use Rattle.tw_skiplist.specs.Records.{head_ref}
+use Rattle.tw_skiplist.specs.declared.head.StepRef.{StepRef}
+use Rattle.tw_skiplist.specs.Found.{Found}
+use Rattle.tw_skiplist.specs.Found.Found.{Is, Bad}
+use Rattle.tw_skiplist.specs.Walks.{next_links}
+use Rattle.tw_skiplist.proofs.FoundLaws.{same_found}
 use Rattle.tw_service.specs.declared.refusal.Refusal.{Refusal as ServiceRefusal}
 use Rattle.tw_service.specs.declared.refusal.Refusal.TheVariants as service
-use Rattle.tw_service.specs.Finds.{FindsCount, FindsEvent, FindsLinks}
+use Rattle.tw_service.specs.Finds.{event_proof}
 use Rattle.tw_service.specs.Limits.{append_refusal, order_refusal}
 use Rattle.tw_service.specs.Stands.{IsNotOpenedFor, OpensWith}
-use Rattle.tw_service.proofs.Exclusions.{links_or_bad, one_bad_link}
-use Rattle.tw_service.proofs.FindingLaws.{count_or_bad, event_or_bad, event_or_count, one_bad, one_count}
 use Rattle.tw_service.proofs.Standing.{one_service, opens_never_refused}
 use Rattle.tw_text.specs.declared.fault.CommandFault.{CommandFault}
 use Rattle.tw_text.specs.declared.fault.CommandFault.TheVariants.{Refused, Unserved, DiskFault, NoMemory}
@@ -50,6 +52,25 @@ none_some r is = absurd (cc)
 same_last : (n m : ℕ) → service.NoStep n ≡ service.NoStep m → n ≡ m
 same_last n m is = cc
 
+abbrev Came : Type 0
+Came = Result (List ℕ) ServiceRefusal
+
+ok_or_err : (x : List ℕ) (r : ServiceRefusal) → ◌≡◌ {A = Came} (Ok x) (Err r) → ⊥
+ok_or_err x r e = absurd cc
+
+same_ok : (x y : List ℕ) → ◌≡◌ {A = Came} (Ok x) (Ok y) → x ≡ y
+same_ok x y e = cc
+
+same_count : (n m : ℕ) → ◌≡◌ {A = Came} (Err (service.NoEvent n)) (Err (service.NoEvent m)) → n ≡ m
+same_count n m e = cc
+
+module _ {X : Type 0} where
+  is_or_bad : (x : X) (page : ℕ) → Is x ≡ Bad page → ⊥
+  is_or_bad x page e = absurd cc
+
+  one_bad_page : (page other : ℕ) → ◌≡◌ {A = Found X} (Bad page) (Bad other) → page ≡ other
+  one_bad_page page other e = cc
+
 -- an image isn't opened for one reason at most
 not_opened_once : (image : Image) (f g : StoreFault) → IsNotOpenedFor image f → IsNotOpenedFor image g → f ≡ g
 not_opened_once image f g (inl one) (inl two) = refused_once image f g one two
@@ -60,21 +81,20 @@ not_opened_once image f g (inr one) (inr two) =
 
 module _ (image : Image) where
   -- the image opens as a service of whose head and pages P holds
-  record Opened (P : Head → Image → Type 0) : Type 0 where
+  record Opened (P : List ℕ → Head → Image → Type 0) : Type 0 where
     name : List ℕ
     head : Head
-    opens : OpensWith image name head (P head)
+    opens : OpensWith image name head (P name head)
 
   -- what two answers say of a service, they say of the same one
-  record Both {P Q : Head → Image → Type 0} (a : Opened P) (b : Opened Q) : Type 0 where
+  record Both {P Q : List ℕ → Head → Image → Type 0} (a : Opened P) (b : Opened Q) : Type 0 where
     names : a.name ≡ b.name
     heads : a.head ≡ b.head
     pages : Image
-    few : 4 + length pages ≤ 2 ^ 64
-    first : P a.head pages
-    second : Q a.head pages
+    first : P a.name a.head pages
+    second : Q a.name a.head pages
 
-  both : {P Q : Head → Image → Type 0} (a : Opened P) (b : Opened Q) → Both a b
+  both : {P Q : List ℕ → Head → Image → Type 0} (a : Opened P) (b : Opened Q) → Both a b
   both {P} {Q} a b =
       let o = a.opens in
       let p = b.opens in
@@ -83,16 +103,15 @@ module _ (image : Image) where
         names = same.0;
         heads = same.1;
         pages = o.opening.pages;
-        few = same.3;
         first = o.pages;
-        second = subst (λ (h : Head). Q h o.opening.pages) (sym same.1) (subst (λ (ps : Image). Q b.head ps) (sym same.2) p.pages);
+        second = subst (λ (n : List ℕ). Q n a.head o.opening.pages) (sym same.0) (subst (λ (h : Head). Q b.name h o.opening.pages) (sym same.1) (subst (λ (ps : Image). Q b.name b.head ps) (sym same.2) p.pages));
       }
 
   -- ---- reasons why nothing is served
 
-  module _ (Meets : (pages : Image) → Head → (page : ℕ) → Type 0) where
-    abbrev Met : ℕ → Head → Image → Type 0
-    Met page h ps = Meets ps h page
+  module _ (Meets : (pages : Image) → (name : List ℕ) → Head → (page : ℕ) → Type 0) where
+    abbrev Met : ℕ → List ℕ → Head → Image → Type 0
+    Met page n h ps = Meets ps n h page
 
     met : (page : ℕ) → IsUnserved Meets (Some image) (BadPage page) → Opened (Met page)
     met page is = let bad = (is image refl).0 in record { name = bad.0; head = bad.1; opens = bad.2 }
@@ -103,7 +122,7 @@ module _ (image : Image) where
       opened : Opened (Met page)
 
     -- where the image opens, it is for a page
-    of_page : {P : Head → Image → Type 0} (a : Opened P) (cause : StoreCause) → IsUnserved Meets (Some image) cause → OfPage cause
+    of_page : {P : List ℕ → Head → Image → Type 0} (a : Opened P) (cause : StoreCause) → IsUnserved Meets (Some image) cause → OfPage cause
     of_page a Blank is = absurd (opens_never_refused image a.name a.head fault.Blank (opens_only a.opens) (is image refl))
     of_page a (NotAStore slot) is = absurd (opens_never_refused image a.name a.head (fault.NotAStore slot) (opens_only a.opens) (is image refl))
     of_page a (BadPage page) is = record { page = page; is = refl; opened = met page is }
@@ -126,11 +145,11 @@ module _ (image : Image) where
   -- ---- adding a step
 
   module _ (events : List (List ℕ)) (before after : ℕ) where
-    abbrev Adds : Head → Image → Type 0
-    Adds h ps = (append_refusal false h.step events ≡ None) × FindsLinks ps h
+    abbrev Adds : List ℕ → Head → Image → Type 0
+    Adds n h ps = (append_refusal false h.step events ≡ None) × ((links : List StepRef) × (next_links ps h ≡ Is links))
 
-    abbrev RefusesBy : ServiceRefusal → Head → Image → Type 0
-    RefusesBy r h ps = append_refusal false h.step events ≡ Some r
+    abbrev RefusesBy : ServiceRefusal → List ℕ → Head → Image → Type 0
+    RefusesBy r n h ps = append_refusal false h.step events ≡ Some r
 
     adds : (thread : Thread) → AddsStep (Some image) events thread → Opened Adds
     adds thread a = record { name = a.name; head = a.head; opens = (let o = a.opens image refl in opens_also _ o (a.allowed, o.pages)) }
@@ -170,12 +189,12 @@ module _ (image : Image) where
     bad_after_adds a cause is =
         let of = of_page (MeetsBadLink events) a cause is in
         let b = both a of.opened in
-        links_or_bad b.pages b.few (head_ref a.head) a.head.step b.first.1.0 of.page b.first.1.1 b.second.1
+        is_or_bad b.first.1.0 of.page (sym b.first.1.1 ∙ b.second.1)
 
     one_link : (page other : ℕ) → Opened (Met (MeetsBadLink events) page) → Opened (Met (MeetsBadLink events) other) → page ≡ other
     one_link page other one two =
         let b = both one two in
-        one_bad_link b.pages b.few (head_ref one.head) one.head.step page other b.first.1 b.second.1
+        one_bad_page {X = List StepRef} page other (sym b.first.1 ∙ b.second.1)
 
     made_once : (one other : Thread) → AddsStep (Some image) events one → AddsStep (Some image) events other → (one.from ≡ other.from) × (one.step ≡ other.step)
     unfolding adds
@@ -224,19 +243,22 @@ module _ (image : Image) where
     abbrev Order : Head → Option ServiceRefusal
     Order h = order_refusal false h.step step (top_of top h.step)
 
-    abbrev HasEvent : Head → Image → Type 0
-    HasEvent h ps = (Order h ≡ None) × FindsEvent sha256 ps h step index (top_of top h.step)
+    abbrev Comes_to : List ℕ → Head → Image → Found (Result (List ℕ) ServiceRefusal)
+    Comes_to n h ps = event_proof sha256 ps n h step index (top_of top h.step)
 
-    abbrev HasCount : ℕ → Head → Image → Type 0
-    HasCount n h ps = (Order h ≡ None) × FindsCount sha256 ps h step index (top_of top h.step) n
+    abbrev HasEvent : List ℕ → List ℕ → Head → Image → Type 0
+    HasEvent proof n h ps = (Order h ≡ None) × (Comes_to n h ps ≡ Is (Ok proof))
 
-    abbrev HasNoStep : ℕ → Head → Image → Type 0
-    HasNoStep last h ps = Order h ≡ Some (service.NoStep last)
+    abbrev HasCount : ℕ → List ℕ → Head → Image → Type 0
+    HasCount count n h ps = (Order h ≡ None) × (Comes_to n h ps ≡ Is (Err (service.NoEvent count)))
 
-    abbrev Bad : (page : ℕ) → Head → Image → Type 0
-    Bad page = Met (MeetsBadPage step index top) page
+    abbrev HasNoStep : ℕ → List ℕ → Head → Image → Type 0
+    HasNoStep last n h ps = Order h ≡ Some (service.NoStep last)
 
-    proves : (proof : List ℕ) → Proves (Some image) step index top proof → Opened HasEvent
+    abbrev IsBad : (page : ℕ) → List ℕ → Head → Image → Type 0
+    IsBad page = Met (MeetsBadPage step index top) page
+
+    proves : (proof : List ℕ) → Proves (Some image) step index top proof → Opened (HasEvent proof)
     proves proof a = record { name = a.name; head = a.head; opens = (let o = a.opens image refl in opens_also _ o (a.allowed, o.pages)) }
 
     counts : (n : ℕ) → RefusesProof (Some image) step index top (NoEvent n) → Opened (HasCount n)
@@ -248,22 +270,21 @@ module _ (image : Image) where
     abbrev RefusesProofBy : Refusal → Type 0
     RefusesProofBy r = RefusesProof (Some image) step index top r
 
-    one_page : (page other : ℕ) → Opened (Bad page) → Opened (Bad other) → page ≡ other
+    one_page : (page other : ℕ) → Opened (IsBad page) → Opened (IsBad other) → page ≡ other
     one_page page other one two =
         let b = both one two in
-        one_bad sha256 b.pages b.few one.head step (top_of top one.head.step) index page other b.first.1 b.second.1
+        one_bad_page {X = Result (List ℕ) ServiceRefusal} page other (sym b.first.1 ∙ b.second.1)
 
-    proved_or_refused : (r : Refusal) → Opened HasEvent → RefusesProofBy r → ⊥
-    proved_or_refused (NoStep last) a is = let b = both a (misses last is) in none_some (service.NoStep last) (sym b.first.0 ∙ b.second)
-    proved_or_refused (NoEvent n) a is =
-        let b = both a (counts n is) in event_or_count sha256 b.pages b.few a.head step (top_of top a.head.step) index n b.first.1 b.second.1
-    proved_or_refused _ a is = absurd is
+    proved_or_refused : (proof : List ℕ) (r : Refusal) → Opened (HasEvent proof) → RefusesProofBy r → ⊥
+    proved_or_refused proof (NoStep last) a is = let b = both a (misses last is) in none_some (service.NoStep last) (sym b.first.0 ∙ b.second)
+    proved_or_refused proof (NoEvent n) a is = let b = both a (counts n is) in ok_or_err proof (service.NoEvent n) (same_found (Ok proof) (Err (service.NoEvent n)) (sym b.first.1 ∙ b.second.1))
+    proved_or_refused proof _ a is = absurd is
 
-    proved_or_unserved : (cause : StoreCause) → Opened HasEvent → IsUnserved (MeetsBadPage step index top) (Some image) cause → ⊥
-    proved_or_unserved cause a is =
+    proved_or_unserved : (proof : List ℕ) (cause : StoreCause) → Opened (HasEvent proof) → IsUnserved (MeetsBadPage step index top) (Some image) cause → ⊥
+    proved_or_unserved proof cause a is =
         let of = of_page (MeetsBadPage step index top) a cause is in
         let b = both a of.opened in
-        event_or_bad sha256 b.pages b.few a.head step (top_of top a.head.step) index of.page b.first.1 b.second.1
+        is_or_bad (Ok proof) of.page (sym b.first.1 ∙ b.second.1)
 
     refused_or_not : (r : Refusal) (cause : StoreCause) → RefusesProofBy r → IsUnserved (MeetsBadPage step index top) (Some image) cause → ⊥
     refused_or_not (NoStep last) cause is unserved =
@@ -275,7 +296,7 @@ module _ (image : Image) where
         let a = counts n is in
         let of = of_page (MeetsBadPage step index top) a cause unserved in
         let b = both a of.opened in
-        count_or_bad sha256 b.pages b.few a.head step (top_of top a.head.step) index n of.page b.first.1 b.second.1
+        is_or_bad (Err (service.NoEvent n)) of.page (sym b.first.1 ∙ b.second.1)
     refused_or_not _ cause is unserved = absurd is
 
     refused_once_of : (r q : Refusal) → RefusesProofBy r → RefusesProofBy q → r ≡ q
@@ -294,30 +315,33 @@ module _ (image : Image) where
         by (NoEvent m) two =
             let a = counts n one in
             let b = both a (counts m two) in
-            ap (λ (k : ℕ). NoEvent k) (one_count sha256 b.pages b.few a.head step (top_of top a.head.step) index n m b.first.1 b.second.1)
+            ap (λ (k : ℕ). NoEvent k) (same_count n m (same_found (Err (service.NoEvent n)) (Err (service.NoEvent m)) (sym b.first.1 ∙ b.second.1)))
         by _ two = absurd two
     refused_once_of _ q one two = absurd one
 
-    abbrev AnyTwo : List ℕ → List ℕ → Type 0
-    AnyTwo one other = Unit {0}
+    abbrev AreOne : List ℕ → List ℕ → Type 0
+    AreOne one other = one ≡ other
+
+    proved_once : (one other : List ℕ) → Opened (HasEvent one) → Opened (HasEvent other) → one ≡ other
+    proved_once one other a b = let same = both a b in same_ok one other (same_found (Ok one) (Ok other) (sym same.first.1 ∙ same.second.1))
 
     abbrev ComesProof : Result (List ℕ) CommandFault → Type 0
     ComesProof outcome = ProveComes (touched (Some image) before after) step index top outcome
 
-    pub agree_proof : (one other : Result (List ℕ) CommandFault) → TellsContent one → TellsContent other → ComesProof one → ComesProof other → Agrees AnyTwo one other
+    pub agree_proof : (one other : Result (List ℕ) CommandFault) → TellsContent one → TellsContent other → ComesProof one → ComesProof other → Agrees AreOne one other
     agree_proof (Ok s) other tells tells' a b = by other tells' b
       where
-        by : (other : Result (List ℕ) CommandFault) → TellsContent other → ComesProof other → Agrees AnyTwo (Ok s) other
-        by (Ok t) tells' b = tt
-        by (Err (Refused r)) tells' b = proved_or_refused r (proves s a) b
-        by (Err (Unserved cause)) tells' b = proved_or_unserved cause (proves s a) b
+        by : (other : Result (List ℕ) CommandFault) → TellsContent other → ComesProof other → Agrees AreOne (Ok s) other
+        by (Ok t) tells' b = proved_once s t (proves s a) (proves t b)
+        by (Err (Refused r)) tells' b = proved_or_refused s r (proves s a) b
+        by (Err (Unserved cause)) tells' b = proved_or_unserved s cause (proves s a) b
         by (Err DiskFault) tells' b = absurd tells'
         by (Err NoMemory) tells' b = absurd tells'
         by _ tells' b = absurd b
     agree_proof (Err (Refused r)) other tells tells' a b = by other tells' b
       where
-        by : (other : Result (List ℕ) CommandFault) → TellsContent other → ComesProof other → Agrees AnyTwo (Err (Refused r)) other
-        by (Ok t) tells' b = proved_or_refused r (proves t b) a
+        by : (other : Result (List ℕ) CommandFault) → TellsContent other → ComesProof other → Agrees AreOne (Err (Refused r)) other
+        by (Ok t) tells' b = proved_or_refused t r (proves t b) a
         by (Err (Refused q)) tells' b = refused_once_of r q a b
         by (Err (Unserved cause)) tells' b = refused_or_not r cause a b
         by (Err DiskFault) tells' b = absurd tells'
@@ -325,8 +349,8 @@ module _ (image : Image) where
         by _ tells' b = absurd b
     agree_proof (Err (Unserved cause)) other tells tells' a b = by other tells' b
       where
-        by : (other : Result (List ℕ) CommandFault) → TellsContent other → ComesProof other → Agrees AnyTwo (Err (Unserved cause)) other
-        by (Ok t) tells' b = proved_or_unserved cause (proves t b) a
+        by : (other : Result (List ℕ) CommandFault) → TellsContent other → ComesProof other → Agrees AreOne (Err (Unserved cause)) other
+        by (Ok t) tells' b = proved_or_unserved t cause (proves t b) a
         by (Err (Refused q)) tells' b = refused_or_not q cause b a
         by (Err (Unserved why)) tells' b = one_cause (MeetsBadPage step index top) one_page cause why a b
         by (Err DiskFault) tells' b = absurd tells'

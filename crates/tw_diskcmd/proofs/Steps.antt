@@ -11,7 +11,13 @@ use Rattle.tw_skiplist.specs.declared.head.Head.{Head}
 use Rattle.tw_service.specs.declared.refusal.Refusal.{Refusal}
 use Rattle.tw_service.specs.declared.refusal.Refusal.TheVariants as service
 use Rattle.tw_service.specs.Refusals.{IsBadPage, IsFault, OfBadPage}
-use Rattle.tw_service.specs.Finds.{FindsLinks, LacksLinks}
+use Rattle.tw_base.specs.declared.root.Root.{Root}
+use Rattle.tw_skiplist.specs.declared.head.StepRef.{StepRef}
+use Rattle.tw_skiplist.specs.Appended.{Next, appended, next_of}
+use Rattle.tw_skiplist.specs.Found.{Found, ◌>>=◌}
+use Rattle.tw_skiplist.specs.Found.Found.{Is, Bad}
+use Rattle.tw_skiplist.specs.Walks.{next_links}
+use Rattle.tw_service.specs.Finds.{IsAnswer, IsRefusalOf, found_thread, thread_at, unless}
 use Rattle.tw_service.specs.Limits.{append_refusal, first_long, bytes_of, length_refusal, limits_refusal}
 use Rattle.tw_service.specs.Machine.{Answers, IsStepOf, last_thread}
 use Rattle.tw_service.specs.Machine.Call.{Append}
@@ -105,17 +111,43 @@ to_longer h next events thread is = to_longer_by (append_refusal false (length h
 
 -- ---- what the service's answer comes to
 
-module _ (found : Option Image) (before after : ℕ) (events : List (List ℕ)) (is_broken : Bool) (name : List ℕ) (head : Head) (told : Option Image) (opens : OpensAsServiceWith found name head (λ pages. told ≡ Some pages)) (whole : is_broken ≡ false)
+abbrev found_ok : Thread → Found (Result Thread Refusal)
+found_ok thread = Is (Ok thread)
+
+-- the links that a thread that is found stands on
+links_of_appended : (f : Found (List StepRef)) (next : List StepRef → Next) (then_thread : Next → Found (Result Thread Refusal)) (thread : Thread) → ((f >>= (λ links. Is (next links))) >>= then_thread) ≡ Is (Ok thread)
+    → (links : List StepRef) × (f ≡ Is links)
+links_of_appended (Is links) next then_thread thread e = (links, refl)
+links_of_appended (Bad page) next then_thread thread e = absurd cc
+
+bad_of_appended : (f : Found (List StepRef)) (next : List StepRef → Next) (thread_of : Next → Thread) (page : ℕ) → ((f >>= (λ links. Is (next links))) >>= (λ n. found_ok (thread_of n))) ≡ Bad page → f ≡ Bad page
+bad_of_appended (Is links) next thread_of page e = absurd cc
+bad_of_appended (Bad other) next thread_of page e = let same : ◌≡◌ {A = Found (Result Thread Refusal)} (Bad other) (Bad page) = e in (let pages : other ≡ page = cc in ap (λ (p : ℕ). Bad p) pages)
+
+module _ (pages : Image) (name : List ℕ) (head : Head) (events : List (List ℕ)) (archive : Root) (none : append_refusal false head.step events ≡ None) where
+  thread_is : found_thread sha256 pages name head false events archive ≡ ((next_links pages head >>= (λ links. Is (next_of sha256 pages head events archive links))) >>= (λ next. found_ok (thread_at name next.head)))
+  unfolding found_thread appended
+  thread_is = ap (λ (o : Option Refusal). unless o (appended sha256 pages head events archive >>= (λ next. found_ok (thread_at name next.head)))) none
+
+  links_found : (thread : Thread) → found_thread sha256 pages name head false events archive ≡ Is (Ok thread) → (links : List StepRef) × (next_links pages head ≡ Is links)
+  links_found thread is = links_of_appended (next_links pages head) (next_of sha256 pages head events archive) (λ next. found_ok (thread_at name next.head)) thread (sym thread_is ∙ is)
+
+  bad_link : (page : ℕ) → found_thread sha256 pages name head false events archive ≡ Bad page → next_links pages head ≡ Bad page
+  bad_link page is = bad_of_appended (next_links pages head) (next_of sha256 pages head events archive) (λ next. thread_at name next.head) page (sym thread_is ∙ is)
+
+module _ (found : Option Image) (before after : ℕ) (events : List (List ℕ)) (is_broken : Bool) (name : List ℕ) (head : Head) (archive : Root) (told : Option Image) (opens : OpensAsServiceWith found name head (λ pages. told ≡ Some pages)) (whole : is_broken ≡ false)
     (OldServes NewServes : History → Type 0) (serves : (h : History) → ReadsAs found h → OldServes h) where
   pub step_done : (thread : Thread) → Table (append_refusal is_broken head.step events) (Ok thread)
       → (thread.from ≡ name) × (thread.step ≡ head.step + 1)
       → ((h : History) → OldServes h → NewServes (with_events h events) × (thread ≡ last_thread sha256 (with_events h events)))
       → (is_broken ≡ false → (h : History) → OldServes h → Answers sha256 h (Append events) (λ t. OfThread t) (Ok thread) NewServes)
-      → ((pages : Image) → told ≡ Some pages → FindsLinks pages head) → AddsStep found events thread
-  step_done thread table next done machine links = record {
+      → ((pages : Image) → told ≡ Some pages → found_thread sha256 pages name head is_broken events archive ≡ Is (Ok thread)) → AddsStep found events thread
+  step_done thread table next done machine finds = record {
     name = name;
     head = head;
-    opens = opens_with found name head (λ pages. told ≡ Some pages) (λ pages. FindsLinks pages head) links opens;
+    opens = opens_with found name head (λ pages. told ≡ Some pages) (λ pages. (links : List StepRef) × (next_links pages head ≡ Is links))
+        (λ pages is. links_found pages name head events archive (no_refusal (append_refusal false head.step events) thread (subst (λ b. Table (append_refusal b head.step events) (Ok thread)) whole table)) thread
+        (subst (λ b. found_thread sha256 pages name head b events archive ≡ Is (Ok thread)) whole (finds pages is))) opens;
     from = next.0;
     next = next.1;
     allowed = no_refusal (append_refusal false head.step events) thread (subst (λ b. Table (append_refusal b head.step events) (Ok thread)) whole table);
@@ -125,10 +157,10 @@ module _ (found : Option Image) (before after : ℕ) (events : List (List ℕ)) 
 
   pub step_refused : (r : Refusal) (came : CommandFault) → came ≡ fault_of_service r → Table (append_refusal is_broken head.step events) (Err r)
       → (is_broken ≡ false → (h : History) → OldServes h → Answers sha256 h (Append events) (λ t. OfThread t) (Err r) NewServes)
-      → (refusal r ≡ Err service.DiskFault → Rose before after) → (IsBadPage r → (h : History) → OldServes h → ⊥)
-      → OfBadPage r (λ page. (pages : Image) → told ≡ Some pages → LacksLinks pages head page)
+      → (refusal r ≡ Err service.DiskFault → Rose before after)
+      → ((pages : Image) → told ≡ Some pages → IsRefusalOf r (found_thread sha256 pages name head is_broken events archive))
       → StepComes (touched found before after) events (Err came)
-  step_refused r came is table_then machine fault bad met = subst (λ (f : CommandFault). StepComes (touched found before after) events (Err f)) (sym is) (by r table_then machine fault bad met)
+  step_refused r came is table_then machine fault met = subst (λ (f : CommandFault). StepComes (touched found before after) events (Err f)) (sym is) (by r table_then machine fault met)
     where
       only : OpensAsService found name head
       only = only_opens found name head (λ pages. told ≡ Some pages) opens
@@ -145,23 +177,24 @@ module _ (found : Option Image) (before after : ℕ) (events : List (List ℕ)) 
 
       by : (r : Refusal) → Table (append_refusal is_broken head.step events) (Err r)
           → (is_broken ≡ false → (h : History) → OldServes h → Answers sha256 h (Append events) (λ t. OfThread t) (Err r) NewServes)
-          → (refusal r ≡ Err service.DiskFault → Rose before after) → (IsBadPage r → (h : History) → OldServes h → ⊥)
-          → OfBadPage r (λ page. (pages : Image) → told ≡ Some pages → LacksLinks pages head page)
+          → (refusal r ≡ Err service.DiskFault → Rose before after)
+          → ((pages : Image) → told ≡ Some pages → IsRefusalOf r (found_thread sha256 pages name head is_broken events archive))
           → StepComes (touched found before after) events (Err (fault_of_service r))
-      by service.Full table machine fault bad met = record { name = name; head = head; opens = only; refused = table_of service.Full table (λ no. no); machine = λ h reads. (machine whole h (serves h reads)).0 }
-      by (service.TooMany count) table machine fault bad met =
+      by service.Full table machine fault met = record { name = name; head = head; opens = only; refused = table_of service.Full table (λ no. no); machine = λ h reads. (machine whole h (serves h reads)).0 }
+      by (service.TooMany count) table machine fault met =
           record { name = name; head = head; opens = only; refused = table_of (service.TooMany count) table (λ no. no); machine = λ h reads. (machine whole h (serves h reads)).0 }
-      by (service.TooLong bytes) table machine fault bad met =
+      by (service.TooLong bytes) table machine fault met =
           record { name = name; head = head; opens = only; refused = table_of (service.TooLong bytes) table (λ no. no); machine = λ h reads. (machine whole h (serves h reads)).0 }
-      by (service.NoStep last) table machine fault bad met = absurd (never (service.NoStep last) table (λ no. no) (λ no. no))
-      by (service.NoEvent count) table machine fault bad met = absurd (never (service.NoEvent count) table (λ no. no) (λ no. no))
-      by service.Reopen table machine fault bad met = absurd (never service.Reopen table (λ no. no) (λ no. no))
-      by (service.BadPage page) table machine fault bad met = λ image reads. (
-        (name, head, opens_with found name head (λ pages. told ≡ Some pages) (λ pages. MeetsBadLink events pages head page) (λ pages is. (allowed page table, met pages is)) opens image reads),
-        λ h stands. bad tt h (serves h (record { image = image; told = reads; stands = stands })),
+      by (service.NoStep last) table machine fault met = absurd (never (service.NoStep last) table (λ no. no) (λ no. no))
+      by (service.NoEvent count) table machine fault met = absurd (never (service.NoEvent count) table (λ no. no) (λ no. no))
+      by service.Reopen table machine fault met = absurd (never service.Reopen table (λ no. no) (λ no. no))
+      by (service.BadPage page) table machine fault met = λ image reads. (
+        (name, head, opens_with found name head (λ pages. told ≡ Some pages) (λ pages. MeetsBadLink events pages name head page)
+        (λ pages is. (allowed page table, bad_link pages name head events archive (allowed page table) page (subst (λ b. found_thread sha256 pages name head b events archive ≡ Bad page) whole (met pages is)))) opens image reads),
+        λ h stands. machine whole h (serves h (record { image = image; told = reads; stands = stands })),
       )
-      by service.DiskFault table machine fault bad met = fault refl
-      by service.NoMemory table machine fault bad met = tt
+      by service.DiskFault table machine fault met = fault refl
+      by service.NoMemory table machine fault met = tt
 
 -- ---- what it leaves
 

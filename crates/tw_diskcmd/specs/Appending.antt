@@ -13,7 +13,9 @@ use Rattle.tw_outside.specs.Files.{Files, IsThere, Tells}
 use Rattle.tw_skiplist.specs.declared.head.Head.{Head}
 use Rattle.tw_service.specs.declared.refusal.Refusal.{Refusal as ServiceRefusal}
 use Rattle.tw_service.specs.declared.refusal.Refusal.TheVariants as service
-use Rattle.tw_service.specs.Finds.{FindsLinks, LacksLinks}
+use Rattle.tw_skiplist.specs.declared.head.StepRef.{StepRef}
+use Rattle.tw_skiplist.specs.Found.Found.{Is, Bad}
+use Rattle.tw_skiplist.specs.Walks.{next_links}
 use Rattle.tw_service.specs.Limits.{append_refusal}
 use Rattle.tw_service.specs.Machine.{IsStepOf, NextOf, last_thread}
 use Rattle.tw_service.specs.Machine.Call.{Append}
@@ -46,7 +48,7 @@ IsBadEventsByte bytes place =
 pub record AddsStep (found : Option Image) (events : List (List ℕ)) (thread : Thread) : Type 0 where
   pub name : List ℕ
   pub head : Head
-  pub opens : OpensAsServiceWith found name head (λ pages. FindsLinks pages head)
+  pub opens : OpensAsServiceWith found name head (λ pages. (links : List StepRef) × (next_links pages head ≡ Is links))
   pub allowed : append_refusal false head.step events ≡ None
   pub from : thread.from ≡ name
   pub next : thread.step ≡ head.step + 1
@@ -62,10 +64,10 @@ pub record RefusesEvents (found : Option Image) (events : List (List ℕ)) (refu
   pub refused : append_refusal false head.step events ≡ Some refusal
   pub machine : (h : History) → ReadsAs found h → IsStepOf sha256 h (Append events) (Refused refusal) h
 
--- a service with these pages and this head refuses nothing, and the walk for the links of the next step meets this page first that
+-- a service with these pages and this head refuses nothing, and the reading of the next step's links meets this page first that
 -- isn't the page of its step
-abbrev pub MeetsBadLink : (events : List (List ℕ)) → (pages : Image) → Head → (page : ℕ) → Type 0
-MeetsBadLink events pages head page = (append_refusal false head.step events ≡ None) × LacksLinks pages head page
+abbrev pub MeetsBadLink : (events : List (List ℕ)) → (pages : Image) → (name : List ℕ) → Head → (page : ℕ) → Type 0
+MeetsBadLink events pages name head page = (append_refusal false head.step events ≡ None) × (next_links pages head ≡ Bad page)
 
 -- P holds of the events of the file
 abbrev pub OfEvents : (told : Option Files) (file : List ℕ) → (List (List ℕ) → Type 0) → Type 0

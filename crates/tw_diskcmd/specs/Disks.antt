@@ -32,18 +32,18 @@ pub record ReadsAs (found : Option Image) (h : History) : Type 0 where
   pub stands : IsOf h image
 
 -- the image opens as a service of some name and head, and the command meets this page in its pages
-abbrev pub HasBadPage : (Meets : (pages : Image) → Head → (page : ℕ) → Type 0) → Image → (page : ℕ) → Type 0
-HasBadPage Meets image page = (name : List ℕ) × (head : Head) × OpensWith image name head (λ pages. Meets pages head page)
+abbrev pub HasBadPage : (Meets : (pages : Image) → (name : List ℕ) → Head → (page : ℕ) → Type 0) → Image → (page : ℕ) → Type 0
+HasBadPage Meets image page = (name : List ℕ) × (head : Head) × OpensWith image name head (λ pages. Meets pages name head page)
 
 -- why an image can't be served to a command that meets such pages: it opens as no service; or it opens as one, has such a page, and
 -- stands for no history
-abbrev pub IsCause : (Meets : (pages : Image) → Head → (page : ℕ) → Type 0) → Image → StoreCause → Type 0
+abbrev pub IsCause : (Meets : (pages : Image) → (name : List ℕ) → Head → (page : ℕ) → Type 0) → Image → StoreCause → Type 0
 IsCause Meets image Blank = IsNotOpenedFor image fault.Blank
 IsCause Meets image (NotAStore slot) = IsNotOpenedFor image (fault.NotAStore slot)
 IsCause Meets image (BadPage page) = HasBadPage Meets image page × ((h : History) → IsOf h image → ⊥)
 
 -- the same of what the disk reads as, where it is told
-abbrev pub IsUnserved : (Meets : (pages : Image) → Head → (page : ℕ) → Type 0) → (found : Option Image) → StoreCause → Type 0
+abbrev pub IsUnserved : (Meets : (pages : Image) → (name : List ℕ) → Head → (page : ℕ) → Type 0) → (found : Option Image) → StoreCause → Type 0
 IsUnserved Meets found cause = (image : Image) → found ≡ Some image → IsCause Meets image cause
 
 -- where what the disk reads as is told, it opens as a service of this name and head

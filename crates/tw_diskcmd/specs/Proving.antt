@@ -13,7 +13,8 @@ use Rattle.tw_disk.specs.Image.{Image}
 use Rattle.tw_skiplist.specs.declared.head.Head.{Head}
 use Rattle.tw_service.specs.declared.refusal.Refusal.{Refusal as ServiceRefusal}
 use Rattle.tw_service.specs.declared.refusal.Refusal.TheVariants as service
-use Rattle.tw_service.specs.Finds.{FindsCount, FindsEvent, LacksProof}
+use Rattle.tw_skiplist.specs.Found.Found.{Is, Bad}
+use Rattle.tw_service.specs.Finds.{event_proof}
 use Rattle.tw_service.specs.Limits.{order_refusal}
 use Rattle.tw_service.specs.Machine.{IsStepOf}
 use Rattle.tw_service.specs.Machine.Call.{ProveEvent}
@@ -37,12 +38,12 @@ pub record ProvesUnder (step index top : ℕ) (proof : List ℕ) (h : History) :
   pub accepted : (anchors : List Thread) (anchor : Thread) → anchor_of anchors h.name top ≡ Some anchor
       → anchor.auth ≡ auth sha256 h top → Accepts sha256 anchors proof
 
--- the disk opened as a service of this name and head, of which the steps are in their order and whose pages have the step with this
--- event; where the disk reads as a history, it is the history's proof
+-- the disk opened as a service of this name and head, of which the steps are in their order and in whose pages this proof is found;
+-- where the disk reads as a history, it is the history's proof
 pub record Proves (found : Option Image) (step index : ℕ) (top : Option ℕ) (proof : List ℕ) : Type 0 where
   pub name : List ℕ
   pub head : Head
-  pub opens : OpensAsServiceWith found name head (λ pages. FindsEvent sha256 pages head step index (top_of top head.step))
+  pub opens : OpensAsServiceWith found name head (λ pages. event_proof sha256 pages name head step index (top_of top head.step) ≡ Is (Ok proof))
   pub allowed : order_refusal false head.step step (top_of top head.step) ≡ None
   pub proves : (h : History) → ReadsAs found h → ProvesUnder step index (top_of top (length h.steps)) proof h
 
@@ -67,14 +68,14 @@ RefusesProof found step index top (NoStep last) =
     (refuses : RefusesAtHead found step index top (Some (service.NoStep last)) (service.NoStep last)) × (last ≡ refuses.head.step)
 RefusesProof found step index top (NoEvent count) =
     (refuses : RefusesAtHead found step index top None (service.NoEvent count))
-    × OpensAsServiceWith found refuses.name refuses.head (λ pages. FindsCount sha256 pages refuses.head step index (top_of top refuses.head.step) count)
+    × OpensAsServiceWith found refuses.name refuses.head (λ pages. event_proof sha256 pages refuses.name refuses.head step index (top_of top refuses.head.step) ≡ Is (Err (service.NoEvent count)))
 RefusesProof found step index top _ = ⊥
 
 -- the steps are in their order for a service with these pages and this head, and this page is the first met that isn't of its kind,
 -- or the last one read where the event pages don't spell the step's events
-abbrev pub MeetsBadPage : (step index : ℕ) (top : Option ℕ) → (pages : Image) → Head → (page : ℕ) → Type 0
-MeetsBadPage step index top pages head page =
-    (order_refusal false head.step step (top_of top head.step) ≡ None) × LacksProof sha256 pages head step index (top_of top head.step) page
+abbrev pub MeetsBadPage : (step index : ℕ) (top : Option ℕ) → (pages : Image) → (name : List ℕ) → Head → (page : ℕ) → Type 0
+MeetsBadPage step index top pages name head page =
+    (order_refusal false head.step step (top_of top head.step) ≡ None) × (event_proof sha256 pages name head step index (top_of top head.step) ≡ Bad page)
 
 -- what it comes to; want of memory is free
 abbrev pub ProveComes : Touched → (step index : ℕ) (top : Option ℕ) → Result (List ℕ) CommandFault → Type 0

@@ -1,6 +1,6 @@
 // The laws of what commands come to over a disk that tells its content, and of what they leave.
 
-ghost use Rattle.std.specs.Prelude.{ℕ, List, Option, Some, Result};
+ghost use Rattle.std.specs.Prelude.{◌≡◌, ℕ, List, Option, Some, Result};
 ghost use Rattle.tw_base.specs.declared.thread.Thread.{Thread};
 ghost use Rattle.tw_disk.specs.Image.{Image};
 ghost use Rattle.tw_text.specs.declared.fault.CommandFault.{CommandFault};
@@ -13,12 +13,12 @@ use tw_disk::Disk;
 
 /// Over a disk that tells its content, all that the adding of these events may come to is one thing:
 /// a step of one service and number, one refusal, or one reason why nothing is served. So is it with
-/// the proof of an event. A fault of the disk and want of memory are excepted.
+/// the proof of an event, of which the bytes are one. A fault of the disk and want of memory are excepted.
 pub fn told_laws()
     ensures adding { (image : Image) (events : List (List ℕ)) (before after : ℕ) (one other : Result Thread CommandFault) → TellsContent one → TellsContent other →
         StepComes (touched (Some image) before after) events one → StepComes (touched (Some image) before after) events other → Agrees HasSameService one other }
     ensures proving { (image : Image) (step index : ℕ) (top : Option ℕ) (before after : ℕ) (one other : Result (List ℕ) CommandFault) → TellsContent one → TellsContent other →
-        ProveComes (touched (Some image) before after) step index top one → ProveComes (touched (Some image) before after) step index top other → Agrees (λ _ _. Unit {0}) one other }
+        ProveComes (touched (Some image) before after) step index top one → ProveComes (touched (Some image) before after) step index top other → Agrees (λ proof same. proof ≡ same) one other }
 {}
 
 /// A disk that is left as it was keeps the history that it stands for.

@@ -1,6 +1,7 @@
 pub mod Appending
 pub mod EventHistories
 pub mod EventWords
+pub mod FewEvents
 pub mod FoundLaws
 pub mod Growing
 pub mod Kept

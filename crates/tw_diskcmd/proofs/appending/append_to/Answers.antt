@@ -11,9 +11,9 @@ use Rattle.tw_diskcmd.proofs.appending.append_to.Goals as goal
 pub returns-in-Ok-clause-comes : goal.returns-in-Ok-clause-comes
 returns-in-Ok-clause-comes g c = λ found before opens serves le.
     let d = g.D.Disk in
-    step_done found before 0 c.args.events.now c.args.service.is_broken c.args.service.root.name c.args.service.root.head (pages_of d.view c.args.service) opens c.requires
+    step_done found before 0 c.args.events.now c.args.service.is_broken c.args.service.root.name c.args.service.root.head c.args.service.root.archive (pages_of d.view c.args.service) opens c.requires
     (Serves sha256 d.view c.args.service) (Serves sha256 d.view c.append.new.self) serves
-    c.in-Ok.thread c.in-Ok.ensures.table c.in-Ok.ensures.next c.in-Ok.ensures.done c.in-Ok.ensures.machine c.in-Ok.ensures.found
+    c.in-Ok.thread c.in-Ok.ensures.table c.in-Ok.ensures.next c.in-Ok.ensures.done c.in-Ok.ensures.machine c.in-Ok.ensures.answer
 
 pub returns-in-Ok-clause-leaves : goal.returns-in-Ok-clause-leaves
 returns-in-Ok-clause-leaves g c = λ h served.
@@ -31,12 +31,12 @@ returns-in-Ok-clause-leaves g c = λ h served.
 pub returns-in-Err-clause-comes : goal.returns-in-Err-clause-comes
 returns-in-Err-clause-comes g c = λ found before opens serves le.
     let d = g.D.Disk in
-    step_refused found before (d.view c.close-in-Err.result).faults c.args.events.now c.args.service.is_broken c.args.service.root.name c.args.service.root.head (pages_of d.view c.args.service) opens c.requires
+    step_refused found before (d.view c.close-in-Err.result).faults c.args.events.now c.args.service.is_broken c.args.service.root.name c.args.service.root.head c.args.service.root.archive (pages_of d.view c.args.service) opens c.requires
     (Serves sha256 d.view c.args.service) (Serves sha256 d.view c.append.new.self) serves
     c.in-Err.refusal c.fault_of_service.result c.fault_of_service.ensures c.in-Err.ensures.table c.in-Err.ensures.machine
     (λ is. rose_since before (d.view (disk_of c.args.service)).faults (d.view c.close-in-Err.result).faults le
     (subst (λ disk. Rose (d.view (disk_of c.args.service)).faults (d.view disk).faults) (sym c.close-in-Err.ensures.disk) (c.in-Err.ensures.fault is)))
-    c.in-Err.ensures.good c.in-Err.ensures.bad
+    c.in-Err.ensures.answer
 
 pub returns-in-Err-clause-leaves : goal.returns-in-Err-clause-leaves
 returns-in-Err-clause-leaves g c = λ h served.

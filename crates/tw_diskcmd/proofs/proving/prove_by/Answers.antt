@@ -13,7 +13,7 @@ returns-in-Ok-clause-comes g c = λ found before opens serves le.
     let d = g.D.Disk in
     proof_done found before 0 c.args.step c.args.index c.min.result c.args.top c.top_for-top.result c.args.service.is_broken c.args.service.root.name c.args.service.root.head (pages_of d.view c.args.service) opens c.requires
     c.min.ensures (c.top_for-top.ensures ∙ ap (top_of c.args.top) c.steps.ensures.value) (Serves sha256 d.view c.args.service) (Serves sha256 d.view c.prove_event.new.self) serves (λ h served. sym c.steps.ensures.value ∙ c.steps.ensures.served h served)
-    c.in-Ok.proof c.in-Ok.ensures.table c.in-Ok.ensures.made c.in-Ok.ensures.accepted c.in-Ok.ensures.machine c.in-Ok.ensures.found
+    c.in-Ok.proof c.in-Ok.ensures.table c.in-Ok.ensures.made c.in-Ok.ensures.accepted c.in-Ok.ensures.machine c.in-Ok.ensures.answer
 
 pub returns-in-Ok-clause-leaves : goal.returns-in-Ok-clause-leaves
 returns-in-Ok-clause-leaves g c =
@@ -32,7 +32,7 @@ returns-in-Err-clause-comes g c = λ found before opens serves le.
     c.in-Err.ensures.machine
     (λ is. rose_since before (d.view (disk_of c.args.service)).faults (d.view c.close-in-Err.result).faults le
     (subst (λ disk. Rose (d.view (disk_of c.args.service)).faults (d.view disk).faults) (sym c.close-in-Err.ensures.disk) (c.in-Err.ensures.fault is)))
-    c.in-Err.ensures.good c.in-Err.ensures.bad c.in-Err.ensures.count
+    c.in-Err.ensures.answer
 
 pub returns-in-Err-clause-leaves : goal.returns-in-Err-clause-leaves
 returns-in-Err-clause-leaves g c =
