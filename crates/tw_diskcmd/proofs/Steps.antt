@@ -189,8 +189,12 @@ module _ (found : Option Image) (before after : ℕ) (events : List (List ℕ)) 
       by (service.NoEvent count) table machine fault met = absurd (never (service.NoEvent count) table (λ no. no) (λ no. no))
       by service.Reopen table machine fault met = absurd (never service.Reopen table (λ no. no) (λ no. no))
       by (service.BadPage page) table machine fault met = λ image reads. (
-        (name, head, opens_with found name head (λ pages. told ≡ Some pages) (λ pages. MeetsBadLink events pages name head page)
-        (λ pages is. (allowed page table, bad_link pages name head events archive (allowed page table) page (subst (λ b. found_thread sha256 pages name head b events archive ≡ Bad page) whole (met pages is)))) opens image reads),
+        (
+          name,
+          head,
+          opens_with found name head (λ pages. told ≡ Some pages) (λ pages. MeetsBadLink events pages name head page)
+              (λ pages is. (allowed page table, bad_link pages name head events archive (allowed page table) page (subst (λ b. found_thread sha256 pages name head b events archive ≡ Bad page) whole (met pages is)))) opens image reads,
+        ),
         λ h stands. machine whole h (serves h (record { image = image; told = reads; stands = stands })),
       )
       by service.DiskFault table machine fault met = fault refl
