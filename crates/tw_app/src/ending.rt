@@ -136,27 +136,46 @@ pub fn run<D: Disk, I: Inputs, S: Sink>(
     out: &mut S,
 ) -> Ran<D>
     requires { IfSome (command_of (map string_bytes words.now)) (λ command. Each (I.may_ask inputs.old) (files_of command)) }
-    // It ends as its command allows, and leaves the disk so; `status_laws` and `disk_status_laws` say what each status then means.
+    // Each run comes to one outcome that the words, the files, what the disk read as and the counts of faults allow,
+    // and leaves the disk as is right for that outcome. It ends with the outcome's text, written whole, and its status;
+    // or the sink's count of faults rose, a part of the text was written, and the status is 4. Want of memory is always
+    // allowed, all else only for its cause.
     ensures ends { EndsLeaving (around (map string_bytes words.now)
         (met (asked (I.told inputs.old) (I.faults inputs.old) (I.faults inputs.new)) (touched (D.view disk).content (D.view disk).faults (D.view result.disk).faults))
         (span (S.taken out.old) (S.taken out.new)) (span (S.faults out.old) (S.faults out.new)))
         result.status (Leaves D.view disk result.disk (I.told inputs.old) (map string_bytes words.now)) }
 
-    // An accepted proof's claim holds, or a collision is at hand.
+    // Status 0 of `verify`: the proof file is there, and its bytes spell a proof that is accepted under the command's
+    // anchors. These are the one of its words, or those of the anchors file, which is there and has no bad line. The
+    // claim's report was written whole. And in every list of sound histories in which the proof's service has, at the
+    // proof's top, the authenticator that is held of it there, the event stands at the place that the report names, and
+    // its step has the time that the report tells, or none where it tells none; or two texts of these histories and of
+    // the proof clash.
     ensures accepted { result.status ≡ 0 → AreOf IsVerify (map string_bytes words.now)
         → IsAcceptedRun (I.told inputs.old) (map string_bytes words.now) (S.taken out.old) (S.taken out.new) }
+    // There are no other statuses than 0 to 9.
     ensures statuses { IsStatus result.status }
 
-    // The disk: whatever the status, a crash at any moment leaves the history or the longer one; nothing is written where nothing was
-    // made and no disk failed, nor by a command that only reads; a proof that was made and what was refused leave a stable disk; a
-    // command without a directory hands it back as it is.
+    // Whatever the status, where a disk stood for a history for good, each image that a crash at any moment may leave
+    // stands for it, or, at `append`, for it with a step of the file's events. After every other command than `append`
+    // the disk stands for it still, for good. At `append`, where the disk read as a history, with writes pending or
+    // not, each image is one that a crash might have left before, or stands for that history, or for it with that step.
+    // What the disk reads as is told still, and stands for one of the two. At `init`, where the content was told, each
+    // image is one that a crash might have left before, or is blank, or stands for the history of that name without
+    // steps. What the disk then reads as is told still, and is such an image. Where a store was there, of a service or
+    // not, with writes pending or not, nothing is written.
     ensures crash { (command : Command) → command_of (map string_bytes words.now) ≡ Some command
         → IsCrashSafe D.view disk result.disk (I.told inputs.old) command }
+    // At every other status than 0, 4 and 5 of a command with a folder, and whatever the status of `prove`, nothing was
+    // written. (At 4 the disk is as is right for the outcome whose text wasn't written whole, by `ends`.)
     ensures unwritten { (AreOf UsesDisk (map string_bytes words.now) × IsIdle result.status) ⊎ AreOf OnlyReads (map string_bytes words.now)
         → IsLeft D.view disk result.disk }
+    // Status 0 of `prove`, and status 7 of `append` and `prove`: where the disk read as a history, with writes pending
+    // or not, it stands for it, at rest.
     ensures settled { (AreOf OnlyReads (map string_bytes words.now) × (result.status ≡ 0))
         ⊎ ((AreOf IsAppend (map string_bytes words.now) ⊎ AreOf OnlyReads (map string_bytes words.now)) × (result.status ≡ 7))
         → Settles D.view disk result.disk }
+    // A command without a folder hands the disk back as it is.
     ensures untouched { (AreOf UsesDisk (map string_bytes words.now) → ⊥) → result.disk ≡ disk }
 {
     run_to_the_end(alloc, words, disk, inputs, out)

@@ -15,6 +15,7 @@ fn is_at(thread: &Thread, service: &Name, step: u64) -> bool
 
 /// The anchor of this service and step, the first where there are several.
 pub fn find_anchor(anchors: &[Thread], service: &Name, step: u64) -> Option<Thread>
+    // The anchor of a service and step is the first of these in the list.
     ensures { result ≡ anchor_of anchors.now service.now step }
 {
     for thread in anchors {

@@ -20,6 +20,7 @@ use std::alloc::Global;
 /// Takes a thread: a service, one of its steps from 1 on, and its authenticator there.
 pub fn take_thread(bytes: &[u8], at: &mut u64) -> Result<Thread, ReadFault>
     requires { at.old ≤ length bytes.now }
+    // A thread is taken at a place exactly as its codec reads it; else the place of the first bad byte is told.
     ensures { Takes thread_codec (λ t. t) bytes.now at.old at.new result }
 {
     let from = take_name(bytes, at)?;
@@ -36,6 +37,7 @@ fn take_content(
     is_events: bool,
 ) -> Result<Content, ReadFault>
     requires { at.old ≤ length bytes.now }
+    // A step's content is taken at a place exactly as its codec reads it; else the place of the first bad byte is told.
     ensures { Takes (content_codec is_events) (λ c. c) bytes.now at.old at.new result }
 {
     if is_events {
@@ -87,6 +89,8 @@ pub fn take_recorded(
     at: &mut u64,
 ) -> Result<(Option<u64>, Content), ReadFault>
     requires { at.old ≤ length bytes.now }
+    // What a step records, with its time where its kind has one, is taken at a place exactly as its codec reads it;
+    // else the place of the first bad byte is told.
     ensures { Takes recorded_codec (λ r. r) bytes.now at.old at.new result }
 {
     let kind = take_number(bytes, at, 1, 1, 4)?;

@@ -11,6 +11,8 @@ pub fn whole_to<T: Drop>(
     after: u64,
     read: Result<T, ReadFault>,
 ) -> Result<T, ReadFault>
+    // What was read of the front is the answer for all the bytes where none follow it; else the place of the first that
+    // does is told.
     ensures { IsWholeTo bytes.now after read result }
 {
     match read {
@@ -21,6 +23,7 @@ pub fn whole_to<T: Drop>(
 
 /// The answer for a front of the bytes: what was read there, and the place after it.
 pub fn front_to<T: Drop>(after: u64, read: Result<T, ReadFault>) -> Result<(T, u64), ReadFault>
+    // What was read of the front is answered with the place behind it.
     ensures { IsFrontTo after read result }
 {
     match read {

@@ -46,6 +46,8 @@ pub fn take_events_within(
     requires within { at.old ≤ length bytes.now }
     requires events { most_events < 256 ^ 4 }
     requires bytes { most_bytes < 256 ^ 4 }
+    // Events whose number and sizes are within the limits that are handed in are taken at a place exactly as their
+    // codec reads them; else the place of the first bad byte is told.
     ensures { Takes (counted 4 0 most_events (sized_codec 4 0 most_bytes)) (λ events. events) bytes.now at.old at.new result }
 {
     let count = take_number(bytes, at, 4, 0, most_events)?;
@@ -55,6 +57,8 @@ pub fn take_events_within(
 /// Takes the number of events (at most 1,024), and each of them behind its length (at most 1,024).
 pub fn take_events(alloc: Global, bytes: &[u8], at: &mut u64) -> Result<EventList, ReadFault>
     requires { at.old ≤ length bytes.now }
+    // A step's events are taken at a place exactly as their codec reads them; else the place of the first bad byte is
+    // told.
     ensures { Takes (counted 4 0 MOST_EVENTS event_codec) (λ events. events) bytes.now at.old at.new result }
 {
     take_events_within(alloc, bytes, at, MOST_EVENTS, MOST_EVENT_BYTES)

@@ -14,6 +14,8 @@ use crate::name::{Name, is_name_byte};
 /// The service's name at a place: 1 to 16 bytes of `a-z`, `0-9` and `-`, and then zeros to 16 bytes.
 pub fn read_name(bytes: &[u8], at: u64) -> Result<Name, u64>
     requires { at ≤ length bytes.now }
+    // A name is read from a place on exactly where the bytes there spell one; else the place of the first bad byte is
+    // told.
     ensures read { Gives (λ n. n) result (at + 16) (read_at name bytes.now at) }
     ensures within { IfOk result (λ _. at + 16 ≤ length bytes.now) }
 {

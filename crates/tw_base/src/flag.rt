@@ -16,6 +16,8 @@ fn is_flag(b: u8) -> bool
 /// Takes a byte that is 0 or 128: whether it is 128.
 pub fn take_flag(bytes: &[u8], at: &mut u64) -> Result<bool, ReadFault>
     requires { at.old ≤ length bytes.now }
+    // A byte that is 0 or 128 is taken at a place exactly as its codec reads it; else the place of the first bad byte
+    // is told.
     ensures { Takes flag_codec (λ set. set) bytes.now at.old at.new result }
 {
     let place = *at;

@@ -14,6 +14,7 @@ pub trait Hasher {
 
     /// The digest of the text. Takes no memory.
     fn digest(text: &[u8]) -> Digest
+        // The digest is that of the function that the clauses speak of.
         ensures { result ≡ dig text.now };
 
     ghost size: { (text : List ℕ) → length (dig text) ≡ 32 };

@@ -28,6 +28,7 @@ fn put_digest<const N: usize>(text: &mut ArrayVec<u8, N>, digest: &Digest)
 /// The authenticator of step 0 of the service.
 #[tactic(auto, unfolding(crate::specs::Texts::genesis_text))]
 pub fn genesis<H: Hasher>(name: &Name) -> Digest
+    // The label is the digest of the text of the name.
     ensures { result ≡ H.dig (genesis_text name.now) }
 {
     let mut text: ArrayVec<u8, 17> = ArrayVec::new();
@@ -40,6 +41,7 @@ pub fn genesis<H: Hasher>(name: &Name) -> Digest
 /// that it leads to, `step - 2^level`.
 #[tactic(auto, unfolding(crate::specs::Texts::link_text))]
 pub fn link_label<H: Hasher>(step: u64, level: u8, datum: &Digest, below: &Digest) -> Digest
+    // The label is the digest of the text of the link.
     ensures label { result ≡ H.dig (link_text step level datum.now below.now) }
     ensures datum_size { length datum.now ≡ 32 }
     ensures below_size { length below.now ≡ 32 }
@@ -76,6 +78,7 @@ fn put_held<const N: usize>(
 /// events.
 #[tactic(auto, unfolding(crate::specs::Texts::datum_text))]
 pub fn datum<H: Hasher>(event_root: &Digest, archive_root: &Digest, count: u32) -> Digest
+    // The label is the digest of the text of the datum.
     ensures label { result ≡ H.dig (datum_text event_root.now archive_root.now count) }
     ensures event_root_size { length event_root.now ≡ 32 }
     ensures archive_root_size { length archive_root.now ≡ 32 }
@@ -94,6 +97,7 @@ pub fn timed_datum<H: Hasher>(
     count: u32,
     time: u64,
 ) -> Digest
+    // The label is the digest of the text of the datum with the time.
     ensures label { result ≡ H.dig (timed_datum_text event_root.now archive_root.now count time) }
     ensures event_root_size { length event_root.now ≡ 32 }
     ensures archive_root_size { length archive_root.now ≡ 32 }
@@ -112,6 +116,7 @@ pub fn step_datum<H: Hasher>(
     count: u32,
     time: Option<u64>,
 ) -> Digest
+    // The label is the digest of the text of the step's datum, with its time where it has one.
     ensures label { result ≡ H.dig (step_datum_text event_root.now archive_root.now count time) }
     ensures event_root_size { length event_root.now ≡ 32 }
     ensures archive_root_size { length archive_root.now ≡ 32 }
@@ -127,6 +132,7 @@ pub fn step_datum<H: Hasher>(
 #[tactic(auto, using(crate::proofs::Joined::more), unfolding(crate::specs::Texts::authenticator_text))]
 pub fn authenticator<H: Hasher>(step: u64, labels: &[Digest]) -> Digest
     requires { length labels.now ≤ 40 }
+    // The label is the digest of the text of the step and the labels of its links.
     ensures label { result ≡ H.dig (authenticator_text step labels.now) }
     ensures sizes { AllDigests labels.now }
 {
@@ -143,6 +149,7 @@ pub fn authenticator<H: Hasher>(step: u64, labels: &[Digest]) -> Digest
 /// The label of the empty tree, the archive of a service that has received no thread.
 #[tactic(auto, unfolding(crate::specs::Texts::empty_tree_text))]
 pub fn empty_tree<H: Hasher>() -> Digest
+    // The label is the digest of the text of the empty archive.
     ensures { result ≡ H.dig empty_tree_text }
 {
     H::digest(&[0x14])
@@ -151,6 +158,7 @@ pub fn empty_tree<H: Hasher>() -> Digest
 /// The label of a tree that isn't empty, over the labels of its sides and the entry at its root.
 #[tactic(auto, unfolding(crate::specs::Texts::tree_node_text))]
 pub fn tree_node<H: Hasher>(left: &Digest, entry: &Entry, right: &Digest) -> Digest
+    // The label is the digest of the text of the node.
     ensures label { result ≡ H.dig (entry_text left.now entry.now right.now) }
     ensures left_size { length left.now ≡ 32 }
     ensures right_size { length right.now ≡ 32 }
@@ -171,6 +179,7 @@ pub fn tree_node<H: Hasher>(left: &Digest, entry: &Entry, right: &Digest) -> Dig
 #[tactic(auto, unfolding(crate::specs::Texts::event_leaf_text))]
 pub fn event_leaf<H: Hasher>(event: &[u8]) -> Digest
     requires { length event.now ≤ MOST_EVENT_BYTES }
+    // The label is the digest of the text of the event.
     ensures { result ≡ H.dig (event_leaf_text event.now) }
 {
     let mut text: ArrayVec<u8, 1025> = ArrayVec::new();
@@ -182,6 +191,7 @@ pub fn event_leaf<H: Hasher>(event: &[u8]) -> Digest
 /// The label of two parts of a list of events: the node hash of RFC 6962, section 2.1.
 #[tactic(auto, unfolding(crate::specs::Texts::event_node_text))]
 pub fn event_node<H: Hasher>(left: &Digest, right: &Digest) -> Digest
+    // The label is the digest of the text of the two sides.
     ensures label { result ≡ H.dig (event_node_text left.now right.now) }
     ensures left_size { length left.now ≡ 32 }
     ensures right_size { length right.now ≡ 32 }
@@ -196,6 +206,7 @@ pub fn event_node<H: Hasher>(left: &Digest, right: &Digest) -> Digest
 /// The event root of a step with no events: the hash of an empty list of RFC 6962, section 2.1.
 #[tactic(auto, unfolding(crate::specs::Texts::no_events_text))]
 pub fn no_events<H: Hasher>() -> Digest
+    // The label is the digest of the empty text.
     ensures { result ≡ H.dig no_events_text }
 {
     H::digest(&[])

@@ -11,7 +11,9 @@ pub fn top_level(step: u64) -> u8
     requires { step ≤ LAST_STEP }
     ensures value { result ≡ top_level_of step }
     ensures small { result < 40 }
+    // The greatest level of a step's links is one whose power of two divides the step.
     ensures divides { 0 < step → step % 2 ^ result ≡ 0 }
+    // No greater one does.
     ensures greatest { (level : ℕ) → 0 < step → step % 2 ^ level ≡ 0 → level ≤ result }
 {
     if step == 0 {

@@ -64,6 +64,7 @@ impl<S: Segments> Resumed<S> {
     /// where it may end or break with the piece.
     pub fn feed(self, alloc: Global, piece: &[u8]) -> Result<Self, ReadFault>
         requires { self.taken + (length self.held + length piece.now) < 2 ^ 64 }
+        // A piece is refused exactly where all that came so far is no front of a word, with the place.
         ensures { (whole : Format S.Whole) (pieces : List ℕ) → IsSoFar S.rest whole self pieces → Goes S.rest whole (pieces ++ piece.now) result }
     {
         let Resumed {
@@ -87,6 +88,7 @@ impl<S: Segments> Resumed<S> {
     /// The value of the word, now that no piece more comes. Malformed where the pieces are no word.
     pub fn finish(self) -> Result<S::Whole, ReadFault>
         requires { self.taken + length self.held < 2 ^ 64 }
+        // At the end the answer is that of reading all pieces as one.
         ensures { (whole : Format S.Whole) (pieces : List ℕ) → IsSoFar S.rest whole self pieces → ReadsAs (λ x. x) whole pieces result }
     {
         let place = self.taken + self.held.len() as u64;
@@ -110,6 +112,7 @@ pub fn read_pieces<S: Segments>(
 ) -> Result<S::Whole, ReadFault>
     requires few { length (all_of pieces.now) < 2 ^ 64 }
     requires starts { StaysFront (S.rest state) [] 0 }
+    // Bytes that come in pieces are read as all of them at once would be, wherever they are cut.
     ensures { ReadsAs (λ x. x) (S.rest state) (all_of pieces.now) result }
 {
     let mut reader = Resumed::begin(alloc, state);

@@ -27,8 +27,11 @@ pub fn take_number(
     requires width { width ≤ 8 }
     requires range { least ≤ most }
     requires fits { most < 256 ^ width }
+    // A number is taken at a place exactly as its codec reads it, within its range; else the place of the first bad
+    // byte is told.
     ensures takes { Takes (number_codec width least most) (λ n. n) bytes.now at.old at.new result }
     ensures range { IfOk result (λ n. (least ≤ n) × (n ≤ most)) }
+    // `NoMemory` is never answered.
     ensures memory { IfErr result (λ fault. fault ≢ ReadFault.NoMemory) }
 {
     match number_at(bytes, *at as usize, width, least, most) {
@@ -43,7 +46,9 @@ pub fn take_number(
 /// Takes a digest.
 pub fn take_digest(bytes: &[u8], at: &mut u64) -> Result<Digest, ReadFault>
     requires { at.old ≤ length bytes.now }
+    // A digest is taken at a place exactly as its codec reads it; else the place of the first bad byte is told.
     ensures takes { Takes digest_codec (λ d. d) bytes.now at.old at.new result }
+    // `NoMemory` is never answered.
     ensures memory { IfErr result (λ fault. fault ≢ ReadFault.NoMemory) }
 {
     if bytes.len() as u64 - *at < 32 {
@@ -59,7 +64,9 @@ pub fn take_digest(bytes: &[u8], at: &mut u64) -> Result<Digest, ReadFault>
 /// Takes a service's name.
 pub fn take_name(bytes: &[u8], at: &mut u64) -> Result<Name, ReadFault>
     requires { at.old ≤ length bytes.now }
+    // A name is taken at a place exactly as its codec reads it; else the place of the first bad byte is told.
     ensures takes { Takes name_codec (λ n. n) bytes.now at.old at.new result }
+    // `NoMemory` is never answered.
     ensures memory { IfErr result (λ fault. fault ≢ ReadFault.NoMemory) }
 {
     match read_name(bytes, *at) {
@@ -74,7 +81,9 @@ pub fn take_name(bytes: &[u8], at: &mut u64) -> Result<Name, ReadFault>
 /// Takes the text.
 pub fn take_text(bytes: &[u8], at: &mut u64, text: &[u8]) -> Result<(), ReadFault>
     requires { at.old ≤ length bytes.now }
+    // Fixed bytes are taken at a place exactly as their codec reads them; else the place of the first bad byte is told.
     ensures takes { Takes (text_codec text.now) (λ _. text.now) bytes.now at.old at.new result }
+    // `NoMemory` is never answered.
     ensures memory { IfErr result (λ fault. fault ≢ ReadFault.NoMemory) }
 {
     match check_text(&bytes[*at as usize..], *at, text) {
@@ -89,6 +98,8 @@ pub fn take_text(bytes: &[u8], at: &mut u64, text: &[u8]) -> Result<(), ReadFaul
 /// Takes so many bytes.
 pub fn take_bytes(alloc: Global, bytes: &[u8], at: &mut u64, count: u64) -> Result<Bytes, ReadFault>
     requires { at.old ≤ length bytes.now }
+    // So many bytes are taken at a place exactly as their codec reads them; else the place of the first bad byte is
+    // told.
     ensures { Takes (bytes_codec count) (λ b. b) bytes.now at.old at.new result }
 {
     let found = Bytes::from_slice(alloc, take_slice(bytes, at, count)?)?;
@@ -109,6 +120,8 @@ pub fn take_sized(
     requires width { width ≤ 8 }
     requires range { least ≤ most }
     requires fits { most < 256 ^ width }
+    // Bytes behind their length are taken at a place exactly as their codec reads them; else the place of the first bad
+    // byte is told.
     ensures { Takes (sized_codec width least most) (λ b. b) bytes.now at.old at.new result }
 {
     let size = take_number(bytes, at, width, least, most)?;
@@ -123,6 +136,8 @@ pub fn take_labels(
     count: u64,
 ) -> Result<Labels, ReadFault>
     requires { at.old ≤ length bytes.now }
+    // So many labels are taken at a place exactly as their codec reads them; else the place of the first bad byte is
+    // told.
     ensures { Takes (labels_codec count) (λ ls. ls) bytes.now at.old at.new result }
 {
     if (bytes.len() as u64 - *at) / 32 < count {
@@ -141,7 +156,10 @@ pub fn take_labels(
 /// Takes so many bytes, where they stand.
 pub fn take_slice<'a>(bytes: &'a [u8], at: &mut u64, count: u64) -> Result<&'a [u8], ReadFault>
     requires { at.old ≤ length bytes.now }
+    // So many bytes are taken at a place, as a part of the bytes that are read, exactly as their codec reads them; else
+    // the place of the first bad byte is told.
     ensures takes { Takes (bytes_codec count) (λ b. b.now) bytes.now at.old at.new result }
+    // `NoMemory` is never answered.
     ensures memory { IfErr result (λ fault. fault ≢ ReadFault.NoMemory) }
 {
     let start = *at;

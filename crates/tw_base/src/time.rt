@@ -25,6 +25,8 @@ fn take_some_time(bytes: &[u8], at: &mut u64) -> Result<Option<u64>, ReadFault>
 #[tactic(auto, unfolding(crate::specs::Codecs::nothing))]
 pub fn take_time(bytes: &[u8], at: &mut u64, timed: bool) -> Result<Option<u64>, ReadFault>
     requires { at.old ≤ length bytes.now }
+    // A time is taken at a place, where there is to be one, exactly as its codec reads it; else the place of the first
+    // bad byte is told.
     ensures { Takes (optional timed time_codec) (λ time. time) bytes.now at.old at.new result }
 {
     if timed {
@@ -37,6 +39,7 @@ pub fn take_time(bytes: &[u8], at: &mut u64, timed: bool) -> Result<Option<u64>,
 /// Appends the time in eight bytes, where there is one.
 #[tactic(auto, unfolding(crate::specs::Codecs::nothing, crate::specs::Codecs::number_codec, crate::specs::Codecs::present))]
 pub fn put_time(into: &mut Bytes, time: Option<u64>) -> Result<(), NoMemory>
+    // A time is appended as its codec writes it, where there is one.
     ensures { Puts (optional (is_some time) (number_codec 8 0 (2 ^ 64 - 1))) time into.old into.new result }
 {
     match time {

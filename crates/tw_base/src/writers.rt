@@ -17,6 +17,7 @@ use crate::sequence::Bytes;
 pub fn put_number(into: &mut Bytes, value: u64, width: u8) -> Result<(), NoMemory>
     requires width { width ≤ 8 }
     requires fits { value < 256 ^ width }
+    // A number within the range is appended as its codec writes it.
     ensures puts { Puts (number_codec width 0 (256 ^ width - 1)) value into.old into.new result }
     ensures err { OnErr result (into.new ≡ into.old) }
 {
@@ -26,6 +27,7 @@ pub fn put_number(into: &mut Bytes, value: u64, width: u8) -> Result<(), NoMemor
 
 /// Appends the 16 bytes of a name.
 pub fn put_name(into: &mut Bytes, name: &Name) -> Result<(), NoMemory>
+    // A name is appended as its codec writes it.
     ensures puts { Puts name_codec name.now into.old into.new result }
     ensures err { OnErr result (into.new ≡ into.old) }
 {
@@ -34,6 +36,7 @@ pub fn put_name(into: &mut Bytes, name: &Name) -> Result<(), NoMemory>
 
 /// Appends the 32 bytes of a digest.
 pub fn put_digest(into: &mut Bytes, digest: &Digest) -> Result<(), NoMemory>
+    // A digest is appended as its codec writes it.
     ensures puts { Puts digest_codec digest.now into.old into.new result }
     ensures err { OnErr result (into.new ≡ into.old) }
 {
@@ -43,6 +46,7 @@ pub fn put_digest(into: &mut Bytes, digest: &Digest) -> Result<(), NoMemory>
 /// Appends the 32 bytes of each label. After want of memory some of the labels are appended.
 #[tactic(auto, using(crate::proofs::Joined::more))]
 pub fn put_labels(into: &mut Bytes, labels: &Labels) -> Result<(), NoMemory>
+    // A list of labels is appended as its codec writes it.
     ensures puts { Puts (labels_codec (length labels.now)) labels.now into.old into.new result }
     ensures err { OnErr result ((n : ℕ) × (into.new ≡ into.old ++ joined (take n labels.now))) }
 {
@@ -54,6 +58,7 @@ pub fn put_labels(into: &mut Bytes, labels: &Labels) -> Result<(), NoMemory>
 
 /// Appends the bytes.
 pub fn put_bytes(into: &mut Bytes, bytes: &[u8]) -> Result<(), NoMemory>
+    // Bytes are appended as their codec writes them.
     ensures puts { Puts (bytes_codec (length bytes.now)) bytes.now into.old into.new result }
     ensures err { OnErr result (into.new ≡ into.old) }
 {
@@ -62,6 +67,7 @@ pub fn put_bytes(into: &mut Bytes, bytes: &[u8]) -> Result<(), NoMemory>
 
 /// Appends the text.
 pub fn put_text(into: &mut Bytes, text: &[u8]) -> Result<(), NoMemory>
+    // Fixed bytes are appended as their codec writes them.
     ensures { Puts (text_codec text.now) text.now into.old into.new result }
 {
     put_bytes(into, text)
@@ -71,6 +77,7 @@ pub fn put_text(into: &mut Bytes, text: &[u8]) -> Result<(), NoMemory>
 pub fn put_sized(into: &mut Bytes, bytes: &[u8], width: u8) -> Result<(), NoMemory>
     requires width { width ≤ 8 }
     requires fits { length bytes.now < 256 ^ width }
+    // Bytes within the range of their length are appended behind it, as their codec writes them.
     ensures { (least most : ℕ) → least ≤ length bytes.now → length bytes.now ≤ most →
         Puts (sized_codec width least most) bytes.now into.old into.new result }
 {

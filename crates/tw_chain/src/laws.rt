@@ -24,14 +24,21 @@ use tw_base::Hasher;
 /// step's time or none. Where the history is sound and has the top, the proof is spelled, by what
 /// `write_existence` writes of it, and these bytes are accepted there.
 pub fn completeness_laws<H: Hasher>()
+    // The proof that a history has of one of its events, under a top that isn't below its step, is accepted wherever
+    // the anchor that is held of the service and top has the history's authenticator of the top.
     ensures accepted { (h : History) (step index top : ℕ) (p : ExistenceProof) (anchors : List Thread) (anchor : Thread) →
         step ≤ top → IsExistenceOf H.dig h step index top p → anchor_of anchors h.name top ≡ Some anchor → anchor.auth ≡ auth H.dig h top →
         IsAccepted H.dig anchors (Exists p) }
+    // So are the bytes that spell such a proof accepted, wherever that anchor is held.
     ensures accepts { (h : History) (step index top : ℕ) (bytes : List ℕ) (anchors : List Thread) (anchor : Thread) →
         step ≤ top → MakesExistence H.dig h step index top bytes → anchor_of anchors h.name top ≡ Some anchor → anchor.auth ≡ auth H.dig h top →
         Accepts H.dig anchors bytes }
+    // The proof that a history has of an event claims that event at that place, with the time of its step, or with none
+    // where the step has none.
     ensures claim { (h : History) (step index top : ℕ) (p : ExistenceProof) (event : List ℕ) →
         IsExistenceOf H.dig h step index top p → slice_get (events_at h step) index ≡ Some event → claim_of (Exists p) ≡ claim_at h step index event }
+    // Where the history is sound and has the top, and that anchor is held, the bytes that are written of the proof
+    // spell it, and are accepted.
     ensures spelled { (h : History) (step index top : ℕ) (p : ExistenceProof) (anchors : List Thread) (anchor : Thread) →
         IsSound h → step ≤ top → top ≤ length h.steps → IsExistenceOf H.dig h step index top p →
         anchor_of anchors h.name top ≡ Some anchor → anchor.auth ≡ auth H.dig h top →
@@ -41,5 +48,7 @@ pub fn completeness_laws<H: Hasher>()
 /// The words of proofs: each has one value, a value has one spelling, and no word is the front of a
 /// longer one.
 pub fn proof_laws()
+    // Proofs have one spelling each: the words of the format are what is written of those that fit, and none is the
+    // front of a longer one.
     ensures { IsUnambiguous proof_codec }
 {}

@@ -35,6 +35,8 @@ fn take_proof(alloc: Global, bytes: &[u8], at: &mut u64) -> Result<Proof, ReadFa
 /// the place of the first byte at which no proof goes on. Takes no more memory than the proof's labels
 /// and event.
 pub fn read_proof(alloc: Global, bytes: &[u8]) -> Result<Proof, ReadFault>
+    // Bytes are read as a proof exactly where they spell one, with that proof; else the length of the longest front
+    // that some proof begins with is told.
     ensures read { ReadsAs (λ p. p) proof_layout bytes.now result }
     ensures range { IfOk result IsInRange }
 {

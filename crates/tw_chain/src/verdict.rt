@@ -65,7 +65,11 @@ pub fn verify<H: Hasher>(
     bytes: &[u8],
     anchors: &[Thread],
 ) -> Result<Verdict, NoMemory>
+    // The verdict on bytes under a list of anchors is `Yes` exactly where they spell a proof that is accepted, with the
+    // report of that proof; else `No` with the lowest reason that stands.
     ensures verdict { IfOk result (IsVerdict H.dig anchors.now bytes.now) }
+    // Where the verdict is `Yes`, the report's claim holds in every list of sound histories that has the thread that
+    // the proof names and that is held, or two texts of these histories and of the proof clash.
     ensures binds { IfOk result (BindsHistories H.dig anchors.now bytes.now) }
 {
     if is_of_later_kind(bytes) {

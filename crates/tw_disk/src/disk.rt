@@ -26,43 +26,60 @@ pub trait Disk {
 
     /// The number of pages. It changes nothing.
     fn pages(&mut self) -> Result<u64, Failed>
+        // The number of pages that is answered is then told.
         ensures told { IfOk result (λ n. (view self.new).count ≡ Some n) }
         ensures kept { IfSome (view self.old).count (λ n. (view self.new).count ≡ Some n) }
+        // Counting pages leaves the disk the same, and what a crash may leave.
         ensures same { IsSameDisk (view self.old) (view self.new) }
+        // A call fails only where the count of faults rose.
         ensures cause { HasCause (view self.old).faults (view self.new).faults result };
 
     /// Gives the bytes of a page below the told count. It changes nothing; after `Failed` the array may hold anything.
     fn read(&mut self, page: u64, into: &mut Page) -> Result<(), Failed>
         requires { IsSomeAnd (view self.old).count (λ n. page < n) }
+        // A read gives the page that the told content has.
         ensures bytes { OnOk result (IfSome (view self.old).content (λ c. into.new ≡ page_at c page)) }
         ensures count { (view self.new).count ≡ (view self.old).count }
+        // Reading leaves the disk the same, and what a crash may leave.
         ensures same { IsSameDisk (view self.old) (view self.new) }
+        // A call fails only where the count of faults rose.
         ensures cause { HasCause (view self.old).faults (view self.new).faults result };
 
     /// Writes a page that is at most the told count; a write at the count adds a page.
     fn write(&mut self, page: u64, from: &Page) -> Result<(), Failed>
         requires { IsSomeAnd (view self.old).count (λ n. page ≤ n) }
 
-        // After Ok the page reads as written and the others as before; after Failed the page may hold any bytes.
+        // After `Ok` the page reads as written, and the others as before.
         ensures written { OnOk result ((view self.new).content ≡ option_map (put page from.now) (view self.old).content) }
+        // Whatever the answer, the other pages read as before; after a failure the page may hold any bytes.
         ensures torn { MatchOption (view self.old).content ((view self.new).content ≡ None) (λ c. IsSomeAnd (view self.new).content (Torn page c)) }
+        // After `Ok` a page at the count is one page more.
         ensures grown { OnOk result ((view self.new).count ≡ grown page (view self.old).count) }
         ensures count { ((view self.new).count ≡ (view self.old).count) ⊎ ((view self.new).count ≡ grown page (view self.old).count) }
         ensures room { KeepsRoom (view self.old).count (view self.new).count }
 
-        // A crash leaves what it might have left before, with any bytes in this page.
+        // Whatever a crash may leave after a write is something that it might have left before, with any bytes in that
+        // page and perhaps one page more.
         ensures crash { Follows (Torn page) (view self.old).may_leave (view self.new).may_leave }
+        // A crash since an earlier moment might have left what it might have left before the write, or what it may
+        // leave now.
         ensures time { TimeGoesOn (view self.old) (view self.new) }
+        // A call fails only where the count of faults rose.
         ensures cause { HasCause (view self.old).faults (view self.new).faults result };
 
     /// Makes stable what was written. After `Failed` nothing is more stable than before.
     fn barrier(&mut self) -> Result<(), Failed>
+        // After a good barrier a crash leaves nothing but what reads give.
         ensures durable { OnOk result (IfSome (view self.old).content (λ c. Only c (view self.new).may_leave)) }
         ensures count { (view self.new).count ≡ (view self.old).count }
+        // A barrier changes nothing that reads give.
         ensures content { (view self.new).content ≡ (view self.old).content }
+        // A crash leaves nothing that it might not have left before the barrier.
         ensures crash { (c : Image) → (view self.new).may_leave c → (view self.old).may_leave c }
+        // A failed barrier makes nothing stable.
         ensures nothing_stable { OnErr result ((c : Image) → (view self.old).may_leave c → (view self.new).may_leave c) }
         ensures time { TimeGoesOn (view self.old) (view self.new) }
+        // A call fails only where the count of faults rose.
         ensures cause { HasCause (view self.old).faults (view self.new).faults result };
 
     /// A disk that tells its content tells its page count.

@@ -247,12 +247,17 @@ impl MemDisk {
     pub fn crash(&mut self, choice: u8)
         requires { choice ≤ 3 }
 
-        // The disk then reads as one of the images that the model allows.
+        // A crash of the disk in memory leaves one of the images that the model allows.
         ensures image { IsImage (state_of self.old) (pages_of self.new) }
+        // The disk is then at rest, over an image that a crash might have left before.
         ensures rests { IsAtRest (view_of self.new) (view_of self.old).may_leave }
+        // The clock of the disk in memory goes on through a crash.
         ensures moment { (view_of self.new).moment ≡ (view_of self.old).moment }
+        // Since each moment up to the crash, a crash may have left only what this one left.
         ensures since { (t : ℕ) (c : Image) → t ≤ (view_of self.new).moment → (view_of self.new).left_since t c ↔ (c ≡ pages_of self.new) }
+        // A crash leaves only images that a crash might have left before it.
         ensures leaves { LeavesOnly (view_of self.old) (view_of self.new) (view_of self.old).may_leave }
+        // Which one it leaves, the choice that is handed in tells.
         ensures outcome { pages_of self.new ≡ outcome choice (state_of self.old) }
         ensures stable { device_calls_of self.new ≡ [] }
         ensures runs { is_stopped self.new ≡ false }
@@ -290,12 +295,15 @@ impl Disk for MemDisk {
         ensures told { IfOk result (λ n. (view_of self.new).count ≡ Some n) }
         ensures kept { IfSome (view_of self.old).count (λ n. (view_of self.new).count ≡ Some n) }
         ensures same { IsSameDisk (view_of self.old) (view_of self.new) }
+        // A failed call is counted as a fault, as the disk model asks of each call.
         ensures cause { HasCause (view_of self.old).faults (view_of self.new).faults result }
 
-        // It fails exactly where it was planned to, or where the disk is stopped.
+        // A page count fails where that is planned and where the disk is stopped, and nowhere else.
         ensures fails { IsErr result ↔ (IsTrue (fails_next (failing_reads_of self.old)) ⊎ IsTrue (is_stopped self.old)) }
+        // Counting pages counts as no read.
         ensures reads { reads_of self.new ≡ reads_of self.old }
         ensures calls { (made_of self.new ≡ made_of self.old) × (is_stopped self.new ≡ is_stopped self.old) }
+        // The calls that are planned to fail are counted on by one.
         ensures plans { IsPlanned self.new (failing_of self.old) (after_call (failing_reads_of self.old)) (stop_of self.old) }
     {
         if self.failing_reads.count_call() || self.is_stopped {
@@ -306,15 +314,18 @@ impl Disk for MemDisk {
 
     fn read(&mut self, page: u64, into: &mut Page) -> Result<(), Failed>
         requires { IsSomeAnd (view_of self.old).count (λ n. page < n) }
+        // A read gives the page of the content, as the disk model asks.
         ensures bytes { OnOk result (IfSome (view_of self.old).content (λ c. into.new ≡ page_at c page)) }
         ensures count { (view_of self.new).count ≡ (view_of self.old).count }
         ensures same { IsSameDisk (view_of self.old) (view_of self.new) }
         ensures cause { HasCause (view_of self.old).faults (view_of self.new).faults result }
 
-        // It fails exactly where it was planned to, or where the disk is stopped.
+        // A read fails where that is planned and where the disk is stopped, and nowhere else.
         ensures fails { IsErr result ↔ (IsTrue (fails_next (failing_reads_of self.old)) ⊎ IsTrue (is_stopped self.old)) }
+        // Each read is counted.
         ensures reads { reads_of self.new ≡ min (reads_of self.old + 1) (2 ^ 64 - 1) }
         ensures calls { (made_of self.new ≡ made_of self.old) × (is_stopped self.new ≡ is_stopped self.old) }
+        // The calls that are planned to fail are counted on by one.
         ensures plans { IsPlanned self.new (failing_of self.old) (after_call (failing_reads_of self.old)) (stop_of self.old) }
     {
         self.reads = self.reads.saturating_add(1);
@@ -327,20 +338,25 @@ impl Disk for MemDisk {
 
     fn write(&mut self, page: u64, from: &Page) -> Result<(), Failed>
         requires { IsSomeAnd (view_of self.old).count (λ n. page ≤ n) }
+        // A write puts the page, as the disk model asks.
         ensures written { OnOk result ((view_of self.new).content ≡ option_map (put page from.now) (view_of self.old).content) }
         ensures torn { MatchOption (view_of self.old).content ((view_of self.new).content ≡ None) (λ c. IsSomeAnd (view_of self.new).content (Torn page c)) }
         ensures grown { OnOk result ((view_of self.new).count ≡ grown page (view_of self.old).count) }
         ensures count { ((view_of self.new).count ≡ (view_of self.old).count) ⊎ ((view_of self.new).count ≡ grown page (view_of self.old).count) }
         ensures room { KeepsRoom (view_of self.old).count (view_of self.new).count }
+        // What a crash may leave after it is as the disk model has it.
         ensures crash { Follows (Torn page) (view_of self.old).may_leave (view_of self.new).may_leave }
         ensures time { TimeGoesOn (view_of self.old) (view_of self.new) }
         ensures cause { HasCause (view_of self.old).faults (view_of self.new).faults result }
 
-        // It fails where it was planned to and where the disk is stopped; want of memory makes it fail too.
+        // A write fails where that is planned and where the disk is stopped; want of memory makes it fail too.
         ensures fails { (IsTrue (fails_next (failing_of self.old)) ⊎ IsTrue (is_stopped self.new)) → IsErr result }
+        // The disk stops at the call that it was planned to stop at, and stays stopped.
         ensures stopped { IsTrue (is_stopped self.new) ↔ (IsTrue (is_stopped self.old) ⊎ (stop_of self.old ≡ Some (made_of self.new))) }
+        // Each call is counted.
         ensures counted { made_of self.new ≡ min (made_of self.old + 1) (2 ^ 64 - 1) }
         ensures reads { reads_of self.new ≡ reads_of self.old }
+        // The calls that are planned to fail are counted on by one.
         ensures plans { IsPlanned self.new (after_call (failing_of self.old)) (failing_reads_of self.old) (stop_of self.old) }
     {
         let was_stopped = self.is_stopped;
@@ -367,6 +383,7 @@ impl Disk for MemDisk {
     }
 
     fn barrier(&mut self) -> Result<(), Failed>
+        // After a good barrier a crash leaves nothing but what reads give, as the disk model asks.
         ensures durable { OnOk result (IfSome (view_of self.old).content (λ c. Only c (view_of self.new).may_leave)) }
         ensures count { (view_of self.new).count ≡ (view_of self.old).count }
         ensures content { (view_of self.new).content ≡ (view_of self.old).content }
@@ -375,11 +392,14 @@ impl Disk for MemDisk {
         ensures time { TimeGoesOn (view_of self.old) (view_of self.new) }
         ensures cause { HasCause (view_of self.old).faults (view_of self.new).faults result }
 
-        // It fails where it was planned to and where the disk is stopped; want of memory makes it fail too.
+        // A barrier fails where that is planned and where the disk is stopped; want of memory makes it fail too.
         ensures fails { (IsTrue (fails_next (failing_of self.old)) ⊎ IsTrue (is_stopped self.new)) → IsErr result }
+        // The disk stops at the call that it was planned to stop at, and stays stopped.
         ensures stopped { IsTrue (is_stopped self.new) ↔ (IsTrue (is_stopped self.old) ⊎ (stop_of self.old ≡ Some (made_of self.new))) }
+        // Each call is counted.
         ensures counted { made_of self.new ≡ min (made_of self.old + 1) (2 ^ 64 - 1) }
         ensures reads { reads_of self.new ≡ reads_of self.old }
+        // The calls that are planned to fail are counted on by one.
         ensures plans { IsPlanned self.new (after_call (failing_of self.old)) (failing_reads_of self.old) (stop_of self.old) }
     {
         let fails = is_to_fail(

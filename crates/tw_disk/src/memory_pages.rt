@@ -86,14 +86,17 @@ impl Pages for MemPages {
     fn read(&mut self, page: u64, into: &mut Page) -> Result<(), Failed>
         requires low { FIRST_PAGE ≤ page }
         requires below { page < count_of self.old }
+        // Reads of pages in memory give the pages.
         ensures page { OnOk result ((pages : Image) → list_of self.old ≡ Some pages
             → into.new ≡ page_at pages (page - FIRST_PAGE)) }
         ensures kept { OnlyReads count_of list_of IsSame IsUnbroken self.old self.new (IsOk result) }
         ensures cause { HasCause (faults_of self.old) (faults_of self.new) result }
 
-        // It fails exactly where it was planned to.
+        // A read of pages in memory fails where that is planned, and nowhere else.
         ensures fails { IsErr result ↔ IsTrue (fails_next (failing_of self.old)) }
+        // Each read is counted.
         ensures reads { reads_of self.new ≡ min (reads_of self.old + 1) (2 ^ 64 - 1) }
+        // The calls that are planned to fail are counted on by one.
         ensures plans { failing_of self.new ≡ after_call (failing_of self.old) }
     {
         self.reads = self.reads.saturating_add(1);

@@ -43,6 +43,7 @@ impl PageFront {
     /// Puts these bytes behind those that were put in.
     pub fn put(&mut self, bytes: &[u8])
         requires { length self.old + length bytes.now ≤ PAGE_SIZE }
+        // Bytes put into a page stand behind those that were put in before.
         ensures bytes { self.new ≡ self.old ++ bytes.now }
         ensures size { length self.new ≡ length self.old + length bytes.now }
     {
@@ -56,6 +57,7 @@ impl PageFront {
         requires width { width ≤ 8 }
         requires fits { value < 256 ^ width }
         requires room { length self.old + width ≤ PAGE_SIZE }
+        // So many bytes of a number stand behind those that were put in before, the highest first.
         ensures bytes { self.new ≡ self.old ++ number_bytes width value }
         ensures size { length self.new ≡ length self.old + width }
     {
@@ -66,6 +68,7 @@ impl PageFront {
     /// Puts the 32 bytes of a digest.
     pub fn put_digest(&mut self, digest: &Digest)
         requires { length self.old + 32 ≤ PAGE_SIZE }
+        // The bytes of a digest stand behind those that were put in before.
         ensures bytes { self.new ≡ self.old ++ digest.now }
         ensures size { length self.new ≡ length self.old + 32 }
         ensures digest { length digest.now ≡ 32 }
@@ -75,6 +78,7 @@ impl PageFront {
 
     /// The page: the bytes that were put in, and zeros.
     pub fn into_page(self) -> Page
+        // The page is the bytes that were put in, and then zeros.
         ensures { result ≡ padded self }
     {
         self.page
@@ -94,6 +98,8 @@ fn are_zeros(bytes: &[u8]) -> bool
 /// 4,096: the value, where zeros follow to the page's end.
 pub fn page_to<T: Drop>(page: &Page, after: u64, read: Result<T, ReadFault>) -> Option<T>
     requires { IfOk read (λ _. after ≤ PAGE_SIZE) }
+    // What was read of a page's front is answered exactly where zeros follow to the page's end; of what wasn't read
+    // nothing is answered.
     ensures { IsPageTo page.now after read result }
 {
     match read {

@@ -37,21 +37,28 @@ pub trait Pages {
     fn read(&mut self, page: u64, into: &mut Page) -> Result<(), Failed>
         requires low { FIRST_PAGE ≤ page }
         requires below { page < used_count self.old }
+        // A read gives the page that the told list has.
         ensures page { OnOk result ((pages : Image) → list self.old ≡ Some pages
             → into.new ≡ page_at pages (page - FIRST_PAGE)) }
+        // Reading changes nothing of what the pages tell.
         ensures kept { OnlyReads used_count list same unbroken self.old self.new (IsOk result) }
+        // A read fails only where the count of faults rose.
         ensures cause { HasCause (faults self.old) (faults self.new) result };
 
     /// Puts a page at the end, and answers its number, which is the old `used`. After `NoMemory` all is as before.
     fn stage(&mut self, page: &Page) -> Result<u64, NoMemory>
         requires { used_count self.old < NUMBER_LIMIT - FIRST_PAGE }
+        // Staging tells the number of the page that was added.
         ensures number { IfOk result (λ n. n ≡ used_count self.old) }
+        // It appends the page to the told list.
         ensures list { OnOk result (list self.new ≡ option_map (λ pages. pages ++ page.now ∷ []) (list self.old)) }
         ensures used { OnOk result (used_count self.new ≡ used_count self.old + 1) }
+        // Where it fails, the list is as before.
         ensures list_err { OnErr result (list self.new ≡ list self.old) }
         ensures used_err { OnErr result (used_count self.new ≡ used_count self.old) }
         ensures same { same self.old self.new }
         ensures unbroken { unbroken self.old → unbroken self.new }
+        // It counts no fault.
         ensures faults { faults self.new ≡ faults self.old };
 
     /// The list that is told has as many pages as are counted.

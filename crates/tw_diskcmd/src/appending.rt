@@ -30,8 +30,11 @@ pub fn append<D: Disk, I: Inputs>(
     file: &str,
 ) -> Worked<D, Thread>
     requires { I.may_ask inputs.old file.now }
+    // What `append` comes to is what its file, the disk and the counts of faults allow: the thread of the new step, or
+    // a fault with its cause.
     ensures comes { AppendComes (asked (I.told inputs.old) (I.faults inputs.old) (I.faults inputs.new))
         (touched (D.view disk).content (D.view disk).faults (D.view result.disk).faults) file.now result.outcome }
+    // It leaves the disk as is right for what it came to.
     ensures leaves { AppendLeaves D.view disk result.disk (I.told inputs.old) file.now result.outcome }
 {
     match read_step(alloc, inputs, file) {

@@ -16,7 +16,10 @@ use tw_service::Service;
 
 /// Makes a service of this name on the disk, and answers the thread of its step 0.
 pub fn make<D: Disk>(alloc: Global, disk: D, name: Name) -> Worked<D, Thread>
+    // What `init` comes to is what the disk and its count of faults allow: the thread of step 0, or a fault with its
+    // cause.
     ensures comes { InitComes (touched (D.view disk).content (D.view disk).faults (D.view result.disk).faults) name result.outcome }
+    // It leaves the disk as is right for what it came to.
     ensures leaves { InitLeaves D.view disk result.disk name result.outcome }
 {
     match Service::<D, Sha>::init(alloc, disk, name) {

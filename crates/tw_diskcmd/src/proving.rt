@@ -24,7 +24,9 @@ pub fn prove<D: Disk>(
     index: u64,
     top: Option<u64>,
 ) -> Worked<D, Bytes>
+    // What `prove` comes to is what the disk and its count of faults allow: the proof, or a fault with its cause.
     ensures comes { ProveComes (touched (D.view disk).content (D.view disk).faults (D.view result.disk).faults) step index top result.outcome }
+    // It leaves the disk as is right for what it came to.
     ensures leaves { ProveLeaves D.view disk result.disk result.outcome }
 {
     match Service::<D, Sha>::open(alloc, disk) {

@@ -28,6 +28,7 @@ pub fn root_above_leaf<H: Hasher>(
     leaf: Digest,
 ) -> Digest
     requires { length path.now ≤ length sides.items }
+    // The root above a leaf is that to which its label and the labels of the path lead.
     ensures { result ≡ root_above H.dig (reverse sides.items) path.now leaf }
 {
     let mut sides = sides;
@@ -76,7 +77,10 @@ pub fn check_event<H: Hasher>(
 ) -> bool
     requires few { count ≤ MOST_EVENTS }
     requires small { length event.now ≤ MOST_EVENT_BYTES }
+    // A check answers true exactly where index, length of the path and root are right.
     ensures answer { IsTrue result ↔ ChecksEvent H.dig root.now count index event.now path.now }
+    // Where it answers true, each list of so many events with that root has the event at that index, or two texts of
+    // these events and of the check clash.
     ensures binds { IsTrue result → (events : List (List ℕ)) → length events ≡ count → event_root H.dig events ≡ root.now →
         OrClash H.dig (event_texts H.dig events ++ audit_texts H.dig count index event.now path.now) (slice_get events index ≡ Some event.now) }
 {

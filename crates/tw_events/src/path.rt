@@ -43,7 +43,9 @@ pub fn event_path<H: Hasher>(
     requires inside { index < length events.now }
     requires few { length events.now ≤ MOST_EVENTS }
     requires small { Each (λ event. length event ≤ MOST_EVENT_BYTES) events.now }
+    // A path of an event is its audit path of RFC 6962.
     ensures path { IfOk result (λ path. path ≡ audit_path H.dig events.now index) }
+    // With that path the event checks under the root of the events.
     ensures checks { IfOk result (λ path. (event : List ℕ) → slice_get events.now index ≡ Some event →
         ChecksEvent H.dig (event_root_of H.dig events.now) (length events.now) index event path) }
 {

@@ -13,6 +13,7 @@ use tw_base::{Bytes, Digest, Hasher, event_leaf, event_node, left_count, no_even
 pub fn event_root<H: Hasher>(events: &[Bytes]) -> Digest
     requires few { length events.now ≤ MOST_EVENTS }
     requires small { Each (λ event. length event ≤ MOST_EVENT_BYTES) events.now }
+    // A root of events is the Merkle tree hash of RFC 6962.
     ensures { result ≡ event_root_of H.dig events.now }
 {
     match events {

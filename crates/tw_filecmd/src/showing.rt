@@ -23,6 +23,7 @@ pub fn show<I: Inputs>(
     index: u64,
 ) -> Result<Bytes, CommandFault>
     requires { I.may_ask inputs.old file.now }
+    // What `show` comes to is what its file and the count of faults allow: the proof, or a fault with its cause.
     ensures { ShowComes (asked (I.told inputs.old) (I.faults inputs.old) (I.faults inputs.new)) file.now step index result }
 {
     let bytes = read_all(alloc, inputs, file, HISTORY_READ)?;

@@ -21,6 +21,8 @@ pub fn verify_one<I: Inputs>(
     anchor: Thread,
 ) -> Result<Verdict, CommandFault>
     requires { I.may_ask inputs.old proof.now }
+    // What `verify` comes to under the anchor of its words is what the proof file and the count of faults allow: the
+    // verdict on the file's bytes, or a fault with its cause.
     ensures { VerifyOneComes (asked (I.told inputs.old) (I.faults inputs.old) (I.faults inputs.new)) proof.now anchor result }
 {
     let bytes = read_all(alloc, inputs, proof, PROOF_READ)?;
@@ -37,6 +39,8 @@ pub fn verify_file<I: Inputs>(
 ) -> Result<Verdict, CommandFault>
     requires proof { I.may_ask inputs.old proof.now }
     requires anchors { I.may_ask inputs.old anchors.now }
+    // What `verify` comes to under an anchors file is what both files and the count of faults allow: the verdict on the
+    // proof's bytes under the file's anchors, or a fault with its cause.
     ensures { VerifyFileComes (asked (I.told inputs.old) (I.faults inputs.old) (I.faults inputs.new)) proof.now anchors.now result }
 {
     let pair = read_pair(alloc, inputs, anchors, proof, PROOF_READ)?;

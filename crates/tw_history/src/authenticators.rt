@@ -16,6 +16,7 @@ pub fn auth_of<H: Hasher>(
     history: &History,
     step: u64,
 ) -> Result<Option<Digest>, NoMemory>
+    // The authenticator of a step of a history is the one of the definitions; none exactly where there is no such step.
     ensures authenticator { IfOk result (λ found. MatchOption found (length history.now.steps < step)
         (λ digest. (step ≤ length history.now.steps) × (digest ≡ auth H.dig history.now step))) }
 {

@@ -43,6 +43,9 @@ pub(crate) fn read_table(alloc: Global, bytes: &[u8]) -> Result<History, ReadFau
 /// rule, with the least step and then the least rule. The time is near linear in the bytes, and so is
 /// the memory.
 pub fn read_history(alloc: Global, bytes: &[u8]) -> Result<History, HistoryFault>
+    // Bytes are read as a history exactly where they are at most 67,108,864, spell one and it is sound. Else the first
+    // of these is told that stands: how many there are; the exact place at which no history file goes on; the least
+    // step that breaks one of the rules, and the least rule that it breaks.
     ensures read { ReadsHistory bytes.now result }
 {
     if bytes.len() as u64 > MOST_HISTORY_BYTES {

@@ -173,10 +173,15 @@ pub fn show_event<H: Hasher>(
     step: u64,
     index: u32,
 ) -> Result<Bytes, ShowFault>
+    // The proof made of an event of a history is the history's own, under its last step.
     ensures shown { IfOk result (MakesExistence H.dig history.now step index (length history.now.steps)) }
+    // It is made only of a step that the history has.
     ensures inside { OnOk result ((0 < step) × (step ≤ length history.now.steps)) }
+    // It is accepted under the history's authenticator of its last step.
     ensures accepted { IfOk result (λ bytes. (p : ExistenceProof) × Spells existence_layout bytes p
         × IsAcceptedUnder H.dig (auth H.dig history.now (length history.now.steps)) p) }
+    // It is refused only where there is no such step, or no such event in it, and tells the last step, or the number of
+    // the step's events; by `inside` and `shown` it is refused wherever that is so, want of memory excepted.
     ensures refused { IfErr result (RefusesEvent history.now step index) }
 {
     let events = events_to_show(history, step, index)?;

@@ -55,6 +55,8 @@ pub(crate) struct Judged {
 /// The time is near linear in the history: no tree is walked, each node is judged by what its sides
 /// hold.
 pub fn is_sound(alloc: Global, history: &History) -> Result<(), HistoryFault>
+    // A history is judged sound exactly where it is; else the least step that breaks a rule is told, and the least rule
+    // that it breaks. The rules are those of the definitions, over whole trees.
     ensures sound { MatchResult result (λ _. IsSound history.now) (TellsRule history.now) }
 {
     let judged = Judged::of_none(alloc)?;

@@ -32,9 +32,13 @@ pub(crate) const MAGIC: [u8; 4] = *b"TWH1";
 /// number. TooLong comes exactly where there would be more than 67,108,864 of them, and tells how
 /// many.
 pub fn write_history(alloc: Global, history: &History) -> Result<Bytes, HistoryFault>
+    // The bytes written of a history are those of the format. No command writes one yet.
     ensures bytes { IfOk result (λ bytes. bytes ≡ history_bytes history.now) }
+    // The bytes that are written spell the history.
     ensures spelled { IfOk result (λ bytes. Spells history_layout bytes history.now) }
+    // At most 67,108,864 bytes are written.
     ensures short { IfOk result (λ bytes. length bytes ≤ MOST_HISTORY_BYTES) }
+    // `TooLong` comes only where there would be more, and tells how many.
     ensures long { IfErr result (TellsLength (history_bytes history.now)) }
 {
     let size = file_size(history);

@@ -37,10 +37,15 @@ impl From<NoMemory> for AnchorFault {
 /// STEP within 1 to 2^40 - 1 in decimal digits, HEX of 64 digits of either case. Each line is ended
 /// by one line feed, which the last may lack. An empty file has no anchors.
 pub fn read_anchors(alloc: Global, bytes: &[u8]) -> Result<Threads, AnchorFault>
+    // A file of anchors is read as the threads of its lines.
     ensures anchors { IfOk result (λ anchors. anchors ≡ map anchor_of (lines bytes.now)) }
+    // It is read only where all its lines are good.
     ensures good { IfOk result (λ _. AllGood (lines bytes.now)) }
+    // There are at most 64 anchors.
     ensures few { IfOk result (λ anchors. length anchors ≤ MOST_ANCHORS) }
+    // The anchors are of different services.
     ensures services { IfOk result (AllPairs (λ a b. a.from ≢ b.from)) }
+    // Of a file with a bad line the number of its first bad line is told.
     ensures bad { IfErr result (TellsBadLine (lines bytes.now)) }
 {
     let mut anchors = Threads::new(alloc);

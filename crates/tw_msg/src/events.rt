@@ -28,6 +28,8 @@ fn take_file(alloc: Global, bytes: &[u8], at: &mut u64) -> Result<EventList, Rea
 /// which none goes on; where they end too early, that is their length. Takes no more memory than
 /// the events that are there, and reads each byte once.
 pub fn read_events(alloc: Global, bytes: &[u8]) -> Result<EventList, ReadFault>
+    // A file of events is read exactly where its bytes spell one, with its events; else the place of the first bad byte
+    // is told.
     ensures { ReadsAs (λ events. events) events_file bytes.now result }
 {
     let mut at = 0;
@@ -38,6 +40,7 @@ pub fn read_events(alloc: Global, bytes: &[u8]) -> Result<EventList, ReadFault>
 /// The words of events files: each has one list of events, a list of events has one spelling, and no
 /// word is the front of a longer one.
 pub fn events_file_laws()
+    // A file has one list of events, events have one spelling, and no file is the front of a longer one.
     ensures { IsUnambiguous events_codec }
 {}
 

@@ -20,11 +20,16 @@ pub trait Inputs {
     /// None come at the end of the file. `Failed` comes where the file isn't there or can't be read.
     fn read(&mut self, name: &str, at: u64, into: &mut [u8]) -> Result<usize, Failed>
         requires { may_ask self.old name.now }
+        // Reading changes nothing of what the inputs tell.
         ensures kept { told self.new ≡ told self.old }
         ensures same_names { (other : List ℕ) → may_ask self.new other ↔ may_ask self.old other }
+        // A read fails only where the count of faults rose.
         ensures cause { HasCause (faults self.old) (faults self.new) result }
 
+        // After `Ok` the file is there, where files are told.
         ensures there { OnOk result (IsThere (told self.old) name.now) }
         ensures within { IfOk result (λ n. n ≤ length into.old) }
+        // What came are the told file's bytes from the place on; where there is room for some, none come exactly at its
+        // end.
         ensures came { IfOk result (λ n. (bytes : List ℕ) → Tells (told self.old) name.now bytes → Came bytes at into.new n) };
 }

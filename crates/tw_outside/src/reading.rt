@@ -89,10 +89,12 @@ pub fn read_all<I: Inputs>(
     ensures kept { I.told inputs.new ≡ I.told inputs.old }
     ensures same_names { (other : List ℕ) → I.may_ask inputs.new other ↔ I.may_ask inputs.old other }
     ensures later { I.faults inputs.old ≤ I.faults inputs.new }
+    // It fails only where the count of faults rose.
     ensures failed { result ≡ Err InputFault.Failed → Rose (I.faults inputs.old) (I.faults inputs.new) }
 
     ensures there { OnOk result (IsThere (I.told inputs.old) name.now) }
     ensures within { IfOk result (λ all. vec_len all ≤ limit) }
+    // Reading to the end gives the file's bytes up to the limit.
     ensures read { IfOk result (λ all. IsReadTo (I.told inputs.old) name.now limit all.items) }
 {
     let mut all = Vec::new(alloc);

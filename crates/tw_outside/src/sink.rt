@@ -17,8 +17,12 @@ pub trait Sink {
     /// A call that fails has taken nothing.
     fn write(&mut self, piece: &[u8]) -> Result<usize, Failed>
         ensures within { IfOk result (λ n. n ≤ length piece.now) }
+        // A write that goes well takes at least one byte, where there is one.
         ensures some { IfOk result (λ n. 0 < length piece.now → 0 < n) }
+        // What it took is appended to what was taken.
         ensures appends { IfOk result (λ n. Appends (taken self.old) (taken self.new) (take n piece.now)) }
+        // A write that fails took nothing.
         ensures unchanged { OnErr result (IsUnchanged (taken self.old) (taken self.new)) }
+        // A write fails only where the count of faults rose.
         ensures cause { HasCause (faults self.old) (faults self.new) result };
 }

@@ -24,9 +24,13 @@ use tw_base::Hasher;
 /// and an image that stands for a history, or only opens as a store with the root record of a service,
 /// is never refused.
 pub fn standing_laws<H: Hasher>()
+    // An image stands for at most one history.
     ensures once { (image : Image) (one other : List ℕ) (h g : History) → StandsFor H.dig image one h → StandsFor H.dig image other g → h ≡ g }
+    // That history is sound, has the service's name, and its steps are all of events, without a time.
     ensures sound { (image : Image) (name : List ℕ) (h : History) → StandsFor H.dig image name h → IsSound h × (h.name ≡ name) × HasEventsOnly h }
+    // An image that stands for a history is refused for no reason.
     ensures never_refused { (image : Image) (name : List ℕ) (h : History) (fault : StoreFault) → StandsFor H.dig image name h → IsNotOpenedFor image fault → ⊥ }
+    // An image that only opens as a service's store is refused for no reason either.
     ensures opened { (image : Image) (name : List ℕ) (head : Head) (fault : StoreFault) → OpensFor image name head → IsNotOpenedFor image fault → ⊥ }
 {}
 
@@ -35,13 +39,21 @@ pub fn standing_laws<H: Hasher>()
 /// the table allows, where fewer than 2^47 pages are used and the archive is the history's; and, for
 /// steps in their order, the history's own proof of the event at the index, or that there is none.
 pub fn finding_laws<H: Hasher>()
+    // An image opens as one service at most, of one name, one head and one list of pages, whose numbers are below 2^64.
     ensures one_service { (image : Image) (one other : List ℕ) (head last : Head) (ps qs : Image) → OpensWith image one head (λ x. x ≡ ps) →
         OpensWith image other last (λ x. x ≡ qs) → (one ≡ other) × (head ≡ last) × (ps ≡ qs) × (4 + length ps ≤ 2 ^ 64) }
+    // Where pages keep a history under the head, fewer than 2^47 pages are used, the events are within the limits of a
+    // step and the table doesn't refuse them, what `append` finds with the history's archive is the last thread of the
+    // history with one more step of these events; so no page met is bad.
     ensures thread { (ps : Image) (h : History) (head : Head) (events : List (List ℕ)) → Keeps H.dig ps h head → 4 + length ps < 2 ^ 47 → MayRecord events →
         append_refusal false head.step events ≡ None → head.step < LAST_STEP →
         found_thread H.dig ps h.name head false events (archive_at H.dig h (length h.steps)) ≡ Is (Ok (last_thread H.dig (with_events h events))) }
+    // Where they keep a sound history, the steps are in their order and the step has an event of that index, what
+    // `prove_event` finds is the history's own proof of it under that top; so no page met is bad.
     ensures event { (ps : Image) (h : History) (head : Head) (step index top : ℕ) → Keeps H.dig ps h head → IsSound h → 1 ≤ step → step ≤ top → top ≤ head.step →
         index < length (events_at h step) → (bytes : List ℕ) × (event_proof H.dig ps h.name head step index top ≡ Is (Ok bytes)) × MakesExistence H.dig h step index top bytes }
+    // Where they keep one, the steps are in their order and the step has no event of that index, what `prove_event`
+    // finds is `NoEvent` with the step's number of events.
     ensures no_event { (ps : Image) (h : History) (head : Head) (step index top : ℕ) → Keeps H.dig ps h head → IsSound h → 1 ≤ step → step ≤ top → top ≤ head.step →
         length (events_at h step) ≤ index → event_proof H.dig ps h.name head step index top ≡ Is (Err (NoEvent (length (events_at h step)))) }
 {}
@@ -49,8 +61,11 @@ pub fn finding_laws<H: Hasher>()
 /// A sound history of steps of events with one more, within the limits of a step and of a history, is
 /// sound.
 pub fn event_laws()
+    // One more step of events without a time, within the limits of a step and of a history, keeps a sound history of
+    // such steps alone sound.
     ensures sound { (h : History) (events : List (List ℕ)) → IsSound h → HasEventsOnly h → MayRecord events → length h.steps < LAST_STEP →
         IsSound (with_events h events) }
+    // The longer history is of such steps alone too.
     ensures events { (h : History) (events : List (List ℕ)) → IsSound h → HasEventsOnly h → MayRecord events → length h.steps < LAST_STEP →
         HasEventsOnly (with_events h events) }
 {}

@@ -65,36 +65,43 @@ impl<D: Disk, H: Hasher> Service<D, H> {
     /// answer. Where a crash stops it, the disk is blank or stands for the empty history of the name, or is
     /// what a crash might have left before; and so reads a disk that told its content and is given back.
     pub fn init(alloc: Global, disk: D, name: Name) -> Result<Service<D, H>, (D, StoreFault)>
-        // The empty history of the name, at rest.
+        // A new service serves the empty history of its name, at rest.
         ensures served { IfOk result (λ s. (c : Image) → (D.view disk).content ≡ Some c
             → Serves H.dig D.view s (no_history name)) }
+        // It has the name that was given, no steps, and has met no disk fault.
         ensures thread { IfOk result (λ s. (name_of s ≡ name) × (steps_of s ≡ 0) × (has_failed s ≡ false)) }
 
-        // Taken exactly where there is something, a disk fault excepted.
+        // `Taken` only where a store is there.
         ensures taken { IfErr result (λ e. e.1 ≡ StoreFault.Taken → (c : Image) → (D.view disk).content ≡ Some c
             → IsTaken c) }
+        // Where a store is there, the answer is `Taken`, a disk fault excepted.
         ensures exact { (c : Image) → (D.view disk).content ≡ Some c → IsTaken c
             → IsErrAnd result (λ e. (e.1 ≡ StoreFault.Taken) ⊎ (e.1 ≡ StoreFault.DiskFault)) }
+        // After `Taken` nothing was written.
         ensures unchanged { IfErr result (λ e. e.1 ≡ StoreFault.Taken → ((D.view e.0).content ≡ (D.view disk).content)
             × LeavesOnly (D.view disk) (D.view e.0) ((D.view disk).may_leave)) }
+        // Making never answers anything but a service, `Taken` or `DiskFault`.
         ensures answers { IfErr result (λ e. (e.1 ≡ StoreFault.Taken) ⊎ (e.1 ≡ StoreFault.DiskFault)) }
+        // `DiskFault` comes only where the disk's count of faults rose.
         ensures fault { IfErr result (λ e. e.1 ≡ StoreFault.DiskFault → Rose ((D.view disk).faults) ((D.view e.0).faults)) }
+        // The count of faults hasn't fallen.
         ensures later { MatchResult result (λ s. (D.view disk).faults ≤ (D.view (disk_of s)).faults) (λ e. (D.view disk).faults ≤ (D.view e.0).faults) }
 
-        // Where there is something, nothing changes, a disk fault or not.
+        // Where a store is there, nothing is written, whatever the answer.
         ensures held { (c : Image) → (D.view disk).content ≡ Some c → IsTaken c
             → IfErr result (λ e. ((D.view e.0).content ≡ Some c)
             × LeavesOnly (D.view disk) (D.view e.0) ((D.view disk).may_leave)) }
 
-        // Each image that a crash since the start may leave is one that it might have left before, or blank, or stands for the empty history.
+        // A crash while a service is made leaves what it might have left before, a blank disk, or the empty history.
         ensures any_moment { IfOk result (λ s. (c : Image) → (D.view disk).content ≡ Some c
             → LeavesOnly (D.view disk) (D.view (disk_of s)) (λ i. (D.view disk).may_leave i
             ⊎ IsBlankOrNew H.dig name i)) }
+        // Where making fails, a crash leaves such images alone too.
         ensures any_moment_err { IfErr result (λ e. (c : Image) → (D.view disk).content ≡ Some c
             → LeavesOnly (D.view disk) (D.view e.0) (λ i. (D.view disk).may_leave i
             ⊎ IsBlankOrNew H.dig name i)) }
 
-        // A disk that is given back tells its content still, which is one of these images.
+        // A disk that is given back tells its content still, which is such an image.
         ensures told { IfErr result (λ e. (c : Image) → (D.view disk).content ≡ Some c
             → Reads (D.view e.0) (λ i. (D.view disk).may_leave i ⊎ IsBlankOrNew H.dig name i)) }
     {
@@ -132,29 +139,37 @@ impl<D: Disk, H: Hasher> Service<D, H> {
     /// `NoMemory`. A disk that stands for a history is never refused. Whatever it answers, the disk reads
     /// as before.
     pub fn open(alloc: Global, disk: D) -> Result<Service<D, H>, (D, StoreFault)>
-        // A disk that reads as one that stands for a history is opened as it, at rest.
+        // A disk that reads as a history is opened as it, at rest, or met a disk fault.
         ensures served { (c : Image) (of : List ℕ) (h : History) → (D.view disk).content ≡ Some c → StandsFor H.dig c of h
             → MatchResult result (λ s. Serves H.dig D.view s h) (λ e. e.1 ≡ StoreFault.DiskFault) }
+        // Whatever is opened, its disk is at rest over what it read as.
         ensures stable { IfOk result (λ s. (c : Image) → (D.view disk).content ≡ Some c
             → IsAtRest (D.view (disk_of s)) (λ i. i ≡ c)) }
+        // A value that was opened has met no disk fault.
         ensures whole { IfOk result (λ s. has_failed s ≡ false) }
 
-        // Whatever is opened has the root record of a service, whose name and head are the value's, and the value's pages.
+        // Whatever is opened has the root record of a service, of the value's name and head, and the value's pages.
         ensures opened { IfOk result (λ s. (c : Image) → (D.view disk).content ≡ Some c
             → OpensWith c (name_of s) (head_of s) (λ ps. pages_of D.view s ≡ Some ps)) }
 
-        // Each refusal exactly where its reason stands, a disk fault excepted.
+        // `Blank` and `NotAStore` come only where their reasons stand.
         ensures refused { IfErr result (λ e. (c : Image) → (D.view disk).content ≡ Some c
             → (e.1 ≡ StoreFault.DiskFault) ⊎ IsNotOpenedFor c e.1) }
+        // `Blank` and `NotAStore` come wherever their reasons stand, a disk fault excepted.
         ensures exact { (c : Image) (fault : Fault) → (D.view disk).content ≡ Some c → IsNotOpenedFor c fault
             → IsErrAnd result (λ e. (e.1 ≡ fault) ⊎ (e.1 ≡ StoreFault.DiskFault)) }
+        // Whatever it answers, the disk reads as before.
         ensures unchanged { MatchResult result (λ s. (D.view (disk_of s)).content ≡ (D.view disk).content) (λ e. (D.view e.0).content ≡ (D.view disk).content) }
+        // Opening never answers `Taken` or `NoMemory`.
         ensures answers { IfErr result (λ e. (e.1 ≢ StoreFault.Taken) × (e.1 ≢ StoreFault.NoMemory)) }
+        // `DiskFault` comes only where the disk's count of faults rose.
         ensures fault { IfErr result (λ e. e.1 ≡ StoreFault.DiskFault → Rose ((D.view disk).faults) ((D.view e.0).faults)) }
+        // The count of faults hasn't fallen.
         ensures later { MatchResult result (λ s. (D.view disk).faults ≤ (D.view (disk_of s)).faults) (λ e. (D.view disk).faults ≤ (D.view e.0).faults) }
 
-        // It writes nothing.
+        // A crash since the start leaves nothing else than before: opening writes nothing.
         ensures any_moment { IfOk result (λ s. LeavesOnly (D.view disk) (D.view (disk_of s)) ((D.view disk).may_leave)) }
+        // Where opening fails, it wrote nothing either.
         ensures any_moment_err { IfErr result (λ e. LeavesOnly (D.view disk) (D.view e.0) ((D.view disk).may_leave)) }
     {
         match Store::open(alloc, disk) {
@@ -177,8 +192,11 @@ impl<D: Disk, H: Hasher> Service<D, H> {
 
     /// The number of steps.
     pub fn steps(&self) -> u64
+        // Over every disk the number of steps is that of the value's head.
         ensures value { result ≡ steps_of self.now }
+        // Where a history is served, its number of steps is told.
         ensures served { (h : History) → Serves H.dig D.view self.now h → result ≡ length h.steps }
+        // Telling the number of steps is a step of the machine that changes nothing.
         ensures machine { (h : History) → Serves H.dig D.view self.now h → IsStepOf H.dig h CountSteps (OfNumber result) h }
     {
         self.root.head.step
@@ -186,8 +204,11 @@ impl<D: Disk, H: Hasher> Service<D, H> {
 
     /// The thread of the last step; where there is no step, step 0 with the authenticator of the name.
     pub fn head(&self) -> Thread
+        // Over every disk the thread is that of the value's head.
         ensures value { result ≡ thread_of self.now }
+        // Where a history is served, the thread of its last step is told.
         ensures served { (h : History) → Serves H.dig D.view self.now h → result ≡ last_thread H.dig h }
+        // Telling the last thread is a step of the machine that changes nothing.
         ensures machine { (h : History) → Serves H.dig D.view self.now h → IsStepOf H.dig h TellHead (OfThread result) h }
     {
         Thread {
@@ -199,8 +220,11 @@ impl<D: Disk, H: Hasher> Service<D, H> {
 
     /// The name.
     pub fn name(&self) -> Name
+        // Over every disk the name is the value's own.
         ensures value { result ≡ name_of self.now }
+        // Where a history is served, its name is told.
         ensures served { (h : History) → Serves H.dig D.view self.now h → result ≡ h.name }
+        // Telling the name is a step of the machine that changes nothing.
         ensures machine { (h : History) → Serves H.dig D.view self.now h → IsStepOf H.dig h TellName (OfName result) h }
     {
         self.root.name
@@ -208,7 +232,9 @@ impl<D: Disk, H: Hasher> Service<D, H> {
 
     /// Gives the disk back. Where a history was served, the disk stands for it, at rest.
     pub fn close(self) -> D
+        // The disk is given back.
         ensures disk { result ≡ disk_of self }
+        // The disk that is given back stands for the history that was served, at rest.
         ensures stands { (h : History) → Serves H.dig D.view self h
             → IsAtRest (D.view result) (λ i. StandsFor H.dig i (name_of self) h) }
     {
@@ -234,46 +260,61 @@ impl<D: Disk, H: Hasher> Service<D, H> {
     /// tells its content still, which stands for the history before the call or with the new step;
     /// `open` then serves that one, or meets a disk fault.
     pub fn append(&mut self, events: &EventList) -> Result<Thread, Refusal>
-        // The refusals of the table, in its order, and no others where none of it stands.
+        // Each refusal of the table comes exactly where its line is the first that stands; else only `DiskFault`,
+        // `BadPage` and `NoMemory` are left.
         ensures table { MatchOption (append_refusal_of (has_failed self.old) (steps_of self.old) events.now)
             (IfErr result IsFault) (λ refusal. result ≡ Err refusal) }
 
-        // After Ok the longer history is served, at rest, and the answer is its last thread.
+        // After `Ok` the history with one more step of these events is served, at rest, and the answer is the thread of
+        // its last step.
         ensures done { IfOk result (λ thread. (h : History) → Serves H.dig D.view self.old h
             → Serves H.dig D.view self.new (with_events h events.now)
             × (thread ≡ last_thread H.dig (with_events h events.now))) }
+        // The answer is the thread of the value's new head.
         ensures thread { IfOk result (λ thread. thread ≡ thread_of self.new) }
+        // The archive and the number of threads that the root record tells stay as they were, over whatever store.
         ensures archive { (archive_of self.new ≡ archive_of self.old) × (threads_of self.new ≡ threads_of self.old) }
+        // The answer is of the value's name and its next step.
         ensures next { IfOk result (λ thread. (thread.from ≡ name_of self.old) × (thread.step ≡ steps_of self.old + 1)) }
 
-        // Each image that a crash since the start may leave stands for the history before or for the longer one.
+        // Every image that a crash since the start may leave stands for the history before or for the longer one.
         ensures any_moment { (h : History) → Serves H.dig D.view self.old h
             → LeavesOnly (D.view (disk_of self.old)) (D.view (disk_of self.new))
             (StandsForOneOf H.dig (name_of self.old) h (with_events h events.now)) }
 
-        // Whatever the answer, the disk tells its content still, which stands for one of the two.
+        // Whatever the answer, after `DiskFault` too, the disk tells its content still, which stands for one of the
+        // two.
         ensures told { (h : History) → Serves H.dig D.view self.old h
             → Reads (D.view (disk_of self.new)) (StandsForOneOf H.dig (name_of self.old) h (with_events h events.now)) }
 
-        // After a refusal but DiskFault the history is served as before, and nothing was written.
+        // After a refusal but `DiskFault` the history is served as before, at rest, and a crash leaves only what stands
+        // for it.
         ensures refused { IfErr result (λ refusal. (refusal ≡ Refusal.DiskFault)
             ⊎ ((h : History) → Serves H.dig D.view self.old h → Serves H.dig D.view self.new h
             × LeavesOnly (D.view (disk_of self.old)) (D.view (disk_of self.new)) (λ i. StandsFor H.dig i (name_of self.old) h))) }
+        // After a refusal but `DiskFault` nothing was written.
         ensures unwritten { IfErr result (λ refusal. (refusal ≡ Refusal.DiskFault)
             ⊎ HasSameDisk D.view self.old self.new) }
 
-        // What the value tells of itself after a refusal is as before, but that a disk fault is remembered.
+        // After each refusal name and head, and with them steps and thread, are as before.
         ensures kept { OnErr result ((head_of self.new ≡ head_of self.old) × (name_of self.new ≡ name_of self.old)) }
+        // The value remembers that a call answered `DiskFault`, and nothing else is remembered so: by the table
+        // `Reopen` is answered exactly after one.
         ensures broken { IsTrue (has_failed self.new) ↔ (IsTrue (has_failed self.old) ⊎ (result ≡ Err Refusal.DiskFault)) }
+        // `DiskFault` comes only where the disk's count of faults rose.
         ensures fault { result ≡ Err Refusal.DiskFault → Rose ((D.view (disk_of self.old)).faults) ((D.view (disk_of self.new)).faults) }
+        // The count of faults hasn't fallen.
         ensures later { (D.view (disk_of self.old)).faults ≤ (D.view (disk_of self.new)).faults }
 
-        // Whatever the pages are, the answer is what is found in them, but for a failed device call and want of memory: BadPage tells
-        // the first page met for the new step's links that isn't its step's.
+        // What the answer is, a disk fault and want of memory excepted, whatever the pages keep: the refusal of the
+        // table, where one stands; else the thread of a next step of these events, with the root record's archive and
+        // the links that the pages lead to from the head; or `BadPage` with the first page met for these links that
+        // isn't of its kind.
         ensures answer { (ps : Image) → pages_of D.view self.old ≡ Some ps
             → IsAnswer result (found_thread H.dig ps (name_of self.old) (head_of self.old) (has_failed self.old) events.now (archive_of self.old)) }
 
-        // The call is a step of the machine.
+        // Where a history is served and no earlier call on the value met a disk fault, adding a step is a step of the
+        // machine, a disk fault and want of memory excepted.
         ensures machine { has_failed self.old ≡ false → (h : History) → Serves H.dig D.view self.old h
             → Answers H.dig h (Append events.now) (λ thread. OfThread thread) result (Serves H.dig D.view self.new) }
     {
@@ -300,32 +341,46 @@ impl<D: Disk, H: Hasher> Service<D, H> {
     /// the first page met that isn't of its kind, or the one read last where the event pages don't spell
     /// the step's events; it never comes where a history is served. It writes nothing.
     pub fn prove_event(&mut self, step: u64, index: u32, top: u64) -> Result<Bytes, Refusal>
-        // The refusals of the table that need no page, in its order.
+        // Each refusal of the table that needs no page comes exactly where its line is the first that stands; else only
+        // `DiskFault`, `BadPage`, `NoMemory` and `NoEvent` are left.
         ensures table { MatchOption (order_refusal_of (has_failed self.old) (steps_of self.old) step top)
             (IfErr result (λ refusal. IsFault refusal ⊎ IsNoEvent refusal)) (λ refusal. result ≡ Err refusal) }
 
-        // The history's own proof, which is accepted under the history's own authenticator of the top.
+        // A proof is the history's own proof of that event under that top.
         ensures made { IfOk result (λ bytes. (h : History) → Serves H.dig D.view self.old h
             → MakesExistence H.dig h step index top bytes) }
+        // The proof is accepted under every list of anchors whose anchor of the service and top has the history's
+        // authenticator of the top.
         ensures accepted { IfOk result (λ bytes. (h : History) → Serves H.dig D.view self.old h
             → (anchors : List ThreadOf) (anchor : ThreadOf) → anchor_of anchors h.name top ≡ Some anchor → anchor.auth ≡ auth H.dig h top
             → Accepts H.dig anchors bytes) }
 
-        // The call is a step of the machine, which changes nothing.
+        // Where a history is served and no earlier call on the value met a disk fault, proving an event is a step of
+        // the machine, a disk fault and want of memory excepted.
         ensures machine { has_failed self.old ≡ false → (h : History) → Serves H.dig D.view self.old h
             → Answers H.dig h (ProveEvent step index top) (λ bytes. OfProof bytes) result (Serves H.dig D.view self.new) }
+        // Whatever the answer, the history is served as before, at rest.
         ensures same { (h : History) → Serves H.dig D.view self.old h → Serves H.dig D.view self.new h
             × LeavesOnly (D.view (disk_of self.old)) (D.view (disk_of self.new)) (λ i. StandsFor H.dig i (name_of self.old) h) }
+        // Whatever the answer, nothing is written.
         ensures unwritten { HasSameDisk D.view self.old self.new }
+        // Name and head, and with them steps and thread, are as before.
         ensures kept { (head_of self.new ≡ head_of self.old) × (name_of self.new ≡ name_of self.old) }
+        // The archive and the number of threads that the root record tells stay as they were, over whatever store.
         ensures archive { (archive_of self.new ≡ archive_of self.old) × (threads_of self.new ≡ threads_of self.old) }
+        // The value remembers that a call answered `DiskFault`, and nothing else is remembered so: by the table
+        // `Reopen` is answered exactly after one.
         ensures broken { IsTrue (has_failed self.new) ↔ (IsTrue (has_failed self.old) ⊎ (result ≡ Err Refusal.DiskFault)) }
+        // `DiskFault` comes only where the disk's count of faults rose.
         ensures fault { result ≡ Err Refusal.DiskFault → Rose ((D.view (disk_of self.old)).faults) ((D.view (disk_of self.new)).faults) }
+        // The count of faults hasn't fallen.
         ensures later { (D.view (disk_of self.old)).faults ≤ (D.view (disk_of self.new)).faults }
 
-        // Whatever the pages are, the answer is what is found in them, but for a failed device call and want of memory: NoEvent tells
-        // how many events the step's page counts, and BadPage the first page met that isn't of its kind, or the last one read where
-        // the event pages don't spell the step's events.
+        // What the answer is, a disk fault and want of memory excepted, whatever the pages keep: the refusal of the
+        // table for the order of steps, where one stands; else, of what the walk from the head by the top finds, the
+        // bytes of the proof that is made of path, opening and events, `NoEvent` with the number of events that the
+        // step's page counts, where the index isn't below it, or `BadPage` with the first page met that isn't of its
+        // kind, or with the one that the step's events fail at.
         ensures answer { (ps : Image) → pages_of D.view self.old ≡ Some ps
             → IsAnswer result (found_event H.dig ps (name_of self.old) (head_of self.old) step index top (has_failed self.old)) }
     {

@@ -178,16 +178,26 @@ pub fn append<P: Pages, H: Hasher>(
     requires step { head.now.step < LAST_STEP }
     requires used { P.used_count pages.old < 2 ^ 47 }
     requires limits { MayRecord events.now }
+    // Over told pages the answer is what is found in them, whatever they keep, a disk fault and want of memory
+    // excepted: the pages then told have the step's event pages and its page behind the earlier ones, with the links
+    // that these lead to from the head and the authenticator of their labels, and the answer is that step's head; or
+    // `BadPage` tells the first page met for the links that isn't of its kind.
     ensures answer { (ps : Image) → P.list pages.old ≡ Some ps →
         AnswersNext result (P.list pages.new) (appended H.dig ps head.now events.now archive.now) }
+    // A refusal may leave some pages behind those that were there, which stay.
     ensures left { OnErr result ((ps : Image) → P.list pages.old ≡ Some ps → Extends ps (P.list pages.new)) }
+    // The new head's step is the next one.
     ensures step { IfOk result (λ new. new.step ≡ head.now.step + 1) }
+    // The new head's page is the last one.
     ensures page { IfOk result (λ new. P.used_count pages.new ≡ new.page + 1) }
     ensures used { P.used_count pages.old ≤ P.used_count pages.new }
+    // At most 19 pages are staged.
     ensures few { P.used_count pages.new ≤ P.used_count pages.old + 19 }
+    // `NoStep` is never answered.
     ensures no_step { NeverNoStep result }
     ensures same { P.same pages.old pages.new }
     ensures unbroken { NotDiskFault result → P.unbroken pages.old → P.unbroken pages.new }
+    // `DiskFault` comes only where the count of faults rose.
     ensures faults { FaultsRise (P.faults pages.old) (P.faults pages.new) result }
 {
     let stream = stream_of(alloc, events)?;

@@ -30,11 +30,17 @@ use tw_base::Hasher;
 /// or 0 for step 0. Under one head they keep at most one history of a name, and it is sound where the
 /// name is one.
 pub fn keeping_laws<H: Hasher>()
+    // Under the head of step 0 with the name's authenticator pages keep the history without steps.
     ensures first { (ps : Image) (h : History) (head : Head) → h.steps ≡ [] → head.step ≡ 0 → head.auth ≡ auth H.dig h 0 → head.page ≡ 0 → Keeps H.dig ps h head }
+    // Pages that keep a history go on keeping it when more pages follow.
     ensures more { (ps more : Image) (h : History) (head : Head) → Keeps H.dig ps h head → Keeps H.dig (ps ++ more) h head }
+    // The page of a head is 0 at step 0.
     ensures no_page { (ps : Image) (h : History) (head : Head) → Keeps H.dig ps h head → head.step ≡ 0 → head.page ≡ 0 }
+    // The page of a head above step 0 is one of the pages.
     ensures page { (ps : Image) (h : History) (head : Head) → Keeps H.dig ps h head → 0 < head.step → (FIRST_PAGE ≤ head.page) × (head.page < FIRST_PAGE + length ps) }
+    // Under a head pages keep at most one history of a name.
     ensures one { (ps : Image) (h g : History) (head : Head) → Keeps H.dig ps h head → Keeps H.dig ps g head → h.name ≡ g.name → h ≡ g }
+    // A history that pages keep is sound where its name is one.
     ensures sound { (ps : Image) (h : History) (head : Head) → Keeps H.dig ps h head → IsName h.name → IsSound h }
 {}
 
@@ -44,16 +50,27 @@ pub fn keeping_laws<H: Hasher>()
 /// are the earlier ones and more; where the step has the history's archive, they keep the longer history
 /// under the new head. Before it fewer than 2^47 pages are used.
 pub fn reading_laws<H: Hasher>()
+    // Where pages keep a history under the head, each of its steps is found in them, so no page met is bad, and what is
+    // found of it is the history's.
     ensures step { (ps : Image) (h : History) (head : Head) (i : ℕ) → Keeps H.dig ps h head → 1 ≤ i → i ≤ head.step →
         (info : StepInfo) × (found_step H.dig ps head i ≡ Is info) × IsInfoOf H.dig ps h i info }
+    // Where they keep one, the path from each step down to one not above it, which may be step 0, is found, and is the
+    // history's.
     ensures path { (ps : Image) (h : History) (head : Head) (n i : ℕ) → Keeps H.dig ps h head → i ≤ n → n ≤ head.step →
         (path : Path) × (found_path H.dig ps head n i ≡ Is path) × IsPathOf H.dig h path.links n i }
+    // Where they keep one, the path from a top down to a step from 1 on and that step are found, and are the history's.
     ensures proof { (ps : Image) (h : History) (head : Head) (top i : ℕ) → Keeps H.dig ps h head → 1 ≤ i → i ≤ top → top ≤ head.step →
         (proof : StepProof) × (found_proof H.dig ps head top i ≡ Is proof) × IsPathOf H.dig h proof.path.links top i × IsInfoOf H.dig ps h i proof.info }
+    // Where what is told of a step is a history's and the pages keep its events as it tells, the events that are found
+    // are the history's.
     ensures events_of { (dig : List ℕ → List ℕ) (ps : Image) (h : History) (i : ℕ) (info : StepInfo) → IsInfoOf dig ps h i info →
         events_of_info ps info ≡ Is (events_at h i) }
+    // Where pages keep a history under the head, the events that are found of each of its steps are the history's.
     ensures events { (ps : Image) (h : History) (head : Head) (i : ℕ) → Keeps H.dig ps h head → 1 ≤ i → i ≤ head.step →
         found_events H.dig ps head i ≡ Is (events_at h i) }
+    // Where they keep one that may have a further step, a step of events within the limits is found, while fewer than
+    // 2^47 pages are used: its pages are the earlier ones with more behind them. And where it was given the history's
+    // archive, they keep under its head the history with one more step of these events.
     ensures appended { (ps : Image) (h : History) (head : Head) (events : List (List ℕ)) (archive : Root) → Keeps H.dig ps h head → head.step < LAST_STEP →
         MayRecord events → FIRST_PAGE + length ps < 2 ^ 47 →
         (more : Image) × (new : Head) × (appended H.dig ps head events archive ≡ Is (record { pages = ps ++ more; head = new }))

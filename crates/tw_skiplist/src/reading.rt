@@ -45,9 +45,15 @@ pub fn step<P: Pages, H: Hasher>(
     i: u64,
 ) -> Result<StepInfo, ListFault>
     requires { head.now.step ≤ LAST_STEP }
+    // Over told pages the answer is what is found in them, whatever they keep, `NoStep`, a disk fault and want of
+    // memory excepted: what the page tells of the step to which the walk from the head leads, or `BadPage` with the
+    // first page met that isn't of its kind.
     ensures answer { (ps : Image) → P.list pages.old ≡ Some ps → Answers result (found_step H.dig ps head.now i) }
+    // `NoStep` exactly where there is no such step.
     ensures no_step { NoStepUnless result head.now.step ((1 ≤ i) × (i ≤ head.now.step)) }
+    // Reading changes nothing of what the pages tell.
     ensures kept { OnlyReads P.used_count P.list P.same P.unbroken pages.old pages.new (NotDiskFault result) }
+    // `DiskFault` comes only where the count of faults rose.
     ensures faults { FaultsRise (P.faults pages.old) (P.faults pages.new) result }
 {
     let last = head.step;
@@ -75,10 +81,18 @@ pub fn path<P: Pages, H: Hasher>(
     i: u64,
 ) -> Result<Path, ListFault>
     requires { head.now.step ≤ LAST_STEP }
+    // Over told pages the answer is what is found in them, whatever they keep, `NoStep`, a disk fault and want of
+    // memory excepted: the records of the links that the walk from the head follows from the upper step down to the
+    // lower one, or `BadPage` with the first page met that isn't of its kind. Of the lower step's page nothing is
+    // asked.
     ensures answer { (ps : Image) → P.list pages.old ≡ Some ps → Answers result (found_path H.dig ps head.now n i) }
+    // Over any pages, told or not, a path has at most twice as many links as its upper step has binary digits.
     ensures bound { IfOk result (λ path. (digits : ℕ) → n < 2 ^ digits → length path.links ≤ 2 * digits) }
+    // `NoStep` exactly where the steps asked for aren't there, or not in their order.
     ensures no_step { NoStepUnless result head.now.step ((i ≤ n) × (n ≤ head.now.step)) }
+    // Reading changes nothing of what the pages tell.
     ensures kept { OnlyReads P.used_count P.list P.same P.unbroken pages.old pages.new (NotDiskFault result) }
+    // `DiskFault` comes only where the count of faults rose.
     ensures faults { FaultsRise (P.faults pages.old) (P.faults pages.new) result }
 {
     let last = head.step;
@@ -105,10 +119,17 @@ pub fn prove<P: Pages, H: Hasher>(
     i: u64,
 ) -> Result<StepProof, ListFault>
     requires { head.now.step ≤ LAST_STEP }
+    // Over told pages the answer is what is found in them, whatever they keep, `NoStep`, a disk fault and want of
+    // memory excepted: by the walk from the head, the path from the top down to the step and what the step's page
+    // tells, or `BadPage` with the first page met that isn't of its kind.
     ensures answer { (ps : Image) → P.list pages.old ≡ Some ps → Answers result (found_proof H.dig ps head.now top i) }
+    // Over any pages, told or not, a path has at most twice as many links as its upper step has binary digits.
     ensures bound { IfOk result (λ proof. (digits : ℕ) → top < 2 ^ digits → length proof.path.links ≤ 2 * digits) }
+    // `NoStep` exactly where the steps asked for aren't there, or not in their order.
     ensures no_step { NoStepUnless result head.now.step ((1 ≤ i) × (i ≤ top) × (top ≤ head.now.step)) }
+    // Reading changes nothing of what the pages tell.
     ensures kept { OnlyReads P.used_count P.list P.same P.unbroken pages.old pages.new (NotDiskFault result) }
+    // `DiskFault` comes only where the count of faults rose.
     ensures faults { FaultsRise (P.faults pages.old) (P.faults pages.new) result }
 {
     let last = head.step;
@@ -136,10 +157,18 @@ pub fn events_of<P: Pages>(
     pages: &mut P,
     info: &StepInfo,
 ) -> Result<EventList, ListFault>
+    // Over told pages the answer is what is found in them, whatever they keep, a disk fault and want of memory
+    // excepted: the events that the step's event pages spell, or `BadPage` with the first event page that isn't of its
+    // kind, or with the last one of a stream that spells no such events (the step's page, where the stream has no
+    // bytes), or with the step's page, where it is told a stream longer than any step's.
     ensures answer { (ps : Image) → P.list pages.old ≡ Some ps → Answers result (events_of_info ps info.now) }
+    // Over any pages, told or not, the events of a step are within the limits and as many as it counts.
     ensures counted { IfOk result (λ events. MayRecord events × (length events ≡ info.now.count)) }
+    // `NoStep` is never answered.
     ensures no_step { NeverNoStep result }
+    // Reading changes nothing of what the pages tell.
     ensures kept { OnlyReads P.used_count P.list P.same P.unbroken pages.old pages.new (NotDiskFault result) }
+    // `DiskFault` comes only where the count of faults rose.
     ensures faults { FaultsRise (P.faults pages.old) (P.faults pages.new) result }
 {
     if info.stream.size as u64 > MOST_STREAM_BYTES {
@@ -164,9 +193,15 @@ pub fn events<P: Pages, H: Hasher>(
     i: u64,
 ) -> Result<EventList, ListFault>
     requires { head.now.step ≤ LAST_STEP }
+    // Over told pages the answer is what is found in them, whatever they keep, `NoStep`, a disk fault and want of
+    // memory excepted: the events of the step to which the walk from the head leads, or `BadPage` with the first page
+    // met on the way that isn't of its kind, or with the one that the step's events fail at.
     ensures answer { (ps : Image) → P.list pages.old ≡ Some ps → Answers result (found_events H.dig ps head.now i) }
+    // `NoStep` exactly where there is no such step.
     ensures no_step { NoStepUnless result head.now.step ((1 ≤ i) × (i ≤ head.now.step)) }
+    // Reading changes nothing of what the pages tell.
     ensures kept { OnlyReads P.used_count P.list P.same P.unbroken pages.old pages.new (NotDiskFault result) }
+    // `DiskFault` comes only where the count of faults rose.
     ensures faults { FaultsRise (P.faults pages.old) (P.faults pages.new) result }
 {
     let info = step::<P, H>(alloc, pages, head, i)?;

@@ -63,8 +63,12 @@ fn climb_links<H: Hasher>(links: &[Link], from: u64, to: u64, bottom: &Digest) -
 /// texts that the path and the history hash clash.
 pub fn climb<H: Hasher>(path: &Path, from: u64, to: u64, bottom: &Digest) -> Option<Digest>
     requires { from ≤ LAST_STEP }
+    // A *climb* goes up a path from a step's authenticator. It answers exactly where the path has the links of the
+    // greedy path, each with its number of labels, and computes the authenticator upwards.
     ensures answer { MatchOption result (HasShape path.now.links from to → ⊥)
         (λ d. HasShape path.now.links from to × (d ≡ climbed H.dig path.now.links from to bottom.now)) }
+    // Where a climb reaches the authenticator of a sound history, its bottom is that history's authenticator of the
+    // lower step, or two texts of the history and of the climb clash.
     ensures binds { IfSome result (λ d. (h : History) → IsSound h → to ≤ from → from ≤ length h.steps → d ≡ auth H.dig h from →
         OrClash H.dig (history_texts H.dig h ++ path_texts H.dig path.now.links from to bottom.now) (bottom.now ≡ auth H.dig h to)) }
 {

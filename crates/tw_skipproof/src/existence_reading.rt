@@ -44,6 +44,8 @@ pub fn take_existence_body(
     at: &mut u64,
 ) -> Result<ExistenceProof, ReadFault>
     requires { at.old ≤ length bytes.now }
+    // What stands behind the kind of an existence proof is taken at a place exactly as its codec reads it; else the
+    // place of the first bad byte is told.
     ensures { Takes existence_body (λ p. p) bytes.now at.old at.new result }
 {
     let service = take_name(bytes, at)?;
@@ -77,6 +79,8 @@ fn take_existence(alloc: Global, bytes: &[u8], at: &mut u64) -> Result<Existence
 /// than the proof's labels and event.
 #[tactic(auto)]
 pub fn read_existence(alloc: Global, bytes: &[u8]) -> Result<ExistenceProof, ReadFault>
+    // A whole file is read as an existence proof exactly where its bytes spell one, with that proof; else `Malformed`
+    // tells the length of the longest front that some existence proof begins with.
     ensures read { ReadsAs (λ p. p) existence_layout bytes.now result }
     ensures limits { IfOk result IsExistenceInRange }
     ensures shape { IfOk result IsShaped }

@@ -32,7 +32,10 @@ pub fn next_hop(from: u64, to: u64) -> u8
     requires below { to < from }
     requires step { from ≤ LAST_STEP }
     ensures level { result ≡ hop_level from to }
+    // The next link is the greatest that the step has and that doesn't lead below the lower step: so goes the *greedy
+    // path*.
     ensures greedy { IsGreedy from to result }
+    // A path from a step of d binary digits has at most 2 d links.
     ensures few_links { (links : List Link) (digits : ℕ) → from < 2 ^ digits → HasShape links from to → length links ≤ 2 * digits }
 {
     level_of_hop(from, to)

@@ -58,9 +58,14 @@ fn computed<H: Hasher>(opening: &Opening, step: u64) -> Option<Digest>
 /// or two texts that the opening and the history hash clash.
 pub fn check_opening<H: Hasher>(opening: &Opening, step: u64) -> Option<Digest>
     requires { step ≤ LAST_STEP }
+    // An *opening* has what a step's authenticator is made of. Checking it answers exactly where the step is above 0
+    // and the number of labels is the step's, with the authenticator that it computes.
     ensures answer { MatchOption result (IsOpeningAt step opening.now → ⊥)
         (λ d. IsOpeningAt step opening.now × (d ≡ opening_auth H.dig step opening.now)) }
     ensures sizes { IfSome result (λ _. HasSizes opening.now) }
+    // Where an opening computes the authenticator of a sound history, its event root, archive label, count, time (or
+    // that there is none) and previous authenticator are the history's, or two texts of the history and of the opening
+    // clash.
     ensures binds { IfSome result (λ d. (h : History) → IsSound h → step ≤ length h.steps → d ≡ auth H.dig h step →
         OrClash H.dig (history_texts H.dig h ++ opening_texts H.dig step opening.now) (Binds H.dig h step opening.now)) }
 {

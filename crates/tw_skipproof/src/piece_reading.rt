@@ -239,6 +239,7 @@ impl Segments for ExistenceSoFar {
 #[tactic(auto)]
 pub fn read_existence_pieces(alloc: Global, pieces: &[&[u8]]) -> Result<ExistenceProof, ReadFault>
     requires { length (all_of pieces.now) < 2 ^ 64 }
+    // An existence proof that comes in pieces is read as all its bytes at once would be, wherever they are cut.
     ensures { ReadsAs (λ p. p) existence_layout (all_of pieces.now) result }
 {
     read_pieces(alloc, ExistenceSoFar::Begun, pieces)

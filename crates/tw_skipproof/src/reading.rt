@@ -134,6 +134,8 @@ pub(crate) fn take_path(
 #[tactic(auto)]
 pub fn read_opening(alloc: Global, bytes: &[u8], step: u64) -> Result<Opening, ReadFault>
     requires { step ≤ LAST_STEP }
+    // A whole file is read as the opening of a step exactly where its bytes spell one; else `Malformed` tells the
+    // length of the longest front that some opening of the step begins with.
     ensures { ReadsAs (λ o. o) (opening_codec 0 step).format bytes.now result }
 {
     let mut at = 0;
@@ -147,6 +149,8 @@ pub fn read_opening(alloc: Global, bytes: &[u8], step: u64) -> Result<Opening, R
 #[tactic(auto)]
 pub fn read_path(alloc: Global, bytes: &[u8], from: u64, to: u64) -> Result<Path, ReadFault>
     requires { from ≤ LAST_STEP }
+    // A whole file is read as a path between two steps exactly where its bytes spell one, with its links; else
+    // `Malformed` tells the length of the longest front that some such path begins with.
     ensures { ReadsAs (λ (p : Path). p.links) (path_codec from to).format bytes.now result }
 {
     let mut at = 0;

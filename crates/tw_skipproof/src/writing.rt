@@ -117,7 +117,10 @@ fn put_existence(into: &mut Bytes, proof: &ExistenceProof) -> Result<(), NoMemor
 /// most 2^40 - 1.
 #[tactic(auto)]
 pub fn write_opening(alloc: Global, opening: &Opening) -> Result<Bytes, NoMemory>
+    // What is written of an opening is its bytes in the format.
     ensures bytes { IfOk result (λ bytes. bytes ≡ opening_bytes opening.now) }
+    // The bytes that are written spell the opening, where it has the step's number of labels, and a count and a time
+    // within their limits.
     ensures spelled { IfOk result (λ bytes. (step : ℕ) → length opening.now.others ≡ top_level step → opening.now.count ≤ MOST_EVENTS →
         IsTimeWithinLimits opening.now.time → Spells (opening_codec 0 step).format bytes opening.now) }
 {
@@ -132,7 +135,10 @@ pub fn write_opening(alloc: Global, opening: &Opening) -> Result<Bytes, NoMemory
 /// labels.
 #[tactic(auto)]
 pub fn write_path(alloc: Global, path: &Path) -> Result<Bytes, NoMemory>
+    // What is written of a path is its bytes in the format.
     ensures bytes { IfOk result (λ bytes. bytes ≡ path_bytes path.now.links) }
+    // The bytes that are written spell the path, where it has the links of the greedy path, each with its number of
+    // labels.
     ensures spelled { IfOk result (λ bytes. (from to : ℕ) → HasShape path.now.links from to →
         Spells (path_codec from to).format bytes path.now.links) }
 {
@@ -148,7 +154,9 @@ pub fn write_path(alloc: Global, path: &Path) -> Result<Bytes, NoMemory>
 #[tactic(auto)]
 pub fn write_existence(alloc: Global, proof: &ExistenceProof) -> Result<Bytes, NoMemory>
     requires { length proof.now.event.event < 2 ^ 32 }
+    // What is written of an existence proof is its bytes in the format.
     ensures bytes { IfOk result (λ bytes. bytes ≡ existence_bytes proof.now) }
+    // The bytes that are written spell the proof, where it is within the format's limits.
     ensures spelled { IfOk result (λ bytes. IsExistenceInRange proof.now → IsShaped proof.now → Spells existence_layout bytes proof.now) }
 {
     let mut bytes = Bytes::new(alloc);

@@ -16,6 +16,7 @@ pub struct AnchorLine {
 /// The line `NAME STEP HEX` of the thread, in lower case and with its line feed. It takes no
 /// memory.
 pub fn anchor_line(thread: &Thread) -> AnchorLine
+    // The line of a thread is exactly the text of the definitions.
     ensures text { take result.count result.bytes ≡ anchor_text thread.now }
     ensures count { result.count ≤ 103 }
 {

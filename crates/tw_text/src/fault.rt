@@ -48,6 +48,7 @@ impl From<NoMemory> for CommandFault {
 
 /// The status of a run whose command isn't done for this reason.
 pub fn fault_status(fault: &CommandFault) -> u8
+    // The status of each fault is the one of the definitions.
     ensures { result ≡ fault_status_of fault.now }
 {
     match fault {
@@ -62,6 +63,7 @@ pub fn fault_status(fault: &CommandFault) -> u8
 
 /// The line of the fault.
 pub fn print_fault(alloc: Global, fault: &CommandFault) -> Result<Bytes, NoMemory>
+    // The line of a fault is exactly the text of the definitions.
     ensures { IfOk result (λ text. text ≡ fault_text fault.now) }
 {
     match fault {

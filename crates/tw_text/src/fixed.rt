@@ -5,6 +5,7 @@ ghost use Rattle.tw_text.specs.Lines.{fault_disk_text, fault_input_text, no_memo
 
 /// The line of an input that failed.
 pub fn fault_input() -> &'static [u8]
+    // The text is the one of the definitions.
     ensures { result.now ≡ fault_input_text }
 {
     b"fault input\n"
@@ -12,6 +13,7 @@ pub fn fault_input() -> &'static [u8]
 
 /// The line of a disk that failed.
 pub fn fault_disk() -> &'static [u8]
+    // The text is the one of the definitions.
     ensures { result.now ≡ fault_disk_text }
 {
     b"fault disk\n"
@@ -19,6 +21,7 @@ pub fn fault_disk() -> &'static [u8]
 
 /// The line of want of memory.
 pub fn no_memory() -> &'static [u8]
+    // The text is the one of the definitions.
     ensures { result.now ≡ no_memory_text }
 {
     b"no memory\n"

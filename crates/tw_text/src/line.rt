@@ -11,6 +11,7 @@ use tw_base::{Bytes, Name, NoMemory};
 
 /// The line: the head, then for each field one blank and the field, then one line feed.
 pub fn print_line(alloc: Global, head: &[u8], fields: &FieldList) -> Result<Bytes, NoMemory>
+    // A line of a head and its fields is exactly the text of the definitions.
     ensures { IfOk result (λ text. text ≡ line head.now fields.now) }
 {
     let mut text = Bytes::new(alloc);
@@ -24,6 +25,7 @@ pub fn print_line(alloc: Global, head: &[u8], fields: &FieldList) -> Result<Byte
 
 /// The line `usage` with the number of a word.
 pub fn print_usage(alloc: Global, number: u64) -> Result<Bytes, NoMemory>
+    // The line of a bad word is exactly the text of the definitions.
     ensures { IfOk result (λ text. text ≡ usage_text number) }
 {
     let mut text = Bytes::new(alloc);

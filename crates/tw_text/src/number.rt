@@ -25,7 +25,9 @@ fn all_digits(text: &[u8]) -> bool
 
 /// The number of 64 bits that the text is, in decimal digits with no sign and no leading zero.
 pub fn read_number(text: &[u8]) -> Option<u64>
+    // A word is a number exactly where it is one below 2^64 without sign and leading zero.
     ensures some { IsSome result ↔ (IsTrue (is_number_of text.now) × (word_number text.now < 2 ^ 64)) }
+    // It is then read as that number.
     ensures value { IfSome result (λ n. n ≡ word_number text.now) }
 {
     if !is_number(text) {
@@ -36,7 +38,9 @@ pub fn read_number(text: &[u8]) -> Option<u64>
 
 /// The digest that the text is, in 64 hexadecimal digits of either case.
 pub fn read_digest(text: &[u8]) -> Option<Digest>
+    // A word is a digest exactly where it has 64 hexadecimal digits.
     ensures some { IsSome result ↔ IsTrue (is_digest_of text.now) }
+    // It is then read as that digest.
     ensures value { IfSome result (λ digest. digest ≡ word_digest text.now) }
 {
     match <[u8; 32]>::from_hex(text) {

@@ -13,6 +13,7 @@ use tw_base::{Bytes, Claim, NoMemory, Reason, Report, Seen};
 /// The report of an accepted proof: what it claims, one line each; behind the line of an event one
 /// of its step's time, where the step has one.
 pub fn print_report(alloc: Global, report: &Report) -> Result<Bytes, NoMemory>
+    // The report of a claim is exactly the text of the definitions.
     ensures { IfOk result (λ text. text ≡ report_text report.now) }
 {
     let mut text = Bytes::new(alloc);
@@ -29,6 +30,7 @@ pub fn print_report(alloc: Global, report: &Report) -> Result<Bytes, NoMemory>
 /// The line of a proof that isn't accepted: `rejected`, the reason's number and name, and what it
 /// tells besides.
 pub fn print_rejected(alloc: Global, reason: &Reason) -> Result<Bytes, NoMemory>
+    // The line of a reason is exactly the text of the definitions.
     ensures { IfOk result (λ text. text ≡ rejected_text reason.now) }
 {
     let mut text = Bytes::new(alloc);

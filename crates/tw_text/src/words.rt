@@ -38,7 +38,9 @@ impl From<NoMemory> for WordFault {
 
 /// The command that the words have a form of. NoMemory never comes where they have none.
 pub fn read_words(alloc: Global, words: &[String]) -> Result<Command, WordFault>
+    // Words that have a form are the command of that form.
     ensures form { IfSome (command_of (map string_bytes words.now)) (λ command. MatchResult result (λ c. c ≡ command) (λ e. e ≡ WordFault.NoMemory)) }
+    // Of words that have none the fault names the first word at which no form goes on.
     ensures no_form { IfNone (command_of (map string_bytes words.now)) (IsErrAnd result (IsBadWord (map string_bytes words.now))) }
 {
     match find_form(&FORMS, words) {

@@ -38,6 +38,7 @@ impl Tree {
     /// The tree of the entry at its root, between its left and its right side. An `Err`: there was
     /// no memory; both sides are then dropped.
     pub fn branch(alloc: Global, left: Tree, entry: Entry, right: Tree) -> Result<Tree, NoMemory>
+        // A tree of an entry between two sides stands for that of the definitions.
         ensures { IfOk result (λ tree. tree_of tree ≡ RootedAt (tree_of left) entry (tree_of right)) }
     {
         let left = Box::new(alloc, left)?;
@@ -50,6 +51,7 @@ impl Tree {
 /// one text for each entry and that of the empty tree once, and takes no memory. Calls itself as
 /// deep as the tree is high.
 pub fn label<H: Hasher>(tree: &Tree) -> Digest
+    // The label of a tree is that of the tree that it stands for. No command uses it yet.
     ensures label { result ≡ tree_label H.dig (tree_of tree.now) }
 {
     label_over::<H>(tree, &empty_tree::<H>())
@@ -75,6 +77,7 @@ fn label_over<H: Hasher>(tree: &Tree, empty: &Digest) -> Digest
 /// time is linear in their number. An `Err`: there was no memory. Calls itself as deep as the tree
 /// is high.
 pub fn list(alloc: Global, tree: &Tree) -> Result<Entries, NoMemory>
+    // The list of a tree is that of the tree that it stands for, in order. No command uses it yet.
     ensures { IfOk result (λ listed. listed ≡ entries (tree_of tree.now)) }
 {
     let mut listed = Entries::new(alloc);
