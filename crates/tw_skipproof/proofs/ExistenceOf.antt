@@ -22,12 +22,12 @@ use Rattle.tw_skipproof.specs.declared.path.Link.{Link}
 use Rattle.tw_skipproof.specs.Acceptance.{IsAcceptedUnder, ShowsEvent}
 use Rattle.tw_skipproof.specs.Codecs.{event_codec, link_codec, opening_codec}
 use Rattle.tw_skipproof.specs.Existence.{IsExistenceInRange, IsShaped, existence_bytes, existence_layout}
-use Rattle.tw_skipproof.specs.HistoryProofs.{IsExistenceOf, IsPathOf, labels_at}
+use Rattle.tw_skipproof.specs.HistoryProofs.{IsExistenceOf, IsPartOf}
 use Rattle.tw_skipproof.specs.Openings.{IsOpeningAt, opening_auth}
 use Rattle.tw_skipproof.specs.Paths.{HasShape, climbed, hop}
 use Rattle.tw_skipproof.specs.Spelling.{FitsAsEvent, FitsAsLink, FitsAsOpening}
-use Rattle.tw_skipproof.proofs.LawfulCodecs.{count-fits, existence-fits, part-fits, existence-lawful}
-use Rattle.tw_skipproof.proofs.OwnPaths.{opening-of, path-of}
+use Rattle.tw_skipproof.proofs.LawfulCodecs.{existence-fits, existence-lawful}
+use Rattle.tw_skipproof.proofs.PartOf.{part-fits-made, part_in_range-made, part_shaped-made, reaches-made}
 
 -- ---- events that stand at a step
 
@@ -45,16 +45,11 @@ event-within P events index event default all there =
 -- ---- the proof that a history has
 
 module _ (dig : List ℕ → List ℕ) (h : History) (step index top : ℕ) (p : ExistenceProof) (is : IsExistenceOf dig h step index top p) where
-  opens : IsOpeningAt step p.at.opening × (opening_auth dig step p.at.opening ≡ auth dig h step)
-  opens = opening-of dig h step p.at.opening (from_step_1 h step index p.event.event is.event) is.opening
+  part_of : IsPartOf dig h step top p.at
+  part_of = record { service = is.service; at_step = is.at_step; at_top = is.at_top; path = is.path; opening = is.opening }
 
-  opening_at : IsOpeningAt p.at.step p.at.opening
-  opening_at = subst (λ s. IsOpeningAt s p.at.opening) (sym is.at_step) opens.0
-
-  path_shape : step ≤ top → HasShape p.at.path.links p.at.top p.at.step
-  path_shape order =
-      subst (HasShape p.at.path.links p.at.top) (sym is.at_step)
-      (subst (λ t. HasShape p.at.path.links t step) (sym is.at_top) (path-of dig h p.at.path.links top step order is.path).0)
+  from_1 : 0 < step
+  from_1 = from_step_1 h step index p.event.event is.event
 
   shows_event : ShowsEvent dig p.at.opening p.event
   shows_event =
@@ -71,14 +66,7 @@ module _ (dig : List ℕ → List ℕ) (h : History) (step index top : ℕ) (p :
   pub accepted-made : step ≤ top → IsAcceptedUnder dig (auth dig h top) p
   accepted-made order = record {
     order = omega (arith, order, is.at_step, is.at_top);
-    path = record {
-      opening = opening_at;
-      path = record {
-        shape = path_shape order;
-        reaches = (λ k. climbed dig p.at.path.links (is.at_top k) (is.at_step k) (opening_auth dig (is.at_step k) p.at.opening))
-            ∙ ap (climbed dig p.at.path.links top step) opens.1 ∙ (path-of dig h p.at.path.links top step order is.path).1;
-      };
-    };
+    path = reaches-made dig h step top p.at part_of from_1 order;
     event = shows_event;
   }
 
@@ -87,26 +75,10 @@ module _ (dig : List ℕ → List ℕ) (h : History) (step index top : ℕ) (p :
 
   in_range-made : IsSound h → step ≤ top → top ≤ length h.steps → IsExistenceInRange p
   in_range-made sound order has =
-      let few = (sound-may_record h step sound).are.count in
-      let short = sound.length in
-      record {
-        at = record {
-          step = omega (arith, order, has, short, is.at_step);
-          top = omega (arith, has, short, is.at_top);
-          count = omega (arith, few, is.opening.binds.count);
-          time = subst IsTimeWithinLimits is.opening.binds.time (sound-time h step sound);
-        };
-        index = shows_event.inside;
-        event = event_size sound;
-      }
+      record { at = part_in_range-made dig h step top p.at part_of sound order has; index = shows_event.inside; event = event_size sound }
 
   IsShaped-made : step ≤ top → IsShaped p
-  IsShaped-made order =
-      let from_1 = from_step_1 h step index p.event.event is.event in
-      record {
-        at = record { step = opening_at.0; top = omega (arith, order, from_1, is.at_top); path = path_shape order; opening = opening_at.1 };
-        event = shows_event.size;
-      }
+  IsShaped-made order = record { at = part_shaped-made dig h step top p.at part_of from_1 order; event = shows_event.size }
 
   -- and it has a spelling
   pub within-made : IsSound h → step ≤ top → top ≤ length h.steps → IsExistenceInRange p × IsShaped p × (length p.event.event < 2 ^ 32)
@@ -116,37 +88,6 @@ module _ (dig : List ℕ → List ℕ) (h : History) (step index top : ℕ) (p :
   -- ---- its digests are bytes
 
   module _ (size : (text : List ℕ) → length (dig text) ≡ 32) (are : (text : List ℕ) → AreBytes (dig text)) where
-    own_labels : (n : ℕ) → Each IsDigest (labels_at dig h n)
-    own_labels n = map-digests dig size are _
-
-    links-fit : (links : List Link) (from to : ℕ) → IsPathOf dig h links from to → Each FitsAsLink links
-    unfolding link_codec seen pair bytes_codec labels_codec many
-    links-fit [] from to made = tt
-    links-fit (link ∷ links) from to made = (
-      λ step count. (
-        subst IsDigest (sym made.1) (dig-digest dig size are _),
-        (count, subst (Each IsDigest) (sym made.2) (Each-remove IsDigest (labels_at dig h from) _ (own_labels from))),
-      ),
-      links-fit links (hop from to) to made.3,
-    )
-
-    opening-fits : FitsAsOpening p.at.opening
-    unfolding opening_codec seen pair bytes_codec labels_codec many
-    opening-fits least at count low few time =
-        let binds = is.opening.binds in (
-          subst IsDigest binds.event_root (event_root-digest dig size are _),
-          (
-            subst IsDigest binds.archive_root (tree_label-digest dig size are _),
-            (
-              count-fits least p.at.opening.count p.at.opening.time low few time,
-              (
-                subst IsDigest binds.prev (auth-digest dig size are h (step - 1)),
-                (count, subst (Each IsDigest) (sym is.opening.others) (Each-drop IsDigest 1 (labels_at dig h step) (own_labels step))),
-              ),
-            ),
-          ),
-        )
-
     event-fits : IsSound h → FitsAsEvent p.event
     unfolding event_codec seen pair number_codec sized_codec by_kind labels_codec many bytes_codec
     event-fits sound count inside short labels =
@@ -161,6 +102,5 @@ module _ (dig : List ℕ → List ℕ) (h : History) (step index top : ℕ) (p :
     -- what is written of it spells it
     pub spelled-made : IsSound h → step ≤ top → top ≤ length h.steps → Spells existence_layout (existence_bytes p) p
     spelled-made sound order has =
-        let name_is : IsName p.at.service = subst IsName (sym is.service) sound.name in
         existence-lawful.spells p
-        (existence-fits p (in_range-made sound order has) (IsShaped-made order) (part-fits p.at name_is (links-fit p.at.path.links top step is.path) opening-fits) (event-fits sound))
+        (existence-fits p (in_range-made sound order has) (IsShaped-made order) (part-fits-made dig h size are step top p.at part_of sound) (event-fits sound))
