@@ -47,8 +47,13 @@ fn root_and_paths_of_three_events(rt: HostRuntime) -> Result<(), Fail> {
     );
     let to_first = event_path::<Sha>(rt.alloc(), events.as_slice(), 0)?;
     assert_eq!(rt; to_first.as_slice(), [second, third].as_slice());
-    let to_third = event_path::<Sha>(rt.alloc(), events.as_slice(), 2)?;
-    assert_eq!(rt; to_third.as_slice(), [left].as_slice());
+    let shown = event_part::<Sha>(rt.alloc(), events.as_slice(), 2)?;
+    assert_eq!(rt; shown.event.as_slice(), [2, 2].as_slice());
+    assert_eq!(rt; shown.path.as_slice(), [left].as_slice());
+    assert_eq!(rt;
+        root_over::<Sha>(&shown, 3),
+        event_node::<Sha>(&left, &third)
+    );
     Ok(())
 }
 
