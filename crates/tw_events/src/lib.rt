@@ -8,6 +8,3 @@ mod root;
 pub use check::{check_event, root_above_leaf};
 pub use path::event_path;
 pub use root::event_root;
-
-#[cfg(test)]
-mod tests;
