@@ -1,10 +1,14 @@
 // A proof, an opening and a path written, read back and checked. Longer paths, the bytes of each format changed and cut,
 // and authenticators of histories are what the acceptance run compares with another implementation.
 
-use super::*;
 use std::process::Abort;
 use std::test::Fail;
 use tw_base::{Bytes, Digest, Labels, ReadFault, Sha, event_leaf};
+use tw_skipproof::{
+    LEAST_AUTHENTICATOR, LEAST_EXISTENCE, Link, LinkList, Path, check_opening, climb, next_hop,
+    read_existence, read_existence_pieces, read_opening, read_path, write_existence, write_opening,
+    write_path,
+};
 
 /// The place at which the bytes were found malformed.
 fn place_of<T: Drop>(read: Result<T, ReadFault>) -> Option<u64> {

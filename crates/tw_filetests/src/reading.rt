@@ -1,15 +1,10 @@
 // Tests of the readers at a place that moves.
 
-use crate::content::Content;
-use crate::content_taking::take_recorded;
-use crate::digest::Digest;
-use crate::failure::ReadFault;
-use crate::flag::take_flag;
-use crate::sequence::Bytes;
-use crate::taking::{take_bytes, take_labels, take_number, take_sized, take_slice};
-use crate::time::{put_time, take_time};
-use crate::writers::{put_number, put_sized, put_text};
 use std::test::Fail;
+use tw_base::{
+    Bytes, Content, Digest, ReadFault, put_number, put_sized, put_text, put_time, take_bytes,
+    take_flag, take_labels, take_number, take_recorded, take_sized, take_slice, take_time,
+};
 
 #[test]
 fn fields_one_after_another(rt: HostRuntime) -> Result<(), Fail> {

@@ -1,6 +1,8 @@
-use super::read_events;
+// Events files: one that is read, and the first bad byte.
+
 use std::test::Fail;
 use tw_base::ReadFault;
+use tw_msg::read_events;
 
 #[test]
 fn the_events_of_a_file_are_read(rt: HostRuntime) -> Result<(), Fail> {

@@ -1,8 +1,8 @@
 // One anchor a line, and the first bad line.
 
-use super::*;
 use std::test::Fail;
 use tw_base::Digest;
+use tw_msg::{AnchorFault, read_anchors};
 
 /// Two lines of anchors.
 fn two_lines() -> &'static [u8] {

@@ -1,5 +1,7 @@
-use crate::{Disk, Failed, MemDisk, MemPages, NoMemory, Pages};
+// Disks and pages in memory: what a crash leaves, and calls that fail.
+
 use std::test::Fail;
+use tw_disk::{Disk, Failed, MemDisk, MemPages, NoMemory, Pages};
 
 // Writes a page full of this byte, and tells whether that went well.
 fn put<D: Disk>(disk: &mut D, page: u64, byte: u8) -> Result<(), Failed> {

@@ -1,10 +1,10 @@
 // The least proof, and some that differ from it in one place; the acceptance run changes and cuts each byte.
 
-use super::*;
 use std::alloc::Global;
 use std::process::Abort;
 use std::test::Fail;
 use tw_base::{Claim, Digest, Hasher, Labels, Name, Reason, Sha, Thread, Weak};
+use tw_chain::{Verdict, verify};
 use tw_skipproof::{
     LEAST_AUTHENTICATOR, LEAST_EXISTENCE, Opening, read_existence, write_existence,
 };

@@ -1,7 +1,6 @@
 // A run that shows an event of a history file; the acceptance run shows the others.
 
-use super::*;
-use crate::tests::expect_over;
+use crate::runs::expect_over;
 use tw_outside::MemInputs;
 use tw_skipproof::LEAST_EXISTENCE;
 

@@ -1,7 +1,7 @@
 // Tests of names.
 
-use crate::name::Name;
 use std::test::Fail;
+use tw_base::Name;
 
 #[test]
 fn names_of_texts(rt: HostRuntime) -> Result<(), Fail> {

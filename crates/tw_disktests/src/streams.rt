@@ -2,9 +2,9 @@
 ghost use Rattle.std.specs.Prelude.{Some, ⊤};
 ghost use Rattle.tw_outside.specs.Memory.{files_of, input_faults, bytes_taken, sink_faults};
 
-use crate::{InputFault, Inputs, MemInputs, MemSink, Sink, read_all, write_all};
 use std::test::Fail;
 use tw_base::Failed;
+use tw_outside::{InputFault, Inputs, MemInputs, MemSink, Sink, read_all, write_all};
 
 /// Inputs that give at most seven bytes a read.
 #[derive(Drop)]

@@ -1,9 +1,12 @@
 // Some words and the command that they are, and the lines that the program writes.
 
-use super::*;
 use std::alloc::Global;
 use std::test::Fail;
 use tw_base::{Bytes, Claim, Digest, Name, Place, Reason, Report, Seen, Thread};
+use tw_text::{
+    Command, Field, FieldList, WordFault, anchor_line, fault_disk, print_line, print_rejected,
+    print_report, print_usage, read_words,
+};
 
 /// The words of a line, with one blank between.
 fn words(alloc: Global, line: &str) -> Result<Vec<String>, Fail> {

@@ -1,9 +1,10 @@
 // The worked values of two small timelines, under the digest whose first byte is the sum of the text.
 
-use super::*;
-use crate::hasher::{Sha, Weak};
-use crate::thread::Thread;
 use std::process::Abort;
+use tw_base::{
+    Digest, Entry, Name, Sha, Thread, Weak, authenticator, datum, empty_tree, event_leaf, genesis,
+    link_label, no_events, step_datum, timed_datum, tree_node,
+};
 
 /// A digest of the weak hasher.
 fn short(first: u8) -> Digest {

@@ -2,10 +2,10 @@
 
 ghost use Rattle.std.specs.Prelude.{◌≤◌};
 
-use super::*;
-use crate::tests::{LINE, words};
+use crate::runs::{LINE, words};
 use std::alloc::Global;
 use std::process::Abort;
+use tw_app::run;
 use tw_disk::MemDisk;
 use tw_outside::{MemInputs, MemSink};
 use tw_skipproof::LEAST_EXISTENCE;

@@ -1,7 +1,6 @@
 // Services on a disk in memory: each call once, how many device calls it makes, what a stop leaves, and a failed call. Root records,
 // pages that aren't of their kind, limits and what is missing are shown by the acceptance run.
 
-use crate::{Refusal, Service};
 use std::alloc::Global;
 use std::process::Abort;
 use std::test::Fail;
@@ -9,6 +8,7 @@ use tw_base::{Bytes, EventList, Name, NoMemory, Sha, Thread};
 use tw_chain::{Verdict, verify};
 use tw_disk::MemDisk;
 use tw_pages::StoreFault;
+use tw_service::{Refusal, Service};
 
 // The name of the tests' service.
 fn alpha(rt: &impl Abort) -> Name {

@@ -1,11 +1,10 @@
 // Tests of the readers of single fields.
 
-use crate::digest::Digest;
-use crate::ending::{front_to, whole_to};
-use crate::failure::ReadFault;
-use crate::name::Name;
-use crate::taking::{take_digest, take_labels, take_name, take_number, take_text};
 use std::test::Fail;
+use tw_base::{
+    Digest, Name, ReadFault, front_to, take_digest, take_labels, take_name, take_number, take_text,
+    whole_to,
+};
 
 /// The fault at a place.
 fn bad<T>(place: u64) -> Result<T, ReadFault> {

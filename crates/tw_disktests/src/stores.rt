@@ -1,8 +1,10 @@
-use crate::{CommitFault, Store, StoreFault};
+// A store whose commit is stopped, on a disk in memory.
+
 use std::alloc::Global;
 use std::process::Abort;
 use std::test::Fail;
 use tw_disk::{Failed, MemDisk, NoMemory, Pages};
+use tw_pages::{CommitFault, Store, StoreFault};
 
 // Stages a page full of this byte.
 fn stage_byte(store: &mut Store<MemDisk>, byte: u8) -> Result<u64, NoMemory> {

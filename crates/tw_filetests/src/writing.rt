@@ -1,11 +1,9 @@
 // Tests of the field writers.
 
-use crate::digest::Digest;
-use crate::label_list::Labels;
-use crate::name::Name;
-use crate::sequence::Bytes;
-use crate::writers::{put_bytes, put_digest, put_labels, put_name, put_number};
 use std::test::Fail;
+use tw_base::{
+    Bytes, Digest, Labels, Name, put_bytes, put_digest, put_labels, put_name, put_number,
+};
 
 #[test]
 fn fields_in_order(rt: HostRuntime) -> Result<(), Fail> {

@@ -1,9 +1,11 @@
-use crate::{Access, FileDisk, HostInputs, HostSink};
+// Disks and inputs that are files.
+
 use std::fs;
 use std::rt::Files;
 use std::test::Fail;
 use tw_base::Failed;
 use tw_disk::Disk;
+use tw_hostio::{Access, FileDisk, HostInputs, HostSink};
 use tw_outside::{Inputs, Sink};
 
 // Makes this folder of a test's own anew.

@@ -1,8 +1,8 @@
 // Whole runs over inputs and a sink in memory; the acceptance run shows all statuses and texts.
 
-use super::*;
 use std::alloc::Global;
 use std::process::Abort;
+use tw_app::run;
 use tw_disk::MemDisk;
 use tw_outside::{MemInputs, MemSink};
 use tw_skipproof::LEAST_EXISTENCE;

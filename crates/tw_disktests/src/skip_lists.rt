@@ -3,12 +3,12 @@
 
 ghost use Rattle.std.specs.Prelude.{◌^◌, ◌<◌, ◌≤◌, ◌≡◌, IfOk, [], ◌∷◌};
 
-use super::*;
 use std::alloc::Global;
 use std::process::Abort;
 use std::test::Fail;
 use tw_base::{Bytes, Digest, EventList, Name, NoMemory, Root, Sha, event_leaf, genesis};
 use tw_disk::{MemPages, Pages};
+use tw_skiplist::{Head, ListFault, append, events, path, prove, step};
 use tw_skipproof::{check_opening, climb};
 
 /// The archive of each step: a label, and a root in page 3.

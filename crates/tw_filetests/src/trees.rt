@@ -1,9 +1,9 @@
 // Worked values of small trees, under the digest whose first byte is the sum of the text.
 
-use super::*;
 use std::process::Abort;
 use std::test::Fail;
 use tw_base::{Digest, Entry, Name, Thread, Weak};
+use tw_tree::{Tree, label, list};
 
 /// A digest of the weak hasher.
 fn short(first: u8) -> Digest {

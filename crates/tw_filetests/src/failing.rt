@@ -1,7 +1,7 @@
 // Tests of the calls that fail.
 
-use crate::failing::FailingCalls;
 use std::test::Fail;
+use tw_base::FailingCalls;
 
 #[test]
 fn the_second_call_fails(rt: HostRuntime) -> Result<(), Fail> {

@@ -1,9 +1,11 @@
 // Small history files, read, judged, written again and shown.
 
-use super::*;
 use std::alloc::Global;
 use std::test::Fail;
 use tw_base::{Bytes, Digest, Name, NoMemory, Weak};
+use tw_history::{
+    History, HistoryFault, Nodes, Steps, auth_of, is_sound, read_history, show_event, write_history,
+};
 
 /// The file of the history of the service `a` with one step, of one event of no bytes.
 fn event_file() -> &'static [u8] {
