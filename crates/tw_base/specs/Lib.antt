@@ -28,6 +28,7 @@ pub mod Anchors
 pub mod Faults
 pub mod PlannedFailures
 pub mod Codecs
+pub mod Variants
 pub mod Taking
 pub mod HistoryCodec
 pub mod Resuming

@@ -27,10 +27,7 @@ module _ (dig : List ℕ → List ℕ) (h : History) (step index top : ℕ) (p :
   IsExistenceInRange-few order small few sizes time =
       let inside : index < length (events_at h step) = checks.inside in
       record {
-        step = omega (arith, order, small, is.at_step);
-        top = omega (arith, small, is.at_top);
-        count = omega (arith, few, is.opening.binds.count);
-        time = time;
+        at = record { step = omega (arith, order, small, is.at_step); top = omega (arith, small, is.at_top); count = omega (arith, few, is.opening.binds.count); time = time };
         index = omega (arith, inside, is.at_index, is.opening.binds.count);
         event = subst (λ event. length event ≤ MOST_EVENT_BYTES) (get_or_from_slice_get (events_at h step) index p.event.event [] is.event)
             (Each-inside (λ event. length event ≤ MOST_EVENT_BYTES) (events_at h step) index [] inside sizes);
@@ -41,9 +38,11 @@ module _ (dig : List ℕ → List ℕ) (h : History) (step index top : ℕ) (p :
       let opens : IsOpeningAt step p.at.opening = (opening-of dig h step p.at.opening from_1 is.opening).0 in
       let path : HasShape p.at.path.links top step = (path-of dig h p.at.path.links top step order is.path).0 in
       record {
-        step = omega (arith, from_1, is.at_step);
-        top = omega (arith, from_1, order, is.at_top);
-        path = subst (HasShape p.at.path.links p.at.top) (sym is.at_step) (subst (λ t. HasShape p.at.path.links t step) (sym is.at_top) path);
-        opening = (subst (λ s. IsOpeningAt s p.at.opening) (sym is.at_step) opens).1;
+        at = record {
+          step = omega (arith, from_1, is.at_step);
+          top = omega (arith, from_1, order, is.at_top);
+          path = subst (HasShape p.at.path.links p.at.top) (sym is.at_step) (subst (λ t. HasShape p.at.path.links t step) (sym is.at_top) path);
+          opening = (subst (λ s. IsOpeningAt s p.at.opening) (sym is.at_step) opens).1;
+        };
         event = ap length is.event_path ∙ checks.size ∙ (λ k. path_length (is.opening.binds.count k) (sym is.at_index k));
       }

@@ -26,7 +26,7 @@ use Rattle.tw_skipproof.specs.HistoryProofs.{IsExistenceOf, IsPathOf, labels_at}
 use Rattle.tw_skipproof.specs.Openings.{IsOpeningAt, opening_auth}
 use Rattle.tw_skipproof.specs.Paths.{HasShape, climbed, hop}
 use Rattle.tw_skipproof.specs.Spelling.{FitsAsEvent, FitsAsLink, FitsAsOpening}
-use Rattle.tw_skipproof.proofs.LawfulCodecs.{count-fits, existence-fits, existence-lawful}
+use Rattle.tw_skipproof.proofs.LawfulCodecs.{count-fits, existence-fits, part-fits, existence-lawful}
 use Rattle.tw_skipproof.proofs.OwnPaths.{opening-of, path-of}
 
 -- ---- events that stand at a step
@@ -90,10 +90,12 @@ module _ (dig : List ℕ → List ℕ) (h : History) (step index top : ℕ) (p :
       let few = (sound-may_record h step sound).are.count in
       let short = sound.length in
       record {
-        step = omega (arith, order, has, short, is.at_step);
-        top = omega (arith, has, short, is.at_top);
-        count = omega (arith, few, is.opening.binds.count);
-        time = subst IsTimeWithinLimits is.opening.binds.time (sound-time h step sound);
+        at = record {
+          step = omega (arith, order, has, short, is.at_step);
+          top = omega (arith, has, short, is.at_top);
+          count = omega (arith, few, is.opening.binds.count);
+          time = subst IsTimeWithinLimits is.opening.binds.time (sound-time h step sound);
+        };
         index = shows_event.inside;
         event = event_size sound;
       }
@@ -102,10 +104,7 @@ module _ (dig : List ℕ → List ℕ) (h : History) (step index top : ℕ) (p :
   IsShaped-made order =
       let from_1 = from_step_1 h step index p.event.event is.event in
       record {
-        step = opening_at.0;
-        top = omega (arith, order, from_1, is.at_top);
-        path = path_shape order;
-        opening = opening_at.1;
+        at = record { step = opening_at.0; top = omega (arith, order, from_1, is.at_top); path = path_shape order; opening = opening_at.1 };
         event = shows_event.size;
       }
 
@@ -164,4 +163,4 @@ module _ (dig : List ℕ → List ℕ) (h : History) (step index top : ℕ) (p :
     spelled-made sound order has =
         let name_is : IsName p.at.service = subst IsName (sym is.service) sound.name in
         existence-lawful.spells p
-        (existence-fits p (in_range-made sound order has) (IsShaped-made order) name_is (links-fit p.at.path.links top step is.path) opening-fits (event-fits sound))
+        (existence-fits p (in_range-made sound order has) (IsShaped-made order) (part-fits p.at name_is (links-fit p.at.path.links top step is.path) opening-fits) (event-fits sound))
