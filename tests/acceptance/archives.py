@@ -7,6 +7,7 @@ form where it has none, are left out.
 
 import json
 import random
+from functools import cache
 from itertools import combinations
 from pathlib import Path
 
@@ -16,9 +17,11 @@ from generated import changed, counted_timeline, judged
 from histories import History, reshaping, timed, woven
 from large import LargeProof
 from proofs import ABSENT, EXISTS, LINK, THREAD, absent_bytes, absent_proof, link_bytes, link_proof, thread_bytes, thread_proof
-from reference import EMPTY, LAST_STEP, Entry, Node, Timeline, be, dig, listed, node_label, part_bytes, path_bytes, proof_bytes, top_level
+from reference import (
+    EMPTY, LAST_STEP, Entry, Node, Timeline, be, count_bytes, dig, listed, node_label, part_bytes, path_bytes, proof_bytes, top_level,
+)
 from trees import (
-    MOST_ABOVE_ENTRY, MOST_ABOVE_GAP, Ask, Question, TreeProof, absent, checked, from_list, present, proof_over, shaped, with_leaf,
+    MOST_ABOVE_ENTRY, MOST_ABOVE_GAP, Ask, Question, TreeProof, absent, checked, from_list, present, proof_over, shaped,
 )
 
 UNBUILT = json.loads((Path(__file__).resolve().parent / "cases/unbuilt.json").read_text())
@@ -45,14 +48,12 @@ def flipped(data, place=-1):
 
 
 class Sample:
-    """A history with its trees, and what proofs of one of its steps need: the step has events, and a top above it."""
+    """A history of so many steps, some with times, with the trees of its archive, which take any shape."""
 
     def __init__(self, count, seed):
-        rand = random.Random(seed)
-        self.history = woven(count, seed, reshaping(rand))
-        timed(self.history.steps, seed)
-        self.line, self.trees = self.history.line(), self.history.trees
-        self.last = count
+        history = woven(count, seed, reshaping(random.Random(seed)))
+        timed(history.steps, seed)
+        self.last, self.line, self.trees = count, history.line(), history.trees
 
     def gaps(self, step):
         """Keys that the archive after the step doesn't have: beside each of its own, and of other services."""
@@ -60,6 +61,12 @@ class Sample:
         keys = {(entry.service, entry.step + off) for entry in entries for off in (-1, 1)}
         keys |= {("a", 1), ("a", LAST_STEP), ("zz", 7), ("0", 7), ("woven", step)}
         return sorted(key for key in keys - {entry.key for entry in entries} if key[1])
+
+
+@cache
+def long_sample():
+    """The sample that most groups take their proofs from."""
+    return Sample(24, "long")
 
 
 # ---- good proofs
@@ -80,14 +87,14 @@ def good(sample, step, top):
 
 def good_proofs():
     """Each step of histories of several lengths under the last one; and each link under each top."""
-    for count, seed in ((1, "thread"), (5, "short"), (13, "middle"), (24, "long")):
-        sample = Sample(count, seed)
-        for step in range(count + 1):
-            yield from good(sample, step, count)
+    for sample in (Sample(1, "thread"), Sample(5, "short"), Sample(13, "middle"), long_sample()):
+        for step in range(sample.last + 1):
+            yield from good(sample, step, sample.last)
+    line = long_sample().line
     for top in range(1, 24):
         for step in range(top + 1):
-            text = proofs.link_text("woven", step, top, sample.line.auths[step])
-            yield accepted(f"link to {step} under {top}", link_proof(sample.line, step, top), sample.line, top, text)
+            text = proofs.link_text("woven", step, top, line.auths[step])
+            yield accepted(f"link to {step} under {top}", link_proof(line, step, top), line, top, text)
 
 
 def first_threads():
@@ -114,12 +121,13 @@ def one_entry(archived):
 # ---- faults of all sorts
 
 
-STEP, TOP = 12, 21
+# The step that the faulty proofs are of, and their top: a path of two links.
+STEP, TOP = 12, 14
 
 
 def sample_proofs():
     """A good proof of each kind of the same step, with a function that makes it under a top."""
-    sample = Sample(24, "long")
+    sample = long_sample()
     line, tree = sample.line, sample.trees[STEP]
     entry, key = listed(tree)[2], sample.gaps(STEP)[4]
     plain = counted_timeline("woven", [3] * 24)
@@ -130,10 +138,12 @@ def sample_proofs():
 
 
 def built_samples():
+    """Those of the kinds that the program judges."""
     return (sample for sample in sample_proofs() if sample[0] in proofs.BUILT_KINDS)
 
 
 def archive_samples():
+    """Those of threads, absent ones and links; the changes of proofs of events stand in generated.py."""
     return (sample for sample in sample_proofs() if sample[0] != EXISTS)
 
 
@@ -178,8 +188,8 @@ def other_anchors():
     """Anchors of another service, another step and another authenticator."""
     for kind, line, make in archive_samples():
         data = make(TOP)
-        for service, pos, auth in (("other", TOP, TOP), ("woven", TOP - 1, TOP - 1), ("woven", TOP, TOP - 1), ("woven", STEP, STEP)):
-            yield judged(f"kind {kind}, {service} {pos}, that of {auth}", data, service, pos, line.auths[auth])
+        for service, pos, of in (("other", TOP, TOP), ("woven", TOP - 1, TOP - 1), ("woven", TOP, TOP - 1), ("woven", STEP, STEP)):
+            yield judged(f"kind {kind}, {service} {pos}, that of {of}", data, service, pos, line.auths[of])
 
 
 def numbers_put(name, data, line, place, width, values):
@@ -197,7 +207,7 @@ def numbers_in_fields():
         fields = [("step", 21, 8, steps), ("top", 29, 8, steps)]
         if kind != LINK:
             front = len(part_bytes(kind, line, STEP, TOP))
-            word = len(data) - len(data[front:]) - 32 * (1 + top_level(STEP)) - 4 - 8 * (line.times[STEP - 1] is not None)
+            word = front - 32 * (1 + top_level(STEP)) - len(count_bytes(0, line.times[STEP - 1]))
             counts = (0, 1, 255, 1024, 1025, 65536, 2**24, 2**30, 2**31, 2**31 + 1024, 2**31 + 1025, 2**32 - 1)
             fields += [("count of events", word, 4, counts), ("step of the thread", front + 16, 8, steps)]
             fields += [("ancestors", front + (64 if kind == THREAD else 24), 1, (0, 1, 2, 3, 4, 5, 126, 127, 128, 129, 255))]
@@ -230,9 +240,11 @@ def other_entries(entry):
 
 
 def other_ways(shown):
-    """The ways that differ from a tree proof's in one thing: an ancestor left out, told twice, or other in one field; two of them in the
-    other order; none; the label of an empty side more."""
+    """The ways that differ from a tree proof's: without ancestors, with all in the other order, with an ancestor left out, told twice, other
+    in one field, or in the place of the next."""
     ancestors = shown.ancestors
+    yield []
+    yield ancestors[::-1]
     for place, ancestor in enumerate(ancestors):
         before, after = ancestors[:place], ancestors[place + 1 :]
         yield [*before, *after]
@@ -242,12 +254,11 @@ def other_ways(shown):
             yield [*before, ancestor._replace(entry=entry), *after]
         if after:
             yield [*before, after[0], ancestor, *after[1:]]
-    yield ancestors[::-1]
 
 
 def wrong_threads():
     """Threads that aren't in the archive, or whose way isn't theirs."""
-    sample = Sample(24, "long")
+    sample = long_sample()
     line, tree = sample.line, sample.trees[STEP]
     part = part_bytes(THREAD, line, STEP, TOP)
     for entry in listed(tree):
@@ -263,7 +274,7 @@ def wrong_threads():
 
 def absences_that_are_none():
     """Keys that the archive has, with the ways to the empty places right below and right above them."""
-    sample = Sample(24, "long")
+    sample = long_sample()
     line, tree = sample.line, sample.trees[STEP]
     part = part_bytes(ABSENT, line, STEP, TOP)
     for key in (entry.key for entry in listed(tree)):
@@ -274,7 +285,7 @@ def absences_that_are_none():
 
 def wrong_absences():
     """Absent keys with ways that aren't theirs, or that lead to another empty place."""
-    sample = Sample(24, "long")
+    sample = long_sample()
     line, tree = sample.line, sample.trees[STEP]
     part, gaps = part_bytes(ABSENT, line, STEP, TOP), sample.gaps(STEP)
     for key in gaps:
@@ -287,7 +298,7 @@ def wrong_absences():
 
 def other_archives():
     """Proofs over the archive of another step."""
-    sample = Sample(24, "long")
+    sample = long_sample()
     line = sample.line
     for step in range(1, TOP + 1):
         for archive in (step - 1, step + 1):
@@ -301,14 +312,14 @@ def other_archives():
 
 def other_links():
     """Links that give another step's authenticator, or another step's path."""
-    line = Sample(24, "long").line
-    for step in (0, 1, STEP, TOP - 1, TOP):
-        path = path_bytes(line, TOP, step)
-        for other in {0, 1, step + 1, TOP, 24} - {step}:
-            data = link_bytes("woven", step, TOP, line.auths[other], path)
-            yield rejected(f"that of {other} at {step}", data, line, TOP, "4 BadPath 0")
-            data = link_bytes("woven", step, TOP, line.auths[step], path_bytes(line, TOP, other))
-            yield judged(f"the path to {other} for {step}", data, "woven", TOP, line.auths[TOP])
+    line, top = long_sample().line, 21
+    for step in (0, 1, 12, top - 1, top):
+        path = path_bytes(line, top, step)
+        for other in sorted({0, 1, step + 1, top, 24} - {step}):
+            data = link_bytes("woven", step, top, line.auths[other], path)
+            yield rejected(f"that of {other} at {step}", data, line, top, "4 BadPath 0")
+            data = link_bytes("woven", step, top, line.auths[step], path_bytes(line, top, other))
+            yield judged(f"the path to {other} for {step}", data, "woven", top, line.auths[top])
 
 
 # ---- limits
@@ -374,6 +385,7 @@ def good_and_faulty():
 
 
 def anchors_files():
+    """`verify` with a file of anchors."""
     return (from_file(case, "verify") for case in good_and_faulty())
 
 
@@ -406,9 +418,9 @@ def answers(program):
         keys = sorted(rand.sample([(service, step) for service in ("a", "ab", "b") for step in range(1, 30)], count))
         entries = [Entry(*key, dig(be(place, 2)), place + 1) for place, key in enumerate(keys)]
         tree = shaped(entries, rand)
-        asks = [Ask(question, (service, step)) for question in Question for service in ("a", "ab", "b", "c") for step in range(31)]
-        asks = [ask for ask in asks if ask.question is not Question.PRESENT] + [present(entry) for entry in entries]
-        for ask in asks:
+        searches = (Question.ABSENT, Question.BELOW, Question.ABOVE)
+        asks = [Ask(question, (service, step)) for question in searches for service in ("a", "ab", "b", "c") for step in range(31)]
+        for ask in [*asks, *map(present, entries)]:
             shown, wanted = proof_over(tree, ask), from_list(entries, ask)
             if (checked(tree.label, ask, shown) if shown else None) != wanted:
                 return f"  {count} entries, {ask}: {wanted}"

@@ -1,12 +1,20 @@
-"""Histories made up for cases: steps of events, and steps that received threads, whose archive's tree has any shape."""
+"""Histories made up for cases: steps of events, and steps that received threads, whose archive's tree has any shape.
+
+    python3 tests/acceptance/histories.py FOLDER    writes a history of a service `shop` that received two threads into the folder, as
+                                                    `history`, with the proofs `thread`, `absent` and `link` that it gives, and `anchors`
+"""
 
 import random
+import sys
+from pathlib import Path
 
-from reference import Entry, Step, dig, history_bytes, history_line, listed
-from trees import EMPTY, shaped, with_leaf
+from proofs import absent_proof, link_proof, thread_proof
+from reference import EMPTY, Entry, Step, dig, history_bytes, history_line, listed
+from trees import shaped, with_leaf
 
 
 def event_text(step, index):
+    """An event that tells where it stands."""
     return f"{step}.{index}".encode()
 
 
@@ -20,6 +28,7 @@ class History:
         self.numbers = {EMPTY: 0}
 
     def append(self, events):
+        """Records events."""
         self.add(Step(events), self.trees[-1])
 
     def receive(self, service, step, auth, grow=with_leaf):
@@ -28,6 +37,7 @@ class History:
         self.add(Step(thread=(service, step, auth)), grow(self.trees[-1], entry))
 
     def add(self, step, tree):
+        """Adds a step after which the archive is this tree."""
         step.nodes = list(self.new_nodes(tree))
         step.root = self.numbers[tree]
         self.steps.append(step)
@@ -42,9 +52,11 @@ class History:
             yield self.numbers[tree.left], tree.entry.archived, self.numbers[tree.right]
 
     def line(self):
+        """Its timeline."""
         return history_line(self.name, self.steps)
 
     def bytes(self):
+        """Its file."""
         return history_bytes(self.name, self.steps)
 
 
@@ -79,3 +91,23 @@ def timed(steps, seed):
         latest += rand.choice((0, 0, 1, 2**20, 2**31))
         step.time = latest if rand.randrange(3) else None
     return steps
+
+
+def write_example(folder):
+    """The thread of `alpha` at step 5 is there, that of step 6 isn't, and step 2 has its authenticator, all under step 4."""
+    history = History("shop")
+    history.append([b"bread", b"milk"])
+    history.receive("alpha", 5, dig(b"alpha"))
+    history.receive("beta", 2, dig(b"beta"))
+    history.append([b"tea"])
+    line, tree = history.line(), history.trees[3]
+    for name, data in (
+        ("history", history.bytes()), ("thread", thread_proof(line, tree, 3, 4, listed(tree)[0])),
+        ("absent", absent_proof(line, tree, 3, 4, ("alpha", 6))), ("link", link_proof(line, 2, 4)),
+        ("anchors", f"shop 4 {line.auths[4].hex()}\n".encode()),
+    ):
+        (folder / name).write_bytes(data)
+
+
+if __name__ == "__main__":
+    write_example(Path(sys.argv[1]))

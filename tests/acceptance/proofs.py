@@ -62,14 +62,17 @@ def link_proof(line, step, top):
 
 
 def thread_text(service, step, entry):
+    """What is written where the archive after the step has the entry."""
     return f"accepted thread\nthread {service} {step} {entry.service} {entry.step} {entry.auth.hex()} {entry.archived}\n"
 
 
 def absent_text(service, step, key):
+    """What is written where the archive after the step has no thread of this service and step."""
     return f"accepted absent\nabsent {service} {step} {key[0]} {key[1]}\n"
 
 
 def link_text(service, step, top, auth):
+    """What is written where the step has this authenticator."""
     return f"accepted link\nlink {service} {step} {top} {auth.hex()}\n"
 
 
@@ -101,6 +104,7 @@ class Opening:
         self.others = read.digests(top_level(step))
 
     def authenticator(self, step):
+        """That of the step, computed."""
         own = datum(self.event_root, self.archive, self.count, self.time)
         return authenticator(step, [link_label(step, 0, own, self.prev), *self.others])
 
@@ -119,8 +123,14 @@ class Claim:
         """The reason that stands against it under an opening, or None."""
         return None
 
+    def report(self, proof):
+        """What is written where nothing stands against it."""
+        raise NotImplementedError
+
 
 class EventClaim(Claim):
+    """An event, its index and its audit path."""
+
     def __init__(self, read, opening):
         self.index = read.number(4, 0, opening.count - 1)
         self.event = read.bytes(read.number(4, 0, 1024))
@@ -143,6 +153,8 @@ class TreeClaim(Claim):
 
 
 class ThreadClaim(TreeClaim):
+    """A thread that is in the archive."""
+
     def __init__(self, read, opening):
         self.ask = present(read_entry(read))
         self.shown = read_tree_proof(read, has_sides=True)
@@ -155,6 +167,8 @@ class ThreadClaim(TreeClaim):
 
 
 class AbsentClaim(TreeClaim):
+    """A service and a step of which the archive has no thread."""
+
     def __init__(self, read, opening):
         self.ask = absent(read.name(), read.number(8, 1, LAST_STEP))
         self.shown = read_tree_proof(read, has_sides=False)
@@ -164,6 +178,8 @@ class AbsentClaim(TreeClaim):
 
 
 class LinkClaim(Claim):
+    """The authenticator in the head, and nothing beside it."""
+
     def report(self, proof):
         return link_text(proof.service, proof.step, proof.top, proof.auth)
 

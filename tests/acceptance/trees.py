@@ -19,6 +19,8 @@ MOST_ABOVE_ENTRY, MOST_ABOVE_GAP = 127, 128
 
 
 class Question(Enum):
+    """The four questions, each by the name of what a proof of it shows, or of the side that it asks for."""
+
     PRESENT = "Present"
     ABSENT = "Absent"
     BELOW = "Below"
@@ -34,10 +36,12 @@ class Ask(NamedTuple):
 
 
 def present(entry):
+    """Whether this entry is there."""
     return Ask(Question.PRESENT, entry.key, entry)
 
 
 def absent(service, step):
+    """Whether no thread of the service at this step is there."""
     return Ask(Question.ABSENT, (service, step))
 
 
@@ -55,6 +59,7 @@ class TreeProof(NamedTuple):
     ancestors: list
 
     def bytes(self):
+        """How many ancestors there are, the labels of both sides, and each ancestor's entry and label."""
         ancestors = b"".join(entry.bytes() + other for entry, other in self.ancestors)
         return be(len(self.ancestors), 1) + b"".join(self.sides or ()) + ancestors
 
@@ -128,10 +133,12 @@ def from_list(entries, ask):
 
 
 def read_entry(read):
+    """The entry that stands next."""
     return Entry(read.name(), read.number(8, 1, LAST_STEP), read.bytes(32), read.number(8, 1, LAST_STEP))
 
 
 def read_tree_proof(read, has_sides):
+    """The tree proof that stands next: of an entry, or above an empty place."""
     count = read.number(1, 0, MOST_ABOVE_ENTRY if has_sides else MOST_ABOVE_GAP)
     sides = tuple(read.digests(2)) if has_sides else None
     return TreeProof(sides, [Ancestor(read_entry(read), read.bytes(32)) for _ in range(count)])
@@ -155,11 +162,3 @@ def shaped(entries, rand):
         return EMPTY
     middle = rand.randrange(len(entries))
     return Node(shaped(entries[:middle], rand), entries[middle], shaped(entries[middle + 1 :], rand))
-
-
-def spine(entries):
-    """The tree of these entries, which rise, in which each is above all before it."""
-    tree = EMPTY
-    for entry in entries:
-        tree = Node(tree, entry, EMPTY)
-    return tree
