@@ -28,7 +28,6 @@ pub mod Anchors
 pub mod Faults
 pub mod PlannedFailures
 pub mod Codecs
-pub mod Variants
 pub mod Taking
 pub mod HistoryCodec
 pub mod Resuming
