@@ -10,6 +10,7 @@ pub mod Clash
 pub mod Lists
 pub mod EventTree
 pub mod AuditPath
+pub mod EventParts
 pub mod Holding
 pub mod History
 pub mod Tree
@@ -27,7 +28,6 @@ pub mod Anchors
 pub mod Faults
 pub mod PlannedFailures
 pub mod Codecs
-pub mod Variants
 pub mod Taking
 pub mod HistoryCodec
 pub mod Resuming

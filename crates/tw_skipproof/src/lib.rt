@@ -27,6 +27,3 @@ pub use piece_reading::read_existence_pieces;
 pub use reading::{read_opening, read_path, take_path};
 pub use so_far::{ExistenceSoFar, Middle};
 pub use writing::{put_part, put_path, write_existence, write_opening, write_path};
-
-#[cfg(test)]
-mod tests;
