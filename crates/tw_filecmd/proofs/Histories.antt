@@ -98,7 +98,7 @@ module _ (h : History) (step at : ℕ) (bytes : List ℕ) (makes : MakesExistenc
   in_order own =
       let same : own.0 ≡ makes.0 = one_value existence_layout bytes own.0 makes.0 own.1 makes.1 in
       let order : makes.0.at.step ≤ makes.0.at.top = subst (λ (p : ExistenceProof). p.at.step ≤ p.at.top) same own.2.order in
-      omega (arith, order, makes.2.at_step, makes.2.at_top)
+      omega (arith, order, makes.2.at.at_step, makes.2.at.at_top)
 
 pub shown_at : (h : History) (step index at : ℕ) → IsSound h → at ≡ min index 4294967295 → (result : Result (List ℕ) ShowFault)
     → IfOk result (MakesExistence sha256 h step at (length h.steps))

@@ -2,7 +2,6 @@
 #![tactic(auto)]
 
 mod authenticators;
-mod event_part;
 mod fault;
 mod history;
 mod laws;

@@ -1,9 +1,10 @@
 -- The part that a history has of a step under a top reaches the history's authenticator of the top, and is spelled.
 use Rattle.std.proofs.Common.{◌≡◌, ℕ, ◌-◌, ◌<◌, ◌≤◌, List, [], ◌∷◌, length, ap, sym, ◌∙◌, subst, arith}
+use Rattle.tw_base.specs.declared.limits.TheConstants.{LAST_STEP, MOST_EVENTS}
 use Rattle.tw_base.specs.Auth.{auth}
 use Rattle.tw_base.specs.Bytes.{AreBytes}
 use Rattle.tw_base.specs.Codecs.{bytes_codec, each, labels_codec, many, pair, seen}
-use Rattle.tw_base.specs.History.{History}
+use Rattle.tw_base.specs.History.{History, events_at}
 use Rattle.tw_base.specs.Limits.{IsTimeWithinLimits}
 use Rattle.tw_base.specs.Lists.{Each}
 use Rattle.tw_base.specs.Names.{IsName}
@@ -46,16 +47,17 @@ module _ (dig : List ℕ → List ℕ) (h : History) (step top : ℕ) (p : Part)
     };
   }
 
+  -- where the steps, the events and the time are within their limits
+  pub part_in_range-few : step ≤ top → top ≤ LAST_STEP → length (events_at h step) ≤ MOST_EVENTS → IsTimeWithinLimits p.opening.time → IsPartInRange p
+  part_in_range-few order short few time =
+      record { step = omega (arith, order, short, is.at_step); top = omega (arith, short, is.at_top); count = omega (arith, few, is.opening.binds.count); time = time }
+
+  -- so in a sound history
   pub part_in_range-made : IsSound h → step ≤ top → top ≤ length h.steps → IsPartInRange p
   part_in_range-made sound order has =
-      let few = (sound-may_record h step sound).are.count in
       let short = sound.length in
-      record {
-        step = omega (arith, order, has, short, is.at_step);
-        top = omega (arith, has, short, is.at_top);
-        count = omega (arith, few, is.opening.binds.count);
-        time = subst IsTimeWithinLimits is.opening.binds.time (sound-time h step sound);
-      }
+      part_in_range-few order (omega (arith, has, short)) (sound-may_record h step sound).are.count
+      (subst IsTimeWithinLimits is.opening.binds.time (sound-time h step sound))
 
   pub part_shaped-made : 0 < step → step ≤ top → IsPartShaped p
   part_shaped-made from_1 order =

@@ -16,7 +16,7 @@ use Rattle.tw_base.proofs.ByteLemmas.{AreBytes-drop, AreBytes-take}
 use Rattle.tw_base.proofs.CodecSizes.{length-joined}
 use Rattle.tw_base.proofs.CodecLaws.{Lawful, goes-then, lawful, lawful-pair}
 use Rattle.tw_base.proofs.SegmentLaws.{TakesAny, any-stays, labels-any, segment-ended, segment-nothing, then_assoc, then_each, then_pair}
-use Rattle.tw_skipproof.specs.declared.existence.EventPart.{EventPart}
+use Rattle.tw_base.specs.declared.event_part.EventPart.{EventPart}
 use Rattle.tw_skipproof.specs.declared.existence.ExistenceProof.{ExistenceProof}
 use Rattle.tw_skipproof.specs.declared.existence.Part.{Part}
 use Rattle.tw_skipproof.specs.declared.opening.Opening.{Opening}

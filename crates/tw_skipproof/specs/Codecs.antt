@@ -8,7 +8,7 @@ use Rattle.tw_base.specs.HistoryCodec.{time_codec}
 use Rattle.tw_base.specs.Levels.{top_level}
 use Rattle.tw_skipproof.specs.declared.opening.Opening.{Opening}
 use Rattle.tw_skipproof.specs.declared.path.Link.{Link}
-use Rattle.tw_skipproof.specs.declared.existence.EventPart.{EventPart}
+use Rattle.tw_base.specs.declared.event_part.EventPart.{EventPart}
 use Rattle.tw_skipproof.specs.declared.existence.ExistenceProof.{ExistenceProof}
 use Rattle.tw_skipproof.specs.declared.existence.Part.{Part}
 use Rattle.tw_skipproof.specs.Paths.{greedy_steps}
@@ -86,7 +86,7 @@ abbrev pub proof_magic : List ℕ
 proof_magic = 0x54 ∷ 0x57 ∷ 0x50 ∷ 0x31 ∷ []
 
 abbrev pub existence_magic : List ℕ
-existence_magic = 0x54 ∷ 0x57 ∷ 0x50 ∷ 0x31 ∷ 1 ∷ []
+existence_magic = proof_magic ++ 1 ∷ []
 
 -- the whole proof: magic and kind, and the rest
 unfoldable pub existence_codec : Codec ExistenceProof

@@ -2,6 +2,7 @@
 use Rattle.std.specs.Prelude.{◌≡◌, ℕ, ◌<◌, ◌≤◌, List, length}
 use Rattle.tw_base.specs.declared.limits.TheConstants.{LAST_STEP, MOST_EVENTS, MOST_EVENT_BYTES}
 use Rattle.tw_base.specs.AuditPath.{path_length}
+use Rattle.tw_base.specs.EventParts.{event_part}
 use Rattle.tw_base.specs.Formats.{Format}
 use Rattle.tw_base.specs.Levels.{top_level}
 use Rattle.tw_base.specs.Limits.{IsTimeWithinLimits}
@@ -15,6 +16,10 @@ existence_layout = existence_codec.format
 
 abbrev pub existence_bytes : ExistenceProof → List ℕ
 existence_bytes = existence_codec.write
+
+-- what is made of the part of a step, for the event at the index among the step's events
+abbrev pub existence_of_part : (dig : List ℕ → List ℕ) → Part → (events : List (List ℕ)) → (index : ℕ) → ExistenceProof
+existence_of_part dig at events index = record { at = at; event = event_part dig events index }
 
 -- the ranges that the format gives the numbers of a step under a top
 pub record IsPartInRange (p : Part) : Type 0 where

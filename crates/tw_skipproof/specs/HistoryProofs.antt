@@ -1,6 +1,6 @@
 -- The openings, paths, parts and existence proofs that a history itself has.
-use Rattle.std.specs.Prelude.{◌≡◌, ℕ, ◌-◌, ◌<◌, ◌≤◌, List, [], ◌∷◌, drop, map, remove, slice_get, Some}
-use Rattle.tw_base.specs.EventTree.{audit_path}
+use Rattle.std.specs.Prelude.{◌≡◌, ℕ, ◌-◌, ◌<◌, ◌≤◌, List, [], ◌∷◌, length, drop, map, remove}
+use Rattle.tw_base.specs.EventParts.{event_part}
 use Rattle.tw_base.specs.Formats.{Spells}
 use Rattle.tw_base.specs.History.{History, events_at}
 use Rattle.tw_base.specs.Auth.{auths, datum_text_at, link_texts_at}
@@ -39,17 +39,12 @@ module _ (dig : List ℕ → List ℕ) (h : History) where
     pub opening : IsOpeningOf step p.opening
 
   module _ (step index top : ℕ) where
-    -- the proof that the history has of its event at this index of the step, under this top: the history's name, its path
-    -- from the top down to the step, its opening of the step, the event, and the audit path among the step's events
+    -- the proof that the history has of its event at this index of the step, under this top: the part of the step, and
+    -- the event with its audit path among the step's events
     pub record IsExistenceOf (p : ExistenceProof) : Type 0 where
-      pub service : p.at.service ≡ h.name
-      pub at_step : p.at.step ≡ step
-      pub at_top : p.at.top ≡ top
-      pub path : IsPathOf p.at.path.links top step
-      pub opening : IsOpeningOf step p.at.opening
-      pub at_index : p.event.index ≡ index
-      pub event : slice_get (events_at h step) index ≡ Some p.event.event
-      pub event_path : p.event.path ≡ audit_path dig (events_at h step) index
+      pub at : IsPartOf step top p.at
+      pub inside : index < length (events_at h step)
+      pub event : p.event ≡ event_part dig (events_at h step) index
 
     -- the bytes spell that proof
     abbrev pub MakesExistence : List ℕ → Type 0

@@ -8,16 +8,26 @@ ghost use Rattle.tw_base.specs.Taking.{Takes};
 ghost use Rattle.tw_skipproof.specs.Codecs.{event_codec, existence_body, existence_codec, part_codec};
 ghost use Rattle.tw_skipproof.specs.Existence.{IsExistenceInRange, IsShaped, existence_layout};
 
-use crate::existence::{EventPart, ExistenceProof, Part};
+use crate::existence::{ExistenceProof, Part};
 use crate::reading::{take_opening, take_path};
 use std::alloc::Global;
 use tw_base::limits::{LAST_STEP, MOST_EVENT_BYTES};
 use tw_base::{
-    ReadFault, path_length, take_labels, take_name, take_number, take_sized, take_text, whole_to,
+    EventPart, ReadFault, path_length, take_labels, take_name, take_number, take_sized, take_text,
+    whole_to,
 };
 
-/// How an existence proof begins: the four bytes `TWP1` and the kind 1.
-pub(crate) const MAGIC: [u8; 5] = [0x54, 0x57, 0x50, 0x31, 1];
+/// How each proof begins: the four bytes `TWP1`.
+pub const PROOF_MAGIC: [u8; 4] = *b"TWP1";
+
+/// How an existence proof begins: those four and the kind 1.
+pub(crate) const MAGIC: [u8; 5] = [
+    PROOF_MAGIC[0],
+    PROOF_MAGIC[1],
+    PROOF_MAGIC[2],
+    PROOF_MAGIC[3],
+    1,
+];
 
 /// Takes the event under an opening with this count of events.
 pub(crate) fn take_event(

@@ -16,8 +16,8 @@ mod tail_waiting;
 mod writing;
 
 pub use climbing::climb;
-pub use existence::{EventPart, ExistenceProof, Part};
-pub use existence_reading::{read_existence, take_existence_body, take_part};
+pub use existence::{ExistenceProof, Part};
+pub use existence_reading::{PROOF_MAGIC, read_existence, take_existence_body, take_part};
 pub use hop::next_hop;
 pub use laws::{making_laws, spelling_laws};
 pub use least::{LEAST_AUTHENTICATOR, LEAST_EXISTENCE};

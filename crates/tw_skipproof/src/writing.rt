@@ -13,13 +13,14 @@ ghost use Rattle.tw_skipproof.specs.Existence.{IsExistenceInRange, IsShaped, exi
 ghost use Rattle.tw_skipproof.specs.Paths.{HasShape};
 ghost use Rattle.tw_skipproof.specs.Spelling.{FitsAsEvent, FitsAsLink, FitsAsOpening, FitsAsPart, FitsAsPath};
 
-use crate::existence::{EventPart, ExistenceProof, Part};
+use crate::existence::{ExistenceProof, Part};
 use crate::existence_reading::MAGIC;
 use crate::opening::Opening;
 use crate::path::{Link, Path};
 use std::alloc::Global;
 use tw_base::{
-    Bytes, NoMemory, put_digest, put_labels, put_name, put_number, put_sized, put_text, put_time,
+    Bytes, EventPart, NoMemory, put_digest, put_labels, put_name, put_number, put_sized, put_text,
+    put_time,
 };
 
 /// No bytes, with room for so many.
