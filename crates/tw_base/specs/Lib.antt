@@ -5,6 +5,7 @@ pub mod Bytes
 pub mod HasherSteps
 pub mod Digests
 pub mod Entries
+pub mod Asking
 pub mod Clash
 pub mod Lists
 pub mod EventTree

@@ -33,6 +33,7 @@ mod step_events;
 mod taking;
 mod thread;
 mod time;
+mod tree_proof;
 mod writers;
 
 pub use anchor::find_anchor;
@@ -71,4 +72,5 @@ pub use taking::{
 };
 pub use thread::{Entries, Entry, Key, Place, Thread, Threads, compare_keys, entry_key};
 pub use time::{put_time, take_time};
+pub use tree_proof::{Ancestor, AncestorList, Ask, TreeProof};
 pub use writers::{put_bytes, put_digest, put_labels, put_name, put_number, put_sized, put_text};

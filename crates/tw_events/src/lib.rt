@@ -10,6 +10,3 @@ pub use check::{check_event, root_above_leaf};
 pub use path::event_path;
 pub use root::event_root;
 pub use showing::{event_part, root_over};
-
-#[cfg(test)]
-mod tests;

@@ -15,8 +15,6 @@ mod sizes;
 mod soundness;
 mod step;
 mod step_digests;
-#[cfg(test)]
-mod tests;
 mod writing;
 
 pub use authenticators::auth_of;

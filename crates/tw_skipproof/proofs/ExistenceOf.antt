@@ -29,37 +29,12 @@ use Rattle.tw_skipproof.specs.HistoryProofs.{IsExistenceOf, IsPartOf, IsPathOf, 
 use Rattle.tw_skipproof.specs.Openings.{IsOpeningAt, opening_auth}
 use Rattle.tw_skipproof.specs.Paths.{HasShape, climbed, hop}
 use Rattle.tw_skipproof.specs.Spelling.{FitsAsEvent, FitsAsLink, FitsAsOpening}
-use Rattle.tw_skipproof.proofs.LawfulCodecs.{count-fits, existence-fits, existence-lawful}
-use Rattle.tw_skipproof.proofs.OwnPaths.{opening-of, path-of}
-
--- ---- the part of a step
+use Rattle.tw_skipproof.proofs.LawfulCodecs.{existence-fits, existence-lawful}
+use Rattle.tw_skipproof.proofs.PartOf.{part-fits-made, part_in_range-few, part_shaped-made, reaches-made}
 
 from_step_1 : (h : History) (step index : ℕ) → index < length (events_at h step) → 0 < step
 from_step_1 h zero index inside = absurd (omega (arith, inside))
 from_step_1 h (suc i) index inside = omega arith
-
-module _ (dig : List ℕ → List ℕ) (h : History) (step top : ℕ) (at : Part) (is : IsPartOf dig h step top at) (from_1 : 0 < step) (order : step ≤ top) where
-  opens : IsOpeningAt step at.opening × (opening_auth dig step at.opening ≡ auth dig h step)
-  opens = opening-of dig h step at.opening from_1 is.opening
-
-  pub opening_at : IsOpeningAt at.step at.opening
-  opening_at = subst (λ s. IsOpeningAt s at.opening) (sym is.at_step) opens.0
-
-  pub path_shape : HasShape at.path.links at.top at.step
-  path_shape =
-      subst (HasShape at.path.links at.top) (sym is.at_step)
-      (subst (λ t. HasShape at.path.links t step) (sym is.at_top) (path-of dig h at.path.links top step order is.path).0)
-
-  -- it leads to the history's own authenticator of the top
-  pub part-reaches : Reaches dig at (auth dig h top)
-  part-reaches = record {
-    opening = opening_at;
-    path = record {
-      shape = path_shape;
-      reaches = (λ k. climbed dig at.path.links (is.at_top k) (is.at_step k) (opening_auth dig (is.at_step k) at.opening))
-          ∙ ap (climbed dig at.path.links top step) opens.1 ∙ (path-of dig h at.path.links top step order is.path).1;
-    };
-  }
 
 -- ---- the proof that a history has
 
@@ -84,7 +59,7 @@ module _ (dig : List ℕ → List ℕ) (h : History) (step index top : ℕ) (p :
   pub accepted-made : step ≤ top → IsAcceptedUnder dig (auth dig h top) p
   accepted-made order = record {
     order = omega (arith, order, is.at.at_step, is.at.at_top);
-    path = part-reaches dig h step top p.at is.at from_1 order;
+    path = reaches-made dig h step top p.at is.at from_1 order;
     event = shows_event;
   }
 
@@ -92,23 +67,12 @@ module _ (dig : List ℕ → List ℕ) (h : History) (step index top : ℕ) (p :
   event_within P default all = subst (λ (e : EventPart). P e.event) (sym is.event) (Each-get_or P events index [] default all)
 
   pub IsShaped-made : step ≤ top → IsShaped p
-  IsShaped-made order =
-      let opening = opening_at dig h step top p.at is.at from_1 order in
-      record {
-        step = opening.0;
-        top = omega (arith, order, from_1, is.at.at_top);
-        path = path_shape dig h step top p.at is.at from_1 order;
-        opening = opening.1;
-        event = shows_event.size;
-      }
+  IsShaped-made order = record { at = part_shaped-made dig h step top p.at is.at from_1 order; event = shows_event.size }
 
   -- where the steps, the events and the time are within their limits
   pub in_range-few : step ≤ top → top ≤ LAST_STEP → length events ≤ MOST_EVENTS → Each (λ event. length event ≤ MOST_EVENT_BYTES) events → IsTimeWithinLimits p.at.opening.time → IsExistenceInRange p
   in_range-few order short few sizes time = record {
-    step = omega (arith, order, short, is.at.at_step);
-    top = omega (arith, short, is.at.at_top);
-    count = omega (arith, few, is.at.opening.binds.count);
-    time = time;
+    at = part_in_range-few dig h step top p.at is.at order short few time;
     index = shows_event.inside;
     event = event_within (λ e. length e ≤ MOST_EVENT_BYTES) (lit≤ tt) sizes;
   }
@@ -129,37 +93,6 @@ module _ (dig : List ℕ → List ℕ) (h : History) (step index top : ℕ) (p :
   -- ---- its digests are bytes
 
   module _ (size : (text : List ℕ) → length (dig text) ≡ 32) (are : (text : List ℕ) → AreBytes (dig text)) where
-    own_labels : (n : ℕ) → Each IsDigest (labels_at dig h n)
-    own_labels n = map-digests dig size are _
-
-    links-fit : (links : List Link) (from to : ℕ) → IsPathOf dig h links from to → Each FitsAsLink links
-    unfolding link_codec seen pair bytes_codec labels_codec many
-    links-fit [] from to made = tt
-    links-fit (link ∷ links) from to made = (
-      λ step count. (
-        subst IsDigest (sym made.1) (dig-digest dig size are _),
-        (count, subst (Each IsDigest) (sym made.2) (Each-remove IsDigest (labels_at dig h from) _ (own_labels from))),
-      ),
-      links-fit links (hop from to) to made.3,
-    )
-
-    opening-fits : FitsAsOpening p.at.opening
-    unfolding opening_codec seen pair bytes_codec labels_codec many
-    opening-fits least at count low few time =
-        let binds = is.at.opening.binds in (
-          subst IsDigest binds.event_root (event_root-digest dig size are _),
-          (
-            subst IsDigest binds.archive_root (tree_label-digest dig size are _),
-            (
-              count-fits least p.at.opening.count p.at.opening.time low few time,
-              (
-                subst IsDigest binds.prev (auth-digest dig size are h (step - 1)),
-                (count, subst (Each IsDigest) (sym is.at.opening.others) (Each-drop IsDigest 1 (labels_at dig h step) (own_labels step))),
-              ),
-            ),
-          ),
-        )
-
     event-fits : IsSound h → FitsAsEvent p.event
     unfolding event_codec seen pair number_codec sized_codec by_kind labels_codec many bytes_codec
     event-fits sound count inside short labels =
@@ -174,6 +107,5 @@ module _ (dig : List ℕ → List ℕ) (h : History) (step index top : ℕ) (p :
     -- what is written of it spells it
     pub spelled-made : IsSound h → step ≤ top → top ≤ length h.steps → Spells existence_layout (existence_bytes p) p
     spelled-made sound order has =
-        let name_is : IsName p.at.service = subst IsName (sym is.at.service) sound.name in
         existence-lawful.spells p
-        (existence-fits p (in_range-made sound order has) (IsShaped-made order) name_is (links-fit p.at.path.links top step is.at.path) opening-fits (event-fits sound))
+        (existence-fits p (in_range-made sound order has) (IsShaped-made order) (part-fits-made dig h size are step top p.at is.at sound) (event-fits sound))

@@ -21,20 +21,27 @@ existence_bytes = existence_codec.write
 abbrev pub existence_of_part : (dig : List ℕ → List ℕ) → Part → (events : List (List ℕ)) → (index : ℕ) → ExistenceProof
 existence_of_part dig at events index = record { at = at; event = event_part dig events index }
 
--- the ranges that the format gives the numbers and the event
+-- the ranges that the format gives the numbers of a step under a top
+pub record IsPartInRange (p : Part) : Type 0 where
+  pub step : p.step ≤ LAST_STEP
+  pub top : p.top ≤ LAST_STEP
+  pub count : p.opening.count ≤ MOST_EVENTS
+  pub time : IsTimeWithinLimits p.opening.time
+
+-- and those of an existence proof and its event
 pub record IsExistenceInRange (p : ExistenceProof) : Type 0 where
-  pub step : p.at.step ≤ LAST_STEP
-  pub top : p.at.top ≤ LAST_STEP
-  pub count : p.at.opening.count ≤ MOST_EVENTS
-  pub time : IsTimeWithinLimits p.at.opening.time
+  pub at : IsPartInRange p.at
   pub index : p.event.index < p.at.opening.count
   pub event : length p.event.event ≤ MOST_EVENT_BYTES
 
--- the path, the opening and the event of a proof have the links and the numbers of labels that its steps, its count of
--- events and its index give them
+-- the path and the opening have the links and the numbers of labels that the steps give them
+pub record IsPartShaped (p : Part) : Type 0 where
+  pub step : 0 < p.step
+  pub top : 0 < p.top
+  pub path : HasShape p.path.links p.top p.step
+  pub opening : length p.opening.others ≡ top_level p.step
+
+-- and the event's path the number of labels that its index and the count of events give it
 pub record IsShaped (p : ExistenceProof) : Type 0 where
-  pub step : 0 < p.at.step
-  pub top : 0 < p.at.top
-  pub path : HasShape p.at.path.links p.at.top p.at.step
-  pub opening : length p.at.opening.others ≡ top_level p.at.step
+  pub at : IsPartShaped p.at
   pub event : length p.event.path ≡ path_length p.at.opening.count p.event.index

@@ -1,4 +1,4 @@
--- The openings, paths and existence proofs that a history itself has.
+-- The openings, paths, parts and existence proofs that a history itself has.
 use Rattle.std.specs.Prelude.{◌≡◌, ℕ, ◌-◌, ◌<◌, ◌≤◌, List, [], ◌∷◌, length, drop, map, remove}
 use Rattle.tw_base.specs.EventParts.{event_part}
 use Rattle.tw_base.specs.Formats.{Spells}
@@ -29,13 +29,14 @@ module _ (dig : List ℕ → List ℕ) (h : History) where
       (to < from) × (link.datum ≡ dig (datum_text_at dig h from)) × (link.others ≡ remove (labels_at from) (hop_level from to))
       × IsPathOf links (hop from to) to
 
-  -- the part of the step under this top: the history's name, its path from the top down to the step, and its opening of the step
-  pub record IsPartOf (step top : ℕ) (at : Part) : Type 0 where
-    pub service : at.service ≡ h.name
-    pub at_step : at.step ≡ step
-    pub at_top : at.top ≡ top
-    pub path : IsPathOf at.path.links top step
-    pub opening : IsOpeningOf step at.opening
+  -- the part that the history has of a step under a top: the history's name, its path from the top down to the step, and its
+  -- opening of the step
+  pub record IsPartOf (step top : ℕ) (p : Part) : Type 0 where
+    pub service : p.service ≡ h.name
+    pub at_step : p.step ≡ step
+    pub at_top : p.top ≡ top
+    pub path : IsPathOf p.path.links top step
+    pub opening : IsOpeningOf step p.opening
 
   module _ (step index top : ℕ) where
     -- the proof that the history has of its event at this index of the step, under this top: the part of the step, and
