@@ -28,12 +28,16 @@ abbrev pub parts_of : TreeProof → PresentParts
 parts_of (Present left right up) = (left, (right, up))
 parts_of (Gap up) = ([], ([], up))
 
--- a proof of an entry: the number of the nodes above it, the labels of both sides of its node, and the nodes, nearest first
+-- both labels, and so many nodes, nearest first; and these behind the number of the nodes
+abbrev pub parts_codec : ℕ → Codec PresentParts
+parts_codec n = pair digest_codec (λ left. pair digest_codec (λ right. many n ancestor_codec))
+
+abbrev pub counted_parts : Codec PresentParts
+counted_parts = by_kind (λ t. length t.1.1) (number_codec 1 0 MOST_ABOVE_ENTRY) parts_codec
+
+-- a proof of an entry: the number of the nodes above it, the labels of both sides of its node, and the nodes
 unfoldable pub present_codec : Codec TreeProof
-present_codec =
-    cased (λ t. Present t.0 t.1.0 t.1.1) parts_of
-    (by_kind (λ t. length t.1.1) (number_codec 1 0 MOST_ABOVE_ENTRY)
-    (λ n. pair digest_codec (λ left. pair digest_codec (λ right. many n ancestor_codec))))
+present_codec = cased (λ t. Present t.0 t.1.0 t.1.1) parts_of counted_parts
 
 -- a proof of an empty place: the number of the nodes above it, and the nodes, nearest first
 unfoldable pub gap_codec : Codec TreeProof

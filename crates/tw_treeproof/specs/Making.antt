@@ -13,7 +13,6 @@ use Rattle.tw_base.specs.Tree.{Tree, entries}
 use Rattle.tw_base.specs.Tree.Tree.{Empty, Branch}
 use Rattle.tw_treeproof.specs.declared.making.ProveFault.{ProveFault}
 use Rattle.tw_treeproof.specs.declared.making.ProveFault.TheVariants.{Untrue, NoMemory}
-use Rattle.tw_treeproof.specs.Answers.{ancestors_of}
 use Rattle.tw_treeproof.specs.Ways.{has_asked_key, is_left}
 
 -- the most nodes on a way down
@@ -39,28 +38,24 @@ module _ (dig : List ℕ → List ℕ) where
       if has_asked_key ask e then []
       else (if is_left ask e then way_up ask left ++ ancestor e right ∷ [] else way_up ask right ++ ancestor e left ∷ [])
 
-  -- the proof is of this place: of the asked entry's node, or of an empty place
-  abbrev pub IsOfPlace : Ask → (place : Tree) → TreeProof → Type 0
-  IsOfPlace (Present e) (Branch l f r) (OfEntry left right up) = (e ≡ f) × (left ≡ tree_label dig l) × (right ≡ tree_label dig r)
-  IsOfPlace (Absent key) Empty (Gap up) = Unit {0}
-  IsOfPlace (Below key) Empty (Gap up) = Unit {0}
-  IsOfPlace (Above key) Empty (Gap up) = Unit {0}
-  IsOfPlace ask place proof = ⊥
+  -- the proof of a place below these nodes
+  abbrev pub proof_at : (place : Tree) → List Ancestor → TreeProof
+  proof_at Empty up = Gap up
+  proof_at (Branch left e right) up = OfEntry (tree_label dig left) (tree_label dig right) up
 
   -- the proof that the tree has
-  pub record IsProofOf (t : Tree) (ask : Ask) (proof : TreeProof) : Type 0 where
-    pub place : IsOfPlace ask (place_of ask t) proof
-    pub way : ancestors_of proof ≡ way_up ask t
+  abbrev pub proof_of : Tree → Ask → TreeProof
+  proof_of t ask = proof_at (place_of ask t) (way_up ask t)
 
 -- what is asked is so of the entries; that there is an entry next to a key, or none, always is
-abbrev pub IsTrue : List Entry → Ask → Type 0
-IsTrue es (Present e) = entry_with es (key_of e) ≡ Some e
-IsTrue es (Absent key) = entry_with es key ≡ None
-IsTrue es (Below key) = Unit {0}
-IsTrue es (Above key) = Unit {0}
+abbrev pub IsSo : List Entry → Ask → Type 0
+IsSo es (Present e) = entry_with es (key_of e) ≡ Some e
+IsSo es (Absent key) = entry_with es key ≡ None
+IsSo es (Below key) = Unit {0}
+IsSo es (Above key) = Unit {0}
 
--- what is asked is so, and this is the tree's proof; or it is untrue. Want of memory is free
+-- what is asked is so, and this is the tree's proof; or it isn't so. Want of memory is free
 abbrev pub Proves : (dig : List ℕ → List ℕ) → Tree → Ask → Result TreeProof ProveFault → Type 0
-Proves dig t ask (Ok proof) = IsTrue (entries t) ask × IsProofOf dig t ask proof
-Proves dig t ask (Err Untrue) = IsTrue (entries t) ask → ⊥
+Proves dig t ask (Ok proof) = IsSo (entries t) ask × (proof ≡ proof_of dig t ask)
+Proves dig t ask (Err Untrue) = IsSo (entries t) ask → ⊥
 Proves dig t ask (Err NoMemory) = Unit {0}

@@ -7,9 +7,9 @@ ghost use Rattle.tw_base.specs.Entries.{IsFit};
 ghost use Rattle.tw_base.specs.HistoryTexts.{tree_texts};
 ghost use Rattle.tw_base.specs.Lists.{Each};
 ghost use Rattle.tw_base.specs.Tree.{IsRisingTree, Tree, entries};
-ghost use Rattle.tw_treeproof.specs.Answers.{IsAnswer, Shows, answer_of, proof_texts};
+ghost use Rattle.tw_treeproof.specs.Answers.{IsAnswer, Shows, ancestors_of, answer_of, asks_entry, is_of_entry, place_text, proof_texts};
 ghost use Rattle.tw_treeproof.specs.Ways.{IsFree, climbed, is_left, nearest_left, nearest_right, over_text};
-ghost use Rattle.tw_treeproof.specs.Sizes.{HasProofSizes, HasSizes};
+ghost use Rattle.tw_treeproof.specs.Sizes.{HasPlaceSizes, HasProofSizes, HasSizes};
 ghost use Rattle.tw_treeproof.specs.declared.shown.Shown.TheVariants.{Wrong};
 
 use crate::shown::Shown;
@@ -97,7 +97,9 @@ fn answer(ask: &Ask, ancestors: &[Ancestor]) -> Shown
 /// The label of the asked place and the nodes above it; none where the proof isn't of the kind that
 /// the question asks for.
 fn place_under<'a, H: Hasher>(ask: &Ask, proof: &'a TreeProof) -> Option<(Digest, &'a [Ancestor])>
-    ensures { StartsAt H.dig ask.now proof.now result }
+    ensures answer { MatchOption result (is_of_entry proof.now ≡ asks_entry ask.now → ⊥)
+        (λ p. (is_of_entry proof.now ≡ asks_entry ask.now) × (p.0 ≡ H.dig (place_text ask.now proof.now)) × (p.1.now ≡ ancestors_of proof.now)) }
+    ensures sizes { IfSome result (λ _. HasPlaceSizes ask.now proof.now) }
 {
     match (ask, proof) {
         (

@@ -11,8 +11,7 @@ ghost use Rattle.tw_base.specs.Tree.{IsRising, Tree, entries};
 ghost use Rattle.tw_treeproof.specs.declared.limits.TheConstants.{MOST_ABOVE_PLACE};
 ghost use Rattle.tw_treeproof.specs.Answers.{Checks, IsAnswer, ancestors_of, answer_of, asks_entry};
 ghost use Rattle.tw_treeproof.specs.Codecs.{entry_codec, gap_codec, present_codec, tree_proof_codec};
-ghost use Rattle.tw_treeproof.specs.Limits.{IsEntryInRange, IsProofInRange};
-ghost use Rattle.tw_treeproof.specs.Making.{IsProofOf, IsTrue, height};
+ghost use Rattle.tw_treeproof.specs.Making.{IsSo, height, proof_of};
 
 use tw_base::Hasher;
 
@@ -31,18 +30,16 @@ pub fn tree_proof_spelling_laws()
     ensures gap_size { (bytes : List ℕ) (p : TreeProof) → Spells gap_codec.format bytes p → length bytes ≤ 12289 }
 {}
 
-/// A tree's own proof checks under the tree's label, and shows the answer of its entries; where no
-/// way down has more than 128 nodes, it has a spelling.
+/// A tree's own proof of what is so checks under the tree's label, and shows the answer of its
+/// entries; where no way down has more than 128 nodes, it has a spelling.
 pub fn tree_proof_laws<H: Hasher>()
-    // The proof that a tree has of what is so checks under the label of the tree.
-    ensures checks { (t : Tree) (ask : Ask) (p : TreeProof) → IsRising (entries t) → IsProofOf H.dig t ask p →
-        Checks H.dig (tree_label H.dig t) ask p }
+    // The proof that a tree has of what is so of its entries checks under the label of the tree.
+    ensures checks { (t : Tree) (ask : Ask) → IsRising (entries t) → IsSo (entries t) ask →
+        Checks H.dig (tree_label H.dig t) ask (proof_of H.dig t ask) }
     // It shows the answer of the tree's entries.
-    ensures answers { (t : Tree) (ask : Ask) (p : TreeProof) → IsRising (entries t) → IsProofOf H.dig t ask p →
-        IsAnswer (entries t) ask (answer_of ask (ancestors_of p)) }
-    // A tree has a proof of what is so, and one only.
-    ensures has { (t : Tree) (ask : Ask) → IsRising (entries t) → IsTrue (entries t) ask → (p : TreeProof) × IsProofOf H.dig t ask p }
-    // Where no way down has more than 128 nodes, and the entries are within their limits, the proof has a spelling.
-    ensures fits { (t : Tree) (ask : Ask) (p : TreeProof) → height t ≤ MOST_ABOVE_PLACE → Each entry_codec.Fits (entries t) →
-        IsProofOf H.dig t ask p → (tree_proof_codec (asks_entry ask)).Fits p }
+    ensures answers { (t : Tree) (ask : Ask) → IsRising (entries t) → IsSo (entries t) ask →
+        IsAnswer (entries t) ask (answer_of ask (ancestors_of (proof_of H.dig t ask))) }
+    // Where no way down has more than 128 nodes, and the entries have spellings, the proof has one.
+    ensures fits { (t : Tree) (ask : Ask) → IsRising (entries t) → IsSo (entries t) ask → height t ≤ MOST_ABOVE_PLACE →
+        Each entry_codec.Fits (entries t) → (tree_proof_codec (asks_entry ask)).Fits (proof_of H.dig t ask) }
 {}

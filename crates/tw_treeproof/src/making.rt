@@ -1,15 +1,15 @@
 // Making a proof over a tree in memory.
 
-ghost use Rattle.std.specs.Prelude.{◌≡◌, ◌≤◌, IfOk};
+ghost use Rattle.std.specs.Prelude.{◌≡◌, ◌≤◌, ◌↔◌, IfOk, IsTrue};
 ghost use Rattle.tw_base.specs.Tree.{IsRising, entries};
 ghost use Rattle.tw_tree.specs.TreeMeaning.{tree_of};
-ghost use Rattle.tw_treeproof.specs.Making.{Proves, height, place_of, way_up};
+ghost use Rattle.tw_treeproof.specs.Making.{IsSo, Proves, height, place_of, proof_at as proof_of_place, way_up};
 ghost use Rattle.tw_treeproof.specs.declared.limits.TheConstants.{MOST_ABOVE_PLACE};
 
 use crate::way::{goes_left, meets};
 use std::alloc::Global;
-use tw_base::{Ancestor, AncestorList, Ask, Hasher, NoMemory, TreeProof};
-use tw_tree::{Tree, label};
+use tw_base::{Ancestor, AncestorList, Ask, Hasher, NoMemory, TreeProof, entry_key};
+use tw_tree::{Tree, get, label};
 
 /// Why no proof is made.
 #[derive(Clone, Copy, PartialEq, Eq, Debug, Drop)]
@@ -32,6 +32,7 @@ impl From<NoMemory> for ProveFault {
 }
 
 /// The part of the tree at the asked place.
+#[tactic(auto, unfolding(crate::specs::Making::place_of))]
 fn place<'a>(tree: &'a Tree, ask: &Ask) -> &'a Tree
     ensures { tree_of result.now ≡ place_of ask.now (tree_of tree.now) }
 {
@@ -69,6 +70,32 @@ fn nodes_above<H: Hasher>(
     }
 }
 
+/// The proof of a place below these nodes.
+fn proof_at<H: Hasher>(place: &Tree, ancestors: AncestorList) -> TreeProof
+    ensures { result ≡ proof_of_place H.dig (tree_of place.now) ancestors }
+{
+    match place {
+        Tree::Empty => TreeProof::Gap { ancestors },
+        Tree::Branch { left, right, .. } => TreeProof::Present {
+            left: label::<H>(left),
+            right: label::<H>(right),
+            ancestors,
+        },
+    }
+}
+
+/// Whether what is asked is so of the tree.
+fn is_so(tree: &Tree, ask: &Ask) -> bool
+    requires { IsRising (entries (tree_of tree.now)) }
+    ensures { IsTrue result ↔ IsSo (entries (tree_of tree.now)) ask.now }
+{
+    match ask {
+        Ask::Present(asked) => get(tree, &entry_key(asked)) == Some(*asked),
+        Ask::Absent(key) => get(tree, key).is_none(),
+        Ask::Below(_) | Ask::Above(_) => true,
+    }
+}
+
 /// The proof that the tree has of the answer to the question. The tree's keys rise, and no way down
 /// has more than 128 nodes. `Untrue` exactly where the asked entry isn't there or the key that is
 /// said to be absent is; `NoMemory`: there was no memory. Each node is hashed at most once: those
@@ -80,17 +107,9 @@ pub fn prove<H: Hasher>(alloc: Global, tree: &Tree, ask: &Ask) -> Result<TreePro
     // has an entry, or lacks a key. That there is an entry next to a key, or none, always is. No command uses it yet.
     ensures { Proves H.dig (tree_of tree.now) ask.now result }
 {
-    match (ask, place(tree, ask)) {
-        (Ask::Present(asked), Tree::Branch { left, entry, right }) if entry == asked => {
-            Ok(TreeProof::Present {
-                left: label::<H>(left),
-                right: label::<H>(right),
-                ancestors: nodes_above::<H>(alloc, tree, ask)?,
-            })
-        }
-        (Ask::Absent(_) | Ask::Below(_) | Ask::Above(_), Tree::Empty) => Ok(TreeProof::Gap {
-            ancestors: nodes_above::<H>(alloc, tree, ask)?,
-        }),
-        _ => Err(ProveFault::Untrue),
+    if !is_so(tree, ask) {
+        return Err(ProveFault::Untrue);
     }
+    let ancestors = nodes_above::<H>(alloc, tree, ask)?;
+    Ok(proof_at::<H>(place(tree, ask), ancestors))
 }
