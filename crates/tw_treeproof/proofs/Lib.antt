@@ -1,3 +1,5 @@
 mod Climbs
-pub mod LawfulCodecs
 mod Counts
+pub mod LawfulCodecs
+pub mod Places
+pub mod Ways
