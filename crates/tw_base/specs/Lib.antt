@@ -10,6 +10,7 @@ pub mod Clash
 pub mod Lists
 pub mod EventTree
 pub mod AuditPath
+pub mod EventParts
 pub mod Holding
 pub mod History
 pub mod Tree

@@ -4,8 +4,6 @@
 
 mod inserting;
 mod searching;
-#[cfg(test)]
-mod tests;
 mod tree;
 
 pub use inserting::{InsertFault, insert_plain};

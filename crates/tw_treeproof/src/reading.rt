@@ -1,5 +1,5 @@
 // Reading tree proofs.
-#![tactic(auto, unfolding(crate::specs::Codecs::ancestor_codec, crate::specs::Codecs::entry_codec, tw_base::specs::Codecs::cased, tw_base::specs::Codecs::pair, tw_base::specs::Codecs::seen))]
+#![tactic(auto, unfolding(crate::specs::Codecs::ancestor_codec, crate::specs::Codecs::entry_codec, tw_base::specs::Codecs::variant, tw_base::specs::Codecs::pair, tw_base::specs::Codecs::seen))]
 
 ghost use Rattle.std.specs.Prelude.{◌≤◌, length};
 ghost use Rattle.tw_base.specs.Codecs.{counted, many};
