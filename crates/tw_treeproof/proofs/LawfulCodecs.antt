@@ -4,8 +4,8 @@ use Rattle.tw_base.specs.declared.limits.TheConstants.{LAST_STEP}
 use Rattle.tw_base.specs.declared.tree_proof.TreeProof.{TreeProof}
 use Rattle.tw_base.specs.declared.tree_proof.TreeProof.TheVariants.{Present, Gap}
 use Rattle.tw_base.specs.Codecs.{Codec, by_kind, counted, digest_codec, many, number_codec, pair}
-use Rattle.tw_base.proofs.CodecLaws.{Lawful, lawful, lawful-by_kind, lawful-cased, lawful-many, lawful-pair}
-use Rattle.tw_base.proofs.CodecSizes.{AtMost, at_most-by_kind, at_most-bytes, at_most-cased, at_most-counted, at_most-many, at_most-name, at_most-number, at_most-pair, at_most-seen}
+use Rattle.tw_base.proofs.CodecLaws.{Lawful, lawful, lawful-by_kind, lawful-variant, lawful-many, lawful-pair}
+use Rattle.tw_base.proofs.CodecSizes.{AtMost, at_most-by_kind, at_most-bytes, at_most-variant, at_most-counted, at_most-many, at_most-name, at_most-number, at_most-pair, at_most-seen}
 use Rattle.tw_base.specs.HistoryCodec.{thread_codec}
 use Rattle.tw_base.proofs.HistoryCodecLaws.{thread-lawful}
 use Rattle.tw_base.proofs.TakeLaws.{ManyTaken}
@@ -31,7 +31,7 @@ parts-count n t fits = fits.1.1.0
 pub present-lawful : Lawful present_codec
 unfolding present_codec
 present-lawful =
-    lawful-cased (λ t. Present t.0 t.1.0 t.1.1) parts_of _ (λ t. refl)
+    lawful-variant (λ t. Present t.0 t.1.0 t.1.1) parts_of _ (λ t. refl)
     (lawful-by_kind (λ (t : PresentParts). length t.1.1) (number_codec 1 0 MOST_ABOVE_ENTRY) parts_codec (search lawful) (λ n _. parts-lawful n) (λ n t _ fits. parts-count n t fits))
 
 pub gap-lawful : Lawful gap_codec
@@ -62,10 +62,10 @@ ancestor-most = at_most-seen _ _ _ 96 (at_most-pair _ _ 64 32 entry-most (λ _ _
 pub present-most : AtMost present_codec 12257
 unfolding present_codec number_codec
 present-most =
-    at_most-cased _ _ _ 12257 (at_most-by_kind _ _ parts_codec 1 12256 (at_most-number 1 0 MOST_ABOVE_ENTRY) (λ n f.
+    at_most-variant _ _ _ 12257 (at_most-by_kind _ _ parts_codec 1 12256 (at_most-number 1 0 MOST_ABOVE_ENTRY) (λ n f.
     at_most-pair _ _ 32 12224 (at_most-bytes 32) (λ _ _. at_most-pair _ _ 32 12192 (at_most-bytes 32) (λ _ _.
     at_most-many n 127 ancestor_codec 96 f.1 ancestor-most))))
 
 pub gap-most : AtMost gap_codec 12289
 unfolding gap_codec
-gap-most = at_most-cased _ _ _ 12289 (at_most-counted 1 0 128 ancestor_codec 96 ancestor-most)
+gap-most = at_most-variant _ _ _ 12289 (at_most-counted 1 0 128 ancestor_codec 96 ancestor-most)

@@ -3,3 +3,5 @@ mod Counts
 pub mod LawfulCodecs
 pub mod Places
 pub mod Ways
+pub mod OwnProofs
+mod Binding
