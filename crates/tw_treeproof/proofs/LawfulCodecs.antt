@@ -1,9 +1,11 @@
 -- The codecs of tree proofs are lawful; what fits them, and the greatest sizes of their words.
 use Rattle.std.proofs.Common.{◌≡◌, ℕ, suc, ◌+◌, ◌-◌, ◌*◌, ◌≤◌, ◌<◌, List, [], ◌∷◌, length, refl, ap, sym, ◌∙◌, subst, arith}
 use Rattle.tw_base.specs.declared.limits.TheConstants.{LAST_STEP}
+use Rattle.tw_base.specs.declared.thread.Entry.{Entry}
 use Rattle.tw_base.specs.declared.tree_proof.TreeProof.{TreeProof}
 use Rattle.tw_base.specs.declared.tree_proof.TreeProof.TheVariants.{Present, Gap}
-use Rattle.tw_base.specs.Codecs.{Codec, by_kind, counted, digest_codec, many, number_codec, pair}
+use Rattle.tw_base.specs.Codecs.{Codec, bytes_codec, digest_codec, many, name_codec, number_codec, pair, seen}
+use Rattle.tw_base.specs.Limits.{IsThread}
 use Rattle.tw_base.proofs.CodecLaws.{Lawful, lawful, lawful-by_kind, lawful-variant, lawful-many, lawful-pair}
 use Rattle.tw_base.proofs.CodecSizes.{AtMost, at_most-by_kind, at_most-bytes, at_most-variant, at_most-counted, at_most-many, at_most-name, at_most-number, at_most-pair, at_most-seen}
 use Rattle.tw_base.specs.HistoryCodec.{thread_codec}
@@ -69,3 +71,10 @@ present-most =
 pub gap-most : AtMost gap_codec 12289
 unfolding gap_codec
 gap-most = at_most-variant _ _ _ 12289 (at_most-counted 1 0 128 ancestor_codec 96 ancestor-most)
+
+-- ---- what fits
+
+-- a thread, and a step that may have archived it
+pub entry-fits : (e : Entry) → IsThread e.thread → 0 < e.archived → e.archived ≤ LAST_STEP → entry_codec.Fits e
+unfolding entry_codec thread_codec seen pair name_codec number_codec bytes_codec
+entry-fits e thread low high = ((thread.0, ((omega (arith, thread.1), thread.2), (thread.3, thread.4))), (omega (arith, low), high))
