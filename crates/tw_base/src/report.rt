@@ -1,8 +1,9 @@
 // What a verifier answers: the claim of an accepted proof, or the reason against it.
 
+use crate::digest::Digest;
 use crate::name::Name;
 use crate::sequence::Bytes;
-use crate::thread::Place;
+use crate::thread::{Entry, Key, Place};
 
 /// One step of a chain from service to service: step `archived` of service `by` received the
 /// thread of service `from` at step `step`.
@@ -28,6 +29,26 @@ pub struct Seen {
 pub enum Claim {
     /// The event stands at its place in the history of its service.
     Exists(Seen),
+    /// The entry's thread was received at its archived step of the service's history, which is at
+    /// most this step.
+    Archived {
+        service: Name,
+        step: u64,
+        entry: Entry,
+    },
+    /// No step of the service's history up to this one received a thread of this key.
+    Absent {
+        service: Name,
+        step: u64,
+        key: Key,
+    },
+    /// The service's history has this authenticator at this step, of 0 to the top.
+    Linked {
+        service: Name,
+        step: u64,
+        top: u64,
+        auth: Digest,
+    },
 }
 
 /// What is reported of an accepted proof.

@@ -1,6 +1,8 @@
 -- The existence proof that a history has of an event is accepted under anchors, and claims the event.
-use Rattle.std.proofs.Common.{◌≡◌, ℕ, ◌≤◌, List, length, sym, ◌∙◌, subst}
-use Rattle.std.specs.Prelude.{Some, None, slice_get}
+use Rattle.std.proofs.Common.{◌≡◌, ℕ, ◌≤◌, List, [], length, ap, sym, ◌∙◌, subst}
+use Rattle.std.specs.Prelude.{Some, slice_get}
+use Rattle.std.proofs.lemmas.Option.{get_or_from_slice_get}
+use Rattle.tw_base.specs.declared.event_part.EventPart.{EventPart}
 use Rattle.tw_base.specs.declared.thread.Thread.{Thread}
 use Rattle.tw_base.specs.declared.report.Claim.TheVariants as claims
 use Rattle.tw_base.specs.Anchors.{anchor_of}
@@ -20,27 +22,24 @@ use Rattle.tw_chain.specs.Claiming.{claim_at}
 use Rattle.tw_chain.specs.Proofs.{proof_layout}
 use Rattle.tw_chain.proofs.ProofCodec.{from_existence}
 
-same_event : (one other : List ℕ) → Some one ≡ Some other → one ≡ other
-same_event one other e = cc
-
 module _ (dig : List ℕ → List ℕ) (h : History) (step index top : ℕ) (p : ExistenceProof) (is : IsExistenceOf dig h step index top p) where
   -- it is accepted under the history's own authenticator of the top
   pub IsAccepted-made : (anchors : List Thread) (anchor : Thread) → step ≤ top → anchor_of anchors h.name top ≡ Some anchor → anchor.auth ≡ auth dig h top
       → IsAccepted dig anchors (Exists p)
   IsAccepted-made anchors anchor order held reached = record {
     anchor = anchor;
-    is_held = (λ k. anchor_of anchors (is.service k) (is.at_top k)) ∙ held;
+    is_held = (λ k. anchor_of anchors (is.at.service k) (is.at.at_top k)) ∙ held;
     accepted = subst (λ a. IsAcceptedUnder dig a p) (sym reached) (accepted-made dig h step index top p is order);
   }
 
   -- it claims that the event stands there
   pub claim_of-made : (event : List ℕ) → slice_get (events_at h step) index ≡ Some event → claim_of (Exists p) ≡ claim_at h step index event
   claim_of-made event there =
-      let same : p.event.event ≡ event = same_event p.event.event event (sym is.event ∙ there) in
+      let same : p.event.event ≡ event = ap (λ (e : EventPart). e.event) is.event ∙ get_or_from_slice_get (events_at h step) index event [] there in
       (λ k. claims.Exists (record {
-        place = record { service = is.service k; step = is.at_step k; index = is.at_index k };
+        place = record { service = is.at.service k; step = is.at.at_step k; index = (is.event k).index };
         event = same k;
-        time = sym is.opening.binds.time k;
+        time = sym is.at.opening.binds.time k;
       }))
 
   -- what is written of it spells it, and is accepted there

@@ -11,6 +11,3 @@ mod verdict;
 pub use laws::{completeness_laws, proof_laws};
 pub use proof::{Proof, read_proof};
 pub use verdict::{Verdict, verify};
-
-#[cfg(test)]
-mod tests;

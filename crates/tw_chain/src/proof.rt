@@ -7,10 +7,7 @@ ghost use Rattle.tw_chain.specs.Proofs.{IsInRange, proof_codec, proof_layout};
 
 use std::alloc::Global;
 use tw_base::{ReadFault, take_number, take_text, whole_to};
-use tw_skipproof::{ExistenceProof, take_existence_body};
-
-/// How each proof begins: the four bytes `TWP1`.
-const MAGIC: [u8; 4] = [0x54, 0x57, 0x50, 0x31];
+use tw_skipproof::{ExistenceProof, PROOF_MAGIC, take_existence_body};
 
 /// A proof, by its kind.
 #[derive(Drop, Debug)]
@@ -25,7 +22,7 @@ fn take_proof(alloc: Global, bytes: &[u8], at: &mut u64) -> Result<Proof, ReadFa
     requires { at.old ≤ length bytes.now }
     ensures { Takes proof_codec (λ p. p) bytes.now at.old at.new result }
 {
-    take_text(bytes, at, &MAGIC)?;
+    take_text(bytes, at, &PROOF_MAGIC)?;
     let _kind = take_number(bytes, at, 1, 1, 1)?;
     let proof = take_existence_body(alloc, bytes, at)?;
     Ok(Proof::Exists(proof))

@@ -15,8 +15,6 @@ mod path;
 mod refusal;
 mod report;
 mod store_forms;
-#[cfg(test)]
-mod tests;
 mod words;
 
 pub use anchor::{AnchorLine, anchor_line};

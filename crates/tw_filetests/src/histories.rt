@@ -1,0 +1,110 @@
+// Small history files, read, judged, written again and shown.
+
+use std::alloc::Global;
+use std::test::Fail;
+use tw_base::{Bytes, Digest, Name, NoMemory, Weak};
+use tw_history::{
+    History, HistoryFault, Nodes, Steps, auth_of, is_sound, read_history, show_event, write_history,
+};
+
+/// The file of the history of the service `a` with one step, of one event of no bytes.
+fn event_file() -> &'static [u8] {
+    b"TWH1a\0\0\0\0\0\0\0\0\0\0\0\0\0\0\0\0\0\0\0\0\0\0\x01\x01\0\0\0\x01\0\0\0\0\0\0\0\0\0\0"
+}
+
+/// The file of the history of the service `a` with one step, of one event of no bytes, at the time 5.
+fn timed_file() -> &'static [u8] {
+    b"TWH1a\0\0\0\0\0\0\0\0\0\0\0\0\0\0\0\0\0\0\0\0\0\0\x01\x03\0\0\0\0\0\0\0\x05\0\0\0\x01\0\0\0\0\0\0\0\0\0\0"
+}
+
+/// The file of the history of the service `a` with three steps without events, of which the first
+/// has the time 5, the second none, and the third the time 4.
+fn falling_file(alloc: Global) -> Result<Bytes, NoMemory> {
+    let mut file = Bytes::new(alloc);
+    file.extend_from_slice(b"TWH1a")?;
+    file.extend_from_slice(&[0; 22])?;
+    file.extend_from_slice(&[3, 3, 0, 0, 0, 0, 0, 0, 0, 5])?;
+    file.extend_from_slice(&[0; 10])?;
+    file.extend_from_slice(&[1])?;
+    file.extend_from_slice(&[0; 10])?;
+    file.extend_from_slice(&[3, 0, 0, 0, 0, 0, 0, 0, 4])?;
+    file.extend_from_slice(&[0; 10])?;
+    Ok(file)
+}
+
+/// The file of the history of the service `b` with one step, which received step 1 of the service
+/// `a`, with its node.
+fn thread_file(alloc: Global) -> Result<Bytes, NoMemory> {
+    let mut file = Bytes::new(alloc);
+    file.extend_from_slice(b"TWH1b")?;
+    file.extend_from_slice(&[0; 22])?;
+    file.extend_from_slice(&[1, 2, b'a'])?;
+    file.extend_from_slice(&[0; 22])?;
+    file.extend_from_slice(&[1])?;
+    file.extend_from_slice(&[7; 32])?;
+    file.extend_from_slice(&[0, 1, 0, 0, 0, 0, 0, 0, 0, 0, 0, 0, 0, 1])?;
+    file.extend_from_slice(&[0, 0, 0, 0, 0, 0, 0, 1])?;
+    Ok(file)
+}
+
+/// A digest of the weak hasher.
+fn short(first: u8) -> Digest {
+    let mut bytes = [0; 32];
+    bytes[0] = first;
+    Digest(bytes)
+}
+
+/// The history of a file, sound, and its file written anew.
+fn read_and_written(alloc: Global, file: &[u8]) -> Result<(History, Bytes), HistoryFault> {
+    let history = read_history(alloc, file)?;
+    is_sound(alloc, &history)?;
+    let written = write_history(alloc, &history)?;
+    Ok((history, written))
+}
+
+#[test]
+fn a_step_of_an_event(rt: HostRuntime) -> Result<(), Fail> {
+    let alloc = rt.alloc();
+    let (history, written) = read_and_written(alloc, event_file())?;
+    assert!(rt; written.as_slice() == event_file());
+    assert_eq!(rt; auth_of::<Weak>(alloc, &history, 1)?, Some(short(0xbf)));
+    assert!(rt; show_event::<Weak>(alloc, &history, 1, 0)?.len() == 145);
+    Ok(())
+}
+
+#[test]
+fn a_step_with_a_time(rt: HostRuntime) -> Result<(), Fail> {
+    let alloc = rt.alloc();
+    let (history, written) = read_and_written(alloc, timed_file())?;
+    assert!(rt; written.as_slice() == timed_file());
+    assert_eq!(rt; auth_of::<Weak>(alloc, &history, 1)?, Some(short(0xc7)));
+    assert!(rt; show_event::<Weak>(alloc, &history, 1, 0)?.len() == 153);
+    Ok(())
+}
+
+#[test]
+fn times_that_fall(rt: HostRuntime) -> Result<(), Fail> {
+    let file = falling_file(rt.alloc())?;
+    match read_history(rt.alloc(), file.as_slice()) {
+        Ok(_) => panic!(rt; "times that fall"),
+        Err(fault) => assert_eq!(rt; fault, HistoryFault::Unsound { step: 3, rule: 7 }),
+    }
+    Ok(())
+}
+
+#[test]
+fn a_step_of_a_thread(rt: HostRuntime) -> Result<(), Fail> {
+    let file = thread_file(rt.alloc())?;
+    let (_, written) = read_and_written(rt.alloc(), file.as_slice())?;
+    assert!(rt; written.as_slice() == file.as_slice());
+    Ok(())
+}
+
+#[test]
+fn no_step(rt: HostRuntime) -> Result<(), Fail> {
+    let alloc = rt.alloc();
+    let name = Name::read(b"a").ok_or("no name")?;
+    let history = History::new(name, Steps::new(alloc), Nodes::new(alloc));
+    assert!(rt; write_history(alloc, &history)?.len() == 28);
+    Ok(())
+}

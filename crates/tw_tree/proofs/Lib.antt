@@ -1,0 +1,4 @@
+pub mod KeyTests
+pub mod Asked
+mod Leaves
+mod Steps

@@ -1,0 +1,3 @@
+mod Climbs
+pub mod LawfulCodecs
+mod Counts
