@@ -7,7 +7,7 @@ ghost use Rattle.tw_base.specs.declared.limits.TheConstants.{MOST_EVENT_BYTES};
 use std::alloc::Global;
 use std::test::Fail;
 use tw_base::{Bytes, EventList, NoMemory, Sha, event_leaf, event_node};
-use tw_events::{check_event, event_path, event_root};
+use tw_events::{check_event, event_part, event_path, event_root, root_over};
 
 /// Appends an event.
 fn add_event(alloc: Global, events: &mut EventList, bytes: &[u8]) -> Result<(), NoMemory>

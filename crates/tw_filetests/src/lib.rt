@@ -22,6 +22,8 @@ mod openings;
 #[cfg(test)]
 mod reading;
 #[cfg(test)]
+mod tree_proofs;
+#[cfg(test)]
 mod trees;
 #[cfg(test)]
 mod verdicts;

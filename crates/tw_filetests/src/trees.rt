@@ -1,9 +1,9 @@
-// Worked values of small trees, under the digest whose first byte is the sum of the text.
+// Small trees: worked values, under the digest whose first byte is the sum of the text, and what they have of keys.
 
 use std::process::Abort;
 use std::test::Fail;
-use tw_base::{Digest, Entry, Name, Thread, Weak};
-use tw_tree::{Tree, label, list};
+use tw_base::{Digest, Entry, Key, Name, Thread, Weak, entry_key};
+use tw_tree::{InsertFault, Tree, after, before, get, insert_plain, label, list};
 
 /// A digest of the weak hasher.
 fn short(first: u8) -> Digest {
@@ -40,5 +40,37 @@ fn entries_are_listed_in_order(rt: HostRuntime) -> Result<(), Fail> {
     let listed = list(alloc, &tree)?;
     assert_eq!(rt; listed.len(), 2);
     assert_eq!(rt; listed.as_slice()[0].thread.step, 1);
+    Ok(())
+}
+
+/// The step of the entry, 0 where there is none.
+fn step_of(entry: Option<Entry>) -> u64 {
+    match entry {
+        Some(entry) => entry.thread.step,
+        None => 0,
+    }
+}
+
+/// The key of a step of the service `a`.
+fn key_of(rt: &impl Abort, step: u64) -> Key {
+    entry_key(&entry_of(rt, step))
+}
+
+#[test]
+fn entries_are_put_in_their_places_and_found(rt: HostRuntime) -> Result<(), Fail> {
+    let alloc = rt.alloc();
+    let tree = insert_plain(alloc, &Tree::empty(), entry_of(&rt, 4))?;
+    let tree = insert_plain(alloc, &tree, entry_of(&rt, 2))?;
+    let tree = insert_plain(alloc, &tree, entry_of(&rt, 6))?;
+    let again = insert_plain(alloc, &tree, entry_of(&rt, 6));
+    assert!(rt; matches!(again, Err(InsertFault::Present)));
+    assert_eq!(rt; step_of(get(&tree, &key_of(&rt, 2))), 2);
+    assert_eq!(rt; step_of(get(&tree, &key_of(&rt, 5))), 0);
+    assert_eq!(rt; step_of(before(&tree, &key_of(&rt, 6))), 4);
+    assert_eq!(rt; step_of(before(&tree, &key_of(&rt, 2))), 0);
+    assert_eq!(rt; step_of(after(&tree, &key_of(&rt, 2))), 4);
+    assert_eq!(rt; step_of(after(&tree, &key_of(&rt, 6))), 0);
+    let listed = list(alloc, &tree)?;
+    assert_eq!(rt; listed.len(), 3);
     Ok(())
 }

@@ -34,7 +34,7 @@ pub find-none : (test : Entry → Bool) (es : List Entry) → Each (λ f. test f
 find-none test [] all = refl
 find-none test (e ∷ es) all = ap (λ b. cond b (Some e) (find test es)) all.0 ∙ find-none test es all.1
 
-or-none : (o : Option Entry) → option_or o None ≡ o
+pub or-none : (o : Option Entry) → option_or o None ≡ o
 or-none None = refl
 or-none (Some e) = refl
 

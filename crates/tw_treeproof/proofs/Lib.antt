@@ -1,3 +1,7 @@
 mod Climbs
-pub mod LawfulCodecs
 mod Counts
+pub mod LawfulCodecs
+pub mod Places
+pub mod Ways
+pub mod OwnProofs
+mod Binding

@@ -1,14 +1,14 @@
 -- The bytes of tree proofs.
-use Rattle.std.specs.Prelude.{ℕ, List, [], ◌∷◌, length, Bool}
+use Rattle.std.specs.Prelude.{ℕ, List, length, Bool, Option, Some, None}
 use Rattle.tw_base.specs.declared.limits.TheConstants.{LAST_STEP}
 use Rattle.tw_base.specs.declared.thread.Entry.{Entry}
 use Rattle.tw_base.specs.declared.tree_proof.Ancestor.{Ancestor}
 use Rattle.tw_base.specs.declared.tree_proof.TreeProof.{TreeProof}
 use Rattle.tw_base.specs.declared.tree_proof.TreeProof.TheVariants.{Present, Gap}
-use Rattle.tw_base.specs.Codecs.{Codec, by_kind, cased, choose, counted, digest_codec, many, number_codec, pair, seen}
+use Rattle.tw_base.specs.Codecs.{Codec, by_kind, choose, counted, digest_codec, many, number_codec, pair, seen, variant}
 use Rattle.tw_base.specs.HistoryCodec.{thread_codec}
 use Rattle.tw_treeproof.specs.declared.limits.TheConstants.{MOST_ABOVE_ENTRY, MOST_ABOVE_PLACE}
-use Rattle.tw_treeproof.specs.Answers.{ancestors_of, is_of_entry}
+use Rattle.tw_treeproof.specs.Answers.{is_of_entry}
 
 -- an entry, 64 bytes: a service, one of its steps from 1 on, its authenticator there, and the step from 1 on that archived it
 unfoldable pub entry_codec : Codec Entry
@@ -24,9 +24,9 @@ ancestor_codec = seen (λ t. record { entry = t.0; other = t.1 }) (λ a. (a.entr
 abbrev pub PresentParts : Type 0
 PresentParts = List ℕ × (List ℕ × List Ancestor)
 
-abbrev pub parts_of : TreeProof → PresentParts
-parts_of (Present left right up) = (left, (right, up))
-parts_of (Gap up) = ([], ([], up))
+abbrev pub parts_of : TreeProof → Option PresentParts
+parts_of (Present left right up) = Some (left, (right, up))
+parts_of (Gap up) = None
 
 -- both labels, and so many nodes, nearest first; and these behind the number of the nodes
 abbrev pub parts_codec : ℕ → Codec PresentParts
@@ -37,11 +37,15 @@ counted_parts = by_kind (λ t. length t.1.1) (number_codec 1 0 MOST_ABOVE_ENTRY)
 
 -- a proof of an entry: the number of the nodes above it, the labels of both sides of its node, and the nodes
 unfoldable pub present_codec : Codec TreeProof
-present_codec = cased (λ t. Present t.0 t.1.0 t.1.1) parts_of counted_parts
+present_codec = variant (λ t. Present t.0 t.1.0 t.1.1) parts_of counted_parts
+
+abbrev pub gap_of : TreeProof → Option (List Ancestor)
+gap_of (Present left right up) = None
+gap_of (Gap up) = Some up
 
 -- a proof of an empty place: the number of the nodes above it, and the nodes, nearest first
 unfoldable pub gap_codec : Codec TreeProof
-gap_codec = cased Gap ancestors_of (counted 1 0 MOST_ABOVE_PLACE ancestor_codec)
+gap_codec = variant Gap gap_of (counted 1 0 MOST_ABOVE_PLACE ancestor_codec)
 
 -- the one or the other
 abbrev pub tree_proof_codec : (of_entry : Bool) → Codec TreeProof

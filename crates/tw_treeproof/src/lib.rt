@@ -8,8 +8,6 @@ mod limits;
 mod making;
 mod reading;
 mod shown;
-#[cfg(test)]
-mod tests;
 mod way;
 mod writing;
 

@@ -1,10 +1,9 @@
 // Making a proof over a tree in memory.
 
-ghost use Rattle.std.specs.Prelude.{◌≡◌, ◌≤◌, ◌↔◌, IfOk, IsTrue};
+ghost use Rattle.std.specs.Prelude.{◌≡◌, ◌↔◌, IfOk, IsTrue};
 ghost use Rattle.tw_base.specs.Tree.{IsRising, entries};
 ghost use Rattle.tw_tree.specs.TreeMeaning.{tree_of};
-ghost use Rattle.tw_treeproof.specs.Making.{IsSo, Proves, height, place_of, proof_at as proof_of_place, way_up};
-ghost use Rattle.tw_treeproof.specs.declared.limits.TheConstants.{MOST_ABOVE_PLACE};
+ghost use Rattle.tw_treeproof.specs.Making.{IsSo, Proves, place_of, proof_at as proof_of_place, way_up};
 
 use crate::way::{goes_left, meets};
 use std::alloc::Global;
@@ -96,13 +95,13 @@ fn is_so(tree: &Tree, ask: &Ask) -> bool
     }
 }
 
-/// The proof that the tree has of the answer to the question. The tree's keys rise, and no way down
-/// has more than 128 nodes. `Untrue` exactly where the asked entry isn't there or the key that is
-/// said to be absent is; `NoMemory`: there was no memory. Each node is hashed at most once: those
-/// beside the way down.
+/// The proof that the tree has of the answer to the question. The tree's keys rise. Where no way down
+/// has more than 128 nodes, the proof can be written. `Untrue` exactly where the asked entry isn't
+/// there or the key that is said to be absent is; `NoMemory`: there was no memory. Each node is hashed
+/// once at most: those on the way aren't hashed. Calls itself once for each node of the way, and on
+/// its other sides as deep as they are high.
 pub fn prove<H: Hasher>(alloc: Global, tree: &Tree, ask: &Ask) -> Result<TreeProof, ProveFault>
-    requires rising { IsRising (entries (tree_of tree.now)) }
-    requires low { height (tree_of tree.now) ≤ MOST_ABOVE_PLACE }
+    requires { IsRising (entries (tree_of tree.now)) }
     // Of a tree whose keys rise the tree's own proof is made exactly where what is asked is so of its entries: that it
     // has an entry, or lacks a key. That there is an entry next to a key, or none, always is. No command uses it yet.
     ensures { Proves H.dig (tree_of tree.now) ask.now result }

@@ -1,5 +1,5 @@
 // Reading tree proofs.
-#![tactic(auto, unfolding(crate::specs::Codecs::ancestor_codec, crate::specs::Codecs::entry_codec, tw_base::specs::Codecs::variant, tw_base::specs::Codecs::pair, tw_base::specs::Codecs::seen))]
+#![tactic(auto, unfolding(crate::specs::Codecs::ancestor_codec, crate::specs::Codecs::entry_codec, tw_base::specs::Codecs::pair, tw_base::specs::Codecs::seen))]
 
 ghost use Rattle.std.specs.Prelude.{◌≤◌, length};
 ghost use Rattle.tw_base.specs.Codecs.{counted, many};
@@ -99,7 +99,7 @@ fn take_counted_parts(
 
 /// Takes a proof of an entry: the number of the nodes above it (at most 127), the labels of both
 /// sides of its node, and the nodes.
-#[tactic(auto, unfolding(crate::specs::Codecs::present_codec, tw_base::specs::Codecs::cased))]
+#[tactic(auto, unfolding(crate::specs::Codecs::present_codec, tw_base::specs::Codecs::variant))]
 pub fn take_present(alloc: Global, bytes: &[u8], at: &mut u64) -> Result<TreeProof, ReadFault>
     requires { at.old ≤ length bytes.now }
     // A proof of an entry is taken at a place exactly as its codec reads it; else the place of the first bad byte is
@@ -115,7 +115,7 @@ pub fn take_present(alloc: Global, bytes: &[u8], at: &mut u64) -> Result<TreePro
 }
 
 /// Takes a proof of an empty place: the number of the nodes above it (at most 128), and the nodes.
-#[tactic(auto, unfolding(crate::specs::Codecs::gap_codec, tw_base::specs::Codecs::cased))]
+#[tactic(auto, unfolding(crate::specs::Codecs::gap_codec, tw_base::specs::Codecs::variant))]
 pub fn take_gap(alloc: Global, bytes: &[u8], at: &mut u64) -> Result<TreeProof, ReadFault>
     requires { at.old ≤ length bytes.now }
     // A proof of an empty place is taken at a place exactly as its codec reads it; else the place of the first bad byte
