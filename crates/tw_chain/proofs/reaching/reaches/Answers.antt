@@ -1,5 +1,5 @@
-use Rattle.tw_chain.proofs.ClaimHolds.{reaches_bind}
-use Rattle.tw_chain.proofs.existing.reaches.Goals as goal
+use Rattle.tw_chain.proofs.PathBinds.{reaches_bind}
+use Rattle.tw_chain.proofs.reaching.reaches.Goals as goal
 
 pub returns-in-Some-climb-clause-binds : goal.returns-in-Some-climb-clause-binds
 returns-in-Some-climb-clause-binds g c = λ reaches h sound order within has.
