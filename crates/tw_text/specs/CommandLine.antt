@@ -2,7 +2,6 @@
 use Rattle.std.specs.Prelude.{◌≡◌, ℕ, ◌+◌, ◌-◌, ◌≤◌, List, [], ◌∷◌, ◌++◌, length, take, codes, Option, IsSome}
 use Rattle.std.specs.Result.{result_ok}
 use Rattle.tw_base.specs.declared.limits.TheConstants.{LAST_STEP}
-use Rattle.tw_base.specs.declared.thread.Thread.{Thread as Anchor}
 use Rattle.tw_text.specs.Forms.{Form, any_paths, at_most_paths, choose, digest, either, end, maybe, name, number, path}
 use Rattle.tw_text.specs.declared.command.Command.{Command}
 use Rattle.tw_text.specs.declared.command.Command.TheVariants.{Init, Append, Thread, Receive, ProveEvent, ProveThread, ProveAbsent, ProveLink, MapLow, MapHigh, Export, Show, Join, VerifyFile, VerifyOne, Strict, CheckMap, Audit, Replay, Generate}
@@ -19,10 +18,6 @@ any_number = number 0 0xffff_ffff_ffff_ffff
 -- the number of a step from 1 on
 abbrev pub step_number : (ℕ → Form) → Form
 step_number = number 1 LAST_STEP
-
--- an anchor as a name, a step and a digest
-abbrev pub anchor : (Anchor → Form) → Form
-anchor form = name (λ from. step_number (λ step. digest (λ auth. form (record { from = from; step = step; auth = auth }))))
 
 -- ---- forms behind their first word
 
@@ -85,7 +80,8 @@ unfoldable pub verify_file : (proof : List ℕ) → Form
 verify_file proof = path (λ anchors. end (VerifyFile proof anchors))
 
 unfoldable pub verify_one : (proof : List ℕ) → Form
-verify_one proof = anchor (λ anchor. end (VerifyOne proof anchor))
+verify_one proof =
+    name (λ from. step_number (λ step. digest (λ auth. end (VerifyOne proof (record { from = from; step = step; auth = auth })))))
 
 unfoldable pub verify : Form
 verify = path (λ proof. either (verify_file proof) (verify_one proof))

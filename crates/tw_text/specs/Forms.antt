@@ -14,30 +14,7 @@ Reading X = Result X ℕ
 abbrev pub Form : Type 0
 Form = List (List ℕ) → Reading Command
 
--- ---- parts: the value of one word, if it may stand there
-
--- a path: any word of at least one byte
-abbrev pub path_value : List ℕ → Option (List ℕ)
-path_value word = if nat_le 1 (length word) then Some word else None
-
--- the name of a service
-abbrev pub name_value : List ℕ → Option (List ℕ)
-name_value word = if is_name_text word then Some (padded_name word) else None
-
--- a number within a range
-abbrev pub number_value : (least most : ℕ) → List ℕ → Option ℕ
-number_value least most word = if is_number_within least most word then Some (word_number word) else None
-
--- a digest in hexadecimal digits of either case
-abbrev pub digest_value : List ℕ → Option (List ℕ)
-digest_value word = if is_digest word then Some (word_digest word) else None
-
--- a word of a table, which names the form that goes on
-abbrev pub form_named : List (List ℕ × Form) → List ℕ → Option Form
-form_named [] word = None
-form_named (row ∷ rows) word = if bytes_eq word row.0 then Some row.1 else form_named rows word
-
--- ---- forms
+-- ---- reading words
 
 module _ {V : Type 0} where
   -- the value of the first word, and the words behind it
@@ -56,21 +33,66 @@ module _ {V X : Type 0} where
   go_on (Ok taken) behind = behind taken.0 taken.1
   go_on (Err left) behind = Err left
 
+-- ---- one word, and then the form for its value
+
 module _ {V : Type 0} where
-  -- a word that has a value, and then the form for that value
   abbrev pub then_form : (part : List ℕ → Option V) → (V → Form) → Form
   then_form part form words = go_on (next part words) form
+
+-- a path: any word of at least one byte
+abbrev pub path_value : List ℕ → Option (List ℕ)
+path_value word = if nat_le 1 (length word) then Some word else None
+
+abbrev pub path : (List ℕ → Form) → Form
+path = then_form path_value
+
+-- the name of a service
+abbrev pub name_value : List ℕ → Option (List ℕ)
+name_value word = if is_name_text word then Some (padded_name word) else None
+
+abbrev pub name : (List ℕ → Form) → Form
+name = then_form name_value
+
+-- a number within a range
+abbrev pub number_value : (least most : ℕ) → List ℕ → Option ℕ
+number_value least most word = if is_number_within least most word then Some (word_number word) else None
+
+abbrev pub number : (least most : ℕ) → (ℕ → Form) → Form
+number least most = then_form (number_value least most)
+
+-- a digest in hexadecimal digits of either case
+abbrev pub digest_value : List ℕ → Option (List ℕ)
+digest_value word = if is_digest word then Some (word_digest word) else None
+
+abbrev pub digest : (List ℕ → Form) → Form
+digest = then_form digest_value
+
+-- a word of a table, which names the form
+abbrev pub form_named : List (List ℕ × Form) → List ℕ → Option Form
+form_named [] word = None
+form_named (row ∷ rows) word = if bytes_eq word row.0 then Some row.1 else form_named rows word
+
+abbrev pub choose : List (List ℕ × Form) → Form
+choose rows = then_form (form_named rows) (λ form. form)
+
+-- ---- the end of the words
 
 -- there are no more words
 unfoldable pub nothing : List (List ℕ) → Reading (Unit {0})
 nothing [] = Ok tt
 nothing (word ∷ words) = Err (suc (length words))
 
+abbrev pub end : Command → Form
+end command words = give (λ done. command) (nothing words)
+
 -- there is one more word, any number of 64 bits, or none
 unfoldable pub maybe_number : List (List ℕ) → Reading (Option ℕ)
 maybe_number [] = Ok None
 maybe_number (word ∷ words) =
     go_on (next (number_value 0 0xffff_ffff_ffff_ffff) (word ∷ words)) (λ number behind. give (λ done. Some number) (nothing behind))
+
+abbrev pub maybe : (Option ℕ → Command) → Form
+maybe command words = give command (maybe_number words)
 
 -- how many words, from the first on, are paths
 abbrev pub count_paths : List (List ℕ) → ℕ
@@ -81,7 +103,15 @@ count_paths (word ∷ words) = if nat_le 1 (length word) then suc (count_paths w
 unfoldable pub paths : (most : ℕ) → List (List ℕ) → Reading (List (List ℕ))
 paths most words = let taken = min most (count_paths words) in if taken == length words then Ok words else Err (length words - taken)
 
--- the command of the first of two forms that the words have; where they have none, as few words are left as the two allow
+abbrev pub at_most_paths : (most : ℕ) → (List (List ℕ) → Command) → Form
+at_most_paths most command words = give command (paths most words)
+
+abbrev pub any_paths : (List (List ℕ) → Command) → Form
+any_paths command words = at_most_paths (length words) command words
+
+-- ---- two forms
+
+-- the command of the first that the words have; where they have none, as few words are left as one of the two leaves
 abbrev pub either_reading : (one other : Reading Command) → Reading Command
 either_reading (Ok command) other = Ok command
 either_reading (Err left) (Ok command) = Ok command
@@ -89,33 +119,3 @@ either_reading (Err left) (Err other) = Err (min left other)
 
 abbrev pub either : (one other : Form) → Form
 either one other words = either_reading (one words) (other words)
-
--- ---- the parts of forms by their names
-
-abbrev pub path : (List ℕ → Form) → Form
-path = then_form path_value
-
-abbrev pub name : (List ℕ → Form) → Form
-name = then_form name_value
-
-abbrev pub number : (least most : ℕ) → (ℕ → Form) → Form
-number least most = then_form (number_value least most)
-
-abbrev pub digest : (List ℕ → Form) → Form
-digest = then_form digest_value
-
-abbrev pub choose : List (List ℕ × Form) → Form
-choose rows = then_form (form_named rows) (λ form. form)
-
-abbrev pub end : Command → Form
-end command words = give (λ done. command) (nothing words)
-
--- the last word is a number or left out
-abbrev pub maybe : (Option ℕ → Command) → Form
-maybe command words = give command (maybe_number words)
-
-abbrev pub at_most_paths : (most : ℕ) → (List (List ℕ) → Command) → Form
-at_most_paths most command words = give command (paths most words)
-
-abbrev pub any_paths : (List (List ℕ) → Command) → Form
-any_paths command words = at_most_paths (length words) command words
