@@ -10,8 +10,8 @@ use std::test::Fail;
 use tw_base::{Bytes, Digest, Entry, Name, ReadFault, Sha, Thread, Weak, entry_key, put_digest};
 use tw_tree::{Tree, insert_plain, label, list};
 use tw_treeproof::{
-    Ask, ProveFault, Shown, TreeProof, check, prove, put_entry, put_tree_proof, take_entry, take_gap,
-    take_present,
+    Ask, ProveFault, Shown, TreeProof, check, prove, put_entry, put_tree_proof, take_entry,
+    take_gap, take_present,
 };
 
 /// A digest of the weak hasher.
@@ -48,8 +48,14 @@ fn the_proof_of_an_only_entry(rt: HostRuntime) -> Result<(), Fail> {
     let mut at = 0;
     let read = take_present(alloc, bytes.as_slice(), &mut at)?;
     assert_eq!(rt; at, 65);
-    assert_eq!(rt; check::<Weak>(&short(0x5f), &Ask::Present(entry), &read), Shown::Present);
-    assert_eq!(rt; check::<Weak>(&short(0x5e), &Ask::Present(entry), &read), Shown::Wrong);
+    assert_eq!(rt;
+        check::<Weak>(&short(0x5f), &Ask::Present(entry), &read),
+        Shown::Present
+    );
+    assert_eq!(rt;
+        check::<Weak>(&short(0x5e), &Ask::Present(entry), &read),
+        Shown::Wrong
+    );
     Ok(())
 }
 
@@ -64,11 +70,20 @@ fn a_step_between_two_services_is_absent(rt: HostRuntime) -> Result<(), Fail> {
     put_tree_proof(&mut bytes, &proof)?;
     assert_eq!(rt; bytes.len(), 1 + 2 * 96);
     let mut at = 1;
-    assert_eq!(rt; take_entry(bytes.as_slice(), &mut at)?, entry_of(&rt, b"beta", 2));
+    assert_eq!(rt;
+        take_entry(bytes.as_slice(), &mut at)?,
+        entry_of(&rt, b"beta", 2)
+    );
     at = 97;
-    assert_eq!(rt; take_entry(bytes.as_slice(), &mut at)?, entry_of(&rt, b"alpha", 5));
+    assert_eq!(rt;
+        take_entry(bytes.as_slice(), &mut at)?,
+        entry_of(&rt, b"alpha", 5)
+    );
     let root = label::<Sha>(&tree);
-    assert_eq!(rt; check::<Sha>(&root, &Ask::Absent(key), &proof), Shown::Absent);
+    assert_eq!(rt;
+        check::<Sha>(&root, &Ask::Absent(key), &proof),
+        Shown::Absent
+    );
     let present = Ask::Present(entry_of(&rt, b"alpha", 6));
     assert_eq!(rt; check::<Sha>(&root, &present, &proof), Shown::Wrong);
     let refused = prove::<Sha>(alloc, &tree, &present);
@@ -99,10 +114,18 @@ fn answer_of(entries: &[Entry], ask: &Ask) -> Shown {
     for entry in entries {
         let key = entry_key(entry);
         match ask {
-            Ask::Present(asked) => if entry == asked { return Shown::Present; },
-            Ask::Absent(asked) => if key == *asked { return Shown::Wrong; },
-            Ask::Below(asked) => if key < *asked { nearest = Some(*entry); },
-            Ask::Above(asked) => if key > *asked { return Shown::Nearest(Some(*entry)); },
+            Ask::Present(asked) => if entry == asked {
+                return Shown::Present;
+            },
+            Ask::Absent(asked) => if key == *asked {
+                return Shown::Wrong;
+            },
+            Ask::Below(asked) => if key < *asked {
+                nearest = Some(*entry);
+            },
+            Ask::Above(asked) => if key > *asked {
+                return Shown::Nearest(Some(*entry));
+            },
         }
     }
     match ask {
@@ -128,7 +151,12 @@ fn answers_about(alloc: Global, tree: &Tree, listed: &[Entry], entry: Entry) -> 
     requires { IsRising (entries (tree_of tree.now)) }
 {
     let key = entry_key(&entry);
-    for ask in &[Ask::Present(entry), Ask::Absent(key), Ask::Below(key), Ask::Above(key)] {
+    for ask in &[
+        Ask::Present(entry),
+        Ask::Absent(key),
+        Ask::Below(key),
+        Ask::Above(key),
+    ] {
         if shown_by(alloc, tree, ask)? != answer_of(listed, ask) {
             return Ok(false);
         }
@@ -186,6 +214,9 @@ fn a_proof_has_so_many_nodes_at_most(rt: HostRuntime) -> Result<(), Fail> {
     let _read = take_present(alloc, most.as_slice(), &mut at)?;
     assert_eq!(rt; at, 12_257);
     let more = bytes_of(&rt, alloc, 128, &[0; 64])?;
-    assert_eq!(rt; place_of(take_present(alloc, more.as_slice(), &mut 0)), Some(0));
+    assert_eq!(rt;
+        place_of(take_present(alloc, more.as_slice(), &mut 0)),
+        Some(0)
+    );
     Ok(())
 }
