@@ -10,8 +10,7 @@ use Rattle.tw_base.specs.Faults.{Rose}
 use Rattle.tw_base.specs.History.{History}
 use Rattle.tw_base.proofs.FormatLaws.{one_value}
 use Rattle.tw_outside.specs.TakenBytes.{Appends}
-use Rattle.tw_text.specs.CommandLine.{command_of, forms}
-use Rattle.tw_text.specs.Forms.{IsFirstBad}
+use Rattle.tw_text.specs.CommandLine.{IsFirstBad, command_of}
 use Rattle.tw_text.specs.Faults.{fault_status}
 use Rattle.tw_text.specs.Lines.{no_memory_text}
 use Rattle.tw_text.specs.declared.fault.CommandFault.{CommandFault}
@@ -171,8 +170,8 @@ module _ (a : Around) (status : ℕ) (outcome : Outcome) (e : EndsAs a status ou
   pub usage : status ≡ 2 → IsUsageRun a
   usage is = by_status 2 is (λ k. omega arith) by
     where
-      number_is : (n : ℕ) (o : Option Command) → MatchOption o (IsFirstBad forms a.words n) (λ c. ComesTo a.met c (BadWords n))
-          → MatchOption o (IsFirstBad forms a.words n) (λ c. (n ≡ 0) × (IsBuilt c → ⊥))
+      number_is : (n : ℕ) (o : Option Command) → MatchOption o (IsFirstBad a.words n) (λ c. ComesTo a.met c (BadWords n))
+          → MatchOption o (IsFirstBad a.words n) (λ c. (n ≡ 0) × (IsBuilt c → ⊥))
       number_is n None has = has
       number_is n (Some c) has = unbuilt_of a.met c n has
 

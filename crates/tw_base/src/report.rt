@@ -5,7 +5,7 @@ use crate::name::Name;
 use crate::sequence::Bytes;
 use crate::thread::{Entry, Key, Place};
 
-/// One step of a chain from service to service: step `archived` of service `by` received the
+/// A hop of a chain from service to service: step `archived` of service `by` received the
 /// thread of service `from` at step `step`.
 #[derive(Clone, Copy, PartialEq, Eq, Debug, Drop)]
 pub struct Hop {
@@ -58,14 +58,15 @@ pub struct Report {
 }
 
 /// Why a proof isn't accepted. Of several reasons that stand the one with the lowest number is
-/// answered, and of its parts or places the lowest. Part 0 is the head of a proof, or the whole of
-/// a proof without hops.
+/// answered, and of its parts or places the lowest. Part 0 is the head of a proof from event to
+/// event, and the whole of a proof of another kind.
 #[derive(Clone, Copy, PartialEq, Eq, Debug, Drop)]
 pub enum Reason {
     /// 1: the bytes are no proof. The place is that of the first byte, counted from 0, at which no
     /// proof goes on, and the number of bytes where they end too early.
     Malformed { place: u64 },
-    /// 2: a step above the top that it is proved under.
+    /// 2: a step above the top that it is proved under, or an archived step above the step whose
+    /// archive shows it.
     BadOrder,
     /// 3: no anchor of this service and step is held.
     NotHeld { service: Name, step: u64 },

@@ -4,7 +4,7 @@ use crate::digest::Digest;
 use crate::sequence::Sequence;
 use crate::thread::{Entry, Key};
 
-/// What is asked of an archive. The step of an asked key is 0 to 2^40.
+/// What is asked of an archive. An asked key may have any step; files ask for steps up to 2^40.
 #[derive(Clone, Copy, PartialEq, Eq, Debug, Drop)]
 pub enum Ask {
     /// That it has this entry.
@@ -31,13 +31,15 @@ pub type AncestorList = Sequence<Ancestor>;
 /// What shows the answer to a question about a tree whose label is known.
 #[derive(Debug, Drop)]
 pub enum TreeProof {
-    /// Of an entry: the labels of its node's two sides, and the nodes above it, at most 127.
+    /// Of an entry: the labels of its node's two sides, and the nodes above it, in a file at
+    /// most 127.
     Present {
         left: Digest,
         right: Digest,
         ancestors: AncestorList,
     },
-    /// Of the empty place where the asked key would stand: the nodes above it, at most 128.
+    /// Of the empty place where the asked key would stand: the nodes above it, in a file at most
+    /// 128.
     Gap {
         ancestors: AncestorList,
     },

@@ -4,7 +4,7 @@ use std::test::Fail;
 use tw_disk::{Disk, Failed, MemDisk, MemPages, NoMemory, Pages};
 
 // Writes a page full of this byte, and tells whether that went well.
-fn put<D: Disk>(disk: &mut D, page: u64, byte: u8) -> Result<(), Failed> {
+fn put(disk: &mut MemDisk, page: u64, byte: u8) -> Result<(), Failed> {
     let count = disk.pages()?;
     if page > count {
         return Err(Failed);
@@ -13,7 +13,7 @@ fn put<D: Disk>(disk: &mut D, page: u64, byte: u8) -> Result<(), Failed> {
 }
 
 // The last byte of a page; none where there is no such page.
-fn byte_at<D: Disk>(disk: &mut D, page: u64) -> Result<Option<u8>, Failed> {
+fn byte_at(disk: &mut MemDisk, page: u64) -> Result<Option<u8>, Failed> {
     let count = disk.pages()?;
     if page >= count {
         return Ok(None);
@@ -46,7 +46,7 @@ fn planned_calls_fail(rt: HostRuntime) -> Result<(), Fail> {
 }
 
 // Stages a page full of this byte where there is room.
-fn stage_byte<P: Pages>(pages: &mut P, byte: u8) -> Result<u64, NoMemory> {
+fn stage_byte(pages: &mut MemPages, byte: u8) -> Result<u64, NoMemory> {
     if pages.used() >= (1 << 48) - 4 {
         return Err(NoMemory);
     }
@@ -54,7 +54,7 @@ fn stage_byte<P: Pages>(pages: &mut P, byte: u8) -> Result<u64, NoMemory> {
 }
 
 // The last byte of a page from number 4 on.
-fn last_byte<P: Pages>(pages: &mut P, page: u64) -> Result<Option<u8>, Failed> {
+fn last_byte(pages: &mut MemPages, page: u64) -> Result<Option<u8>, Failed> {
     if page < 4 || page >= pages.used() {
         return Ok(None);
     }

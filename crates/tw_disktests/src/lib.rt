@@ -6,7 +6,11 @@ mod disk_runs;
 #[cfg(test)]
 mod disks;
 #[cfg(test)]
-mod files;
+mod file_disks;
+#[cfg(test)]
+mod file_inputs;
+#[cfg(test)]
+mod folders;
 #[cfg(test)]
 mod runs;
 #[cfg(test)]

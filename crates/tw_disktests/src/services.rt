@@ -31,6 +31,14 @@ fn init(alloc: Global, disk: MemDisk, name: Name) -> Option<Service<MemDisk, Sha
     }
 }
 
+// Why no service is made on this disk.
+fn fault_of_init(alloc: Global, disk: MemDisk, name: Name) -> Option<StoreFault> {
+    match Service::<MemDisk, Sha>::init(alloc, disk, name) {
+        Ok(_) => None,
+        Err((_, fault)) => Some(fault),
+    }
+}
+
 // The service on this disk.
 fn open(alloc: Global, disk: MemDisk) -> Option<Service<MemDisk, Sha>> {
     match Service::<MemDisk, Sha>::open(alloc, disk) {
@@ -63,24 +71,35 @@ fn is_accepted(
 }
 
 #[test]
-fn init_makes_ten_calls_and_append_eight(rt: HostRuntime) -> Result<(), Fail> {
+fn init_makes_ten_calls(rt: HostRuntime) -> Result<(), Fail> {
     let alloc = rt.alloc();
     let name = alpha(&rt);
     let service = init(alloc, MemDisk::new(alloc), name).ok_or("no service")?;
     assert_eq!(rt; service.steps(), 0);
     assert_eq!(rt; service.name(), name);
-    let disk = service.close();
-    assert_eq!(rt; disk.device_calls(), 10);
-    let Err((disk, fault)) = Service::<MemDisk, Sha>::init(alloc, disk, name) else {
-        panic!(rt; "made twice");
-    };
-    assert_eq!(rt; fault, StoreFault::Taken);
-    let before = disk.device_calls();
-    let mut service = open(alloc, disk).ok_or("not opened")?;
+    assert_eq!(rt; service.close().device_calls(), 10);
+    Ok(())
+}
+
+#[test]
+fn a_service_is_made_once(rt: HostRuntime) -> Result<(), Fail> {
+    let alloc = rt.alloc();
+    let name = alpha(&rt);
+    let service = init(alloc, MemDisk::new(alloc), name).ok_or("no service")?;
+    let fault = fault_of_init(alloc, service.close(), name);
+    assert_eq!(rt; fault, Some(StoreFault::Taken));
+    Ok(())
+}
+
+#[test]
+fn open_makes_a_call_and_append_eight(rt: HostRuntime) -> Result<(), Fail> {
+    let alloc = rt.alloc();
+    let service = init(alloc, MemDisk::new(alloc), alpha(&rt)).ok_or("no service")?;
+    let mut service = open(alloc, service.close()).ok_or("not opened")?;
     let first = append(alloc, &mut service)?;
     assert_eq!(rt; first, service.head());
     assert_eq!(rt; first.step, 1);
-    assert_eq!(rt; service.close().device_calls(), before.saturating_add(9));
+    assert_eq!(rt; service.close().device_calls(), 19);
     Ok(())
 }
 

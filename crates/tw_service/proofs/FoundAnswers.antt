@@ -1,6 +1,6 @@
 -- Answers and refusals as what is found in pages.
 use Rattle.std.proofs.Common.{◌≡◌, ◌⊎◌, ℕ, refl, ap, sym, ◌∙◌, subst, inl, inr}
-use Rattle.std.specs.Prelude.{Option, Some, None, Result, Ok, Err}
+use Rattle.std.specs.Prelude.{Option, Some, None, Result, Ok, Err, IsErrAnd}
 use Rattle.tw_skiplist.specs.declared.fault.ListFault.{ListFault}
 use Rattle.tw_skiplist.specs.declared.fault.ListFault.TheVariants as list
 use Rattle.tw_skiplist.specs.Answers.{IsFaultOf, NeverNoStep, NoStepUnless}
@@ -18,10 +18,11 @@ never_no_step A (list.NoStep n) last P there gone = absurd (gone.1 there)
 never_no_step A _ last P there gone = tt
 
 module _ {X Y : Type 0} where
-  -- what is read first ends the reading
-  pub fault_found : (A : Type 0) (fault : ListFault) (refusal : Refusal) (one : Found X) (next : X → Found (Result Y Refusal)) → refusal ≡ refusal_of fault → NeverNoStep {T = A} (Err fault)
-      → IsFaultOf fault one → IsRefusalOf refusal (one >>= next)
-  fault_found A fault refusal one next is never there = subst (λ (r : Refusal). IsRefusalOf r (one >>= next)) (sym is) (of fault never there)
+  -- a fault that `?` hands on ends the reading
+  pub fault_found : (A : Type 0) (result : Result Y Refusal) (fault : ListFault) (one : Found X) (next : X → Found (Result Y Refusal)) → IsErrAnd result (λ refusal. refusal ≡ refusal_of fault)
+      → NeverNoStep {T = A} (Err fault) → IsFaultOf fault one → IsAnswer result (one >>= next)
+  fault_found A (Ok _) fault one next is never there = absurd is
+  fault_found A (Err refusal) fault one next is never there = subst (λ (r : Refusal). IsRefusalOf r (one >>= next)) (sym is) (of fault never there)
     where
       of : (f : ListFault) → NeverNoStep {T = A} (Err f) → IsFaultOf f one → IsRefusalOf (refusal_of f) (one >>= next)
       of (list.NoStep n) never there = absurd never

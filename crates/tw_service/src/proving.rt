@@ -72,14 +72,10 @@ pub(crate) fn make_proof<P: Pages, H: Hasher>(
     ensures fault { result ≡ Err Refusal.DiskFault → Rose (P.faults pages.old) (P.faults pages.new) }
     ensures later { P.faults pages.old ≤ P.faults pages.new }
 {
-    match prove::<P, H>(alloc, pages, head, top, step) {
-        Err(fault) => Err(Refusal::from(fault)),
-        Ok(proof) => match event_refusal(proof.info.count, index) {
-            Some(refusal) => Err(refusal),
-            None => match events_of(alloc, pages, &proof.info) {
-                Err(fault) => Err(Refusal::from(fault)),
-                Ok(events) => Ok(write_proof::<H>(alloc, name, top, index, proof, &events)?),
-            },
-        },
+    let proof = prove::<P, H>(alloc, pages, head, top, step)?;
+    if let Some(refusal) = event_refusal(proof.info.count, index) {
+        return Err(refusal);
     }
+    let events = events_of(alloc, pages, &proof.info)?;
+    Ok(write_proof::<H>(alloc, name, top, index, proof, &events)?)
 }
