@@ -1,5 +1,5 @@
 -- The bytes of proofs, by their kinds.
-use Rattle.std.specs.Prelude.{◌≡◌, ℕ, ◌<◌, ◌≤◌, List, [], ◌∷◌, ◌++◌, Bool, true, false, Option, Some, None, ◌==◌, ◌||◌, ◌&&◌, nat_le}
+use Rattle.std.specs.Prelude.{◌≡◌, ℕ, ◌≤◌, List, [], ◌∷◌, ◌++◌, Bool, true, false, Option, Some, None, ◌==◌, ◌||◌, ◌&&◌, nat_le}
 use Rattle.tw_base.specs.declared.limits.TheConstants.{LAST_STEP}
 use Rattle.tw_base.specs.declared.thread.Key.{Key}
 use Rattle.tw_base.specs.Codecs.{Codec, behind, by_kind, choose, digest_codec, name_codec, number_codec, pair, seen, variant}
