@@ -14,13 +14,13 @@ use Rattle.tw_pages.specs.declared.open.StoreFault.TheVariants as store
 use Rattle.tw_service.specs.Stands.{IsNotOpenedFor}
 use Rattle.tw_text.specs.declared.fault.CommandFault.{CommandFault}
 use Rattle.tw_text.specs.declared.fault.CommandFault.TheVariants.{Refused, Unserved, Unreadable, InputFault, DiskFault, NoMemory}
-use Rattle.tw_diskcmd.specs.Appending.{AppendComes, AppendLeaves, AppendSafe, AreEventsOf, StepComes}
-use Rattle.tw_diskcmd.specs.Disks.{IsLeft, ReadsAs, Settles, Touched, touched}
+use Rattle.tw_diskcmd.specs.Appending.{AppendComes, AppendLeaves, AreEventsOf, StepComes}
+use Rattle.tw_diskcmd.specs.Disks.{IsLeft, ReadLeaves, ReadsAs, Settles, Touched, touched}
 use Rattle.tw_diskcmd.specs.Faults.{fault_of_store}
 use Rattle.tw_diskcmd.specs.Making.{InitComes, InitLeaves, InitSafe}
-use Rattle.tw_diskcmd.specs.Proving.{ProveComes, ProveLeaves}
+use Rattle.tw_diskcmd.specs.Proving.{ProveComes}
 use Rattle.tw_diskcmd.specs.WorkSteps.{IsStop, LeavesStep, WritesNothing}
-use Rattle.tw_diskcmd.proofs.AtRest.{left_begins, left_keeps, no_call_left, old_or_one, one_of, reads_as, rests_reads, untouched_left}
+use Rattle.tw_diskcmd.proofs.AtRest.{no_call_left, old_or_one, one_of, reads_as}
 
 -- ---- a disk that isn't opened
 
@@ -114,17 +114,17 @@ module _ {D : Type 0} (view : D → DiskView) where
     leaves_of_step as_it_reads told before after file events (Err NoMemory) are comes leaves nothing = nothing tt
     leaves_of_step as_it_reads told before after file events _ are comes leaves nothing = absurd comes
 
-    -- a proof leaves a disk that settles, or that wasn't opened
-    pub leaves_of_proof : (came : Result (List ℕ) CommandFault) → IsLeft view old new → Settles view old new → ProveLeaves view old new came
-    leaves_of_proof (Ok proof) left settles = (left, settles)
-    leaves_of_proof (Err (Refused refusal)) left settles = (left, settles)
-    leaves_of_proof _ left settles = left
+    -- a command that only reads leaves a disk that settles, or that wasn't opened
+    pub leaves_of_reading : {X : Type 0} → (came : Result X CommandFault) → IsLeft view old new → Settles view old new → ReadLeaves view old new came
+    leaves_of_reading (Ok value) left settles = (left, settles)
+    leaves_of_reading (Err (Refused refusal)) left settles = (left, settles)
+    leaves_of_reading _ left settles = left
 
-    pub unopened_proof_leaves : (f : StoreFault) (came : CommandFault) → came ≡ fault_of_store f → f ≢ store.Taken → IsLeft view old new
-        → ProveLeaves view old new (Err came)
-    unopened_proof_leaves f came is not_taken left = subst (λ (c : CommandFault). ProveLeaves view old new (Err c)) (sym is) (by f not_taken)
+    pub unopened_reading_leaves : (X : Type 0) (f : StoreFault) (came : CommandFault) → came ≡ fault_of_store f → f ≢ store.Taken → IsLeft view old new
+        → ReadLeaves view {X = X} old new (Err came)
+    unopened_reading_leaves X f came is not_taken left = subst (λ (c : CommandFault). ReadLeaves view {X = X} old new (Err c)) (sym is) (by f not_taken)
       where
-        by : (g : StoreFault) → g ≢ store.Taken → ProveLeaves view old new (Err (fault_of_store g))
+        by : (g : StoreFault) → g ≢ store.Taken → ReadLeaves view {X = X} old new (Err (fault_of_store g))
         by store.Taken not_taken = absurd (not_taken refl)
         by store.Blank not_taken = left
         by (store.NotAStore slot) not_taken = left
@@ -137,40 +137,6 @@ module _ {D : Type 0} (view : D → DiskView) where
         subst (λ (c : CommandFault). InitLeaves view old new name (Err c)) (sym (is ∙ ap fault_of_store taken)) (left taken)
     unmade_leaves name f came is (inr failed) left safe =
         subst (λ (c : CommandFault). InitLeaves view old new name (Err c)) (sym (is ∙ ap fault_of_store failed)) safe
-
-    -- ---- what a crash may leave
-
-    module _ (only_now : (d : D) (image : Image) → (view d).left_since (view d).moment image → (view d).may_leave image)
-        (as_it_reads : (d : D) (image : Image) → (view d).content ≡ Some image → (view d).may_leave image) where
-      left_safe : (name : List ℕ) → IsLeft view old new → InitSafe view old new name
-      left_safe name left = (left_begins view as_it_reads old new name left, left_keeps view old new left, λ image told taken. left)
-
-      pub init_safe : (name : List ℕ) (came : Result Thread CommandFault) → InitLeaves view old new name came → InitSafe view old new name
-      init_safe name (Ok thread) left = left.1
-      init_safe name (Err DiskFault) left = left
-      init_safe name _ left = left_safe name left
-
-      left_adds : (told : Option Files) (file : List ℕ) → IsLeft view old new → AppendSafe view old new told file
-      left_adds told file left = λ h. (λ reads. inl (left.1, record { image = reads.image; told = left.0 ∙ reads.told; stands = reads.stands }), λ stands. inl ((left_keeps view old new left h).0 stands).0)
-
-      pub append_safe : (told : Option Files) (file : List ℕ) (came : Result Thread CommandFault) → AppendLeaves view old new told file came → AppendSafe view old new told file
-      append_safe told file (Ok thread) left = λ h. (
-        λ reads. let adds = left.2.1 h in let made = adds.2 reads in inr (left.0, left.1, (adds.0, adds.1, made.1, rests_reads view as_it_reads new adds.0 h (ap (λ (n : History). n.name) adds.1) made.0)),
-        λ stands. let adds = left.2.1 h in inr (left.0, left.1, (adds.0, adds.1, adds.3 stands)),
-      )
-      append_safe told file (Err DiskFault) left = λ h. (
-        λ reads. let adds = left.2 h in let made = adds.2 reads in inr (left.0, left.1, (adds.0, adds.1, made.0, made.1)),
-        λ stands. let adds = left.2 h in inr (left.0, left.1, (adds.0, adds.1, adds.3 stands)),
-      )
-      append_safe told file (Err (Refused refusal)) left = left_adds told file left.0
-      append_safe told file (Err (Unreadable bad)) left = left_adds told file (untouched_left view old new only_now left)
-      append_safe told file (Err InputFault) left = left_adds told file (untouched_left view old new only_now left)
-      append_safe told file _ left = left_adds told file left
-
-    pub prove_left : (came : Result (List ℕ) CommandFault) → ProveLeaves view old new came → IsLeft view old new
-    prove_left (Ok proof) left = left.0
-    prove_left (Err (Refused refusal)) left = left.0
-    prove_left _ left = left
 
   -- ---- a disk that wasn't touched
 

@@ -1,5 +1,5 @@
 -- Over a disk that tells its content one answer stands at most, of those that tell of it.
-use Rattle.std.proofs.Common.{◌≡◌, ◌∙◌, ℕ, ◌+◌, ◌^◌, ◌≤◌, List, length, refl, ap, sym, subst, inl, inr, false}
+use Rattle.std.proofs.Common.{◌≡◌, ◌∙◌, ℕ, ◌+◌, List, refl, ap, sym, subst, inl, inr, false}
 use Rattle.std.specs.Prelude.{Option, Some, None, Result, Ok, Err}
 use Rattle.sha2.specs.Sha256.{sha256}
 use Rattle.tw_base.specs.declared.thread.Thread.{Thread}

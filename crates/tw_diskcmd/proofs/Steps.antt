@@ -10,14 +10,14 @@ use Rattle.tw_base.specs.Faults.{Rose}
 use Rattle.tw_skiplist.specs.declared.head.Head.{Head}
 use Rattle.tw_service.specs.declared.refusal.Refusal.{Refusal}
 use Rattle.tw_service.specs.declared.refusal.Refusal.TheVariants as service
-use Rattle.tw_service.specs.Refusals.{IsBadPage, IsFault, OfBadPage}
+use Rattle.tw_service.specs.Refusals.{IsFault}
 use Rattle.tw_base.specs.declared.root.Root.{Root}
 use Rattle.tw_skiplist.specs.declared.head.StepRef.{StepRef}
 use Rattle.tw_skiplist.specs.Appended.{Next, appended, next_of}
 use Rattle.tw_skiplist.specs.Found.{Found, ◌>>=◌}
 use Rattle.tw_skiplist.specs.Found.Found.{Is, Bad}
 use Rattle.tw_skiplist.specs.Walks.{next_links}
-use Rattle.tw_service.specs.Finds.{IsAnswer, IsRefusalOf, found_thread, thread_at, unless}
+use Rattle.tw_service.specs.Finds.{IsRefusalOf, found_thread, thread_at, unless}
 use Rattle.tw_service.specs.Limits.{append_refusal, first_long, bytes_of, length_refusal, limits_refusal}
 use Rattle.tw_service.specs.Machine.{Answers, IsStepOf, last_thread}
 use Rattle.tw_service.specs.Machine.Call.{Append}
@@ -229,6 +229,6 @@ module _ {D : Type 0} (view : D → DiskView)
 module _ {D : Type 0} (view : D → DiskView) (old new : D) where
   -- what it wrote: nothing, but where there was a disk fault
   pub step_unwritten : (r : Refusal) (came : CommandFault) → came ≡ fault_of_service r
-      → (r ≡ service.DiskFault) ⊎ IsLeft view old new → WritesNothing (Err came) → IsLeft view old new
+      → (r ≡ service.DiskFault) ⊎ IsLeft view old new → WritesNothing {X = Thread} (Err came) → IsLeft view old new
   step_unwritten r came is (inr left) nothing = left
-  step_unwritten r came is (inl fault) nothing = absurd (subst (λ (f : CommandFault). WritesNothing (Err f)) (is ∙ ap fault_of_service fault) nothing)
+  step_unwritten r came is (inl fault) nothing = absurd (subst (λ (f : CommandFault). WritesNothing {X = Thread} (Err f)) (is ∙ ap fault_of_service fault) nothing)

@@ -21,9 +21,9 @@ pub record ComesOfFile (a : Asked) (file : List ℕ) (fault : CommandFault) : Ty
   pub stops : IsStop fault
   pub comes : (t : Touched) → AppendComes a t file (Err fault)
 
--- the results of an adding that wrote nothing
-abbrev pub WritesNothing : Result Thread CommandFault → Type 0
-WritesNothing (Ok thread) = ⊥
+-- the results of a command of which nothing was made and no disk failed
+abbrev pub WritesNothing : {X : Type 0} → Result X CommandFault → Type 0
+WritesNothing (Ok value) = ⊥
 WritesNothing (Err DiskFault) = ⊥
 WritesNothing _ = Unit {0}
 

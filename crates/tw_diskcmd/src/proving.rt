@@ -5,8 +5,8 @@ ghost use Rattle.sha2.specs.Sha256.{sha256};
 ghost use Rattle.tw_base.specs.History.{History};
 ghost use Rattle.tw_disk.specs.Image.{Image};
 ghost use Rattle.tw_service.specs.Serves.{Serves, disk_of, has_failed, head_of, name_of, pages_of};
-ghost use Rattle.tw_diskcmd.specs.Disks.{IsLeft, OpensAsServiceWith, ReadsAs, Rests, touched};
-ghost use Rattle.tw_diskcmd.specs.Proving.{ProveComes, ProveLeaves, top_of};
+ghost use Rattle.tw_diskcmd.specs.Disks.{IsLeft, OpensAsServiceWith, ReadLeaves, ReadsAs, Rests, touched};
+ghost use Rattle.tw_diskcmd.specs.Proving.{ProveComes, top_of};
 
 use crate::faults::{fault_of_service, fault_of_store};
 use crate::worked::Worked;
@@ -26,8 +26,8 @@ pub fn prove<D: Disk>(
 ) -> Worked<D, Bytes>
     // What `prove` comes to is what the disk and its count of faults allow: the proof, or a fault with its cause.
     ensures comes { ProveComes (touched (D.view disk).content (D.view disk).faults (D.view result.disk).faults) step index top result.outcome }
-    // It leaves the disk as is right for what it came to.
-    ensures leaves { ProveLeaves D.view disk result.disk result.outcome }
+    // It writes nothing. Where it made a proof or was refused, the disk stands for the history that it read as, at rest.
+    ensures leaves { ReadLeaves D.view disk result.disk result.outcome }
 {
     match Service::<D, Sha>::open(alloc, disk) {
         Ok(service) => prove_by(service, step, index, top),

@@ -1,7 +1,7 @@
-use Rattle.std.proofs.Common.{[]}
+use Rattle.std.proofs.Common.{ℕ, List, []}
 use Rattle.tw_service.specs.Serves.{disk_of}
 use Rattle.tw_diskcmd.proofs.AtRest.{left_on}
-use Rattle.tw_diskcmd.proofs.Landings.{leaves_of_proof, unopened_proof, unopened_proof_leaves}
+use Rattle.tw_diskcmd.proofs.Landings.{leaves_of_reading, unopened_proof, unopened_reading_leaves}
 use Rattle.tw_diskcmd.proofs.proving.prove.Goals as goal
 
 pub returns-in-Ok-clause-comes : goal.returns-in-Ok-clause-comes
@@ -13,7 +13,7 @@ pub returns-in-Ok-clause-leaves : goal.returns-in-Ok-clause-leaves
 returns-in-Ok-clause-leaves g c =
     let d = g.D.Disk in
     let mid = disk_of c.in-Ok.service in
-    leaves_of_proof d.view c.args.disk c.prove_by.result.disk c.prove_by.result.outcome
+    leaves_of_reading d.view c.args.disk c.prove_by.result.disk c.prove_by.result.outcome
     (left_on d.view c.args.disk mid c.prove_by.result.disk
     (c.in-Ok.ensures.unchanged, c.in-Ok.ensures.any_moment)
     c.prove_by.ensures.leaves)
@@ -26,5 +26,5 @@ returns-in-Err-clause-comes g c =
 
 pub returns-in-Err-clause-leaves : goal.returns-in-Err-clause-leaves
 returns-in-Err-clause-leaves g c =
-    unopened_proof_leaves g.D.Disk.view c.args.disk c.in-Err.disk c.in-Err.fault c.fault_of_store.result c.fault_of_store.ensures
+    unopened_reading_leaves g.D.Disk.view c.args.disk c.in-Err.disk (List ℕ) c.in-Err.fault c.fault_of_store.result c.fault_of_store.ensures
     c.in-Err.ensures.answers.0 (c.in-Err.ensures.unchanged, c.in-Err.ensures.any_moment_err)
