@@ -23,7 +23,7 @@ use Rattle.tw_diskcmd.proofs.AtRest.{left_keeps, untouched_left}
 use Rattle.tw_diskcmd.proofs.CommandLaws.{HasCauses, IsSafe, append_causes, append_is_safe, init_causes, init_is_safe, prove_causes, reading_is_safe}
 use Rattle.tw_app.specs.declared.outcome.Outcome.{Outcome}
 use Rattle.tw_app.specs.declared.outcome.Outcome.TheVariants.{Judged, BadWords, Undone}
-use Rattle.tw_app.specs.Around.{Outside, met_of_disk}
+use Rattle.tw_app.specs.Around.{Outside, found_of}
 use Rattle.tw_app.specs.Commands.{NamesFile}
 use Rattle.tw_app.specs.Outcomes.{TakesMemory, judged, made, proved, status_of, text_of}
 use Rattle.tw_app.specs.Running.{IsDoneBy, IsOutcomeOf, IsUnbuilt, IsUntouched, Work, by_results, over_files, reading, unbuilt, work, writing}
@@ -174,7 +174,7 @@ module _ {D : Type 0} (view : D → DiskView)
   }
 
   module _ {X : Type 0} (c : Command) (outcome_of : Result X CommandFault → Outcome) (tells : Tells outcome_of) (Comes Leaves : Result X CommandFault → Type 0) (Safe UsesDisk : Type 0)
-      (causes : HasCauses o.inputs (met_of_disk view o) (NamesFile c) UsesDisk Comes) (built : IsBuilt view c) where
+      (causes : HasCauses o.inputs (found_of view o) (NamesFile c) UsesDisk Comes) (built : IsBuilt view c) where
     abbrev May : Result X CommandFault → Type 0
     May r = Comes r × Leaves r
 
@@ -212,7 +212,7 @@ module _ {D : Type 0} (view : D → DiskView)
         (λ r zeroth fifth left. is_safe.idle r left (of_disk.idle r zeroth fifth)) is_safe.safe (λ x v is comes. absurd (of_disk.unjudged x v is))
 
   files_row : {X : Type 0} (c : Command) (outcome_of : Result X CommandFault → Outcome) → Tells outcome_of → (Comes : Result X CommandFault → Type 0)
-      → HasCauses o.inputs (met_of_disk view o) (NamesFile c) ⊥ Comes → IsBuilt view c
+      → HasCauses o.inputs (found_of view o) (NamesFile c) ⊥ Comes → IsBuilt view c
       → ((x : X) (v : Verdict) → Judged v ≡ outcome_of (Ok x) → Comes (Ok x) → Judges o.inputs.told c v) → Row c (over_files view o outcome_of Comes)
   files_row c outcome_of tells Comes causes built judging =
       row c outcome_of tells Comes (λ r. IsUntouched view o) (IsUntouched view o × Keeps view o.disk.before o.disk.after) ⊥ causes built
@@ -220,11 +220,11 @@ module _ {D : Type 0} (view : D → DiskView)
 
   -- one that makes a service or a step, and one that reads a proof from a disk
   made_row : {Comes Leaves : Result Thread CommandFault → Type 0} {Safe : Type 0} → (c : Command) → IsBuilt view c
-      → HasCauses o.inputs (met_of_disk view o) (NamesFile c) (Unit {0}) Comes → IsSafe view o.disk.before o.disk.after Leaves Safe → Row c (writing view o made Comes Leaves Safe)
+      → HasCauses o.inputs (found_of view o) (NamesFile c) (Unit {0}) Comes → IsSafe view o.disk.before o.disk.after Leaves Safe → Row c (writing view o made Comes Leaves Safe)
   made_row {Comes} {Leaves} {Safe} c built causes is_safe = disk_row c made made_tells Comes Leaves Safe (Unit {0}) causes built made_of_disk is_safe
 
   proved_row : {Comes : Result (List ℕ) CommandFault → Type 0} → (c : Command) → IsBuilt view c
-      → HasCauses o.inputs (met_of_disk view o) (NamesFile c) (Unit {0}) Comes → Row c (reading view o proved Comes)
+      → HasCauses o.inputs (found_of view o) (NamesFile c) (Unit {0}) Comes → Row c (reading view o proved Comes)
   proved_row {Comes} c built causes =
       disk_row c proved proved_tells Comes (ReadLeaves view o.disk.before o.disk.after) (Left × Keeps view o.disk.before o.disk.after) (Unit {0}) causes built
       proved_of_disk (reading_is_safe view o.disk.before o.disk.after)
@@ -260,13 +260,13 @@ module _ {D : Type 0} (view : D → DiskView)
   -- each command, by what is known of its results
   pub rows : (c : Command) → Row c (work view o c)
   rows (Init name) =
-      made_row (Init name) (λ p n came. no_usage made made_tells n came.0 came.2) (init_causes o.inputs (met_of_disk view o) name)
+      made_row (Init name) (λ p n came. no_usage made made_tells n came.0 came.2) (init_causes o.inputs (found_of view o) name)
       (init_is_safe view o.disk.before o.disk.after only_now as_it_reads name)
   rows (Append file) =
-      made_row (Append file) (λ p n came. no_usage made made_tells n came.0 came.2) (append_causes o.inputs (met_of_disk view o) file)
+      made_row (Append file) (λ p n came. no_usage made made_tells n came.0 came.2) (append_causes o.inputs (found_of view o) file)
       (append_is_safe view o.disk.before o.disk.after only_now as_it_reads o.inputs.told file)
   rows (ProveEvent step index top) =
-      proved_row (ProveEvent step index top) (λ p n came. no_usage proved proved_tells n came.0 came.2) (prove_causes o.inputs (met_of_disk view o) step index top)
+      proved_row (ProveEvent step index top) (λ p n came. no_usage proved proved_tells n came.0 came.2) (prove_causes o.inputs (found_of view o) step index top)
   rows (Show history step index) = show_row history step index
   rows (VerifyFile proof anchors) = verify_file_row proof anchors
   rows (VerifyOne proof anchor) = verify_one_row proof anchor

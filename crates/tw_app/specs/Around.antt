@@ -3,7 +3,7 @@ use Rattle.std.specs.Prelude.{ℕ, List, Option}
 use Rattle.tw_disk.specs.Disk.{DiskView}
 use Rattle.tw_outside.specs.Asked.{Asked}
 use Rattle.tw_outside.specs.TakenBytes.{Appends}
-use Rattle.tw_diskcmd.specs.Disks.{Touched, touched}
+use Rattle.tw_diskcmd.specs.Disks.{FoundDisk, found_disk}
 
 -- a value before the run, and after it
 pub record Span (A : Type 0) : Type 0 where
@@ -22,8 +22,8 @@ abbrev pub outside : {D : Type 0} → (inputs : Asked) → (old new : D) → Out
 outside inputs old new = record { inputs = inputs; disk = span old new }
 
 -- what was met of that disk
-abbrev pub met_of_disk : {D : Type 0} → (view : D → DiskView) → Outside D → Touched
-met_of_disk view o = touched (view o.disk.before).content (view o.disk.before).faults (view o.disk.after).faults
+abbrev pub found_of : {D : Type 0} → (view : D → DiskView) → Outside D → FoundDisk
+found_of view o = found_disk (view o.disk.before).content (view o.disk.before).faults (view o.disk.after).faults
 
 pub record Around (D : Type 0) : Type 0 where
   pub words : List (List ℕ)

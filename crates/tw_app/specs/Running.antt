@@ -17,7 +17,7 @@ use Rattle.tw_diskcmd.specs.Making.{InitComes, InitLeaves, InitSafe}
 use Rattle.tw_diskcmd.specs.Proving.{ProveComes}
 use Rattle.tw_app.specs.declared.outcome.Outcome.{Outcome}
 use Rattle.tw_app.specs.declared.outcome.Outcome.TheVariants.{BadWords, Undone}
-use Rattle.tw_app.specs.Around.{Around, Outside, Span, met_of_disk}
+use Rattle.tw_app.specs.Around.{Around, Outside, Span, found_of}
 use Rattle.tw_app.specs.Outcomes.{judged, made, proved, status_of, text_of}
 
 -- ---- what a command does
@@ -91,11 +91,11 @@ module _ {D : Type 0} (view : D → DiskView) (o : Outside D) where
   -- what each command does
   abbrev pub work : Command → Work
   work (Init name) =
-      writing made (InitComes (met_of_disk view o) name) (InitLeaves view o.disk.before o.disk.after name) (InitSafe view o.disk.before o.disk.after name)
+      writing made (InitComes (found_of view o) name) (InitLeaves view o.disk.before o.disk.after name) (InitSafe view o.disk.before o.disk.after name)
   work (Append file) =
-      writing made (AppendComes o.inputs (met_of_disk view o) file) (AppendLeaves view o.disk.before o.disk.after o.inputs.told file)
+      writing made (AppendComes o.inputs (found_of view o) file) (AppendLeaves view o.disk.before o.disk.after o.inputs.told file)
       (AppendSafe view o.disk.before o.disk.after o.inputs.told file)
-  work (ProveEvent step index top) = reading proved (ProveComes (met_of_disk view o) step index top)
+  work (ProveEvent step index top) = reading proved (ProveComes (found_of view o) step index top)
   work (Show history step index) = over_files proved (ShowComes o.inputs history step index)
   work (VerifyFile proof anchors) = over_files judged (VerifyFileComes o.inputs proof anchors)
   work (VerifyOne proof anchor) = over_files judged (VerifyOneComes o.inputs proof anchor)

@@ -12,7 +12,7 @@ use Rattle.tw_text.specs.declared.refusal.StoreCause.{StoreCause}
 use Rattle.tw_text.specs.declared.fault.CommandFault.{CommandFault}
 use Rattle.tw_text.specs.declared.fault.CommandFault.TheVariants.{Refused, Unserved, Unreadable, InputFault, DiskFault, NoMemory}
 use Rattle.tw_diskcmd.specs.Appending.{AppendComes, AppendLeaves, AppendSafe, MeetsBadLink}
-use Rattle.tw_diskcmd.specs.Disks.{IsLeft, Keeps, ReadLeaves, ReadsAs, Touched}
+use Rattle.tw_diskcmd.specs.Disks.{FoundDisk, IsLeft, Keeps, ReadLeaves, ReadsAs}
 use Rattle.tw_diskcmd.specs.Making.{InitComes, InitLeaves, InitSafe}
 use Rattle.tw_diskcmd.specs.Proving.{MeetsBadPage, ProveComes}
 use Rattle.tw_diskcmd.specs.WorkSteps.{WritesNothing}
@@ -23,13 +23,13 @@ use Rattle.tw_diskcmd.proofs.Served.{served}
 
 -- the inputs fail only where the command names a file, and the disk only where it uses one; a disk that reads as a history serves it,
 -- and want of memory is free
-pub record HasCauses {X : Type 0} (a : Asked) (t : Touched) (NamesFile UsesDisk : Type 0) (Comes : Result X CommandFault → Type 0) : Type 0 where
+pub record HasCauses {X : Type 0} (a : Asked) (t : FoundDisk) (NamesFile UsesDisk : Type 0) (Comes : Result X CommandFault → Type 0) : Type 0 where
   pub input : Comes (Err InputFault) → NamesFile × Rose a.before a.after
   pub disk : Comes (Err DiskFault) → UsesDisk × Rose t.before t.after
   pub serves : (h : History) → ReadsAs t.found h → (why : StoreCause) → Comes (Err (Unserved why)) → ⊥
   pub memory : Comes (Err NoMemory)
 
-module _ (a : Asked) (t : Touched) where
+module _ (a : Asked) (t : FoundDisk) where
   pub init_causes : (name : List ℕ) → HasCauses a t ⊥ (Unit {0}) (InitComes t name)
   init_causes name = record { input = λ came. absurd came; disk = λ rose. (tt, rose); serves = λ h reads why came. came; memory = tt }
 

@@ -12,48 +12,42 @@ use Rattle.tw_pages.specs.Slots.{IsTaken}
 use Rattle.tw_pages.specs.declared.open.StoreFault.{StoreFault}
 use Rattle.tw_pages.specs.declared.open.StoreFault.TheVariants as store
 use Rattle.tw_service.specs.Stands.{IsNotOpenedFor}
+use Rattle.tw_skiplist.specs.declared.head.Head.{Head}
+use Rattle.tw_text.specs.declared.refusal.StoreCause.{StoreCause}
+use Rattle.tw_text.specs.declared.refusal.StoreCause.TheVariants.{Blank, NotAStore}
 use Rattle.tw_text.specs.declared.fault.CommandFault.{CommandFault}
 use Rattle.tw_text.specs.declared.fault.CommandFault.TheVariants.{Refused, Unserved, Unreadable, InputFault, DiskFault, NoMemory}
 use Rattle.tw_diskcmd.specs.Appending.{AppendComes, AppendLeaves, AreEventsOf, StepComes}
-use Rattle.tw_diskcmd.specs.Disks.{IsLeft, ReadLeaves, ReadsAs, Settles, Touched, touched}
+use Rattle.tw_diskcmd.specs.Disks.{FoundDisk, IsLeft, IsUnserved, ReadLeaves, ReadsAs, Settles, found_disk}
 use Rattle.tw_diskcmd.specs.Faults.{fault_of_store}
 use Rattle.tw_diskcmd.specs.Making.{InitComes, InitLeaves, InitSafe}
-use Rattle.tw_diskcmd.specs.Proving.{ProveComes}
 use Rattle.tw_diskcmd.specs.WorkSteps.{IsStop, LeavesStep, WritesNothing}
 use Rattle.tw_diskcmd.proofs.AtRest.{no_call_left, old_or_one, one_of, reads_as}
 
 -- ---- a disk that isn't opened
 
-module _ (found : Option Image) (before after : ℕ) (events : List (List ℕ)) (f : StoreFault)
+module _ (found : Option Image) (before after : ℕ) (f : StoreFault)
     (refused : (image : Image) → found ≡ Some image → (f ≡ store.DiskFault) ⊎ IsNotOpenedFor image f)
     (answers : (f ≢ store.Taken) × (f ≢ store.NoMemory)) (fault : f ≡ store.DiskFault → Rose before after) where
   not_opened : (g : StoreFault) → g ≡ f → (g ≡ store.DiskFault → ⊥) → (image : Image) → found ≡ Some image → IsNotOpenedFor image g
   not_opened g same other image told =
       ⊎_elim (λ is. absurd (other (same ∙ is))) (λ why. subst (IsNotOpenedFor image) (sym same) why) (refused image told)
 
-  pub unopened_step : (came : CommandFault) → came ≡ fault_of_store f → StepComes (touched found before after) events (Err came)
-  unopened_step came is = subst (λ (c : CommandFault). StepComes (touched found before after) events (Err c)) (sym is) (by f refl)
+  -- what holds where nothing is served, and after a disk fault, holds of what a command comes to then
+  pub unopened : (Meets : (pages : Image) → (name : List ℕ) → Head → (page : ℕ) → Type 0) (P : CommandFault → Type 0)
+      → ((cause : StoreCause) → IsUnserved Meets found cause → P (Unserved cause)) → (Rose before after → P DiskFault) → (came : CommandFault) → came ≡ fault_of_store f → P came
+  unopened Meets P unserved failed came is = subst P (sym is) (by f refl)
     where
-      by : (g : StoreFault) → g ≡ f → StepComes (touched found before after) events (Err (fault_of_store g))
+      by : (g : StoreFault) → g ≡ f → P (fault_of_store g)
       by store.Taken same = absurd (answers.0 (sym same))
-      by store.Blank same = not_opened store.Blank same (λ is. cc)
-      by (store.NotAStore slot) same = not_opened (store.NotAStore slot) same (λ is. cc)
-      by store.DiskFault same = fault (sym same)
-      by store.NoMemory same = tt
-
-  pub unopened_proof : (step index : ℕ) (top : Option ℕ) (came : CommandFault) → came ≡ fault_of_store f → ProveComes (touched found before after) step index top (Err came)
-  unopened_proof step index top came is = subst (λ (c : CommandFault). ProveComes (touched found before after) step index top (Err c)) (sym is) (by f refl)
-    where
-      by : (g : StoreFault) → g ≡ f → ProveComes (touched found before after) step index top (Err (fault_of_store g))
-      by store.Taken same = absurd (answers.0 (sym same))
-      by store.Blank same = not_opened store.Blank same (λ is. cc)
-      by (store.NotAStore slot) same = not_opened (store.NotAStore slot) same (λ is. cc)
-      by store.DiskFault same = fault (sym same)
-      by store.NoMemory same = tt
+      by store.Blank same = unserved Blank (not_opened store.Blank same (λ is. cc))
+      by (store.NotAStore slot) same = unserved (NotAStore slot) (not_opened (store.NotAStore slot) same (λ is. cc))
+      by store.DiskFault same = failed (fault (sym same))
+      by store.NoMemory same = absurd (answers.1 (sym same))
 
 -- ---- what the work comes to is what its command comes to
 
-pub comes_of_step : (a : Asked) (t : Touched) (file : List ℕ) (events : List (List ℕ)) (came : Result Thread CommandFault) → AreEventsOf a.told file events
+pub comes_of_step : (a : Asked) (t : FoundDisk) (file : List ℕ) (events : List (List ℕ)) (came : Result Thread CommandFault) → AreEventsOf a.told file events
     → StepComes t events came → AppendComes a t file came
 comes_of_step a t file events (Ok thread) are comes = (events, are, comes)
 comes_of_step a t file events (Err (Refused refusal)) are comes = (events, are, comes)
@@ -63,7 +57,7 @@ comes_of_step a t file events (Err NoMemory) are comes = tt
 comes_of_step a t file events _ are comes = absurd comes
 
 -- a service that isn't made: only where there is one, or where the disk failed
-pub unmade : (t : Touched) (name : List ℕ) (f : StoreFault) (came : CommandFault) → came ≡ fault_of_store f → (f ≡ store.Taken) ⊎ (f ≡ store.DiskFault)
+pub unmade : (t : FoundDisk) (name : List ℕ) (f : StoreFault) (came : CommandFault) → came ≡ fault_of_store f → (f ≡ store.Taken) ⊎ (f ≡ store.DiskFault)
     → (f ≡ store.Taken → (image : Image) → t.found ≡ Some image → IsTaken image) → (f ≡ store.DiskFault → Rose t.before t.after)
     → InitComes t name (Err came)
 unmade t name f came is (inl taken) has fault = subst (λ (c : CommandFault). InitComes t name (Err c)) (sym (is ∙ ap fault_of_store taken)) (has taken)
@@ -82,7 +76,7 @@ module _ {D : Type 0} (view : D → DiskView) where
         (old_or_one view old new (with_events h events) h left, record { image = reads.image; told = same ∙ reads.told; has = inl reads.stands })
 
     pub leaves_of_step : (as_it_reads : (d : D) (image : Image) → (view d).content ≡ Some image → (view d).may_leave image) → (told : Option Files) (before after : ℕ) (file : List ℕ) (events : List (List ℕ)) (came : Result Thread CommandFault) → AreEventsOf told file events
-        → StepComes (touched (view old).content before after) events came
+        → StepComes (found_disk (view old).content before after) events came
         → ((h : History) → ReadsAs (view old).content h → LeavesStep view old new h (with_events h events) came)
         → (WritesNothing came → IsLeft view old new)
         → AppendLeaves view old new told file came

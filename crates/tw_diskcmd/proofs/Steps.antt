@@ -25,7 +25,7 @@ use Rattle.tw_service.specs.Machine.Reply.{OfThread, Refused}
 use Rattle.tw_text.specs.declared.fault.CommandFault.{CommandFault}
 use Rattle.tw_diskcmd.specs.Appending.{AddsStep, MeetsBadLink, StepComes}
 use Rattle.tw_diskcmd.proofs.Openings.{only_opens, opens_with}
-use Rattle.tw_diskcmd.specs.Disks.{IsLeft, LeavesOldOrOneOf, OpensAsService, OpensAsServiceWith, ReadsAs, ReadsAsOneOf, Rests, touched}
+use Rattle.tw_diskcmd.specs.Disks.{IsLeft, LeavesOldOrOneOf, OpensAsService, OpensAsServiceWith, ReadsAs, ReadsAsOneOf, Rests, found_disk}
 use Rattle.tw_diskcmd.specs.Faults.{fault_of_service}
 use Rattle.tw_diskcmd.specs.WorkSteps.{LeavesStep, WritesNothing}
 
@@ -159,8 +159,8 @@ module _ (found : Option Image) (before after : ℕ) (events : List (List ℕ)) 
       → (is_broken ≡ false → (h : History) → OldServes h → Answers sha256 h (Append events) (λ t. OfThread t) (Err r) NewServes)
       → (refusal r ≡ Err service.DiskFault → Rose before after)
       → ((pages : Image) → told ≡ Some pages → IsRefusalOf r (found_thread sha256 pages name head is_broken events archive))
-      → StepComes (touched found before after) events (Err came)
-  step_refused r came is table_then machine fault met = subst (λ (f : CommandFault). StepComes (touched found before after) events (Err f)) (sym is) (by r table_then machine fault met)
+      → StepComes (found_disk found before after) events (Err came)
+  step_refused r came is table_then machine fault met = subst (λ (f : CommandFault). StepComes (found_disk found before after) events (Err f)) (sym is) (by r table_then machine fault met)
     where
       only : OpensAsService found name head
       only = only_opens found name head (λ pages. told ≡ Some pages) opens
@@ -179,7 +179,7 @@ module _ (found : Option Image) (before after : ℕ) (events : List (List ℕ)) 
           → (is_broken ≡ false → (h : History) → OldServes h → Answers sha256 h (Append events) (λ t. OfThread t) (Err r) NewServes)
           → (refusal r ≡ Err service.DiskFault → Rose before after)
           → ((pages : Image) → told ≡ Some pages → IsRefusalOf r (found_thread sha256 pages name head is_broken events archive))
-          → StepComes (touched found before after) events (Err (fault_of_service r))
+          → StepComes (found_disk found before after) events (Err (fault_of_service r))
       by service.Full table machine fault met = record { name = name; head = head; opens = only; refused = table_of service.Full table (λ no. no); machine = λ h reads. (machine whole h (serves h reads)).0 }
       by (service.TooMany count) table machine fault met =
           record { name = name; head = head; opens = only; refused = table_of (service.TooMany count) table (λ no. no); machine = λ h reads. (machine whole h (serves h reads)).0 }

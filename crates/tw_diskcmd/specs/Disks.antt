@@ -15,13 +15,13 @@ use Rattle.tw_text.specs.declared.refusal.StoreCause.{StoreCause}
 use Rattle.tw_text.specs.declared.refusal.StoreCause.TheVariants.{Blank, NotAStore, BadPage}
 
 -- what a command met of a disk: what it read as at first, where it tells that, and how often it had failed before and after
-pub record Touched : Type 0 where
+pub record FoundDisk : Type 0 where
   pub found : Option Image
   pub before : ℕ
   pub after : ℕ
 
-abbrev pub touched : (found : Option Image) (before after : ℕ) → Touched
-touched found before after = record { found = found; before = before; after = after }
+abbrev pub found_disk : (found : Option Image) (before after : ℕ) → FoundDisk
+found_disk found before after = record { found = found; before = before; after = after }
 
 -- the image stands for the history, under its name
 abbrev pub IsOf : History → Image → Type 0

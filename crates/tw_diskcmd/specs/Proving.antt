@@ -22,7 +22,7 @@ use Rattle.tw_text.specs.declared.refusal.Refusal.{Refusal}
 use Rattle.tw_text.specs.declared.refusal.Refusal.TheVariants.{NoStep, NoEvent}
 use Rattle.tw_text.specs.declared.fault.CommandFault.{CommandFault}
 use Rattle.tw_text.specs.declared.fault.CommandFault.TheVariants as fault
-use Rattle.tw_diskcmd.specs.Disks.{IsUnserved, OpensAsService, OpensAsServiceWith, ReadsAs, Touched}
+use Rattle.tw_diskcmd.specs.Disks.{FoundDisk, IsUnserved, OpensAsService, OpensAsServiceWith, ReadsAs}
 
 -- the top that the words give, or the last step where they give none
 abbrev pub top_of : (top : Option ℕ) → (last : ℕ) → ℕ
@@ -77,7 +77,7 @@ MeetsBadPage step index top pages name head page =
     (order_refusal false head.step step (top_of top head.step) ≡ None) × (event_proof sha256 pages name head step index (top_of top head.step) ≡ Bad page)
 
 -- what it comes to; want of memory is free
-abbrev pub ProveComes : Touched → (step index : ℕ) (top : Option ℕ) → Result (List ℕ) CommandFault → Type 0
+abbrev pub ProveComes : FoundDisk → (step index : ℕ) (top : Option ℕ) → Result (List ℕ) CommandFault → Type 0
 ProveComes t step index top (Ok proof) = Proves t.found step index top proof
 ProveComes t step index top (Err (fault.Refused refusal)) = RefusesProof t.found step index top refusal
 ProveComes t step index top (Err (fault.Unserved cause)) = IsUnserved (MeetsBadPage step index top) t.found cause
