@@ -22,10 +22,10 @@ use Rattle.tw_diskcmd.specs.WorkSteps.{WritesNothing}
 use Rattle.tw_diskcmd.proofs.AtRest.{left_keeps, untouched_left}
 use Rattle.tw_diskcmd.proofs.CommandLaws.{HasCauses, IsSafe, append_causes, append_is_safe, init_causes, init_is_safe, prove_causes, reading_is_safe}
 use Rattle.tw_app.specs.declared.outcome.Outcome.{Outcome}
-use Rattle.tw_app.specs.declared.outcome.Outcome.TheVariants.{Judged, BadWords, Undone}
+use Rattle.tw_app.specs.declared.outcome.Outcome.TheVariants.{Judged, Proof, Made, BadWords, Undone}
 use Rattle.tw_app.specs.Around.{Outside, found_of}
 use Rattle.tw_app.specs.Commands.{NamesFile}
-use Rattle.tw_app.specs.Outcomes.{TakesMemory, judged, made, proved, status_of, text_of}
+use Rattle.tw_app.specs.Outcomes.{TakesMemory, outcome_by, status_of, text_of}
 use Rattle.tw_app.specs.Running.{IsDoneBy, IsOutcomeOf, IsUnbuilt, IsUntouched, Work, by_results, over_files, reading, unbuilt, work, writing}
 use Rattle.tw_app.specs.Statuses.{AreOf, GivesAnchors, IsBuilt, IsVerify, proof_file}
 
@@ -47,77 +47,65 @@ same_fault f g is = cc
 not_judged : (v : Verdict) (f : CommandFault) → Judged v ≡ Undone f → ⊥
 not_judged v f is = cc
 
-no_words : (n : ℕ) (f : CommandFault) → BadWords n ≡ Undone f → ⊥
-no_words n f is = cc
-
 -- ---- how results are told
 
--- a fault is told as it is, and a value neither as a fault nor by the usage line
-record Tells {X : Type 0} (outcome_of : Result X CommandFault → Outcome) : Type 0 where
-  fault : (f : CommandFault) → outcome_of (Err f) ≡ Undone f
-  value : (x : X) (f : CommandFault) → Undone f ≡ outcome_of (Ok x) → ⊥
-  words : (x : X) (n : ℕ) → BadWords n ≡ outcome_of (Ok x) → ⊥
+-- a value is told neither as a fault nor by the usage line
+record Tells {X : Type 0} (of : X → Outcome) : Type 0 where
+  value : (x : X) (f : CommandFault) → Undone f ≡ of x → ⊥
+  words : (x : X) (n : ℕ) → BadWords n ≡ of x → ⊥
 
--- and never as a verdict; where its text takes memory, or its status is neither 0 nor 5, nothing was written
-record TellsOfDisk {X : Type 0} (outcome_of : Result X CommandFault → Outcome) : Type 0 where
-  unjudged : (x : X) (v : Verdict) → Judged v ≡ outcome_of (Ok x) → ⊥
-  takes : (r : Result X CommandFault) → TakesMemory (outcome_of r) → WritesNothing r
-  idle : (r : Result X CommandFault) → (status_of (outcome_of r) ≡ 0 → ⊥) → (status_of (outcome_of r) ≡ 5 → ⊥) → WritesNothing r
+-- and never as a verdict; its status is 0, and its text takes no memory
+record TellsOfDisk {X : Type 0} (of : X → Outcome) : Type 0 where
+  unjudged : (x : X) (v : Verdict) → Judged v ≡ of x → ⊥
+  takes : (x : X) → TakesMemory (of x) → ⊥
+  status : (x : X) → status_of (of x) ≡ 0
 
-made_tells : Tells made
-made_tells = record { fault = λ f. refl; value = λ x f is. cc; words = λ x n is. cc }
+made_tells : Tells Made
+made_tells = record { value = λ x f is. cc; words = λ x n is. cc }
 
-proved_tells : Tells proved
-proved_tells = record { fault = λ f. refl; value = λ x f is. cc; words = λ x n is. cc }
+proof_tells : Tells Proof
+proof_tells = record { value = λ x f is. cc; words = λ x n is. cc }
 
-judged_tells : Tells judged
-judged_tells = record { fault = λ f. refl; value = λ x f is. cc; words = λ x n is. cc }
+judged_tells : Tells Judged
+judged_tells = record { value = λ x f is. cc; words = λ x n is. cc }
 
-made_of_disk : TellsOfDisk made
-made_of_disk = record { unjudged = λ x v is. cc; takes = takes; idle = idle }
-  where
-    takes : (r : Result Thread CommandFault) → TakesMemory (made r) → WritesNothing r
-    takes (Ok thread) taken = taken
-    takes (Err DiskFault) taken = taken
-    takes _ taken = tt
+made_of_disk : TellsOfDisk Made
+made_of_disk = record { unjudged = λ x v is. cc; takes = λ x taken. taken; status = λ x. refl }
 
-    idle : (r : Result Thread CommandFault) → (status_of (made r) ≡ 0 → ⊥) → (status_of (made r) ≡ 5 → ⊥) → WritesNothing r
-    idle (Ok thread) zeroth fifth = zeroth refl
-    idle (Err DiskFault) zeroth fifth = fifth refl
-    idle _ zeroth fifth = tt
+proof_of_disk : TellsOfDisk Proof
+proof_of_disk = record { unjudged = λ x v is. cc; takes = λ x taken. taken; status = λ x. refl }
 
-proved_of_disk : TellsOfDisk proved
-proved_of_disk = record { unjudged = λ x v is. cc; takes = takes; idle = idle }
-  where
-    takes : (r : Result (List ℕ) CommandFault) → TakesMemory (proved r) → WritesNothing r
-    takes (Ok proof) taken = taken
-    takes (Err DiskFault) taken = taken
-    takes _ taken = tt
+-- where its text takes memory, or its status is neither 0 nor 5, nothing was written
+module _ {X : Type 0} (of : X → Outcome) (of_disk : TellsOfDisk of) where
+  quiet_text : (r : Result X CommandFault) → TakesMemory (outcome_by of r) → WritesNothing r
+  quiet_text (Ok x) taken = of_disk.takes x taken
+  quiet_text (Err DiskFault) taken = taken
+  quiet_text _ taken = tt
 
-    idle : (r : Result (List ℕ) CommandFault) → (status_of (proved r) ≡ 0 → ⊥) → (status_of (proved r) ≡ 5 → ⊥) → WritesNothing r
-    idle (Ok proof) zeroth fifth = zeroth refl
-    idle (Err DiskFault) zeroth fifth = fifth refl
-    idle _ zeroth fifth = tt
+  quiet_status : (r : Result X CommandFault) → (status_of (outcome_by of r) ≡ 0 → ⊥) → (status_of (outcome_by of r) ≡ 5 → ⊥) → WritesNothing r
+  quiet_status (Ok x) zeroth fifth = zeroth (of_disk.status x)
+  quiet_status (Err DiskFault) zeroth fifth = fifth refl
+  quiet_status _ zeroth fifth = tt
 
-module _ {X : Type 0} (outcome_of : Result X CommandFault → Outcome) (tells : Tells outcome_of) where
-  no_usage : (n : ℕ) (r : Result X CommandFault) → BadWords n ≡ outcome_of r → ⊥
+module _ {X : Type 0} (of : X → Outcome) (tells : Tells of) where
+  no_usage : (n : ℕ) (r : Result X CommandFault) → BadWords n ≡ outcome_by of r → ⊥
   no_usage n (Ok x) is = tells.words x n is
-  no_usage n (Err f) is = no_words n f (is ∙ tells.fault f)
+  no_usage n (Err f) is = cc
 
   module _ (May : Result X CommandFault → Type 0) where
-    undone_of : (f : CommandFault) → IsOutcomeOf outcome_of May (Undone f) → May (Err f)
+    undone_of : (f : CommandFault) → IsOutcomeOf of May (Undone f) → May (Err f)
     undone_of f came = by came.0 came.1 came.2
       where
-        by : (r : Result X CommandFault) → May r → Undone f ≡ outcome_of r → May (Err f)
+        by : (r : Result X CommandFault) → May r → Undone f ≡ outcome_by of r → May (Err f)
         by (Ok x) may is = absurd (tells.value x f is)
-        by (Err g) may is = subst (λ (h : CommandFault). May (Err h)) (same_fault f g (is ∙ tells.fault g)) may
+        by (Err g) may is = subst (λ (h : CommandFault). May (Err h)) (same_fault f g is) may
 
-    done_of : (o : Outcome) → IsOutcomeOf outcome_of May o → status_of o ≡ 0 → IsDoneBy outcome_of May (text_of o)
+    done_of : (o : Outcome) → IsOutcomeOf of May o → status_of o ≡ 0 → IsDoneBy of May (text_of o)
     done_of o came zeroth = by came.0 came.1 came.2
       where
-        by : (r : Result X CommandFault) → May r → o ≡ outcome_of r → IsDoneBy outcome_of May (text_of o)
+        by : (r : Result X CommandFault) → May r → o ≡ outcome_by of r → IsDoneBy of May (text_of o)
         by (Ok x) may is = (x, may, sym (ap status_of is) ∙ zeroth, ap text_of is)
-        by (Err f) may is = absurd (fault_not_zero f (sym (ap status_of (is ∙ tells.fault f)) ∙ zeroth))
+        by (Err f) may is = absurd (fault_not_zero f (sym (ap status_of is) ∙ zeroth))
 
 -- ---- what is known of each command
 
@@ -173,22 +161,22 @@ module _ {D : Type 0} (view : D → DiskView)
     judging = λ v came. absurd came.0;
   }
 
-  module _ {X : Type 0} (c : Command) (outcome_of : Result X CommandFault → Outcome) (tells : Tells outcome_of) (Comes Leaves : Result X CommandFault → Type 0) (Safe UsesDisk : Type 0)
+  module _ {X : Type 0} (c : Command) (of : X → Outcome) (tells : Tells of) (Comes Leaves : Result X CommandFault → Type 0) (Safe UsesDisk : Type 0)
       (causes : HasCauses o.inputs (found_of view o) (NamesFile c) UsesDisk Comes) (built : IsBuilt view c) where
     abbrev May : Result X CommandFault → Type 0
     May r = Comes r × Leaves r
 
-    row : ((r : Result X CommandFault) → TakesMemory (outcome_of r) → Leaves r → Leaves (Err NoMemory))
+    row : ((r : Result X CommandFault) → TakesMemory (outcome_by of r) → Leaves r → Leaves (Err NoMemory))
         → (IsUntouched view o → Leaves (Err NoMemory))
-        → ((r : Result X CommandFault) → (status_of (outcome_of r) ≡ 0 → ⊥) → (status_of (outcome_of r) ≡ 5 → ⊥) → Leaves r → Left)
+        → ((r : Result X CommandFault) → (status_of (outcome_by of r) ≡ 0 → ⊥) → (status_of (outcome_by of r) ≡ 5 → ⊥) → Leaves r → Left)
         → ((r : Result X CommandFault) → Leaves r → Safe)
-        → ((x : X) (v : Verdict) → Judged v ≡ outcome_of (Ok x) → Comes (Ok x) → Judges o.inputs.told c v)
-        → Row c (by_results outcome_of (λ r. Comes r × Leaves r) Safe UsesDisk)
+        → ((x : X) (v : Verdict) → Judged v ≡ of x → Comes (Ok x) → Judges o.inputs.told c v)
+        → Row c (by_results of (λ r. Comes r × Leaves r) Safe UsesDisk)
     row memory untouched idle safe judging = record {
       built = inl built;
-      usage = λ n came. absurd (no_usage outcome_of tells n came.0 came.2);
-      done = λ outcome came zeroth. done_of outcome_of tells May outcome came zeroth;
-      undone = λ f came. undone_of outcome_of tells May f came;
+      usage = λ n came. absurd (no_usage of tells n came.0 came.2);
+      done = λ outcome came zeroth. done_of of tells May outcome came zeroth;
+      undone = λ f came. undone_of of tells May f came;
       input = λ may. let failed = causes.input may.0 in (built, failed.0, failed.1);
       disk = λ may. causes.disk may.0;
       serves = λ h reads why may. causes.serves h reads why may.0;
@@ -199,60 +187,60 @@ module _ {D : Type 0} (view : D → DiskView)
       judging = λ v came. judged_by v came.0 came.1 came.2;
     }
       where
-        no_memory : Leaves (Err NoMemory) → IsOutcomeOf outcome_of May (Undone NoMemory)
-        no_memory left = (Err NoMemory, (causes.memory, left), sym (tells.fault NoMemory))
+        no_memory : Leaves (Err NoMemory) → IsOutcomeOf of May (Undone NoMemory)
+        no_memory left = (Err NoMemory, (causes.memory, left), refl)
 
-        judged_by : (v : Verdict) (r : Result X CommandFault) → May r → Judged v ≡ outcome_of r → Judges o.inputs.told c v
+        judged_by : (v : Verdict) (r : Result X CommandFault) → May r → Judged v ≡ outcome_by of r → Judges o.inputs.told c v
         judged_by v (Ok x) may is = judging x v is may.0
-        judged_by v (Err f) may is = absurd (not_judged v f (is ∙ tells.fault f))
+        judged_by v (Err f) may is = absurd (not_judged v f is)
 
-    disk_row : TellsOfDisk outcome_of → IsSafe view o.disk.before o.disk.after Leaves Safe → Row c (by_results outcome_of (λ r. Comes r × Leaves r) Safe UsesDisk)
+    disk_row : TellsOfDisk of → IsSafe view o.disk.before o.disk.after Leaves Safe → Row c (by_results of (λ r. Comes r × Leaves r) Safe UsesDisk)
     disk_row of_disk is_safe =
-        row (λ r takes left. is_safe.no_memory (is_safe.idle r left (of_disk.takes r takes))) (λ is. is_safe.no_memory (same_left is))
-        (λ r zeroth fifth left. is_safe.idle r left (of_disk.idle r zeroth fifth)) is_safe.safe (λ x v is comes. absurd (of_disk.unjudged x v is))
+        row (λ r takes left. is_safe.no_memory (is_safe.idle r left (quiet_text of of_disk r takes))) (λ is. is_safe.no_memory (same_left is))
+        (λ r zeroth fifth left. is_safe.idle r left (quiet_status of of_disk r zeroth fifth)) is_safe.safe (λ x v is comes. absurd (of_disk.unjudged x v is))
 
-  files_row : {X : Type 0} (c : Command) (outcome_of : Result X CommandFault → Outcome) → Tells outcome_of → (Comes : Result X CommandFault → Type 0)
+  files_row : {X : Type 0} (c : Command) (of : X → Outcome) → Tells of → (Comes : Result X CommandFault → Type 0)
       → HasCauses o.inputs (found_of view o) (NamesFile c) ⊥ Comes → IsBuilt view c
-      → ((x : X) (v : Verdict) → Judged v ≡ outcome_of (Ok x) → Comes (Ok x) → Judges o.inputs.told c v) → Row c (over_files view o outcome_of Comes)
-  files_row c outcome_of tells Comes causes built judging =
-      row c outcome_of tells Comes (λ r. IsUntouched view o) (IsUntouched view o × Keeps view o.disk.before o.disk.after) ⊥ causes built
+      → ((x : X) (v : Verdict) → Judged v ≡ of x → Comes (Ok x) → Judges o.inputs.told c v) → Row c (over_files view o of Comes)
+  files_row c of tells Comes causes built judging =
+      row c of tells Comes (λ r. IsUntouched view o) (IsUntouched view o × Keeps view o.disk.before o.disk.after) ⊥ causes built
       (λ r takes same. same) (λ is. is) (λ r zeroth fifth same. same_left same) (λ r same. same_safe same) judging
 
   -- one that makes a service or a step, and one that reads a proof from a disk
   made_row : {Comes Leaves : Result Thread CommandFault → Type 0} {Safe : Type 0} → (c : Command) → IsBuilt view c
-      → HasCauses o.inputs (found_of view o) (NamesFile c) (Unit {0}) Comes → IsSafe view o.disk.before o.disk.after Leaves Safe → Row c (writing view o made Comes Leaves Safe)
-  made_row {Comes} {Leaves} {Safe} c built causes is_safe = disk_row c made made_tells Comes Leaves Safe (Unit {0}) causes built made_of_disk is_safe
+      → HasCauses o.inputs (found_of view o) (NamesFile c) (Unit {0}) Comes → IsSafe view o.disk.before o.disk.after Leaves Safe → Row c (writing view o Made Comes Leaves Safe)
+  made_row {Comes} {Leaves} {Safe} c built causes is_safe = disk_row c Made made_tells Comes Leaves Safe (Unit {0}) causes built made_of_disk is_safe
 
-  proved_row : {Comes : Result (List ℕ) CommandFault → Type 0} → (c : Command) → IsBuilt view c
-      → HasCauses o.inputs (found_of view o) (NamesFile c) (Unit {0}) Comes → Row c (reading view o proved Comes)
-  proved_row {Comes} c built causes =
-      disk_row c proved proved_tells Comes (ReadLeaves view o.disk.before o.disk.after) (Left × Keeps view o.disk.before o.disk.after) (Unit {0}) causes built
-      proved_of_disk (reading_is_safe view o.disk.before o.disk.after)
+  proof_row : {Comes : Result (List ℕ) CommandFault → Type 0} → (c : Command) → IsBuilt view c
+      → HasCauses o.inputs (found_of view o) (NamesFile c) (Unit {0}) Comes → Row c (reading view o Proof Comes)
+  proof_row {Comes} c built causes =
+      disk_row c Proof proof_tells Comes (ReadLeaves view o.disk.before o.disk.after) (Left × Keeps view o.disk.before o.disk.after) (Unit {0}) causes built
+      proof_of_disk (reading_is_safe view o.disk.before o.disk.after)
 
   show_row : (history : List ℕ) (step index : ℕ) → Row (Show history step index) (work view o (Show history step index))
   show_row history step index =
-      files_row (Show history step index) proved proved_tells (ShowComes o.inputs history step index)
+      files_row (Show history step index) Proof proof_tells (ShowComes o.inputs history step index)
       (record { input = λ rose. (tt, rose); disk = λ came. absurd came; serves = λ h reads why came. came; memory = tt })
-      (λ p n came. no_usage proved proved_tells n came.0 came.2) (λ x v is comes. absurd (proved_of_disk.unjudged x v is))
+      (λ p n came. no_usage Proof proof_tells n came.0 came.2) (λ x v is comes. absurd (proof_of_disk.unjudged x v is))
 
   verify_file_row : (proof anchors : List ℕ) → Row (VerifyFile proof anchors) (work view o (VerifyFile proof anchors))
   verify_file_row proof anchors =
-      files_row (VerifyFile proof anchors) judged judged_tells (VerifyFileComes o.inputs proof anchors)
+      files_row (VerifyFile proof anchors) Judged judged_tells (VerifyFileComes o.inputs proof anchors)
       (record { input = λ rose. (tt, rose); disk = λ came. absurd came; serves = λ h reads why came. came; memory = tt })
-      (λ p n came. no_usage judged judged_tells n came.0 came.2) judging
+      (λ p n came. no_usage Judged judged_tells n came.0 came.2) judging
     where
-      judging : (w v : Verdict) → Judged v ≡ judged (Ok w) → VerifyFileComes o.inputs proof anchors (Ok w) → Judges o.inputs.told (VerifyFile proof anchors) v
+      judging : (w v : Verdict) → Judged v ≡ Judged w → VerifyFileComes o.inputs proof anchors (Ok w) → Judges o.inputs.told (VerifyFile proof anchors) v
       judging w v is comes =
           let same : w ≡ v = cc in
           record { file = proof; anchors = comes.0; asked = refl; given = comes.1; judged = subst (IsJudged o.inputs.told proof comes.0) same comes.2 }
 
   verify_one_row : (proof : List ℕ) (anchor : Thread) → Row (VerifyOne proof anchor) (work view o (VerifyOne proof anchor))
   verify_one_row proof anchor =
-      files_row (VerifyOne proof anchor) judged judged_tells (VerifyOneComes o.inputs proof anchor)
+      files_row (VerifyOne proof anchor) Judged judged_tells (VerifyOneComes o.inputs proof anchor)
       (record { input = λ rose. (tt, rose); disk = λ came. absurd came; serves = λ h reads why came. came; memory = tt })
-      (λ p n came. no_usage judged judged_tells n came.0 came.2) judging
+      (λ p n came. no_usage Judged judged_tells n came.0 came.2) judging
     where
-      judging : (w v : Verdict) → Judged v ≡ judged (Ok w) → VerifyOneComes o.inputs proof anchor (Ok w) → Judges o.inputs.told (VerifyOne proof anchor) v
+      judging : (w v : Verdict) → Judged v ≡ Judged w → VerifyOneComes o.inputs proof anchor (Ok w) → Judges o.inputs.told (VerifyOne proof anchor) v
       judging w v is comes =
           let same : w ≡ v = cc in
           record { file = proof; anchors = anchor ∷ []; asked = refl; given = refl; judged = subst (IsJudged o.inputs.told proof (anchor ∷ [])) same comes }
@@ -260,20 +248,20 @@ module _ {D : Type 0} (view : D → DiskView)
   -- each command, by what is known of its results
   pub rows : (c : Command) → Row c (work view o c)
   rows (Init name) =
-      made_row (Init name) (λ p n came. no_usage made made_tells n came.0 came.2) (init_causes o.inputs (found_of view o) name)
+      made_row (Init name) (λ p n came. no_usage Made made_tells n came.0 came.2) (init_causes o.inputs (found_of view o) name)
       (init_is_safe view o.disk.before o.disk.after only_now as_it_reads name)
   rows (Append file) =
-      made_row (Append file) (λ p n came. no_usage made made_tells n came.0 came.2) (append_causes o.inputs (found_of view o) file)
+      made_row (Append file) (λ p n came. no_usage Made made_tells n came.0 came.2) (append_causes o.inputs (found_of view o) file)
       (append_is_safe view o.disk.before o.disk.after only_now as_it_reads o.inputs.told file)
   rows (ProveEvent step index top) =
-      proved_row (ProveEvent step index top) (λ p n came. no_usage proved proved_tells n came.0 came.2) (prove_causes o.inputs (found_of view o) step index top)
+      proof_row (ProveEvent step index top) (λ p n came. no_usage Proof proof_tells n came.0 came.2) (prove_causes o.inputs (found_of view o) step index top)
   rows (Show history step index) = show_row history step index
   rows (VerifyFile proof anchors) = verify_file_row proof anchors
   rows (VerifyOne proof anchor) = verify_one_row proof anchor
   rows _ = unbuilt_row _
 
 -- a command that judges comes to a verdict or isn't done
-of_result : (o : Outcome) (r : Result Verdict CommandFault) → o ≡ judged r → ((v : Verdict) × (o ≡ Judged v)) ⊎ ((f : CommandFault) × (o ≡ Undone f))
+of_result : (o : Outcome) (r : Result Verdict CommandFault) → o ≡ outcome_by Judged r → ((v : Verdict) × (o ≡ Judged v)) ⊎ ((f : CommandFault) × (o ≡ Undone f))
 of_result o (Ok v) is = inl (v, is)
 of_result o (Err f) is = inr (f, is)
 

@@ -16,9 +16,9 @@ use Rattle.tw_diskcmd.specs.Disks.{IsLeft, Keeps, ReadLeaves}
 use Rattle.tw_diskcmd.specs.Making.{InitComes, InitLeaves, InitSafe}
 use Rattle.tw_diskcmd.specs.Proving.{ProveComes}
 use Rattle.tw_app.specs.declared.outcome.Outcome.{Outcome}
-use Rattle.tw_app.specs.declared.outcome.Outcome.TheVariants.{BadWords, Undone}
+use Rattle.tw_app.specs.declared.outcome.Outcome.TheVariants.{Judged, Proof, Made, BadWords, Undone}
 use Rattle.tw_app.specs.Around.{Around, Outside, Span, found_of}
-use Rattle.tw_app.specs.Outcomes.{judged, made, proved, status_of, text_of}
+use Rattle.tw_app.specs.Outcomes.{outcome_by, status_of, text_of}
 
 -- ---- what a command does
 
@@ -36,13 +36,12 @@ pub record Work : Type 1 where
   pub uses_disk : Type 0
 
 -- the outcome is that of a result for which May holds
-abbrev pub IsOutcomeOf : {X : Type 0} → (outcome_of : X → Outcome) → (May : X → Type 0) → Outcome → Type 0
-IsOutcomeOf {X} outcome_of May outcome = (x : X) × May x × (outcome ≡ outcome_of x)
+abbrev pub IsOutcomeOf : {X : Type 0} → (of : X → Outcome) → (May : Result X CommandFault → Type 0) → Outcome → Type 0
+IsOutcomeOf {X} of May outcome = (result : Result X CommandFault) × May result × (outcome ≡ outcome_by of result)
 
--- it is that of a value for which it holds, of status 0 and with this text
-abbrev pub IsDoneBy : {X : Type 0} → (outcome_of : Result X CommandFault → Outcome) → (May : Result X CommandFault → Type 0) → (text : List ℕ) → Type 0
-IsDoneBy {X} outcome_of May text =
-    (value : X) × May (Ok value) × (status_of (outcome_of (Ok value)) ≡ 0) × (text ≡ text_of (outcome_of (Ok value)))
+-- May holds of a value whose outcome has status 0 and this text
+abbrev pub IsDoneBy : {X : Type 0} → (of : X → Outcome) → (May : Result X CommandFault → Type 0) → (text : List ℕ) → Type 0
+IsDoneBy {X} of May text = (value : X) × May (Ok value) × (status_of (of value) ≡ 0) × (text ≡ text_of (of value))
 
 -- what a command comes to that isn't built
 abbrev pub IsUnbuilt : Outcome → Type 0
@@ -51,10 +50,10 @@ IsUnbuilt (Undone NoMemory) = Unit {0}
 IsUnbuilt _ = ⊥
 
 -- a command with results of its own, of which May holds
-abbrev pub by_results : {X : Type 0} → (outcome_of : Result X CommandFault → Outcome) → (May : Result X CommandFault → Type 0) → (Safe UsesDisk : Type 0) → Work
-by_results outcome_of May Safe UsesDisk = record {
-  does = IsOutcomeOf outcome_of May;
-  done = IsDoneBy outcome_of May;
+abbrev pub by_results : {X : Type 0} → (of : X → Outcome) → (May : Result X CommandFault → Type 0) → (Safe UsesDisk : Type 0) → Work
+by_results of May Safe UsesDisk = record {
+  does = IsOutcomeOf of May;
+  done = IsDoneBy of May;
   undone = λ fault. May (Err fault);
   safe = Safe;
   uses_disk = UsesDisk;
@@ -75,30 +74,30 @@ module _ {D : Type 0} (view : D → DiskView) (o : Outside D) where
   }
 
   -- a command without a folder
-  abbrev pub over_files : {X : Type 0} → (outcome_of : Result X CommandFault → Outcome) → (Comes : Result X CommandFault → Type 0) → Work
-  over_files outcome_of Comes = by_results outcome_of (λ result. Comes result × IsUntouched) (IsUntouched × Keeps view o.disk.before o.disk.after) ⊥
+  abbrev pub over_files : {X : Type 0} → (of : X → Outcome) → (Comes : Result X CommandFault → Type 0) → Work
+  over_files of Comes = by_results of (λ result. Comes result × IsUntouched) (IsUntouched × Keeps view o.disk.before o.disk.after) ⊥
 
   -- a command that reads the disk of a folder, and writes nothing
-  abbrev pub reading : {X : Type 0} → (outcome_of : Result X CommandFault → Outcome) → (Comes : Result X CommandFault → Type 0) → Work
-  reading outcome_of Comes =
-      by_results outcome_of (λ result. Comes result × ReadLeaves view o.disk.before o.disk.after result)
+  abbrev pub reading : {X : Type 0} → (of : X → Outcome) → (Comes : Result X CommandFault → Type 0) → Work
+  reading of Comes =
+      by_results of (λ result. Comes result × ReadLeaves view o.disk.before o.disk.after result)
       (IsLeft view o.disk.before o.disk.after × Keeps view o.disk.before o.disk.after) (Unit {0})
 
   -- one that writes it
-  abbrev pub writing : {X : Type 0} → (outcome_of : Result X CommandFault → Outcome) → (Comes Leaves : Result X CommandFault → Type 0) → (Safe : Type 0) → Work
-  writing outcome_of Comes Leaves Safe = by_results outcome_of (λ result. Comes result × Leaves result) Safe (Unit {0})
+  abbrev pub writing : {X : Type 0} → (of : X → Outcome) → (Comes Leaves : Result X CommandFault → Type 0) → (Safe : Type 0) → Work
+  writing of Comes Leaves Safe = by_results of (λ result. Comes result × Leaves result) Safe (Unit {0})
 
   -- what each command does
   abbrev pub work : Command → Work
   work (Init name) =
-      writing made (InitComes (found_of view o) name) (InitLeaves view o.disk.before o.disk.after name) (InitSafe view o.disk.before o.disk.after name)
+      writing Made (InitComes (found_of view o) name) (InitLeaves view o.disk.before o.disk.after name) (InitSafe view o.disk.before o.disk.after name)
   work (Append file) =
-      writing made (AppendComes o.inputs (found_of view o) file) (AppendLeaves view o.disk.before o.disk.after o.inputs.told file)
+      writing Made (AppendComes o.inputs (found_of view o) file) (AppendLeaves view o.disk.before o.disk.after o.inputs.told file)
       (AppendSafe view o.disk.before o.disk.after o.inputs.told file)
-  work (ProveEvent step index top) = reading proved (ProveComes (found_of view o) step index top)
-  work (Show history step index) = over_files proved (ShowComes o.inputs history step index)
-  work (VerifyFile proof anchors) = over_files judged (VerifyFileComes o.inputs proof anchors)
-  work (VerifyOne proof anchor) = over_files judged (VerifyOneComes o.inputs proof anchor)
+  work (ProveEvent step index top) = reading Proof (ProveComes (found_of view o) step index top)
+  work (Show history step index) = over_files Proof (ShowComes o.inputs history step index)
+  work (VerifyFile proof anchors) = over_files Judged (VerifyFileComes o.inputs proof anchors)
+  work (VerifyOne proof anchor) = over_files Judged (VerifyOneComes o.inputs proof anchor)
   work _ = unbuilt
 
 -- ---- what words come to

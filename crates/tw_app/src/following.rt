@@ -6,7 +6,8 @@ ghost use Rattle.tw_outside.specs.Asked.{asked};
 ghost use Rattle.tw_text.specs.CommandLine.{command_of};
 ghost use Rattle.tw_app.specs.Around.{outside};
 ghost use Rattle.tw_app.specs.Commands.{files_of};
-ghost use Rattle.tw_app.specs.Outcomes.{made as made_outcome, proved as proved_outcome};
+ghost use Rattle.tw_app.specs.Outcomes.{outcome_by};
+ghost use Rattle.tw_app.specs.declared.outcome.Outcome.TheVariants.{Made as OfThread, Proof as OfProof};
 ghost use Rattle.tw_app.specs.Running.{HasOutcome, work};
 
 use crate::outcome::{Outcome, judged, made, proved};
@@ -90,7 +91,7 @@ fn follow<D: Disk, I: Inputs>(
 
 /// What came of a command that makes a service or a step.
 fn with_thread<D>(worked: Worked<D, Thread>) -> Followed<D>
-    ensures outcome { result.outcome ≡ made_outcome worked.outcome }
+    ensures outcome { result.outcome ≡ outcome_by OfThread worked.outcome }
     ensures disk { result.disk ≡ worked.disk }
 {
     Followed {
@@ -101,7 +102,7 @@ fn with_thread<D>(worked: Worked<D, Thread>) -> Followed<D>
 
 /// What came of a command that proves an event.
 fn with_proof<D>(worked: Worked<D, Bytes>) -> Followed<D>
-    ensures outcome { result.outcome ≡ proved_outcome worked.outcome }
+    ensures outcome { result.outcome ≡ outcome_by OfProof worked.outcome }
     ensures disk { result.disk ≡ worked.disk }
 {
     Followed {
