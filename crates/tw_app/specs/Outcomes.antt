@@ -1,6 +1,5 @@
 -- The outcome of what a command came to, and each outcome's status and text.
 use Rattle.std.specs.Prelude.{ℕ, List, Result, Ok, Err}
-use Rattle.tw_base.specs.declared.thread.Thread.{Thread}
 use Rattle.tw_text.specs.Faults.{fault_status, fault_text}
 use Rattle.tw_text.specs.Lines.{anchor_text, usage_text}
 use Rattle.tw_text.specs.Reports.{rejected_text, report_text}

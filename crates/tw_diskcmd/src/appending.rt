@@ -10,7 +10,7 @@ ghost use Rattle.tw_diskcmd.specs.Appending.{AppendComes, AppendLeaves, AreEvent
 ghost use Rattle.tw_diskcmd.specs.Disks.{IsLeft, OpensAsServiceWith, ReadsAs, found_disk};
 ghost use Rattle.tw_diskcmd.specs.WorkSteps.{ComesOfFile, LeavesStep, WritesNothing};
 
-use crate::faults::{fault_of_service, fault_of_store, refuse_byte};
+use crate::faults::{bad_byte, fault_of_service, fault_of_store};
 use crate::limits::{EVENTS_LIMIT, EVENTS_READ};
 use crate::worked::Worked;
 use std::alloc::Global;
@@ -58,11 +58,11 @@ fn read_step<I: Inputs>(
 {
     let bytes = read_all(alloc, inputs, file, EVENTS_READ)?;
     if bytes.len() > EVENTS_LIMIT {
-        return Err(refuse_byte(alloc, file, EVENTS_LIMIT as u64));
+        return Err(bad_byte(alloc, file, EVENTS_LIMIT as u64)?);
     }
     match read_events(alloc, bytes.as_slice()) {
         Ok(events) => Ok(events),
-        Err(ReadFault::Malformed { place }) => Err(refuse_byte(alloc, file, place)),
+        Err(ReadFault::Malformed { place }) => Err(bad_byte(alloc, file, place)?),
         Err(ReadFault::NoMemory) => Err(CommandFault::NoMemory),
     }
 }
