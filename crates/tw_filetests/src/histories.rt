@@ -7,14 +7,16 @@ use tw_history::{
     History, HistoryFault, Nodes, Steps, auth_of, is_sound, read_history, show_event, write_history,
 };
 
-/// The file of the history of the service `a` with one step, of one event of no bytes.
-fn event_file() -> &'static [u8] {
-    b"TWH1a\0\0\0\0\0\0\0\0\0\0\0\0\0\0\0\0\0\0\0\0\0\0\x01\x01\0\0\0\x01\0\0\0\0\0\0\0\0\0\0"
-}
-
-/// The file of the history of the service `a` with one step, of one event of no bytes, at the time 5.
-fn timed_file() -> &'static [u8] {
-    b"TWH1a\0\0\0\0\0\0\0\0\0\0\0\0\0\0\0\0\0\0\0\0\0\0\x01\x03\0\0\0\0\0\0\0\x05\0\0\0\x01\0\0\0\0\0\0\0\0\0\0"
+/// The file of the history of the service `a` with one step of one event of no bytes, which begins with these bytes.
+fn event_file(alloc: Global, begin: &[u8]) -> Result<Bytes, NoMemory> {
+    let mut file = Bytes::new(alloc);
+    file.extend_from_slice(b"TWH1a")?;
+    file.extend_from_slice(&[0; 22])?;
+    file.extend_from_slice(&[1])?;
+    file.extend_from_slice(begin)?;
+    file.extend_from_slice(&[0, 0, 0, 1])?;
+    file.extend_from_slice(&[0; 10])?;
+    Ok(file)
 }
 
 /// The file of the history of the service `a` with three steps without events, of which the first
@@ -65,8 +67,9 @@ fn read_and_written(alloc: Global, file: &[u8]) -> Result<(History, Bytes), Hist
 #[test]
 fn a_step_of_an_event(rt: HostRuntime) -> Result<(), Fail> {
     let alloc = rt.alloc();
-    let (history, written) = read_and_written(alloc, event_file())?;
-    assert!(rt; written.as_slice() == event_file());
+    let file = event_file(alloc, &[1])?;
+    let (history, written) = read_and_written(alloc, file.as_slice())?;
+    assert!(rt; written.as_slice() == file.as_slice());
     assert_eq!(rt; auth_of::<Weak>(alloc, &history, 1)?, Some(short(0xbf)));
     assert!(rt; show_event::<Weak>(alloc, &history, 1, 0)?.len() == 145);
     Ok(())
@@ -75,8 +78,9 @@ fn a_step_of_an_event(rt: HostRuntime) -> Result<(), Fail> {
 #[test]
 fn a_step_with_a_time(rt: HostRuntime) -> Result<(), Fail> {
     let alloc = rt.alloc();
-    let (history, written) = read_and_written(alloc, timed_file())?;
-    assert!(rt; written.as_slice() == timed_file());
+    let file = event_file(alloc, &[3, 0, 0, 0, 0, 0, 0, 0, 5])?;
+    let (history, written) = read_and_written(alloc, file.as_slice())?;
+    assert!(rt; written.as_slice() == file.as_slice());
     assert_eq!(rt; auth_of::<Weak>(alloc, &history, 1)?, Some(short(0xc7)));
     assert!(rt; show_event::<Weak>(alloc, &history, 1, 0)?.len() == 153);
     Ok(())
