@@ -19,6 +19,7 @@ TOP = HERE.parent
 sys.path.insert(0, str(TOP / "tests/acceptance"))
 
 import calls  # noqa: E402
+import proofs  # noqa: E402
 import reference  # noqa: E402
 from instructions import counted  # noqa: E402
 from picture import drawn  # noqa: E402
@@ -200,21 +201,13 @@ def shown_tables(bench):
     return text
 
 
-def text_sizes(step, index, top, events):
-    """The sizes of the texts that checking the proof hashes, each once."""
-    levels = [reference.top_level(start) for start in reference.greedy_steps(top, step)[:-1]]
-    links = [size for level in levels for size in (74, 10 + 32 * (level + 1))]
-    opening = [69, 74, 10 + 32 * (reference.top_level(step) + 1)]
-    return opening + links + [1 + len(events[index])] + [65] * reference.path_length(len(events), index)
-
-
 def instruction_table(bench):
     """The instructions of `verify` on the deep proof, beside those inside the hashes."""
     if not shutil.which("valgrind"):
         return ["", "Instructions weren't counted: valgrind isn't installed."]
     total, own, inside, blocks = counted(bench.deep, bench.folder)
-    # (SHA-256 hashes blocks of 64 bytes, of which the last has a byte and the length beside the text)
-    wanted = sum((size + 9 + 63) // 64 for size in text_sizes(STEP, INDEX, TOP_STEP, DEEP_EVENTS))
+    event = [1 + len(DEEP_EVENTS[INDEX])] + [65] * reference.path_length(len(DEEP_EVENTS), INDEX)
+    wanted = proofs.blocks(proofs.part_sizes(STEP, TOP_STEP) + event)
     ratios = [f"{part / inside:.2f}" if inside else "?" for part in (own, total)]
     return [
         "", "| `verify` of the deep proof | instructions | ratio to the hashes |", "|---|---|---|",

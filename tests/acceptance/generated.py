@@ -1,16 +1,14 @@
 """Acceptance cases that are counted off: proofs made by reference.py, and each way to change one of them.
 
-What the program is to say of a changed proof is what reference.verdict says.
+What the program is to say of a changed proof is what proofs.verdict says.
 """
 
 import random
 
+import proofs
 import reference
+from histories import event_text, reshaping, timed, woven
 from reference import Timeline
-
-
-def event_text(step, index):
-    return f"{step}.{index}".encode()
 
 
 def counted_timeline(name, counts):
@@ -20,7 +18,7 @@ def counted_timeline(name, counts):
 
 def judged(name, data, service, pos, auth):
     """The case of these bytes under an anchor, as the reference judges them."""
-    text, status = reference.verdict(data, service, pos, auth)
+    text, status = proofs.verdict(data, {service: (pos, auth)})
     return {
         "name": name,
         "files": {"p": data},
@@ -101,6 +99,15 @@ def all_changed():
         yield judged(f"event {index} with the path of event 1", swapped, "changed", 13, line.auths[13])
 
 
+def other_kinds():
+    """The least proof with another kind, and a kind with nothing behind it."""
+    line = Timeline("a", [[b""]])
+    data = reference.proof_bytes(line, 1, 0, 1)
+    for kind in (0, *proofs.KINDS, 6, 9, 255):
+        yield judged(f"kind {kind}", data[:4] + bytes([kind]) + data[5:], "a", 1, line.auths[1])
+        yield judged(f"kind {kind}, and nothing else", data[:4] + bytes([kind]), "a", 1, line.auths[1])
+
+
 def above_the_top():
     """A step above its top: the proof is well-formed, and refused for the order before all else."""
     line = counted_timeline("order", [2] * 8)
@@ -116,50 +123,27 @@ def shown(name, data, step, index):
     return {"name": name, "files": {"h": data}, "words": ["show", "h", str(step), str(index)], "status": status, "bytes": output}
 
 
-def woven(count, seed):
-    """The steps of a history `woven` that records events and threads of three services, in an order of its own. The archive
-    is an unbalanced tree: each thread adds a leaf and copies of the nodes above it."""
-    rand = random.Random(seed)
-    nodes, threads, last, steps, root = [], {}, {"a": 0, "b": 0, "wide-name": 0}, [], 0
-
-    def key(number):
-        return threads[nodes[number - 1][1]][:2]
-
-    def with_leaf(number, entry):
-        if number == 0:
-            nodes.append((0, entry, 0))
-        else:
-            left, own, right = nodes[number - 1]
-            if threads[entry][:2] < key(number):
-                left = with_leaf(left, entry)
-            else:
-                right = with_leaf(right, entry)
-            nodes.append((left, own, right))
-        return len(nodes)
-
-    for step in range(1, count + 1):
-        if rand.randrange(2):
-            steps.append(reference.Step([event_text(step, k) for k in range(rand.randrange(4))], root=root))
-            continue
-        service = rand.choice(sorted(last))
-        last[service] += rand.randrange(1, 300)
-        threads[step] = (service, last[service], reference.dig(event_text(step, 0)))
-        before = len(nodes)
-        root = with_leaf(root, step)
-        steps.append(reference.Step(thread=threads[step], nodes=nodes[before:], root=root))
-    return steps
-
-
 def histories():
     """Each event of histories of events alone and of woven ones, and what isn't there."""
     counts = [1, 3, 0, 2, 7, 1, 1, 5, 2, 1, 4, 1, 1]
     plain = [reference.Step([event_text(step, k) for k in range(count)]) for step, count in enumerate(counts, 1)]
-    for name, steps in (("plain", plain), ("woven", woven(12, "one")), ("woven", woven(33, "two"))):
+    for name, steps in (("plain", plain), ("woven", woven(12, "one").steps), ("woven", woven(33, "two").steps)):
         data = reference.history_bytes(name, steps)
         for step in range(len(steps) + 2):
             events = steps[step - 1].events if 1 <= step <= len(steps) else []
             for index in range(len(events) + 1):
                 yield shown(f"{len(steps)} steps, {name}, event {index} of step {step}", data, step, index)
+
+
+def archives_of_any_shape():
+    """Events of histories whose archive takes a shape by chance with each thread, also where the last step adds nodes of no root."""
+    for seed in range(4):
+        history = woven(20, f"shape {seed}", reshaping(random.Random(seed)))
+        spare = sorted({entry.archived for tree in history.trees for entry in reference.listed(tree)})
+        history.steps[-1].nodes += [(0, entry, 0) for entry in spare[: 5 * (seed % 2)]]
+        for step, recorded in enumerate(history.steps, 1):
+            for index in range(len(recorded.events) + 1):
+                yield shown(f"{seed}, event {index} of step {step}", history.bytes(), step, index)
 
 
 def shown_trees():
@@ -175,13 +159,12 @@ def shown_trees():
 
 def shown_and_accepted():
     """What is shown of a woven history, where each of its events is accepted under the authenticator of the last step."""
-    steps = woven(33, "two")
-    data = reference.history_bytes("woven", steps)
-    auth = reference.history_line("woven", steps).auths[-1]
-    for step, recorded in enumerate(steps, 1):
+    history = woven(33, "two")
+    data, auth = history.bytes(), history.line().auths[-1]
+    for step, recorded in enumerate(history.steps, 1):
         for index in range(len(recorded.events)):
             proof, _ = reference.shown("h", data, step, index)
-            case = judged(f"event {index} of step {step}", proof, "woven", len(steps), auth)
+            case = judged(f"event {index} of step {step}", proof, "woven", 33, auth)
             assert case["status"] == 0
             yield case
 
@@ -193,9 +176,9 @@ def changed_histories():
         data = reference.history_bytes("a", [step])
         for size in range(len(data)):
             yield shown(f"{name}, cut to {size}", data[:size], 1, 0)
-    steps = woven(7, "small")
-    data = reference.history_bytes("woven", steps)
-    last = max(number for number, step in enumerate(steps, 1) if step.events)
+    history = woven(7, "small")
+    data = history.bytes()
+    last = max(number for number, step in enumerate(history.steps, 1) if step.events)
     rand = random.Random("histories")
     for place in range(len(data)):
         for value in {data[place] ^ 1, rand.randrange(256)} - {data[place]}:
@@ -232,16 +215,6 @@ def broken_by_hand():
     yield 3, "an entry lost, and too many bytes of events", [thread(b5, [(0, 1, 0)], 1), reference.Step([bytes(1024)] * 65)]
 
 
-def timed(steps, seed):
-    """The same steps, of which some claim times that don't fall."""
-    rand = random.Random(seed)
-    latest = 0
-    for step in steps:
-        latest += rand.choice((0, 0, 1, 2**20, 2**31))
-        step.time = latest if rand.randrange(3) else None
-    return steps
-
-
 def times():
     """Proofs of steps with times and without, and the histories that show them; the greatest time, and the least."""
     line = Timeline("t", [[b""], [b"hi"], [b"x"], [b"y"]], None, [0, None, 5, 2**40 - 1])
@@ -249,7 +222,7 @@ def times():
         for step in range(1, top + 1):
             yield accepted(f"step {step} under {top}", line, step, 0, top)
     for count, seed in ((5, "few"), (33, "many")):
-        steps = timed(woven(count, seed), seed)
+        steps = timed(woven(count, seed).steps, seed)
         data = reference.history_bytes("woven", steps)
         last = reference.history_line("woven", steps)
         for step, recorded in enumerate(steps, 1):
@@ -343,7 +316,7 @@ def unsound_histories():
     yield shown("as many bytes of events as may be", reference.history_bytes("a", [reference.Step([bytes(1024)] * 64)]), 1, 63)
     rand = random.Random("unsound")
     for number in range(150):
-        steps = woven(rand.randint(2, 12), f"unsound {number}")
+        steps = woven(rand.randint(2, 12), f"unsound {number}", *[reshaping(rand)] * (number % 2)).steps
         limit = sum(len(step.nodes) for step in steps) + 2
         step = rand.choice(steps)
         field = rand.randrange(4) if step.nodes else 3
@@ -359,8 +332,9 @@ def unsound_histories():
 
 def cases():
     groups = (
-        paths, event_trees, sizes, deep, all_changed, above_the_top, swapped_labels, histories, shown_trees, shown_and_accepted,
-        changed_histories, unsound_histories, times, changed_times, count_words, falling_times,
+        paths, event_trees, sizes, deep, all_changed, other_kinds, above_the_top, swapped_labels, histories,
+        archives_of_any_shape, shown_trees, shown_and_accepted, changed_histories, unsound_histories, times, changed_times, count_words,
+        falling_times,
     )
     for group in groups:
         for case in group():

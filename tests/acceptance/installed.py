@@ -18,12 +18,17 @@ COPIED = ("bin/timeweave", "share/man/man1/timeweave.1", COMPLETION)
 UNBUILT = {tuple(case["words"]) for case in json.loads((HERE / "cases/unbuilt.json").read_text())}
 
 
+def named():
+    """The forms as the docstrings of the commands name them, without what may be left out or follow."""
+    source = (TOP / "crates/tw_text/src/command.rt").read_text()
+    for form in re.findall(r"/// `(.*?)`:", source):
+        yield form, [word for word in re.sub(r"\[.*\]", "", form).split() if word != ".."]
+
+
 def forms():
-    """The forms of the program's own table: each as its words, with None for what isn't a fixed word."""
-    source = (TOP / "crates/tw_text/src/form.rt").read_text()
-    table = source[source.index("pub fn form_named") :]
-    for parts in re.findall(r"&\[(.*?)\]", table, re.S):
-        yield [word or None for word in re.findall(r'Fixed\("(\w+)"\)|\w+', parts) if word != "Fixed"]
+    """The forms, each as its words, with None for what isn't a fixed word."""
+    for _, words in named():
+        yield [word if word.islower() else None for word in words]
 
 
 def is_built(form):
@@ -67,11 +72,9 @@ def completion(program):
 
 
 def named_forms():
-    """The forms as the docstrings of the commands name them, by whether their commands are built."""
-    source = (TOP / "crates/tw_text/src/command.rt").read_text()
+    """The forms by whether their commands are built."""
     found = {True: set(), False: set()}
-    for form in re.findall(r"/// `(.*?)`:", source):
-        words = [word for word in re.sub(r"\[.*\]", "", form).split() if word != ".."]
+    for form, words in named():
         found[is_built([word if word.islower() else None for word in words])].add(form)
     return found
 

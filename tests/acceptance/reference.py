@@ -9,6 +9,7 @@ The acceptance cases take their expected bytes, digests and places from here, an
 
 import sys
 from hashlib import sha256
+from typing import NamedTuple
 
 LAST_STEP = 2**40 - 1
 LAST_TIME = 2**40 - 1
@@ -51,6 +52,51 @@ def datum(event_root, archive_root, count, time=None):
 
 
 EMPTY_TREE = dig(b"\x14")
+
+
+class Entry(NamedTuple):
+    """A thread in an archive: a service, one of its steps with its authenticator there, and the step that received it."""
+
+    service: str
+    step: int
+    auth: bytes
+    archived: int
+
+    @property
+    def key(self):
+        """What entries are ordered by."""
+        return self.service, self.step
+
+    def bytes(self):
+        return padded(self.service) + be(self.step, 8) + self.auth + be(self.archived, 8)
+
+
+def node_label(left, entry, right, digest=dig):
+    """The label of a node of an archive's tree, from the labels of its sides."""
+    return digest(b"\x15" + left + entry.bytes() + right)
+
+
+class Tree:
+    """A tree of which the label alone is known."""
+
+    def __init__(self, label):
+        self.label = label
+
+
+EMPTY = Tree(EMPTY_TREE)
+
+
+class Node(Tree):
+    """A tree of an entry between two sides. Trees of several steps may share their nodes."""
+
+    def __init__(self, left, entry, right):
+        super().__init__(node_label(left.label, entry, right.label))
+        self.left, self.entry, self.right = left, entry, right
+
+
+def listed(tree):
+    """The entries of a tree, in its order."""
+    return [*listed(tree.left), tree.entry, *listed(tree.right)] if isinstance(tree, Node) else []
 
 
 # ---- event trees (RFC 6962, sections 2.1 and 2.1.1)
@@ -133,7 +179,7 @@ def greedy_steps(start, end):
     return steps
 
 
-# ---- the bytes of a proof of kind 1
+# ---- the bytes of a proof that an event stands in a step
 
 
 def path_bytes(timeline, top, step):
@@ -167,18 +213,18 @@ def event_bytes(events, index):
     return be(index, 4) + be(len(event), 4) + event + b"".join(event_path(events, index))
 
 
-def head_bytes(name, step, top):
-    return b"TWP1" + b"\x01" + padded(name) + be(step, 8) + be(top, 8)
+def head_bytes(kind, name, step, top):
+    return b"TWP1" + be(kind, 1) + padded(name) + be(step, 8) + be(top, 8)
+
+
+def part_bytes(kind, timeline, step, top):
+    """What a proof of a step's content begins with: the head, the path from the top to the step, and the step's opening."""
+    return head_bytes(kind, timeline.name, step, top) + path_bytes(timeline, top, step) + opening_bytes(timeline, step)
 
 
 def proof_bytes(timeline, step, index, top):
     """The proof that the event of that index stands in the step, under the authenticator of the top."""
-    return (
-        head_bytes(timeline.name, step, top)
-        + path_bytes(timeline, top, step)
-        + opening_bytes(timeline, step)
-        + event_bytes(timeline.events(step), index)
-    )
+    return part_bytes(1, timeline, step, top) + event_bytes(timeline.events(step), index)
 
 
 # ---- what the program writes
@@ -193,7 +239,7 @@ def accepted_text(name, step, index, event, time=None):
     return line if time is None else line + f"time {name} {step} {time}\n"
 
 
-# ---- the verdict on a proof under one anchor
+# ---- the fields of a proof
 
 
 class Malformed(Exception):
@@ -282,68 +328,36 @@ def climbed(records, start, end, bottom):
     return authenticator(start, others[:level] + [link_label(start, level, own, below)] + others[level:])
 
 
-def verdict(data, name, pos, auth):
-    """What the program writes of the bytes of a proof under the anchor of this service and step, and its status."""
-    if data[:4] == b"TWP1" and data[4:5] in (b"\x02", b"\x03", b"\x04", b"\x05"):
-        return "rejected 9 Unbuilt\n", 1
-    read = Reader(data)
-    try:
-        read.text(b"TWP1\x01")
-        service = read.name()
-        step = read.number(8, 1, LAST_STEP)
-        top = read.number(8, 1, LAST_STEP)
-        records = [(read.bytes(32), read.digests(top_level(start))) for start in greedy_steps(top, step)[:-1]]
-        root, archive = read.bytes(32), read.bytes(32)
-        count, time = read.timed_count(1)
-        prev = read.bytes(32)
-        others = read.digests(top_level(step))
-        index = read.number(4, 0, count - 1)
-        event = read.bytes(read.number(4, 0, 1024))
-        path = read.digests(path_length(count, index))
-        read.end()
-    except Malformed as bad:
-        return f"rejected 1 Malformed {bad.place}\n", 1
-    if step > top:
-        return "rejected 2 BadOrder\n", 1
-    if (service, top) != (name, pos):
-        return f"rejected 3 NotHeld {service} {top}\n", 1
-    bottom = authenticator(step, [link_label(step, 0, datum(root, archive, count, time), prev)] + others)
-    if climbed(records, top, step, bottom) != auth:
-        return "rejected 4 BadPath 0\n", 1
-    if root_from_path(count, index, dig(b"\x00" + event), path) != root:
-        return "rejected 6 BadEvent 0\n", 1
-    return accepted_text(service, step, index, event, time), 0
-
-
 # ---- a timeline that nobody has to build: its links lead to digests made up for the purpose
 
 
-def deep_proof(name, step, index, top, events, made_up):
-    """A proof from `top` down to `step` in a history of which nothing but the path's own steps is made: the labels that the
-    path doesn't use are digests of a counter. Answers the proof and the authenticator of the top that it computes."""
+def deep_part(kind, name, step, top, archive, events, made_up):
+    """What a proof of this kind begins with, from `top` down to `step` in a history of which nothing but the path's own steps is made:
+    the labels that the path doesn't use are digests of a counter. The step has this label of its archive and these events. Answers the
+    bytes and the authenticator of the top that they compute."""
     counter = iter(range(10**9))
 
-    def stand_in():
-        return dig(made_up + be(next(counter), 8))
+    def stand_ins(count):
+        return [dig(made_up + be(next(counter), 8)) for _ in range(count)]
 
-    count = len(events)
     root = event_root(events)
-    prev = stand_in()
-    others = [stand_in() for _ in range(top_level(step))]
-    archive = stand_in()
-    opening = root + archive + be(count, 4) + prev + b"".join(others)
-    own = datum(root, archive, count)
-    reached = authenticator(step, [link_label(step, 0, own, prev)] + others)
+    prev, *others = stand_ins(1 + top_level(step))
+    opening = root + archive + be(len(events), 4) + prev + b"".join(others)
+    reached = authenticator(step, [link_label(step, 0, datum(root, archive, len(events)), prev), *others])
     records = []
     for start in reversed(greedy_steps(top, step)[:-1]):
         level = hop_level(start, step)
-        start_datum = stand_in()
-        labels = [stand_in() for _ in range(top_level(start))]
-        records.append(start_datum + b"".join(labels))
-        labels.insert(level, link_label(start, level, start_datum, reached))
+        own, *labels = stand_ins(1 + top_level(start))
+        records.append(own + b"".join(labels))
+        labels.insert(level, link_label(start, level, own, reached))
         reached = authenticator(start, labels)
-    proof = head_bytes(name, step, top) + b"".join(reversed(records)) + opening + event_bytes(events, index)
-    return proof, reached
+    return head_bytes(kind, name, step, top) + b"".join(reversed(records)) + opening, reached
+
+
+def deep_proof(name, step, index, top, events, made_up):
+    """The proof of an event of such a step, and the authenticator of its top."""
+    part, reached = deep_part(1, name, step, top, EMPTY_TREE, events, made_up)
+    return part + event_bytes(events, index), reached
 
 
 # ---- history files
@@ -404,46 +418,39 @@ def read_history(data):
 
 
 class Archive:
-    """The trees of a history: the nodes so far, numbered from 1 on, and the threads received so far by their steps; and the
-    greatest time so far."""
+    """The trees of a history: those of the nodes so far by their numbers, where 0 is the empty one, and the threads received so far by
+    their steps; and the greatest time so far."""
 
     def __init__(self):
-        self.nodes = []
+        self.trees = [EMPTY]
         self.received = {}
         self.latest = 0
 
-    def keys(self, number):
-        """The keys of a tree in its order: service and step of each thread."""
-        if number == 0:
-            return []
-        left, entry, right = self.nodes[number - 1]
-        return self.keys(left) + [self.received[entry][:2]] + self.keys(right)
+    def receive(self, number, step):
+        """The step of this number may have received a thread."""
+        if step.thread:
+            self.received[number] = step.thread
 
-    def label(self, number):
-        if number == 0:
-            return EMPTY_TREE
-        left, entry, right = self.nodes[number - 1]
-        service, step, auth = self.received[entry]
-        entry_bytes = padded(service) + be(step, 8) + auth + be(entry, 8)
-        return dig(b"\x15" + self.label(left) + entry_bytes + self.label(right))
+    def add(self, left, entry, right):
+        """One more node."""
+        self.trees.append(Node(self.trees[left], Entry(*self.received[entry], entry), self.trees[right]))
 
 
 def broken_rule(name, number, step, archive):
     """The first rule that the step of this number breaks, or None; the archive gets what it adds."""
     earlier = list(archive.received.values())
-    if step.thread:
-        archive.received[number] = step.thread
+    archive.receive(number, step)
+    first = len(archive.trees)
     for left, entry, right in step.nodes:
-        if max(left, right) > len(archive.nodes) or entry not in archive.received:
+        if max(left, right) >= len(archive.trees) or entry not in archive.received:
             return 1
-        archive.nodes.append((left, entry, right))
-    if step.root > len(archive.nodes):
+        archive.add(left, entry, right)
+    if step.root >= len(archive.trees):
         return 1
-    first = len(archive.nodes) - len(step.nodes) + 1
-    for keys in map(archive.keys, range(first, len(archive.nodes) + 1)):
-        if any(one >= next_one for one, next_one in zip(keys, keys[1:])):
+    for entries in map(listed, archive.trees[first:]):
+        if any(one.key >= next_one.key for one, next_one in zip(entries, entries[1:])):
             return 2
-    if len(archive.keys(step.root)) != len(archive.received):
+    if len(listed(archive.trees[step.root])) != len(archive.received):
         return 3
     if step.thread and step.thread[0] == name:
         return 4
@@ -457,15 +464,21 @@ def broken_rule(name, number, step, archive):
     return None
 
 
+def trees_of(steps):
+    """The archive's tree after each step of a sound history."""
+    archive, trees = Archive(), []
+    for number, step in enumerate(steps, 1):
+        archive.receive(number, step)
+        for node in step.nodes:
+            archive.add(*node)
+        trees.append(archive.trees[step.root])
+    return trees
+
+
 def history_line(name, steps):
     """The timeline of a sound history."""
-    archive, archives = Archive(), []
-    for number, step in enumerate(steps, 1):
-        if step.thread:
-            archive.received[number] = step.thread
-        archive.nodes += step.nodes
-        archives.append(archive.label(step.root))
-    return Timeline(name, [step.events for step in steps], archives, [step.time for step in steps])
+    labels = [tree.label for tree in trees_of(steps)]
+    return Timeline(name, [step.events for step in steps], labels, [step.time for step in steps])
 
 
 def shown(file, data, step, index):

@@ -3,10 +3,10 @@
     python3 tests/acceptance/run.py [PROGRAM]      `make check` calls it so
     python3 tests/acceptance/run.py --texts        documents and sources alone, but for the tutorial; it needs no built program
 
-The cases stand in cases/*.json, those that are counted off in generated.py, those of services in steps.py, pages.py
-and failing.py, those of the program's edge to the system in edges.py, of programs at one time in beside.py, and of lost power and failing
-system calls in power.py and faults.py; documents.py and cited.py check the documents, installed.py what `make install` copies, shown.py the
-examples to copy, and sources.py the sources.
+The cases stand in cases/*.json, those that are counted off in generated.py, those of proofs over archives and of links in archives.py,
+those of services in steps.py, pages.py and failing.py, those of the program's edge to the system in edges.py, of programs at one time in
+beside.py, and of lost power and failing system calls in power.py and faults.py; documents.py and cited.py check the documents,
+installed.py what `make install` copies, shown.py the examples to copy, and sources.py the sources.
 A case has
 
     name       what it shows
@@ -35,6 +35,7 @@ import tempfile
 from concurrent.futures import ThreadPoolExecutor
 from pathlib import Path
 
+import archives
 import beside
 import cited
 import documents
@@ -152,6 +153,7 @@ def all_cases():
         for case in json.loads(path.read_text()):
             yield {**case, "name": f"{path.stem}: {case['name']}"}
     yield from generated.cases()
+    yield from archives.cases()
     yield from steps.cases()
     yield from pages.cases()
     yield from failing.cases()

@@ -1,5 +1,5 @@
-"""The sources keep the project's own rules: long functions say why they are, files of lemmas what they are of, and no file speaks of
-what a reader of the repository can't look up."""
+"""The sources keep the project's own rules: long functions say why they are, files of lemmas what they are of, no file speaks of what
+a reader of the repository can't look up, and tests stand in crates of their own."""
 
 import re
 import shutil
@@ -68,7 +68,14 @@ def lemma_files(program):
     return "\n".join(f"  {path.relative_to(TOP)}" for path in wrong) or None
 
 
+def tests_elsewhere(program):
+    """The files with tests outside the crates of tests: a crate that has some is proved twice."""
+    wrong = [path for path in files("*.rt") if re.search(r"#\[(cfg\()?test\b", path.read_text())]
+    return "\n".join(f"  {path.relative_to(TOP)}" for path in wrong if not path.parent.parent.name.endswith("tests")) or None
+
+
 def cases():
     yield {"name": "sources: long functions", "check": long_functions}
     yield {"name": "sources: foreign words", "check": foreign_words}
     yield {"name": "sources: files of lemmas", "check": lemma_files}
+    yield {"name": "sources: tests", "check": tests_elsewhere}

@@ -13,8 +13,7 @@ use Rattle.tw_base.proofs.FormatLaws.{one_value}
 use Rattle.tw_disk.specs.Disk.{DiskView}
 use Rattle.tw_disk.specs.Image.{Image}
 use Rattle.tw_outside.specs.TakenBytes.{Appends}
-use Rattle.tw_text.specs.CommandLine.{command_of, forms}
-use Rattle.tw_text.specs.Forms.{IsFirstBad}
+use Rattle.tw_text.specs.CommandLine.{IsFirstBad, command_of}
 use Rattle.tw_text.specs.Faults.{fault_status, fault_text}
 use Rattle.tw_text.specs.Lines.{no_memory_text}
 use Rattle.tw_text.specs.declared.fault.CommandFault.{CommandFault}
@@ -219,8 +218,8 @@ module _ {D : Type 0} (view : D → DiskView)
     pub usage : status ≡ 2 → IsUsageRun view a
     usage is = by_status 2 is (λ k. omega arith) by
       where
-        number_is : (n : ℕ) (option : Option Command) → MatchOption option (IsFirstBad forms a.words n × IsUntouched view a.outside) (λ c. Does c (BadWords n))
-            → MatchOption option (IsFirstBad forms a.words n) (λ c. (n ≡ 0) × (IsBuilt view c → ⊥))
+        number_is : (n : ℕ) (option : Option Command) → MatchOption option (IsFirstBad a.words n × IsUntouched view a.outside) (λ c. Does c (BadWords n))
+            → MatchOption option (IsFirstBad a.words n) (λ c. (n ≡ 0) × (IsBuilt view c → ⊥))
         number_is n None has = has.0
         number_is n (Some c) has = ((known c).usage n has, λ built. built a.outside n has)
 

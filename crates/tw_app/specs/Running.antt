@@ -3,8 +3,7 @@ use Rattle.std.specs.Prelude.{◌≡◌, ◌⊎◌, ℕ, List, Option, Result, O
 use Rattle.tw_base.specs.Faults.{Rose}
 use Rattle.tw_disk.specs.Disk.{DiskView}
 use Rattle.tw_outside.specs.TakenBytes.{Appends, AppendsPart}
-use Rattle.tw_text.specs.CommandLine.{command_of, forms}
-use Rattle.tw_text.specs.Forms.{IsFirstBad}
+use Rattle.tw_text.specs.CommandLine.{IsFirstBad, command_of}
 use Rattle.tw_text.specs.declared.command.Command.{Command}
 use Rattle.tw_text.specs.declared.fault.CommandFault.{CommandFault}
 use Rattle.tw_text.specs.declared.fault.CommandFault.TheVariants.{NoMemory}
@@ -104,7 +103,7 @@ module _ {D : Type 0} (view : D → DiskView) (o : Outside D) where
 
 -- what words come to that have no form: the number is that of the first word at which none goes on
 abbrev pub HaveNoForm : (words : List (List ℕ)) → Outcome → Type 0
-HaveNoForm words (BadWords number) = IsFirstBad forms words number
+HaveNoForm words (BadWords number) = IsFirstBad words number
 HaveNoForm words (Undone NoMemory) = Unit {0}
 HaveNoForm words _ = ⊥
 

@@ -12,8 +12,7 @@ use Rattle.tw_base.specs.Lists.{In}
 use Rattle.tw_disk.specs.Disk.{DiskView}
 use Rattle.tw_outside.specs.Files.{Files, IsThere, Tells}
 use Rattle.tw_outside.specs.TakenBytes.{Appends}
-use Rattle.tw_text.specs.CommandLine.{command_of, forms}
-use Rattle.tw_text.specs.Forms.{IsFirstBad}
+use Rattle.tw_text.specs.CommandLine.{IsFirstBad, command_of}
 use Rattle.tw_text.specs.Lines.{usage_text}
 use Rattle.tw_text.specs.Reports.{rejected_text, report_text}
 use Rattle.tw_text.specs.declared.command.Command.{Command}
@@ -118,7 +117,7 @@ module _ {D : Type 0} (view : D → DiskView) where
   -- number is 0
   abbrev pub IsUsage : (words : List (List ℕ)) (number : ℕ) → Type 0
   IsUsage words number =
-      MatchOption (command_of words) (IsFirstBad forms words number) (λ command. (number ≡ 0) × (IsBuilt view command → ⊥))
+      MatchOption (command_of words) (IsFirstBad words number) (λ command. (number ≡ 0) × (IsBuilt view command → ⊥))
 
   -- status 2: the words have no form, or none that is built, and the line with the word's number was written whole
   abbrev pub IsUsageRun : Around D → Type 0

@@ -10,10 +10,3 @@ mod printing;
 pub use ending::{Ran, run};
 pub use laws::status_laws;
 pub use outcome::Outcome;
-
-#[cfg(test)]
-mod disk_tests;
-#[cfg(test)]
-mod showing_tests;
-#[cfg(test)]
-mod tests;

@@ -1,10 +1,11 @@
 -- The laws of a codec, field by field.
 use Rattle.std.proofs.Common.{◌≡◌, ℕ, suc, zero, ◌<◌, ◌≤◌, ◌^◌, List, [], ◌∷◌, ◌++◌, length, flat_map, refl, ap, sym, ◌∙◌, subst, inl, inr}
-use Rattle.std.specs.Prelude.{Result, Ok, Err, Option, Some, None, nat_le, nat_lt, ◌&&◌, ◌||◌, ◌==◌, Bool, true, false, if◌then◌else◌}
+use Rattle.std.specs.Prelude.{Result, Ok, Err, Option, Some, None, MatchOption, nat_le, nat_lt, ◌&&◌, ◌||◌, ◌==◌, Bool, true, false, if◌then◌else◌}
+use Rattle.std.specs.Option.{option_map_or}
 use Rattle.std.proofs.lemmas.List.{append-nil}
 use Rattle.std.proofs.lemmas.Bool.{and_parts, eqb-true, leb-true, ltb-true, or_cases}
 use Rattle.tw_base.specs.Bytes.{AreBytes}
-use Rattle.tw_base.specs.Codecs.{Codec, EachFits, HasBytes, IsUnambiguous, before, behind, by_kind, bytes_codec, cased, choose, counted, each, each_format, flag_codec, labels_codec, many, name_codec, nothing, number_codec, optional, pair, present, seen, sized_codec, text_codec, written}
+use Rattle.tw_base.specs.Codecs.{Codec, EachFits, HasBytes, IsUnambiguous, before, behind, by_kind, bytes_codec, choose, counted, each, each_format, flag_codec, labels_codec, many, name_codec, nothing, number_codec, optional, pair, present, seen, sized_codec, text_codec, variant, written}
 use Rattle.tw_base.specs.Formats.{Format, GoesOn, Placed, Spells, read_at, then_by, ◌>>=◌}
 use Rattle.tw_base.specs.Formats.Format.{Done, Byte}
 use Rattle.tw_base.specs.Fields.{bytes, flag, repeated, text}
@@ -165,20 +166,28 @@ module _ {X Y : Type 0} where
         subst P (append-nil (c.write (from y))) (spells_then c.format _ (c.write (from y)) [] (from y) y (l.spells (from y) f) (forth y)));
   }
 
-  pub lawful-cased : (to : X → Y) (from : Y → X) (c : Codec X) → ((x : X) → from (to x) ≡ x) → Lawful c → Lawful (cased to from c)
-  unfolding cased
-  lawful-cased to from c back l = record {
-    goes = goes_on-then c.format _ l.goes (λ x. tt);
-    reads = λ whole at. let reads = l.reads in simp (read_at-then, read_at-done, reads);
-    words =
-        all_words-then c.format _ _ (λ one x s.
-        let is = l.words one x s in
-        let word : one ++ [] ≡ c.write (from (to x)) = append-nil one ∙ is.0 ∙ ap c.write (sym (back x)) in
-        all_words-done (to x) _ (word, (ap to (back x), subst c.Fits (sym (back x)) is.1)));
-    spells = λ y f. (
-        let P : List ℕ → Type 0 = λ w. Spells (then_by c.format (λ x. Done (to x))) w y in
-        subst P (append-nil (c.write (from y))) (spells_then c.format _ (c.write (from y)) [] (from y) y (l.spells (from y) f.1) f.0));
-  }
+  module _ (to : X → Y) (fields : Y → Option X) (c : Codec X) where
+    abbrev FitsAs : Y → Option X → Type 0
+    FitsAs y o = MatchOption o ⊥ (λ x. (to x ≡ y) × c.Fits x)
+
+    spells-fields : Lawful c → (y : Y) (o : Option X) → FitsAs y o → Spells (then_by c.format (λ x. Done (to x))) (option_map_or c.write o []) y
+    spells-fields l y None f = absurd f
+    spells-fields l y (Some x) f =
+        let P : List ℕ → Type 0 = λ w. Spells (then_by c.format (λ z. Done (to z))) w y in
+        subst P (append-nil (c.write x)) (spells_then c.format _ (c.write x) [] x y (l.spells x f.1) f.0)
+
+    pub lawful-variant : ((x : X) → fields (to x) ≡ Some x) → Lawful c → Lawful (variant to fields c)
+    unfolding variant
+    lawful-variant back l = record {
+      goes = goes_on-then c.format _ l.goes (λ x. tt);
+      reads = λ whole at. let reads = l.reads in simp (read_at-then, read_at-done, reads);
+      words =
+          all_words-then c.format _ _ (λ one x s.
+          let is = l.words one x s in
+          let word : one ++ [] ≡ option_map_or c.write (fields (to x)) [] = append-nil one ∙ is.0 ∙ sym (ap (λ o. option_map_or c.write o []) (back x)) in
+          all_words-done (to x) _ (word, subst (FitsAs (to x)) (sym (back x)) (refl, is.1)));
+      spells = λ y f. spells-fields l y (fields y) f;
+    }
 
   pub lawful-by_kind : (kind_of : Y → X) (c : Codec X) (next : X → Codec Y) → Lawful c → ((x : X) → c.Fits x → Lawful (next x))
       → ((x : X) (y : Y) → c.Fits x → (next x).Fits y → kind_of y ≡ x) → Lawful (by_kind kind_of c next)
@@ -362,4 +371,4 @@ pub lawful-counted_numeral : {X : Type 0} (c : Codec X) → Lawful c → (width 
 lawful-counted_numeral c l width least most is = let r = in_range width least most is in lawful-counted c l width least most r.0 r.1
 
 -- with them `search` finds the laws of a layout
-pub ruleset lawful = (lawful-seen, lawful-cased, lawful-choose, lawful-pair, lawful-behind, lawful-before, lawful-bytes, lawful-counted_numeral, lawful-flag, lawful-labels, lawful-many, lawful-name, lawful-numeral, lawful-numeral_from, lawful-sized_numeral, lawful-number, lawful-optional, lawful-text)
+pub ruleset lawful = (lawful-seen, lawful-variant, lawful-choose, lawful-pair, lawful-behind, lawful-before, lawful-bytes, lawful-counted_numeral, lawful-flag, lawful-labels, lawful-many, lawful-name, lawful-numeral, lawful-numeral_from, lawful-sized_numeral, lawful-number, lawful-optional, lawful-text)

@@ -1,9 +1,10 @@
 -- How many bytes the words of a codec have at most.
 use Rattle.std.proofs.Common.{◌≡◌, ℕ, ◌+◌, ◌*◌, ◌≤◌, List, [], ◌∷◌, length, flat_map, ap, arith}
-use Rattle.std.specs.Prelude.{Bool, true, false, Some, None}
+use Rattle.std.specs.Prelude.{Bool, true, false, Option, Some, None, MatchOption}
+use Rattle.std.specs.Option.{option_map_or}
 use Rattle.std.proofs.lemmas.List.{length-append}
 use Rattle.std.proofs.Math.Nat.{mul-le-mul_right, suc-mul}
-use Rattle.tw_base.specs.Codecs.{Codec, HasBytes, before, behind, by_kind, bytes_codec, cased, choose, counted, flag_codec, labels_codec, many, name_codec, nothing, number_codec, optional, present, pair, seen, sized_codec}
+use Rattle.tw_base.specs.Codecs.{Codec, HasBytes, before, behind, by_kind, bytes_codec, choose, counted, flag_codec, labels_codec, many, name_codec, nothing, number_codec, optional, present, pair, seen, sized_codec, variant}
 use Rattle.tw_base.specs.Fields.{number_bytes}
 use Rattle.tw_base.specs.Formats.{Spells}
 use Rattle.tw_base.specs.Lists.{Each}
@@ -52,9 +53,13 @@ module _ {X Y : Type 0} where
   unfolding seen
   at_most-seen to from c n l y f = l (from y) f
 
-  pub at_most-cased : (to : X → Y) (from : Y → X) (c : Codec X) (n : ℕ) → AtMost c n → AtMost (cased to from c) n
-  unfolding cased
-  at_most-cased to from c n l y f = l (from y) f.1
+  size-fields : (to : X → Y) (c : Codec X) (n : ℕ) → AtMost c n → (y : Y) (o : Option X) → MatchOption o ⊥ (λ x. (to x ≡ y) × c.Fits x) → length (option_map_or c.write o []) ≤ n
+  size-fields to c n l y None f = absurd f
+  size-fields to c n l y (Some x) f = l x f.1
+
+  pub at_most-variant : (to : X → Y) (fields : Y → Option X) (c : Codec X) (n : ℕ) → AtMost c n → AtMost (variant to fields c) n
+  unfolding variant
+  at_most-variant to fields c n l y f = size-fields to c n l y (fields y) f
 
   pub at_most-by_kind : (kind_of : Y → X) (c : Codec X) (next : X → Codec Y) (m n : ℕ) → AtMost c m → ((x : X) → c.Fits x → AtMost (next x) n) → AtMost (by_kind kind_of c next) (m + n)
   unfolding by_kind

@@ -4,7 +4,7 @@ use Rattle.std.specs.Prelude.{Bool, true, false, Option, Some, None}
 use Rattle.tw_base.specs.declared.content.Content.{Content}
 use Rattle.tw_base.specs.declared.content.Content.TheVariants.{Events, Received}
 use Rattle.tw_base.specs.declared.limits.TheConstants.{MOST_EVENTS}
-use Rattle.tw_base.specs.Codecs.{cased, counted, nothing, number_codec, optional, pair, present}
+use Rattle.tw_base.specs.Codecs.{counted, nothing, number_codec, optional, pair, present, variant}
 use Rattle.tw_base.specs.HistoryCodec.{content_codec, event_codec, events_in, history_codec, is_of_events, is_timed, kind_of, node_codec, of_kind, recorded_codec, step_codec, thread_codec, thread_in, time_codec}
 use Rattle.tw_base.proofs.CodecLaws.{Lawful, lawful, lawful-by_kind, lawful-choose, lawful-optional, lawful-pair}
 
@@ -16,10 +16,10 @@ pub node-lawful : Lawful node_codec
 unfolding node_codec
 node-lawful = search lawful depth 20
 
-events-lawful : Lawful (cased Events events_in (counted 4 0 MOST_EVENTS event_codec))
+events-lawful : Lawful (variant Events events_in (counted 4 0 MOST_EVENTS event_codec))
 events-lawful = search lawful depth 20
 
-received-lawful : Lawful (cased Received thread_in thread_codec)
+received-lawful : Lawful (variant Received thread_in thread_codec)
 received-lawful = search (lawful, thread-lawful) depth 20
 
 pub content-lawful : (is_events : Bool) → Lawful (content_codec is_events)
@@ -34,12 +34,14 @@ timed-kind (Some time) (Events events) fits = refl
 timed-kind (Some time) (Received t) fits = refl
 
 events-kind : (c : Content) → (content_codec true).Fits c → kind_of None c ≡ 1
-unfolding content_codec cased
-events-kind c fits = sym (ap (kind_of None) fits.0)
+unfolding content_codec variant
+events-kind (Events events) fits = refl
+events-kind (Received t) fits = absurd fits
 
 received-kind : (c : Content) → (content_codec false).Fits c → kind_of None c ≡ 2
-unfolding content_codec cased
-received-kind c fits = sym (ap (kind_of None) fits.0)
+unfolding content_codec variant
+received-kind (Events events) fits = absurd fits
+received-kind (Received t) fits = refl
 
 untimed : (time : Option ℕ) (c : Content) → None ≡ time → kind_of time c ≡ kind_of None c
 untimed time c e = sym (ap (λ t. kind_of t c) e)

@@ -86,12 +86,12 @@ module _ {X Y : Type 0} where
     read = λ whole at. c.read whole at >>= (λ x. Ok (record { value = to x.value; after = x.after }));
   }
 
-  -- one kind of several: the values that the first function gives
-  unfoldable pub cased : (X → Y) → (Y → X) → Codec X → Codec Y
-  cased to from c = record {
+  -- the variant that the first function makes; the second one has the fields of a value that is of the variant
+  unfoldable pub variant : (X → Y) → (Y → Option X) → Codec X → Codec Y
+  variant to fields c = record {
     format = then_by c.format (λ x. Done (to x));
-    Fits = λ y. (to (from y) ≡ y) × c.Fits (from y);
-    write = λ y. c.write (from y);
+    Fits = λ y. MatchOption (fields y) ⊥ (λ x. (to x ≡ y) × c.Fits x);
+    write = λ y. option_map_or c.write (fields y) [];
     read = λ whole at. c.read whole at >>= (λ x. Ok (record { value = to x.value; after = x.after }));
   }
 

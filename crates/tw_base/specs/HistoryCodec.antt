@@ -4,7 +4,7 @@ use Rattle.tw_base.specs.declared.content.Content.{Content}
 use Rattle.tw_base.specs.declared.content.Content.TheVariants.{Events, Received}
 use Rattle.tw_base.specs.declared.limits.TheConstants.{LAST_STEP, LAST_TIME, MOST_EVENTS, MOST_EVENT_BYTES}
 use Rattle.tw_base.specs.declared.thread.Thread.{Thread}
-use Rattle.tw_base.specs.Codecs.{Codec, behind, by_kind, cased, choose, counted, digest_codec, name_codec, number_codec, optional, pair, seen, sized_codec}
+use Rattle.tw_base.specs.Codecs.{Codec, behind, by_kind, choose, counted, digest_codec, name_codec, number_codec, optional, pair, seen, sized_codec, variant}
 use Rattle.tw_base.specs.Formats.{Format}
 use Rattle.tw_base.specs.History.{History, Node, Step}
 
@@ -22,17 +22,17 @@ thread_codec =
 abbrev pub time_codec : Codec ℕ
 time_codec = number_codec 8 0 LAST_TIME
 
-abbrev pub events_in : Content → List (List ℕ)
-events_in (Events events) = events
-events_in (Received t) = []
+abbrev pub events_in : Content → Option (List (List ℕ))
+events_in (Events events) = Some events
+events_in (Received t) = None
 
-abbrev pub thread_in : Content → Thread
-thread_in (Events events) = record { from = []; step = 0; auth = [] }
-thread_in (Received t) = t
+abbrev pub thread_in : Content → Option Thread
+thread_in (Events events) = None
+thread_in (Received t) = Some t
 
 -- events, their number and each of them; or a thread
 unfoldable pub content_codec : (is_events : Bool) → Codec Content
-content_codec is_events = choose is_events (cased Events events_in (counted 4 0 MOST_EVENTS event_codec)) (cased Received thread_in thread_codec)
+content_codec is_events = choose is_events (variant Events events_in (counted 4 0 MOST_EVENTS event_codec)) (variant Received thread_in thread_codec)
 
 -- 1 for events, 2 for a thread; 3 and 4 for these with a time
 abbrev pub kind_of : (time : Option ℕ) → Content → ℕ

@@ -5,10 +5,12 @@ pub mod Bytes
 pub mod HasherSteps
 pub mod Digests
 pub mod Entries
+pub mod Asking
 pub mod Clash
 pub mod Lists
 pub mod EventTree
 pub mod AuditPath
+pub mod EventParts
 pub mod Holding
 pub mod History
 pub mod Tree

@@ -24,6 +24,7 @@ pub record IsRisingTree (t : Tree) : Type 0 where
   pub rising : IsRising (entries t)
   pub fits : Each IsFit (entries t)
 
+-- the tree of a node; one without an entry stands for the empty tree
 abbrev pub branch : Option Entry → Tree → Tree → Tree
 branch None left right = Empty
 branch (Some e) left right = Branch left e right

@@ -1,5 +1,5 @@
 // Reading what a step records.
-#![tactic(auto, unfolding(crate::specs::Codecs::cased, crate::specs::Codecs::pair, crate::specs::Codecs::seen, crate::specs::HistoryCodec::content_codec, crate::specs::HistoryCodec::thread_codec))]
+#![tactic(auto, unfolding(crate::specs::Codecs::variant, crate::specs::Codecs::pair, crate::specs::Codecs::seen, crate::specs::HistoryCodec::content_codec, crate::specs::HistoryCodec::thread_codec))]
 
 ghost use Rattle.std.specs.Prelude.{◌≡◌, ◌≤◌, length};
 ghost use Rattle.tw_base.specs.HistoryCodec.{is_of_events as is_kind_of_events, is_timed as is_timed_kind};

@@ -52,6 +52,3 @@ impl FailingCalls {
         fails
     }
 }
-
-#[cfg(test)]
-mod tests;

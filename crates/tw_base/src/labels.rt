@@ -211,6 +211,3 @@ pub fn no_events<H: Hasher>() -> Digest
 {
     H::digest(&[])
 }
-
-#[cfg(test)]
-mod tests;

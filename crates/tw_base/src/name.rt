@@ -104,6 +104,3 @@ fn first_zero(bytes: &[u8]) -> Option<usize>
 {
     bytes.iter().position(|b| *b == 0)
 }
-
-#[cfg(test)]
-mod tests;

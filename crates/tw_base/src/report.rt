@@ -1,10 +1,11 @@
 // What a verifier answers: the claim of an accepted proof, or the reason against it.
 
+use crate::digest::Digest;
 use crate::name::Name;
 use crate::sequence::Bytes;
-use crate::thread::Place;
+use crate::thread::{Entry, Key, Place};
 
-/// One step of a chain from service to service: step `archived` of service `by` received the
+/// A hop of a chain from service to service: step `archived` of service `by` received the
 /// thread of service `from` at step `step`.
 #[derive(Clone, Copy, PartialEq, Eq, Debug, Drop)]
 pub struct Hop {
@@ -28,6 +29,26 @@ pub struct Seen {
 pub enum Claim {
     /// The event stands at its place in the history of its service.
     Exists(Seen),
+    /// The entry's thread was received at its archived step of the service's history, which is at
+    /// most this step.
+    Archived {
+        service: Name,
+        step: u64,
+        entry: Entry,
+    },
+    /// No step of the service's history up to this one received a thread of this key.
+    Absent {
+        service: Name,
+        step: u64,
+        key: Key,
+    },
+    /// The service's history has this authenticator at this step, of 0 to the top.
+    Linked {
+        service: Name,
+        step: u64,
+        top: u64,
+        auth: Digest,
+    },
 }
 
 /// What is reported of an accepted proof.
@@ -37,14 +58,15 @@ pub struct Report {
 }
 
 /// Why a proof isn't accepted. Of several reasons that stand the one with the lowest number is
-/// answered, and of its parts or places the lowest. Part 0 is the head of a proof, or the whole of
-/// a proof without hops.
+/// answered, and of its parts or places the lowest. Part 0 is the head of a proof from event to
+/// event, and the whole of a proof of another kind.
 #[derive(Clone, Copy, PartialEq, Eq, Debug, Drop)]
 pub enum Reason {
     /// 1: the bytes are no proof. The place is that of the first byte, counted from 0, at which no
     /// proof goes on, and the number of bytes where they end too early.
     Malformed { place: u64 },
-    /// 2: a step above the top that it is proved under.
+    /// 2: a step above the top that it is proved under, or an archived step above the step whose
+    /// archive shows it.
     BadOrder,
     /// 3: no anchor of this service and step is held.
     NotHeld { service: Name, step: u64 },

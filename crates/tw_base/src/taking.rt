@@ -171,8 +171,3 @@ pub fn take_slice<'a>(bytes: &'a [u8], at: &mut u64, count: u64) -> Result<&'a [
     *at += count;
     Ok(&bytes[start as usize..(start + count) as usize])
 }
-
-#[cfg(test)]
-mod field_tests;
-#[cfg(test)]
-mod tests;

@@ -84,6 +84,3 @@ pub fn put_sized(into: &mut Bytes, bytes: &[u8], width: u8) -> Result<(), NoMemo
     put_number(into, bytes.len() as u64, width)?;
     put_bytes(into, bytes)
 }
-
-#[cfg(test)]
-mod tests;

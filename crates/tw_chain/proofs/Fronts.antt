@@ -1,27 +1,20 @@
--- No existence proof is longer than a limit above its greatest size: so the verdict on the bytes up to such a limit is the
+-- No proof is longer than a limit above its greatest size: so the verdict on the bytes up to such a limit is the
 -- verdict on all of them.
 use Rattle.std.proofs.Common.{◌≡◌, ℕ, ◌<◌, ◌≤◌, List, ◌++◌, length, take, sym, ◌∙◌, subst, arith, inl, inr}
 use Rattle.std.proofs.lemmas.Bool.{cases_lt}
 use Rattle.std.proofs.lemmas.List.{length-append, length-take-le, take-take, take_all}
 use Rattle.tw_base.specs.declared.thread.Thread.{Thread}
 use Rattle.tw_base.specs.Formats.{IsFront, IsPlace, Spells, SpellsNothing}
-use Rattle.tw_base.proofs.CodecSizes.{word-size}
-use Rattle.tw_skipproof.specs.Codecs.{existence_codec}
-use Rattle.tw_skipproof.proofs.LawfulCodecs.{existence-lawful}
-use Rattle.tw_skipproof.proofs.Shapes.{existence-most}
 use Rattle.tw_chain.specs.declared.proof.Proof.{Proof}
 use Rattle.tw_chain.specs.Proofs.{proof_layout}
-use Rattle.tw_chain.proofs.ProofCodec.{to_existence}
 use Rattle.tw_chain.specs.declared.verdict.Verdict.{Verdict}
 use Rattle.tw_chain.specs.declared.verdict.Verdict.TheVariants.{Yes, No}
 use Rattle.tw_chain.specs.Binding.{BindsHistories}
-use Rattle.tw_chain.specs.Reasons.{IsOfLaterKind, IsVerdict, Stands}
+use Rattle.tw_chain.specs.Reasons.{IsOfUnbuiltKind, IsVerdict, Stands}
+use Rattle.tw_chain.proofs.ProofSizes.{proof-size}
 use Rattle.tw_chain.proofs.Verdicts.{later_kind, malformed_bytes}
 
-proof-size : (bytes : List ℕ) (q : Proof) → Spells proof_layout bytes q → length bytes ≤ 56505
-proof-size bytes q spelled = let is = to_existence bytes q spelled in word-size existence_codec existence-lawful 56505 existence-most bytes is.proof is.spells
-
-module _ (limit : ℕ) (above : 56505 < limit) (bytes : List ℕ) where
+module _ (limit : ℕ) (above : 67474 < limit) (bytes : List ℕ) where
   spells_nothing : limit < length bytes → SpellsNothing proof_layout bytes
   spells_nothing longer p spelled = let short = proof-size bytes p spelled in absurd (omega (arith, short, above, longer))
 
@@ -34,11 +27,11 @@ module _ (limit : ℕ) (above : 56505 < limit) (bytes : List ℕ) where
   first_five : take 5 (take limit bytes) ≡ take 5 bytes
   first_five = take-take 5 limit bytes (omega (arith, above))
 
-  later_of_all : IsOfLaterKind (take limit bytes) → IsOfLaterKind bytes
-  later_of_all later = (later.0, sym first_five ∙ later.1, later.2, later.3)
+  later_of_all : IsOfUnbuiltKind (take limit bytes) → IsOfUnbuiltKind bytes
+  later_of_all later = sym first_five ∙ later
 
-  later_of_front : IsOfLaterKind bytes → IsOfLaterKind (take limit bytes)
-  later_of_front later = (later.0, first_five ∙ later.1, later.2, later.3)
+  later_of_front : IsOfUnbuiltKind bytes → IsOfUnbuiltKind (take limit bytes)
+  later_of_front later = first_five ∙ later
 
   -- a front longer than the limit is the front of no proof
   long_front : (n : ℕ) → limit < n → n ≤ length bytes → IsFront proof_layout (take n bytes) → ⊥

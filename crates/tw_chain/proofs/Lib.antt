@@ -1,6 +1,12 @@
+pub mod KindBytes
 pub mod ProofCodec
-pub mod Lowest
+pub mod PathBinds
+pub mod ArchiveAnswers
+pub mod ClaimBinds
 pub mod ClaimHolds
 pub mod Verdicts
+pub mod ProofSizes
 pub mod Fronts
 pub mod Completeness
+pub mod OwnSpelling
+pub mod ProofBytes

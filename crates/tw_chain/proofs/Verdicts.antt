@@ -11,22 +11,26 @@ use Rattle.tw_base.specs.History.{History}
 use Rattle.tw_base.proofs.FormatLaws.{one_value}
 use Rattle.tw_base.proofs.CodecLaws.{written-as}
 use Rattle.tw_base.specs.Reasons.{IsNoHigher}
-use Rattle.tw_base.specs.Codecs.{behind, by_kind, cased, number_codec}
-use Rattle.tw_base.specs.Fields.{number_bytes}
-use Rattle.tw_skipproof.specs.Codecs.{existence_magic}
+use Rattle.tw_base.specs.Codecs.{behind, by_kind}
 use Rattle.tw_chain.specs.declared.proof.Proof.{Proof}
-use Rattle.tw_chain.specs.declared.proof.Proof.TheVariants.{Exists}
-use Rattle.tw_chain.specs.Proofs.{proof_codec, proof_layout}
+use Rattle.tw_chain.specs.declared.proof.Proof.TheVariants.{Exists, Archived, Absent, Linked}
+use Rattle.tw_chain.specs.Proofs.{kind_codec, kind_of, kinds_codec, proof_codec, proof_layout}
 use Rattle.tw_chain.proofs.ProofCodec.{proof-lawful}
 use Rattle.tw_chain.specs.declared.verdict.Verdict.TheVariants.{Yes, No}
 use Rattle.tw_chain.specs.Accepting.{IsAccepted, claim_of, held, proof_texts, report_of}
 use Rattle.tw_chain.specs.Binding.{BindsHistories}
-use Rattle.tw_chain.specs.Reasons.{IsLowestAgainst, IsOfLaterKind, IsVerdict, Stands, StandsAgainst}
+use Rattle.tw_chain.specs.Reasons.{IsLowestAgainst, IsOfUnbuiltKind, IsVerdict, Stands, StandsAgainst}
 
--- bytes that spell an existence proof begin with its magic
-begins : (bytes : List ℕ) (q : Proof) → Spells proof_layout bytes q → take 5 bytes ≡ existence_magic
-unfolding proof_codec behind by_kind cased number_codec number_bytes
-begins bytes (Exists p) s = ap (take 5) (written-as proof_codec proof-lawful bytes (Exists p) s)
+-- bytes that spell a proof begin with the magic and its kind
+begins : (bytes : List ℕ) (q : Proof) → Spells proof_layout bytes q → take 5 bytes ≡ 0x54 ∷ 0x57 ∷ 0x50 ∷ 0x31 ∷ kind_of q ∷ []
+unfolding proof_codec kinds_codec behind by_kind kind_codec
+begins bytes q s = ap (take 5) (written-as proof_codec proof-lawful bytes q s)
+
+not_kind_2 : (q : Proof) → kind_of q ≡ 2 → ⊥
+not_kind_2 (Exists p) same = omega (arith, same)
+not_kind_2 (Archived p) same = omega (arith, same)
+not_kind_2 (Absent p) same = omega (arith, same)
+not_kind_2 (Linked p) same = omega (arith, same)
 
 -- no reason is below Malformed at this place, where none but Malformed at that place stands
 malformed_least : (place : ℕ) (other : Reason) → (other ≡ Malformed place) → IsNoHigher (Malformed place) other
@@ -39,15 +43,14 @@ one_place f bytes one other first second =
     omega (arith, below, above)
 
 -- and so are of no later kind
-not_later : (bytes : List ℕ) (p : Proof) → Spells proof_layout bytes p → IsOfLaterKind bytes → ⊥
+not_later : (bytes : List ℕ) (p : Proof) → Spells proof_layout bytes p → IsOfUnbuiltKind bytes → ⊥
 not_later bytes p s later =
-    let one : existence_magic ≡ 0x54 ∷ 0x57 ∷ 0x50 ∷ 0x31 ∷ later.0 ∷ [] = sym (begins bytes p s) ∙ later.1 in
-    let kind : 1 ≡ later.0 = cc in
-    absurd (omega (arith, kind, later.2))
+    let one : 0x54 ∷ 0x57 ∷ 0x50 ∷ 0x31 ∷ kind_of p ∷ [] ≡ 0x54 ∷ 0x57 ∷ 0x50 ∷ 0x31 ∷ 2 ∷ [] = sym (begins bytes p s) ∙ later in
+    not_kind_2 p (let kind : kind_of p ≡ 2 = cc in kind)
 
 module _ (dig : List ℕ → List ℕ) (anchors : List Thread) (bytes : List ℕ) where
   -- a kind that isn't verified yet
-  pub later_kind : IsOfLaterKind bytes → IsVerdict dig anchors bytes (No Unbuilt)
+  pub later_kind : IsOfUnbuiltKind bytes → IsVerdict dig anchors bytes (No Unbuilt)
   later_kind later = (
     λ accepts. not_later bytes accepts.0 accepts.1 later,
     record { stands = inl (later, refl); lowest = least },
@@ -59,7 +62,7 @@ module _ (dig : List ℕ → List ℕ) (anchors : List Thread) (bytes : List ℕ
       least other (inr (inr is)) = absurd (not_later bytes is.0 is.1 later)
 
   -- no proof at all
-  pub malformed_bytes : (place : ℕ) → (IsOfLaterKind bytes → ⊥) → SpellsNothing proof_layout bytes → IsPlace proof_layout bytes place
+  pub malformed_bytes : (place : ℕ) → (IsOfUnbuiltKind bytes → ⊥) → SpellsNothing proof_layout bytes → IsPlace proof_layout bytes place
       → IsVerdict dig anchors bytes (No (Malformed place))
   malformed_bytes place not_later nothing is = (
     λ accepts. nothing accepts.0 accepts.1,

@@ -1,55 +1,65 @@
 -- Which reasons stand against the bytes of a proof, and the lowest of them.
-use Rattle.std.specs.Prelude.{◌≡◌, ◌⊎◌, ℕ, ◌<◌, ◌≤◌, List, [], ◌∷◌, Option, Some, None, take}
+use Rattle.std.specs.Prelude.{◌≡◌, ◌⊎◌, ℕ, ◌<◌, ◌≤◌, List, [], ◌∷◌, ◌++◌, Option, Some, None, take}
 use Rattle.std.specs.Option.{option_map_or}
 use Rattle.tw_base.specs.declared.thread.Key.{Key}
 use Rattle.tw_base.specs.declared.thread.Thread.{Thread}
 use Rattle.tw_base.specs.declared.report.Reason.{Reason}
 use Rattle.tw_base.specs.declared.report.Reason.TheVariants.{Malformed, BadOrder, NotHeld, BadPath, BadOpening, BadEvent, BadTree, Carried, Unbuilt}
-use Rattle.tw_base.specs.Anchors.{anchor_of}
 use Rattle.tw_base.specs.Formats.{IsPlace, Spells, SpellsNothing}
 use Rattle.tw_base.specs.Reasons.{IsNoHigher}
-use Rattle.tw_skipproof.specs.Acceptance.{Reaches, ShowsEvent}
+use Rattle.tw_skipproof.specs.Codecs.{proof_magic}
 use Rattle.tw_chain.specs.declared.proof.Proof.{Proof}
-use Rattle.tw_chain.specs.declared.proof.Proof.TheVariants.{Exists}
+use Rattle.tw_chain.specs.declared.proof.Proof.TheVariants.{Exists, Archived, Absent, Linked}
 use Rattle.tw_chain.specs.declared.verdict.Verdict.{Verdict}
 use Rattle.tw_chain.specs.declared.verdict.Verdict.TheVariants.{Yes, No}
-use Rattle.tw_chain.specs.Accepting.{Accepts, IsAccepted, anchor_at, named, report_of}
+use Rattle.tw_chain.specs.Accepting.{Accepts, IsAccepted, IsInOrder, ReachesTop, ShowsClaim, anchor_at, named, report_of, top_of}
 use Rattle.tw_chain.specs.Proofs.{proof_layout}
 
--- the bytes begin with TWP1 and a kind of 2 to 5
-abbrev pub IsOfLaterKind : List ℕ → Type 0
-IsOfLaterKind bytes =
-    (kind : ℕ) × (take 5 bytes ≡ 0x54 ∷ 0x57 ∷ 0x50 ∷ 0x31 ∷ kind ∷ []) × (2 ≤ kind) × (kind ≤ 5)
+-- the bytes begin with TWP1 and the kind 2
+abbrev pub IsOfUnbuiltKind : List ℕ → Type 0
+IsOfUnbuiltKind bytes = take 5 bytes ≡ proof_magic ++ 2 ∷ []
 
 -- of these services and steps the first one that no anchor has
 abbrev pub first_not_held : List Thread → List Key → Option Key
 first_not_held anchors [] = None
 first_not_held anchors (key ∷ keys) = option_map_or (λ anchor. first_not_held anchors keys) (anchor_at anchors key) (Some key)
 
--- a step stands above the top that it is proved under
-abbrev pub IsOutOfOrder : Proof → Type 0
-IsOutOfOrder (Exists p) = p.at.top < p.at.step
+module _ (dig : List ℕ → List ℕ) where
+  -- the event of this part doesn't compute the event root of its opening
+  abbrev pub HasBadEvent : Proof → (part : ℕ) → Type 0
+  HasBadEvent (Exists p) part = (part ≡ 0) × (ShowsClaim dig (Exists p) → ⊥)
+  HasBadEvent (Archived p) part = ⊥
+  HasBadEvent (Absent p) part = ⊥
+  HasBadEvent (Linked p) part = ⊥
+
+  -- the tree proof of this part doesn't give the answer that is claimed
+  abbrev pub HasBadTree : Proof → (part : ℕ) → Type 0
+  HasBadTree (Exists p) part = ⊥
+  HasBadTree (Archived p) part = (part ≡ 0) × (ShowsClaim dig (Archived p) → ⊥)
+  HasBadTree (Absent p) part = (part ≡ 0) × (ShowsClaim dig (Absent p) → ⊥)
+  HasBadTree (Linked p) part = ⊥
+
+  -- the proof doesn't show what it claims, for this reason
+  abbrev pub IsUnshown : Proof → Reason → Type 0
+  IsUnshown p (BadEvent part) = HasBadEvent p part
+  IsUnshown p (BadTree part) = HasBadTree p part
+  IsUnshown p _ = ⊥
 
 module _ (dig : List ℕ → List ℕ) (anchors : List Thread) where
-  -- a path of this part doesn't climb from its bottom to its known upper end; that of a proof of kind 1 is the anchor's
-  -- authenticator
+  -- the path of this part doesn't climb from its bottom to the authenticator of the anchor that is held of the top
   abbrev pub HasBadPath : Proof → (part : ℕ) → Type 0
-  HasBadPath (Exists p) part =
-      (part ≡ 0) × (anchor : Thread) × (anchor_of anchors p.at.service p.at.top ≡ Some anchor) × (Reaches dig p.at anchor.auth → ⊥)
-
-  -- an event of this part doesn't compute the event root of its opening
-  abbrev pub HasBadEvent : Proof → (part : ℕ) → Type 0
-  HasBadEvent (Exists p) part = (part ≡ 0) × (ShowsEvent dig p.at.opening p.event → ⊥)
+  HasBadPath p part =
+      (part ≡ 0) × (anchor : Thread) × (anchor_at anchors (top_of p) ≡ Some anchor) × (ReachesTop dig p anchor.auth → ⊥)
 
   -- the reason stands against a well-formed proof
   abbrev pub StandsAgainst : Proof → Reason → Type 0
   StandsAgainst p (Malformed place) = ⊥
-  StandsAgainst p BadOrder = IsOutOfOrder p
+  StandsAgainst p BadOrder = IsInOrder p → ⊥
   StandsAgainst p (NotHeld service step) = first_not_held anchors (named p) ≡ Some (record { from = service; step = step })
   StandsAgainst p (BadPath part) = HasBadPath p part
   StandsAgainst p (BadOpening part) = ⊥
-  StandsAgainst p (BadEvent part) = HasBadEvent p part
-  StandsAgainst p (BadTree part) = ⊥
+  StandsAgainst p (BadEvent part) = HasBadEvent dig p part
+  StandsAgainst p (BadTree part) = HasBadTree dig p part
   StandsAgainst p (Carried count) = ⊥
   StandsAgainst p Unbuilt = ⊥
 
@@ -63,8 +73,8 @@ module _ (dig : List ℕ → List ℕ) (anchors : List Thread) where
   -- one against which it stands
   abbrev pub Stands : List ℕ → Reason → Type 0
   Stands bytes reason =
-      (IsOfLaterKind bytes × (reason ≡ Unbuilt))
-      ⊎ (((IsOfLaterKind bytes → ⊥) × SpellsNothing proof_layout bytes × ((place : ℕ) × IsPlace proof_layout bytes place × (reason ≡ Malformed place)))
+      (IsOfUnbuiltKind bytes × (reason ≡ Unbuilt))
+      ⊎ (((IsOfUnbuiltKind bytes → ⊥) × SpellsNothing proof_layout bytes × ((place : ℕ) × IsPlace proof_layout bytes place × (reason ≡ Malformed place)))
       ⊎ ((p : Proof) × Spells proof_layout bytes p × StandsAgainst p reason))
 
   -- it stands, and is the lowest of all that stand

@@ -1,16 +1,18 @@
 // Proofs and their verdicts.
 #![tactic(auto)]
 
-mod existing;
 mod judging;
 mod kinds;
 mod laws;
 mod proof;
+mod reaching;
+mod reading;
+mod showing;
 mod verdict;
+mod writing;
 
 pub use laws::{completeness_laws, proof_laws};
-pub use proof::{Proof, read_proof};
+pub use proof::{AbsenceProof, LinkProof, Proof, ThreadProof};
+pub use reading::read_proof;
 pub use verdict::{Verdict, verify};
-
-#[cfg(test)]
-mod tests;
+pub use writing::write_proof;

@@ -1,46 +1,45 @@
 // Proofs by their kinds.
 
-ghost use Rattle.std.specs.Prelude.{◌≤◌, length, IfOk};
-ghost use Rattle.tw_base.specs.Formats.{ReadsAs};
-ghost use Rattle.tw_base.specs.Taking.{Takes};
-ghost use Rattle.tw_chain.specs.Proofs.{IsInRange, proof_codec, proof_layout};
+use tw_base::{Digest, Entry, Key, Name, TreeProof};
+use tw_skipproof::{ExistenceProof, Part, Path};
 
-use std::alloc::Global;
-use tw_base::{ReadFault, take_number, take_text, whole_to};
-use tw_skipproof::{ExistenceProof, take_existence_body};
+/// A proof that the archive of a step has an entry: the step under a top, the entry, and the tree
+/// proof of it.
+#[derive(Drop, Debug)]
+pub struct ThreadProof {
+    pub at: Part,
+    pub entry: Entry,
+    pub shown: TreeProof,
+}
 
-/// How each proof begins: the four bytes `TWP1`.
-const MAGIC: [u8; 4] = [0x54, 0x57, 0x50, 0x31];
+/// A proof that the archive of a step has no entry of a key: the step under a top, the key, and the
+/// tree proof of the empty place where it would stand.
+#[derive(Drop, Debug)]
+pub struct AbsenceProof {
+    pub at: Part,
+    pub key: Key,
+    pub shown: TreeProof,
+}
+
+/// A proof that a step, which may be 0, has this authenticator: the path from the top down to it.
+#[derive(Drop, Debug)]
+pub struct LinkProof {
+    pub service: Name,
+    pub step: u64,
+    pub top: u64,
+    pub auth: Digest,
+    pub path: Path,
+}
 
 /// A proof, by its kind.
 #[derive(Drop, Debug)]
 pub enum Proof {
     /// Kind 1: an event stands at its place.
     Exists(ExistenceProof),
-}
-
-/// Takes a proof.
-#[tactic(auto, unfolding(crate::specs::Proofs::proof_codec, tw_base::specs::Codecs::behind, tw_base::specs::Codecs::by_kind, tw_base::specs::Codecs::cased))]
-fn take_proof(alloc: Global, bytes: &[u8], at: &mut u64) -> Result<Proof, ReadFault>
-    requires { at.old ≤ length bytes.now }
-    ensures { Takes proof_codec (λ p. p) bytes.now at.old at.new result }
-{
-    take_text(bytes, at, &MAGIC)?;
-    let _kind = take_number(bytes, at, 1, 1, 1)?;
-    let proof = take_existence_body(alloc, bytes, at)?;
-    Ok(Proof::Exists(proof))
-}
-
-/// The proof that the bytes spell, from first to last. Malformed exactly where they spell none, with
-/// the place of the first byte at which no proof goes on. Takes no more memory than the proof's labels
-/// and event.
-pub fn read_proof(alloc: Global, bytes: &[u8]) -> Result<Proof, ReadFault>
-    // Bytes are read as a proof exactly where they spell one, with that proof; else the length of the longest front
-    // that some proof begins with is told.
-    ensures read { ReadsAs (λ p. p) proof_layout bytes.now result }
-    ensures range { IfOk result IsInRange }
-{
-    let mut at = 0;
-    let read = take_proof(alloc, bytes, &mut at);
-    whole_to(bytes, at, read)
+    /// Kind 3: a thread was received.
+    Archived(ThreadProof),
+    /// Kind 4: no thread of a key was received.
+    Absent(AbsenceProof),
+    /// Kind 5: a step has an authenticator.
+    Linked(LinkProof),
 }

@@ -2,14 +2,16 @@
 
 ghost use Rattle.std.specs.Prelude.{◌≡◌, ℕ, List, IfOk};
 ghost use Rattle.tw_base.specs.Formats.{Spells};
-ghost use Rattle.tw_chain.specs.Accepting.{report_of};
+ghost use Rattle.tw_chain.specs.Accepting.{claim_of, report_of};
+ghost use Rattle.tw_chain.specs.declared.proof.Proof.TheVariants.{Exists};
 ghost use Rattle.tw_chain.specs.Binding.{BindsHistories};
 ghost use Rattle.tw_chain.specs.Proofs.{IsInRange, proof_layout};
 ghost use Rattle.tw_chain.specs.Reasons.{IsVerdict};
 
 use crate::judging::reason_against;
-use crate::kinds::is_of_later_kind;
-use crate::proof::{Proof, read_proof};
+use crate::kinds::is_of_unbuilt_kind;
+use crate::proof::{AbsenceProof, Proof, ThreadProof};
+use crate::reading::read_proof;
 use std::alloc::Global;
 use tw_base::{Claim, Hasher, NoMemory, Place, ReadFault, Reason, Report, Seen, Thread};
 use tw_skipproof::ExistenceProof;
@@ -23,22 +25,54 @@ pub enum Verdict {
     No(Reason),
 }
 
-/// The report of an accepted proof.
-fn report(proof: Proof) -> Report
-    ensures { result ≡ report_of proof }
+/// What the proof of an event claims.
+fn claim_of_event(proof: ExistenceProof) -> Claim
+    ensures { result ≡ claim_of (Exists proof) }
 {
-    let Proof::Exists(ExistenceProof { at, event }) = proof;
+    let ExistenceProof { at, event } = proof;
     let place = Place {
         service: at.service,
         step: at.step,
         index: event.index,
     };
+    Claim::Exists(Seen {
+        place,
+        event: event.event,
+        time: at.opening.time,
+    })
+}
+
+/// What an accepted proof claims.
+fn claim(proof: Proof) -> Claim
+    ensures { result ≡ claim_of proof }
+{
+    match proof {
+        Proof::Exists(existence) => claim_of_event(existence),
+        Proof::Archived(ThreadProof { at, entry, .. }) => Claim::Archived {
+            service: at.service,
+            step: at.step,
+            entry,
+        },
+        Proof::Absent(AbsenceProof { at, key, .. }) => Claim::Absent {
+            service: at.service,
+            step: at.step,
+            key,
+        },
+        Proof::Linked(link) => Claim::Linked {
+            service: link.service,
+            step: link.step,
+            top: link.top,
+            auth: link.auth,
+        },
+    }
+}
+
+/// The report of an accepted proof.
+fn report(proof: Proof) -> Report
+    ensures { result ≡ report_of proof }
+{
     Report {
-        claim: Claim::Exists(Seen {
-            place,
-            event: event.event,
-            time: at.opening.time,
-        }),
+        claim: claim(proof),
     }
 }
 
@@ -56,7 +90,8 @@ fn judged<H: Hasher>(proof: Proof, anchors: &[Thread]) -> Verdict
 
 /// The verdict on the bytes of a proof under the anchors: Yes exactly where the bytes spell a proof
 /// that is accepted, with its report; else No with the lowest reason that stands. Each text is
-/// hashed once, and no more memory is taken than the proof's labels and event need.
+/// hashed once, and no more memory is taken than the proof's labels, event and
+/// nodes need.
 ///
 /// Where it is Yes, in every family of sound histories that has the held threads the report's claim
 /// holds, or two different texts of the histories and of the proof have one digest.
@@ -72,7 +107,7 @@ pub fn verify<H: Hasher>(
     // the proof names and that is held, or two texts of these histories and of the proof clash.
     ensures binds { IfOk result (BindsHistories H.dig anchors.now bytes.now) }
 {
-    if is_of_later_kind(bytes) {
+    if is_of_unbuilt_kind(bytes) {
         return Ok(Verdict::No(Reason::Unbuilt));
     }
     match read_proof(alloc, bytes) {

@@ -13,8 +13,6 @@ mod memory_disk;
 mod memory_pages;
 mod page_bytes;
 mod pages;
-#[cfg(test)]
-mod tests;
 
 pub use disk::Disk;
 pub use memory_disk::MemDisk;

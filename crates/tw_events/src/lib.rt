@@ -4,10 +4,9 @@
 mod check;
 mod path;
 mod root;
+mod showing;
 
 pub use check::{check_event, root_above_leaf};
 pub use path::event_path;
 pub use root::event_root;
-
-#[cfg(test)]
-mod tests;
+pub use showing::{event_part, root_over};

@@ -25,10 +25,8 @@ use Rattle.tw_history.specs.declared.fault.ShowFault.TheVariants as show
 use Rattle.tw_text.specs.declared.refusal.Refusal.TheVariants.{NoStep, NoEvent}
 use Rattle.tw_outside.specs.Asked.{Asked}
 use Rattle.tw_text.specs.declared.fault.CommandFault.{CommandFault}
-use Rattle.tw_text.specs.Faults.{IsWhereMemory}
 use Rattle.tw_filecmd.specs.Faults.{fault_of_history, fault_of_show}
 use Rattle.tw_filecmd.specs.Showing.{OfHistory, ProvesEvent, RefusesToShow, ShowComes}
-use Rattle.tw_filecmd.proofs.Judging.{where_memory}
 
 -- ---- what was read of the file
 
@@ -75,9 +73,9 @@ module _ (a : Asked) (file all : List ℕ) (there : IsThere a.told file) (read :
   of_fault step index NoMemory reads = tt
 
   pub refuses_file : (step index : ℕ) (f : HistoryFault) (came : CommandFault) → ReadsHistory all (Err f)
-      → IsWhereMemory (fault_of_history file f) came → ShowComes a file step index (Err came)
+      → came ≡ fault_of_history file f → ShowComes a file step index (Err came)
   refuses_file step index f came reads is =
-      where_memory (λ (fault : CommandFault). ShowComes a file step index (Err fault)) (fault_of_history file f) came tt is (of_fault step index f reads)
+      subst (λ (fault : CommandFault). ShowComes a file step index (Err fault)) (sym is) (of_fault step index f reads)
 
   -- what the history refuses, the command does
   pub refuses_show : (step index : ℕ) (h : History) (f : ShowFault) (came : CommandFault) → ReadsHistory all (Ok h) → RefusesEvent h step index f
@@ -98,7 +96,7 @@ module _ (h : History) (step at : ℕ) (bytes : List ℕ) (makes : MakesExistenc
   in_order own =
       let same : own.0 ≡ makes.0 = one_value existence_layout bytes own.0 makes.0 own.1 makes.1 in
       let order : makes.0.at.step ≤ makes.0.at.top = subst (λ (p : ExistenceProof). p.at.step ≤ p.at.top) same own.2.order in
-      omega (arith, order, makes.2.at_step, makes.2.at_top)
+      omega (arith, order, makes.2.at.at_step, makes.2.at.at_top)
 
 pub shown_at : (h : History) (step index at : ℕ) → IsSound h → at ≡ min index 4294967295 → (result : Result (List ℕ) ShowFault)
     → IfOk result (MakesExistence sha256 h step at (length h.steps))

@@ -1,5 +1,5 @@
 -- From what was read to what the judging of a proof comes to.
-use Rattle.std.proofs.Common.{◌≡◌, ℕ, List, map, sym, subst, lit<, inl, inr, refl}
+use Rattle.std.proofs.Common.{◌≡◌, ℕ, List, map, sym, subst, lit<, refl}
 use Rattle.std.specs.Prelude.{Option, Ok, Err}
 use Rattle.sha2.specs.Sha256.{sha256}
 use Rattle.tw_base.specs.declared.thread.Thread.{Thread}
@@ -11,8 +11,7 @@ use Rattle.tw_chain.specs.Reasons.{IsVerdict}
 use Rattle.tw_outside.specs.Asked.{Asked}
 use Rattle.tw_text.specs.declared.refusal.BadInput.TheVariants.{BadLine}
 use Rattle.tw_text.specs.declared.fault.CommandFault.{CommandFault}
-use Rattle.tw_text.specs.declared.fault.CommandFault.TheVariants.{Unreadable, NoMemory}
-use Rattle.tw_text.specs.Faults.{IsWhereMemory}
+use Rattle.tw_text.specs.declared.fault.CommandFault.TheVariants.{Unreadable}
 use Rattle.tw_filecmd.specs.Verifying.{HasAnchors, IsJudged, VerifyFileComes}
 use Rattle.tw_filecmd.proofs.AnchorFronts.{file_limit, first_bad_of_front, good_is_whole}
 use Rattle.tw_chain.proofs.Fronts.{binds_of_front, verdict_of_front}
@@ -45,16 +44,11 @@ judges_file a proof file anchors verdict all all_lines lines_there lines_read ar
   judged_by a.told proof anchors verdict all there read is holds,
 )
 
--- what holds of the wanted fault and of want of memory holds of the one that came
-pub where_memory : (P : CommandFault → Type 0) (wanted came : CommandFault) → P NoMemory → IsWhereMemory wanted came → P wanted → P came
-where_memory P wanted came none (inl is) holds = subst P (sym is) holds
-where_memory P wanted came none (inr is) holds = subst P (sym is) none
-
 pub refuses_line : (a : Asked) (proof file : List ℕ) (number : ℕ) (all_lines : List ℕ) (came : CommandFault)
     → IsThere a.told proof → IsThere a.told file → IsReadTo a.told file file_limit all_lines → IsFirstBadLine (lines all_lines) number
-    → IsWhereMemory (Unreadable (BadLine file number)) came → VerifyFileComes a proof file (Err came)
+    → came ≡ Unreadable (BadLine file number) → VerifyFileComes a proof file (Err came)
 refuses_line a proof file number all_lines came proof_there there read bad is =
-    where_memory (λ (fault : CommandFault). VerifyFileComes a proof file (Err fault)) (Unreadable (BadLine file number)) came tt is (
+    subst (λ (fault : CommandFault). VerifyFileComes a proof file (Err fault)) (sym is) (
       refl,
       record {
         proof_there = proof_there;

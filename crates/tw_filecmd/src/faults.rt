@@ -1,8 +1,7 @@
 // The faults of what a command calls, as the command's; a file that isn't what it reads is told by the command's word for it.
 
-ghost use Rattle.std.specs.Prelude.{◌≡◌};
-ghost use Rattle.tw_filecmd.specs.Faults.{fault_of_history as fault_of_history_file, fault_of_show as fault_of_showing};
-ghost use Rattle.tw_text.specs.Faults.{IsWhereMemory};
+ghost use Rattle.std.specs.Prelude.{◌≡◌, IfOk};
+ghost use Rattle.tw_filecmd.specs.Faults.{fault_of_history, fault_of_show as fault_of_showing};
 ghost use Rattle.tw_text.specs.declared.fault.CommandFault.TheVariants.{Unreadable};
 ghost use Rattle.tw_text.specs.declared.refusal.BadInput.TheVariants.{BadLine};
 
@@ -13,42 +12,32 @@ use tw_history::{HistoryFault, ShowFault};
 use tw_text::{BadInput, CommandFault, Refusal};
 
 /// The fault of an anchors file with this first bad line.
-pub(crate) fn refuse_line(alloc: Global, file: &str, line: u64) -> CommandFault
-    ensures { IsWhereMemory (Unreadable (BadLine file.now line)) result }
+pub(crate) fn bad_line(alloc: Global, file: &str, line: u64) -> Result<CommandFault, NoMemory>
+    ensures { IfOk result (λ fault. fault ≡ Unreadable (BadLine file.now line)) }
 {
-    match Bytes::from_slice(alloc, file.as_bytes()) {
-        Ok(file) => CommandFault::Unreadable(BadInput::BadLine { file, line }),
-        Err(NoMemory) => CommandFault::NoMemory,
-    }
+    let file = Bytes::from_slice(alloc, file.as_bytes())?;
+    Ok(CommandFault::Unreadable(BadInput::BadLine { file, line }))
 }
 
-/// The fault of a history file.
-pub(crate) fn refuse_history(alloc: Global, file: &str, fault: HistoryFault) -> CommandFault
-    ensures { IsWhereMemory (fault_of_history_file file.now fault) result }
+/// The fault of a history file. One that is too long is refused at the byte of the limit.
+pub(crate) fn bad_history(
+    alloc: Global,
+    file: &str,
+    fault: HistoryFault,
+) -> Result<CommandFault, NoMemory>
+    ensures { IfOk result (λ told. told ≡ fault_of_history file.now fault) }
 {
-    match Bytes::from_slice(alloc, file.as_bytes()) {
-        Ok(file) => fault_of_history(file, fault),
-        Err(NoMemory) => CommandFault::NoMemory,
-    }
-}
-
-/// The fault as the command's. A file that is too long is refused at the byte of the limit.
-fn fault_of_history(file: Bytes, fault: HistoryFault) -> CommandFault
-    ensures { result ≡ fault_of_history_file file fault }
-{
-    match fault {
-        HistoryFault::TooLong { .. } => CommandFault::Unreadable(BadInput::BadByte {
+    let file = Bytes::from_slice(alloc, file.as_bytes())?;
+    let bad = match fault {
+        HistoryFault::TooLong { .. } => BadInput::BadByte {
             file,
             place: MOST_HISTORY_BYTES,
-        }),
-        HistoryFault::Malformed { place } => {
-            CommandFault::Unreadable(BadInput::BadByte { file, place })
-        }
-        HistoryFault::Unsound { step, rule } => {
-            CommandFault::Unreadable(BadInput::Unsound { file, step, rule })
-        }
-        HistoryFault::NoMemory => CommandFault::NoMemory,
-    }
+        },
+        HistoryFault::Malformed { place } => BadInput::BadByte { file, place },
+        HistoryFault::Unsound { step, rule } => BadInput::Unsound { file, step, rule },
+        HistoryFault::NoMemory => return Err(NoMemory),
+    };
+    Ok(CommandFault::Unreadable(bad))
 }
 
 /// The fault of showing as the command's.

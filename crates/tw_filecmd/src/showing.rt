@@ -6,7 +6,7 @@ ghost use Rattle.tw_history.specs.Refusals.{RefusesEvent};
 ghost use Rattle.tw_outside.specs.Asked.{asked};
 ghost use Rattle.tw_filecmd.specs.Showing.{ProvesEvent, ShowComes};
 
-use crate::faults::{fault_of_show, refuse_history};
+use crate::faults::{bad_history, fault_of_show};
 use crate::limits::HISTORY_READ;
 use std::alloc::Global;
 use tw_base::{Bytes, Sha};
@@ -29,7 +29,7 @@ pub fn show<I: Inputs>(
     let bytes = read_all(alloc, inputs, file, HISTORY_READ)?;
     let history = match read_history(alloc, bytes.as_slice()) {
         Ok(history) => history,
-        Err(fault) => return Err(refuse_history(alloc, file, fault)),
+        Err(fault) => return Err(bad_history(alloc, file, fault)?),
     };
     match show_at(alloc, &history, step, index) {
         Ok(proof) => Ok(proof),

@@ -3,7 +3,7 @@
 ghost use Rattle.tw_outside.specs.Asked.{asked};
 ghost use Rattle.tw_filecmd.specs.Verifying.{VerifyFileComes, VerifyOneComes};
 
-use crate::faults::refuse_line;
+use crate::faults::bad_line;
 use crate::limits::PROOF_READ;
 use crate::pair::read_pair;
 use std::alloc::Global;
@@ -46,7 +46,7 @@ pub fn verify_file<I: Inputs>(
     let pair = read_pair(alloc, inputs, anchors, proof, PROOF_READ)?;
     let held = match read_anchors(alloc, pair.first.as_slice()) {
         Ok(held) => held,
-        Err(AnchorFault::BadLine { line }) => return Err(refuse_line(alloc, anchors, line)),
+        Err(AnchorFault::BadLine { line }) => return Err(bad_line(alloc, anchors, line)?),
         Err(AnchorFault::NoMemory) => return Err(CommandFault::NoMemory),
     };
     Ok(verify::<Sha>(alloc, pair.second.as_slice(), held.as_slice())?)

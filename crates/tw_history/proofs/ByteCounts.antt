@@ -7,7 +7,7 @@ use Rattle.std.proofs.lemmas.List.Sums.{sum_by-cons}
 use Rattle.tw_base.specs.declared.content.Content.{Content}
 use Rattle.tw_base.specs.declared.content.Content.TheVariants.{Events, Received}
 use Rattle.tw_base.specs.declared.thread.Thread.{Thread}
-use Rattle.tw_base.specs.Codecs.{behind, by_kind, bytes_codec, cased, counted, many, name_codec, nothing, number_codec, pair, present, seen, sized_codec}
+use Rattle.tw_base.specs.Codecs.{behind, by_kind, bytes_codec, variant, counted, many, name_codec, nothing, number_codec, pair, present, seen, sized_codec}
 use Rattle.tw_base.specs.Fields.{number_bytes}
 use Rattle.tw_base.specs.History.{History, Node}
 use Rattle.tw_base.specs.HistoryCodec.{content_codec, event_codec, history_bytes, history_codec, history_magic, node_codec, recorded_codec, step_codec, thread_codec}
@@ -22,12 +22,12 @@ unfolding sized_codec by_kind number_codec bytes_codec
 event-size event = omega (arith, length-append (number_bytes 4 (length event)) event, length-number_bytes 4 (length event))
 
 pub events-size : (events : List (List ℕ)) → length ((content_codec true).write (Events events)) ≡ 4 + length (flat_map event_codec.write events)
-unfolding content_codec by_kind cased counted many number_codec
+unfolding content_codec by_kind variant counted many number_codec
 events-size events =
     omega (arith, length-append (number_bytes 4 (length events)) (flat_map event_codec.write events), length-number_bytes 4 (length events))
 
 pub thread-size : (t : Thread) → length t.from ≡ 16 → length t.auth ≡ 32 → length ((content_codec false).write (Received t)) ≡ 56
-unfolding content_codec cased number_codec thread_codec seen pair name_codec bytes_codec
+unfolding content_codec variant number_codec thread_codec seen pair name_codec bytes_codec
 thread-size t from auth =
     omega (
       arith,

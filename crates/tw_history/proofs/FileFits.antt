@@ -5,7 +5,7 @@ use Rattle.tw_base.specs.declared.content.Content.{Content}
 use Rattle.tw_base.specs.declared.content.Content.TheVariants.{Events, Received}
 use Rattle.tw_base.specs.declared.limits.TheConstants.{LAST_STEP, MOST_EVENTS, MOST_EVENT_BYTES}
 use Rattle.tw_base.specs.declared.thread.Thread.{Thread}
-use Rattle.tw_base.specs.Codecs.{HasBytes, behind, by_kind, bytes_codec, cased, counted, many, name_codec, nothing, number_codec, pair, present, seen, sized_codec}
+use Rattle.tw_base.specs.Codecs.{HasBytes, behind, by_kind, bytes_codec, variant, counted, many, name_codec, nothing, number_codec, pair, present, seen, sized_codec}
 use Rattle.tw_base.specs.History.{History, Node, Step}
 use Rattle.tw_base.specs.HistoryCodec.{content_codec, event_codec, history_codec, node_codec, recorded_codec, step_codec, thread_codec}
 use Rattle.tw_base.specs.Limits.{IsTimeWithinLimits}
@@ -17,11 +17,11 @@ use Rattle.tw_history.specs.Tables.{IsInRange}
 use Rattle.tw_history.specs.WritingSteps.{has_events}
 
 pub events-fit : (events : List (List ℕ)) → length events ≤ MOST_EVENTS → Each event_codec.Fits events → (content_codec true).Fits (Events events)
-unfolding content_codec by_kind cased counted many number_codec
+unfolding content_codec by_kind variant counted many number_codec
 events-fit events few fit = (refl, ((omega arith, few), (refl, fit)))
 
 pub thread-fits : (t : Thread) → thread_codec.Fits t → (content_codec false).Fits (Received t)
-unfolding content_codec cased
+unfolding content_codec variant
 thread-fits t fits = (refl, fits)
 
 pub thread-parts : (t : Thread) → 0 < t.step → t.step ≤ LAST_STEP → IsName t.from → HasBytes 32 t.auth → thread_codec.Fits t
@@ -37,7 +37,7 @@ recorded-fits (Some time) (Events events) within fits = ((omega arith, omega ari
 recorded-fits (Some time) (Received t) within fits = ((omega arith, omega arith), ((omega arith, within), fits))
 
 content-range : (c : Content) → (content_codec (has_events c)).Fits c → IsInRange c
-unfolding content_codec by_kind cased counted many number_codec sized_codec thread_codec seen pair
+unfolding content_codec by_kind variant counted many number_codec sized_codec thread_codec seen pair
 content-range (Events events) fits = (fits.1.0.1, Each-map event_codec.Fits (λ event. length event ≤ MOST_EVENT_BYTES) events (λ event is. is.0.1) fits.1.1.1)
 content-range (Received t) fits = (fits.1.1.0.0, fits.1.1.0.1)
 

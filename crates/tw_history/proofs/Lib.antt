@@ -8,7 +8,6 @@ pub mod TableSteps
 pub mod LinkLabels
 pub mod LastSteps
 pub mod Passes
-pub mod Existences
 pub mod TableWalk
 pub mod Summaries
 pub mod NameOrder

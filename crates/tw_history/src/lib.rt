@@ -2,7 +2,6 @@
 #![tactic(auto)]
 
 mod authenticators;
-mod event_part;
 mod fault;
 mod history;
 mod laws;
@@ -16,8 +15,6 @@ mod sizes;
 mod soundness;
 mod step;
 mod step_digests;
-#[cfg(test)]
-mod tests;
 mod writing;
 
 pub use authenticators::auth_of;

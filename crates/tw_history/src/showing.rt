@@ -10,13 +10,12 @@ ghost use Rattle.tw_base.specs.Lists.{Each};
 ghost use Rattle.tw_base.specs.Formats.{Spells};
 ghost use Rattle.tw_skipproof.specs.Acceptance.{IsAcceptedUnder};
 ghost use Rattle.tw_skipproof.specs.Existence.{existence_layout};
-ghost use Rattle.tw_skipproof.specs.HistoryProofs.{IsExistenceOf, IsOpeningOf, IsPathOf, MakesExistence};
+ghost use Rattle.tw_skipproof.specs.HistoryProofs.{IsExistenceOf, IsOpeningOf, IsPartOf, MakesExistence};
 ghost use Rattle.tw_history.specs.Tables.{IsInRange};
 ghost use Rattle.tw_history.specs.PassSteps.{HasPassed, events_in};
 ghost use Rattle.tw_history.specs.Refusals.{RefusesEvent};
 ghost use Rattle.tw_base.specs.declared.limits.TheConstants.{LAST_STEP, MOST_EVENTS, MOST_EVENT_BYTES};
 
-use crate::event_part::{event_part, root_over};
 use crate::fault::ShowFault;
 use crate::history::History;
 use crate::lookup::{content_at, content_behind, count_of_steps, time_behind};
@@ -25,6 +24,7 @@ use crate::path_links::path_links;
 use crate::step_digests::{count_of_events, opening_with};
 use std::alloc::Global;
 use tw_base::{Bytes, Content, Digest, Hasher, NoMemory};
+use tw_events::{event_part, root_over};
 use tw_skipproof::{ExistenceProof, Opening, Part, Path, write_existence};
 
 /// The events of the content, where one has this index; else how many there are.
@@ -99,9 +99,7 @@ fn part_of<H: Hasher>(
     requires from_1 { 0 < step }
     requires inside { step ≤ length history.now.steps }
     requires event_root { event_root ≡ event_root_of H.dig (events_at history.now step) }
-    ensures place { IfOk result (λ part. (part.service ≡ history.now.name) × (part.step ≡ step) × (part.top ≡ length history.now.steps)) }
-    ensures path { IfOk result (λ part. IsPathOf H.dig history.now part.path.links (length history.now.steps) step) }
-    ensures opening { IfOk result (λ part. IsOpeningOf H.dig history.now step part.opening) }
+    ensures part { IfOk result (IsPartOf H.dig history.now step (length history.now.steps)) }
     ensures time { IfOk result (λ part. IsTimeWithinLimits part.opening.time) }
     ensures few { OnOk result (length history.now.steps ≤ LAST_STEP) }
 {
@@ -134,10 +132,11 @@ fn existence_of<H: Hasher>(
     requires small { Each (λ event. length event ≤ MOST_EVENT_BYTES) events.now }
     ensures existence { IfOk result (IsExistenceOf H.dig history.now step index (length history.now.steps)) }
     ensures time { IfOk result (λ proof. IsTimeWithinLimits proof.at.opening.time) }
+    ensures small { IfOk result (λ proof. length proof.event.event ≤ MOST_EVENT_BYTES) }
     ensures few { OnOk result (length history.now.steps ≤ LAST_STEP) }
 {
     let event = event_part::<H>(alloc, events, index)?;
-    let event_root = root_over::<H>(&event, events);
+    let event_root = root_over::<H>(&event, events.len() as u32);
     let at = part_of::<H>(alloc, history, step, event_root)?;
     Ok(ExistenceProof { at, event })
 }

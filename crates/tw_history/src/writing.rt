@@ -129,7 +129,7 @@ fn put_recorded(into: &mut Bytes, time: Option<u64>, content: &Content) -> Resul
 }
 
 /// Appends the content: the number of events and each of them, or the thread.
-#[tactic(auto, unfolding(tw_base::specs::Codecs::by_kind, tw_base::specs::Codecs::bytes_codec, tw_base::specs::Codecs::cased, tw_base::specs::Codecs::counted, tw_base::specs::Codecs::many, tw_base::specs::Codecs::name_codec, tw_base::specs::Codecs::number_codec, tw_base::specs::Codecs::pair, tw_base::specs::Codecs::seen, tw_base::specs::HistoryCodec::content_codec, tw_base::specs::HistoryCodec::thread_codec))]
+#[tactic(auto, unfolding(tw_base::specs::Codecs::by_kind, tw_base::specs::Codecs::bytes_codec, tw_base::specs::Codecs::variant, tw_base::specs::Codecs::counted, tw_base::specs::Codecs::many, tw_base::specs::Codecs::name_codec, tw_base::specs::Codecs::number_codec, tw_base::specs::Codecs::pair, tw_base::specs::Codecs::seen, tw_base::specs::HistoryCodec::content_codec, tw_base::specs::HistoryCodec::thread_codec))]
 fn put_content(into: &mut Bytes, content: &Content) -> Result<(), NoMemory>
     requires { IsInRange content.now }
     ensures { Puts (content_codec (has_events content.now)) content.now into.old into.new result }

@@ -11,8 +11,6 @@ mod file_disk;
 mod host_inputs;
 mod host_sink;
 mod opening;
-#[cfg(test)]
-mod tests;
 
 pub use access::Access;
 pub use file_disk::FileDisk;

@@ -43,6 +43,3 @@ pub fn events_file_laws()
     // A file has one list of events, events have one spelling, and no file is the front of a longer one.
     ensures { IsUnambiguous events_codec }
 {}
-
-#[cfg(test)]
-mod tests;

@@ -4,8 +4,6 @@
 mod anchors;
 mod events;
 mod split;
-#[cfg(test)]
-mod tests;
 
 pub use anchors::{AnchorFault, read_anchors};
 pub use events::{events_file_laws, read_events};

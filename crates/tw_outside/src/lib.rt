@@ -15,6 +15,3 @@ pub use mem_sink::MemSink;
 pub use reading::{InputFault, PIECE, read_all, read_piece};
 pub use sink::Sink;
 pub use writing::write_all;
-
-#[cfg(test)]
-mod tests;

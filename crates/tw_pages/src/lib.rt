@@ -17,8 +17,6 @@ mod paged;
 mod phases;
 mod staged;
 mod store;
-#[cfg(test)]
-mod tests;
 
 pub use laws::image_laws;
 pub use open::StoreFault;

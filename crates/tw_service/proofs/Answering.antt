@@ -6,7 +6,7 @@ use Rattle.tw_base.specs.History.{History, events_at, with_events}
 use Rattle.tw_skipproof.specs.HistoryProofs.{MakesExistence}
 use Rattle.tw_base.specs.declared.thread.Thread.{Thread}
 use Rattle.tw_base.specs.declared.limits.TheConstants.{LAST_STEP, MOST_EVENTS, MOST_STEP_BYTES}
-use Rattle.tw_service.specs.Refusals.{IsBadPage, IsFault, IsNoEvent, OfNoEvent}
+use Rattle.tw_service.specs.Refusals.{IsBadPage, IsFault, IsNoEvent}
 use Rattle.tw_service.specs.Limits.{append_refusal, bytes_of, event_refusal, first_long, is_in_order, length_refusal, limits_refusal, or_else, order_refusal, proof_refusal}
 use Rattle.tw_service.specs.Machine.{Answers, Call, IsStepOf, Reply, last_thread}
 use Rattle.tw_service.specs.Machine.Call.{Append, ProveEvent}
@@ -70,24 +70,11 @@ unfolding order_refusal
 order_no_fault true last step top = λ is. is
 order_no_fault false last step top = of_weaker IsTold NoFault (λ r is. is.0) _ (order_told last step top)
 
--- the table for the order of steps tells no number of events
-pub order_counts : (P : ℕ → Type 0) (broken : Bool) (last step top : ℕ) → Of (λ r. OfNoEvent r P) (order_refusal broken last step top)
-unfolding order_refusal
-order_counts P true last step top = tt
-order_counts P false last step top = of_if (λ r. OfNoEvent r P) (is_in_order last step top) None (Some (NoStep last)) tt tt
-
 -- ---- a bad page and a disk fault are faults
 
 pub is_bad_fault : (r : Refusal) → IsBadPage r → IsFault r
 is_bad_fault (BadPage page) is = tt
-is_bad_fault (NoStep last) is = absurd is
-is_bad_fault (NoEvent count) is = absurd is
-is_bad_fault (TooMany count) is = absurd is
-is_bad_fault (TooLong bytes) is = absurd is
-is_bad_fault Full is = absurd is
-is_bad_fault DiskFault is = absurd is
-is_bad_fault Reopen is = absurd is
-is_bad_fault NoMemory is = absurd is
+is_bad_fault _ is = absurd is
 
 abbrev pub fails : (T : Type 0) → Refusal → Result T Refusal
 fails T r = Err r
@@ -98,28 +85,19 @@ is_disk_fault T r is = let same : r ≡ DiskFault = cc in subst IsFault (sym sam
 module _ (dig : List ℕ → List ℕ) {T : Type 0} (h : History) (call : Call) (reply : T → Reply) (Serves : History → Type 0) where
   -- a refusal of a table
   pub answers_refusal : (r : Refusal) → IsTold r → IsStepOf dig h call (Refused r) h → Serves h → Answers dig h call reply (Err r) Serves
-  answers_refusal (NoStep last) is step served = (step, served)
-  answers_refusal (NoEvent count) is step served = (step, served)
-  answers_refusal (TooMany count) is step served = (step, served)
-  answers_refusal (TooLong bytes) is step served = (step, served)
-  answers_refusal Full is step served = (step, served)
   answers_refusal (BadPage page) is step served = absurd (is.0 tt)
   answers_refusal DiskFault is step served = tt
   answers_refusal Reopen is step served = absurd (is.1 refl)
   answers_refusal NoMemory is step served = served
+  answers_refusal _ is step served = (step, served)
 
   -- a fault
   pub answers_fault : (r : Refusal) → IsFault r → (IsBadPage r → ⊥) → (r ≡ DiskFault) ⊎ Serves h → Answers dig h call reply (Err r) Serves
-  answers_fault (NoStep last) is good served = absurd is
-  answers_fault (NoEvent count) is good served = absurd is
-  answers_fault (TooMany count) is good served = absurd is
-  answers_fault (TooLong bytes) is good served = absurd is
-  answers_fault Full is good served = absurd is
   answers_fault (BadPage page) is good served = absurd (good tt)
   answers_fault DiskFault is good served = tt
-  answers_fault Reopen is good served = absurd is
   answers_fault NoMemory is good (inl same) = cc
   answers_fault NoMemory is good (inr served) = served
+  answers_fault _ is good served = absurd is
 
 -- ---- adding a step
 
@@ -136,14 +114,7 @@ module _ (dig : List ℕ → List ℕ) (h : History) (events : List (List ℕ)) 
 
 pub no_event_told : (r : Refusal) → IsNoEvent r → IsTold r
 no_event_told (NoEvent count) is = ((λ fault. fault), (λ same. cc))
-no_event_told (NoStep last) is = absurd is
-no_event_told (TooMany count) is = absurd is
-no_event_told (TooLong bytes) is = absurd is
-no_event_told Full is = absurd is
-no_event_told (BadPage page) is = absurd is
-no_event_told DiskFault is = absurd is
-no_event_told Reopen is = absurd is
-no_event_told NoMemory is = absurd is
+no_event_told _ is = absurd is
 
 pub has_event : (count index : ℕ) → index < count → event_refusal count index ≡ None
 unfolding event_refusal

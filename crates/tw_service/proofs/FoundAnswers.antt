@@ -1,48 +1,39 @@
 -- Answers and refusals as what is found in pages.
 use Rattle.std.proofs.Common.{◌≡◌, ◌⊎◌, ℕ, refl, ap, sym, ◌∙◌, subst, inl, inr}
-use Rattle.std.specs.Prelude.{Option, Some, None, Result, Ok, Err}
+use Rattle.std.specs.Prelude.{Result, Ok, Err, IsErrAnd}
 use Rattle.tw_skiplist.specs.declared.fault.ListFault.{ListFault}
 use Rattle.tw_skiplist.specs.declared.fault.ListFault.TheVariants as list
 use Rattle.tw_skiplist.specs.Answers.{IsFaultOf, NeverNoStep, NoStepUnless}
 use Rattle.tw_skiplist.specs.Found.{Found, ◌>>=◌}
 use Rattle.tw_skiplist.specs.Found.Found.{Is, Bad}
-use Rattle.tw_service.specs.Finds.{IsAnswer, IsRefusalOf, unless}
+use Rattle.tw_service.specs.Finds.{IsAnswer, IsRefusalOf}
 use Rattle.tw_service.specs.Refusals.{IsBadPage, IsFault, IsNoEvent, OfBadPage, refusal_of}
 use Rattle.tw_service.specs.declared.refusal.Refusal.{Refusal}
-use Rattle.tw_service.specs.declared.refusal.Refusal.TheVariants.{NoStep, NoEvent, TooMany, TooLong, Full, BadPage, DiskFault, Reopen, NoMemory}
+use Rattle.tw_service.specs.declared.refusal.Refusal.TheVariants.{NoEvent, BadPage, DiskFault, NoMemory}
 
 -- ---- faults of the list
 
 pub never_no_step : (A : Type 0) (fault : ListFault) (last : ℕ) (P : Type 0) → P → NoStepUnless {T = A} (Err fault) last P → NeverNoStep {T = A} (Err fault)
 never_no_step A (list.NoStep n) last P there gone = absurd (gone.1 there)
-never_no_step A (list.BadPage page) last P there gone = tt
-never_no_step A list.DiskFault last P there gone = tt
-never_no_step A list.NoMemory last P there gone = tt
+never_no_step A _ last P there gone = tt
 
 module _ {X Y : Type 0} where
-  -- what is read first ends the reading
-  pub fault_found : (A : Type 0) (fault : ListFault) (refusal : Refusal) (one : Found X) (next : X → Found (Result Y Refusal)) → refusal ≡ refusal_of fault → NeverNoStep {T = A} (Err fault)
-      → IsFaultOf fault one → IsRefusalOf refusal (one >>= next)
-  fault_found A fault refusal one next is never there = subst (λ (r : Refusal). IsRefusalOf r (one >>= next)) (sym is) (of fault never there)
+  -- a fault that `?` hands on ends the reading
+  pub fault_found : (A : Type 0) (result : Result Y Refusal) (fault : ListFault) (one : Found X) (next : X → Found (Result Y Refusal)) → IsErrAnd result (λ refusal. refusal ≡ refusal_of fault)
+      → NeverNoStep {T = A} (Err fault) → IsFaultOf fault one → IsAnswer result (one >>= next)
+  fault_found A (Ok _) fault one next is never there = absurd is
+  fault_found A (Err refusal) fault one next is never there = subst (λ (r : Refusal). IsRefusalOf r (one >>= next)) (sym is) (of fault never there)
     where
       of : (f : ListFault) → NeverNoStep {T = A} (Err f) → IsFaultOf f one → IsRefusalOf (refusal_of f) (one >>= next)
       of (list.NoStep n) never there = absurd never
       of (list.BadPage page) never there = ap (λ (f : Found X). f >>= next) there
-      of list.DiskFault never there = tt
-      of list.NoMemory never there = tt
+      of _ never there = tt
 
 module _ {X Y : Type 0} where
   -- a bad page ends the reading
   pub page_on : (refusal : Refusal) (one : Found X) (next : X → Found Y) → OfBadPage refusal (λ page. one ≡ Bad page) → OfBadPage refusal (λ page. (one >>= next) ≡ Bad page)
   page_on (BadPage page) one next bad = ap (λ (f : Found X). f >>= next) bad
-  page_on (NoStep last) one next bad = tt
-  page_on (NoEvent count) one next bad = tt
-  page_on (TooMany count) one next bad = tt
-  page_on (TooLong bytes) one next bad = tt
-  page_on Full one next bad = tt
-  page_on DiskFault one next bad = tt
-  page_on Reopen one next bad = tt
-  page_on NoMemory one next bad = tt
+  page_on _ one next bad = tt
 
 module _ {X : Type 0} where
   -- the page of a fault
@@ -50,48 +41,29 @@ module _ {X : Type 0} where
   page_found fault refusal found is there = subst (λ (r : Refusal). OfBadPage r (λ page. found ≡ Bad page)) (sym is) (of fault there)
     where
       of : (f : ListFault) → IsFaultOf f found → OfBadPage (refusal_of f) (λ page. found ≡ Bad page)
-      of (list.NoStep n) there = tt
       of (list.BadPage page) there = there
-      of list.DiskFault there = tt
-      of list.NoMemory there = tt
+      of _ there = tt
 
   -- a bad page where a value is found
   pub no_bad_page : (refusal : Refusal) (found : Found X) (x : X) → found ≡ Is x → OfBadPage refusal (λ page. found ≡ Bad page) → IsBadPage refusal → ⊥
   no_bad_page (BadPage page) found x is bad fault = let both : Is x ≡ Bad page = sym is ∙ bad in cc
-  no_bad_page (NoStep last) found x is bad fault = fault
-  no_bad_page (NoEvent count) found x is bad fault = fault
-  no_bad_page (TooMany count) found x is bad fault = fault
-  no_bad_page (TooLong bytes) found x is bad fault = fault
-  no_bad_page Full found x is bad fault = fault
-  no_bad_page DiskFault found x is bad fault = fault
-  no_bad_page Reopen found x is bad fault = fault
-  no_bad_page NoMemory found x is bad fault = fault
+  no_bad_page _ found x is bad fault = fault
 
   -- ---- refusals
 
   -- a refusal of a table
   pub table_found : (refusal : Refusal) (found : Found (Result X Refusal)) → (IsFault refusal → ⊥) → found ≡ Is (Err refusal) → IsRefusalOf refusal found
-  table_found (NoStep last) found told is = is
-  table_found (NoEvent count) found told is = is
-  table_found (TooMany count) found told is = is
-  table_found (TooLong bytes) found told is = is
-  table_found Full found told is = is
   table_found (BadPage page) found told is = absurd (told tt)
   table_found DiskFault found told is = tt
-  table_found Reopen found told is = is
   table_found NoMemory found told is = tt
+  table_found _ found told is = is
 
   -- a fault's page, after more was found
   pub fault_page : (refusal : Refusal) (found : Found (Result X Refusal)) → IsFault refusal → OfBadPage refusal (λ page. found ≡ Bad page) → IsRefusalOf refusal found
   fault_page (BadPage page) found fault bad = bad
-  fault_page (NoStep last) found fault bad = absurd fault
-  fault_page (NoEvent count) found fault bad = absurd fault
-  fault_page (TooMany count) found fault bad = absurd fault
-  fault_page (TooLong bytes) found fault bad = absurd fault
-  fault_page Full found fault bad = absurd fault
   fault_page DiskFault found fault bad = tt
-  fault_page Reopen found fault bad = absurd fault
   fault_page NoMemory found fault bad = tt
+  fault_page _ found fault bad = absurd fault
 
   -- where a value is found, no refusal is, but for what is excepted
   pub value_found : (refusal : Refusal) (found : Found (Result X Refusal)) (x : X) → found ≡ Is (Ok x) → IsRefusalOf refusal found → (IsFault refusal ⊎ IsNoEvent refusal) → (IsBadPage refusal → ⊥) × (IsNoEvent refusal → ⊥)
@@ -99,16 +71,8 @@ module _ {X : Type 0} where
   value_found (NoEvent count) found x is there of = (let both : ◌≡◌ {A = Found (Result X Refusal)} (Is (Ok x)) (Is (Err (NoEvent count))) = sym is ∙ there in absurd cc)
   value_found DiskFault found x is there of = ((λ bad. bad), (λ none. none))
   value_found NoMemory found x is there of = ((λ bad. bad), (λ none. none))
-  value_found (NoStep last) found x is there (inl fault) = absurd fault
-  value_found (NoStep last) found x is there (inr none) = absurd none
-  value_found (TooMany count) found x is there (inl fault) = absurd fault
-  value_found (TooMany count) found x is there (inr none) = absurd none
-  value_found (TooLong bytes) found x is there (inl fault) = absurd fault
-  value_found (TooLong bytes) found x is there (inr none) = absurd none
-  value_found Full found x is there (inl fault) = absurd fault
-  value_found Full found x is there (inr none) = absurd none
-  value_found Reopen found x is there (inl fault) = absurd fault
-  value_found Reopen found x is there (inr none) = absurd none
+  value_found _ found x is there (inl fault) = absurd fault
+  value_found _ found x is there (inr none) = absurd none
 
   -- where a refusal of no event is found, no page is bad, and no other such refusal is told
   pub no_event_found : (refusal : Refusal) (found : Found (Result X Refusal)) (n : ℕ) → found ≡ Is (Err (NoEvent n)) → IsRefusalOf refusal found → (IsFault refusal ⊎ IsNoEvent refusal)
@@ -119,13 +83,5 @@ module _ {X : Type 0} where
       ((λ bad. bad), (λ none. let same : NoEvent n ≡ NoEvent count = cc in sym same))
   no_event_found DiskFault found n is there of = ((λ bad. bad), (λ none. absurd none))
   no_event_found NoMemory found n is there of = ((λ bad. bad), (λ none. absurd none))
-  no_event_found (NoStep last) found n is there (inl fault) = absurd fault
-  no_event_found (NoStep last) found n is there (inr none) = absurd none
-  no_event_found (TooMany count) found n is there (inl fault) = absurd fault
-  no_event_found (TooMany count) found n is there (inr none) = absurd none
-  no_event_found (TooLong bytes) found n is there (inl fault) = absurd fault
-  no_event_found (TooLong bytes) found n is there (inr none) = absurd none
-  no_event_found Full found n is there (inl fault) = absurd fault
-  no_event_found Full found n is there (inr none) = absurd none
-  no_event_found Reopen found n is there (inl fault) = absurd fault
-  no_event_found Reopen found n is there (inr none) = absurd none
+  no_event_found _ found n is there (inl fault) = absurd fault
+  no_event_found _ found n is there (inr none) = absurd none

@@ -1,19 +1,18 @@
 -- What is found in pages that keep a history is the history's.
-use Rattle.std.proofs.Common.{◌≡◌, ◌⊎◌, ℕ, ◌+◌, ◌^◌, ◌<◌, ◌≤◌, List, [], ◌++◌, length, refl, ap, sym, ◌∙◌, subst, arith, inl, inr, Bool}
-use Rattle.std.specs.Prelude.{Option, Some, None, Result, Ok, Err, slice_index_or, if◌then◌else◌, false}
+use Rattle.std.proofs.Common.{◌≡◌, ◌⊎◌, ℕ, ◌+◌, ◌^◌, ◌<◌, ◌≤◌, List, length, refl, ap, sym, ◌∙◌, subst, arith, inl, inr, Bool}
+use Rattle.std.specs.Prelude.{Option, Some, None, Result, Ok, Err, if◌then◌else◌, false}
 use Rattle.std.proofs.lemmas.Bool.{cases_lt, le-ltb}
-use Rattle.std.proofs.lemmas.Option.{slice_get-get_or}
 use Rattle.tw_base.specs.declared.limits.TheConstants.{LAST_STEP}
 use Rattle.tw_base.specs.declared.root.Root.{Root}
-use Rattle.tw_base.specs.declared.thread.Thread.{Thread}
 use Rattle.tw_base.specs.Auth.{auth}
-use Rattle.tw_base.specs.EventTree.{audit_path}
 use Rattle.tw_base.specs.History.{History, events_at, with_events}
 use Rattle.tw_base.specs.Limits.{MayRecord}
 use Rattle.tw_base.specs.Sound.{IsSound}
 use Rattle.tw_base.proofs.DigestBytes.{IsDigest}
 use Rattle.tw_disk.specs.Image.{Image}
-use Rattle.tw_skipproof.specs.HistoryProofs.{IsPathOf, MakesExistence}
+use Rattle.tw_skipproof.specs.declared.existence.ExistenceProof.{ExistenceProof}
+use Rattle.tw_skipproof.specs.Existence.{existence_of_part}
+use Rattle.tw_skipproof.specs.HistoryProofs.{IsExistenceOf, IsPathOf, MakesExistence}
 use Rattle.tw_skipproof.proofs.ExistenceOf.{spelled-made}
 use Rattle.tw_skiplist.specs.declared.head.Head.{Head}
 use Rattle.tw_skiplist.specs.declared.info.StepProof.{StepProof}
@@ -30,13 +29,11 @@ use Rattle.tw_skiplist.proofs.KeptEvents.{events_are}
 use Rattle.tw_skiplist.proofs.KeptReadings.{proof_found}
 use Rattle.tw_service.specs.declared.refusal.Refusal.{Refusal}
 use Rattle.tw_service.specs.declared.refusal.Refusal.TheVariants.{NoEvent}
-use Rattle.tw_service.specs.Finds.{IsRefusalOf, event_proof, found_thread, proof_bytes, thread_at, unless}
+use Rattle.tw_service.specs.Finds.{IsRefusalOf, event_proof, found_thread, part_of, proof_bytes, thread_at, unless}
 use Rattle.tw_service.specs.Limits.{append_refusal, event_refusal}
 use Rattle.tw_service.specs.Machine.{last_thread}
-use Rattle.tw_service.specs.MadeSteps.{made_of}
 use Rattle.tw_service.specs.Refusals.{IsBadPage, IsFault, IsNoEvent}
 use Rattle.tw_service.proofs.Answering.{has_event}
-use Rattle.tw_service.proofs.Existences.{is_existence}
 use Rattle.tw_service.proofs.FoundAnswers.{no_event_found, value_found}
 
 -- ---- the thread of the next step
@@ -87,15 +84,19 @@ module _ (dig : List ℕ → List ℕ) (size : (text : List ℕ) → IsDigest (d
   pub in_range : index < length events → Makes
   unfolding told
   in_range l =
-      let event : List ℕ = slice_index_or events index [] in
-      let existence = is_existence dig ps h step name top index told.0 events event (audit_path dig events index) named told.2 told.3 refl (slice_get-get_or events index [] l) refl in
+      let made : ExistenceProof = existence_of_part dig (part_of name top told.0) events index in
+      let existence : IsExistenceOf dig h step index top made = record {
+        at = record { service = sym named; at_step = told.3.step; at_top = refl; path = told.2; opening = told.3.opening };
+        inside = l;
+        event = refl;
+      } in
       record {
         bytes = proof_bytes dig name top index told.0 events;
         is = whole_is None (has_event (length events) index l)
             ∙ is_on (events_of_info ps told.0.info) (λ es. Is (Ok (proof_bytes dig name top index told.0 es))) events (events_are dig ps h step told.0.info told.3);
         makes = (
-          made_of name top index told.0 event (audit_path dig events index),
-          spelled-made dig h step index top (made_of name top index told.0 event (audit_path dig events index)) existence (λ t. (size t).0) (λ t. (size t).1) sound order (omega (arith, below, keeps.step)),
+          made,
+          spelled-made dig h step index top made existence (λ t. (size t).0) (λ t. (size t).1) sound order (omega (arith, below, keeps.step)),
           existence,
         );
       }

@@ -6,7 +6,6 @@ pub mod Beginning
 pub mod Counted
 pub mod Opened
 pub mod Serving
-pub mod Existences
 pub mod Standing
 pub mod FoundAnswers
 pub mod KeptAnswers

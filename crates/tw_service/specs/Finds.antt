@@ -1,10 +1,10 @@
 -- What the calls of a service find in its pages, whether or not these keep a history.
-use Rattle.std.specs.Prelude.{◌≡◌, ℕ, List, [], slice_index_or, Bool, Option, Some, None, Result, Ok, Err}
+use Rattle.std.specs.Prelude.{◌≡◌, ℕ, List, Bool, Option, Some, None, Result, Ok, Err}
 use Rattle.tw_base.specs.declared.root.Root.{Root}
 use Rattle.tw_base.specs.declared.thread.Thread.{Thread}
-use Rattle.tw_base.specs.EventTree.{audit_path}
 use Rattle.tw_disk.specs.Image.{Image}
-use Rattle.tw_skipproof.specs.Existence.{existence_bytes}
+use Rattle.tw_skipproof.specs.declared.existence.Part.{Part}
+use Rattle.tw_skipproof.specs.Existence.{existence_bytes, existence_of_part}
 use Rattle.tw_skiplist.specs.declared.head.Head.{Head}
 use Rattle.tw_skiplist.specs.declared.info.StepProof.{StepProof}
 use Rattle.tw_skiplist.specs.Appended.{appended}
@@ -15,7 +15,6 @@ use Rattle.tw_skiplist.specs.Readings.{found_proof}
 use Rattle.tw_service.specs.declared.refusal.Refusal.{Refusal}
 use Rattle.tw_service.specs.declared.refusal.Refusal.TheVariants.{BadPage, DiskFault, NoMemory}
 use Rattle.tw_service.specs.Limits.{append_refusal, event_refusal, order_refusal}
-use Rattle.tw_service.specs.MadeSteps.{made_of}
 
 module _ {X : Type 0} where
   -- the refusal of a table, where there is one, and else what is found
@@ -39,9 +38,13 @@ module _ {X : Type 0} where
 abbrev pub thread_at : (name : List ℕ) → Head → Thread
 thread_at name head = record { from = name; step = head.step; auth = head.auth }
 
+-- the part of a step under a top, as they are told
+abbrev pub part_of : (name : List ℕ) → (top : ℕ) → StepProof → Part
+part_of name top proof = record { service = name; step = proof.info.step; top = top; path = proof.path; opening = proof.info.opening }
+
 -- the bytes of the proof of the event at the index, made of what is told of the step
 abbrev pub proof_bytes : (dig : List ℕ → List ℕ) → (name : List ℕ) → (top index : ℕ) → StepProof → (events : List (List ℕ)) → List ℕ
-proof_bytes dig name top index proof events = existence_bytes (made_of name top index proof (slice_index_or events index []) (audit_path dig events index))
+proof_bytes dig name top index proof events = existence_bytes (existence_of_part dig (part_of name top proof) events index)
 
 module _ (dig : List ℕ → List ℕ) (pages : Image) (name : List ℕ) (head : Head) where
   -- the thread of one more step, of these events and with this archive

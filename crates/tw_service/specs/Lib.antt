@@ -3,7 +3,6 @@ pub mod Roots
 pub mod Stands
 pub mod Refusals
 pub mod Limits
-pub mod MadeSteps
 pub mod Finds
 pub mod AddedSteps
 pub mod Machine

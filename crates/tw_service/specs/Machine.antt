@@ -5,7 +5,7 @@ use Rattle.tw_base.specs.Auth.{auth}
 use Rattle.tw_base.specs.History.{History, with_events}
 use Rattle.tw_skipproof.specs.HistoryProofs.{MakesExistence}
 use Rattle.tw_service.specs.declared.refusal.Refusal.{Refusal}
-use Rattle.tw_service.specs.declared.refusal.Refusal.TheVariants.{NoStep, NoEvent, TooMany, TooLong, Full, BadPage, DiskFault, Reopen, NoMemory}
+use Rattle.tw_service.specs.declared.refusal.Refusal.TheVariants.{BadPage, DiskFault, Reopen, NoMemory}
 use Rattle.tw_service.specs.Limits.{append_refusal, proof_refusal}
 
 pub data Call : Type 0 where
@@ -55,10 +55,6 @@ module _ (dig : List ℕ → List ℕ) where
   Answers h call reply (Ok value) Serves = (next : History) × IsStepOf h call (reply value) next × Serves next
   Answers h call reply (Err DiskFault) Serves = Unit {0}
   Answers h call reply (Err NoMemory) Serves = Serves h
-  Answers h call reply (Err (NoStep last)) Serves = IsStepOf h call (Refused (NoStep last)) h × Serves h
-  Answers h call reply (Err (NoEvent count)) Serves = IsStepOf h call (Refused (NoEvent count)) h × Serves h
-  Answers h call reply (Err (TooMany count)) Serves = IsStepOf h call (Refused (TooMany count)) h × Serves h
-  Answers h call reply (Err (TooLong bytes)) Serves = IsStepOf h call (Refused (TooLong bytes)) h × Serves h
-  Answers h call reply (Err Full) Serves = IsStepOf h call (Refused Full) h × Serves h
   Answers h call reply (Err (BadPage page)) Serves = ⊥
   Answers h call reply (Err Reopen) Serves = ⊥
+  Answers h call reply (Err refusal) Serves = IsStepOf h call (Refused refusal) h × Serves h

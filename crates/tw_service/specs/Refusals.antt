@@ -3,7 +3,7 @@ use Rattle.std.specs.Prelude.{ℕ}
 use Rattle.tw_skiplist.specs.declared.fault.ListFault.{ListFault}
 use Rattle.tw_skiplist.specs.declared.fault.ListFault.TheVariants as list
 use Rattle.tw_service.specs.declared.refusal.Refusal.{Refusal}
-use Rattle.tw_service.specs.declared.refusal.Refusal.TheVariants.{NoStep, NoEvent, TooMany, TooLong, Full, BadPage, DiskFault, Reopen, NoMemory}
+use Rattle.tw_service.specs.declared.refusal.Refusal.TheVariants.{NoStep, NoEvent, BadPage, DiskFault, NoMemory}
 
 -- what a list's fault is to the service
 abbrev pub refusal_of : ListFault → Refusal
@@ -17,43 +17,19 @@ abbrev pub IsFault : Refusal → Type 0
 IsFault (BadPage _) = Unit {0}
 IsFault DiskFault = Unit {0}
 IsFault NoMemory = Unit {0}
-IsFault (NoStep _) = ⊥
-IsFault (NoEvent _) = ⊥
-IsFault (TooMany _) = ⊥
-IsFault (TooLong _) = ⊥
-IsFault Full = ⊥
-IsFault Reopen = ⊥
+IsFault _ = ⊥
 
 -- that the step has no such event
 abbrev pub IsNoEvent : Refusal → Type 0
 IsNoEvent (NoEvent _) = Unit {0}
-IsNoEvent (BadPage _) = ⊥
-IsNoEvent DiskFault = ⊥
-IsNoEvent NoMemory = ⊥
-IsNoEvent (NoStep _) = ⊥
-IsNoEvent (TooMany _) = ⊥
-IsNoEvent (TooLong _) = ⊥
-IsNoEvent Full = ⊥
-IsNoEvent Reopen = ⊥
+IsNoEvent _ = ⊥
 
 -- that a page isn't of its kind, or that the page read last doesn't fit the others
 abbrev pub IsBadPage : Refusal → Type 0
 IsBadPage (BadPage _) = Unit {0}
-IsBadPage (NoEvent _) = ⊥
-IsBadPage DiskFault = ⊥
-IsBadPage NoMemory = ⊥
-IsBadPage (NoStep _) = ⊥
-IsBadPage (TooMany _) = ⊥
-IsBadPage (TooLong _) = ⊥
-IsBadPage Full = ⊥
-IsBadPage Reopen = ⊥
+IsBadPage _ = ⊥
 
 -- what holds of the page of a bad page
 abbrev pub OfBadPage : Refusal → (ℕ → Type 0) → Type 0
 OfBadPage (BadPage page) P = P page
 OfBadPage _ P = Unit {0}
-
--- what holds of the number of events where there is no such event
-abbrev pub OfNoEvent : Refusal → (ℕ → Type 0) → Type 0
-OfNoEvent (NoEvent count) P = P count
-OfNoEvent _ P = Unit {0}

@@ -12,6 +12,3 @@ mod service;
 pub use laws::{event_laws, finding_laws, standing_laws};
 pub use refusal::Refusal;
 pub use service::Service;
-
-#[cfg(test)]
-mod tests;

@@ -1,10 +1,9 @@
 // The limits of stores, and the lines of the tables of refusals that need no page.
 
-ghost use Rattle.std.specs.Prelude.{◌≡◌, ◌+◌, ◌≤◌, ◌<◌, ◌^◌, length, false, IfSome, IsNone};
+ghost use Rattle.std.specs.Prelude.{◌≡◌, ◌+◌, ◌≤◌, ◌<◌, ◌^◌, length, false, IsNone};
 ghost use Rattle.std.specs.Option.{option_map};
 ghost use Rattle.tw_base.specs.Bytes.{AreBytes};
 ghost use Rattle.tw_base.specs.Lists.{Each};
-ghost use Rattle.tw_service.specs.Refusals.{OfNoEvent};
 ghost use Rattle.tw_service.specs.Limits.{bytes_of, first_long, append_refusal as append_refusal_of, event_refusal as event_refusal_of, limits_refusal as limits_refusal_of, order_refusal as order_refusal_of};
 ghost use Rattle.tw_base.specs.Limits.{MayRecord};
 
@@ -112,7 +111,6 @@ pub(crate) fn order_refusal(is_broken: bool, last: u64, step: u64, top: u64) -> 
 pub(crate) fn event_refusal(count: u32, index: u32) -> Option<Refusal>
     ensures answer { result ≡ event_refusal_of count index }
     ensures below { IsNone result → index < count }
-    ensures beyond { IfSome result (λ refusal. OfNoEvent refusal (λ told. (count ≡ told) × (told ≤ index))) }
 {
     if index < count {
         return None;

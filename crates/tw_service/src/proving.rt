@@ -1,54 +1,34 @@
 // The existence proof of an event of a history that pages keep.
 
-ghost use Rattle.std.specs.Prelude.{◌≡◌, ◌⊎◌, ◌<◌, ◌≤◌, ◌^◌, length, slice_get, IfOk, IfErr, Some, Err};
+ghost use Rattle.std.specs.Prelude.{◌≡◌, ◌⊎◌, ◌<◌, ◌≤◌, ◌^◌, length, IfOk, IfErr, Some, Err};
 ghost use Rattle.tw_base.specs.Limits.{MayRecord};
 ghost use Rattle.tw_base.specs.Faults.{Rose};
 ghost use Rattle.tw_disk.specs.Image.{Image};
 ghost use Rattle.tw_disk.specs.Pages.{OnlyReads};
 ghost use Rattle.tw_service.specs.Refusals.{IsFault, IsNoEvent};
-ghost use Rattle.tw_service.specs.Finds.{IsAnswer, event_proof, proof_bytes};
-ghost use Rattle.tw_service.specs.MadeSteps.{made_of};
+ghost use Rattle.tw_service.specs.Finds.{IsAnswer, event_proof, part_of, proof_bytes};
 
 use crate::limits::event_refusal;
 use crate::refusal::Refusal;
 use std::alloc::Global;
 use tw_base::limits::LAST_STEP;
-use tw_base::{Bytes, EventList, Hasher, Labels, Name, NoMemory};
+use tw_base::{Bytes, EventList, Hasher, Name, NoMemory};
 use tw_disk::Pages;
-use tw_events::event_path;
+use tw_events::event_part;
 use tw_skiplist::{Head, StepProof, events_of, prove};
-use tw_skipproof::{EventPart, ExistenceProof, Part, write_existence};
+use tw_skipproof::{ExistenceProof, Part, write_existence};
 
-/// The event at that index.
-fn take_event(events: EventList, index: u32) -> Bytes
-    requires { index < length events }
-    ensures { slice_get events index ≡ Some result }
+/// The part of the step under the top.
+fn part_under(name: &Name, top: u64, proof: StepProof) -> Part
+    ensures { result ≡ part_of name.now top proof }
 {
-    let mut items = events.into_vec();
-    items.swap_remove(index as usize)
-}
-
-/// The proof of the event at that index of the step, with its audit path.
-fn existence_of(
-    name: &Name,
-    top: u64,
-    index: u32,
-    proof: StepProof,
-    event: Bytes,
-    path: Labels,
-) -> ExistenceProof
-    ensures { result ≡ made_of name.now top index proof event path }
-{
-    let StepProof { path: links, info } = proof;
-    ExistenceProof {
-        at: Part {
-            service: *name,
-            step: info.step,
-            top,
-            path: links,
-            opening: info.opening,
-        },
-        event: EventPart { index, event, path },
+    let StepProof { path, info } = proof;
+    Part {
+        service: *name,
+        step: info.step,
+        top,
+        path,
+        opening: info.opening,
     }
 }
 
@@ -60,17 +40,16 @@ fn write_proof<H: Hasher>(
     top: u64,
     index: u32,
     proof: StepProof,
-    events: EventList,
+    events: &EventList,
 ) -> Result<Bytes, NoMemory>
     requires index { index < proof.info.count }
-    requires count { length events ≡ proof.info.count }
-    requires limits { MayRecord events }
-    ensures bytes { IfOk result (λ bytes. bytes ≡ proof_bytes H.dig name.now top index proof events) }
+    requires count { length events.now ≡ proof.info.count }
+    requires limits { MayRecord events.now }
+    ensures bytes { IfOk result (λ bytes. bytes ≡ proof_bytes H.dig name.now top index proof events.now) }
 {
-    let path = event_path::<H>(alloc, events.as_slice(), index)?;
-    let event = take_event(events, index);
-    let made = existence_of(name, top, index, proof, event, path);
-    write_existence(alloc, &made)
+    let event = event_part::<H>(alloc, events.as_slice(), index)?;
+    let at = part_under(name, top, proof);
+    write_existence(alloc, &ExistenceProof { at, event })
 }
 
 /// The proof of the event at that index of a step, under that top.
@@ -93,14 +72,10 @@ pub(crate) fn make_proof<P: Pages, H: Hasher>(
     ensures fault { result ≡ Err Refusal.DiskFault → Rose (P.faults pages.old) (P.faults pages.new) }
     ensures later { P.faults pages.old ≤ P.faults pages.new }
 {
-    match prove::<P, H>(alloc, pages, head, top, step) {
-        Err(fault) => Err(Refusal::from(fault)),
-        Ok(proof) => match event_refusal(proof.info.count, index) {
-            Some(refusal) => Err(refusal),
-            None => match events_of(alloc, pages, &proof.info) {
-                Err(fault) => Err(Refusal::from(fault)),
-                Ok(events) => Ok(write_proof::<H>(alloc, name, top, index, proof, events)?),
-            },
-        },
+    let proof = prove::<P, H>(alloc, pages, head, top, step)?;
+    if let Some(refusal) = event_refusal(proof.info.count, index) {
+        return Err(refusal);
     }
+    let events = events_of(alloc, pages, &proof.info)?;
+    Ok(write_proof::<H>(alloc, name, top, index, proof, &events)?)
 }

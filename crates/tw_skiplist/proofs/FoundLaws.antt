@@ -11,7 +11,7 @@ use Rattle.tw_base.proofs.FormatLaws.{read_at-spells, read_at-word}
 use Rattle.tw_disk.specs.Image.{Image, page_at}
 use Rattle.tw_disk.specs.PageBytes.{IsPageOf}
 use Rattle.tw_skiplist.specs.declared.fault.ListFault.{ListFault}
-use Rattle.tw_skiplist.specs.declared.fault.ListFault.TheVariants.{NoStep, BadPage, DiskFault, NoMemory}
+use Rattle.tw_skiplist.specs.declared.fault.ListFault.TheVariants.{BadPage}
 use Rattle.tw_skiplist.specs.declared.head.Head.{Head}
 use Rattle.tw_skiplist.specs.Appended.{Next}
 use Rattle.tw_skiplist.specs.Answers.{AnswersAs, AnswersNext, IsFaultOf}
@@ -23,10 +23,8 @@ use Rattle.tw_skiplist.specs.StepPages.{step_in, page_of_step}
 
 module _ {X Y : Type 0} where
   pub fault_on : (fault : ListFault) (one : Found X) (other : Found Y) → ((page : ℕ) → one ≡ Bad page → other ≡ Bad page) → IsFaultOf fault one → IsFaultOf fault other
-  fault_on (NoStep n) one other on is = tt
   fault_on (BadPage page) one other on is = on page is
-  fault_on DiskFault one other on is = tt
-  fault_on NoMemory one other on is = tt
+  fault_on _ one other on is = tt
 
   -- a bad page ends the reading
   pub bad_on : (fault : ListFault) (one : Found X) (next : X → Found Y) → IsFaultOf fault one → IsFaultOf fault (one >>= next)

@@ -3,7 +3,7 @@ use Rattle.std.specs.Prelude.{◌≡◌, ℕ, ◌≤◌, Option, Some, Result, O
 use Rattle.tw_base.specs.Faults.{Rose}
 use Rattle.tw_disk.specs.Image.{Image}
 use Rattle.tw_skiplist.specs.declared.fault.ListFault.{ListFault}
-use Rattle.tw_skiplist.specs.declared.fault.ListFault.TheVariants.{NoStep, BadPage, DiskFault, NoMemory}
+use Rattle.tw_skiplist.specs.declared.fault.ListFault.TheVariants.{NoStep, BadPage, DiskFault}
 use Rattle.tw_skiplist.specs.declared.head.Head.{Head}
 use Rattle.tw_skiplist.specs.Appended.{Next}
 use Rattle.tw_skiplist.specs.Found.{Found}
@@ -11,19 +11,14 @@ use Rattle.tw_skiplist.specs.Found.Found.{Is, Bad}
 
 module _ {X : Type 0} where
   abbrev pub IsFaultOf : ListFault → Found X → Type 0
-  IsFaultOf (NoStep _) found = Unit {0}
   IsFaultOf (BadPage page) found = found ≡ Bad page
-  IsFaultOf DiskFault found = Unit {0}
-  IsFaultOf NoMemory found = Unit {0}
+  IsFaultOf _ found = Unit {0}
 
 module _ {T : Type 0} where
   -- no read failed
   abbrev pub NotDiskFault : Result T ListFault → Type 0
-  NotDiskFault (Ok _) = Unit {0}
-  NotDiskFault (Err (NoStep _)) = Unit {0}
-  NotDiskFault (Err (BadPage _)) = Unit {0}
   NotDiskFault (Err DiskFault) = ⊥
-  NotDiskFault (Err NoMemory) = Unit {0}
+  NotDiskFault _ = Unit {0}
 
   -- the value is what is found, seen so; and BadPage tells the page that is. A failed read and want of memory are excepted, and
   -- NoStep comes by the call's arguments alone
@@ -37,19 +32,13 @@ module _ {T : Type 0} where
 
   -- NoStep with this last step where the fact doesn't hold, and any other answer only where it does
   abbrev pub NoStepUnless : Result T ListFault → (last : ℕ) → Type 0 → Type 0
-  NoStepUnless (Ok _) last P = P
   NoStepUnless (Err (NoStep n)) last P = (n ≡ last) × (P → ⊥)
-  NoStepUnless (Err (BadPage _)) last P = P
-  NoStepUnless (Err DiskFault) last P = P
-  NoStepUnless (Err NoMemory) last P = P
+  NoStepUnless _ last P = P
 
   -- NoStep isn't answered
   abbrev pub NeverNoStep : Result T ListFault → Type 0
-  NeverNoStep (Ok _) = Unit {0}
   NeverNoStep (Err (NoStep _)) = ⊥
-  NeverNoStep (Err (BadPage _)) = Unit {0}
-  NeverNoStep (Err DiskFault) = Unit {0}
-  NeverNoStep (Err NoMemory) = Unit {0}
+  NeverNoStep _ = Unit {0}
 
   -- the count of faults hasn't fallen, and rose where DiskFault is answered
   pub record FaultsRise (before now : ℕ) (result : Result T ListFault) : Type 0 where

@@ -14,8 +14,6 @@ mod page;
 mod pieces;
 mod reading;
 mod records;
-#[cfg(test)]
-mod tests;
 mod walking;
 
 pub use adding::append;

@@ -11,14 +11,15 @@ use Rattle.tw_base.specs.Lists.{Each}
 use Rattle.tw_base.specs.declared.failure.NoMemory.{NoMemory as WantOfMemory}
 use Rattle.tw_base.specs.Names.{IsName}
 use Rattle.tw_base.specs.Taking.{Puts}
-use Rattle.tw_base.proofs.CodecLaws.{Lawful, lawful, lawful-by_kind, lawful-each, lawful-flag, lawful-optional, lawful-pair, lawful-written}
+use Rattle.tw_base.proofs.CodecLaws.{Lawful, lawful, lawful-by_kind, lawful-each, lawful-flag, lawful-optional, lawful-pair, lawful-seen, lawful-written}
 use Rattle.tw_skipproof.specs.declared.opening.Opening.{Opening}
 use Rattle.tw_skipproof.specs.declared.path.Link.{Link}
 use Rattle.tw_skipproof.specs.declared.existence.ExistenceProof.{ExistenceProof}
-use Rattle.tw_skipproof.specs.Codecs.{count_bytes, count_codec, counted_with, event_codec, existence_body, existence_codec, flagged_count, link_bytes, link_codec, opening_codec, path_codec}
+use Rattle.tw_skipproof.specs.declared.existence.Part.{Part}
+use Rattle.tw_skipproof.specs.Codecs.{count_bytes, count_codec, counted_with, event_codec, existence_body, existence_codec, flagged_count, link_bytes, link_codec, opening_codec, part_codec, path_codec}
 use Rattle.tw_skipproof.specs.Existence.{IsExistenceInRange, IsShaped}
 use Rattle.tw_skipproof.specs.Paths.{HasShape, greedy_steps, hop}
-use Rattle.tw_skipproof.specs.Spelling.{FitsAsEvent, FitsAsLink, FitsAsOpening}
+use Rattle.tw_skipproof.specs.Spelling.{FitsAsEvent, FitsAsLink, FitsAsOpening, FitsAsPart}
 use Rattle.tw_skipproof.proofs.CountWords.{timed_word, untimed_word}
 use Rattle.tw_skipproof.proofs.GreedySteps.{greedy_steps-more, greedy_steps-none}
 
@@ -85,12 +86,22 @@ pub event-lawful : (count : ℕ) → count ≤ MOST_EVENTS → Lawful (event_cod
 unfolding event_codec
 event-lawful count few = search (lawful, arith) depth 20
 
+pub part-lawful : (least : ℕ) → least ≤ MOST_EVENTS → Lawful (part_codec least)
+unfolding part_codec
+part-lawful least l =
+    let last = λ (step : ℕ). opening-lawful least step l in
+    search (lawful, path-lawful, last) depth 20
+
+-- the counts of a part that fits
+pub part-counts : (least : ℕ) (p : Part) → (part_codec least).Fits p → (least ≤ p.opening.count) × (p.opening.count ≤ MOST_EVENTS)
+unfolding part_codec opening_codec count_codec written by_kind seen pair number_codec
+part-counts least p fits = fits.1.1.1.1.1.1.0.1.0
+
 pub body-lawful : Lawful existence_body
 unfolding existence_body
 body-lawful =
-    let first = λ (step : ℕ). opening-lawful 1 step (lit≤ tt) in
-    let last = λ (step : ℕ) (o : Opening) (fits : (opening_codec 1 step).Fits o). event-lawful o.count (opening-few 1 step o fits) in
-    search (lawful, path-lawful, first, last) depth 20
+    lawful-seen _ _ _ (λ t. refl) (λ p. refl) (lawful-pair (part_codec 1) (λ at. event_codec at.opening.count) (part-lawful 1 (lit≤ tt))
+    (λ at fits. event-lawful at.opening.count (part-counts 1 at fits).1))
 
 pub existence-lawful : Lawful existence_codec
 unfolding existence_codec
@@ -101,20 +112,22 @@ pub path-fits : (links : List Link) (from to : ℕ) → Each FitsAsLink links �
 path-fits [] from to each shape = rw (greedy_steps-none from to shape) refl
 path-fits (l ∷ links) from to each shape = rw (greedy_steps-more from to shape.0) (each.0 from shape.1, path-fits links (hop from to) to each.1 shape.2)
 
--- a proof in range and of its shape fits
-pub existence-fits : (p : ExistenceProof) → IsExistenceInRange p → IsShaped p → IsName p.at.service
-    → Each FitsAsLink p.at.path.links → FitsAsOpening p.at.opening → FitsAsEvent p.event → existence_codec.Fits p
-unfolding existence_codec existence_body path_codec behind pair seen each name_codec number_codec
-existence-fits p range shape service links opening event = (
+-- a part in range and of its shape fits
+pub part-fits : (p : Part) → IsName p.service → Each FitsAsLink p.path.links → FitsAsOpening p.opening → FitsAsPart p
+unfolding part_codec path_codec pair seen each name_codec number_codec
+part-fits p service links opening least some range shape = (
   service,
   (
     (shape.step, range.step),
     (
       (shape.top, range.top),
-      (
-        path-fits p.at.path.links p.at.top p.at.step links shape.path,
-        (opening 1 p.at.step shape.opening (omega (arith, range.index)) range.count range.time, event p.at.opening.count range.index range.event shape.event),
-      ),
+      (path-fits p.path.links p.top p.step links shape.path, opening least p.step shape.opening some range.count range.time),
     ),
   ),
 )
+
+-- and so does a proof
+pub existence-fits : (p : ExistenceProof) → IsExistenceInRange p → IsShaped p → FitsAsPart p.at → FitsAsEvent p.event → existence_codec.Fits p
+unfolding existence_codec existence_body behind pair seen
+existence-fits p range shape at event =
+    (at 1 (omega (arith, range.index)) range.at shape.at, event p.at.opening.count range.index range.event shape.event)

@@ -3,6 +3,7 @@ pub mod OpeningBinding
 pub mod PathBinding
 pub mod Greedy
 pub mod OwnPaths
+pub mod PartOf
 pub mod ExistenceOf
 pub mod WorkedPaths
 pub mod PathSizes

@@ -16,13 +16,14 @@ use Rattle.tw_base.proofs.ByteLemmas.{AreBytes-drop, AreBytes-take}
 use Rattle.tw_base.proofs.CodecSizes.{length-joined}
 use Rattle.tw_base.proofs.CodecLaws.{Lawful, goes-then, lawful, lawful-pair}
 use Rattle.tw_base.proofs.SegmentLaws.{TakesAny, any-stays, labels-any, segment-ended, segment-nothing, then_assoc, then_each, then_pair}
-use Rattle.tw_skipproof.specs.declared.existence.EventPart.{EventPart}
+use Rattle.tw_base.specs.declared.event_part.EventPart.{EventPart}
 use Rattle.tw_skipproof.specs.declared.existence.ExistenceProof.{ExistenceProof}
+use Rattle.tw_skipproof.specs.declared.existence.Part.{Part}
 use Rattle.tw_skipproof.specs.declared.opening.Opening.{Opening}
 use Rattle.tw_skipproof.specs.declared.path.Link.{Link}
 use Rattle.tw_skipproof.specs.declared.so_far.ExistenceSoFar.TheVariants.{Begun, Within, Whole}
 use Rattle.tw_skipproof.specs.declared.so_far.Middle.{Middle}
-use Rattle.tw_skipproof.specs.Codecs.{count_codec, event_codec, existence_body, existence_codec, existence_magic, link_bytes, link_codec, opening_codec, path_codec, step_codec}
+use Rattle.tw_skipproof.specs.Codecs.{count_codec, event_codec, existence_body, existence_codec, existence_magic, link_bytes, link_codec, opening_codec, part_codec, path_codec, step_codec}
 use Rattle.tw_skipproof.specs.Paths.{greedy_steps, hop}
 use Rattle.tw_skipproof.specs.Pieces.{head_codec, path_rest, rest, tail_codec, tail_rest}
 use Rattle.tw_skipproof.proofs.GreedySteps.{greedy_steps-more, greedy_steps-none}
@@ -59,52 +60,68 @@ tail-some step t fits = omega (arith, opening-some step t.0 fits.0, length-appen
 abbrev heads : Codec (List ℕ × (ℕ × ℕ))
 heads = pair name_codec (λ service. pair step_codec (λ step. step_codec))
 
-abbrev from_path : (step top : ℕ) → Codec (List Link × (Opening × EventPart))
-from_path step top = pair (path_codec top step) (λ links. tail_codec step)
+abbrev from_path : (step top : ℕ) → Codec (List Link × Opening)
+from_path step top = pair (path_codec top step) (λ links. opening_codec 1 step)
 
-abbrev from_top : (step : ℕ) → Codec (ℕ × (List Link × (Opening × EventPart)))
+abbrev from_top : (step : ℕ) → Codec (ℕ × (List Link × Opening))
 from_top step = pair step_codec (λ top. from_path step top)
 
-abbrev from_step : Codec (ℕ × (ℕ × (List Link × (Opening × EventPart))))
+abbrev from_step : Codec (ℕ × (ℕ × (List Link × Opening)))
 from_step = pair step_codec (λ step. from_top step)
 
-abbrev fields : Codec (List ℕ × (ℕ × (ℕ × (List Link × (Opening × EventPart)))))
+abbrev fields : Codec (List ℕ × (ℕ × (ℕ × (List Link × Opening))))
 fields = pair name_codec (λ service. from_step)
 
-abbrev ended : (List ℕ × (ℕ × (ℕ × (List Link × (Opening × EventPart))))) → Format ExistenceProof
-ended t = Done (record {
-  at = record { service = t.0; step = t.1.0; top = t.1.1.0; path = record { links = t.1.1.1.0 }; opening = t.1.1.1.1.0 };
-  event = t.1.1.1.1.1;
-})
+abbrev part_of : (List ℕ × (ℕ × (ℕ × (List Link × Opening)))) → Part
+part_of t = record { service = t.0; step = t.1.0; top = t.1.1.0; path = record { links = t.1.1.1.0 }; opening = t.1.1.1.1 }
+
+-- behind a part its event
+abbrev ended : Part → Format ExistenceProof
+ended at = then_by (event_codec at.opening.count).format (λ e. Done (record { at = at; event = e }))
 
 abbrev pub behind_head : (List ℕ × (ℕ × ℕ)) → Format ExistenceProof
 behind_head h = path_rest h.0 h.1.0 h.1.1 [] h.1.1
 
+abbrev pub behind_tail : (service : List ℕ) (step top : ℕ) → List Link → (Opening × EventPart) → Format ExistenceProof
+behind_tail service step top links t = Done (record {
+  at = record { service = service; step = step; top = top; path = record { links = links }; opening = t.0 };
+  event = t.1;
+})
+
 flat : Format ExistenceProof
 flat =
     then_by name_codec.format (λ service. then_by step_codec.format (λ step. then_by step_codec.format (λ top.
-    then_by (path_codec top step).format (λ links. then_by (tail_codec step).format (λ t. ended (service, (step, (top, (links, t)))))))))
+    then_by (path_codec top step).format (λ links. then_by (opening_codec 1 step).format (λ o. ended (part_of (service, (step, (top, (links, o))))))))))
 
-fields-flat : then_by fields.format ended ≡ flat
+fields-flat : then_by fields.format (λ t. ended (part_of t)) ≡ flat
 unfolding flat
 fields-flat =
-    then_pair name_codec (λ service. from_step) ended
+    then_pair name_codec (λ service. from_step) (λ t. ended (part_of t))
     ∙ (λ k. then_by name_codec.format (λ service. (
-    then_pair step_codec from_top (λ y. ended (service, y))
+    then_pair step_codec from_top (λ y. ended (part_of (service, y)))
     ∙ (λ k. then_by step_codec.format (λ step. (
-    then_pair step_codec (from_path step) (λ y. ended (service, (step, y)))
-    ∙ (λ k. then_by step_codec.format (λ top. then_pair (path_codec top step) (λ links. tail_codec step) (λ y. ended (service, (step, (top, y)))) k))) k))) k))
+    then_pair step_codec (from_path step) (λ y. ended (part_of (service, (step, y))))
+    ∙ (λ k. then_by step_codec.format (λ top. then_pair (path_codec top step) (λ links. opening_codec 1 step) (λ y. ended (part_of (service, (step, (top, y))))) k))) k))) k))
+
+body-flat : existence_body.format ≡ flat
+unfolding existence_body part_codec seen
+body-flat =
+    then_pair (part_codec 1) (λ at. event_codec at.opening.count) (λ t. Done (record { at = t.0; event = t.1 }))
+    ∙ then_assoc fields.format (λ t. Done (part_of t)) ended ∙ fields-flat
 
 heads-flat : then_by heads.format behind_head ≡ flat
-unfolding flat path_rest tail_rest path_codec each
+unfolding flat path_rest tail_rest tail_codec path_codec each
 heads-flat =
     then_pair name_codec (λ service. pair step_codec (λ step. step_codec)) behind_head
-    ∙ (λ k. then_by name_codec.format (λ service. then_pair step_codec (λ step. step_codec) (λ y. behind_head (service, y)) k))
+    ∙ (λ k. then_by name_codec.format (λ service. (
+    then_pair step_codec (λ step. step_codec) (λ y. behind_head (service, y))
+    ∙ (λ k. then_by step_codec.format (λ step. then_by step_codec.format (λ top. then_by (path_codec top step).format (λ links.
+    then_pair (opening_codec 1 step) (λ o. event_codec o.count) (behind_tail service step top links) k))))) k))
 
 pub rest-begun : existence_codec.format ≡ then_by head_codec.format behind_head
-unfolding existence_codec existence_body head_codec behind seen tail_codec
+unfolding existence_codec head_codec behind
 rest-begun =
-    (λ k. then_by (text existence_magic) (λ t. (fields-flat ∙ sym heads-flat) k)) ∙ sym (then_assoc (text existence_magic) (λ t. heads.format) behind_head)
+    (λ k. then_by (text existence_magic) (λ t. (body-flat ∙ sym heads-flat) k)) ∙ sym (then_assoc (text existence_magic) (λ t. heads.format) behind_head)
 
 pub rest-link : (service : List ℕ) (step top : ℕ) (links : List Link) (at : ℕ) → step < at
     → path_rest service step top links at ≡ then_by (link_codec at).format (λ l. path_rest service step top (links ++ l ∷ []) (hop at step))
@@ -114,12 +131,6 @@ rest-link service step top links at less =
     ap (λ steps. then_by (each_format link_bytes link_codec steps) (λ ls. tail_rest service step top (links ++ ls))) (greedy_steps-more at step less)
     ∙ then_each link_bytes link_codec at more (λ ls. tail_rest service step top (links ++ ls))
     ∙ (λ k. then_by (link_codec at).format (λ l. then_by (each_format link_bytes link_codec more) (λ ls. tail_rest service step top (sym (append_assoc links (l ∷ []) ls) k))))
-
-abbrev pub behind_tail : (service : List ℕ) (step top : ℕ) → List Link → (Opening × EventPart) → Format ExistenceProof
-behind_tail service step top links t = Done (record {
-  at = record { service = service; step = step; top = top; path = record { links = links }; opening = t.0 };
-  event = t.1;
-})
 
 pub rest-tail : (service : List ℕ) (step top : ℕ) (links : List Link) (at : ℕ) → at ≤ step → path_rest service step top links at ≡ then_by (tail_codec step).format (behind_tail service step top links)
 unfolding path_rest tail_rest

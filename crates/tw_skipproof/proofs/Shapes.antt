@@ -15,11 +15,12 @@ use Rattle.tw_base.proofs.NumberLaws.{length-number_bytes}
 use Rattle.tw_base.proofs.Levels.{top_level-below}
 use Rattle.tw_skipproof.specs.declared.path.Link.{Link}
 use Rattle.tw_skipproof.specs.declared.existence.ExistenceProof.{ExistenceProof}
-use Rattle.tw_skipproof.specs.Codecs.{count_bytes, count_codec, event_codec, existence_body, existence_codec, link_bytes, link_codec, opening_codec, path_codec}
-use Rattle.tw_skipproof.specs.Existence.{IsExistenceInRange, IsShaped}
+use Rattle.tw_skipproof.specs.declared.existence.Part.{Part}
+use Rattle.tw_skipproof.specs.Codecs.{count_bytes, count_codec, event_codec, existence_body, existence_codec, link_bytes, link_codec, opening_codec, part_codec, path_codec}
+use Rattle.tw_skipproof.specs.Existence.{IsExistenceInRange, IsPartInRange, IsPartShaped, IsShaped}
 use Rattle.tw_skipproof.specs.Paths.{HasShape, greedy_steps, hop}
 use Rattle.tw_skipproof.proofs.GreedySteps.{greedy_steps-more, greedy_steps-none}
-use Rattle.tw_skipproof.proofs.LawfulCodecs.{opening-few}
+use Rattle.tw_skipproof.proofs.LawfulCodecs.{part-counts}
 use Rattle.tw_skipproof.proofs.PathSizes.{few_digests, weight}
 
 pub path-shape : (links : List Link) (from to : ℕ) → EachFits link_bytes link_codec (greedy_steps from to) links → HasShape links from to
@@ -39,15 +40,24 @@ time-range true (Some t) fits = fits.1
 time-range false None fits = tt
 time-range false (Some t) fits = cc
 
-pub existence-shape : (p : ExistenceProof) → existence_codec.Fits p → IsShaped p × IsExistenceInRange p
-unfolding existence_codec existence_body opening_codec count_codec event_codec path_codec written by_kind each behind pair seen number_codec sized_codec labels_codec many bytes_codec
-existence-shape p fits =
+pub part-shape : (least : ℕ) (p : Part) → (part_codec least).Fits p → IsPartShaped p × IsPartInRange p
+unfolding part_codec opening_codec count_codec path_codec written by_kind each pair seen number_codec labels_codec many
+part-shape least p fits =
     let step = fits.1.0 in
     let top = fits.1.1.0 in
-    let opening = fits.1.1.1.1.0 in
-    let event = fits.1.1.1.1.1 in (
-      record { step = step.0; top = top.0; path = path-shape p.at.path.links p.at.top p.at.step fits.1.1.1.0; opening = opening.1.1.1.1.0; event = event.1.1.0 },
-      record { step = step.1; top = top.1; count = opening.1.1.0.1.0.1; time = time-range _ p.at.opening.time opening.1.1.0.1.1; index = omega (arith, event.0.1, opening.1.1.0.1.0.0); event = event.1.0.0.1 },
+    let opening = fits.1.1.1.1 in (
+      record { step = step.0; top = top.0; path = path-shape p.path.links p.top p.step fits.1.1.1.0; opening = opening.1.1.1.1.0 },
+      record { step = step.1; top = top.1; count = opening.1.1.0.1.0.1; time = time-range _ p.opening.time opening.1.1.0.1.1 },
+    )
+
+pub existence-shape : (p : ExistenceProof) → existence_codec.Fits p → IsShaped p × IsExistenceInRange p
+unfolding existence_codec existence_body event_codec by_kind behind pair seen number_codec sized_codec labels_codec many
+existence-shape p fits =
+    let at = part-shape 1 p.at fits.0 in
+    let some = (part-counts 1 p.at fits.0).0 in
+    let event = fits.1 in (
+      record { at = at.0; event = event.1.1.0 },
+      record { at = at.1; index = omega (arith, event.0.1, some); event = event.1.0.0.1 },
     )
 
 -- ---- sizes
@@ -85,10 +95,14 @@ pub path-most : (from to : ℕ) → from < 2 ^ 40 → AtMost (path_codec from to
 unfolding path_codec each
 path-most from to small links fits = omega (arith, links-weight (greedy_steps from to) links fits, few_digests links from to small (path-shape links from to fits))
 
+pub part-most : (least : ℕ) → AtMost (part_codec least) 55148
+unfolding part_codec number_codec
+part-most least =
+    at_most-seen _ _ _ 55148 (at_most-pair _ _ 16 55132 at_most-name (λ _ _.
+    at_most-pair _ _ 8 55124 (at_most-number 8 1 LAST_STEP) (λ step s. at_most-pair _ _ 8 55116 (at_most-number 8 1 LAST_STEP) (λ top t.
+    at_most-pair _ _ 53760 1356 (path-most top step (omega (arith, t.1))) (λ _ _. opening-most least step s.1)))))
+
 pub existence-most : AtMost existence_codec 56505
-unfolding existence_codec existence_body number_codec
+unfolding existence_codec existence_body
 existence-most =
-    at_most-behind _ _ 56500 (at_most-seen _ _ _ 56500 (at_most-pair _ _ 16 56484 at_most-name (λ _ _.
-    at_most-pair _ _ 8 56476 (at_most-number 8 1 LAST_STEP) (λ step s. at_most-pair _ _ 8 56468 (at_most-number 8 1 LAST_STEP) (λ top t.
-    at_most-pair _ _ 53760 2708 (path-most top step (omega (arith, t.1))) (λ _ _.
-    at_most-pair _ _ 1356 1352 (opening-most 1 step s.1) (λ o f. event-most o.count (opening-few 1 step o f))))))))
+    at_most-behind _ _ 56500 (at_most-seen _ _ _ 56500 (at_most-pair _ _ 55148 1352 (part-most 1) (λ at f. event-most at.opening.count (part-counts 1 at f).1)))

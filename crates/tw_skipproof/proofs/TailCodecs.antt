@@ -19,7 +19,7 @@ use Rattle.tw_base.proofs.CodecSizes.{length-joined}
 use Rattle.tw_base.proofs.NumberLaws.{length-number_bytes}
 use Rattle.tw_base.proofs.PieceLaws.{behind-first}
 use Rattle.tw_base.proofs.SegmentLaws.{TakesAny, any-nothing, any-stays, labels-any, segment-ended, segment-nothing, stays-behind, then_assoc, then_pair}
-use Rattle.tw_skipproof.specs.declared.existence.EventPart.{EventPart}
+use Rattle.tw_base.specs.declared.event_part.EventPart.{EventPart}
 use Rattle.tw_skipproof.specs.declared.existence.ExistenceProof.{ExistenceProof}
 use Rattle.tw_skipproof.specs.declared.opening.Opening.{Opening}
 use Rattle.tw_skipproof.specs.declared.path.Link.{Link}

@@ -1,7 +1,6 @@
 -- An index of more than 32 bits: no step has an event of it, and none of the greatest of 32 bits.
 use Rattle.std.proofs.Common.{◌≡◌, ℕ, ◌<◌, ◌≤◌, List, length, min, subst, arith, inl, inr}
 use Rattle.std.proofs.lemmas.Bool.{cases_lt}
-use Rattle.std.proofs.lemmas.Option.{slice_get_within}
 use Rattle.tw_base.specs.History.{History, events_at}
 use Rattle.tw_base.specs.Sound.{IsSound}
 use Rattle.tw_base.proofs.SoundEvents.{sound-may_record}
@@ -16,7 +15,7 @@ makes_at dig h step index top bytes sound makes = elim (cases_lt 4294967295 inde
   | inl more ↦
       let p = makes.0 in
       let is : IsExistenceOf dig h step (min index 4294967295) top p = makes.2 in
-      let inside : min index 4294967295 < length (events_at h step) = slice_get_within (events_at h step) (min index 4294967295) p.event.event is.event in
+      let inside : min index 4294967295 < length (events_at h step) = is.inside in
       absurd (omega (arith, inside, few_events h step sound, more))
   | inr less ↦
       let same : min index 4294967295 ≡ index = omega (arith, less) in

@@ -1,7 +1,7 @@
--- When an existence proof is accepted under an authenticator of its top, and what checking it hashes.
+-- When an existence proof is accepted under an authenticator of its top, and what climbing to it hashes.
 use Rattle.std.specs.Prelude.{ℕ, ◌≤◌, List, ◌++◌}
-use Rattle.tw_base.specs.AuditPath.{ChecksEvent, audit_texts}
-use Rattle.tw_skipproof.specs.declared.existence.EventPart.{EventPart}
+use Rattle.tw_base.specs.AuditPath.{ChecksEvent}
+use Rattle.tw_base.specs.declared.event_part.EventPart.{EventPart}
 use Rattle.tw_skipproof.specs.declared.existence.ExistenceProof.{ExistenceProof}
 use Rattle.tw_skipproof.specs.declared.existence.Part.{Part}
 use Rattle.tw_skipproof.specs.declared.opening.Opening.{Opening}
@@ -23,9 +23,6 @@ module _ (dig : List ℕ → List ℕ) where
     pub path : Reaches p.at upper
     pub event : ShowsEvent p.at.opening p.event
 
-  -- what checking the proof hashes: the opening, the path from the bottom upwards, the event's leaf and the nodes above it
-  unfoldable pub existence_texts : ExistenceProof → List (List ℕ)
-  existence_texts p =
-      opening_texts dig p.at.step p.at.opening
-      ++ (path_texts dig p.at.path.links p.at.top p.at.step (opening_auth dig p.at.step p.at.opening)
-      ++ audit_texts dig p.at.opening.count p.event.index p.event.event p.event.path)
+  -- what computing the top's authenticator of a part hashes: the opening, and the path from the bottom upwards
+  unfoldable pub part_texts : Part → List (List ℕ)
+  part_texts at = opening_texts dig at.step at.opening ++ path_texts dig at.path.links at.top at.step (opening_auth dig at.step at.opening)

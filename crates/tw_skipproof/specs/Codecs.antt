@@ -8,8 +8,9 @@ use Rattle.tw_base.specs.HistoryCodec.{time_codec}
 use Rattle.tw_base.specs.Levels.{top_level}
 use Rattle.tw_skipproof.specs.declared.opening.Opening.{Opening}
 use Rattle.tw_skipproof.specs.declared.path.Link.{Link}
-use Rattle.tw_skipproof.specs.declared.existence.EventPart.{EventPart}
+use Rattle.tw_base.specs.declared.event_part.EventPart.{EventPart}
 use Rattle.tw_skipproof.specs.declared.existence.ExistenceProof.{ExistenceProof}
+use Rattle.tw_skipproof.specs.declared.existence.Part.{Part}
 use Rattle.tw_skipproof.specs.Paths.{greedy_steps}
 
 -- the count word of an opening and its time: the count of events where it has no time; with a time the count plus 2 ^ 31,
@@ -63,23 +64,29 @@ event_codec count =
     seen (λ t. record { index = t.0; event = t.1.0; path = t.1.1 }) (λ e. (e.index, (e.event, e.path)))
     (pair (number_codec 4 0 (count - 1)) (λ index. pair (sized_codec 4 0 MOST_EVENT_BYTES) (λ event. labels_codec (path_length count index))))
 
--- a proof of kind 1 behind its kind: service, step, top, the path from top to step, the opening of the step with an event
--- or more, and the event
+-- a step of a service under a later one: service, step, top, the path from top to step, and the opening of the step, which
+-- has this many events or more
+unfoldable pub part_codec : (least : ℕ) → Codec Part
+part_codec least =
+    seen (λ t. record { service = t.0; step = t.1.0; top = t.1.1.0; path = record { links = t.1.1.1.0 }; opening = t.1.1.1.1 })
+    (λ p. (p.service, (p.step, (p.top, (p.path.links, p.opening)))))
+    (pair name_codec (λ service. pair step_codec (λ step. pair step_codec (λ top. pair (path_codec top step) (λ links. opening_codec least step)))))
+
+-- its bytes, which are the same whatever the least count
+unfoldable pub part_bytes : Part → List ℕ
+part_bytes = (part_codec 0).write
+
+-- a proof of kind 1 behind its kind: a step with an event or more, and one of its events
 unfoldable pub existence_body : Codec ExistenceProof
 existence_body =
-    seen (λ t. record {
-      at = record { service = t.0; step = t.1.0; top = t.1.1.0; path = record { links = t.1.1.1.0 }; opening = t.1.1.1.1.0 };
-      event = t.1.1.1.1.1;
-    })
-    (λ p. (p.at.service, (p.at.step, (p.at.top, (p.at.path.links, (p.at.opening, p.event))))))
-    (pair name_codec (λ service. pair step_codec (λ step. pair step_codec (λ top. pair (path_codec top step) (λ links. pair (opening_codec 1 step) (λ opening. event_codec opening.count))))))
+    seen (λ t. record { at = t.0; event = t.1 }) (λ p. (p.at, p.event)) (pair (part_codec 1) (λ at. event_codec at.opening.count))
 
 -- the four bytes TWP1, with which each proof begins, and those with the kind 1
 abbrev pub proof_magic : List ℕ
 proof_magic = 0x54 ∷ 0x57 ∷ 0x50 ∷ 0x31 ∷ []
 
 abbrev pub existence_magic : List ℕ
-existence_magic = 0x54 ∷ 0x57 ∷ 0x50 ∷ 0x31 ∷ 1 ∷ []
+existence_magic = proof_magic ++ 1 ∷ []
 
 -- the whole proof: magic and kind, and the rest
 unfoldable pub existence_codec : Codec ExistenceProof

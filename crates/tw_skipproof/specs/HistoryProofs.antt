@@ -1,10 +1,11 @@
--- The openings, paths and existence proofs that a history itself has.
-use Rattle.std.specs.Prelude.{◌≡◌, ℕ, ◌-◌, ◌<◌, ◌≤◌, List, [], ◌∷◌, drop, map, remove, slice_get, Some}
-use Rattle.tw_base.specs.EventTree.{audit_path}
+-- The openings, paths, parts and existence proofs that a history itself has.
+use Rattle.std.specs.Prelude.{◌≡◌, ℕ, ◌-◌, ◌<◌, ◌≤◌, List, [], ◌∷◌, length, drop, map, remove}
+use Rattle.tw_base.specs.EventParts.{event_part}
 use Rattle.tw_base.specs.Formats.{Spells}
 use Rattle.tw_base.specs.History.{History, events_at}
 use Rattle.tw_base.specs.Auth.{auths, datum_text_at, link_texts_at}
 use Rattle.tw_skipproof.specs.declared.existence.ExistenceProof.{ExistenceProof}
+use Rattle.tw_skipproof.specs.declared.existence.Part.{Part}
 use Rattle.tw_skipproof.specs.declared.opening.Opening.{Opening}
 use Rattle.tw_skipproof.specs.declared.path.Link.{Link}
 use Rattle.tw_skipproof.specs.Existence.{existence_layout}
@@ -28,18 +29,22 @@ module _ (dig : List ℕ → List ℕ) (h : History) where
       (to < from) × (link.datum ≡ dig (datum_text_at dig h from)) × (link.others ≡ remove (labels_at from) (hop_level from to))
       × IsPathOf links (hop from to) to
 
+  -- the part that the history has of a step under a top: the history's name, its path from the top down to the step, and its
+  -- opening of the step
+  pub record IsPartOf (step top : ℕ) (p : Part) : Type 0 where
+    pub service : p.service ≡ h.name
+    pub at_step : p.step ≡ step
+    pub at_top : p.top ≡ top
+    pub path : IsPathOf p.path.links top step
+    pub opening : IsOpeningOf step p.opening
+
   module _ (step index top : ℕ) where
-    -- the proof that the history has of its event at this index of the step, under this top: the history's name, its path
-    -- from the top down to the step, its opening of the step, the event, and the audit path among the step's events
+    -- the proof that the history has of its event at this index of the step, under this top: the part of the step, and
+    -- the event with its audit path among the step's events
     pub record IsExistenceOf (p : ExistenceProof) : Type 0 where
-      pub service : p.at.service ≡ h.name
-      pub at_step : p.at.step ≡ step
-      pub at_top : p.at.top ≡ top
-      pub path : IsPathOf p.at.path.links top step
-      pub opening : IsOpeningOf step p.at.opening
-      pub at_index : p.event.index ≡ index
-      pub event : slice_get (events_at h step) index ≡ Some p.event.event
-      pub event_path : p.event.path ≡ audit_path dig (events_at h step) index
+      pub at : IsPartOf step top p.at
+      pub inside : index < length (events_at h step)
+      pub event : p.event ≡ event_part dig (events_at h step) index
 
     -- the bytes spell that proof
     abbrev pub MakesExistence : List ℕ → Type 0

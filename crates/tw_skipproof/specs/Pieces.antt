@@ -3,7 +3,7 @@ use Rattle.std.specs.Prelude.{ℕ, List, ◌++◌}
 use Rattle.tw_base.specs.Codecs.{Codec, behind, each_format, name_codec, pair}
 use Rattle.tw_base.specs.Formats.{Format, then_by}
 use Rattle.tw_base.specs.Formats.Format.{Done}
-use Rattle.tw_skipproof.specs.declared.existence.EventPart.{EventPart}
+use Rattle.tw_base.specs.declared.event_part.EventPart.{EventPart}
 use Rattle.tw_skipproof.specs.declared.existence.ExistenceProof.{ExistenceProof}
 use Rattle.tw_skipproof.specs.declared.opening.Opening.{Opening}
 use Rattle.tw_skipproof.specs.declared.path.Link.{Link}

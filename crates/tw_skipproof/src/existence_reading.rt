@@ -1,23 +1,33 @@
 // Reading existence proofs.
-#![tactic(auto, unfolding(crate::specs::Codecs::event_codec, crate::specs::Codecs::existence_body, crate::specs::Codecs::existence_codec, tw_base::specs::Codecs::behind, tw_base::specs::Codecs::pair, tw_base::specs::Codecs::seen))]
+#![tactic(auto, unfolding(crate::specs::Codecs::event_codec, crate::specs::Codecs::existence_body, crate::specs::Codecs::part_codec, tw_base::specs::Codecs::pair, tw_base::specs::Codecs::seen))]
 
 ghost use Rattle.std.specs.Prelude.{◌≡◌, ◌≤◌, length, IfOk};
 ghost use Rattle.tw_base.specs.declared.limits.TheConstants.{LAST_STEP, MOST_EVENTS};
 ghost use Rattle.tw_base.specs.Formats.{ReadsAs};
 ghost use Rattle.tw_base.specs.Taking.{Takes};
-ghost use Rattle.tw_skipproof.specs.Codecs.{event_codec, existence_body, existence_codec};
+ghost use Rattle.tw_skipproof.specs.Codecs.{event_codec, existence_body, existence_codec, part_codec};
 ghost use Rattle.tw_skipproof.specs.Existence.{IsExistenceInRange, IsShaped, existence_layout};
 
-use crate::existence::{EventPart, ExistenceProof, Part};
+use crate::existence::{ExistenceProof, Part};
 use crate::reading::{take_opening, take_path};
 use std::alloc::Global;
 use tw_base::limits::{LAST_STEP, MOST_EVENT_BYTES};
 use tw_base::{
-    ReadFault, path_length, take_labels, take_name, take_number, take_sized, take_text, whole_to,
+    EventPart, ReadFault, path_length, take_labels, take_name, take_number, take_sized, take_text,
+    whole_to,
 };
 
-/// How an existence proof begins: the four bytes `TWP1` and the kind 1.
-pub(crate) const MAGIC: [u8; 5] = [0x54, 0x57, 0x50, 0x31, 1];
+/// How each proof begins: the four bytes `TWP1`.
+pub const PROOF_MAGIC: [u8; 4] = *b"TWP1";
+
+/// How an existence proof begins: those four and the kind 1.
+pub(crate) const MAGIC: [u8; 5] = [
+    PROOF_MAGIC[0],
+    PROOF_MAGIC[1],
+    PROOF_MAGIC[2],
+    PROOF_MAGIC[3],
+    1,
+];
 
 /// Takes the event under an opening with this count of events.
 pub(crate) fn take_event(
@@ -37,6 +47,28 @@ pub(crate) fn take_event(
     Ok(EventPart { index, event, path })
 }
 
+/// Takes a step under a top, with an opening that has this count of events or more.
+pub fn take_part(alloc: Global, bytes: &[u8], at: &mut u64, least: u64) -> Result<Part, ReadFault>
+    requires within { at.old ≤ length bytes.now }
+    requires least { least ≤ MOST_EVENTS }
+    // A step under a top is taken at a place exactly as its codec reads it; else the place of the first bad byte is told.
+    ensures takes { Takes (part_codec least) (λ p. p) bytes.now at.old at.new result }
+    ensures count { IfOk result (λ p. (least ≤ p.opening.count) × (p.opening.count ≤ MOST_EVENTS)) }
+{
+    let service = take_name(bytes, at)?;
+    let step = take_number(bytes, at, 8, 1, LAST_STEP)?;
+    let top = take_number(bytes, at, 8, 1, LAST_STEP)?;
+    let path = take_path(alloc, bytes, at, top, step)?;
+    let opening = take_opening(alloc, bytes, at, least, step)?;
+    Ok(Part {
+        service,
+        step,
+        top,
+        path,
+        opening,
+    })
+}
+
 /// Takes an existence proof behind its kind.
 pub fn take_existence_body(
     alloc: Global,
@@ -48,20 +80,9 @@ pub fn take_existence_body(
     // place of the first bad byte is told.
     ensures { Takes existence_body (λ p. p) bytes.now at.old at.new result }
 {
-    let service = take_name(bytes, at)?;
-    let step = take_number(bytes, at, 8, 1, LAST_STEP)?;
-    let top = take_number(bytes, at, 8, 1, LAST_STEP)?;
-    let path = take_path(alloc, bytes, at, top, step)?;
-    let opening = take_opening(alloc, bytes, at, 1, step)?;
-    let event = take_event(alloc, bytes, at, opening.count)?;
-    let at = Part {
-        service,
-        step,
-        top,
-        path,
-        opening,
-    };
-    Ok(ExistenceProof { at, event })
+    let part = take_part(alloc, bytes, at, 1)?;
+    let event = take_event(alloc, bytes, at, part.opening.count)?;
+    Ok(ExistenceProof { at: part, event })
 }
 
 /// Takes an existence proof.

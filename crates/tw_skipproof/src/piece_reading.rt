@@ -11,7 +11,7 @@ ghost use Rattle.tw_skipproof.specs.Existence.{existence_layout};
 ghost use Rattle.tw_skipproof.specs.Paths.{hop};
 ghost use Rattle.tw_skipproof.specs.Pieces.{head_codec, rest, tail_codec};
 
-use crate::existence::{EventPart, ExistenceProof, Part};
+use crate::existence::{ExistenceProof, Part};
 use crate::existence_reading::{MAGIC, take_event};
 use crate::opening::Opening;
 use crate::path::{Link, LinkList, Path};
@@ -21,8 +21,8 @@ use crate::tail_waiting::tail_until;
 use std::alloc::Global;
 use tw_base::limits::LAST_STEP;
 use tw_base::{
-    Attempt, Name, NoMemory, ReadFault, Segments, missed, read_pieces, take_name, take_number,
-    take_text, top_level,
+    Attempt, EventPart, Name, NoMemory, ReadFault, Segments, missed, read_pieces, take_name,
+    take_number, take_text, top_level,
 };
 
 /// Takes what stands before the path.

@@ -109,7 +109,7 @@ pub(crate) fn next_step(from: u64, to: u64) -> u64
 }
 
 /// Takes the path between the two steps.
-pub(crate) fn take_path(
+pub fn take_path(
     alloc: Global,
     bytes: &[u8],
     at: &mut u64,
@@ -118,6 +118,7 @@ pub(crate) fn take_path(
 ) -> Result<Path, ReadFault>
     requires within { at.old ≤ length bytes.now }
     requires step { from ≤ LAST_STEP }
+    // A path is taken at a place exactly as its codec reads it; else the place of the first bad byte is told.
     ensures { Takes (path_codec from to) (λ (p : Path). p.links) bytes.now at.old at.new result }
 {
     let mut links = LinkList::new(alloc);

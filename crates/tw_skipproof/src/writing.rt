@@ -8,18 +8,19 @@ ghost use Rattle.tw_base.specs.Formats.{Spells};
 ghost use Rattle.tw_base.specs.Levels.{top_level};
 ghost use Rattle.tw_base.specs.Limits.{IsTimeWithinLimits};
 ghost use Rattle.tw_base.specs.Lists.{Each};
-ghost use Rattle.tw_skipproof.specs.Codecs.{count_bytes, event_codec, existence_codec, link_bytes, opening_bytes, opening_codec, path_bytes, path_codec};
+ghost use Rattle.tw_skipproof.specs.Codecs.{count_bytes, event_codec, existence_codec, link_bytes, opening_bytes, opening_codec, part_bytes, path_bytes, path_codec};
 ghost use Rattle.tw_skipproof.specs.Existence.{IsExistenceInRange, IsShaped, existence_bytes, existence_layout};
 ghost use Rattle.tw_skipproof.specs.Paths.{HasShape};
-ghost use Rattle.tw_skipproof.specs.Spelling.{FitsAsEvent, FitsAsLink, FitsAsOpening};
+ghost use Rattle.tw_skipproof.specs.Spelling.{FitsAsEvent, FitsAsLink, FitsAsOpening, FitsAsPart, FitsAsPath};
 
-use crate::existence::{EventPart, ExistenceProof};
+use crate::existence::{ExistenceProof, Part};
 use crate::existence_reading::MAGIC;
 use crate::opening::Opening;
 use crate::path::{Link, Path};
 use std::alloc::Global;
 use tw_base::{
-    Bytes, NoMemory, put_digest, put_labels, put_name, put_number, put_sized, put_text, put_time,
+    Bytes, EventPart, NoMemory, put_digest, put_labels, put_name, put_number, put_sized, put_text,
+    put_time,
 };
 
 /// No bytes, with room for so many.
@@ -94,19 +95,44 @@ fn put_event(into: &mut Bytes, event: &EventPart) -> Result<(), NoMemory>
     put_labels(into, &event.path)
 }
 
+/// Appends the path, behind no number of its links.
+#[tactic(auto)]
+pub fn put_path(into: &mut Bytes, path: &Path) -> Result<(), NoMemory>
+    // What is put of a path is its bytes in the format.
+    ensures ok { OnOk result (into.new ≡ into.old ++ path_bytes path.now.links) }
+    // They are a path's between any two steps whose greedy path has its links and numbers of labels.
+    ensures fits { OnOk result (FitsAsPath path.now.links) }
+{
+    put_links(into, path.links.as_slice())?;
+    Ok(())
+}
+
+/// Appends the step under its top: service, step, top, path and opening.
+#[tactic(auto, unfolding(crate::specs::Codecs::count_codec, crate::specs::Codecs::opening_bytes, crate::specs::Codecs::opening_codec, crate::specs::Codecs::part_bytes, crate::specs::Codecs::part_codec, crate::specs::Codecs::path_bytes, crate::specs::Codecs::path_codec, tw_base::specs::Codecs::by_kind, tw_base::specs::Codecs::bytes_codec, tw_base::specs::Codecs::each, tw_base::specs::Codecs::labels_codec, tw_base::specs::Codecs::many, tw_base::specs::Codecs::name_codec, tw_base::specs::Codecs::number_codec, tw_base::specs::Codecs::pair, tw_base::specs::Codecs::seen, tw_base::specs::Codecs::written))]
+pub fn put_part(into: &mut Bytes, part: &Part) -> Result<(), NoMemory>
+    // What is put of a step under a top is its bytes in the format.
+    ensures ok { OnOk result (into.new ≡ into.old ++ part_bytes part.now) }
+    // They spell it where its numbers are in the format's ranges, and its path and its opening have the labels that
+    // the steps give them.
+    ensures fits { OnOk result (FitsAsPart part.now) }
+{
+    put_name(into, &part.service)?;
+    put_number(into, part.step, 8)?;
+    put_number(into, part.top, 8)?;
+    put_links(into, part.path.links.as_slice())?;
+    put_opening(into, &part.opening)?;
+    Ok(())
+}
+
 /// Appends the proof.
-#[tactic(auto, unfolding(crate::specs::Codecs::count_codec, crate::specs::Codecs::event_codec, crate::specs::Codecs::existence_body, crate::specs::Codecs::existence_codec, crate::specs::Codecs::opening_bytes, crate::specs::Codecs::opening_codec, crate::specs::Codecs::path_bytes, crate::specs::Codecs::path_codec, tw_base::specs::Codecs::behind, tw_base::specs::Codecs::by_kind, tw_base::specs::Codecs::bytes_codec, tw_base::specs::Codecs::each, tw_base::specs::Codecs::labels_codec, tw_base::specs::Codecs::many, tw_base::specs::Codecs::name_codec, tw_base::specs::Codecs::number_codec, tw_base::specs::Codecs::pair, tw_base::specs::Codecs::seen, tw_base::specs::Codecs::sized_codec, tw_base::specs::Codecs::text_codec, tw_base::specs::Codecs::written))]
+#[tactic(auto, unfolding(crate::specs::Codecs::count_codec, crate::specs::Codecs::event_codec, crate::specs::Codecs::existence_body, crate::specs::Codecs::existence_codec, crate::specs::Codecs::opening_bytes, crate::specs::Codecs::opening_codec, crate::specs::Codecs::part_bytes, crate::specs::Codecs::part_codec, crate::specs::Codecs::path_bytes, crate::specs::Codecs::path_codec, tw_base::specs::Codecs::behind, tw_base::specs::Codecs::by_kind, tw_base::specs::Codecs::bytes_codec, tw_base::specs::Codecs::each, tw_base::specs::Codecs::labels_codec, tw_base::specs::Codecs::many, tw_base::specs::Codecs::name_codec, tw_base::specs::Codecs::number_codec, tw_base::specs::Codecs::pair, tw_base::specs::Codecs::seen, tw_base::specs::Codecs::sized_codec, tw_base::specs::Codecs::text_codec, tw_base::specs::Codecs::written))]
 fn put_existence(into: &mut Bytes, proof: &ExistenceProof) -> Result<(), NoMemory>
     requires { length proof.now.event.event < 2 ^ 32 }
     ensures ok { OnOk result (into.new ≡ into.old ++ existence_bytes proof.now) }
     ensures fits { OnOk result (IsExistenceInRange proof.now → IsShaped proof.now → existence_codec.Fits proof.now) }
 {
     put_text(into, &MAGIC)?;
-    put_name(into, &proof.at.service)?;
-    put_number(into, proof.at.step, 8)?;
-    put_number(into, proof.at.top, 8)?;
-    put_links(into, proof.at.path.links.as_slice())?;
-    put_opening(into, &proof.at.opening)?;
+    put_part(into, &proof.at)?;
     put_event(into, &proof.event)?;
     Ok(())
 }

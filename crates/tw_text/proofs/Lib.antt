@@ -1,7 +1,5 @@
 pub mod Numerals
-pub mod CountLaws
 pub mod FieldLaws
 pub mod FormLaws
+pub mod FrontLaws
 pub mod TableLaws
-pub mod Tried
-pub mod PlaceLaws

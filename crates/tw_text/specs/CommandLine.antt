@@ -1,17 +1,10 @@
 -- The forms of the program's command line.
-use Rattle.std.specs.Prelude.{ℕ, ◌-◌, List, [], ◌∷◌, length, map, drop, codes, Option, Some, None, nat_lt, if◌then◌else◌}
-use Rattle.std.specs.List.{slice_index_or}
+use Rattle.std.specs.Prelude.{◌≡◌, ℕ, ◌+◌, ◌-◌, ◌≤◌, List, [], ◌∷◌, ◌++◌, length, take, codes, Option, IsSome}
+use Rattle.std.specs.Result.{result_ok}
 use Rattle.tw_base.specs.declared.limits.TheConstants.{LAST_STEP}
-use Rattle.tw_base.specs.Names.{padded_name}
-use Rattle.tw_base.specs.declared.thread.Thread.{Thread as Anchor}
-use Rattle.tw_text.specs.Words.{word_number, word_digest}
-use Rattle.tw_text.specs.Forms.{Part, More, Form, command_by, IsFirstBad}
-use Rattle.tw_text.specs.Forms.Part.{Fixed, Path, Service, Number, Hex}
-use Rattle.tw_text.specs.Forms.More.{Nothing, UpTo, AnyNumberOf}
+use Rattle.tw_text.specs.Forms.{Form, any_paths, at_most_paths, choose, digest, either, end, maybe, name, number, path}
 use Rattle.tw_text.specs.declared.command.Command.{Command}
-use Rattle.tw_text.specs.declared.command.Command.TheVariants as command
-use Rattle.tw_text.specs.declared.form.FormName.{FormName}
-use Rattle.tw_text.specs.declared.form.FormName.TheVariants.{Init, Append, Thread, Receive, ProveEvent, ProveThread, ProveAbsent, ProveLink, MapLow, MapHigh, Export, Show, Join, VerifyFile, VerifyOne, Strict, CheckMap, Audit, Replay, Generate}
+use Rattle.tw_text.specs.declared.command.Command.TheVariants.{Init, Append, Thread, Receive, ProveEvent, ProveThread, ProveAbsent, ProveLink, MapLow, MapHigh, Export, Show, Join, VerifyFile, VerifyOne, Strict, CheckMap, Audit, Replay, Generate}
 use Rattle.tw_text.specs.declared.limits.TheConstants.{MOST_GENERATED, MOST_HISTORIES}
 use Rattle.tw_text.specs.declared.words.WordFault.{WordFault}
 use Rattle.tw_text.specs.declared.words.WordFault.TheVariants.{BadWord, NoMemory}
@@ -19,94 +12,125 @@ use Rattle.tw_text.specs.declared.words.WordFault.TheVariants.{BadWord, NoMemory
 -- ---- parts
 
 -- any number of 64 bits
-abbrev pub number_part : Part
-number_part = Number 0 0xffff_ffff_ffff_ffff
+abbrev pub any_number : (ℕ → Form) → Form
+any_number = number 0 0xffff_ffff_ffff_ffff
 
 -- the number of a step from 1 on
-abbrev pub step_part : Part
-step_part = Number 1 LAST_STEP
+abbrev pub step_number : (ℕ → Form) → Form
+step_number = number 1 LAST_STEP
 
--- the number of the last step, which may be left out
-abbrev pub maybe_top : More
-maybe_top = UpTo 1 number_part
+-- ---- forms behind their first word
 
--- ---- the values of the words at their places, counted from 0
+unfoldable pub init : Form
+init = path (λ dir. name (λ name. end (Init name)))
 
-abbrev pub word_at : List (List ℕ) → ℕ → List ℕ
-word_at words i = slice_index_or words i []
+unfoldable pub append : Form
+append = path (λ dir. path (λ file. end (Append file)))
 
-abbrev pub number_at : List (List ℕ) → ℕ → ℕ
-number_at words i = word_number (word_at words i)
+unfoldable pub thread : Form
+thread = path (λ dir. any_number (λ since. end (Thread since)))
 
-abbrev pub name_at : List (List ℕ) → ℕ → List ℕ
-name_at words i = padded_name (word_at words i)
+unfoldable pub receive : Form
+receive = path (λ dir. path (λ file. end (Receive file)))
 
-abbrev pub digest_at : List (List ℕ) → ℕ → List ℕ
-digest_at words i = word_digest (word_at words i)
+-- `prove DIR event`, and the other kinds of proofs
+unfoldable pub prove_event : Form
+prove_event = any_number (λ step. any_number (λ index. maybe (λ top. ProveEvent step index top)))
 
--- the number at a place, if there are so many words
-abbrev pub top_at : List (List ℕ) → ℕ → Option ℕ
-top_at words i = if nat_lt i (length words) then Some (number_at words i) else None
+unfoldable pub prove_thread : Form
+prove_thread = any_number (λ step. name (λ peer. step_number (λ k. maybe (λ top. ProveThread step peer k top))))
 
--- the anchor that is written as a name, a step and a digest, behind a fixed word and a path
-abbrev pub anchor_at : List (List ℕ) → Anchor
-anchor_at words = record { from = name_at words 2; step = number_at words 3; auth = digest_at words 4 }
+unfoldable pub prove_absent : Form
+prove_absent = any_number (λ step. name (λ peer. step_number (λ k. maybe (λ top. ProveAbsent step peer k top))))
 
--- ---- the table
+unfoldable pub prove_link : Form
+prove_link = any_number (λ step. maybe (λ top. ProveLink step top))
 
-abbrev pub form : List Part → More → (List (List ℕ) → Command) → Form
-form parts more command = record { parts = parts; more = more; command = command }
+abbrev pub proofs : List (List ℕ × Form)
+proofs = (codes "event", prove_event) ∷ (codes "thread", prove_thread) ∷ (codes "absent", prove_absent) ∷ (codes "link", prove_link) ∷ []
 
--- each form: its parts, what may follow, and the command of the words w
-unfoldable pub form_of : FormName → Form
-form_of Init = form (Fixed (codes "init") ∷ Path ∷ Service ∷ []) Nothing (λ w. command.Init (name_at w 2))
-form_of Append = form (Fixed (codes "append") ∷ Path ∷ Path ∷ []) Nothing (λ w. command.Append (word_at w 2))
-form_of Thread = form (Fixed (codes "thread") ∷ Path ∷ number_part ∷ []) Nothing (λ w. command.Thread (number_at w 2))
-form_of Receive = form (Fixed (codes "receive") ∷ Path ∷ Path ∷ []) Nothing (λ w. command.Receive (word_at w 2))
-form_of ProveEvent = form (Fixed (codes "prove") ∷ Path ∷ Fixed (codes "event") ∷ number_part ∷ number_part ∷ []) maybe_top
-    (λ w. command.ProveEvent (number_at w 3) (number_at w 4) (top_at w 5))
-form_of ProveThread = form (Fixed (codes "prove") ∷ Path ∷ Fixed (codes "thread") ∷ number_part ∷ Service ∷ step_part ∷ []) maybe_top
-    (λ w. command.ProveThread (number_at w 3) (name_at w 4) (number_at w 5) (top_at w 6))
-form_of ProveAbsent = form (Fixed (codes "prove") ∷ Path ∷ Fixed (codes "absent") ∷ number_part ∷ Service ∷ step_part ∷ []) maybe_top
-    (λ w. command.ProveAbsent (number_at w 3) (name_at w 4) (number_at w 5) (top_at w 6))
-form_of ProveLink = form (Fixed (codes "prove") ∷ Path ∷ Fixed (codes "link") ∷ number_part ∷ []) maybe_top
-    (λ w. command.ProveLink (number_at w 3) (top_at w 4))
-form_of MapLow = form (Fixed (codes "map") ∷ Path ∷ Fixed (codes "low") ∷ number_part ∷ Service ∷ []) maybe_top
-    (λ w. command.MapLow (number_at w 3) (name_at w 4) (top_at w 5))
-form_of MapHigh = form (Fixed (codes "map") ∷ Path ∷ Fixed (codes "high") ∷ step_part ∷ Service ∷ []) maybe_top
-    (λ w. command.MapHigh (number_at w 3) (name_at w 4) (top_at w 5))
-form_of Export = form (Fixed (codes "export") ∷ Path ∷ []) Nothing (λ w. command.Export)
-form_of Show = form (Fixed (codes "show") ∷ Path ∷ number_part ∷ number_part ∷ []) Nothing
-    (λ w. command.Show (word_at w 1) (number_at w 2) (number_at w 3))
-form_of Join = form (Fixed (codes "join") ∷ Path ∷ Path ∷ []) (AnyNumberOf Path) (λ w. command.Join (drop 1 w))
-form_of VerifyFile = form (Fixed (codes "verify") ∷ Path ∷ Path ∷ []) Nothing
-    (λ w. command.VerifyFile (word_at w 1) (word_at w 2))
-form_of VerifyOne = form (Fixed (codes "verify") ∷ Path ∷ Service ∷ step_part ∷ Hex ∷ []) Nothing
-    (λ w. command.VerifyOne (word_at w 1) (anchor_at w))
-form_of Strict = form (Fixed (codes "strict") ∷ Path ∷ Path ∷ []) Nothing (λ w. command.Strict (word_at w 1) (word_at w 2))
-form_of CheckMap = form (Fixed (codes "checkmap") ∷ Path ∷ Path ∷ Path ∷ []) Nothing
-    (λ w. command.CheckMap (word_at w 1) (word_at w 2) (word_at w 3))
-form_of Audit = form (Fixed (codes "audit") ∷ Path ∷ Path ∷ Path ∷ []) (UpTo (MOST_HISTORIES - 1) Path)
-    (λ w. command.Audit (word_at w 1) (word_at w 2) (drop 3 w))
-form_of Replay = form (Fixed (codes "replay") ∷ Path ∷ []) Nothing (λ w. command.Replay (word_at w 1))
-form_of Generate = form (Fixed (codes "generate") ∷ number_part ∷ Number 1 MOST_GENERATED ∷ []) Nothing
-    (λ w. command.Generate (number_at w 1) (number_at w 2))
+unfoldable pub prove : Form
+prove = path (λ dir. choose proofs)
 
-abbrev pub form_names : List FormName
-form_names =
-    Init ∷ Append ∷ Thread ∷ Receive ∷ ProveEvent ∷ ProveThread ∷ ProveAbsent ∷ ProveLink ∷ MapLow ∷ MapHigh ∷ Export ∷ Show
-    ∷ Join ∷ VerifyFile ∷ VerifyOne ∷ Strict ∷ CheckMap ∷ Audit ∷ Replay ∷ Generate ∷ []
+-- `map DIR low` and `map DIR high`
+unfoldable pub map_low : Form
+map_low = any_number (λ step. name (λ peer. maybe (λ top. MapLow step peer top)))
 
-unfoldable pub forms : List Form
-forms = map form_of form_names
+unfoldable pub map_high : Form
+map_high = step_number (λ pos. name (λ peer. maybe (λ top. MapHigh pos peer top)))
+
+abbrev pub bounds : List (List ℕ × Form)
+bounds = (codes "low", map_low) ∷ (codes "high", map_high) ∷ []
+
+unfoldable pub map : Form
+map = path (λ dir. choose bounds)
+
+unfoldable pub export : Form
+export = path (λ dir. end Export)
+
+unfoldable pub show : Form
+show = path (λ history. any_number (λ step. any_number (λ index. end (Show history step index))))
+
+-- at least two files
+unfoldable pub join : Form
+join = path (λ one. path (λ two. any_paths (λ more. Join (one ∷ two ∷ more))))
+
+-- `verify PROOF`: then a file of anchors, or one anchor
+unfoldable pub verify_file : (proof : List ℕ) → Form
+verify_file proof = path (λ anchors. end (VerifyFile proof anchors))
+
+unfoldable pub verify_one : (proof : List ℕ) → Form
+verify_one proof =
+    name (λ from. step_number (λ step. digest (λ auth. end (VerifyOne proof (record { from = from; step = step; auth = auth })))))
+
+unfoldable pub verify : Form
+verify = path (λ proof. either (verify_file proof) (verify_one proof))
+
+unfoldable pub strict : Form
+strict = path (λ proof. path (λ anchors. end (Strict proof anchors)))
+
+unfoldable pub check_map : Form
+check_map = path (λ low. path (λ high. path (λ anchors. end (CheckMap low high anchors))))
+
+-- at least one history
+unfoldable pub audit : Form
+audit = path (λ proof. path (λ anchors. path (λ one. at_most_paths (MOST_HISTORIES - 1) (λ more. Audit proof anchors (one ∷ more)))))
+
+unfoldable pub replay : Form
+replay = path (λ file. end (Replay file))
+
+unfoldable pub generate : Form
+generate = any_number (λ seed. number 1 MOST_GENERATED (λ steps. end (Generate seed steps)))
+
+-- ---- all forms, by their first word
+
+abbrev pub commands : List (List ℕ × Form)
+commands =
+    (codes "init", init) ∷ (codes "append", append) ∷ (codes "thread", thread) ∷ (codes "receive", receive) ∷ (codes "prove", prove)
+    ∷ (codes "map", map) ∷ (codes "export", export) ∷ (codes "show", show) ∷ (codes "join", join) ∷ (codes "verify", verify)
+    ∷ (codes "strict", strict) ∷ (codes "checkmap", check_map) ∷ (codes "audit", audit) ∷ (codes "replay", replay)
+    ∷ (codes "generate", generate) ∷ []
 
 -- ---- the meaning of words
 
 -- the command that the words have a form of
 abbrev pub command_of : List (List ℕ) → Option Command
-command_of words = command_by forms words
+command_of words = result_ok (choose commands words)
+
+-- the words are the front of some words that have a form
+abbrev pub IsFront : List (List ℕ) → Type 0
+IsFront words = (rest : List (List ℕ)) × IsSome (command_of (words ++ rest))
+
+-- the number of the first word, counted from 1, at which no form goes on, and one more than there are words where some form
+-- would go on: before it ends the longest front of the words that is the front of a command
+pub record IsFirstBad (words : List (List ℕ)) (number : ℕ) : Type 0 where
+  pub front : ℕ
+  pub next : number ≡ front + 1
+  pub within : front ≤ length words
+  pub good : IsFront (take front words)
+  pub longest : (n : ℕ) → n ≤ length words → IsFront (take n words) → n ≤ front
 
 -- the fault names the first word at which no form goes on
 abbrev pub IsBadWord : List (List ℕ) → WordFault → Type 0
-IsBadWord words (BadWord number) = IsFirstBad forms words number
+IsBadWord words (BadWord number) = IsFirstBad words number
 IsBadWord words NoMemory = ⊥

@@ -1,70 +1,121 @@
--- Forms of words: what a form is, which words have it, and which are the front of some that do.
-use Rattle.std.specs.Prelude.{◌≡◌, ℕ, ◌+◌, ◌≤◌, List, [], ◌∷◌, ◌++◌, length, take, Option, Some, None, Bool, false, ◌&&◌, nat_le, if◌then◌else◌, IsTrue}
-use Rattle.std.specs.List.{list_all}
+-- Forms of words: what a form makes of words, put together from parts that have one word each.
+use Rattle.std.specs.Prelude.{ℕ, suc, ◌-◌, List, [], ◌∷◌, length, min, Option, Some, None, Result, Ok, Err, ◌==◌, nat_le, if◌then◌else◌}
+use Rattle.std.specs.Option.{option_map_or}
 use Rattle.std.specs.Str.{bytes_eq}
-use Rattle.tw_base.specs.Lists.{In}
-use Rattle.tw_base.specs.Names.{is_name_text}
-use Rattle.tw_text.specs.Words.{is_number_within, is_digest}
+use Rattle.tw_base.specs.Names.{is_name_text, padded_name}
+use Rattle.tw_text.specs.Words.{is_number_within, word_number, is_digest, word_digest}
 use Rattle.tw_text.specs.declared.command.Command.{Command}
 
--- what a form has at one place
-pub data Part : Type 0 where
-  Fixed : (text : List ℕ) → Part  -- this word and no other
-  Path : Part  -- a path: any word of at least one byte
-  Service : Part  -- the name of a service
-  Number : (least most : ℕ) → Part  -- a number within a range
-  Hex : Part  -- a digest in hexadecimal digits of either case
+-- what is made of words; or how many of them are left, from the first one on at which it goes no further
+abbrev pub Reading : Type 0 → Type 0
+Reading X = Result X ℕ
 
--- what may follow the parts that a form must have
-pub data More : Type 0 where
-  Nothing : More
-  UpTo : (most : ℕ) → Part → More
-  AnyNumberOf : Part → More
+-- a form: what it makes of words, its command where they are words of this form
+abbrev pub Form : Type 0
+Form = List (List ℕ) → Reading Command
 
--- a form: the parts that it must have, what may follow them, and the command that words of this form make
-pub record Form : Type 0 where
-  pub parts : List Part
-  pub more : More
-  pub command : List (List ℕ) → Command
+-- ---- reading words
 
--- the word may stand where the form has this part
-abbrev pub fits : Part → List ℕ → Bool
-fits (Fixed text) word = bytes_eq word text
-fits Path word = nat_le 1 (length word)
-fits Service word = is_name_text word
-fits (Number least most) word = is_number_within least most word
-fits Hex word = is_digest word
+module _ {V : Type 0} where
+  -- the value of the first word, and the words behind it
+  unfoldable pub next : (part : List ℕ → Option V) → List (List ℕ) → Reading (V × List (List ℕ))
+  next part [] = Err 0
+  next part (word ∷ words) = option_map_or (λ value. Ok (value, words)) (part word) (Err (suc (length words)))
 
-abbrev pub words_may_follow : More → List (List ℕ) → Bool
-words_may_follow Nothing words = nat_le (length words) 0
-words_may_follow (UpTo most part) words = nat_le (length words) most && list_all (fits part) words
-words_may_follow (AnyNumberOf part) words = list_all (fits part) words
+module _ {V X : Type 0} where
+  -- what is made of a value that was read
+  abbrev pub give : (V → X) → Reading V → Reading X
+  give made (Ok value) = Ok (made value)
+  give made (Err left) = Err left
 
-abbrev pub have_parts : List Part → More → List (List ℕ) → Bool
-have_parts [] more words = words_may_follow more words
-have_parts (part ∷ parts) more [] = false
-have_parts (part ∷ parts) more (word ∷ words) = fits part word && have_parts parts more words
+  -- what goes on from a value that was read, with the words behind it
+  abbrev pub go_on : Reading (V × List (List ℕ)) → (V → List (List ℕ) → Reading X) → Reading X
+  go_on (Ok taken) behind = behind taken.0 taken.1
+  go_on (Err left) behind = Err left
 
--- the words have the form
-abbrev pub have_form : Form → List (List ℕ) → Bool
-have_form form words = have_parts form.parts form.more words
+-- ---- one word, and then the form for its value
 
--- the words are the front of some words that have the form
-abbrev pub IsFrontOfForm : Form → List (List ℕ) → Type 0
-IsFrontOfForm form words = (rest : List (List ℕ)) × IsTrue (have_form form (words ++ rest))
+module _ {V : Type 0} where
+  abbrev pub then_form : (part : List ℕ → Option V) → (V → Form) → Form
+  then_form part form words = go_on (next part words) form
 
--- the command of the first form of a table that the words have
-abbrev pub command_by : List Form → List (List ℕ) → Option Command
-command_by [] words = None
-command_by (form ∷ forms) words = if have_form form words then Some (form.command words) else command_by forms words
+-- a path: any word of at least one byte
+abbrev pub path_value : List ℕ → Option (List ℕ)
+path_value word = if nat_le 1 (length word) then Some word else None
 
--- the number of the first word, counted from 1, at which no form of the table goes on, and one more than there are words
--- where some form would go on: before it ends the longest front of the words that is the front of some form
-pub record IsFirstBad (forms : List Form) (words : List (List ℕ)) (number : ℕ) : Type 0 where
-  pub front : ℕ
-  pub next : number ≡ front + 1
-  pub within : front ≤ length words
-  pub form : Form
-  pub listed : In form forms
-  pub good : IsFrontOfForm form (take front words)
-  pub longest : (other : Form) → In other forms → (n : ℕ) → n ≤ length words → IsFrontOfForm other (take n words) → n ≤ front
+abbrev pub path : (List ℕ → Form) → Form
+path = then_form path_value
+
+-- the name of a service
+abbrev pub name_value : List ℕ → Option (List ℕ)
+name_value word = if is_name_text word then Some (padded_name word) else None
+
+abbrev pub name : (List ℕ → Form) → Form
+name = then_form name_value
+
+-- a number within a range
+abbrev pub number_value : (least most : ℕ) → List ℕ → Option ℕ
+number_value least most word = if is_number_within least most word then Some (word_number word) else None
+
+abbrev pub number : (least most : ℕ) → (ℕ → Form) → Form
+number least most = then_form (number_value least most)
+
+-- a digest in hexadecimal digits of either case
+abbrev pub digest_value : List ℕ → Option (List ℕ)
+digest_value word = if is_digest word then Some (word_digest word) else None
+
+abbrev pub digest : (List ℕ → Form) → Form
+digest = then_form digest_value
+
+-- a word of a table, which names the form
+abbrev pub form_named : List (List ℕ × Form) → List ℕ → Option Form
+form_named [] word = None
+form_named (row ∷ rows) word = if bytes_eq word row.0 then Some row.1 else form_named rows word
+
+abbrev pub choose : List (List ℕ × Form) → Form
+choose rows = then_form (form_named rows) (λ form. form)
+
+-- ---- the end of the words
+
+-- there are no more words
+unfoldable pub nothing : List (List ℕ) → Reading (Unit {0})
+nothing [] = Ok tt
+nothing (word ∷ words) = Err (suc (length words))
+
+abbrev pub end : Command → Form
+end command words = give (λ done. command) (nothing words)
+
+-- there is one more word, any number of 64 bits, or none
+unfoldable pub maybe_number : List (List ℕ) → Reading (Option ℕ)
+maybe_number [] = Ok None
+maybe_number (word ∷ words) =
+    go_on (next (number_value 0 0xffff_ffff_ffff_ffff) (word ∷ words)) (λ number behind. give (λ done. Some number) (nothing behind))
+
+abbrev pub maybe : (Option ℕ → Command) → Form
+maybe command words = give command (maybe_number words)
+
+-- how many words, from the first on, are paths
+abbrev pub count_paths : List (List ℕ) → ℕ
+count_paths [] = 0
+count_paths (word ∷ words) = if nat_le 1 (length word) then suc (count_paths words) else 0
+
+-- the words are paths, and at most so many
+unfoldable pub paths : (most : ℕ) → List (List ℕ) → Reading (List (List ℕ))
+paths most words = let taken = min most (count_paths words) in if taken == length words then Ok words else Err (length words - taken)
+
+abbrev pub at_most_paths : (most : ℕ) → (List (List ℕ) → Command) → Form
+at_most_paths most command words = give command (paths most words)
+
+abbrev pub any_paths : (List (List ℕ) → Command) → Form
+any_paths command words = at_most_paths (length words) command words
+
+-- ---- two forms
+
+-- the command of the first that the words have; where they have none, as few words are left as one of the two leaves
+abbrev pub either_reading : (one other : Reading Command) → Reading Command
+either_reading (Ok command) other = Ok command
+either_reading (Err left) (Ok command) = Ok command
+either_reading (Err left) (Err other) = Err (min left other)
+
+abbrev pub either : (one other : Form) → Form
+either one other words = either_reading (one words) (other words)

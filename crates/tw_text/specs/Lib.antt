@@ -1,8 +1,7 @@
 pub mod Words
 pub mod Forms
+pub mod Takings
 pub mod CommandLine
-pub mod RowSteps
-pub mod TakenSteps
 pub mod Lines
 pub mod Refusals
 pub mod Faults

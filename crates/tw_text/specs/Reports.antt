@@ -2,8 +2,10 @@
 use Rattle.std.specs.Prelude.{ℕ, List, [], ◌∷◌, ◌++◌, codes}
 use Rattle.std.specs.Option.{option_map_or}
 use Rattle.tw_base.specs.declared.report.Claim.{Claim}
-use Rattle.tw_base.specs.declared.report.Claim.TheVariants.{Exists}
+use Rattle.tw_base.specs.declared.report.Claim.TheVariants.{Exists, Archived, Absent, Linked}
 use Rattle.tw_base.specs.declared.report.Seen.{Seen}
+use Rattle.tw_base.specs.declared.thread.Entry.{Entry}
+use Rattle.tw_base.specs.declared.thread.Key.{Key}
 use Rattle.tw_base.specs.declared.report.Report.{Report}
 use Rattle.tw_base.specs.declared.report.Reason.{Reason}
 use Rattle.tw_base.specs.declared.report.Reason.TheVariants.{Malformed, BadOrder, NotHeld, BadPath, BadOpening, BadEvent, BadTree, Carried, Unbuilt}
@@ -23,9 +25,25 @@ event_line seen =
 abbrev pub time_line : Seen → List ℕ
 time_line seen = option_map_or (λ time. line (codes "time") (Named seen.place.service ∷ Number seen.place.step ∷ Number time ∷ [])) seen.time []
 
+-- a step of a service, the entry's thread, and the step that received it
+abbrev pub thread_line : (service : List ℕ) (step : ℕ) → Entry → List ℕ
+thread_line service step entry =
+    line (codes "thread") (Named service ∷ Number step ∷ Named entry.thread.from ∷ Number entry.thread.step ∷ Hex entry.thread.auth ∷ Number entry.archived ∷ [])
+
+-- a step of a service, and the key of which it has no thread
+abbrev pub absent_line : (service : List ℕ) (step : ℕ) → Key → List ℕ
+absent_line service step key = line (codes "absent") (Named service ∷ Number step ∷ Named key.from ∷ Number key.step ∷ [])
+
+-- a step of a service, the top that it is linked from, and the authenticator at the step
+abbrev pub link_line : (service : List ℕ) (step top : ℕ) (auth : List ℕ) → List ℕ
+link_line service step top auth = line (codes "link") (Named service ∷ Number step ∷ Number top ∷ Hex auth ∷ [])
+
 -- the lines of a claim
 abbrev pub claim_text : Claim → List ℕ
 claim_text (Exists seen) = line (codes "accepted exists") [] ++ (event_line seen ++ time_line seen)
+claim_text (Archived service step entry) = line (codes "accepted thread") [] ++ thread_line service step entry
+claim_text (Absent service step key) = line (codes "accepted absent") [] ++ absent_line service step key
+claim_text (Linked service step top auth) = line (codes "accepted link") [] ++ link_line service step top auth
 
 -- the report of an accepted proof
 abbrev pub report_text : Report → List ℕ

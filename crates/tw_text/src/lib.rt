@@ -3,20 +3,18 @@
 
 mod anchor;
 mod command;
+mod cursor;
 mod fault;
 mod field;
+mod file_forms;
 mod fixed;
-mod form;
 pub mod limits;
 mod line;
 mod number;
-mod part;
 mod path;
 mod refusal;
 mod report;
-mod taking;
-#[cfg(test)]
-mod tests;
+mod store_forms;
 mod words;
 
 pub use anchor::{AnchorLine, anchor_line};

@@ -1,8 +1,9 @@
 // Numbers and digests as words.
 
-ghost use Rattle.std.specs.Prelude.{◌≡◌, ◌↔◌, ◌<◌, ◌≤◌, ◌^◌, IsTrue, IsSome, IfSome, IsSomeAnd};
+ghost use Rattle.std.specs.Prelude.{◌≡◌, ◌↔◌, ◌<◌, ◌^◌, IsTrue, IsSome, IfSome};
 ghost use Rattle.std.specs.Char.{is_ascii_digit};
 ghost use Rattle.std.specs.List.{list_all};
+ghost use Rattle.tw_text.specs.Forms.{number_value};
 ghost use Rattle.tw_text.specs.Words.{word_digest, word_number};
 ghost use Rattle.tw_text.specs.Words.{is_digest as is_digest_of, is_number as is_number_of};
 
@@ -49,9 +50,9 @@ pub fn read_digest(text: &[u8]) -> Option<Digest>
     }
 }
 
-/// Whether there is a number, within the range.
-pub fn is_within(number: Option<u64>, least: u64, most: u64) -> bool
-    ensures { IsTrue result ↔ IsSomeAnd number (λ n. (least ≤ n) × (n ≤ most)) }
+/// The number that the text is, if it is one within the range.
+pub fn number_within(text: &[u8], least: u64, most: u64) -> Option<u64>
+    ensures { result ≡ number_value least most text.now }
 {
-    number.is_some_and(|n| least <= n && n <= most)
+    read_number(text).filter(|n| least <= *n && *n <= most)
 }

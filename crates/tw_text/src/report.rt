@@ -1,14 +1,15 @@
 // Reports of accepted proofs, and the line of one that isn't accepted.
 
-ghost use Rattle.std.specs.Prelude.{◌≡◌, ◌++◌, OnOk, IfOk};
+ghost use Rattle.std.specs.Prelude.{◌≡◌, [], ◌∷◌, ◌++◌, OnOk, IfOk};
 ghost use Rattle.tw_text.specs.Lines.{fields_text};
-ghost use Rattle.tw_text.specs.Reports.{event_line, reason_fields, report_text, rejected_text, time_line};
+ghost use Rattle.tw_text.specs.declared.field.Field.TheVariants.{Hex, Named, Number};
+ghost use Rattle.tw_text.specs.Reports.{absent_line, event_line, link_line, reason_fields, report_text, rejected_text, thread_line, time_line};
 ghost use Rattle.tw_base.specs.Reasons.{reason_number as reason_number_of};
 ghost use Rattle.tw_text.specs.Reports.{reason_name as reason_name_of};
 
 use crate::line::{put_hex, put_name, put_number, put_word};
 use std::alloc::Global;
-use tw_base::{Bytes, Claim, NoMemory, Reason, Report, Seen};
+use tw_base::{Bytes, Claim, Digest, Entry, Key, Name, NoMemory, Reason, Report, Seen, Thread};
 
 /// The report of an accepted proof: what it claims, one line each; behind the line of an event one
 /// of its step's time, where the step has one.
@@ -22,6 +23,27 @@ pub fn print_report(alloc: Global, report: &Report) -> Result<Bytes, NoMemory>
             text.extend_from_slice(b"accepted exists\n")?;
             put_event(alloc, &mut text, seen)?;
             put_time(&mut text, seen)?;
+        }
+        Claim::Archived {
+            service,
+            step,
+            entry,
+        } => {
+            text.extend_from_slice(b"accepted thread\n")?;
+            put_thread(alloc, &mut text, service, *step, entry)?;
+        }
+        Claim::Absent { service, step, key } => {
+            text.extend_from_slice(b"accepted absent\n")?;
+            put_absent(&mut text, service, *step, key)?;
+        }
+        Claim::Linked {
+            service,
+            step,
+            top,
+            auth,
+        } => {
+            text.extend_from_slice(b"accepted link\n")?;
+            put_link(alloc, &mut text, service, *step, *top, auth)?;
         }
     }
     Ok(text)
@@ -65,6 +87,64 @@ fn put_time(text: &mut Bytes, seen: &Seen) -> Result<(), NoMemory>
     put_name(text, &seen.place.service)?;
     put_number(text, seen.place.step)?;
     put_number(text, time)?;
+    text.extend_from_slice(b"\n")
+}
+
+/// Puts the line of a thread that a step of the service holds at the text's end.
+fn put_thread(
+    alloc: Global,
+    text: &mut Bytes,
+    service: &Name,
+    step: u64,
+    entry: &Entry,
+) -> Result<(), NoMemory>
+    ensures { OnOk result (text.new ≡ text.old ++ thread_line service.now step entry.now) }
+{
+    text.extend_from_slice(b"thread")?;
+    put_name(text, service)?;
+    put_number(text, step)?;
+    put_thread_fields(alloc, text, &entry.thread)?;
+    put_number(text, entry.archived)?;
+    text.extend_from_slice(b"\n")
+}
+
+/// Puts what a thread is at the text's end.
+fn put_thread_fields(alloc: Global, text: &mut Bytes, thread: &Thread) -> Result<(), NoMemory>
+    ensures { OnOk result (text.new ≡ text.old ++ fields_text (Named thread.now.from ∷ Number thread.now.step ∷ Hex thread.now.auth ∷ [])) }
+{
+    put_name(text, &thread.from)?;
+    put_number(text, thread.step)?;
+    put_hex(alloc, text, &thread.auth.0)
+}
+
+/// Puts the line of a thread that a step of the service doesn't hold at the text's end.
+fn put_absent(text: &mut Bytes, service: &Name, step: u64, key: &Key) -> Result<(), NoMemory>
+    ensures { OnOk result (text.new ≡ text.old ++ absent_line service.now step key.now) }
+{
+    text.extend_from_slice(b"absent")?;
+    put_name(text, service)?;
+    put_number(text, step)?;
+    put_name(text, &key.from)?;
+    put_number(text, key.step)?;
+    text.extend_from_slice(b"\n")
+}
+
+/// Puts the line of a step that the service's top is linked down to at the text's end.
+fn put_link(
+    alloc: Global,
+    text: &mut Bytes,
+    service: &Name,
+    step: u64,
+    top: u64,
+    auth: &Digest,
+) -> Result<(), NoMemory>
+    ensures { OnOk result (text.new ≡ text.old ++ link_line service.now step top auth.now) }
+{
+    text.extend_from_slice(b"link")?;
+    put_name(text, service)?;
+    put_number(text, step)?;
+    put_number(text, top)?;
+    put_hex(alloc, text, &auth.0)?;
     text.extend_from_slice(b"\n")
 }
 

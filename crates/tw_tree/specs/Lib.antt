@@ -1,1 +1,2 @@
 pub mod TreeMeaning
+pub mod Inserting

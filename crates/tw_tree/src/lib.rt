@@ -1,8 +1,11 @@
-// The archive's tree in memory: its label, and its entries in order.
+// The archive's tree in memory: its label, its entries in order, what it has of a key, and one
+// more entry.
 #![tactic(auto)]
 
-#[cfg(test)]
-mod tests;
+mod inserting;
+mod searching;
 mod tree;
 
+pub use inserting::{InsertFault, insert_plain};
+pub use searching::{after, before, get};
 pub use tree::{Tree, label, list};

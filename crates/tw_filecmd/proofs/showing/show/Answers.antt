@@ -8,7 +8,7 @@ pub returns-in-Err : goal.returns-in-Err
 returns-in-Err g c =
     refuses_file (asked (g.I.Inputs.told c.args.inputs.now) (g.I.Inputs.faults c.args.inputs.now) (g.I.Inputs.faults c.read_all.new.inputs))
     c.args.file.now c.as_slice.result.now c.in_ok-bytes.ensures.there (λ bytes tells. c.as_slice.ensures.value ∙ c.in_ok-bytes.ensures.read bytes tells)
-    c.args.step c.args.index c.in-Err.fault c.refuse_history.result c.in-Err.ensures.read c.refuse_history.ensures
+    c.args.step c.args.index c.in-Err.fault c.in_ok-bad_history-in-Err.field-0 c.in-Err.ensures.read c.in_ok-bad_history-in-Err.ensures
 
 pub returns-in-Ok-show_at : goal.returns-in-Ok-show_at
 returns-in-Ok-show_at g c =

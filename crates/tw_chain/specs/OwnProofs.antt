@@ -1,0 +1,50 @@
+-- The proofs that a history itself has, of each kind.
+use Rattle.std.specs.Prelude.{◌≡◌, ◌≢◌, ℕ, ◌<◌, ◌≤◌, List, Some}
+use Rattle.tw_base.specs.declared.limits.TheConstants.{LAST_STEP}
+use Rattle.tw_base.specs.declared.tree_proof.Ask.TheVariants as ask
+use Rattle.tw_base.specs.Auth.{auth}
+use Rattle.tw_base.specs.History.{History, entry_at, received}
+use Rattle.tw_base.specs.Entries.{key_of}
+use Rattle.tw_base.specs.Lists.{Each}
+use Rattle.tw_base.specs.Names.{IsName}
+use Rattle.tw_base.specs.Tree.{tree}
+use Rattle.tw_skipproof.specs.HistoryProofs.{IsExistenceOf, IsPartOf, IsPathOf}
+use Rattle.tw_treeproof.specs.Making.{proof_of}
+use Rattle.tw_chain.specs.declared.proof.AbsenceProof.{AbsenceProof}
+use Rattle.tw_chain.specs.declared.proof.LinkProof.{LinkProof}
+use Rattle.tw_chain.specs.declared.proof.Proof.{Proof}
+use Rattle.tw_chain.specs.declared.proof.Proof.TheVariants.{Exists, Archived, Absent, Linked}
+use Rattle.tw_chain.specs.declared.proof.ThreadProof.{ThreadProof}
+
+module _ (dig : List ℕ → List ℕ) (h : History) (step top : ℕ) where
+  -- the proof of a thread that was received up to the step, under this top: the history's part, and the own proof of the tree
+  -- of the step's archive
+  pub record IsThreadProofOf (p : ThreadProof) : Type 0 where
+    pub at : IsPartOf dig h step top p.at
+    pub received : entry_at h p.entry.archived ≡ Some p.entry
+    pub before : p.entry.archived ≤ step
+    pub shown : p.shown ≡ proof_of dig (tree h step) (ask.Present p.entry)
+
+  -- the proof that no thread of a key was received up to the step, which is from 1 on
+  pub record IsAbsenceProofOf (p : AbsenceProof) : Type 0 where
+    pub from_1 : 0 < step
+    pub at : IsPartOf dig h step top p.at
+    pub name : IsName p.key.from
+    pub key : (0 < p.key.step) × (p.key.step ≤ LAST_STEP)
+    pub none : Each (λ entry. key_of entry ≢ p.key) (received h step)
+    pub shown : p.shown ≡ proof_of dig (tree h step) (ask.Absent p.key)
+
+  -- the proof of the step's authenticator: the history's path from the top down to the step
+  pub record IsLinkProofOf (p : LinkProof) : Type 0 where
+    pub service : p.service ≡ h.name
+    pub at_step : p.step ≡ step
+    pub at_top : p.top ≡ top
+    pub given : p.auth ≡ auth dig h step
+    pub path : IsPathOf dig h p.path.links top step
+
+  -- one of these, or the proof of an event
+  abbrev pub IsOwnProof : Proof → Type 0
+  IsOwnProof (Exists p) = (index : ℕ) × IsExistenceOf dig h step index top p
+  IsOwnProof (Archived p) = IsThreadProofOf p
+  IsOwnProof (Absent p) = IsAbsenceProofOf p
+  IsOwnProof (Linked p) = IsLinkProofOf p

@@ -1,0 +1,152 @@
+// Reading proofs.
+#![tactic(auto, unfolding(crate::specs::Proofs::absence_body, crate::specs::Proofs::key_codec, crate::specs::Proofs::link_body, crate::specs::Proofs::thread_body, tw_base::specs::Codecs::pair, tw_base::specs::Codecs::seen))]
+
+ghost use Rattle.std.specs.Prelude.{◌≡◌, ◌≤◌, length, IfOk};
+ghost use Rattle.tw_base.specs.Formats.{ReadsAs};
+ghost use Rattle.tw_base.specs.Taking.{Takes};
+ghost use Rattle.tw_chain.specs.Proofs.{IsInRange, absence_body, body_of_kind, is_kind as is_kind_of_proof, key_codec, kind_codec, kinds_codec, link_body, proof_codec, proof_layout, thread_body};
+
+use crate::proof::{AbsenceProof, LinkProof, Proof, ThreadProof};
+use std::alloc::Global;
+use tw_base::limits::LAST_STEP;
+use tw_base::{Key, ReadFault, take_digest, take_name, take_number, take_text, whole_to};
+use tw_skipproof::{PROOF_MAGIC, take_existence_body, take_part, take_path};
+use tw_treeproof::{take_entry, take_gap, take_present};
+
+/// Takes a proof that an archive has an entry, behind its kind.
+fn take_thread_body(alloc: Global, bytes: &[u8], at: &mut u64) -> Result<ThreadProof, ReadFault>
+    requires { at.old ≤ length bytes.now }
+    ensures { Takes thread_body (λ p. p) bytes.now at.old at.new result }
+{
+    let part = take_part(alloc, bytes, at, 0)?;
+    let entry = take_entry(bytes, at)?;
+    let shown = take_present(alloc, bytes, at)?;
+    Ok(ThreadProof {
+        at: part,
+        entry,
+        shown,
+    })
+}
+
+/// Takes a key.
+fn take_key(bytes: &[u8], at: &mut u64) -> Result<Key, ReadFault>
+    requires { at.old ≤ length bytes.now }
+    ensures { Takes key_codec (λ k. k) bytes.now at.old at.new result }
+{
+    let from = take_name(bytes, at)?;
+    let step = take_number(bytes, at, 8, 1, LAST_STEP)?;
+    Ok(Key { from, step })
+}
+
+/// Takes a proof that an archive has no entry of a key, behind its kind.
+fn take_absence_body(alloc: Global, bytes: &[u8], at: &mut u64) -> Result<AbsenceProof, ReadFault>
+    requires { at.old ≤ length bytes.now }
+    ensures { Takes absence_body (λ p. p) bytes.now at.old at.new result }
+{
+    let part = take_part(alloc, bytes, at, 0)?;
+    let key = take_key(bytes, at)?;
+    let shown = take_gap(alloc, bytes, at)?;
+    Ok(AbsenceProof {
+        at: part,
+        key,
+        shown,
+    })
+}
+
+/// Takes a proof of a step's authenticator, behind its kind.
+fn take_link_body(alloc: Global, bytes: &[u8], at: &mut u64) -> Result<LinkProof, ReadFault>
+    requires { at.old ≤ length bytes.now }
+    ensures { Takes link_body (λ p. p) bytes.now at.old at.new result }
+{
+    let service = take_name(bytes, at)?;
+    let step = take_number(bytes, at, 8, 0, LAST_STEP)?;
+    let top = take_number(bytes, at, 8, 1, LAST_STEP)?;
+    let auth = take_digest(bytes, at)?;
+    let path = take_path(alloc, bytes, at, top, step)?;
+    Ok(LinkProof {
+        service,
+        step,
+        top,
+        auth,
+        path,
+    })
+}
+
+/// Takes what a proof of this kind has.
+#[tactic(auto, unfolding(tw_base::specs::Codecs::variant))]
+fn take_of_kind(alloc: Global, bytes: &[u8], at: &mut u64, kind: u64) -> Result<Proof, ReadFault>
+    requires { at.old ≤ length bytes.now }
+    ensures { Takes (body_of_kind kind) (λ p. p) bytes.now at.old at.new result }
+{
+    if kind == 1 {
+        return Ok(Proof::Exists(take_existence_body(alloc, bytes, at)?));
+    }
+    if kind == 3 {
+        return Ok(Proof::Archived(take_thread_body(alloc, bytes, at)?));
+    }
+    if kind == 4 {
+        return Ok(Proof::Absent(take_absence_body(alloc, bytes, at)?));
+    }
+    Ok(Proof::Linked(take_link_body(alloc, bytes, at)?))
+}
+
+/// Whether there are proofs of this kind.
+#[tactic(auto)]
+fn is_kind(kind: u8) -> bool
+    ensures { result ≡ is_kind_of_proof kind }
+{
+    kind == 1 || (3 <= kind && kind <= 5)
+}
+
+/// Takes the kind of a proof.
+#[tactic(auto)]
+fn take_kind(bytes: &[u8], at: &mut u64) -> Result<u64, ReadFault>
+    requires { at.old ≤ length bytes.now }
+    ensures { Takes kind_codec (λ kind. kind) bytes.now at.old at.new result }
+{
+    let place = *at;
+    if place == bytes.len() as u64 {
+        return Err(ReadFault::Malformed { place });
+    }
+    let kind = bytes[place as usize];
+    if !is_kind(kind) {
+        return Err(ReadFault::Malformed { place });
+    }
+    *at += 1;
+    Ok(kind as u64)
+}
+
+/// Takes the kind and what a proof of it has.
+#[tactic(auto)]
+fn take_by_kind(alloc: Global, bytes: &[u8], at: &mut u64) -> Result<Proof, ReadFault>
+    requires { at.old ≤ length bytes.now }
+    ensures { Takes kinds_codec (λ p. p) bytes.now at.old at.new result }
+{
+    let kind = take_kind(bytes, at)?;
+    take_of_kind(alloc, bytes, at, kind)
+}
+
+/// Takes a proof.
+#[tactic(auto, unfolding(crate::specs::Proofs::proof_codec, tw_base::specs::Codecs::behind))]
+fn take_proof(alloc: Global, bytes: &[u8], at: &mut u64) -> Result<Proof, ReadFault>
+    requires { at.old ≤ length bytes.now }
+    ensures { Takes proof_codec (λ p. p) bytes.now at.old at.new result }
+{
+    take_text(bytes, at, &PROOF_MAGIC)?;
+    take_by_kind(alloc, bytes, at)
+}
+
+/// The proof that the bytes spell, from first to last. Malformed exactly where they spell none, with
+/// the place of the first byte at which no proof goes on. Takes no more memory than the proof's labels,
+/// event and nodes.
+#[tactic(auto)]
+pub fn read_proof(alloc: Global, bytes: &[u8]) -> Result<Proof, ReadFault>
+    // Bytes are read as a proof exactly where they spell one, with that proof; else the length of the longest front
+    // that some proof begins with is told.
+    ensures read { ReadsAs (λ p. p) proof_layout bytes.now result }
+    ensures range { IfOk result IsInRange }
+{
+    let mut at = 0;
+    let read = take_proof(alloc, bytes, &mut at);
+    whole_to(bytes, at, read)
+}

@@ -1,0 +1,142 @@
+// Disks that are files. Each fact stands in a function that answers yes or no, since a test of few facts is quick to prove.
+
+use crate::folders::{make_folder, remove_folder, size_of, write_file};
+use tw_disk::Disk;
+use tw_hostio::{Access, FileDisk};
+
+// Writes a page full of this byte, and tells whether that went well.
+fn put(disk: &mut FileDisk<HostRuntime>, page: u64, byte: u8) -> bool {
+    match disk.pages() {
+        Ok(count) if page <= count => disk.write(page, &[byte; 4096]).is_ok(),
+        _ => false,
+    }
+}
+
+// Whether the page is there, and begins and ends with this byte.
+fn is_page(disk: &mut FileDisk<HostRuntime>, page: u64, byte: u8) -> bool {
+    let mut into = [0; 4096];
+    match disk.pages() {
+        Ok(count) if page < count => {
+            disk.read(page, &mut into).is_ok() && into[0] == byte && into[4095] == byte
+        }
+        _ => false,
+    }
+}
+
+// Whether the disk has so many pages.
+fn has_pages(disk: &mut FileDisk<HostRuntime>, pages: u64) -> bool {
+    disk.pages() == Ok(pages)
+}
+
+// Whether no page can be read or written, since the file's folder isn't there.
+fn is_nowhere(rt: &HostRuntime, path: &str, access: Access) -> bool {
+    let mut disk = FileDisk::new(rt, path, access);
+    let fails = disk.pages().is_err();
+    fails && disk.barrier().is_err()
+}
+
+#[test]
+fn a_disk_is_made_by_its_first_call(rt: HostRuntime) {
+    let path = "tw_disktests_made/disk";
+    assert!(rt; make_folder(&rt, "tw_disktests_made"));
+    let mut disk = FileDisk::new(&rt, path, Access::Write);
+    assert!(rt; size_of(&rt, path).is_none());
+    assert!(rt; disk.barrier().is_ok());
+    assert!(rt; size_of(&rt, path) == Some(0));
+    assert!(rt; has_pages(&mut disk, 0));
+    assert!(rt; remove_folder(&rt, "tw_disktests_made"));
+}
+
+#[test]
+fn a_disk_lies_in_its_file(rt: HostRuntime) {
+    let path = "tw_disktests_lies/disk";
+    assert!(rt; make_folder(&rt, "tw_disktests_lies"));
+    let mut disk = FileDisk::new(&rt, path, Access::Write);
+    assert!(rt; put(&mut disk, 0, 5));
+    assert!(rt; put(&mut disk, 1, 6));
+    assert!(rt; put(&mut disk, 2, 7));
+    assert!(rt; put(&mut disk, 1, 8));
+    assert!(rt; has_pages(&mut disk, 3));
+    assert!(rt; is_page(&mut disk, 1, 8));
+    assert!(rt; !is_page(&mut disk, 3, 0));
+    assert!(rt; size_of(&rt, path) == Some(3 * 4096));
+    assert!(rt; remove_folder(&rt, "tw_disktests_lies"));
+}
+
+#[test]
+fn a_disk_without_a_folder(rt: HostRuntime) {
+    let path = "tw_disktests_nowhere/disk";
+    assert!(rt; is_nowhere(&rt, path, Access::Write));
+    assert!(rt; is_nowhere(&rt, path, Access::Read));
+}
+
+// The first disk's count stands where the file was cut; a read of a page that is gone is a fault.
+#[test]
+fn a_file_that_was_cut(rt: HostRuntime) {
+    let path = "tw_disktests_cut/disk";
+    assert!(rt; make_folder(&rt, "tw_disktests_cut"));
+    let mut disk = FileDisk::new(&rt, path, Access::Write);
+    assert!(rt; put(&mut disk, 0, 5));
+    assert!(rt; put(&mut disk, 1, 6));
+    assert!(rt; write_file(&rt, path, &[9; 4096 + 100]));
+    assert!(rt; has_pages(&mut disk, 2));
+    assert!(rt; is_page(&mut disk, 0, 9));
+    assert!(rt; !is_page(&mut disk, 1, 6));
+    assert!(rt; remove_folder(&rt, "tw_disktests_cut"));
+}
+
+// The bytes of half a page at its end are no page, and are written over.
+#[test]
+fn a_file_that_ends_within_a_page(rt: HostRuntime) {
+    let path = "tw_disktests_half/disk";
+    assert!(rt; make_folder(&rt, "tw_disktests_half"));
+    assert!(rt; write_file(&rt, path, &[9; 4096 + 100]));
+    let mut disk = FileDisk::new(&rt, path, Access::Write);
+    assert!(rt; has_pages(&mut disk, 1));
+    assert!(rt; is_page(&mut disk, 0, 9));
+    assert!(rt; put(&mut disk, 1, 4));
+    assert!(rt; is_page(&mut disk, 1, 4));
+    assert!(rt; size_of(&rt, path) == Some(2 * 4096));
+    assert!(rt; remove_folder(&rt, "tw_disktests_half"));
+}
+
+// Without a file there are no pages, and none is made.
+#[test]
+fn a_disk_that_is_read_makes_no_file(rt: HostRuntime) {
+    let path = "tw_disktests_none/disk";
+    assert!(rt; make_folder(&rt, "tw_disktests_none"));
+    let mut none = FileDisk::new(&rt, path, Access::Read);
+    assert!(rt; none.barrier().is_ok());
+    assert!(rt; has_pages(&mut none, 0));
+    assert!(rt; !put(&mut none, 0, 5));
+    assert!(rt; size_of(&rt, path).is_none());
+    assert!(rt; remove_folder(&rt, "tw_disktests_none"));
+}
+
+// Two read at once, and neither writes.
+#[test]
+fn a_disk_that_is_read(rt: HostRuntime) {
+    let path = "tw_disktests_read/disk";
+    assert!(rt; make_folder(&rt, "tw_disktests_read"));
+    assert!(rt; write_file(&rt, path, &[9; 4096]));
+    let mut one = FileDisk::new(&rt, path, Access::Read);
+    let mut other = FileDisk::new(&rt, path, Access::Read);
+    assert!(rt; is_page(&mut one, 0, 9));
+    assert!(rt; is_page(&mut other, 0, 9));
+    assert!(rt; !put(&mut one, 1, 5));
+    assert!(rt; other.barrier().is_ok());
+    assert!(rt; size_of(&rt, path) == Some(4096));
+    assert!(rt; remove_folder(&rt, "tw_disktests_read"));
+}
+
+#[test]
+fn a_disk_in_the_folder_at_hand(rt: HostRuntime) {
+    let path = "tw_disktests_disk";
+    assert!(rt; write_file(&rt, path, b""));
+    let mut disk = FileDisk::new(&rt, path, Access::Write);
+    assert!(rt; put(&mut disk, 0, 5));
+    assert!(rt; disk.barrier().is_ok());
+    drop(disk);
+    let mut again = FileDisk::new(&rt, path, Access::Read);
+    assert!(rt; is_page(&mut again, 0, 5));
+}

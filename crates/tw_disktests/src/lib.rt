@@ -1,0 +1,25 @@
+//! Tests of the crates that work on files and disks: each public call that takes memory once, and calls that fail.
+#![tactic(auto)]
+
+#[cfg(test)]
+mod disk_runs;
+#[cfg(test)]
+mod disks;
+#[cfg(test)]
+mod file_disks;
+#[cfg(test)]
+mod file_inputs;
+#[cfg(test)]
+mod folders;
+#[cfg(test)]
+mod runs;
+#[cfg(test)]
+mod services;
+#[cfg(test)]
+mod showing;
+#[cfg(test)]
+mod skip_lists;
+#[cfg(test)]
+mod stores;
+#[cfg(test)]
+mod streams;

@@ -1,0 +1,144 @@
+// Steps in pages in memory: each call once, how many pages it reads, and a read that fails. The bytes of pages, and pages that
+// aren't of their kind, are shown by the acceptance run.
+
+ghost use Rattle.std.specs.Prelude.{◌^◌, ◌<◌, ◌≤◌, ◌≡◌, IfOk, [], ◌∷◌};
+
+use std::alloc::Global;
+use std::process::Abort;
+use std::test::Fail;
+use tw_base::{Bytes, Digest, EventList, Name, NoMemory, Root, Sha, event_leaf, genesis};
+use tw_disk::{MemPages, Pages};
+use tw_skiplist::{Head, ListFault, append, events, path, prove, step};
+use tw_skipproof::{check_opening, climb};
+
+/// The archive of each step: a label, and a root in page 3.
+const ARCHIVE: Root = Root {
+    page: 3,
+    label: Digest([7; 32]),
+};
+
+/// One event of one byte.
+fn one_event(alloc: Global) -> Result<EventList, NoMemory>
+    ensures { IfOk result (λ events. events ≡ (9 ∷ []) ∷ []) }
+{
+    let event = Bytes::from_slice(alloc, &[9])?;
+    let mut events = EventList::new(alloc);
+    events.push(event)?;
+    Ok(events)
+}
+
+/// The head of a history of no step, of the service `a`.
+fn no_step() -> Result<Head, Fail> {
+    let name = Name::read(b"a").ok_or("no name")?;
+    Ok(Head {
+        step: 0,
+        auth: genesis::<Sha>(&name),
+        page: 0,
+    })
+}
+
+/// Appends a step of one event.
+fn add(alloc: Global, pages: &mut MemPages, head: &Head) -> Result<Head, Fail>
+    ensures { IfOk result (λ new. new.step ≤ 1000) }
+{
+    let events = one_event(alloc)?;
+    if head.step >= 1000 || pages.used() >= 5000 {
+        return Err("full")?;
+    }
+    match append::<MemPages, Sha>(alloc, pages, head, &events, &ARCHIVE) {
+        Ok(new) => Ok(new),
+        Err(_) => Err("not appended")?,
+    }
+}
+
+/// A history of so many steps, from 1 on.
+fn steps(alloc: Global, pages: &mut MemPages, count: u32) -> Result<Head, Fail>
+    ensures { IfOk result (λ last. last.step ≤ 1000) }
+{
+    let mut last = add(alloc, pages, &no_step()?)?;
+    for _ in 1..count {
+        let next = add(alloc, pages, &last)?;
+        last = next;
+    }
+    if last.step > 1000 {
+        return Err("too many steps")?;
+    }
+    Ok(last)
+}
+
+/// Why the step isn't told.
+fn fault_at(alloc: Global, pages: &mut MemPages, head: &Head, i: u64) -> Option<ListFault>
+    requires { head.now.step ≤ 1000 }
+{
+    step::<MemPages, Sha>(alloc, pages, head, i).err()
+}
+
+#[test]
+fn a_step_is_told(rt: HostRuntime) -> Result<(), Fail> {
+    let mut pages = MemPages::new(rt.alloc())?;
+    let head = steps(rt.alloc(), &mut pages, 1)?;
+    assert_eq!(rt; head.page, 5);
+    let info = step::<MemPages, Sha>(rt.alloc(), &mut pages, &head, 1)?;
+    assert_eq!(rt; info.page, 5);
+    assert_eq!(rt; info.stream.page, 4);
+    assert_eq!(rt; info.stream.size, 5);
+    assert_eq!(rt; info.count, 1);
+    assert_eq!(rt; info.event_root, event_leaf::<Sha>(&[9]));
+    assert_eq!(rt; info.archive, ARCHIVE);
+    assert_eq!(rt; info.auth, head.auth);
+    assert_eq!(rt; check_opening::<Sha>(&info.opening, 1), Some(head.auth));
+    Ok(())
+}
+
+// From step 63 down to step 48 the greedy path has 4 links, and from there down to step 1 it has 6.
+#[test]
+fn each_page_is_read_once(rt: HostRuntime) -> Result<(), Fail> {
+    let mut pages = MemPages::new(rt.alloc())?;
+    let head = steps(rt.alloc(), &mut pages, 63)?;
+    let start = pages.reads();
+    assert_eq!(rt; fault_at(rt.alloc(), &mut pages, &head, 1), None);
+    assert_eq!(rt; pages.reads(), start.saturating_add(11));
+    let path = path::<MemPages, Sha>(rt.alloc(), &mut pages, &head, 48, 1)?;
+    assert_eq!(rt; path.links.as_slice().len(), 6);
+    assert_eq!(rt; pages.reads(), start.saturating_add(21));
+    let proof = prove::<MemPages, Sha>(rt.alloc(), &mut pages, &head, 63, 1)?;
+    assert_eq!(rt;
+        climb::<Sha>(&proof.path, 63, 1, &proof.info.auth),
+        Some(head.auth)
+    );
+    assert_eq!(rt; pages.reads(), start.saturating_add(32));
+    let events = events::<MemPages, Sha>(rt.alloc(), &mut pages, &head, 1)?;
+    assert_eq!(rt; events.len(), 1);
+    assert_eq!(rt; pages.reads(), start.saturating_add(44));
+    let next = add(rt.alloc(), &mut pages, &head)?;
+    assert_eq!(rt; next.step, 64);
+    assert_eq!(rt; pages.reads(), start.saturating_add(50));
+    Ok(())
+}
+
+#[test]
+fn what_is_not_there_is_told(rt: HostRuntime) -> Result<(), Fail> {
+    let mut pages = MemPages::new(rt.alloc())?;
+    let head = steps(rt.alloc(), &mut pages, 4)?;
+    for i in [0, 5] {
+        assert_eq!(rt;
+            fault_at(rt.alloc(), &mut pages, &head, i),
+            Some(ListFault::NoStep { last: 4 })
+        );
+    }
+    Ok(())
+}
+
+#[test]
+fn a_failed_read_is_told(rt: HostRuntime) -> Result<(), Fail> {
+    let mut pages = MemPages::new(rt.alloc())?;
+    let head = steps(rt.alloc(), &mut pages, 4)?;
+    for call in [1, 2] {
+        pages.fail(call)?;
+        assert_eq!(rt;
+            fault_at(rt.alloc(), &mut pages, &head, 1),
+            Some(ListFault::DiskFault)
+        );
+    }
+    Ok(())
+}

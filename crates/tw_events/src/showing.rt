@@ -1,0 +1,50 @@
+// The part of a proof that shows one event among the events of its step.
+
+ghost use Rattle.std.specs.Prelude.{◌≡◌, ℕ, ◌<◌, ◌≤◌, List, length, IfOk};
+ghost use Rattle.tw_base.specs.AuditPath.{ChecksEvent, path_length};
+ghost use Rattle.tw_base.specs.EventParts.{event_part as event_part_of};
+ghost use Rattle.tw_base.specs.EventTree.{event_root as event_root_of};
+ghost use Rattle.tw_base.specs.Lists.{Each};
+ghost use Rattle.tw_base.specs.declared.limits.TheConstants.{MOST_EVENTS, MOST_EVENT_BYTES};
+
+use crate::check::root_above_leaf;
+use crate::path::event_path;
+use std::alloc::Global;
+use tw_base::{Bytes, Digest, EventPart, Hasher, NoMemory, event_leaf, sides_of};
+
+/// The event of that index (from 0) among at most 1,024 events, each of at most 1,024 bytes, with its
+/// audit path. With it the event checks under the root of the events. Copies the one event, and hashes
+/// each text of the others at most once.
+pub fn event_part<H: Hasher>(
+    alloc: Global,
+    events: &[Bytes],
+    index: u32,
+) -> Result<EventPart, NoMemory>
+    requires inside { index < length events.now }
+    requires few { length events.now ≤ MOST_EVENTS }
+    requires small { Each (λ event. length event ≤ MOST_EVENT_BYTES) events.now }
+    // What is told of an event is the event at its index among the events, and its audit path of RFC 6962.
+    ensures part { IfOk result (λ part. part ≡ event_part_of H.dig events.now index) }
+    // With it the event checks under the root of the events.
+    ensures checks { IfOk result (λ part. ChecksEvent H.dig (event_root_of H.dig events.now) (length events.now) part.index part.event part.path) }
+    ensures small { IfOk result (λ part. length part.event ≤ MOST_EVENT_BYTES) }
+{
+    let path = event_path::<H>(alloc, events, index)?;
+    let event = Bytes::from_slice(alloc, events[index as usize].as_slice())?;
+    Ok(EventPart { index, event, path })
+}
+
+/// The root of at most 1,024 events, computed from what `event_part` told of one of them, which has at
+/// most 1,024 bytes: so nothing that its path was computed from is hashed again. Takes no memory.
+pub fn root_over<H: Hasher>(part: &EventPart, count: u32) -> Digest
+    requires inside { part.now.index < count }
+    requires few { count ≤ MOST_EVENTS }
+    requires small { length part.now.event ≤ MOST_EVENT_BYTES }
+    requires path { length part.now.path ≡ path_length count part.now.index }
+    // Where an event checks under a root, what its path leads to is that root.
+    ensures { (root : List ℕ) → ChecksEvent H.dig root count part.now.index part.now.event part.now.path → result ≡ root }
+{
+    let sides = sides_of(count as usize, part.index as usize);
+    let leaf = event_leaf::<H>(part.event.as_slice());
+    root_above_leaf::<H>(sides, part.path.as_slice(), leaf)
+}

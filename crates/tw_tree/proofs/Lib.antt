@@ -1,0 +1,5 @@
+pub mod KeyTests
+pub mod Asked
+pub mod Members
+mod Leaves
+mod Steps

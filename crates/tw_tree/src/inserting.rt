@@ -1,0 +1,88 @@
+// One entry more.
+
+ghost use Rattle.std.specs.Prelude.{◌≡◌, IfOk};
+ghost use Rattle.std.specs.Ordering.{is_lt};
+ghost use Rattle.tw_base.specs.Tree.{IsRising, entries};
+ghost use Rattle.tw_tree.specs.Inserting.{Inserts, with_leaf};
+ghost use Rattle.tw_tree.specs.TreeMeaning.{tree_of};
+
+use crate::searching::{get, is_below};
+use crate::tree::Tree;
+use std::alloc::Global;
+use tw_base::{Entry, NoMemory, entry_key};
+
+/// Why an entry isn't put into a tree.
+#[derive(Clone, Copy, PartialEq, Eq, Debug, Drop)]
+pub enum InsertFault {
+    /// The tree has an entry of this key.
+    Present,
+    /// There was no memory.
+    NoMemory,
+}
+
+impl From<NoMemory> for InsertFault {
+    ghost use Rattle.std.specs.Prelude.{◌≡◌};
+    ghost use Rattle.tw_tree.specs.declared.inserting.InsertFault.TheVariants.{NoMemory as WantedMemory};
+
+    ghost from_gives = { λ _ fault. fault ≡ WantedMemory };
+
+    fn from(_none: NoMemory) -> Self {
+        InsertFault::NoMemory
+    }
+}
+
+/// A tree like this one. Calls itself as deep as the tree is high.
+fn copy(alloc: Global, tree: &Tree) -> Result<Tree, NoMemory>
+    ensures { IfOk result (λ copied. tree_of copied ≡ tree_of tree.now) }
+{
+    match tree {
+        Tree::Empty => Ok(Tree::Empty),
+        Tree::Branch { left, entry, right } => {
+            let left = copy(alloc, left)?;
+            let right = copy(alloc, right)?;
+            Tree::branch(alloc, left, *entry, right)
+        }
+    }
+}
+
+/// A copy of the tree, with the entry at the empty place to which its key leads. Calls itself as
+/// deep as the tree is high.
+#[tactic(auto, unfolding(crate::specs::Inserting::with_leaf))]
+fn grown(alloc: Global, tree: &Tree, entry: &Entry) -> Result<Tree, NoMemory>
+    ensures { IfOk result (λ new. tree_of new ≡ with_leaf (tree_of tree.now) entry.now) }
+{
+    match tree {
+        Tree::Empty => Tree::branch(alloc, Tree::Empty, *entry, Tree::Empty),
+        Tree::Branch {
+            left,
+            entry: here,
+            right,
+        } => {
+            if is_below(&entry_key(entry), &entry_key(here)) {
+                let left = grown(alloc, left, entry)?;
+                let right = copy(alloc, right)?;
+                Tree::branch(alloc, left, *here, right)
+            } else {
+                let left = copy(alloc, left)?;
+                let right = grown(alloc, right, entry)?;
+                Tree::branch(alloc, left, *here, right)
+            }
+        }
+    }
+}
+
+/// A new tree that has the entry too, at the empty place to which its key leads; the tree is left
+/// as it is, and its nodes are copied. The tree's keys rise. `Present` exactly where it has an entry
+/// of the key; `NoMemory`: there was no memory. Calls itself as deep as the tree is high.
+pub fn insert_plain(alloc: Global, tree: &Tree, entry: Entry) -> Result<Tree, InsertFault>
+    requires { IsRising (entries (tree_of tree.now)) }
+    // An entry is put into a tree whose keys rise at the empty place to which its key leads, so that the list of
+    // entries has it in its place, and rises still; `Present` is answered exactly where the key is there.
+    ensures { Inserts (tree_of tree.now) entry result }
+{
+    if get(tree, &entry_key(&entry)).is_some() {
+        return Err(InsertFault::Present);
+    }
+    let new = grown(alloc, tree, &entry)?;
+    Ok(new)
+}

@@ -1,0 +1,7 @@
+mod Climbs
+mod Counts
+pub mod LawfulCodecs
+pub mod Places
+pub mod Ways
+pub mod OwnProofs
+mod Binding

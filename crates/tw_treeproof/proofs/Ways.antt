@@ -1,0 +1,163 @@
+-- The nodes above the place to which a question leads: their label, and the nearest of them on either side.
+use Rattle.std.proofs.Common.{◌≡◌, ℕ, List, [], ◌∷◌, ◌++◌, Bool, true, false, refl, ap, sym, ◌∙◌, subst}
+use Rattle.std.specs.Prelude.{Option, Some, None, not, if◌then◌else◌}
+use Rattle.std.specs.Option.{option_or}
+use Rattle.std.specs.Ordering.{is_lt}
+use Rattle.tw_base.specs.declared.thread.Entry.{Entry}
+use Rattle.tw_base.specs.declared.thread.Key.{Key}
+use Rattle.tw_base.specs.declared.tree_proof.Ancestor.{Ancestor}
+use Rattle.tw_base.specs.declared.tree_proof.Ask.{Ask}
+use Rattle.tw_base.specs.declared.tree_proof.Ask.TheVariants.{Below, Above}
+use Rattle.tw_base.specs.Asking.{first_above, last_below}
+use Rattle.tw_base.specs.Auth.{tree_label}
+use Rattle.tw_base.specs.Entries.{entry_text, key_cmp, key_of}
+use Rattle.tw_base.specs.Lists.{Each}
+use Rattle.tw_base.specs.Tree.{Tree, IsRising, entries}
+use Rattle.tw_base.specs.Tree.Tree.{Empty, Branch}
+use Rattle.tw_base.proofs.ListLemmas.{Each-append}
+use Rattle.tw_tree.proofs.Asked.{above-left, above-right, below-left, below-right, cut, or-none}
+use Rattle.tw_treeproof.specs.Making.{ancestor, place_of, way_up}
+use Rattle.tw_treeproof.specs.Ways.{IsNotAsked, climbed, has_asked_key, is_left, nearest_left, nearest_right, over_text}
+use Rattle.tw_treeproof.proofs.Places.{down-here, down-left, down-right}
+
+module _ (dig : List ℕ → List ℕ) where
+  climb-one : (left : Entry → Bool) (up : List Ancestor) (a : Ancestor) (below : List ℕ) → climbed dig left (up ++ a ∷ []) below ≡ dig (over_text left a (climbed dig left up below))
+  unfolding climbed
+  climb-one left [] a below = refl
+  climb-one left (b ∷ up) a below = climb-one left up a (dig (over_text left b below))
+
+  climb-none : (left : Entry → Bool) (below : List ℕ) → climbed dig left [] below ≡ below
+  unfolding climbed
+  climb-none left below = refl
+
+  label-branch : (l : Tree) (e : Entry) (r : Tree) → dig (entry_text (tree_label dig l) e (tree_label dig r)) ≡ tree_label dig (Branch l e r)
+  unfolding tree_label
+  label-branch l e r = refl
+
+  -- the ways down from a node
+  module _ (ask : Ask) (l : Tree) (e : Entry) (r : Tree) where
+    pub way-here : has_asked_key ask e ≡ true → (way_up dig ask (Branch l e r) ≡ []) × (place_of ask (Branch l e r) ≡ Branch l e r)
+    unfolding way_up place_of
+    way-here is = (down-here _ (is_left ask e) _ _ _ is, down-here _ (is_left ask e) _ _ _ is)
+
+    pub way-left : has_asked_key ask e ≡ false → is_left ask e ≡ true
+        → (way_up dig ask (Branch l e r) ≡ way_up dig ask l ++ ancestor dig e r ∷ []) × (place_of ask (Branch l e r) ≡ place_of ask l)
+    unfolding way_up place_of
+    way-left is way = (down-left _ _ _ _ _ is way, down-left _ _ _ _ _ is way)
+
+    pub way-right : has_asked_key ask e ≡ false → is_left ask e ≡ false
+        → (way_up dig ask (Branch l e r) ≡ way_up dig ask r ++ ancestor dig e l ∷ []) × (place_of ask (Branch l e r) ≡ place_of ask r)
+    unfolding way_up place_of
+    way-right is way = (down-right _ _ _ _ _ is way, down-right _ _ _ _ _ is way)
+
+  -- the labels lead from the place up to the tree
+  pub way-climbs : (ask : Ask) (t : Tree) → climbed dig (is_left ask) (way_up dig ask t) (tree_label dig (place_of ask t)) ≡ tree_label dig t
+  unfolding climbed way_up place_of tree_label
+  way-climbs ask Empty = refl
+  way-climbs ask (Branch l e r) = by (has_asked_key ask e) (is_left ask e) refl refl (way-climbs ask l) (way-climbs ask r)
+    where
+      Leads : Tree → Type 0
+      Leads t = climbed dig (is_left ask) (way_up dig ask t) (tree_label dig (place_of ask t)) ≡ tree_label dig t
+
+      -- along these nodes and from this place
+      along : (up : List Ancestor) (place : Tree) → way_up dig ask (Branch l e r) ≡ up → place_of ask (Branch l e r) ≡ place
+          → climbed dig (is_left ask) up (tree_label dig place) ≡ tree_label dig (Branch l e r) → Leads (Branch l e r)
+      along up place ways places leads = ap (λ u. climbed dig (is_left ask) u (tree_label dig (place_of ask (Branch l e r)))) ways ∙ ap (λ p. climbed dig (is_left ask) up (tree_label dig p)) places ∙ leads
+
+      by : (meets left : Bool) → has_asked_key ask e ≡ meets → is_left ask e ≡ left → Leads l → Leads r → Leads (Branch l e r)
+      by true left is way one other = let here = way-here ask l e r is in along [] (Branch l e r) here.0 here.1 (climb-none (is_left ask) (tree_label dig (Branch l e r)))
+      by false true is way one other =
+          let down = way-left ask l e r is way in
+          along (way_up dig ask l ++ ancestor dig e r ∷ []) (place_of ask l) down.0 down.1
+          (climb-one (is_left ask) (way_up dig ask l) (ancestor dig e r) (tree_label dig (place_of ask l))
+          ∙ ap (λ b. dig (if b then entry_text (climbed dig (is_left ask) (way_up dig ask l) (tree_label dig (place_of ask l))) e (tree_label dig r) else entry_text (tree_label dig r) e (climbed dig (is_left ask) (way_up dig ask l) (tree_label dig (place_of ask l))))) way
+          ∙ ap (λ x. dig (entry_text x e (tree_label dig r))) one ∙ label-branch l e r)
+      by false false is way one other =
+          let down = way-right ask l e r is way in
+          along (way_up dig ask r ++ ancestor dig e l ∷ []) (place_of ask r) down.0 down.1
+          (climb-one (is_left ask) (way_up dig ask r) (ancestor dig e l) (tree_label dig (place_of ask r))
+          ∙ ap (λ b. dig (if b then entry_text (climbed dig (is_left ask) (way_up dig ask r) (tree_label dig (place_of ask r))) e (tree_label dig l) else entry_text (tree_label dig l) e (climbed dig (is_left ask) (way_up dig ask r) (tree_label dig (place_of ask r))))) way
+          ∙ ap (λ x. dig (entry_text (tree_label dig l) e x)) other ∙ label-branch l e r)
+
+  -- no node above the place has the asked key
+  pub way-free : (ask : Ask) (t : Tree) → Each (IsNotAsked ask) (way_up dig ask t)
+  unfolding way_up
+  way-free ask Empty = tt
+  way-free ask (Branch l e r) = by (has_asked_key ask e) (is_left ask e) refl refl (way-free ask l) (way-free ask r)
+    where
+      by : (meets left : Bool) → has_asked_key ask e ≡ meets → is_left ask e ≡ left → Each (IsNotAsked ask) (way_up dig ask l) → Each (IsNotAsked ask) (way_up dig ask r) → Each (IsNotAsked ask) (way_up dig ask (Branch l e r))
+      by true left is way one other = subst (Each (IsNotAsked ask)) (sym (way-here ask l e r is).0) tt
+      by false true is way one other = subst (Each (IsNotAsked ask)) (sym (way-left ask l e r is way).0) (Each-append (IsNotAsked ask) (way_up dig ask l) (ancestor dig e r ∷ []) one (is, tt))
+      by false false is way one other = subst (Each (IsNotAsked ask)) (sym (way-right ask l e r is way).0) (Each-append (IsNotAsked ask) (way_up dig ask r) (ancestor dig e l ∷ []) other (is, tt))
+
+  right-one : (left : Entry → Bool) (up : List Ancestor) (a : Ancestor) → nearest_right left (up ++ a ∷ []) ≡ option_or (nearest_right left up) (if left a.entry then None else Some a.entry)
+  right-one left [] a = refl
+  right-one left (b ∷ up) a = by (left b.entry) refl (right-one left up a)
+    where
+      last : Option Entry
+      last = if left a.entry then None else Some a.entry
+
+      by : (c : Bool) → left b.entry ≡ c → nearest_right left (up ++ a ∷ []) ≡ option_or (nearest_right left up) (if left a.entry then None else Some a.entry)
+          → (if left b.entry then nearest_right left (up ++ a ∷ []) else Some b.entry) ≡ option_or (if left b.entry then nearest_right left up else Some b.entry) (if left a.entry then None else Some a.entry)
+      by true is rest = ap (λ c. if c then nearest_right left (up ++ a ∷ []) else Some b.entry) is ∙ rest ∙ sym (ap (λ c. option_or (if c then nearest_right left up else Some b.entry) last) is)
+      by false is rest = ap (λ c. if c then nearest_right left (up ++ a ∷ []) else Some b.entry) is ∙ sym (ap (λ c. option_or (if c then nearest_right left up else Some b.entry) last) is)
+
+  left-one : (left : Entry → Bool) (up : List Ancestor) (a : Ancestor) → nearest_left left (up ++ a ∷ []) ≡ option_or (nearest_left left up) (if left a.entry then Some a.entry else None)
+  left-one left [] a = refl
+  left-one left (b ∷ up) a = by (left b.entry) refl (left-one left up a)
+    where
+      last : Option Entry
+      last = if left a.entry then Some a.entry else None
+
+      by : (c : Bool) → left b.entry ≡ c → nearest_left left (up ++ a ∷ []) ≡ option_or (nearest_left left up) (if left a.entry then Some a.entry else None)
+          → (if left b.entry then Some b.entry else nearest_left left (up ++ a ∷ [])) ≡ option_or (if left b.entry then Some b.entry else nearest_left left up) (if left a.entry then Some a.entry else None)
+      by true is rest = ap (λ c. if c then Some b.entry else nearest_left left (up ++ a ∷ [])) is ∙ sym (ap (λ c. option_or (if c then Some b.entry else nearest_left left up) last) is)
+      by false is rest = ap (λ c. if c then Some b.entry else nearest_left left (up ++ a ∷ [])) is ∙ rest ∙ sym (ap (λ c. option_or (if c then Some b.entry else nearest_left left up) last) is)
+
+  -- the nearest node at which the way to the key's place goes right has the last entry below the key
+  pub last-found : (key : Key) (t : Tree) → IsRising (entries t) → last_below (entries t) key ≡ nearest_right (is_left (Below key)) (way_up dig (Below key) t)
+  unfolding way_up
+  last-found key Empty rising = refl
+  last-found key (Branch l e r) rising =
+      let parts = cut (entries l) e (entries r) rising in
+      by (is_lt (key_cmp (key_of e) key)) refl (last-found key l parts.front_rises) (last-found key r parts.back_rises)
+    where
+      left : Entry → Bool
+      left = is_left (Below key)
+
+      Finds : Tree → Type 0
+      Finds t = last_below (entries t) key ≡ nearest_right (is_left (Below key)) (way_up dig (Below key) t)
+
+      by : (b : Bool) → is_lt (key_cmp (key_of e) key) ≡ b → Finds l → Finds r → Finds (Branch l e r)
+      by true is one other =
+          below-right key (entries l) e (entries r) rising is ∙ ap (λ o. option_or o (Some e)) other
+          ∙ sym (ap (λ b. option_or (nearest_right left (way_up dig (Below key) r)) (if not b then None else Some e)) is)
+          ∙ sym (right-one left (way_up dig (Below key) r) (ancestor dig e l)) ∙ sym (ap (nearest_right left) (way-right (Below key) l e r refl (ap not is)).0)
+      by false is one other =
+          below-left key (entries l) e (entries r) is ∙ one ∙ sym (or-none (nearest_right left (way_up dig (Below key) l)))
+          ∙ sym (ap (λ b. option_or (nearest_right left (way_up dig (Below key) l)) (if not b then None else Some e)) is)
+          ∙ sym (right-one left (way_up dig (Below key) l) (ancestor dig e r)) ∙ sym (ap (nearest_right left) (way-left (Below key) l e r refl (ap not is)).0)
+
+  -- and the nearest at which it goes left the first entry above it
+  pub first-found : (key : Key) (t : Tree) → IsRising (entries t) → first_above (entries t) key ≡ nearest_left (is_left (Above key)) (way_up dig (Above key) t)
+  unfolding way_up
+  first-found key Empty rising = refl
+  first-found key (Branch l e r) rising =
+      let parts = cut (entries l) e (entries r) rising in
+      by (is_lt (key_cmp key (key_of e))) refl (first-found key l parts.front_rises) (first-found key r parts.back_rises)
+    where
+      left : Entry → Bool
+      left = is_left (Above key)
+
+      Finds : Tree → Type 0
+      Finds t = first_above (entries t) key ≡ nearest_left (is_left (Above key)) (way_up dig (Above key) t)
+
+      by : (b : Bool) → is_lt (key_cmp key (key_of e)) ≡ b → Finds l → Finds r → Finds (Branch l e r)
+      by true is one other =
+          above-left key (entries l) e (entries r) is ∙ ap (λ o. option_or o (Some e)) one
+          ∙ sym (ap (λ b. option_or (nearest_left left (way_up dig (Above key) l)) (if b then Some e else None)) is)
+          ∙ sym (left-one left (way_up dig (Above key) l) (ancestor dig e r)) ∙ sym (ap (nearest_left left) (way-left (Above key) l e r refl is).0)
+      by false is one other =
+          above-right key (entries l) e (entries r) rising is ∙ other ∙ sym (or-none (nearest_left left (way_up dig (Above key) r)))
+          ∙ sym (ap (λ b. option_or (nearest_left left (way_up dig (Above key) r)) (if b then Some e else None)) is)
+          ∙ sym (left-one left (way_up dig (Above key) r) (ancestor dig e l)) ∙ sym (ap (nearest_left left) (way-right (Above key) l e r refl is).0)

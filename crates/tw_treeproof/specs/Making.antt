@@ -1,0 +1,61 @@
+-- The proof that a tree itself has of the answer to a question.
+use Rattle.std.specs.Prelude.{◌≡◌, ℕ, suc, max, List, [], ◌∷◌, ◌++◌, Result, Ok, Err, if◌then◌else◌}
+use Rattle.tw_base.specs.declared.thread.Entry.{Entry}
+use Rattle.tw_base.specs.declared.tree_proof.Ancestor.{Ancestor}
+use Rattle.tw_base.specs.declared.tree_proof.Ask.{Ask}
+use Rattle.tw_base.specs.declared.tree_proof.Ask.TheVariants.{Present, Absent, Below, Above}
+use Rattle.tw_base.specs.declared.tree_proof.TreeProof.{TreeProof}
+use Rattle.tw_base.specs.declared.tree_proof.TreeProof.TheVariants.{Present as OfEntry, Gap}
+use Rattle.tw_base.specs.Auth.{tree_label}
+use Rattle.tw_base.specs.Tree.{Tree, entries}
+use Rattle.tw_base.specs.Tree.Tree.{Empty, Branch}
+use Rattle.tw_treeproof.specs.declared.making.ProveFault.{ProveFault}
+use Rattle.tw_treeproof.specs.declared.making.ProveFault.TheVariants.{Untrue, NoMemory}
+use Rattle.tw_treeproof.specs.declared.shown.Shown.TheVariants.{Present as IsThere, Absent as IsNotThere}
+use Rattle.tw_treeproof.specs.Answers.{IsAnswer}
+use Rattle.tw_treeproof.specs.Ways.{has_asked_key, is_left}
+
+-- the most nodes on a way down
+unfoldable pub height : Tree → ℕ
+height Empty = 0
+height (Branch left e right) = suc (max (height left) (height right))
+
+-- the part of the tree at the asked place: the way down ends at the asked key, in a question for one key, and else at an
+-- empty place
+unfoldable pub place_of : Ask → Tree → Tree
+place_of ask Empty = Empty
+place_of ask (Branch left e right) =
+    if has_asked_key ask e then Branch left e right else (if is_left ask e then place_of ask left else place_of ask right)
+
+module _ (dig : List ℕ → List ℕ) where
+  abbrev pub ancestor : Entry → (other : Tree) → Ancestor
+  ancestor e other = record { entry = e; other = tree_label dig other }
+
+  -- the nodes above that place, nearest first
+  unfoldable pub way_up : Ask → Tree → List Ancestor
+  way_up ask Empty = []
+  way_up ask (Branch left e right) =
+      if has_asked_key ask e then []
+      else (if is_left ask e then way_up ask left ++ ancestor e right ∷ [] else way_up ask right ++ ancestor e left ∷ [])
+
+  -- the proof of a place below these nodes
+  abbrev pub proof_at : (place : Tree) → List Ancestor → TreeProof
+  proof_at Empty up = Gap up
+  proof_at (Branch left e right) up = OfEntry (tree_label dig left) (tree_label dig right) up
+
+  -- the proof that the tree has, where what is asked is so
+  abbrev pub proof_of : Tree → Ask → TreeProof
+  proof_of t ask = proof_at (place_of ask t) (way_up ask t)
+
+-- what is asked is so of the entries; that there is an entry next to a key, or none, always is
+abbrev pub IsSo : List Entry → Ask → Type 0
+IsSo es (Present e) = IsAnswer es (Present e) IsThere
+IsSo es (Absent key) = IsAnswer es (Absent key) IsNotThere
+IsSo es (Below key) = Unit {0}
+IsSo es (Above key) = Unit {0}
+
+-- what is asked is so, and this is the tree's proof; or it isn't so. Want of memory is free
+abbrev pub Proves : (dig : List ℕ → List ℕ) → Tree → Ask → Result TreeProof ProveFault → Type 0
+Proves dig t ask (Ok proof) = IsSo (entries t) ask × (proof ≡ proof_of dig t ask)
+Proves dig t ask (Err Untrue) = IsSo (entries t) ask → ⊥
+Proves dig t ask (Err NoMemory) = Unit {0}

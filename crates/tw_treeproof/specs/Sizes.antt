@@ -1,0 +1,20 @@
+-- What the types of a tree proof keep: digests of 32 bytes, and fields that fit the text of a node.
+use Rattle.std.specs.Prelude.{◌≡◌, List, length}
+use Rattle.tw_base.specs.declared.tree_proof.Ancestor.{Ancestor}
+use Rattle.tw_base.specs.declared.tree_proof.Ask.{Ask}
+use Rattle.tw_base.specs.declared.tree_proof.Ask.TheVariants.{Present}
+use Rattle.tw_base.specs.declared.tree_proof.TreeProof.{TreeProof}
+use Rattle.tw_base.specs.declared.tree_proof.TreeProof.TheVariants.{Present as OfEntry}
+use Rattle.tw_base.specs.Entries.{IsFit}
+use Rattle.tw_base.specs.Lists.{Each}
+use Rattle.tw_treeproof.specs.Answers.{ancestors_of}
+
+abbrev pub HasSizes : List Ancestor → Type 0
+HasSizes = Each (λ a. (length a.other ≡ 32) × IsFit a.entry)
+
+abbrev pub HasPlaceSizes : Ask → TreeProof → Type 0
+HasPlaceSizes (Present e) (OfEntry left right up) = (length left ≡ 32) × (length right ≡ 32) × IsFit e
+HasPlaceSizes ask proof = Unit {0}
+
+abbrev pub HasProofSizes : Ask → TreeProof → Type 0
+HasProofSizes ask proof = HasPlaceSizes ask proof × HasSizes (ancestors_of proof)

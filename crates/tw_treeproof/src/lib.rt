@@ -1,0 +1,21 @@
+// Proofs over the tree of an archive: that it has an entry, that it lacks one, and which entry is
+// next to a key.
+#![tactic(auto)]
+
+mod checking;
+mod laws;
+mod limits;
+mod making;
+mod reading;
+mod shown;
+mod way;
+mod writing;
+
+pub use checking::check;
+pub use laws::{tree_proof_laws, tree_proof_spelling_laws};
+pub use limits::{MOST_ABOVE_ENTRY, MOST_ABOVE_PLACE};
+pub use making::{ProveFault, prove};
+pub use reading::{take_entry, take_gap, take_present};
+pub use shown::Shown;
+pub use tw_base::{Ancestor, AncestorList, Ask, TreeProof};
+pub use writing::{put_entry, put_tree_proof};

@@ -1,0 +1,48 @@
+// The way down to an asked place.
+
+ghost use Rattle.std.specs.Prelude.{◌≡◌};
+ghost use Rattle.std.specs.Ordering.{is_eq, is_lt};
+ghost use Rattle.tw_base.specs.Entries.{key_cmp};
+ghost use Rattle.tw_treeproof.specs.Ways.{has_asked_key, is_left};
+
+use std::cmp::Ordering;
+use tw_base::{Ask, Entry, Key, compare_keys, entry_key};
+
+/// Whether the first key is below the second.
+fn is_below(a: &Key, b: &Key) -> bool
+    ensures { result ≡ is_lt (key_cmp a.now b.now) }
+{
+    compare_keys(a, b) == Ordering::Less
+}
+
+/// Whether the keys are one.
+fn is_same_key(a: &Key, b: &Key) -> bool
+    ensures { result ≡ is_eq (key_cmp a.now b.now) }
+{
+    compare_keys(a, b) == Ordering::Equal
+}
+
+/// Whether the way down goes left at the entry.
+pub(crate) fn goes_left(ask: &Ask, entry: &Entry) -> bool
+    ensures { result ≡ is_left ask.now entry.now }
+{
+    let here = entry_key(entry);
+    match ask {
+        Ask::Present(asked) => is_below(&entry_key(asked), &here),
+        Ask::Absent(key) => is_below(key, &here),
+        Ask::Below(key) => !is_below(&here, key),
+        Ask::Above(key) => is_below(key, &here),
+    }
+}
+
+/// Whether the entry has the asked key, in a question for one key.
+pub(crate) fn meets(ask: &Ask, entry: &Entry) -> bool
+    ensures { result ≡ has_asked_key ask.now entry.now }
+{
+    let here = entry_key(entry);
+    match ask {
+        Ask::Present(asked) => is_same_key(&entry_key(asked), &here),
+        Ask::Absent(key) => is_same_key(key, &here),
+        Ask::Below(_) | Ask::Above(_) => false,
+    }
+}

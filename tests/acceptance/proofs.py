@@ -1,0 +1,231 @@
+"""Proofs over one history in Python over hashlib: how they are made, read, judged and reported.
+
+    EXISTS  an event stands in a step                      head, path, opening, event part
+    THREAD  an archive has a thread                        head, path, opening, entry, tree proof of its presence
+    ABSENT  an archive has no thread of a service's step   head, path, opening, name, step, tree proof of its absence
+    LINK    a step has an authenticator                    head, authenticator, path
+
+The head has the service, the step and the top, which is the step of the anchor; the path leads from the top to the step. The archive is
+that after the step. The acceptance cases take from here what the program is to say of any bytes.
+"""
+
+from reference import (
+    LAST_STEP, Malformed, Reader, accepted_text, authenticator, be, climbed, datum, dig, greedy_steps, head_bytes, link_label, padded,
+    part_bytes, path_bytes, path_length, root_from_path, top_level,
+)
+from trees import absent, checked, present, proof_over, read_entry, read_tree_proof
+
+EXISTS, PRECEDES, THREAD, ABSENT, LINK = KINDS = range(1, 6)
+
+# The kinds that the program judges; of the others it says that they aren't built.
+BUILT_KINDS = (EXISTS,)
+
+
+# The sizes of hashed texts: of a link, of the datum of a step without a time, of a node of an archive's tree.
+LINK_SIZE, DATUM_SIZE, NODE_SIZE = 74, 69, 129
+
+
+# ---- making
+
+
+def thread_bytes(part, entry, shown):
+    """The proof of a thread, from its front and its tree proof."""
+    return part + entry.bytes() + shown.bytes()
+
+
+def absent_bytes(part, key, shown):
+    """The proof that a thread is absent, from its front and its tree proof."""
+    return part + padded(key[0]) + be(key[1], 8) + shown.bytes()
+
+
+def thread_proof(line, tree, step, top, entry):
+    """The proof that the step's archive, which is this tree, has the entry."""
+    return thread_bytes(part_bytes(THREAD, line, step, top), entry, proof_over(tree, present(entry)))
+
+
+def absent_proof(line, tree, step, top, key):
+    """The proof that the step's archive, which is this tree, has no thread of this service and step."""
+    return absent_bytes(part_bytes(ABSENT, line, step, top), key, proof_over(tree, absent(*key)))
+
+
+def link_bytes(name, step, top, auth, path):
+    """The proof of a step's authenticator, from its fields."""
+    return head_bytes(LINK, name, step, top) + auth + path
+
+
+def link_proof(line, step, top):
+    """The proof of the step's authenticator."""
+    return link_bytes(line.name, step, top, line.auths[step], path_bytes(line, top, step))
+
+
+# ---- reports
+
+
+def thread_text(service, step, entry):
+    """What is written where the archive after the step has the entry."""
+    return f"accepted thread\nthread {service} {step} {entry.service} {entry.step} {entry.auth.hex()} {entry.archived}\n"
+
+
+def absent_text(service, step, key):
+    """What is written where the archive after the step has no thread of this service and step."""
+    return f"accepted absent\nabsent {service} {step} {key[0]} {key[1]}\n"
+
+
+def link_text(service, step, top, auth):
+    """What is written where the step has this authenticator."""
+    return f"accepted link\nlink {service} {step} {top} {auth.hex()}\n"
+
+
+# ---- what is hashed
+
+
+def part_sizes(step, top):
+    """The sizes of the texts that checking a step's opening and the path to it from its top hashes, each once."""
+    levels = [top_level(start) for start in greedy_steps(top, step)[:-1]]
+    links = [size for level in levels for size in (LINK_SIZE, 10 + 32 * (level + 1))]
+    return [DATUM_SIZE, LINK_SIZE, 10 + 32 * (top_level(step) + 1), *links]
+
+
+def blocks(sizes):
+    """How many blocks of 64 bytes SHA-256 hashes of texts of these sizes: the last of a text has a byte and its length beside it."""
+    return sum((size + 9 + 63) // 64 for size in sizes)
+
+
+# ---- reading and judging
+
+
+class Opening:
+    """The opening of a step, whose count of events is at least this."""
+
+    def __init__(self, read, step, least):
+        self.event_root, self.archive = read.digests(2)
+        self.count, self.time = read.timed_count(least)
+        self.prev = read.bytes(32)
+        self.others = read.digests(top_level(step))
+
+    def authenticator(self, step):
+        """That of the step, computed."""
+        own = datum(self.event_root, self.archive, self.count, self.time)
+        return authenticator(step, [link_label(step, 0, own, self.prev), *self.others])
+
+
+class Claim:
+    """What a proof claims beside its head: it reads its fields, behind the opening where there is one."""
+
+    def __init__(self, read, opening):
+        pass
+
+    def is_in_order(self, step):
+        """Whether its own steps are in order with the proof's."""
+        return True
+
+    def reason(self, opening):
+        """The reason that stands against it under an opening, or None."""
+        return None
+
+    def report(self, proof):
+        """What is written where nothing stands against it."""
+        raise NotImplementedError
+
+
+class EventClaim(Claim):
+    """An event, its index and its audit path."""
+
+    def __init__(self, read, opening):
+        self.index = read.number(4, 0, opening.count - 1)
+        self.event = read.bytes(read.number(4, 0, 1024))
+        self.path = read.digests(path_length(opening.count, self.index))
+
+    def reason(self, opening):
+        root = root_from_path(opening.count, self.index, dig(b"\x00" + self.event), self.path)
+        return None if root == opening.event_root else "6 BadEvent 0"
+
+    def report(self, proof):
+        return accepted_text(proof.service, proof.step, self.index, self.event, proof.opening.time)
+
+
+class TreeClaim(Claim):
+    """A claim about the archive: its answer to the question `ask` is that of this name."""
+
+    def reason(self, opening):
+        shown = checked(opening.archive, self.ask, self.shown).answer
+        return None if shown == self.ask.question.value else "7 BadTree 0"
+
+
+class ThreadClaim(TreeClaim):
+    """A thread that is in the archive."""
+
+    def __init__(self, read, opening):
+        self.ask = present(read_entry(read))
+        self.shown = read_tree_proof(read, has_sides=True)
+
+    def is_in_order(self, step):
+        return self.ask.entry.archived <= step
+
+    def report(self, proof):
+        return thread_text(proof.service, proof.step, self.ask.entry)
+
+
+class AbsentClaim(TreeClaim):
+    """A service and a step of which the archive has no thread."""
+
+    def __init__(self, read, opening):
+        self.ask = absent(read.name(), read.number(8, 1, LAST_STEP))
+        self.shown = read_tree_proof(read, has_sides=False)
+
+    def report(self, proof):
+        return absent_text(proof.service, proof.step, self.ask.key)
+
+
+class LinkClaim(Claim):
+    """The authenticator in the head, and nothing beside it."""
+
+    def report(self, proof):
+        return link_text(proof.service, proof.step, proof.top, proof.auth)
+
+
+CLAIMS = {EXISTS: EventClaim, THREAD: ThreadClaim, ABSENT: AbsentClaim, LINK: LinkClaim}
+
+
+class Proof:
+    """A proof that the bytes spell; raises Malformed where they spell none. `auth` is the step's authenticator, as the proof gives it
+    or as its opening computes it."""
+
+    def __init__(self, data):
+        read = Reader(data)
+        read.text(b"TWP1")
+        kind = read.byte(lambda b: b in CLAIMS)
+        self.service = read.name()
+        self.step = read.number(8, 0 if kind == LINK else 1, LAST_STEP)
+        self.top = read.number(8, 1, LAST_STEP)
+        self.auth = read.bytes(32) if kind == LINK else None
+        self.path = [(read.bytes(32), read.digests(top_level(start))) for start in greedy_steps(self.top, self.step)[:-1]]
+        self.opening = None if kind == LINK else Opening(read, self.step, 1 if kind == EXISTS else 0)
+        self.claim = CLAIMS[kind](read, self.opening)
+        read.end()
+        if self.opening:
+            self.auth = self.opening.authenticator(self.step)
+
+    def reasons(self, anchors):
+        """The reasons that stand against it, by their numbers, under anchors: the step and the authenticator held of each service."""
+        if self.step > self.top or not self.claim.is_in_order(self.step):
+            yield "2 BadOrder"
+        held, auth = anchors.get(self.service, (None, None))
+        if held != self.top:
+            yield f"3 NotHeld {self.service} {self.top}"
+        if climbed(self.path, self.top, self.step, self.auth) != auth:
+            yield "4 BadPath 0"
+        if reason := self.claim.reason(self.opening):
+            yield reason
+
+
+def verdict(data, anchors):
+    """What the program writes of the bytes of a proof under these anchors, and its status."""
+    if data[:4] == b"TWP1" and len(data) > 4 and data[4] in set(KINDS) - set(BUILT_KINDS):
+        return "rejected 9 Unbuilt\n", 1
+    try:
+        proof = Proof(data)
+    except Malformed as bad:
+        return f"rejected 1 Malformed {bad.place}\n", 1
+    reason = next(proof.reasons(anchors), None)
+    return (f"rejected {reason}\n", 1) if reason else (proof.claim.report(proof), 0)
