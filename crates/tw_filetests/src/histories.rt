@@ -7,14 +7,16 @@ use tw_history::{
     History, HistoryFault, Nodes, Steps, auth_of, is_sound, read_history, show_event, write_history,
 };
 
-/// The file of the history of the service `a` with one step, of one event of no bytes.
-fn event_file() -> &'static [u8] {
-    b"TWH1a\0\0\0\0\0\0\0\0\0\0\0\0\0\0\0\0\0\0\0\0\0\0\x01\x01\0\0\0\x01\0\0\0\0\0\0\0\0\0\0"
-}
-
-/// The file of the history of the service `a` with one step, of one event of no bytes, at the time 5.
-fn timed_file() -> &'static [u8] {
-    b"TWH1a\0\0\0\0\0\0\0\0\0\0\0\0\0\0\0\0\0\0\0\0\0\0\x01\x03\0\0\0\0\0\0\0\x05\0\0\0\x01\0\0\0\0\0\0\0\0\0\0"
+/// The file of the history of the service `a` with one step of one event of no bytes, which begins with these bytes.
+fn event_file(alloc: Global, begin: &[u8]) -> Result<Bytes, NoMemory> {
+    let mut file = Bytes::new(alloc);
+    file.extend_from_slice(b"TWH1a")?;
+    file.extend_from_slice(&[0; 22])?;
+    file.extend_from_slice(&[1])?;
+    file.extend_from_slice(begin)?;
+    file.extend_from_slice(&[0, 0, 0, 1])?;
+    file.extend_from_slice(&[0; 10])?;
+    Ok(file)
 }
 
 /// The file of the history of the service `a` with three steps without events, of which the first
@@ -54,31 +56,44 @@ fn short(first: u8) -> Digest {
     Digest(bytes)
 }
 
-/// The history of a file, sound, and its file written anew.
-fn read_and_written(alloc: Global, file: &[u8]) -> Result<(History, Bytes), HistoryFault> {
+/// Whether the file is that of a sound history, which is written as the same bytes.
+fn is_kept(alloc: Global, file: &[u8]) -> Result<bool, HistoryFault> {
     let history = read_history(alloc, file)?;
     is_sound(alloc, &history)?;
     let written = write_history(alloc, &history)?;
-    Ok((history, written))
+    Ok(written.as_slice() == file)
+}
+
+/// The authenticator of step 1 of a file's history.
+fn first_auth(alloc: Global, file: &[u8]) -> Result<Option<Digest>, HistoryFault> {
+    let history = read_history(alloc, file)?;
+    Ok(auth_of::<Weak>(alloc, &history, 1)?)
+}
+
+/// How many bytes the proof of the first event of a file's history has.
+fn shown(alloc: Global, file: &[u8]) -> Option<usize> {
+    let history = read_history(alloc, file).ok()?;
+    match show_event::<Weak>(alloc, &history, 1, 0) {
+        Ok(bytes) => Some(bytes.len()),
+        Err(_) => None,
+    }
 }
 
 #[test]
 fn a_step_of_an_event(rt: HostRuntime) -> Result<(), Fail> {
-    let alloc = rt.alloc();
-    let (history, written) = read_and_written(alloc, event_file())?;
-    assert!(rt; written.as_slice() == event_file());
-    assert_eq!(rt; auth_of::<Weak>(alloc, &history, 1)?, Some(short(0xbf)));
-    assert!(rt; show_event::<Weak>(alloc, &history, 1, 0)?.len() == 145);
+    let file = event_file(rt.alloc(), &[1])?;
+    assert!(rt; is_kept(rt.alloc(), file.as_slice()) == Ok(true));
+    assert!(rt; first_auth(rt.alloc(), file.as_slice()) == Ok(Some(short(0xbf))));
+    assert!(rt; shown(rt.alloc(), file.as_slice()) == Some(145));
     Ok(())
 }
 
 #[test]
 fn a_step_with_a_time(rt: HostRuntime) -> Result<(), Fail> {
-    let alloc = rt.alloc();
-    let (history, written) = read_and_written(alloc, timed_file())?;
-    assert!(rt; written.as_slice() == timed_file());
-    assert_eq!(rt; auth_of::<Weak>(alloc, &history, 1)?, Some(short(0xc7)));
-    assert!(rt; show_event::<Weak>(alloc, &history, 1, 0)?.len() == 153);
+    let file = event_file(rt.alloc(), &[3, 0, 0, 0, 0, 0, 0, 0, 5])?;
+    assert!(rt; is_kept(rt.alloc(), file.as_slice()) == Ok(true));
+    assert!(rt; first_auth(rt.alloc(), file.as_slice()) == Ok(Some(short(0xc7))));
+    assert!(rt; shown(rt.alloc(), file.as_slice()) == Some(153));
     Ok(())
 }
 
@@ -95,8 +110,7 @@ fn times_that_fall(rt: HostRuntime) -> Result<(), Fail> {
 #[test]
 fn a_step_of_a_thread(rt: HostRuntime) -> Result<(), Fail> {
     let file = thread_file(rt.alloc())?;
-    let (_, written) = read_and_written(rt.alloc(), file.as_slice())?;
-    assert!(rt; written.as_slice() == file.as_slice());
+    assert!(rt; is_kept(rt.alloc(), file.as_slice()) == Ok(true));
     Ok(())
 }
 

@@ -1,6 +1,9 @@
 // A proof, an opening and a path written, read back and checked. Longer paths, the bytes of each format changed and cut,
 // and authenticators of histories are what the acceptance run compares with another implementation.
 
+ghost use Rattle.std.specs.Prelude.{◌≤◌};
+
+use std::alloc::Global;
 use std::process::Abort;
 use std::test::Fail;
 use tw_base::{Bytes, Digest, Labels, ReadFault, Sha, event_leaf};
@@ -34,40 +37,63 @@ fn least_proof(rt: HostRuntime) -> Result<(), Fail> {
     Ok(())
 }
 
+/// The bytes of the least proof's opening, with this time or none.
+fn bytes_of_opening(alloc: Global, time: Option<u64>) -> Result<Bytes, ReadFault> {
+    let mut proof = read_existence(alloc, &LEAST_EXISTENCE)?;
+    proof.at.opening.time = time;
+    Ok(write_opening(alloc, &proof.at.opening)?)
+}
+
+/// The authenticator of a step that the bytes of an opening of step 1 compute, if they do.
+fn computed(alloc: Global, bytes: &[u8], step: u64) -> Option<Digest>
+    requires { step ≤ 2 }
+{
+    match read_opening(alloc, bytes, 1) {
+        Ok(opening) => check_opening::<Sha>(&opening, step),
+        Err(_) => None,
+    }
+}
+
+/// The count and the time that the bytes of an opening of step 1 tell.
+fn told(alloc: Global, bytes: &[u8]) -> Option<(u32, Option<u64>)> {
+    match read_opening(alloc, bytes, 1) {
+        Ok(opening) => Some((opening.count, opening.time)),
+        Err(_) => None,
+    }
+}
+
 #[test]
 fn an_opening(rt: HostRuntime) -> Result<(), Fail> {
-    let opening = read_existence(rt.alloc(), &LEAST_EXISTENCE)?.at.opening;
-    let bytes = write_opening(rt.alloc(), &opening)?;
+    let bytes = bytes_of_opening(rt.alloc(), None)?;
+    let least = Some(Digest(LEAST_AUTHENTICATOR));
     assert_eq!(rt; bytes.len(), 100);
-    let read = read_opening(rt.alloc(), bytes.as_slice(), 1)?;
-    assert_eq!(rt;
-        check_opening::<Sha>(&read, 1),
-        Some(Digest(LEAST_AUTHENTICATOR))
+    assert!(rt; told(rt.alloc(), bytes.as_slice()) == Some((1, None)));
+    assert!(rt; computed(rt.alloc(), bytes.as_slice(), 1) == least);
+    assert!(rt;
+        computed(rt.alloc(), bytes.as_slice(), 2).is_none(),
+        "too few labels"
     );
-    assert_eq!(rt; check_opening::<Sha>(&read, 2), None, "too few labels");
-    assert_eq!(rt; check_opening::<Sha>(&read, 0), None, "step 0 has none");
-    let short = read_opening(rt.alloc(), bytes.as_slice(), 2);
-    assert_eq!(rt; place_of(short), Some(100));
+    assert!(rt;
+        computed(rt.alloc(), bytes.as_slice(), 0).is_none(),
+        "step 0 has none"
+    );
+    let short = place_of(read_opening(rt.alloc(), bytes.as_slice(), 2));
+    assert!(rt; short == Some(100));
     Ok(())
 }
 
-/// The bytes of an opening whose count word tells a time.
+/// The count word of its bytes tells a time, which lies behind it.
 #[test]
 fn an_opening_with_a_time(rt: HostRuntime) -> Result<(), Fail> {
-    let mut opening = read_existence(rt.alloc(), &LEAST_EXISTENCE)?.at.opening;
-    opening.time = Some(5);
-    let bytes = write_opening(rt.alloc(), &opening)?;
+    let bytes = bytes_of_opening(rt.alloc(), Some(5))?;
+    let least = Some(Digest(LEAST_AUTHENTICATOR));
     assert_eq!(rt; bytes.len(), 108);
-    assert_eq!(rt; &bytes.as_slice()[64..68], [128, 0, 0, 1].as_slice());
     assert_eq!(rt;
-        &bytes.as_slice()[68..76],
-        [0, 0, 0, 0, 0, 0, 0, 5].as_slice()
+        &bytes.as_slice()[64..76],
+        [128, 0, 0, 1, 0, 0, 0, 0, 0, 0, 0, 5].as_slice()
     );
-    let read = read_opening(rt.alloc(), bytes.as_slice(), 1)?;
-    assert_eq!(rt; read.time, Some(5));
-    assert_eq!(rt; read.count, 1);
-    let same = check_opening::<Sha>(&read, 1);
-    assert_eq!(rt; same == Some(Digest(LEAST_AUTHENTICATOR)), false);
+    assert!(rt; told(rt.alloc(), bytes.as_slice()) == Some((1, Some(5))));
+    assert!(rt; computed(rt.alloc(), bytes.as_slice(), 1) != least);
     Ok(())
 }
 
