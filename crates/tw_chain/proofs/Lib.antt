@@ -9,3 +9,4 @@ pub mod ProofSizes
 pub mod Fronts
 pub mod Completeness
 pub mod OwnSpelling
+pub mod ProofBytes

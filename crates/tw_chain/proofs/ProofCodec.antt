@@ -118,7 +118,7 @@ proof-lawful =
 
 -- ---- a proof of kind 1
 
-same_bytes : (p : ExistenceProof) → proof_codec.write (Exists p) ≡ existence_codec.write p
+pub same_bytes : (p : ExistenceProof) → proof_codec.write (Exists p) ≡ existence_codec.write p
 unfolding proof_codec kinds_codec existence_codec behind by_kind kind_codec variant
 same_bytes p = refl
 

@@ -1,5 +1,5 @@
 -- The bytes of proofs, by their kinds.
-use Rattle.std.specs.Prelude.{◌≡◌, ℕ, ◌<◌, ◌≤◌, List, [], ◌∷◌, Bool, true, Option, Some, None, ◌==◌, ◌||◌, ◌&&◌, nat_le}
+use Rattle.std.specs.Prelude.{◌≡◌, ℕ, ◌<◌, ◌≤◌, List, [], ◌∷◌, ◌++◌, Bool, true, false, Option, Some, None, ◌==◌, ◌||◌, ◌&&◌, nat_le}
 use Rattle.tw_base.specs.declared.limits.TheConstants.{LAST_STEP}
 use Rattle.tw_base.specs.declared.thread.Key.{Key}
 use Rattle.tw_base.specs.Codecs.{Codec, behind, by_kind, choose, digest_codec, name_codec, number_codec, pair, seen, variant}
@@ -8,6 +8,7 @@ use Rattle.tw_base.specs.Formats.Format.{Byte, Done}
 use Rattle.tw_skipproof.specs.declared.existence.ExistenceProof.{ExistenceProof}
 use Rattle.tw_skipproof.specs.Codecs.{existence_body, part_codec, path_codec, proof_magic, step_codec}
 use Rattle.tw_skipproof.specs.Existence.{IsExistenceInRange, IsPartInRange}
+use Rattle.tw_treeproof.specs.Answers.{is_of_entry}
 use Rattle.tw_treeproof.specs.Codecs.{entry_codec, gap_codec, present_codec}
 use Rattle.tw_chain.specs.declared.proof.AbsenceProof.{AbsenceProof}
 use Rattle.tw_chain.specs.declared.proof.LinkProof.{LinkProof}
@@ -94,6 +95,17 @@ proof_layout = proof_codec.format
 
 abbrev pub proof_bytes : Proof → List ℕ
 proof_bytes = proof_codec.write
+
+-- TWP1 and the kind
+abbrev pub kind_bytes : (kind : ℕ) → List ℕ
+kind_bytes kind = proof_magic ++ kind ∷ []
+
+-- the tree proof of a proof of kind 3 is of an entry, that of one of kind 4 of an empty place
+abbrev pub HasTreeOfKind : Proof → Type 0
+HasTreeOfKind (Exists p) = Unit {0}
+HasTreeOfKind (Archived p) = is_of_entry p.shown ≡ true
+HasTreeOfKind (Absent p) = is_of_entry p.shown ≡ false
+HasTreeOfKind (Linked p) = Unit {0}
 
 -- the bounds that checking needs: those of the steps, and of an event its ranges in the format, which a proof that was read has
 abbrev pub IsInRange : Proof → Type 0

@@ -9,8 +9,10 @@ mod reaching;
 mod reading;
 mod showing;
 mod verdict;
+mod writing;
 
 pub use laws::{completeness_laws, proof_laws};
 pub use proof::{AbsenceProof, LinkProof, Proof, ThreadProof};
 pub use reading::read_proof;
 pub use verdict::{Verdict, verify};
+pub use writing::write_proof;

@@ -1,12 +1,12 @@
 -- Answers and refusals as what is found in pages.
 use Rattle.std.proofs.Common.{◌≡◌, ◌⊎◌, ℕ, refl, ap, sym, ◌∙◌, subst, inl, inr}
-use Rattle.std.specs.Prelude.{Option, Some, None, Result, Ok, Err, IsErrAnd}
+use Rattle.std.specs.Prelude.{Result, Ok, Err, IsErrAnd}
 use Rattle.tw_skiplist.specs.declared.fault.ListFault.{ListFault}
 use Rattle.tw_skiplist.specs.declared.fault.ListFault.TheVariants as list
 use Rattle.tw_skiplist.specs.Answers.{IsFaultOf, NeverNoStep, NoStepUnless}
 use Rattle.tw_skiplist.specs.Found.{Found, ◌>>=◌}
 use Rattle.tw_skiplist.specs.Found.Found.{Is, Bad}
-use Rattle.tw_service.specs.Finds.{IsAnswer, IsRefusalOf, unless}
+use Rattle.tw_service.specs.Finds.{IsAnswer, IsRefusalOf}
 use Rattle.tw_service.specs.Refusals.{IsBadPage, IsFault, IsNoEvent, OfBadPage, refusal_of}
 use Rattle.tw_service.specs.declared.refusal.Refusal.{Refusal}
 use Rattle.tw_service.specs.declared.refusal.Refusal.TheVariants.{NoEvent, BadPage, DiskFault, NoMemory}

@@ -1,5 +1,5 @@
 -- The existence proof that a history has of an event is accepted under the history's authenticator of the top, and is spelled.
-use Rattle.std.proofs.Common.{refl, ◌≡◌, ℕ, suc, zero, ◌-◌, ◌<◌, ◌≤◌, ◌^◌, List, [], ◌∷◌, length, ap, sym, ◌∙◌, subst, arith, lit≤}
+use Rattle.std.proofs.Common.{refl, ◌≡◌, ℕ, suc, zero, ◌-◌, ◌<◌, ◌≤◌, ◌^◌, List, [], length, sym, subst, arith, lit≤}
 use Rattle.std.specs.Prelude.{slice_index_or}
 use Rattle.std.proofs.lemmas.Option.{slice_get-get_or}
 use Rattle.tw_base.specs.declared.event_part.EventPart.{EventPart}
@@ -13,22 +13,17 @@ use Rattle.tw_base.specs.Bytes.{AreBytes}
 use Rattle.tw_base.specs.Codecs.{by_kind, bytes_codec, labels_codec, many, number_codec, pair, seen, sized_codec}
 use Rattle.tw_base.specs.Formats.{Spells}
 use Rattle.tw_base.specs.Limits.{IsTimeWithinLimits}
-use Rattle.tw_base.specs.Names.{IsName}
 use Rattle.tw_base.specs.Sound.{IsSound}
 use Rattle.tw_base.proofs.AuditShown.{ChecksEvent-audit_path}
-use Rattle.tw_base.proofs.DigestBytes.{Each-drop, Each-remove, IsDigest, audit_path-digests, auth-digest, dig-digest, event_root-digest, map-digests, tree_label-digest}
+use Rattle.tw_base.proofs.DigestBytes.{IsDigest, audit_path-digests}
 use Rattle.tw_base.proofs.ListLemmas.{Each-get_or}
 use Rattle.tw_base.proofs.SoundEvents.{sound-may_record, sound-time}
 use Rattle.tw_skipproof.specs.declared.existence.ExistenceProof.{ExistenceProof}
-use Rattle.tw_skipproof.specs.declared.existence.Part.{Part}
-use Rattle.tw_skipproof.specs.declared.path.Link.{Link}
-use Rattle.tw_skipproof.specs.Acceptance.{IsAcceptedUnder, Reaches, ShowsEvent}
-use Rattle.tw_skipproof.specs.Codecs.{event_codec, link_codec, opening_codec}
+use Rattle.tw_skipproof.specs.Acceptance.{IsAcceptedUnder, ShowsEvent}
+use Rattle.tw_skipproof.specs.Codecs.{event_codec}
 use Rattle.tw_skipproof.specs.Existence.{IsExistenceInRange, IsShaped, existence_bytes, existence_layout}
-use Rattle.tw_skipproof.specs.HistoryProofs.{IsExistenceOf, IsPartOf, IsPathOf, labels_at}
-use Rattle.tw_skipproof.specs.Openings.{IsOpeningAt, opening_auth}
-use Rattle.tw_skipproof.specs.Paths.{HasShape, climbed, hop}
-use Rattle.tw_skipproof.specs.Spelling.{FitsAsEvent, FitsAsLink, FitsAsOpening}
+use Rattle.tw_skipproof.specs.HistoryProofs.{IsExistenceOf}
+use Rattle.tw_skipproof.specs.Spelling.{FitsAsEvent}
 use Rattle.tw_skipproof.proofs.LawfulCodecs.{existence-fits, existence-lawful}
 use Rattle.tw_skipproof.proofs.PartOf.{part-fits-made, part_in_range-few, part_shaped-made, reaches-made}
 

@@ -48,12 +48,7 @@ pub(crate) fn take_event(
 }
 
 /// Takes a step under a top, with an opening that has this count of events or more.
-pub fn take_part(
-    alloc: Global,
-    bytes: &[u8],
-    at: &mut u64,
-    least: u64,
-) -> Result<Part, ReadFault>
+pub fn take_part(alloc: Global, bytes: &[u8], at: &mut u64, least: u64) -> Result<Part, ReadFault>
     requires within { at.old ≤ length bytes.now }
     requires least { least ≤ MOST_EVENTS }
     // A step under a top is taken at a place exactly as its codec reads it; else the place of the first bad byte is told.
