@@ -14,6 +14,7 @@ TOP = Path(__file__).resolve().parent.parent
 sys.path.insert(0, str(TOP / "tests/acceptance"))
 
 import reference  # noqa: E402
+import trees  # noqa: E402
 from stores import PAGE, Store  # noqa: E402
 
 # The history that the tutorial shows: thirteen steps of three events each.
@@ -137,6 +138,30 @@ def proof():
     return lines
 
 
+def absence():
+    """A small archive, and the proof that a key is absent in it, byte by byte."""
+    entries = [reference.Entry("alpha", 5, bytes([0xAA] * 32), 1), reference.Entry("beta", 2, bytes([0xBB] * 32), 2)]
+    tree = trees.with_leaf(trees.with_leaf(reference.EMPTY, entries[0]), entries[1])
+    data = trees.proof_over(tree, trees.absent("alpha", 6)).bytes()
+    fields = [(1, "two nodes above the place")]
+    for entry, side in ((entries[1], "right"), (entries[0], "left")):
+        fields += [
+            (16, f"{'the nearer' if side == 'right' else 'the root'}: service {entry.service}"), (8, f"step {entry.step}"), (32, "its authenticator"),
+            (8, f"archived at step {entry.archived}"), (32, f"label of its {side} side, the empty tree"),
+        ]
+    lines, at = dumped(data, fields)
+    assert at == len(data)
+    return [
+        "          alpha 5                the label of the root is that of the archive",
+        "         /       \\               alpha 6 is above alpha 5: the way goes right",
+        "     empty       beta 2          alpha 6 is below beta 2: the way goes left",
+        "                /      \\",
+        "            empty      empty     the left one is the place where alpha 6 would stand",
+        "",
+        *lines,
+    ]
+
+
 def pages():
     """The event page and the step page of a step 2, byte by byte."""
     store = Store("shop", [[b"first"], [b"bread", b"milk"]])
@@ -158,7 +183,7 @@ def pages():
     return lines + more
 
 
-PICTURES = {"heights": heights, "step": step, "links": links, "tree": tree, "proof": proof, "pages": pages}
+PICTURES = {"heights": heights, "step": step, "links": links, "tree": tree, "proof": proof, "absence": absence, "pages": pages}
 
 
 def drawn(text):

@@ -20,6 +20,8 @@ mod names;
 #[cfg(test)]
 mod openings;
 #[cfg(test)]
+mod proof_kinds;
+#[cfg(test)]
 mod reading;
 #[cfg(test)]
 mod tree_proofs;

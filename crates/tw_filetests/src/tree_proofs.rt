@@ -1,6 +1,6 @@
 // Proofs over small trees: worked values, each question against the sorted list, and the limits of their format.
 
-ghost use Rattle.std.specs.Prelude.{◌<◌, IfOk};
+ghost use Rattle.std.specs.Prelude.{IfOk};
 ghost use Rattle.tw_base.specs.Tree.{IsRising, entries};
 ghost use Rattle.tw_tree.specs.TreeMeaning.{tree_of};
 
@@ -10,8 +10,8 @@ use std::test::Fail;
 use tw_base::{Bytes, Digest, Entry, Name, ReadFault, Sha, Thread, Weak, entry_key, put_digest};
 use tw_tree::{Tree, insert_plain, label, list};
 use tw_treeproof::{
-    Ask, ProveFault, Shown, TreeProof, check, prove, put_entry, put_tree_proof, take_entry, take_gap,
-    take_present,
+    Ask, ProveFault, Shown, TreeProof, check, prove, put_entry, put_tree_proof, take_entry,
+    take_gap, take_present,
 };
 
 /// A digest of the weak hasher.
@@ -36,9 +36,9 @@ fn entry_of(rt: &impl Abort, service: &[u8], step: u64) -> Entry {
 #[test]
 fn the_proof_of_an_only_entry(rt: HostRuntime) -> Result<(), Fail> {
     let alloc = rt.alloc();
-    let entry = entry_of(&rt, b"a", 1);
-    let tree = insert_plain(alloc, &Tree::empty(), entry)?;
-    let proof = prove::<Weak>(alloc, &tree, &Ask::Present(entry))?;
+    let tree = insert_plain(alloc, &Tree::empty(), entry_of(&rt, b"a", 1))?;
+    let ask = Ask::Present(entry_of(&rt, b"a", 1));
+    let proof = prove::<Weak>(alloc, &tree, &ask)?;
     let mut bytes = Bytes::new(alloc);
     put_tree_proof(&mut bytes, &proof)?;
     assert_eq!(rt; bytes.len(), 65);
@@ -48,8 +48,8 @@ fn the_proof_of_an_only_entry(rt: HostRuntime) -> Result<(), Fail> {
     let mut at = 0;
     let read = take_present(alloc, bytes.as_slice(), &mut at)?;
     assert_eq!(rt; at, 65);
-    assert_eq!(rt; check::<Weak>(&short(0x5f), &Ask::Present(entry), &read), Shown::Present);
-    assert_eq!(rt; check::<Weak>(&short(0x5e), &Ask::Present(entry), &read), Shown::Wrong);
+    assert_eq!(rt; check::<Weak>(&short(0x5f), &ask, &read), Shown::Present);
+    assert_eq!(rt; check::<Weak>(&short(0x5e), &ask, &read), Shown::Wrong);
     Ok(())
 }
 
@@ -64,11 +64,20 @@ fn a_step_between_two_services_is_absent(rt: HostRuntime) -> Result<(), Fail> {
     put_tree_proof(&mut bytes, &proof)?;
     assert_eq!(rt; bytes.len(), 1 + 2 * 96);
     let mut at = 1;
-    assert_eq!(rt; take_entry(bytes.as_slice(), &mut at)?, entry_of(&rt, b"beta", 2));
+    assert_eq!(rt;
+        take_entry(bytes.as_slice(), &mut at)?,
+        entry_of(&rt, b"beta", 2)
+    );
     at = 97;
-    assert_eq!(rt; take_entry(bytes.as_slice(), &mut at)?, entry_of(&rt, b"alpha", 5));
+    assert_eq!(rt;
+        take_entry(bytes.as_slice(), &mut at)?,
+        entry_of(&rt, b"alpha", 5)
+    );
     let root = label::<Sha>(&tree);
-    assert_eq!(rt; check::<Sha>(&root, &Ask::Absent(key), &proof), Shown::Absent);
+    assert_eq!(rt;
+        check::<Sha>(&root, &Ask::Absent(key), &proof),
+        Shown::Absent
+    );
     let present = Ask::Present(entry_of(&rt, b"alpha", 6));
     assert_eq!(rt; check::<Sha>(&root, &present, &proof), Shown::Wrong);
     let refused = prove::<Sha>(alloc, &tree, &present);
@@ -79,12 +88,11 @@ fn a_step_between_two_services_is_absent(rt: HostRuntime) -> Result<(), Fail> {
 /// A tree of the entries of the odd steps below twice the count, which were put in in an order that
 /// goes round by this stride.
 fn tree_by(rt: &impl Abort, alloc: Global, stride: u64, count: u64) -> Result<Tree, Fail>
-    requires { stride < 64 }
     ensures { IfOk result (λ tree. IsRising (entries (tree_of tree))) }
 {
     let mut tree = Tree::empty();
     for i in 0..41 {
-        let place = i * stride % 41;
+        let place = i * (stride % 41) % 41;
         if place < count {
             let grown = insert_plain(alloc, &tree, entry_of(rt, b"a", 2 * place + 1))?;
             tree = grown;
@@ -99,10 +107,18 @@ fn answer_of(entries: &[Entry], ask: &Ask) -> Shown {
     for entry in entries {
         let key = entry_key(entry);
         match ask {
-            Ask::Present(asked) => if entry == asked { return Shown::Present; },
-            Ask::Absent(asked) => if key == *asked { return Shown::Wrong; },
-            Ask::Below(asked) => if key < *asked { nearest = Some(*entry); },
-            Ask::Above(asked) => if key > *asked { return Shown::Nearest(Some(*entry)); },
+            Ask::Present(asked) => if entry == asked {
+                return Shown::Present;
+            },
+            Ask::Absent(asked) => if key == *asked {
+                return Shown::Wrong;
+            },
+            Ask::Below(asked) => if key < *asked {
+                nearest = Some(*entry);
+            },
+            Ask::Above(asked) => if key > *asked {
+                return Shown::Nearest(Some(*entry));
+            },
         }
     }
     match ask {
@@ -123,31 +139,44 @@ fn shown_by(alloc: Global, tree: &Tree, ask: &Ask) -> Result<Shown, ProveFault>
     }
 }
 
-/// Whether all questions about the key are answered as by the list.
-fn answers_about(alloc: Global, tree: &Tree, listed: &[Entry], entry: Entry) -> Result<bool, Fail>
+/// The question is answered as by the list.
+fn compare(
+    rt: &impl Abort,
+    alloc: Global,
+    tree: &Tree,
+    listed: &[Entry],
+    ask: &Ask,
+) -> Result<(), ProveFault>
     requires { IsRising (entries (tree_of tree.now)) }
 {
-    let key = entry_key(&entry);
-    for ask in &[Ask::Present(entry), Ask::Absent(key), Ask::Below(key), Ask::Above(key)] {
-        if shown_by(alloc, tree, ask)? != answer_of(listed, ask) {
-            return Ok(false);
-        }
+    let shown = shown_by(alloc, tree, ask)?;
+    assert_eq!(rt; shown, answer_of(listed, ask));
+    Ok(())
+}
+
+/// The four questions about the steps 0 to 83 are answered as by the list.
+fn compare_all(rt: &impl Abort, alloc: Global, tree: &Tree) -> Result<(), Fail>
+    requires { IsRising (entries (tree_of tree.now)) }
+{
+    let listed = list(alloc, tree)?;
+    for step in 0..84 {
+        let key = entry_key(&entry_of(rt, b"a", step));
+        compare(rt, alloc, tree, listed.as_slice(), &Ask::Absent(key))?;
+        let key = entry_key(&entry_of(rt, b"a", step));
+        compare(rt, alloc, tree, listed.as_slice(), &Ask::Below(key))?;
+        let key = entry_key(&entry_of(rt, b"a", step));
+        compare(rt, alloc, tree, listed.as_slice(), &Ask::Above(key))?;
+        let present = Ask::Present(entry_of(rt, b"a", step));
+        compare(rt, alloc, tree, listed.as_slice(), &present)?;
     }
-    Ok(true)
+    Ok(())
 }
 
 #[test]
 fn each_question_is_answered_as_by_the_sorted_list(rt: HostRuntime) -> Result<(), Fail> {
-    let alloc = rt.alloc();
-    for stride in &[1, 2, 7, 17, 40] {
-        for count in &[0, 1, 2, 5, 40] {
-            let tree = tree_by(&rt, alloc, *stride, *count)?;
-            let listed = list(alloc, &tree)?;
-            for step in 0..84 {
-                let entry = entry_of(&rt, b"a", step);
-                assert!(rt; answers_about(alloc, &tree, listed.as_slice(), entry)?);
-            }
-        }
+    for stride in 1..41 {
+        let tree = tree_by(&rt, rt.alloc(), stride, stride)?;
+        compare_all(&rt, rt.alloc(), &tree)?;
     }
     Ok(())
 }
@@ -186,6 +215,9 @@ fn a_proof_has_so_many_nodes_at_most(rt: HostRuntime) -> Result<(), Fail> {
     let _read = take_present(alloc, most.as_slice(), &mut at)?;
     assert_eq!(rt; at, 12_257);
     let more = bytes_of(&rt, alloc, 128, &[0; 64])?;
-    assert_eq!(rt; place_of(take_present(alloc, more.as_slice(), &mut 0)), Some(0));
+    assert_eq!(rt;
+        place_of(take_present(alloc, more.as_slice(), &mut 0)),
+        Some(0)
+    );
     Ok(())
 }

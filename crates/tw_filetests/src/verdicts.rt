@@ -54,7 +54,9 @@ fn the_least_proof(rt: HostRuntime) {
     let verdict = verify::<Sha>(rt.alloc(), &LEAST_EXISTENCE, &[anchor]);
     match &verdict {
         Ok(Verdict::Yes(report)) => {
-            let Claim::Exists(seen) = &report.claim;
+            let Claim::Exists(seen) = &report.claim else {
+                panic!(rt; "another claim");
+            };
             assert_eq!(rt; seen.place.service, anchor.from);
             assert_eq!(rt; seen.place.step, 1);
             assert_eq!(rt; seen.place.index, 0);
@@ -143,7 +145,9 @@ fn a_time_under_the_weak_digest(rt: HostRuntime) -> Result<(), Fail> {
     let anchor = first_step(&rt, b"a", short(0xc7).0);
     match verify::<Weak>(rt.alloc(), bytes.as_slice(), &[anchor])? {
         Verdict::Yes(report) => {
-            let Claim::Exists(seen) = &report.claim;
+            let Claim::Exists(seen) = &report.claim else {
+                panic!(rt; "another claim");
+            };
             assert_eq!(rt; seen.time, Some(5));
         }
         Verdict::No(_) => assert!(rt; false, "it is not accepted"),

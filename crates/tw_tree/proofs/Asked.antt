@@ -1,8 +1,7 @@
 -- What a list whose keys rise answers, where it is cut at an entry.
-use Rattle.std.proofs.Common.{◌≡◌, List, [], ◌∷◌, ◌++◌, Bool, true, false, refl, ap, sym, ◌∙◌, subst}
+use Rattle.std.proofs.Common.{◌≡◌, List, [], ◌∷◌, ◌++◌, Bool, true, false, refl, ap, ◌∙◌}
 use Rattle.std.specs.Prelude.{Option, Some, None, cond, find, if◌then◌else◌}
 use Rattle.std.specs.Option.{option_or}
-use Rattle.std.specs.declared.cmp.Ordering.{Ordering}
 use Rattle.std.specs.declared.cmp.Ordering.TheVariants.{Less, Equal, Greater}
 use Rattle.std.specs.Ordering.{is_eq, is_lt}
 use Rattle.std.proofs.lemmas.List.Folds.{find-append}
@@ -12,7 +11,7 @@ use Rattle.tw_base.specs.Asking.{entry_with, first_above, last_below}
 use Rattle.tw_base.specs.Entries.{KeyBelow, key_cmp, key_of}
 use Rattle.tw_base.specs.Lists.{Each}
 use Rattle.tw_base.specs.Tree.{IsRising}
-use Rattle.tw_base.proofs.Keys.{KeyBelow-trans, KeyBelow-turned}
+use Rattle.tw_base.proofs.Keys.{KeyBelow-trans}
 use Rattle.tw_base.proofs.ListLemmas.{Each-map, Each-parts}
 use Rattle.tw_tree.proofs.KeyTests.{below-lt, below-other, eq-above, eq-below, lt-above, lt-below}
 

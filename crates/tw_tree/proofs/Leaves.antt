@@ -1,8 +1,6 @@
 -- A tree with one more entry at its empty place has the list with the entry in its place.
 use Rattle.std.proofs.Common.{◌≡◌, List, [], ◌∷◌, ◌++◌, Bool, true, false, refl, ap, sym, ◌∙◌, subst}
-use Rattle.std.specs.Prelude.{Option, Some, None, is_some, cond, find, if◌then◌else◌}
-use Rattle.std.specs.declared.cmp.Ordering.{Ordering}
-use Rattle.std.specs.declared.cmp.Ordering.TheVariants.{Less, Equal, Greater}
+use Rattle.std.specs.Prelude.{Option, Some, None, is_some, cond, if◌then◌else◌}
 use Rattle.std.specs.Ordering.{is_eq, is_lt}
 use Rattle.tw_base.specs.declared.thread.Entry.{Entry}
 use Rattle.tw_base.specs.Asking.{entry_with, with_entry}

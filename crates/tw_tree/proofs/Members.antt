@@ -1,6 +1,6 @@
 -- An answer for one key, and what is in the list.
-use Rattle.std.proofs.Common.{◌≡◌, ◌≢◌, ◌⊎◌, ℕ, List, [], ◌∷◌, Bool, true, false, refl, ap, sym, ◌∙◌, subst, inl, inr}
-use Rattle.std.specs.Prelude.{Option, Some, None, cond, find}
+use Rattle.std.proofs.Common.{◌≡◌, ◌≢◌, List, [], ◌∷◌, Bool, true, false, refl, ap, sym, ◌∙◌, inl, inr}
+use Rattle.std.specs.Prelude.{Some, None, cond}
 use Rattle.std.specs.FinMap.{nat_cmp-IsAntisymmetric, slice_cmp-IsAntisymmetric}
 use Rattle.std.specs.declared.cmp.Ordering.{Ordering}
 use Rattle.std.specs.declared.cmp.Ordering.TheVariants.{Less, Equal, Greater}
@@ -12,7 +12,7 @@ use Rattle.tw_base.specs.Asking.{entry_with}
 use Rattle.tw_base.specs.Entries.{KeyBelow, key_cmp, key_of}
 use Rattle.tw_base.specs.Lists.{Each, In}
 use Rattle.tw_base.specs.Tree.{IsRising}
-use Rattle.tw_base.proofs.ListLemmas.{Each-in, Each-map}
+use Rattle.tw_base.proofs.ListLemmas.{Each-in}
 use Rattle.tw_tree.proofs.KeyTests.{eq-above, same_key}
 
 equal-key : (a b : Key) → key_cmp a b ≡ Equal → a ≡ b

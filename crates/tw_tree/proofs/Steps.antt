@@ -1,5 +1,5 @@
 -- One step down a tree whose keys rise, and what it leaves of an answer.
-use Rattle.std.proofs.Common.{◌≡◌, List, [], ◌∷◌, ◌++◌, Bool, true, false, refl, ap, sym, ◌∙◌, subst}
+use Rattle.std.proofs.Common.{◌≡◌, List, ◌∷◌, ◌++◌, true, false, refl, ap, sym, ◌∙◌, subst}
 use Rattle.std.specs.Prelude.{Option, Some, None}
 use Rattle.std.specs.Option.{option_or}
 use Rattle.std.specs.declared.cmp.Ordering.TheVariants.{Less, Equal, Greater}
@@ -40,18 +40,22 @@ module _ (key : Key) (t l : Tree) (e : Entry) (r : Tree) (is : t ≡ Branch l e 
   with-right more = (right_rises, sym (ap (λ u. entry_with (entries u) key) is ∙ with-more key (entries l) e (entries r) rises more))
 
   pub before-right : (nearest : Option Entry) → is_lt (key_cmp (key_of e) key) ≡ true → Down (λ es. last_below es key) t r nearest (Some e)
-  before-right nearest sure =
-      (right_rises, some_over (last_below (entries r) key) e nearest
-      ∙ ap (λ o. option_or o nearest) (sym (ap (λ u. last_below (entries u) key) is ∙ below-right key (entries l) e (entries r) rises sure)))
+  before-right nearest sure = (
+    right_rises,
+    some_over (last_below (entries r) key) e nearest
+        ∙ ap (λ o. option_or o nearest) (sym (ap (λ u. last_below (entries u) key) is ∙ below-right key (entries l) e (entries r) rises sure)),
+  )
 
   pub before-left : (nearest : Option Entry) → is_lt (key_cmp (key_of e) key) ≡ false → Down (λ es. last_below es key) t l nearest nearest
   before-left nearest never =
       (left_rises, ap (λ o. option_or o nearest) (sym (ap (λ u. last_below (entries u) key) is ∙ below-left key (entries l) e (entries r) never)))
 
   pub after-left : (nearest : Option Entry) → is_lt (key_cmp key (key_of e)) ≡ true → Down (λ es. first_above es key) t l nearest (Some e)
-  after-left nearest sure =
-      (left_rises, some_over (first_above (entries l) key) e nearest
-      ∙ ap (λ o. option_or o nearest) (sym (ap (λ u. first_above (entries u) key) is ∙ above-left key (entries l) e (entries r) sure)))
+  after-left nearest sure = (
+    left_rises,
+    some_over (first_above (entries l) key) e nearest
+        ∙ ap (λ o. option_or o nearest) (sym (ap (λ u. first_above (entries u) key) is ∙ above-left key (entries l) e (entries r) sure)),
+  )
 
   pub after-right : (nearest : Option Entry) → is_lt (key_cmp key (key_of e)) ≡ false → Down (λ es. first_above es key) t r nearest nearest
   after-right nearest never =

@@ -77,8 +77,7 @@ fn grown(alloc: Global, tree: &Tree, entry: &Entry) -> Result<Tree, NoMemory>
 pub fn insert_plain(alloc: Global, tree: &Tree, entry: Entry) -> Result<Tree, InsertFault>
     requires { IsRising (entries (tree_of tree.now)) }
     // An entry is put into a tree whose keys rise at the empty place to which its key leads, so that the list of
-    // entries has it in its place, and rises still; `Present` is answered exactly where the key is there. No command
-    // uses it yet.
+    // entries has it in its place, and rises still; `Present` is answered exactly where the key is there.
     ensures { Inserts (tree_of tree.now) entry result }
 {
     if get(tree, &entry_key(&entry)).is_some() {

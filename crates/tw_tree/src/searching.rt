@@ -22,8 +22,7 @@ pub(crate) fn is_below(a: &Key, b: &Key) -> bool
 /// one way, and takes no memory.
 pub fn get(tree: &Tree, key: &Key) -> Option<Entry>
     requires { IsRising (entries (tree_of tree.now)) }
-    // Asked for a key, a tree whose keys rise answers what the sorted list of its entries has of it. No command uses
-    // it yet.
+    // Asked for a key, a tree whose keys rise answers what the sorted list of its entries has of it.
     ensures { result ≡ entry_with (entries (tree_of tree.now)) key.now }
 {
     let mut here = tree;
@@ -42,7 +41,7 @@ pub fn get(tree: &Tree, key: &Key) -> Option<Entry>
 pub fn before(tree: &Tree, key: &Key) -> Option<Entry>
     requires { IsRising (entries (tree_of tree.now)) }
     // Asked for the entry before a key, a tree whose keys rise answers the last one below it of the sorted list of its
-    // entries. No command uses it yet.
+    // entries.
     ensures { result ≡ last_below (entries (tree_of tree.now)) key.now }
 {
     let mut here = tree;
@@ -63,7 +62,7 @@ pub fn before(tree: &Tree, key: &Key) -> Option<Entry>
 pub fn after(tree: &Tree, key: &Key) -> Option<Entry>
     requires { IsRising (entries (tree_of tree.now)) }
     // Asked for the entry after a key, a tree whose keys rise answers the first one above it of the sorted list of its
-    // entries. No command uses it yet.
+    // entries.
     ensures { result ≡ first_above (entries (tree_of tree.now)) key.now }
 {
     let mut here = tree;

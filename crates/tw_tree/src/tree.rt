@@ -11,7 +11,7 @@ use std::alloc::Global;
 use tw_base::{Digest, Entries, Entry, Hasher, NoMemory, empty_tree, tree_node};
 
 /// A binary tree of entries. The archive of a service is one whose entries rise by name and then
-/// step; nothing here needs that order.
+/// step; its label and its list don't need that order.
 ///
 /// What goes over a tree calls itself on its sides, as the derived `drop` does too: it takes room on
 /// the stack for each node from the root down to the deepest one.
@@ -51,7 +51,7 @@ impl Tree {
 /// one text for each entry and that of the empty tree once, and takes no memory. Calls itself as
 /// deep as the tree is high.
 pub fn label<H: Hasher>(tree: &Tree) -> Digest
-    // The label of a tree is that of the tree that it stands for. No command uses it yet.
+    // The label of a tree is that of the tree that it stands for.
     ensures label { result ≡ tree_label H.dig (tree_of tree.now) }
 {
     label_over::<H>(tree, &empty_tree::<H>())
@@ -77,7 +77,7 @@ fn label_over<H: Hasher>(tree: &Tree, empty: &Digest) -> Digest
 /// time is linear in their number. An `Err`: there was no memory. Calls itself as deep as the tree
 /// is high.
 pub fn list(alloc: Global, tree: &Tree) -> Result<Entries, NoMemory>
-    // The list of a tree is that of the tree that it stands for, in order. No command uses it yet.
+    // The list of a tree is that of the tree that it stands for, in order.
     ensures { IfOk result (λ listed. listed ≡ entries (tree_of tree.now)) }
 {
     let mut listed = Entries::new(alloc);

@@ -1,6 +1,6 @@
 -- A proof that leads up to a tree's label is the proof that the tree has, or two texts clash.
-use Rattle.std.proofs.Common.{◌≡◌, ◌≢◌, ℕ, ◌+◌, ◌<◌, ◌^◌, List, [], ◌∷◌, ◌++◌, length, Bool, true, false, get_or, drop, refl, ap, sym, ◌∙◌, subst, arith, inl, inr, append_assoc}
-use Rattle.std.specs.Prelude.{Option, Some, None, if◌then◌else◌}
+use Rattle.std.proofs.Common.{◌≡◌, ◌≢◌, ℕ, List, [], ◌∷◌, ◌++◌, length, Bool, true, false, get_or, drop, refl, ap, sym, ◌∙◌, subst, arith, inl, inr, append_assoc}
+use Rattle.std.specs.Prelude.{if◌then◌else◌}
 use Rattle.std.specs.Int.{w64, to_be_bytes, from_be_bytes}
 use Rattle.std.specs.Ordering.{is_eq}
 use Rattle.std.proofs.lemmas.List.{append-nil}
@@ -13,7 +13,7 @@ use Rattle.tw_base.specs.declared.tree_proof.TreeProof.{TreeProof}
 use Rattle.tw_base.specs.declared.tree_proof.TreeProof.TheVariants.{Present as OfEntry, Gap}
 use Rattle.tw_base.specs.Auth.{tree_label}
 use Rattle.tw_base.specs.Clash.{Among, OrClash, Within}
-use Rattle.tw_base.specs.Entries.{IsFit, entry_text, key_cmp, key_of}
+use Rattle.tw_base.specs.Entries.{IsFit, entry_text, key_of}
 use Rattle.tw_base.specs.HistoryTexts.{tree_texts}
 use Rattle.tw_base.specs.Lists.{Each}
 use Rattle.tw_base.specs.Texts.{empty_tree_text, tree_node_text}
@@ -25,10 +25,10 @@ use Rattle.tw_base.proofs.TextFields.{halves}
 use Rattle.tw_tree.proofs.KeyTests.{same_key}
 use Rattle.tw_treeproof.specs.declared.shown.Shown.{Shown}
 use Rattle.tw_treeproof.specs.declared.shown.Shown.TheVariants.{Present as IsThere, Absent as IsNotThere, Nearest, Wrong}
-use Rattle.tw_treeproof.specs.Answers.{Checks, IsAnswer, Shows, ancestors_of, answer_of, place_text, proof_texts}
+use Rattle.tw_treeproof.specs.Answers.{Checks, IsAnswer, Shows, ancestors_of, answer_of, proof_texts}
 use Rattle.tw_treeproof.specs.Making.{ancestor, place_of, way_up}
 use Rattle.tw_treeproof.specs.Sizes.{HasProofSizes, HasSizes}
-use Rattle.tw_treeproof.specs.Ways.{IsFree, climbed, climb_texts, has_asked_key, is_left, over_text}
+use Rattle.tw_treeproof.specs.Ways.{IsNotAsked, climbed, climb_texts, is_left, over_text}
 use Rattle.tw_treeproof.proofs.OwnProofs.{way-answers}
 use Rattle.tw_treeproof.proofs.Places.{IsAt, so-at}
 use Rattle.tw_treeproof.proofs.Ways.{way-here, way-left, way-right}
@@ -67,7 +67,7 @@ module _ (dig : List ℕ → List ℕ) where
   Hangs ask (a ∷ up) s t = (o : Tree) × (a.other ≡ tree_label dig o) × Hangs ask up (if is_left ask a.entry then Branch s a.entry o else Branch o a.entry s) t
 
   -- then they are the last of the nodes above the place to which the question leads in t
-  own : (ask : Ask) (up : List Ancestor) (s t : Tree) → Hangs ask up s t → Each (IsFree ask) up → (way_up dig ask t ≡ way_up dig ask s ++ up) × (place_of ask t ≡ place_of ask s)
+  own : (ask : Ask) (up : List Ancestor) (s t : Tree) → Hangs ask up s t → Each (IsNotAsked ask) up → (way_up dig ask t ≡ way_up dig ask s ++ up) × (place_of ask t ≡ place_of ask s)
   own ask [] s t hangs free = (ap (way_up dig ask) (sym hangs) ∙ sym (append-nil (way_up dig ask s)), ap (place_of ask) (sym hangs))
   own ask (a ∷ up) s t hangs free =
       by (is_left ask a.entry) refl (own ask up (if is_left ask a.entry then Branch s a.entry hangs.0 else Branch hangs.0 a.entry s) t hangs.2 free.1)
@@ -161,7 +161,7 @@ module _ (dig : List ℕ → List ℕ) where
     abbrev IsOwn : Tree → Ask → TreeProof → Type 0
     IsOwn t ask proof = IsAt ask (place_of ask t) × (ancestors_of proof ≡ way_up dig ask t)
 
-    gap-own : (ask : Ask) (up : List Ancestor) (t : Tree) → IsAt ask Empty → HasSizes up → Each (IsFree ask) up → IsPart (climbed dig (is_left ask) up (dig empty_tree_text)) t
+    gap-own : (ask : Ask) (up : List Ancestor) (t : Tree) → IsAt ask Empty → HasSizes up → Each (IsNotAsked ask) up → IsPart (climbed dig (is_left ask) up (dig empty_tree_text)) t
         → Within (empty_tree_text ∷ climb_texts dig (is_left ask) up (dig empty_tree_text)) texts → OrClash dig texts (IsOwn t ask (Gap up))
     unfolding way_up place_of
     gap-own ask up t at sizes free part within =
@@ -171,7 +171,7 @@ module _ (dig : List ℕ → List ℕ) where
         let all = own ask up Empty t (subst (λ s. Hangs ask up s t) empty found.1) free in
         inl (subst (IsAt ask) (sym all.1) at, sym all.0)))
 
-    present-own : (e : Entry) (l r : List ℕ) (up : List Ancestor) (t : Tree) → length l ≡ 32 → IsFit e → HasSizes up → Each (IsFree (Present e)) up
+    present-own : (e : Entry) (l r : List ℕ) (up : List Ancestor) (t : Tree) → length l ≡ 32 → IsFit e → HasSizes up → Each (IsNotAsked (Present e)) up
         → IsPart (climbed dig (is_left (Present e)) up (dig (entry_text l e r))) t
         → Within (entry_text l e r ∷ climb_texts dig (is_left (Present e)) up (dig (entry_text l e r))) texts → OrClash dig texts (IsOwn t (Present e) (OfEntry l r up))
     present-own e l r up t n fit sizes free part within =

@@ -1,20 +1,19 @@
 -- The loop that computes a tree's label upwards.
-use Rattle.std.proofs.Common.{◌≡◌, ℕ, ◌+◌, ◌<◌, ◌≤◌, List, [], ◌∷◌, length, drop, get_or, refl, ap, sym, ◌∙◌, subst}
-use Rattle.std.specs.Prelude.{Bool, false, true}
+use Rattle.std.proofs.Common.{◌≡◌, ℕ, ◌+◌, ◌<◌, ◌≤◌, List, ◌∷◌, length, drop, get_or, refl, ap, sym, ◌∙◌, subst}
 use Rattle.std.proofs.lemmas.List.{drop_all, drop_more}
 use Rattle.tw_base.specs.declared.tree_proof.Ancestor.{Ancestor}
 use Rattle.tw_base.specs.declared.tree_proof.Ask.{Ask}
 use Rattle.tw_base.specs.Entries.{IsFit}
 use Rattle.tw_base.specs.Lists.{Each}
 use Rattle.tw_treeproof.specs.Sizes.{HasSizes}
-use Rattle.tw_treeproof.specs.Ways.{IsFree, climbed, is_left, over_text}
+use Rattle.tw_treeproof.specs.Ways.{IsNotAsked, climbed, is_left, over_text}
 
 module _ (dig : List ℕ → List ℕ) (ask : Ask) (up : List Ancestor) (place : List ℕ) where
   -- the ancestors before the i-th are climbed
   pub record Climbing (i : ℕ) (reached : List ℕ) : Type 0 where
     pub label : climbed dig (is_left ask) (drop i up) reached ≡ climbed dig (is_left ask) up place
-    pub free : Each (IsFree ask) (drop i up) → Each (IsFree ask) up
-    pub each : Each (IsFree ask) up → Each (IsFree ask) (drop i up)
+    pub free : Each (IsNotAsked ask) (drop i up) → Each (IsNotAsked ask) up
+    pub each : Each (IsNotAsked ask) up → Each (IsNotAsked ask) (drop i up)
     pub sizes : HasSizes (drop i up) → HasSizes up
 
   pub begins : Climbing 0 place
@@ -24,13 +23,13 @@ module _ (dig : List ℕ → List ℕ) (ask : Ask) (up : List Ancestor) (place :
     rest : drop i up ≡ a ∷ drop (i + 1) up
     rest = drop_more up i a l ∙ ap (λ x. x ∷ drop (i + 1) up) (sym is)
 
-    pub not_free : (IsFree ask a → ⊥) → Each (IsFree ask) up → ⊥
-    not_free never all = never (let P : List Ancestor → Type 0 = Each (IsFree ask) in subst P rest (so_far.each all)).0
+    pub not_free : (IsNotAsked ask a → ⊥) → Each (IsNotAsked ask) up → ⊥
+    not_free never all = never (let P : List Ancestor → Type 0 = Each (IsNotAsked ask) in subst P rest (so_far.each all)).0
 
-    pub climbs : (above : List ℕ) → IsFree ask a → length a.other ≡ 32 → IsFit a.entry → above ≡ dig (over_text (is_left ask) a label) → Climbing (i + 1) above
+    pub climbs : (above : List ℕ) → IsNotAsked ask a → length a.other ≡ 32 → IsFit a.entry → above ≡ dig (over_text (is_left ask) a label) → Climbing (i + 1) above
     unfolding climbed
     climbs above free other fits made =
-        let P : List Ancestor → Type 0 = Each (IsFree ask) in
+        let P : List Ancestor → Type 0 = Each (IsNotAsked ask) in
         let Q : List Ancestor → Type 0 = HasSizes in
         record {
           label = ap (climbed dig (is_left ask) (drop (i + 1) up)) made ∙ ap (λ x. climbed dig (is_left ask) x label) (sym rest) ∙ so_far.label;
@@ -39,11 +38,11 @@ module _ (dig : List ℕ → List ℕ) (ask : Ask) (up : List Ancestor) (place :
           sizes = λ all. so_far.sizes (subst Q (sym rest) ((other, fits), all));
         }
 
-  pub climbed_all : (i : ℕ) (label : List ℕ) → length up ≤ i → Climbing i label → Each (IsFree ask) up × (label ≡ climbed dig (is_left ask) up place) × HasSizes up
+  pub climbed_all : (i : ℕ) (label : List ℕ) → length up ≤ i → Climbing i label → Each (IsNotAsked ask) up × (label ≡ climbed dig (is_left ask) up place) × HasSizes up
   unfolding climbed
   climbed_all i label l so_far =
       let none = drop_all i up l in
-      let P : List Ancestor → Type 0 = Each (IsFree ask) in
+      let P : List Ancestor → Type 0 = Each (IsNotAsked ask) in
       let Q : List Ancestor → Type 0 = HasSizes in (
         so_far.free (subst P (sym none) tt),
         ap (λ x. climbed dig (is_left ask) x label) (sym none) ∙ so_far.label,

@@ -1,18 +1,16 @@
 -- The codecs of tree proofs are lawful; what fits them, and the greatest sizes of their words.
-use Rattle.std.proofs.Common.{◌≡◌, ℕ, suc, ◌+◌, ◌-◌, ◌*◌, ◌≤◌, ◌<◌, List, [], ◌∷◌, length, refl, ap, sym, ◌∙◌, subst, arith}
+use Rattle.std.proofs.Common.{◌≡◌, ℕ, suc, ◌+◌, ◌-◌, ◌≤◌, ◌<◌, List, length, refl, subst, arith}
 use Rattle.tw_base.specs.declared.limits.TheConstants.{LAST_STEP}
 use Rattle.tw_base.specs.declared.thread.Entry.{Entry}
-use Rattle.tw_base.specs.declared.tree_proof.TreeProof.{TreeProof}
-use Rattle.tw_base.specs.declared.tree_proof.TreeProof.TheVariants.{Present, Gap}
-use Rattle.tw_base.specs.Codecs.{Codec, bytes_codec, digest_codec, many, name_codec, number_codec, pair, seen}
+use Rattle.tw_base.specs.declared.tree_proof.TreeProof.TheVariants.{Present}
+use Rattle.tw_base.specs.Codecs.{Codec, bytes_codec, many, name_codec, number_codec, pair, seen}
 use Rattle.tw_base.specs.Limits.{IsThread}
-use Rattle.tw_base.proofs.CodecLaws.{Lawful, lawful, lawful-by_kind, lawful-variant, lawful-many, lawful-pair}
+use Rattle.tw_base.proofs.CodecLaws.{Lawful, lawful, lawful-by_kind, lawful-variant}
 use Rattle.tw_base.proofs.CodecSizes.{AtMost, at_most-by_kind, at_most-bytes, at_most-variant, at_most-counted, at_most-many, at_most-name, at_most-number, at_most-pair, at_most-seen}
 use Rattle.tw_base.specs.HistoryCodec.{thread_codec}
 use Rattle.tw_base.proofs.HistoryCodecLaws.{thread-lawful}
 use Rattle.tw_base.proofs.TakeLaws.{ManyTaken}
-use Rattle.tw_treeproof.specs.declared.limits.TheConstants.{MOST_ABOVE_ENTRY, MOST_ABOVE_PLACE}
-use Rattle.tw_treeproof.specs.Answers.{ancestors_of}
+use Rattle.tw_treeproof.specs.declared.limits.TheConstants.{MOST_ABOVE_ENTRY}
 use Rattle.tw_treeproof.specs.Codecs.{PresentParts, ancestor_codec, entry_codec, gap_codec, parts_codec, parts_of, present_codec}
 
 pub entry-lawful : Lawful entry_codec

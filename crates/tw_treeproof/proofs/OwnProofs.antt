@@ -1,6 +1,5 @@
 -- The proof that a tree has: it checks under the tree's label, shows the tree's answer, and has a spelling.
-use Rattle.std.proofs.Common.{◌≡◌, ℕ, suc, zero, ◌+◌, ◌≤◌, List, [], ◌∷◌, ◌++◌, length, Bool, true, false, refl, ap, sym, ◌∙◌, subst, arith}
-use Rattle.std.specs.Prelude.{max}
+use Rattle.std.proofs.Common.{◌≡◌, ℕ, ◌+◌, ◌≤◌, List, [], ◌∷◌, ◌++◌, length, Bool, true, false, refl, ap, sym, ◌∙◌, subst, arith}
 use Rattle.std.proofs.Math.Nat.{le-max_left, le-max_right}
 use Rattle.std.proofs.lemmas.List.{length-append}
 use Rattle.tw_base.specs.declared.thread.Entry.{Entry}
@@ -19,7 +18,7 @@ use Rattle.tw_treeproof.specs.declared.limits.TheConstants.{MOST_ABOVE_PLACE}
 use Rattle.tw_treeproof.specs.Answers.{Checks, IsAnswer, ancestors_of, answer_of, asks_entry, is_of_entry, place_text}
 use Rattle.tw_treeproof.specs.Codecs.{ancestor_codec, entry_codec, gap_codec, present_codec, tree_proof_codec}
 use Rattle.tw_treeproof.specs.Making.{IsSo, ancestor, height, place_of, proof_at, proof_of, way_up}
-use Rattle.tw_treeproof.specs.Ways.{IsFree, climbed, has_asked_key, is_left, nearest_left, nearest_right}
+use Rattle.tw_treeproof.specs.Ways.{IsNotAsked, climbed, has_asked_key, is_left}
 use Rattle.tw_treeproof.proofs.Places.{IsAt, at-place}
 use Rattle.tw_treeproof.proofs.Ways.{first-found, last-found, way-climbs, way-free, way-here, way-left, way-right}
 
@@ -55,7 +54,7 @@ module _ (dig : List ℕ → List ℕ) where
       let same = at-ancestors (place_of ask t) (way_up dig ask t) in
       record {
         kind = at-kind ask (place_of ask t) (way_up dig ask t) at;
-        free = subst (Each (IsFree ask)) (sym same) (way-free dig ask t);
+        free = subst (Each (IsNotAsked ask)) (sym same) (way-free dig ask t);
         label =
             ap (λ up. climbed dig (is_left ask) up (dig (place_text ask (proof_of dig t ask)))) same
             ∙ ap (climbed dig (is_left ask) (way_up dig ask t)) (at-label ask (place_of ask t) (way_up dig ask t) at)

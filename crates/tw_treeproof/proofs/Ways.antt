@@ -1,6 +1,6 @@
 -- The nodes above the place to which a question leads: their label, and the nearest of them on either side.
-use Rattle.std.proofs.Common.{◌≡◌, ℕ, suc, ◌+◌, ◌≤◌, List, [], ◌∷◌, ◌++◌, length, Bool, true, false, refl, ap, sym, ◌∙◌, subst, arith}
-use Rattle.std.specs.Prelude.{Option, Some, None, not, cond, find, if◌then◌else◌}
+use Rattle.std.proofs.Common.{◌≡◌, ℕ, List, [], ◌∷◌, ◌++◌, Bool, true, false, refl, ap, sym, ◌∙◌, subst}
+use Rattle.std.specs.Prelude.{Option, Some, None, not, if◌then◌else◌}
 use Rattle.std.specs.Option.{option_or}
 use Rattle.std.specs.Ordering.{is_lt}
 use Rattle.tw_base.specs.declared.thread.Entry.{Entry}
@@ -17,8 +17,8 @@ use Rattle.tw_base.specs.Tree.Tree.{Empty, Branch}
 use Rattle.tw_base.proofs.ListLemmas.{Each-append}
 use Rattle.tw_tree.proofs.Asked.{above-left, above-right, below-left, below-right, cut, or-none}
 use Rattle.tw_treeproof.specs.Making.{ancestor, place_of, way_up}
-use Rattle.tw_treeproof.specs.Ways.{IsFree, climbed, has_asked_key, is_left, nearest_left, nearest_right, over_text}
-use Rattle.tw_treeproof.proofs.Places.{down-here, down-left, down-right, step_down}
+use Rattle.tw_treeproof.specs.Ways.{IsNotAsked, climbed, has_asked_key, is_left, nearest_left, nearest_right, over_text}
+use Rattle.tw_treeproof.proofs.Places.{down-here, down-left, down-right}
 
 module _ (dig : List ℕ → List ℕ) where
   climb-one : (left : Entry → Bool) (up : List Ancestor) (a : Ancestor) (below : List ℕ) → climbed dig left (up ++ a ∷ []) below ≡ dig (over_text left a (climbed dig left up below))
@@ -80,15 +80,15 @@ module _ (dig : List ℕ → List ℕ) where
           ∙ ap (λ x. dig (entry_text (tree_label dig l) e x)) other ∙ label-branch l e r)
 
   -- no node above the place has the asked key
-  pub way-free : (ask : Ask) (t : Tree) → Each (IsFree ask) (way_up dig ask t)
+  pub way-free : (ask : Ask) (t : Tree) → Each (IsNotAsked ask) (way_up dig ask t)
   unfolding way_up
   way-free ask Empty = tt
   way-free ask (Branch l e r) = by (has_asked_key ask e) (is_left ask e) refl refl (way-free ask l) (way-free ask r)
     where
-      by : (meets left : Bool) → has_asked_key ask e ≡ meets → is_left ask e ≡ left → Each (IsFree ask) (way_up dig ask l) → Each (IsFree ask) (way_up dig ask r) → Each (IsFree ask) (way_up dig ask (Branch l e r))
-      by true left is way one other = subst (Each (IsFree ask)) (sym (way-here ask l e r is).0) tt
-      by false true is way one other = subst (Each (IsFree ask)) (sym (way-left ask l e r is way).0) (Each-append (IsFree ask) (way_up dig ask l) (ancestor dig e r ∷ []) one (is, tt))
-      by false false is way one other = subst (Each (IsFree ask)) (sym (way-right ask l e r is way).0) (Each-append (IsFree ask) (way_up dig ask r) (ancestor dig e l ∷ []) other (is, tt))
+      by : (meets left : Bool) → has_asked_key ask e ≡ meets → is_left ask e ≡ left → Each (IsNotAsked ask) (way_up dig ask l) → Each (IsNotAsked ask) (way_up dig ask r) → Each (IsNotAsked ask) (way_up dig ask (Branch l e r))
+      by true left is way one other = subst (Each (IsNotAsked ask)) (sym (way-here ask l e r is).0) tt
+      by false true is way one other = subst (Each (IsNotAsked ask)) (sym (way-left ask l e r is way).0) (Each-append (IsNotAsked ask) (way_up dig ask l) (ancestor dig e r ∷ []) one (is, tt))
+      by false false is way one other = subst (Each (IsNotAsked ask)) (sym (way-right ask l e r is way).0) (Each-append (IsNotAsked ask) (way_up dig ask r) (ancestor dig e l ∷ []) other (is, tt))
 
   right-one : (left : Entry → Bool) (up : List Ancestor) (a : Ancestor) → nearest_right left (up ++ a ∷ []) ≡ option_or (nearest_right left up) (if left a.entry then None else Some a.entry)
   right-one left [] a = refl

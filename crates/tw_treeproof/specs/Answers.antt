@@ -1,5 +1,5 @@
 -- When a tree proof checks under a label, what it then shows, and when that is so of a tree's entries.
-use Rattle.std.specs.Prelude.{◌≡◌, Bool, true, false, ℕ, List, [], ◌∷◌, Option, Some, None}
+use Rattle.std.specs.Prelude.{◌≡◌, Bool, true, false, ℕ, List, ◌∷◌, Some, None}
 use Rattle.tw_base.specs.declared.thread.Entry.{Entry}
 use Rattle.tw_base.specs.declared.tree_proof.Ancestor.{Ancestor}
 use Rattle.tw_base.specs.declared.tree_proof.Ask.{Ask}
@@ -12,7 +12,7 @@ use Rattle.tw_base.specs.Lists.{Each}
 use Rattle.tw_base.specs.Texts.{empty_tree_text}
 use Rattle.tw_treeproof.specs.declared.shown.Shown.{Shown}
 use Rattle.tw_treeproof.specs.declared.shown.Shown.TheVariants.{Present as IsThere, Absent as IsNotThere, Nearest, Wrong}
-use Rattle.tw_treeproof.specs.Ways.{IsFree, climbed, climb_texts, is_left, nearest_left, nearest_right}
+use Rattle.tw_treeproof.specs.Ways.{IsNotAsked, climbed, climb_texts, is_left, nearest_left, nearest_right}
 
 -- the question is about an entry, and the proof is of one
 abbrev pub asks_entry : Ask → Bool
@@ -38,14 +38,15 @@ place_text (Below key) proof = empty_tree_text
 place_text (Above key) proof = empty_tree_text
 
 module _ (dig : List ℕ → List ℕ) where
-  -- the texts that checking hashes: that at the asked place, and those of the ancestors upwards
+  -- the texts of a proof, that at the asked place and those of the ancestors upwards; checking hashes these where it
+  -- doesn't show Wrong
   unfoldable pub proof_texts : Ask → TreeProof → List (List ℕ)
   proof_texts ask proof = place_text ask proof ∷ climb_texts dig (is_left ask) (ancestors_of proof) (dig (place_text ask proof))
 
   -- the proof is of the kind that the question asks for, no ancestor has the asked key, and the labels lead up to the root
   pub record Checks (root : List ℕ) (ask : Ask) (proof : TreeProof) : Type 0 where
     pub kind : is_of_entry proof ≡ asks_entry ask
-    pub free : Each (IsFree ask) (ancestors_of proof)
+    pub free : Each (IsNotAsked ask) (ancestors_of proof)
     pub label : climbed dig (is_left ask) (ancestors_of proof) (dig (place_text ask proof)) ≡ root
 
 -- what a proof that checks shows, over its ancestors

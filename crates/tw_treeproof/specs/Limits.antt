@@ -1,5 +1,5 @@
 -- Which tree proofs are within the limits of their format.
-use Rattle.std.specs.Prelude.{ℕ, ◌<◌, ◌≤◌, List, length}
+use Rattle.std.specs.Prelude.{ℕ, ◌<◌, ◌≤◌, length}
 use Rattle.tw_base.specs.declared.limits.TheConstants.{LAST_STEP}
 use Rattle.tw_base.specs.declared.thread.Entry.{Entry}
 use Rattle.tw_base.specs.declared.tree_proof.Ancestor.{Ancestor}

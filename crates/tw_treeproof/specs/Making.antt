@@ -1,18 +1,18 @@
 -- The proof that a tree itself has of the answer to a question.
-use Rattle.std.specs.Prelude.{◌≡◌, ℕ, suc, zero, ◌<◌, ◌≤◌, max, List, [], ◌∷◌, ◌++◌, Option, Some, None, Result, Ok, Err, if◌then◌else◌}
+use Rattle.std.specs.Prelude.{◌≡◌, ℕ, suc, max, List, [], ◌∷◌, ◌++◌, Result, Ok, Err, if◌then◌else◌}
 use Rattle.tw_base.specs.declared.thread.Entry.{Entry}
 use Rattle.tw_base.specs.declared.tree_proof.Ancestor.{Ancestor}
 use Rattle.tw_base.specs.declared.tree_proof.Ask.{Ask}
 use Rattle.tw_base.specs.declared.tree_proof.Ask.TheVariants.{Present, Absent, Below, Above}
 use Rattle.tw_base.specs.declared.tree_proof.TreeProof.{TreeProof}
 use Rattle.tw_base.specs.declared.tree_proof.TreeProof.TheVariants.{Present as OfEntry, Gap}
-use Rattle.tw_base.specs.Asking.{entry_with}
 use Rattle.tw_base.specs.Auth.{tree_label}
-use Rattle.tw_base.specs.Entries.{key_of}
 use Rattle.tw_base.specs.Tree.{Tree, entries}
 use Rattle.tw_base.specs.Tree.Tree.{Empty, Branch}
 use Rattle.tw_treeproof.specs.declared.making.ProveFault.{ProveFault}
 use Rattle.tw_treeproof.specs.declared.making.ProveFault.TheVariants.{Untrue, NoMemory}
+use Rattle.tw_treeproof.specs.declared.shown.Shown.TheVariants.{Present as IsThere, Absent as IsNotThere}
+use Rattle.tw_treeproof.specs.Answers.{IsAnswer}
 use Rattle.tw_treeproof.specs.Ways.{has_asked_key, is_left}
 
 -- the most nodes on a way down
@@ -43,14 +43,14 @@ module _ (dig : List ℕ → List ℕ) where
   proof_at Empty up = Gap up
   proof_at (Branch left e right) up = OfEntry (tree_label dig left) (tree_label dig right) up
 
-  -- the proof that the tree has
+  -- the proof that the tree has, where what is asked is so
   abbrev pub proof_of : Tree → Ask → TreeProof
   proof_of t ask = proof_at (place_of ask t) (way_up ask t)
 
 -- what is asked is so of the entries; that there is an entry next to a key, or none, always is
 abbrev pub IsSo : List Entry → Ask → Type 0
-IsSo es (Present e) = entry_with es (key_of e) ≡ Some e
-IsSo es (Absent key) = entry_with es key ≡ None
+IsSo es (Present e) = IsAnswer es (Present e) IsThere
+IsSo es (Absent key) = IsAnswer es (Absent key) IsNotThere
 IsSo es (Below key) = Unit {0}
 IsSo es (Above key) = Unit {0}
 

@@ -1,5 +1,5 @@
 -- The way down to an asked place, and the label of the tree computed upwards along it. Ancestors stand nearest first.
-use Rattle.std.specs.Prelude.{◌≡◌, Bool, true, false, not, ℕ, List, [], ◌∷◌, Option, Some, None, if◌then◌else◌}
+use Rattle.std.specs.Prelude.{◌≡◌, Bool, false, not, ℕ, List, [], ◌∷◌, Option, Some, None, if◌then◌else◌}
 use Rattle.std.specs.Ordering.{is_eq, is_lt}
 use Rattle.tw_base.specs.declared.thread.Entry.{Entry}
 use Rattle.tw_base.specs.declared.tree_proof.Ancestor.{Ancestor}
@@ -21,8 +21,8 @@ has_asked_key (Absent key) e = is_eq (key_cmp key (key_of e))
 has_asked_key (Below key) e = false
 has_asked_key (Above key) e = false
 
-abbrev pub IsFree : Ask → Ancestor → Type 0
-IsFree ask a = has_asked_key ask a.entry ≡ false
+abbrev pub IsNotAsked : Ask → Ancestor → Type 0
+IsNotAsked ask a = has_asked_key ask a.entry ≡ false
 
 module _ (left : Entry → Bool) where
   -- the text of the ancestor's node, over the label of the side that the way takes

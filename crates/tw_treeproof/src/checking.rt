@@ -8,7 +8,7 @@ ghost use Rattle.tw_base.specs.HistoryTexts.{tree_texts};
 ghost use Rattle.tw_base.specs.Lists.{Each};
 ghost use Rattle.tw_base.specs.Tree.{IsRisingTree, Tree, entries};
 ghost use Rattle.tw_treeproof.specs.Answers.{IsAnswer, Shows, ancestors_of, answer_of, asks_entry, is_of_entry, place_text, proof_texts};
-ghost use Rattle.tw_treeproof.specs.Ways.{IsFree, climbed, is_left, nearest_left, nearest_right, over_text};
+ghost use Rattle.tw_treeproof.specs.Ways.{IsNotAsked, climbed, is_left, nearest_left as left_of_way, nearest_right as right_of_way, over_text};
 ghost use Rattle.tw_treeproof.specs.Sizes.{HasPlaceSizes, HasProofSizes, HasSizes};
 ghost use Rattle.tw_treeproof.specs.declared.shown.Shown.TheVariants.{Wrong};
 
@@ -32,8 +32,8 @@ fn label_over<H: Hasher>(ask: &Ask, ancestor: &Ancestor, below: &Digest) -> Dige
 /// The label of the whole tree, computed upwards from that of the asked place; none where an
 /// ancestor has the asked key.
 fn climb_tree<H: Hasher>(ask: &Ask, ancestors: &[Ancestor], place: &Digest) -> Option<Digest>
-    ensures answer { MatchOption result (Each (IsFree ask.now) ancestors.now → ⊥)
-        (λ d. Each (IsFree ask.now) ancestors.now × (d ≡ climbed H.dig (is_left ask.now) ancestors.now place.now)) }
+    ensures answer { MatchOption result (Each (IsNotAsked ask.now) ancestors.now → ⊥)
+        (λ d. Each (IsNotAsked ask.now) ancestors.now × (d ≡ climbed H.dig (is_left ask.now) ancestors.now place.now)) }
     ensures sizes { IfSome result (λ _. HasSizes ancestors.now) }
 {
     let mut label = *place;
@@ -49,7 +49,7 @@ fn climb_tree<H: Hasher>(ask: &Ask, ancestors: &[Ancestor], place: &Digest) -> O
 
 /// Whether the labels lead from the asked place up to the root, past no entry of the asked key.
 fn leads<H: Hasher>(root: &Digest, ask: &Ask, ancestors: &[Ancestor], place: &Digest) -> bool
-    ensures exact { IsTrue result ↔ (Each (IsFree ask.now) ancestors.now × (climbed H.dig (is_left ask.now) ancestors.now place.now ≡ root.now)) }
+    ensures exact { IsTrue result ↔ (Each (IsNotAsked ask.now) ancestors.now × (climbed H.dig (is_left ask.now) ancestors.now place.now ≡ root.now)) }
     ensures sizes { IsTrue result → HasSizes ancestors.now }
 {
     match climb_tree::<H>(ask, ancestors, place) {
@@ -59,8 +59,8 @@ fn leads<H: Hasher>(root: &Digest, ask: &Ask, ancestors: &[Ancestor], place: &Di
 }
 
 /// The entry of the nearest ancestor at which the way goes right.
-fn last_right(ask: &Ask, ancestors: &[Ancestor]) -> Option<Entry>
-    ensures { result ≡ nearest_right (is_left ask.now) ancestors.now }
+fn nearest_right(ask: &Ask, ancestors: &[Ancestor]) -> Option<Entry>
+    ensures { result ≡ right_of_way (is_left ask.now) ancestors.now }
 {
     for ancestor in ancestors {
         if !goes_left(ask, &ancestor.entry) {
@@ -71,8 +71,8 @@ fn last_right(ask: &Ask, ancestors: &[Ancestor]) -> Option<Entry>
 }
 
 /// The entry of the nearest ancestor at which the way goes left.
-fn last_left(ask: &Ask, ancestors: &[Ancestor]) -> Option<Entry>
-    ensures { result ≡ nearest_left (is_left ask.now) ancestors.now }
+fn nearest_left(ask: &Ask, ancestors: &[Ancestor]) -> Option<Entry>
+    ensures { result ≡ left_of_way (is_left ask.now) ancestors.now }
 {
     for ancestor in ancestors {
         if goes_left(ask, &ancestor.entry) {
@@ -89,8 +89,8 @@ fn answer(ask: &Ask, ancestors: &[Ancestor]) -> Shown
     match ask {
         Ask::Present(_) => Shown::Present,
         Ask::Absent(_) => Shown::Absent,
-        Ask::Below(_) => Shown::Nearest(last_right(ask, ancestors)),
-        Ask::Above(_) => Shown::Nearest(last_left(ask, ancestors)),
+        Ask::Below(_) => Shown::Nearest(nearest_right(ask, ancestors)),
+        Ask::Above(_) => Shown::Nearest(nearest_left(ask, ancestors)),
     }
 }
 
@@ -132,11 +132,11 @@ fn checked<H: Hasher>(root: &Digest, ask: &Ask, proof: &TreeProof) -> Shown
 
 /// What the proof shows of the trees with this label, in answer to the question. `Wrong` exactly
 /// where the proof isn't of the kind that the question asks for, an ancestor has the asked key in a
-/// question for one key, or the labels computed upwards don't give this one. Each text is hashed
-/// once, and no memory is taken.
+/// question for one key, or the labels computed upwards don't give this one. The number of ancestors
+/// isn't limited here, but in the format.
 ///
-/// Where a tree of this label has keys that rise, what is shown is that tree's own answer, or two
-/// texts of the tree and of the proof clash.
+/// Of a tree of this label whose keys rise, and whose fields have the widths of a node's text, what
+/// is shown is that tree's own answer, or two texts of the tree and of the proof clash.
 pub fn check<H: Hasher>(root: &Digest, ask: &Ask, proof: &TreeProof) -> Shown
     // A *tree proof* is of an entry or of an empty place, with the nodes above it. Checking it shows the answer of the
     // nodes above exactly where the proof is of the kind that is asked for, no node above has an asked key, and the

@@ -31,7 +31,8 @@ pub fn tree_proof_spelling_laws()
 {}
 
 /// A tree's own proof of what is so checks under the tree's label, and shows the answer of its
-/// entries; where no way down has more than 128 nodes, it has a spelling.
+/// entries; where no way down has more than 128 nodes, and the entries' steps are within 1 to
+/// 2^40 - 1, it has a spelling.
 pub fn tree_proof_laws<H: Hasher>()
     // The proof that a tree has of what is so of its entries checks under the label of the tree.
     ensures checks { (t : Tree) (ask : Ask) → IsRising (entries t) → IsSo (entries t) ask →

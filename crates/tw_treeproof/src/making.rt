@@ -47,16 +47,16 @@ fn place<'a>(tree: &'a Tree, ask: &Ask) -> &'a Tree
 
 /// The nodes above the asked place, nearest first. Calls itself once for each of them.
 #[tactic(auto, unfolding(crate::specs::Making::way_up))]
-fn nodes_above<H: Hasher>(
-    alloc: Global,
-    tree: &Tree,
-    ask: &Ask,
-) -> Result<AncestorList, NoMemory>
+fn nodes_above<H: Hasher>(alloc: Global, tree: &Tree, ask: &Ask) -> Result<AncestorList, NoMemory>
     ensures { IfOk result (λ up. up ≡ way_up H.dig ask.now (tree_of tree.now)) }
 {
     match tree {
         Tree::Branch { left, entry, right } if !meets(ask, entry) => {
-            let (taken, other) = if goes_left(ask, entry) { (left, right) } else { (right, left) };
+            let (taken, other) = if goes_left(ask, entry) {
+                (left, right)
+            } else {
+                (right, left)
+            };
             let mut ancestors = nodes_above::<H>(alloc, taken, ask)?;
             let other = label::<H>(other);
             ancestors.push(Ancestor {
@@ -96,14 +96,13 @@ fn is_so(tree: &Tree, ask: &Ask) -> bool
 }
 
 /// The proof that the tree has of the answer to the question. The tree's keys rise. Where no way down
-/// has more than 128 nodes, the proof can be written. `Untrue` exactly where the asked entry isn't
-/// there or the key that is said to be absent is; `NoMemory`: there was no memory. Each node is hashed
-/// once at most: those on the way aren't hashed. Calls itself once for each node of the way, and on
-/// its other sides as deep as they are high.
+/// has more than 128 nodes and the entries' steps are within 1 to 2^40 - 1, the proof has a spelling.
+/// `Untrue` exactly where the asked entry isn't there or the key that is said to be absent is;
+/// `NoMemory`: there was no memory. No node is hashed twice.
 pub fn prove<H: Hasher>(alloc: Global, tree: &Tree, ask: &Ask) -> Result<TreeProof, ProveFault>
     requires { IsRising (entries (tree_of tree.now)) }
     // Of a tree whose keys rise the tree's own proof is made exactly where what is asked is so of its entries: that it
-    // has an entry, or lacks a key. That there is an entry next to a key, or none, always is. No command uses it yet.
+    // has an entry, or lacks a key. That there is an entry next to a key, or none, always is.
     ensures { Proves H.dig (tree_of tree.now) ask.now result }
 {
     if !is_so(tree, ask) {

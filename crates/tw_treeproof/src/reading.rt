@@ -85,11 +85,7 @@ fn take_parts(
 
 /// Takes the number of the nodes above a node, at most 127, the labels of its sides, and the nodes.
 #[tactic(auto)]
-fn take_counted_parts(
-    alloc: Global,
-    bytes: &[u8],
-    at: &mut u64,
-) -> Result<PresentParts, ReadFault>
+fn take_counted_parts(alloc: Global, bytes: &[u8], at: &mut u64) -> Result<PresentParts, ReadFault>
     requires { at.old ≤ length bytes.now }
     ensures { Takes counted_parts (λ t. t) bytes.now at.old at.new result }
 {

@@ -2,7 +2,8 @@
 
 use tw_base::Entry;
 
-/// What a proof shows of each tree with a label whose keys rise, or two texts clash.
+/// What a proof shows of each tree with a label whose keys rise, and whose fields have the widths of a
+/// node's text, or two texts clash.
 #[derive(Clone, Copy, PartialEq, Eq, Debug, Drop)]
 pub enum Shown {
     /// The tree has the asked entry.
