@@ -59,14 +59,11 @@ module _ {D : Type 0} {g : _} (view : D → DiskView) (dig : List ℕ → List �
     has_root = record { bytes = sym root_is ∙ is; allowed = subst (λ n. IsAllowed n store.generation r) counted (subst (λ n. IsAllowed used n r) generation_is allowed) }
 
     -- the pages that the store tells are those of the opening
-    pub opens_with : staged_of store ≡ [] → OpensWith c r.name r.head (λ pages. list_of view store ≡ Some pages)
+    pub opens_with : staged_of store ≡ [] → OpensWith c r (λ pages. list_of view store ≡ Some pages)
     opens_with clean = record {
       opening = here;
       opens = opens;
-      root = r;
       has = has_root;
-      named = refl;
-      headed = refl;
       pages = ap (λ (o : Option Image). option_map (pages_of store) o) told_still
           ∙ ap (λ (staged : Image). Some (here.pages ++ staged)) clean
           ∙ ap (λ (pages : Image). Some pages) (append-nil here.pages);

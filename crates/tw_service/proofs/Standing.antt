@@ -1,18 +1,20 @@
 -- What an image stands for.
-use Rattle.std.proofs.Common.{◌≡◌, ℕ, ◌+◌, ◌^◌, ◌≤◌, List, length, ap, arith, sym, ◌∙◌, subst, ⊎_elim}
+use Rattle.std.proofs.Common.{◌≡◌, ℕ, ◌+◌, ◌^◌, ◌≤◌, List, length, ap, arith, sym, ◌∙◌, subst, inl, inr, ⊎_elim}
 use Rattle.tw_base.specs.History.{History}
 use Rattle.tw_base.proofs.DigestBytes.{IsDigest}
 use Rattle.tw_disk.specs.Image.{Image}
 use Rattle.tw_pages.specs.Store.{Opening, OpensAs, used_of}
 use Rattle.tw_pages.specs.declared.open.StoreFault.{StoreFault}
+use Rattle.tw_pages.specs.declared.open.StoreFault.TheVariants.{NotAStore}
 use Rattle.tw_pages.proofs.Once.{opens_once}
-use Rattle.tw_pages.proofs.NotRefused.{not_refused}
+use Rattle.tw_pages.proofs.NotRefused.{not_refused, refused_once}
 use Rattle.tw_skiplist.specs.declared.head.Head.{Head}
 use Rattle.tw_skiplist.specs.Keeping.{Keeps}
 use Rattle.tw_skiplist.proofs.Once.{keeps_one}
 use Rattle.tw_service.specs.declared.root.RootRecord.{RootRecord}
 use Rattle.tw_service.specs.EventsOnly.{HasEventsOnly}
-use Rattle.tw_service.specs.Stands.{HasRoot, IsNotOpenedFor, OpensFor, OpensWith, StandsFor}
+use Rattle.tw_service.specs.Stands.{HasRoot, IsNotOpenedFor, IsServed, Served, StandsFor}
+use Rattle.tw_service.specs.Stands.Served.{Opened, Unopened}
 use Rattle.tw_pages.proofs.Bodies.{used_fits}
 use Rattle.tw_service.proofs.RootLaws.{root_once}
 
@@ -27,21 +29,27 @@ module _ (image : Image) (o : Opening) (opens : OpensAs o image) (r : RootRecord
   never_refused fault why = ⊎_elim (not_refused o image opens fault)
       (λ other. other.2 r (subst (λ (p : Opening). HasRoot p r) (opens_once o other.0 image opens other.1) has)) why
 
--- an image opens as one service at most, whose pages have numbers that fit
-pub one_service : (image : Image) (one other : List ℕ) (head last : Head) (ps qs : Image)
-    → OpensWith image one head (λ x. x ≡ ps) → OpensWith image other last (λ x. x ≡ qs) → (one ≡ other) × (head ≡ last) × (ps ≡ qs) × (4 + length ps ≤ 2 ^ 64)
-one_service image one other head last ps qs a b =
-    let same = opens_once a.opening b.opening image a.opens b.opens in
-    let root = one_root image a.opening a.opens a.root a.has b.opening b.opens b.root b.has in
-    let pages = sym a.pages ∙ ap (λ (o : Opening). o.pages) same ∙ b.pages in (
-      sym a.named ∙ ap (λ (r : RootRecord). r.name) root ∙ b.named,
-      sym a.headed ∙ ap (λ (r : RootRecord). r.head) root ∙ b.headed,
-      pages,
-      omega (arith, used_fits b.opening.generation (used_of b.opening) b.opening.root b.opens.stands.body.is.fits, ap length pages, ap length b.pages),
-    )
+-- the pages of a service have numbers that fit
+pub has_numbers : (image : Image) (root : RootRecord) (pages : Image) → IsServed image (Opened root pages) → 4 + length pages ≤ 2 ^ 64
+has_numbers image root pages a =
+    omega (arith, used_fits a.opening.generation (used_of a.opening) a.opening.root a.opens.stands.body.is.fits, ap length a.pages)
 
-pub opens_never_refused : (image : Image) (name : List ℕ) (head : Head) (fault : StoreFault) → OpensFor image name head → IsNotOpenedFor image fault → ⊥
-opens_never_refused image name head fault opens why = never_refused image opens.opening opens.opens opens.root opens.has fault why
+-- an image isn't opened for one reason at most
+not_opened_once : (image : Image) (f g : StoreFault) → IsNotOpenedFor image f → IsNotOpenedFor image g → f ≡ g
+not_opened_once image f g (inl one) (inl two) = refused_once image f g one two
+not_opened_once image f g (inl one) (inr two) = absurd (not_refused two.0 image two.1 f one)
+not_opened_once image f g (inr one) (inl two) = absurd (not_refused one.0 image one.1 g two)
+not_opened_once image f g (inr one) (inr two) =
+    one.3 ∙ ap (λ (o : Opening). NotAStore o.slot) (opens_once one.0 two.0 image one.1 two.1) ∙ sym two.3
+
+-- an image is served as one thing at most
+pub served_once : (image : Image) (one other : Served) → IsServed image one → IsServed image other → one ≡ other
+served_once image (Opened root pages) (Opened last others) a b =
+    ap (λ (r : RootRecord). Opened r pages) (one_root image a.opening a.opens root a.has b.opening b.opens last b.has)
+    ∙ ap (λ (ps : Image). Opened last ps) (sym a.pages ∙ ap (λ (o : Opening). o.pages) (opens_once a.opening b.opening image a.opens b.opens) ∙ b.pages)
+served_once image (Opened root pages) (Unopened fault) a b = absurd (never_refused image a.opening a.opens root a.has fault b)
+served_once image (Unopened fault) (Opened root pages) a b = absurd (never_refused image b.opening b.opens root b.has fault a)
+served_once image (Unopened fault) (Unopened other) a b = ap (λ (f : StoreFault). Unopened f) (not_opened_once image fault other a b)
 
 module _ (dig : List ℕ → List ℕ) where
   pub stands_once : ((text : List ℕ) → IsDigest (dig text)) → (image : Image) (one other : List ℕ) (h g : History) → StandsFor dig image one h → StandsFor dig image other g → h ≡ g

@@ -8,12 +8,17 @@ use Rattle.tw_disk.specs.Disk.{DiskView, IsAtRest}
 use Rattle.tw_pages.specs.StoreValue.{disk_of as disk_below}
 use Rattle.tw_pages.specs.Same.{IsSameStore, list_of}
 use Rattle.tw_skiplist.specs.declared.head.Head.{Head}
+use Rattle.tw_service.specs.declared.root.RootRecord.{RootRecord}
 use Rattle.tw_service.specs.declared.service.Service.{Service}
 use Rattle.tw_service.specs.Keeps.{KeepsHistory}
 
 -- the disk that it is over
 abbrev pub disk_of : {D H : Type 0} {g : _} {k : _} → Service D H g k → D
 disk_of service = disk_below service.store
+
+-- its root record
+abbrev pub record_of : {D H : Type 0} {g : _} {k : _} → Service D H g k → RootRecord
+record_of service = service.root
 
 -- its name, its head, the number of its steps, and the thread of its last step
 abbrev pub name_of : {D H : Type 0} {g : _} {k : _} → Service D H g k → List ℕ

@@ -7,7 +7,6 @@ use Rattle.tw_pages.specs.Store.{Opening, OpensAs, used_of}
 use Rattle.tw_pages.specs.Slots.{IsBlank, IsRefusedFor}
 use Rattle.tw_pages.specs.declared.open.StoreFault.{StoreFault}
 use Rattle.tw_pages.specs.declared.open.StoreFault.TheVariants.{NotAStore}
-use Rattle.tw_skiplist.specs.declared.head.Head.{Head}
 use Rattle.tw_skiplist.specs.Keeping.{Keeps, archive_at}
 use Rattle.tw_service.specs.declared.root.RootRecord.{RootRecord}
 use Rattle.tw_service.specs.Roots.{IsAllowed, root_bytes}
@@ -23,25 +22,27 @@ pub record HasRoot (o : Opening) (r : RootRecord) : Type 0 where
   pub bytes : o.root ≡ root_bytes r
   pub allowed : IsAllowed (used_of o) o.generation r
 
--- the image opens as a store whose root record has this name and head, and P holds of the store's pages
-pub record OpensWith (image : Image) (name : List ℕ) (head : Head) (P : Image → Type 0) : Type 0 where
+-- the image opens as a store with this root record, and P holds of the store's pages
+pub record OpensWith (image : Image) (root : RootRecord) (P : Image → Type 0) : Type 0 where
   pub opening : Opening
   pub opens : OpensAs opening image
-  pub root : RootRecord
   pub has : HasRoot opening root
-  pub named : root.name ≡ name
-  pub headed : root.head ≡ head
   pub pages : P opening.pages
-
--- the same, of any pages
-abbrev pub OpensFor : Image → (name : List ℕ) → Head → Type 0
-OpensFor image name head = OpensWith image name head (λ pages. Unit {0})
 
 -- why an image isn't opened: it opens as no store, or its root record is none of a service
 abbrev pub IsNotOpenedFor : Image → StoreFault → Type 0
 IsNotOpenedFor image fault =
     IsRefusedFor image fault
     ⊎ ((o : Opening) × OpensAs o image × ((r : RootRecord) → HasRoot o r → ⊥) × (fault ≡ NotAStore o.slot))
+
+-- what an image is served as: the service of this root record and these pages, or, for this reason, none
+pub data Served : Type 0 where
+  Opened : (root : RootRecord) → (pages : Image) → Served
+  Unopened : StoreFault → Served
+
+abbrev pub IsServed : Image → Served → Type 0
+IsServed image (Opened root pages) = OpensWith image root (λ ps. ps ≡ pages)
+IsServed image (Unopened fault) = IsNotOpenedFor image fault
 
 -- ---- images that stand for a history
 

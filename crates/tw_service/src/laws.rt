@@ -16,13 +16,15 @@ ghost use Rattle.tw_service.specs.Finds.{event_proof, found_thread};
 ghost use Rattle.tw_service.specs.Limits.{append_refusal};
 ghost use Rattle.tw_service.specs.Machine.{last_thread};
 ghost use Rattle.tw_service.specs.declared.refusal.Refusal.TheVariants.{NoEvent};
-ghost use Rattle.tw_service.specs.Stands.{IsNotOpenedFor, OpensFor, OpensWith, StandsFor};
+ghost use Rattle.tw_service.specs.Stands.{IsNotOpenedFor, IsServed, Served, StandsFor};
+ghost use Rattle.tw_service.specs.Stands.Served.{Opened};
+ghost use Rattle.tw_service.specs.declared.root.RootRecord.{RootRecord};
 
 use tw_base::Hasher;
 
 /// An image stands for at most one history, which is sound and whose steps are all steps of events;
-/// and an image that stands for a history, or only opens as a store with the root record of a service,
-/// is never refused.
+/// and it is served as one thing at most, so that one that stands for a history, or only opens as a
+/// store with the root record of a service, is never refused.
 pub fn standing_laws<H: Hasher>()
     // An image stands for at most one history.
     ensures once { (image : Image) (one other : List ℕ) (h g : History) → StandsFor H.dig image one h → StandsFor H.dig image other g → h ≡ g }
@@ -30,18 +32,18 @@ pub fn standing_laws<H: Hasher>()
     ensures sound { (image : Image) (name : List ℕ) (h : History) → StandsFor H.dig image name h → IsSound h × (h.name ≡ name) × HasEventsOnly h }
     // An image that stands for a history is refused for no reason.
     ensures never_refused { (image : Image) (name : List ℕ) (h : History) (fault : StoreFault) → StandsFor H.dig image name h → IsNotOpenedFor image fault → ⊥ }
-    // An image that only opens as a service's store is refused for no reason either.
-    ensures opened { (image : Image) (name : List ℕ) (head : Head) (fault : StoreFault) → OpensFor image name head → IsNotOpenedFor image fault → ⊥ }
+    // An image is served as one thing at most: it opens as the service of one root record and one list of pages, or, for
+    // one reason, as none.
+    ensures served { (image : Image) (one other : Served) → IsServed image one → IsServed image other → one ≡ other }
+    // The pages of a service that an image opens as have numbers below 2^64.
+    ensures numbers { (image : Image) (root : RootRecord) (pages : Image) → IsServed image (Opened root pages) → 4 + length pages ≤ 2 ^ 64 }
 {}
 
-/// An image opens as one service at most. And what is found in pages that keep a sound history of the
-/// name under the head is the history's, and no page is bad: the thread of the next step, of events that
-/// the table allows, where fewer than 2^47 pages are used and the archive is the history's; and, for
-/// steps in their order, the history's own proof of the event at the index, or that there is none.
+/// What is found in pages that keep a sound history of the name under the head is the history's, and
+/// no page is bad: the thread of the next step, of events that the table allows, where fewer than 2^47
+/// pages are used and the archive is the history's; and, for steps in their order, the history's own
+/// proof of the event at the index, or that there is none.
 pub fn finding_laws<H: Hasher>()
-    // An image opens as one service at most, of one name, one head and one list of pages, whose numbers are below 2^64.
-    ensures one_service { (image : Image) (one other : List ℕ) (head last : Head) (ps qs : Image) → OpensWith image one head (λ x. x ≡ ps) →
-        OpensWith image other last (λ x. x ≡ qs) → (one ≡ other) × (head ≡ last) × (ps ≡ qs) × (4 + length ps ≤ 2 ^ 64) }
     // Where pages keep a history under the head, fewer than 2^47 pages are used, the events are within the limits of a
     // step and the table doesn't refuse them, what `append` finds with the history's archive is the last thread of the
     // history with one more step of these events; so no page met is bad.

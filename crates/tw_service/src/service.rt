@@ -54,7 +54,7 @@ impl<D: Disk, H: Hasher> Service<D, H> {
     ghost use Rattle.tw_service.specs.Machine.{Answers, IsStepOf, last_thread};
     ghost use Rattle.tw_service.specs.Machine.Call.{Append, CountSteps, ProveEvent, TellHead, TellName};
     ghost use Rattle.tw_service.specs.Machine.Reply.{OfName, OfNumber, OfProof, OfThread};
-    ghost use Rattle.tw_service.specs.Serves.{HasSameDisk, Serves, archive_of, disk_of, has_failed, head_of, name_of, pages_of, steps_of, thread_of, threads_of};
+    ghost use Rattle.tw_service.specs.Serves.{HasSameDisk, Serves, archive_of, disk_of, has_failed, head_of, name_of, pages_of, record_of, steps_of, thread_of, threads_of};
     ghost use Rattle.tw_service.specs.Stands.{IsBlankOrNew, IsNotOpenedFor, OpensWith, StandsFor, StandsForOneOf, no_history};
 
     /// Makes a service of this name, without a step, on a disk that has no store.
@@ -148,9 +148,9 @@ impl<D: Disk, H: Hasher> Service<D, H> {
         // A value that was opened has met no disk fault.
         ensures whole { IfOk result (λ s. has_failed s ≡ false) }
 
-        // Whatever is opened has the root record of a service, of the value's name and head, and the value's pages.
+        // Whatever is opened has the value's root record, which is one of a service, and the value's pages.
         ensures opened { IfOk result (λ s. (c : Image) → (D.view disk).content ≡ Some c
-            → OpensWith c (name_of s) (head_of s) (λ ps. pages_of D.view s ≡ Some ps)) }
+            → OpensWith c (record_of s) (λ ps. pages_of D.view s ≡ Some ps)) }
 
         // `Blank` and `NotAStore` come only where their reasons stand.
         ensures refused { IfErr result (λ e. (c : Image) → (D.view disk).content ≡ Some c

@@ -1,10 +1,6 @@
 use Rattle.std.proofs.Common.{refl}
 use Rattle.tw_service.proofs.KeptAnswers.{beyond, in_range, kept_thread}
-use Rattle.tw_service.proofs.Standing.{one_service}
 use Rattle.tw_service.proofs.laws.finding_laws.Goals as goal
-
-pub returns-clause-one_service : goal.returns-clause-one_service
-returns-clause-one_service g c = one_service
 
 pub returns-clause-thread : goal.returns-clause-thread
 returns-clause-thread g c = λ ps h head events keeps room limits none short. kept_thread g.H.Hasher.dig (λ text. (g.met.H.Hasher.size text, g.met.H.Hasher.bytes text)) ps h head events keeps room limits none short

@@ -1,4 +1,4 @@
-use Rattle.tw_service.proofs.Standing.{opens_never_refused, stands_events, stands_once, stands_opened}
+use Rattle.tw_service.proofs.Standing.{has_numbers, served_once, stands_events, stands_once, stands_opened}
 use Rattle.tw_service.proofs.laws.standing_laws.Goals as goal
 
 pub returns-clause-once : goal.returns-clause-once
@@ -10,5 +10,8 @@ returns-clause-sound g c = λ image name h s. (s.sound, s.named, stands_events g
 pub returns-clause-never_refused : goal.returns-clause-never_refused
 returns-clause-never_refused g c = stands_opened g.H.Hasher.dig
 
-pub returns-clause-opened : goal.returns-clause-opened
-returns-clause-opened g c = opens_never_refused
+pub returns-clause-served : goal.returns-clause-served
+returns-clause-served g c = served_once
+
+pub returns-clause-numbers : goal.returns-clause-numbers
+returns-clause-numbers g c = has_numbers
