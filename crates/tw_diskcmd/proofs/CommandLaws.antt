@@ -11,13 +11,12 @@ use Rattle.tw_outside.specs.Files.{Files}
 use Rattle.tw_text.specs.declared.refusal.StoreCause.{StoreCause}
 use Rattle.tw_text.specs.declared.fault.CommandFault.{CommandFault}
 use Rattle.tw_text.specs.declared.fault.CommandFault.TheVariants.{Refused, Unserved, Unreadable, InputFault, DiskFault, NoMemory}
-use Rattle.tw_diskcmd.specs.Appending.{AppendComes, AppendLeaves, AppendSafe, MeetsBadLink}
+use Rattle.tw_diskcmd.specs.Appending.{AppendComes, AppendLeaves, AppendSafe}
 use Rattle.tw_diskcmd.specs.Disks.{FoundDisk, IsLeft, Keeps, ReadLeaves, ReadsAs}
 use Rattle.tw_diskcmd.specs.Making.{InitComes, InitLeaves, InitSafe}
-use Rattle.tw_diskcmd.specs.Proving.{MeetsBadPage, ProveComes}
+use Rattle.tw_diskcmd.specs.Proving.{ProveComes}
 use Rattle.tw_diskcmd.specs.WorkSteps.{WritesNothing}
 use Rattle.tw_diskcmd.proofs.AtRest.{left_begins, left_keeps, rests_reads, untouched_left}
-use Rattle.tw_diskcmd.proofs.Served.{served}
 
 -- ---- what it comes to
 
@@ -37,7 +36,7 @@ module _ (a : Asked) (t : FoundDisk) where
   append_causes file = record {
     input = λ rose. (tt, rose);
     disk = λ came. (tt, came.2);
-    serves = λ h reads why came. served (MeetsBadLink came.0) t.found h reads why came.2;
+    serves = λ h reads why came. came.2.machine h reads;
     memory = tt;
   }
 
@@ -45,7 +44,7 @@ module _ (a : Asked) (t : FoundDisk) where
   prove_causes step index top = record {
     input = λ came. absurd came;
     disk = λ rose. (tt, rose);
-    serves = λ h reads why came. served (MeetsBadPage step index top) t.found h reads why came;
+    serves = λ h reads why came. came.machine h reads;
     memory = tt;
   }
 

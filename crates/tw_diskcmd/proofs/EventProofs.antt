@@ -29,52 +29,54 @@ use Rattle.tw_service.specs.Machine.{Answers, IsStepOf, Reply}
 use Rattle.tw_service.specs.Machine.Call.{ProveEvent}
 use Rattle.tw_service.specs.Machine.Reply.{OfProof, Refused}
 use Rattle.tw_text.specs.declared.fault.CommandFault.{CommandFault}
-use Rattle.tw_diskcmd.specs.Disks.{OpensAsService, OpensAsServiceWith, ReadsAs, found_disk}
-use Rattle.tw_diskcmd.specs.Proving.{MeetsBadPage, ProveComes, Proves, ProvesUnder, top_of}
+use Rattle.tw_text.specs.declared.fault.CommandFault.TheVariants as fault
+use Rattle.tw_service.specs.declared.root.RootRecord.{RootRecord}
+use Rattle.tw_service.proofs.Answering.{order_told}
+use Rattle.tw_diskcmd.specs.Answers.{IsOpened, MachineRefuses}
+use Rattle.tw_diskcmd.specs.Disks.{FoundDisk, ReadsAs}
+use Rattle.tw_diskcmd.specs.Proving.{MachineProves, ProveComes, ProvesUnder, TableProves, proved, top_of}
 use Rattle.tw_diskcmd.specs.Faults.{fault_of_service}
 use Rattle.tw_skipproof.proofs.WideIndex.{few_events, makes_at}
-use Rattle.tw_diskcmd.proofs.Openings.{only_opens, opens_with}
+use Rattle.tw_diskcmd.proofs.Results.{TellsOfDisk, done, machine_refuses, no_reopen, refused, same_err, table_refuses}
 
 -- ---- the table for the order of steps
 
-abbrev pub IsOfOrder : (last : ℕ) → Refusal → Type 0
-IsOfOrder last (service.NoStep told) = told ≡ last
-IsOfOrder last _ = ⊥
-
-pub order_of_order : (last step top : ℕ) (r : Refusal) → order_refusal false last step top ≡ Some r → IsOfOrder last r
+-- the table has one refusal, that of no such step
+order_of_order : (last step top : ℕ) (r : Refusal) → order_refusal false last step top ≡ Some r → IsNoEvent r → ⊥
 unfolding order_refusal
-order_of_order last step top r is =
-    let cases : (b : Bool) → (if b then None else Some (service.NoStep last)) ≡ Some r → IsOfOrder last r =
-    elim [ true ↦ λ same. cc | false ↦ λ same. subst (λ (o : Option Refusal). MatchOption o ⊥ (IsOfOrder last)) same refl ] in
-    cases (is_in_order last step top) is
+order_of_order last step top r is none =
+    let cases : (b : Bool) → (if b then None else Some (service.NoStep last)) ≡ Some r → IsNoEvent r → ⊥ =
+    elim [ true ↦ λ same none. cc | false ↦ λ same none. subst (λ (o : Option Refusal). MatchOption o ⊥ (λ q. IsNoEvent q → ⊥)) same (λ no. no) none ] in
+    cases (is_in_order last step top) is none
 
 abbrev pub Table : Option Refusal → Result (List ℕ) Refusal → Type 0
 Table table result = MatchOption table (IfErr result (λ r. IsFault r ⊎ IsNoEvent r)) (λ refusal. result ≡ Err refusal)
 
-abbrev refusal : Refusal → Result (List ℕ) Refusal
-refusal r = Err r
+allowed : (table : Option Refusal) (bytes : List ℕ) → Table table (Ok bytes) → table ≡ None
+allowed None bytes is = refl
+allowed (Some r) bytes is = let other : ◌≡◌ {A = Result (List ℕ) Refusal} (Ok bytes) (Err r) = is in cc
 
-same_err : (r s : Refusal) → refusal r ≡ refusal s → s ≡ r
-same_err r s is = cc
+module _ (step : ℕ) (top : Option ℕ) where
+  abbrev order : (last : ℕ) → Option Refusal
+  order last = order_refusal false last step (top_of top last)
 
-is_refusal : (table : Option Refusal) (r : Refusal) → Table table (Err r) → (IsFault r → ⊥) → (IsNoEvent r → ⊥) → table ≡ Some r
-is_refusal None r is not_fault not_event = absurd (⊎_elim not_fault not_event is)
-is_refusal (Some s) r is not_fault not_event = ap (λ (t : Refusal). Some t) (same_err r s is)
+  -- where the steps are in their order, there is no such event, or a page is bad
+  in_order : (last : ℕ) → order last ≡ None → (r : Refusal) → TellsOfDisk r → IsFault r ⊎ IsNoEvent r → TableProves step top (Err (fault_of_service r))
+  in_order last none (service.NoEvent count) tells is = (last, none)
+  in_order last none (service.BadPage page) tells is = tt
+  in_order last none service.DiskFault tells is = absurd tells
+  in_order last none service.NoMemory tells is = absurd tells
+  in_order last none _ tells (inl is) = absurd is
+  in_order last none _ tells (inr is) = absurd is
 
-abbrev answer : List ℕ → Result (List ℕ) Refusal
-answer bytes = Ok bytes
+  -- else the refusal is the table's, which has no other
+  out_of_order : (last : ℕ) (r : Refusal) → order last ≡ Some r → TableProves step top (Err (fault_of_service r))
+  out_of_order last (service.NoEvent count) is = absurd (order_of_order last step (top_of top last) (service.NoEvent count) is tt)
+  out_of_order last r is = table_refuses order last r is
 
-no_refusal : (table : Option Refusal) (bytes : List ℕ) → Table table (Ok bytes) → table ≡ None
-no_refusal None bytes is = refl
-no_refusal (Some r) bytes is = let other : answer bytes ≡ refusal r = is in cc
-
--- where a refusal came that isn't of the table for their order, the steps are in their order
-in_order : (last step top : ℕ) (q : Refusal) → (IsOfOrder last q → ⊥) → Table (order_refusal false last step top) (Err q) → order_refusal false last step top ≡ None
-in_order last step top q other table = by (order_refusal false last step top) refl table
-  where
-    by : (t : Option Refusal) → order_refusal false last step top ≡ t → Table t (Err q) → t ≡ None
-    by None is table = refl
-    by (Some r) is table = absurd (other (subst (IsOfOrder last) (same_err q r table) (order_of_order last step top r is)))
+  by_table : (last : ℕ) (o : Option Refusal) → order last ≡ o → (r : Refusal) → TellsOfDisk r → Table o (Err r) → TableProves step top (Err (fault_of_service r))
+  by_table last None none r tells is = in_order last none r tells is
+  by_table last (Some q) some r tells is = out_of_order last r (some ∙ ap (λ (x : Refusal). Some x) (same_err {X = List ℕ} r q is))
 
 -- ---- an index of more than 32 bits
 
@@ -137,47 +139,43 @@ module _ (pages : Image) (name : List ℕ) (head : Head) (step index top : ℕ) 
 
 -- ---- what the service's answer comes to
 
-module _ (found : Option Image) (before after : ℕ) (step index at : ℕ) (asked : Option ℕ) (top : ℕ) (is_broken : Bool) (name : List ℕ) (head : Head) (told : Option Image) (opens : OpensAsServiceWith found name head (λ pages. told ≡ Some pages)) (whole : is_broken ≡ false)
-    (at_is : at ≡ min index 4294967295) (top_is : top ≡ top_of asked head.step)
-    (OldServes NewServes : History → Type 0) (serves : (h : History) → ReadsAs found h → OldServes h)
-    (ends_at : (h : History) → OldServes h → head.step ≡ length h.steps) where
-  the_top : (h : History) → ReadsAs found h → top ≡ top_of asked (length h.steps)
+module _ (t : FoundDisk) (step index at : ℕ) (asked : Option ℕ) (top : ℕ) (is_broken : Bool) (root : RootRecord) (pages : Option Image) (opens : IsOpened t.found root pages) (whole : is_broken ≡ false)
+    (at_is : at ≡ min index 4294967295) (top_is : top ≡ top_of asked root.head.step)
+    (OldServes NewServes : History → Type 0) (serves : (h : History) → ReadsAs t.found h → OldServes h)
+    (ends_at : (h : History) → OldServes h → root.head.step ≡ length h.steps) where
+  the_top : (h : History) → ReadsAs t.found h → top ≡ top_of asked (length h.steps)
   the_top h reads = top_is ∙ ap (top_of asked) (ends_at h (serves h reads))
 
-  machine_at : (reply : Reply) (h next : History) → ReadsAs found h → IsStepOf sha256 h (ProveEvent step at top) reply next
+  machine_at : (h : History) → ReadsAs t.found h → (reply : Reply) → IsStepOf sha256 h (ProveEvent step at top) reply h
       → IsStepOf sha256 h (ProveEvent step index (top_of asked (length h.steps))) reply h
-  machine_at reply h next reads is =
-      subst (λ (t : ℕ). IsStepOf sha256 h (ProveEvent step index t) reply h) (the_top h reads)
-      (step_at_index h step index top reads.stands.sound reply next (subst (λ (i : ℕ). IsStepOf sha256 h (ProveEvent step i top) reply next) at_is is))
+  machine_at h reads reply is =
+      subst (λ (to : ℕ). IsStepOf sha256 h (ProveEvent step index to) reply h) (the_top h reads)
+      (step_at_index h step index top reads.stands.sound reply h (subst (λ (i : ℕ). IsStepOf sha256 h (ProveEvent step i top) reply h) at_is is))
 
-  proof_here : (pages : Image) → event_proof sha256 pages name head step at top ≡ event_proof sha256 pages name head step index (top_of asked head.step)
-  proof_here pages =
-      ap (λ (i : ℕ). event_proof sha256 pages name head step i top) at_is ∙ proof_at_index pages name head step index top
-      ∙ ap (event_proof sha256 pages name head step index) top_is
+  -- what was found is what is found of the index that was asked for
+  found_here : (ps : Image) → found_event sha256 ps root.name root.head step at top is_broken ≡ proved step index asked root ps
+  found_here ps =
+      ap (λ (b : Bool). found_event sha256 ps root.name root.head step at top b) whole
+      ∙ ap (λ (i : ℕ). found_event sha256 ps root.name root.head step i top false) at_is
+      ∙ ap (λ (f : Found (Result (List ℕ) Refusal)). unless (order_refusal false root.head.step step top) f) (proof_at_index ps root.name root.head step index top)
+      ∙ ap (λ (to : ℕ). found_event sha256 ps root.name root.head step index to false) top_is
 
-  -- where the table refuses nothing, what is found is the proof
-  found_here : (pages : Image) → order_refusal false head.step step top ≡ None → found_event sha256 pages name head step at top is_broken ≡ event_proof sha256 pages name head step index (top_of asked head.step)
-  found_here pages none =
-      ap (λ (b : Bool). found_event sha256 pages name head step at top b) whole
-      ∙ ap (λ (o : Option Refusal). unless o (event_proof sha256 pages name head step at top)) none ∙ proof_here pages
+  here_table : (result : Result (List ℕ) Refusal) → Table (order_refusal is_broken root.head.step step top) result → Table (order step asked root.head.step) result
+  here_table result table =
+      subst (λ (to : ℕ). Table (order_refusal false root.head.step step to) result) top_is (subst (λ b. Table (order_refusal b root.head.step step top) result) whole table)
 
-  pub proof_done : (bytes : List ℕ) → Table (order_refusal is_broken head.step step top) (Ok bytes) → ((h : History) → OldServes h → MakesExistence sha256 h step at top bytes)
+  pub proof_done : (bytes : List ℕ) → Table (order_refusal is_broken root.head.step step top) (Ok bytes) → ((h : History) → OldServes h → MakesExistence sha256 h step at top bytes)
       → ((h : History) → OldServes h → (anchors : List Thread) (anchor : Thread) → anchor_of anchors h.name top ≡ Some anchor → anchor.auth ≡ auth sha256 h top → Accepts sha256 anchors bytes)
       → (is_broken ≡ false → (h : History) → OldServes h → Answers sha256 h (ProveEvent step at top) (λ b. OfProof b) (Ok bytes) NewServes)
-      → ((pages : Image) → told ≡ Some pages → found_event sha256 pages name head step at top is_broken ≡ Is (Ok bytes))
-      → Proves found step index asked bytes
-  proof_done bytes table made accepted machine finds = record {
-    name = name;
-    head = head;
-    opens = opens_with found name head (λ pages. told ≡ Some pages) (λ pages. event_proof sha256 pages name head step index (top_of asked head.step) ≡ Is (Ok bytes))
-        (λ pages is. sym (found_here pages (no_refusal (order_refusal false head.step step top) bytes (subst (λ b. Table (order_refusal b head.step step top) (Ok bytes)) whole table))) ∙ finds pages is) opens;
-    allowed =
-        subst (λ (t : ℕ). order_refusal false head.step step t ≡ None) top_is
-        (no_refusal (order_refusal false head.step step top) bytes (subst (λ b. Table (order_refusal b head.step step top) (Ok bytes)) whole table));
-    proves = λ h reads. subst (λ (t : ℕ). ProvesUnder step index t bytes h) (the_top h reads) (under h reads);
-  }
+      → ((ps : Image) → pages ≡ Some ps → found_event sha256 ps root.name root.head step at top is_broken ≡ Is (Ok bytes))
+      → ProveComes t step index asked (Ok bytes)
+  proof_done bytes table made accepted machine finds =
+      done (proved step index asked) (TableProves step asked) (MachineProves step index asked) t root pages opens bytes
+      (λ ps is. sym (found_here ps) ∙ finds ps is)
+      (root.head.step, allowed (order step asked root.head.step) bytes (here_table (Ok bytes) table))
+      (λ h reads. subst (λ (to : ℕ). ProvesUnder step index to bytes h) (the_top h reads) (under h reads))
     where
-      under : (h : History) → ReadsAs found h → ProvesUnder step index top bytes h
+      under : (h : History) → ReadsAs t.found h → ProvesUnder step index top bytes h
       under h reads =
           let move = machine whole h (serves h reads) in
           record {
@@ -186,65 +184,19 @@ module _ (found : Option Image) (before after : ℕ) (step index at : ℕ) (aske
             accepted = accepted h (serves h reads);
           }
 
-  pub proof_refused : (r : Refusal) (came : CommandFault) → came ≡ fault_of_service r → Table (order_refusal is_broken head.step step top) (Err r)
+  -- the machine's refusal of the index that was asked for
+  refused_here : (h : History) → ReadsAs t.found h → (f : CommandFault) → MachineRefuses h (ProveEvent step at top) f → MachineRefuses h (ProveEvent step index (top_of asked (length h.steps))) f
+  refused_here h reads (fault.Unserved cause) is = is
+  refused_here h reads f is = (is.0, is.1, machine_at h reads (Refused is.0) is.2)
+
+  pub proof_refused : (r : Refusal) (came : CommandFault) → came ≡ fault_of_service r → Table (order_refusal is_broken root.head.step step top) (Err r)
       → (is_broken ≡ false → (h : History) → OldServes h → Answers sha256 h (ProveEvent step at top) (λ b. OfProof b) (Err r) NewServes)
-      → (refusal r ≡ Err service.DiskFault → Rose before after)
-      → ((pages : Image) → told ≡ Some pages → IsRefusalOf r (found_event sha256 pages name head step at top is_broken))
-      → ProveComes (found_disk found before after) step index asked (Err came)
-  proof_refused r came is table_then machine fault met =
-      subst (λ (f : CommandFault). ProveComes (found_disk found before after) step index asked (Err f)) (sym is) (by r table_then machine fault met)
-    where
-      only : OpensAsService found name head
-      only = only_opens found name head (λ pages. told ≡ Some pages) opens
-
-      table_of : (r : Refusal) → Table (order_refusal is_broken head.step step top) (Err r) → (IsFault r → ⊥) → (IsNoEvent r → ⊥) → order_refusal false head.step step top ≡ Some r
-      table_of r table not_fault not_event =
-          is_refusal (order_refusal false head.step step top) r (subst (λ b. Table (order_refusal b head.step step top) (Err r)) whole table) not_fault not_event
-
-      never : (r : Refusal) → Table (order_refusal is_broken head.step step top) (Err r) → (IsFault r → ⊥) → (IsNoEvent r → ⊥) → (IsOfOrder head.step r → ⊥) → ⊥
-      never r table not_fault not_event other = other (order_of_order head.step step top r (table_of r table not_fault not_event))
-
-      last_told : (told : ℕ) → Table (order_refusal is_broken head.step step top) (Err (service.NoStep told)) → told ≡ head.step
-      last_told told table = order_of_order head.step step top (service.NoStep told) (table_of (service.NoStep told) table (λ no. no) (λ no. no))
-
-      no_step : (told : ℕ) → Table (order_refusal is_broken head.step step top) (Err (service.NoStep told))
-          → order_refusal false head.step step (top_of asked head.step) ≡ Some (service.NoStep told)
-      no_step told table =
-          subst (λ (t : ℕ). order_refusal false head.step step t ≡ Some (service.NoStep told)) top_is (table_of (service.NoStep told) table (λ no. no) (λ no. no))
-
-      none_of : (q : Refusal) → (IsOfOrder head.step q → ⊥) → Table (order_refusal is_broken head.step step top) (Err q) → order_refusal false head.step step top ≡ None
-      none_of q other table = in_order head.step step top q other (subst (λ b. Table (order_refusal b head.step step top) (Err q)) whole table)
-
-      allowed : (q : Refusal) → (IsOfOrder head.step q → ⊥) → Table (order_refusal is_broken head.step step top) (Err q)
-          → order_refusal false head.step step (top_of asked head.step) ≡ None
-      allowed q other table =
-          subst (λ (t : ℕ). order_refusal false head.step step t ≡ None) top_is
-          (in_order head.step step top q other (subst (λ b. Table (order_refusal b head.step step top) (Err q)) whole table))
-
-      by : (r : Refusal) → Table (order_refusal is_broken head.step step top) (Err r)
-          → (is_broken ≡ false → (h : History) → OldServes h → Answers sha256 h (ProveEvent step at top) (λ b. OfProof b) (Err r) NewServes)
-          → (refusal r ≡ Err service.DiskFault → Rose before after)
-          → ((pages : Image) → told ≡ Some pages → IsRefusalOf r (found_event sha256 pages name head step at top is_broken))
-          → ProveComes (found_disk found before after) step index asked (Err (fault_of_service r))
-      by (service.NoStep told) table machine fault met =
-          (record { name = name; head = head; opens = only; table = no_step told table; machine = λ h reads. machine_at (Refused (service.NoStep told)) h h reads (machine whole h (serves h reads)).0 }, last_told told table)
-      by (service.NoEvent count) table machine fault met = (
-        record { name = name; head = head; opens = only; table = allowed (service.NoEvent count) (λ no. no) table; machine = λ h reads. machine_at (Refused (service.NoEvent count)) h h reads (machine whole h (serves h reads)).0 },
-        opens_with found name head (λ pages. told ≡ Some pages) (λ pages. event_proof sha256 pages name head step index (top_of asked head.step) ≡ Is (Err (service.NoEvent count)))
-            (λ pages is. sym (found_here pages (none_of (service.NoEvent count) (λ no. no) table)) ∙ met pages is) opens,
-      )
-      by service.Full table machine fault met = absurd (never service.Full table (λ no. no) (λ no. no) (λ no. no))
-      by (service.TooMany count) table machine fault met = absurd (never (service.TooMany count) table (λ no. no) (λ no. no) (λ no. no))
-      by (service.TooLong bytes) table machine fault met = absurd (never (service.TooLong bytes) table (λ no. no) (λ no. no) (λ no. no))
-      by service.Reopen table machine fault met = absurd (never service.Reopen table (λ no. no) (λ no. no) (λ no. no))
-      by (service.BadPage page) table machine fault met = λ image reads. (
-        (
-          name,
-          head,
-          opens_with found name head (λ pages. told ≡ Some pages) (λ pages. MeetsBadPage step index asked pages name head page)
-              (λ pages is. (allowed (service.BadPage page) (λ no. no) table, sym (found_here pages (none_of (service.BadPage page) (λ no. no) table)) ∙ met pages is)) opens image reads,
-        ),
-        λ h stands. machine whole h (serves h (record { image = image; told = reads; stands = stands })),
-      )
-      by service.DiskFault table machine fault met = fault refl
-      by service.NoMemory table machine fault met = tt
+      → (◌≡◌ {A = Result (List ℕ) Refusal} (Err r) (Err service.DiskFault) → Rose t.before t.after)
+      → ((ps : Image) → pages ≡ Some ps → IsRefusalOf r (found_event sha256 ps root.name root.head step at top is_broken))
+      → ProveComes t step index asked (Err came)
+  proof_refused r came is table machine rose finds =
+      refused (proved step index asked) (TableProves step asked) (MachineProves step index asked) t root pages opens r came is
+      (no_reopen (List ℕ) (order step asked root.head.step) (λ q. IsFault q ⊎ IsNoEvent q) (order_told root.head.step step (top_of asked root.head.step)) (λ is. ⊎_elim (λ no. no) (λ no. no) is) r (here_table (Err r) table)) rose
+      (λ ps told. subst (IsRefusalOf r) (found_here ps) (finds ps told))
+      (λ tells. by_table step asked root.head.step (order step asked root.head.step) refl r tells (here_table (Err r) table))
+      (λ tells h reads. refused_here h reads (fault_of_service r) (machine_refuses h (ProveEvent step at top) (λ b. OfProof b) NewServes r tells (machine whole h (serves h reads))))

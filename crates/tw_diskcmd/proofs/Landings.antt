@@ -11,39 +11,14 @@ use Rattle.tw_outside.specs.Files.{Files}
 use Rattle.tw_pages.specs.Slots.{IsTaken}
 use Rattle.tw_pages.specs.declared.open.StoreFault.{StoreFault}
 use Rattle.tw_pages.specs.declared.open.StoreFault.TheVariants as store
-use Rattle.tw_service.specs.Stands.{IsNotOpenedFor}
-use Rattle.tw_skiplist.specs.declared.head.Head.{Head}
-use Rattle.tw_text.specs.declared.refusal.StoreCause.{StoreCause}
-use Rattle.tw_text.specs.declared.refusal.StoreCause.TheVariants.{Blank, NotAStore}
 use Rattle.tw_text.specs.declared.fault.CommandFault.{CommandFault}
 use Rattle.tw_text.specs.declared.fault.CommandFault.TheVariants.{Refused, Unserved, Unreadable, InputFault, DiskFault, NoMemory}
 use Rattle.tw_diskcmd.specs.Appending.{AppendComes, AppendLeaves, AreEventsOf, StepComes}
-use Rattle.tw_diskcmd.specs.Disks.{FoundDisk, IsLeft, IsUnserved, ReadLeaves, ReadsAs, Settles, found_disk}
+use Rattle.tw_diskcmd.specs.Disks.{FoundDisk, IsLeft, ReadLeaves, ReadsAs, Settles, found_disk}
 use Rattle.tw_diskcmd.specs.Faults.{fault_of_store}
 use Rattle.tw_diskcmd.specs.Making.{InitComes, InitLeaves, InitSafe}
 use Rattle.tw_diskcmd.specs.WorkSteps.{IsStop, LeavesStep, WritesNothing}
 use Rattle.tw_diskcmd.proofs.AtRest.{no_call_left, old_or_one, one_of, reads_as}
-
--- ---- a disk that isn't opened
-
-module _ (found : Option Image) (before after : ℕ) (f : StoreFault)
-    (refused : (image : Image) → found ≡ Some image → (f ≡ store.DiskFault) ⊎ IsNotOpenedFor image f)
-    (answers : (f ≢ store.Taken) × (f ≢ store.NoMemory)) (fault : f ≡ store.DiskFault → Rose before after) where
-  not_opened : (g : StoreFault) → g ≡ f → (g ≡ store.DiskFault → ⊥) → (image : Image) → found ≡ Some image → IsNotOpenedFor image g
-  not_opened g same other image told =
-      ⊎_elim (λ is. absurd (other (same ∙ is))) (λ why. subst (IsNotOpenedFor image) (sym same) why) (refused image told)
-
-  -- what holds where nothing is served, and after a disk fault, holds of what a command comes to then
-  pub unopened : (Meets : (pages : Image) → (name : List ℕ) → Head → (page : ℕ) → Type 0) (P : CommandFault → Type 0)
-      → ((cause : StoreCause) → IsUnserved Meets found cause → P (Unserved cause)) → (Rose before after → P DiskFault) → (came : CommandFault) → came ≡ fault_of_store f → P came
-  unopened Meets P unserved failed came is = subst P (sym is) (by f refl)
-    where
-      by : (g : StoreFault) → g ≡ f → P (fault_of_store g)
-      by store.Taken same = absurd (answers.0 (sym same))
-      by store.Blank same = unserved Blank (not_opened store.Blank same (λ is. cc))
-      by (store.NotAStore slot) same = unserved (NotAStore slot) (not_opened (store.NotAStore slot) same (λ is. cc))
-      by store.DiskFault same = failed (fault (sym same))
-      by store.NoMemory same = absurd (answers.1 (sym same))
 
 -- ---- what the work comes to is what its command comes to
 

@@ -1,9 +1,7 @@
 pub mod EventFiles
 pub mod AtRest
-pub mod Openings
+pub mod Results
 pub mod Steps
 pub mod EventProofs
 pub mod Landings
-pub mod OneAnswer
-pub mod Served
 pub mod CommandLaws

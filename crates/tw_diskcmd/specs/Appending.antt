@@ -10,24 +10,21 @@ use Rattle.tw_disk.specs.Image.{Image}
 use Rattle.tw_msg.specs.EventsFile.{events_file}
 use Rattle.tw_outside.specs.Asked.{Asked}
 use Rattle.tw_outside.specs.Files.{Files, IsThere, Tells}
-use Rattle.tw_skiplist.specs.declared.head.Head.{Head}
 use Rattle.tw_service.specs.declared.refusal.Refusal.{Refusal as ServiceRefusal}
-use Rattle.tw_service.specs.declared.refusal.Refusal.TheVariants as service
-use Rattle.tw_skiplist.specs.declared.head.StepRef.{StepRef}
-use Rattle.tw_skiplist.specs.Found.Found.{Is, Bad}
-use Rattle.tw_skiplist.specs.Walks.{next_links}
+use Rattle.tw_skiplist.specs.Found.{Found}
+use Rattle.tw_service.specs.Finds.{found_thread}
 use Rattle.tw_service.specs.Limits.{append_refusal}
 use Rattle.tw_service.specs.Machine.{IsStepOf, NextOf, last_thread}
 use Rattle.tw_service.specs.Machine.Call.{Append}
-use Rattle.tw_service.specs.Machine.Reply.{OfThread, Refused}
+use Rattle.tw_service.specs.Machine.Reply.{OfThread}
+use Rattle.tw_service.specs.declared.root.RootRecord.{RootRecord}
 use Rattle.tw_service.specs.Stands.{StandsForOneOf}
 use Rattle.tw_text.specs.declared.refusal.BadInput.TheVariants.{BadByte}
-use Rattle.tw_text.specs.declared.refusal.Refusal.{Refusal}
-use Rattle.tw_text.specs.declared.refusal.Refusal.TheVariants.{Full, TooMany, TooLong}
 use Rattle.tw_diskcmd.specs.declared.limits.TheConstants.{EVENTS_LIMIT}
 use Rattle.tw_text.specs.declared.fault.CommandFault.{CommandFault}
 use Rattle.tw_text.specs.declared.fault.CommandFault.TheVariants as fault
-use Rattle.tw_diskcmd.specs.Disks.{Adds, FoundDisk, IsLeft, IsOf, IsUnserved, KeepsOrAdds, LeavesOldOrOneOf, OpensAsService, OpensAsServiceWith, ReadsAs, ReadsAsOneOf, Settles, Stands}
+use Rattle.tw_diskcmd.specs.Answers.{ComesTo, IsResult, MachineRefuses, TableRefuses}
+use Rattle.tw_diskcmd.specs.Disks.{Adds, FoundDisk, IsLeft, IsOf, KeepsOrAdds, LeavesOldOrOneOf, ReadsAs, ReadsAsOneOf, Settles, Stands}
 
 -- the file is there; where the inputs tell its bytes, they are the events file of these events
 pub record AreEventsOf (told : Option Files) (file : List ℕ) (events : List (List ℕ)) : Type 0 where
@@ -42,52 +39,32 @@ IsBadEventsByte bytes place =
     ((EVENTS_LIMIT < length bytes) × (place ≡ EVENTS_LIMIT))
     ⊎ ((length bytes ≤ EVENTS_LIMIT) × SpellsNothing events_file bytes × IsPlace events_file bytes place)
 
--- the disk opened as a service of this name and head, whose pages have each link of the next step and which refuses nothing, and
--- the thread told is of its name and of the next step; where the disk reads as a history, this is a step of the machine to the
--- longer one, whose last thread is told
-pub record AddsStep (found : Option Image) (events : List (List ℕ)) (thread : Thread) : Type 0 where
-  pub name : List ℕ
-  pub head : Head
-  pub opens : OpensAsServiceWith found name head (λ pages. (links : List StepRef) × (next_links pages head ≡ Is links))
-  pub allowed : append_refusal false head.step events ≡ None
-  pub from : thread.from ≡ name
-  pub next : thread.step ≡ head.step + 1
-  pub last : (h : History) → ReadsAs found h → thread ≡ last_thread sha256 (with_events h events)
-  pub machine : (h : History) → ReadsAs found h → IsStepOf sha256 h (Append events) (OfThread thread) (with_events h events)
+-- the thread of the next step that is found in a service's pages, with these events and its archive
+abbrev pub added : (events : List (List ℕ)) → RootRecord → Image → Found (Result Thread ServiceRefusal)
+added events root pages = found_thread sha256 pages root.name root.head false events root.archive
 
--- the disk opened as a service of this name and head, which refuses the events; where the disk reads as a history, so does the
--- machine
-pub record RefusesEvents (found : Option Image) (events : List (List ℕ)) (refusal : ServiceRefusal) : Type 0 where
-  pub name : List ℕ
-  pub head : Head
-  pub opens : OpensAsService found name head
-  pub refused : append_refusal false head.step events ≡ Some refusal
-  pub machine : (h : History) → ReadsAs found h → IsStepOf sha256 h (Append events) (Refused refusal) h
+-- for some number of steps the table refuses nothing, and the thread is of the next one
+abbrev pub TableAdds : (events : List (List ℕ)) → Result Thread CommandFault → Type 0
+TableAdds events (Ok thread) = (last : ℕ) × (append_refusal false last events ≡ None) × (thread.step ≡ last + 1)
+TableAdds events (Err why) = TableRefuses (λ last. append_refusal false last events) why
 
--- a service with these pages and this head refuses nothing, and the reading of the next step's links meets this page first that
--- isn't the page of its step
-abbrev pub MeetsBadLink : (events : List (List ℕ)) → (pages : Image) → (name : List ℕ) → Head → (page : ℕ) → Type 0
-MeetsBadLink events pages name head page = (append_refusal false head.step events ≡ None) × (next_links pages head ≡ Bad page)
+-- the machine's step to the longer history, whose last thread is told
+abbrev pub MachineAdds : (events : List (List ℕ)) → History → Result Thread CommandFault → Type 0
+MachineAdds events h (Ok thread) =
+    (thread ≡ last_thread sha256 (with_events h events)) × IsStepOf sha256 h (Append events) (OfThread thread) (with_events h events)
+MachineAdds events h (Err why) = MachineRefuses h (Append events) why
 
 -- P holds of the events of the file
 abbrev pub OfEvents : (told : Option Files) (file : List ℕ) → (List (List ℕ) → Type 0) → Type 0
 OfEvents told file P = (events : List (List ℕ)) × AreEventsOf told file events × P events
 
--- the refusal is one of the table's for a step
-abbrev pub RefusesAs : (found : Option Image) (events : List (List ℕ)) → Refusal → Type 0
-RefusesAs found events Full = RefusesEvents found events service.Full
-RefusesAs found events (TooMany count) = RefusesEvents found events (service.TooMany count)
-RefusesAs found events (TooLong bytes) = RefusesEvents found events (service.TooLong bytes)
-RefusesAs found events _ = ⊥
+-- the result of the adding of these events to the disk's service
+abbrev pub IsStepResult : (found : Option Image) (events : List (List ℕ)) → Result Thread CommandFault → Type 0
+IsStepResult found events = IsResult (added events) (TableAdds events) (MachineAdds events) found
 
--- what the adding of these events comes to on the disk; want of memory is free
+-- what it comes to
 abbrev pub StepComes : FoundDisk → (events : List (List ℕ)) → Result Thread CommandFault → Type 0
-StepComes t events (Ok thread) = AddsStep t.found events thread
-StepComes t events (Err (fault.Refused refusal)) = RefusesAs t.found events refusal
-StepComes t events (Err (fault.Unserved cause)) = IsUnserved (MeetsBadLink events) t.found cause
-StepComes t events (Err fault.DiskFault) = Rose t.before t.after
-StepComes t events (Err fault.NoMemory) = Unit {0}
-StepComes t events _ = ⊥
+StepComes t events = ComesTo (added events) (TableAdds events) (MachineAdds events) t
 
 -- what the command comes to: the file isn't what it reads, or the inputs failed; else what the adding of its events comes to
 abbrev pub AppendComes : Asked → FoundDisk → (file : List ℕ) → Result Thread CommandFault → Type 0
@@ -101,7 +78,7 @@ module _ {D : Type 0} (view : D → DiskView) (old new : D) where
   -- the step is added, or a disk fault came and it may be; where it was refused, nothing was written and the disk became stable; where
   -- the file wasn't read or is none, no device call was made; at every other result nothing was written
   abbrev pub AppendLeaves : (told : Option Files) (file : List ℕ) → Result Thread CommandFault → Type 0
-  AppendLeaves told file (Ok thread) = OfEvents told file (λ events. AddsStep (view old).content events thread × Adds view (Append events) old new)
+  AppendLeaves told file (Ok thread) = OfEvents told file (λ events. IsStepResult (view old).content events (Ok thread) × Adds view (Append events) old new)
   AppendLeaves told file (Err fault.DiskFault) = OfEvents told file (λ events. KeepsOrAdds view (Append events) old new)
   AppendLeaves told file (Err (fault.Refused refusal)) = IsLeft view old new × Settles view old new
   AppendLeaves told file (Err (fault.Unreadable bad)) = new ≡ old

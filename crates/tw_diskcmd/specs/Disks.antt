@@ -5,14 +5,10 @@ use Rattle.tw_base.specs.History.{History}
 use Rattle.tw_disk.specs.Disk.{DiskView, LeavesOnly, Only, Reads}
 use Rattle.tw_disk.specs.Image.{Image}
 use Rattle.tw_pages.specs.Slots.{IsTaken}
-use Rattle.tw_pages.specs.declared.open.StoreFault.TheVariants as fault
-use Rattle.tw_skiplist.specs.declared.head.Head.{Head}
 use Rattle.tw_service.specs.Machine.{Call, NextOf}
-use Rattle.tw_service.specs.Stands.{IsBlankOrNew, IsNotOpenedFor, OpensFor, OpensWith, StandsFor, StandsForOneOf, no_history}
+use Rattle.tw_service.specs.Stands.{IsBlankOrNew, StandsFor, StandsForOneOf, no_history}
 use Rattle.tw_text.specs.declared.fault.CommandFault.{CommandFault}
 use Rattle.tw_text.specs.declared.fault.CommandFault.TheVariants.{Refused}
-use Rattle.tw_text.specs.declared.refusal.StoreCause.{StoreCause}
-use Rattle.tw_text.specs.declared.refusal.StoreCause.TheVariants.{Blank, NotAStore, BadPage}
 
 -- what a command met of a disk: what it read as at first, where it tells that, and how often it had failed before and after
 pub record FoundDisk : Type 0 where
@@ -32,29 +28,6 @@ pub record ReadsAs (found : Option Image) (h : History) : Type 0 where
   pub image : Image
   pub told : found ≡ Some image
   pub stands : IsOf h image
-
--- the image opens as a service of some name and head, and the command meets this page in its pages
-abbrev pub HasBadPage : (Meets : (pages : Image) → (name : List ℕ) → Head → (page : ℕ) → Type 0) → Image → (page : ℕ) → Type 0
-HasBadPage Meets image page = (name : List ℕ) × (head : Head) × OpensWith image name head (λ pages. Meets pages name head page)
-
--- why an image can't be served to a command that meets such pages: it opens as no service; or it opens as one, has such a page, and
--- stands for no history
-abbrev pub IsCause : (Meets : (pages : Image) → (name : List ℕ) → Head → (page : ℕ) → Type 0) → Image → StoreCause → Type 0
-IsCause Meets image Blank = IsNotOpenedFor image fault.Blank
-IsCause Meets image (NotAStore slot) = IsNotOpenedFor image (fault.NotAStore slot)
-IsCause Meets image (BadPage page) = HasBadPage Meets image page × ((h : History) → IsOf h image → ⊥)
-
--- the same of what the disk reads as, where it is told
-abbrev pub IsUnserved : (Meets : (pages : Image) → (name : List ℕ) → Head → (page : ℕ) → Type 0) → (found : Option Image) → StoreCause → Type 0
-IsUnserved Meets found cause = (image : Image) → found ≡ Some image → IsCause Meets image cause
-
--- where what the disk reads as is told, it opens as a service of this name and head
-abbrev pub OpensAsService : (found : Option Image) → (name : List ℕ) → Head → Type 0
-OpensAsService found name head = (image : Image) → found ≡ Some image → OpensFor image name head
-
--- the same, and P holds of the service's pages
-abbrev pub OpensAsServiceWith : (found : Option Image) → (name : List ℕ) → Head → (Image → Type 0) → Type 0
-OpensAsServiceWith found name head P = (image : Image) → found ≡ Some image → OpensWith image name head P
 
 module _ {D : Type 0} (view : D → DiskView) where
   -- the disk stands for the history for good: its content is told, and each image that a crash now may leave, of which the content is

@@ -7,22 +7,20 @@ use Rattle.tw_base.specs.Auth.{auth}
 use Rattle.tw_base.specs.History.{History}
 use Rattle.tw_chain.specs.Accepting.{Accepts}
 use Rattle.tw_skipproof.specs.HistoryProofs.{MakesExistence}
-use Rattle.tw_base.specs.Faults.{Rose}
 use Rattle.tw_disk.specs.Image.{Image}
-use Rattle.tw_skiplist.specs.declared.head.Head.{Head}
 use Rattle.tw_service.specs.declared.refusal.Refusal.{Refusal as ServiceRefusal}
-use Rattle.tw_service.specs.declared.refusal.Refusal.TheVariants as service
-use Rattle.tw_skiplist.specs.Found.Found.{Is, Bad}
-use Rattle.tw_service.specs.Finds.{event_proof}
+use Rattle.tw_skiplist.specs.Found.{Found}
+use Rattle.tw_service.specs.Finds.{found_event}
 use Rattle.tw_service.specs.Limits.{order_refusal}
 use Rattle.tw_service.specs.Machine.{IsStepOf}
 use Rattle.tw_service.specs.Machine.Call.{ProveEvent}
-use Rattle.tw_service.specs.Machine.Reply.{OfProof, Refused}
-use Rattle.tw_text.specs.declared.refusal.Refusal.{Refusal}
-use Rattle.tw_text.specs.declared.refusal.Refusal.TheVariants.{NoStep, NoEvent}
+use Rattle.tw_service.specs.Machine.Reply.{OfProof}
+use Rattle.tw_text.specs.declared.refusal.Refusal.TheVariants.{NoEvent}
 use Rattle.tw_text.specs.declared.fault.CommandFault.{CommandFault}
 use Rattle.tw_text.specs.declared.fault.CommandFault.TheVariants as fault
-use Rattle.tw_diskcmd.specs.Disks.{FoundDisk, IsUnserved, OpensAsService, OpensAsServiceWith, ReadsAs}
+use Rattle.tw_service.specs.declared.root.RootRecord.{RootRecord}
+use Rattle.tw_diskcmd.specs.Answers.{ComesTo, MachineRefuses, TableRefuses}
+use Rattle.tw_diskcmd.specs.Disks.{FoundDisk}
 
 -- the top that the words give, or the last step where they give none
 abbrev pub top_of : (top : Option ℕ) → (last : ℕ) → ℕ
@@ -37,50 +35,25 @@ pub record ProvesUnder (step index top : ℕ) (proof : List ℕ) (h : History) :
   pub accepted : (anchors : List Thread) (anchor : Thread) → anchor_of anchors h.name top ≡ Some anchor
       → anchor.auth ≡ auth sha256 h top → Accepts sha256 anchors proof
 
--- the disk opened as a service of this name and head, of which the steps are in their order and in whose pages this proof is found;
--- where the disk reads as a history, it is the history's proof
-pub record Proves (found : Option Image) (step index : ℕ) (top : Option ℕ) (proof : List ℕ) : Type 0 where
-  pub name : List ℕ
-  pub head : Head
-  pub opens : OpensAsServiceWith found name head (λ pages. event_proof sha256 pages name head step index (top_of top head.step) ≡ Is (Ok proof))
-  pub allowed : order_refusal false head.step step (top_of top head.step) ≡ None
-  pub proves : (h : History) → ReadsAs found h → ProvesUnder step index (top_of top (length h.steps)) proof h
+-- the proof of the event that is found in a service's pages
+abbrev pub proved : (step index : ℕ) (top : Option ℕ) → RootRecord → Image → Found (Result (List ℕ) ServiceRefusal)
+proved step index top root pages = found_event sha256 pages root.name root.head step index (top_of top root.head.step) false
 
--- where the disk reads as a history, the machine refuses the proof
-abbrev pub MachineRefuses : (found : Option Image) → (step index : ℕ) (top : Option ℕ) → ServiceRefusal → Type 0
-MachineRefuses found step index top refusal =
-    (h : History) → ReadsAs found h → IsStepOf sha256 h (ProveEvent step index (top_of top (length h.steps))) (Refused refusal) h
+-- for some last step the steps are in their order
+abbrev pub AreInOrder : (step : ℕ) (top : Option ℕ) → Type 0
+AreInOrder step top = (last : ℕ) × (order_refusal false last step (top_of top last) ≡ None)
 
--- the disk opened as a service of this name and head, whose table for the order of steps comes to this; where the disk reads as a
--- history, the machine refuses the proof
-pub record RefusesAtHead (found : Option Image) (step index : ℕ) (top : Option ℕ) (order : Option ServiceRefusal) (refusal : ServiceRefusal) : Type 0 where
-  pub name : List ℕ
-  pub head : Head
-  pub opens : OpensAsService found name head
-  pub table : order_refusal false head.step step (top_of top head.step) ≡ order
-  pub machine : MachineRefuses found step index top refusal
+-- they are, where a proof is made or there is no such event; else the last step is told
+abbrev pub TableProves : (step : ℕ) (top : Option ℕ) → Result (List ℕ) CommandFault → Type 0
+TableProves step top (Ok proof) = AreInOrder step top
+TableProves step top (Err (fault.Refused (NoEvent count))) = AreInOrder step top
+TableProves step top (Err why) = TableRefuses (λ last. order_refusal false last step (top_of top last)) why
 
--- the steps aren't in their order, and the last step is told; or they are, and the step's page counts so many events, and none of this
--- index
-abbrev pub RefusesProof : (found : Option Image) → (step index : ℕ) (top : Option ℕ) → Refusal → Type 0
-RefusesProof found step index top (NoStep last) =
-    (refuses : RefusesAtHead found step index top (Some (service.NoStep last)) (service.NoStep last)) × (last ≡ refuses.head.step)
-RefusesProof found step index top (NoEvent count) =
-    (refuses : RefusesAtHead found step index top None (service.NoEvent count))
-    × OpensAsServiceWith found refuses.name refuses.head (λ pages. event_proof sha256 pages refuses.name refuses.head step index (top_of top refuses.head.step) ≡ Is (Err (service.NoEvent count)))
-RefusesProof found step index top _ = ⊥
+-- the history's proof
+abbrev pub MachineProves : (step index : ℕ) (top : Option ℕ) → History → Result (List ℕ) CommandFault → Type 0
+MachineProves step index top h (Ok proof) = ProvesUnder step index (top_of top (length h.steps)) proof h
+MachineProves step index top h (Err why) = MachineRefuses h (ProveEvent step index (top_of top (length h.steps))) why
 
--- the steps are in their order for a service with these pages and this head, and this page is the first met that isn't of its kind,
--- or the last one read where the event pages don't spell the step's events
-abbrev pub MeetsBadPage : (step index : ℕ) (top : Option ℕ) → (pages : Image) → (name : List ℕ) → Head → (page : ℕ) → Type 0
-MeetsBadPage step index top pages name head page =
-    (order_refusal false head.step step (top_of top head.step) ≡ None) × (event_proof sha256 pages name head step index (top_of top head.step) ≡ Bad page)
-
--- what it comes to; want of memory is free
+-- what it comes to
 abbrev pub ProveComes : FoundDisk → (step index : ℕ) (top : Option ℕ) → Result (List ℕ) CommandFault → Type 0
-ProveComes t step index top (Ok proof) = Proves t.found step index top proof
-ProveComes t step index top (Err (fault.Refused refusal)) = RefusesProof t.found step index top refusal
-ProveComes t step index top (Err (fault.Unserved cause)) = IsUnserved (MeetsBadPage step index top) t.found cause
-ProveComes t step index top (Err fault.DiskFault) = Rose t.before t.after
-ProveComes t step index top (Err fault.NoMemory) = Unit {0}
-ProveComes t step index top _ = ⊥
+ProveComes t step index top = ComesTo (proved step index top) (TableProves step top) (MachineProves step index top) t

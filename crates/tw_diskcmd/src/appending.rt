@@ -5,9 +5,10 @@ ghost use Rattle.sha2.specs.Sha256.{sha256};
 ghost use Rattle.tw_base.specs.History.{History, with_events};
 ghost use Rattle.tw_disk.specs.Image.{Image};
 ghost use Rattle.tw_outside.specs.Asked.{asked};
-ghost use Rattle.tw_service.specs.Serves.{Serves, disk_of, has_failed, head_of, name_of, pages_of};
+ghost use Rattle.tw_service.specs.Serves.{Serves, disk_of, has_failed, pages_of, record_of};
 ghost use Rattle.tw_diskcmd.specs.Appending.{AppendComes, AppendLeaves, AreEventsOf, StepComes};
-ghost use Rattle.tw_diskcmd.specs.Disks.{IsLeft, OpensAsServiceWith, ReadsAs, found_disk};
+ghost use Rattle.tw_diskcmd.specs.Answers.{IsOpened};
+ghost use Rattle.tw_diskcmd.specs.Disks.{IsLeft, ReadsAs, found_disk};
 ghost use Rattle.tw_diskcmd.specs.WorkSteps.{ComesOfFile, LeavesStep, WritesNothing};
 
 use crate::faults::{bad_byte, fault_of_service, fault_of_store};
@@ -86,7 +87,7 @@ fn append_events<D: Disk>(alloc: Global, disk: D, events: &EventList) -> Worked<
 /// Adds a step of these events to the service, and gives its disk back.
 fn append_to<D: Disk>(service: Service<D, Sha>, events: &EventList) -> Worked<D, Thread>
     requires { has_failed service ≡ false }
-    ensures comes { (found : Option Image) (before : ℕ) → OpensAsServiceWith found (name_of service) (head_of service) (λ ps. pages_of D.view service ≡ Some ps)
+    ensures comes { (found : Option Image) (before : ℕ) → IsOpened found (record_of service) (pages_of D.view service)
         → ((h : History) → ReadsAs found h → Serves sha256 D.view service h) → before ≤ (D.view (disk_of service)).faults
         → StepComes (found_disk found before (D.view result.disk).faults) events.now result.outcome }
     ensures leaves { (h : History) → Serves sha256 D.view service h

@@ -4,8 +4,9 @@ ghost use Rattle.std.specs.Prelude.{◌≡◌, ◌≤◌, ℕ, Option, Some, fal
 ghost use Rattle.sha2.specs.Sha256.{sha256};
 ghost use Rattle.tw_base.specs.History.{History};
 ghost use Rattle.tw_disk.specs.Image.{Image};
-ghost use Rattle.tw_service.specs.Serves.{Serves, disk_of, has_failed, head_of, name_of, pages_of};
-ghost use Rattle.tw_diskcmd.specs.Disks.{IsLeft, OpensAsServiceWith, ReadLeaves, ReadsAs, Rests, found_disk};
+ghost use Rattle.tw_service.specs.Serves.{Serves, disk_of, has_failed, pages_of, record_of};
+ghost use Rattle.tw_diskcmd.specs.Answers.{IsOpened};
+ghost use Rattle.tw_diskcmd.specs.Disks.{IsLeft, ReadLeaves, ReadsAs, Rests, found_disk};
 ghost use Rattle.tw_diskcmd.specs.Proving.{ProveComes, top_of};
 
 use crate::faults::{fault_of_service, fault_of_store};
@@ -47,7 +48,7 @@ fn prove_by<D: Disk>(
     top: Option<u64>,
 ) -> Worked<D, Bytes>
     requires { has_failed service ≡ false }
-    ensures comes { (found : Option Image) (before : ℕ) → OpensAsServiceWith found (name_of service) (head_of service) (λ ps. pages_of D.view service ≡ Some ps)
+    ensures comes { (found : Option Image) (before : ℕ) → IsOpened found (record_of service) (pages_of D.view service)
         → ((h : History) → ReadsAs found h → Serves sha256 D.view service h) → before ≤ (D.view (disk_of service)).faults
         → ProveComes (found_disk found before (D.view result.disk).faults) step index top result.outcome }
     ensures leaves { IsLeft D.view (disk_of service) result.disk }

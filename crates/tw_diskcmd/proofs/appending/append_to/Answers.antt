@@ -3,7 +3,7 @@ use Rattle.sha2.specs.Sha256.{sha256}
 use Rattle.tw_base.specs.History.{with_events}
 use Rattle.tw_base.specs.Faults.{Rose}
 use Rattle.tw_service.specs.Serves.{Serves, disk_of, pages_of}
-use Rattle.tw_diskcmd.specs.Disks.{IsLeft, LeavesOldOrOneOf, ReadsAsOneOf}
+use Rattle.tw_diskcmd.specs.Disks.{IsLeft, LeavesOldOrOneOf, ReadsAsOneOf, found_disk}
 use Rattle.tw_diskcmd.proofs.AtRest.{named_one_of, named_reads, own_rest, rose_since, same_left}
 use Rattle.tw_diskcmd.proofs.Steps.{step_done, step_leaves, step_refused, step_unwritten}
 use Rattle.tw_diskcmd.proofs.appending.append_to.Goals as goal
@@ -11,7 +11,7 @@ use Rattle.tw_diskcmd.proofs.appending.append_to.Goals as goal
 pub returns-in-Ok-clause-comes : goal.returns-in-Ok-clause-comes
 returns-in-Ok-clause-comes g c = λ found before opens serves le.
     let d = g.D.Disk in
-    step_done found before 0 c.args.events.now c.args.service.is_broken c.args.service.root.name c.args.service.root.head c.args.service.root.archive (pages_of d.view c.args.service) opens c.requires
+    step_done (found_disk found before (d.view c.close.result).faults) c.args.events.now c.args.service.is_broken c.args.service.root (pages_of d.view c.args.service) opens c.requires
     (Serves sha256 d.view c.args.service) (Serves sha256 d.view c.append.new.self) serves
     c.in-Ok.thread c.in-Ok.ensures.table c.in-Ok.ensures.next c.in-Ok.ensures.done c.in-Ok.ensures.machine c.in-Ok.ensures.answer
 
@@ -31,7 +31,7 @@ returns-in-Ok-clause-leaves g c = λ h served.
 pub returns-in-Err-clause-comes : goal.returns-in-Err-clause-comes
 returns-in-Err-clause-comes g c = λ found before opens serves le.
     let d = g.D.Disk in
-    step_refused found before (d.view c.close-in-Err.result).faults c.args.events.now c.args.service.is_broken c.args.service.root.name c.args.service.root.head c.args.service.root.archive (pages_of d.view c.args.service) opens c.requires
+    step_refused (found_disk found before (d.view c.close-in-Err.result).faults) c.args.events.now c.args.service.is_broken c.args.service.root (pages_of d.view c.args.service) opens c.requires
     (Serves sha256 d.view c.args.service) (Serves sha256 d.view c.append.new.self) serves
     c.in-Err.refusal c.fault_of_service.result c.fault_of_service.ensures c.in-Err.ensures.table c.in-Err.ensures.machine
     (λ is. rose_since before (d.view (disk_of c.args.service)).faults (d.view c.close-in-Err.result).faults le

@@ -1,8 +1,10 @@
-use Rattle.tw_diskcmd.proofs.OneAnswer.{agree_proof, agree_step}
+use Rattle.tw_diskcmd.specs.Appending.{MachineAdds, TableAdds, added}
+use Rattle.tw_diskcmd.specs.Proving.{MachineProves, TableProves, proved}
+use Rattle.tw_diskcmd.proofs.Results.{one_answer}
 use Rattle.tw_diskcmd.proofs.laws.told_laws.Goals as goal
 
 pub returns-clause-adding : goal.returns-clause-adding
-returns-clause-adding c = agree_step
+returns-clause-adding c = λ image events before after. one_answer (added events) (TableAdds events) (MachineAdds events) image before after
 
 pub returns-clause-proving : goal.returns-clause-proving
-returns-clause-proving c = agree_proof
+returns-clause-proving c = λ image step index top before after. one_answer (proved step index top) (TableProves step top) (MachineProves step index top) image before after

@@ -1,10 +1,9 @@
 use Rattle.std.proofs.Common.{ℕ, List}
-use Rattle.std.specs.Prelude.{Err}
 use Rattle.tw_service.specs.Serves.{disk_of}
-use Rattle.tw_diskcmd.specs.Disks.{found_disk}
-use Rattle.tw_diskcmd.specs.Proving.{MeetsBadPage, ProveComes}
+use Rattle.tw_diskcmd.specs.Proving.{MachineProves, TableProves, proved}
 use Rattle.tw_diskcmd.proofs.AtRest.{left_on}
-use Rattle.tw_diskcmd.proofs.Landings.{leaves_of_reading, unopened, unopened_reading_leaves}
+use Rattle.tw_diskcmd.proofs.Landings.{leaves_of_reading, unopened_reading_leaves}
+use Rattle.tw_diskcmd.proofs.Results.{unserved}
 use Rattle.tw_diskcmd.proofs.proving.prove.Goals as goal
 
 pub returns-in-Ok-clause-comes : goal.returns-in-Ok-clause-comes
@@ -25,10 +24,9 @@ returns-in-Ok-clause-leaves g c =
 pub returns-in-Err-clause-comes : goal.returns-in-Err-clause-comes
 returns-in-Err-clause-comes g c =
     let d = g.D.Disk in
-    unopened (d.view c.args.disk).content (d.view c.args.disk).faults (d.view c.in-Err.disk).faults c.in-Err.fault
-    c.in-Err.ensures.refused c.in-Err.ensures.answers c.in-Err.ensures.fault (MeetsBadPage c.args.step c.args.index c.args.top)
-    (λ fault. ProveComes (found_disk (d.view c.args.disk).content (d.view c.args.disk).faults (d.view c.in-Err.disk).faults) c.args.step c.args.index c.args.top (Err fault))
-    (λ cause why. why) (λ rose. rose) c.fault_of_store.result c.fault_of_store.ensures
+    unserved (proved c.args.step c.args.index c.args.top) (TableProves c.args.step c.args.top) (MachineProves c.args.step c.args.index c.args.top) (λ cause. tt)
+    (d.view c.args.disk).content (d.view c.args.disk).faults (d.view c.in-Err.disk).faults
+    c.in-Err.fault c.in-Err.ensures.refused c.in-Err.ensures.answers c.in-Err.ensures.fault c.fault_of_store.result c.fault_of_store.ensures
 
 pub returns-in-Err-clause-leaves : goal.returns-in-Err-clause-leaves
 returns-in-Err-clause-leaves g c =

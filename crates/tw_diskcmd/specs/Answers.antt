@@ -1,0 +1,82 @@
+-- What a command over the disk of a service answers: a function of what the disk is served as.
+use Rattle.std.specs.Prelude.{◌≡◌, ℕ, Option, Some, Result, Ok, Err}
+use Rattle.sha2.specs.Sha256.{sha256}
+use Rattle.tw_base.specs.Faults.{Rose}
+use Rattle.tw_base.specs.History.{History}
+use Rattle.tw_disk.specs.Image.{Image}
+use Rattle.tw_skiplist.specs.Found.{Found}
+use Rattle.tw_skiplist.specs.Found.Found.{Is, Bad}
+use Rattle.tw_service.specs.Machine.{Call, IsStepOf}
+use Rattle.tw_service.specs.Machine.Reply.{Refused}
+use Rattle.tw_service.specs.Stands.{IsServed, OpensWith, Served}
+use Rattle.tw_service.specs.Stands.Served.{Opened, Unopened}
+use Rattle.tw_service.specs.declared.refusal.Refusal.{Refusal}
+use Rattle.tw_service.specs.declared.root.RootRecord.{RootRecord}
+use Rattle.tw_text.specs.declared.refusal.StoreCause.TheVariants.{BadPage}
+use Rattle.tw_text.specs.declared.fault.CommandFault.{CommandFault}
+use Rattle.tw_text.specs.declared.fault.CommandFault.TheVariants as fault
+use Rattle.tw_diskcmd.specs.Disks.{FoundDisk, ReadsAs}
+use Rattle.tw_diskcmd.specs.Faults.{fault_of_service, fault_of_store}
+
+-- where what the disk read as is told, it opens with this root record and these pages
+abbrev pub IsOpened : (found : Option Image) → RootRecord → (pages : Option Image) → Type 0
+IsOpened found root pages = (image : Image) → found ≡ Some image → OpensWith image root (λ ps. pages ≡ Some ps)
+
+-- ---- answers
+
+module _ {X : Type 0} where
+  -- what is found in a service's pages, as the command's result
+  abbrev pub result_of : Found (Result X Refusal) → Result X CommandFault
+  result_of (Is (Ok value)) = Ok value
+  result_of (Is (Err refusal)) = Err (fault_of_service refusal)
+  result_of (Bad page) = Err (fault.Unserved (BadPage page))
+
+  -- the answer: what is found in the pages of the service, or why there is none
+  abbrev pub answer_over : (finds : RootRecord → Image → Found (Result X Refusal)) → Served → Result X CommandFault
+  answer_over finds (Opened root pages) = result_of (finds root pages)
+  answer_over finds (Unopened why) = Err (fault_of_store why)
+
+  -- where what the disk read as is told, the result is the answer over what this is served as
+  abbrev pub IsAnswer : (finds : RootRecord → Image → Found (Result X Refusal)) → (found : Option Image) → Result X CommandFault → Type 0
+  IsAnswer finds found result = (image : Image) → found ≡ Some image → (served : Served) × IsServed image served × (result ≡ answer_over finds served)
+
+-- ---- refusals
+
+-- the fault is that of a refusal of which P holds
+abbrev pub IsRefusal : (P : Refusal → Type 0) → CommandFault → Type 0
+IsRefusal P why = (refusal : Refusal) × (why ≡ fault_of_service refusal) × P refusal
+
+-- over whatever disk: the fault is the refusal of the table for some number of steps, or tells of the disk
+abbrev pub TableRefuses : (table : (last : ℕ) → Option Refusal) → CommandFault → Type 0
+TableRefuses table (fault.Unserved cause) = Unit {0}
+TableRefuses table why = IsRefusal (λ refusal. (last : ℕ) × (table last ≡ Some refusal)) why
+
+-- where the disk reads as this history: the machine refuses the call so, and it is never told that nothing is served
+abbrev pub MachineRefuses : History → Call → CommandFault → Type 0
+MachineRefuses h call (fault.Unserved cause) = ⊥
+MachineRefuses h call why = IsRefusal (λ refusal. IsStepOf sha256 h call (Refused refusal) h) why
+
+-- ---- what a command comes to
+
+module _ {X : Type 0} where
+  -- the result tells of the disk's content, and isn't one that may always come or comes of a fault
+  abbrev pub TellsContent : Result X CommandFault → Type 0
+  TellsContent (Err fault.DiskFault) = ⊥
+  TellsContent (Err fault.NoMemory) = ⊥
+  TellsContent _ = Unit {0}
+
+  module _ (finds : RootRecord → Image → Found (Result X Refusal)) (ByTable : Result X CommandFault → Type 0) (ByMachine : History → Result X CommandFault → Type 0) where
+    -- the result is the answer, the table allows it, and where the disk reads as a history, it is what the machine does
+    pub record IsResult (found : Option Image) (result : Result X CommandFault) : Type 0 where
+      pub answer : IsAnswer finds found result
+      pub table : ByTable result
+      pub machine : (h : History) → ReadsAs found h → ByMachine h result
+
+    -- what it comes to; want of memory is free
+    abbrev pub ComesTo : FoundDisk → Result X CommandFault → Type 0
+    ComesTo t (Ok value) = IsResult t.found (Ok value)
+    ComesTo t (Err (fault.Refused refusal)) = IsResult t.found (Err (fault.Refused refusal))
+    ComesTo t (Err (fault.Unserved cause)) = IsResult t.found (Err (fault.Unserved cause))
+    ComesTo t (Err fault.DiskFault) = Rose t.before t.after
+    ComesTo t (Err fault.NoMemory) = Unit {0}
+    ComesTo t _ = ⊥
