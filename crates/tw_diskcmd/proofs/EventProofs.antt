@@ -37,7 +37,7 @@ use Rattle.tw_diskcmd.specs.Disks.{FoundDisk, ReadsAs}
 use Rattle.tw_diskcmd.specs.Proving.{MachineProves, ProveComes, ProvesUnder, TableProves, proved, top_of}
 use Rattle.tw_diskcmd.specs.Faults.{fault_of_service}
 use Rattle.tw_skipproof.proofs.WideIndex.{few_events, makes_at}
-use Rattle.tw_diskcmd.proofs.Results.{TellsOfDisk, done, machine_refuses, no_reopen, refused, same_err, table_refuses}
+use Rattle.tw_diskcmd.proofs.Results.{IsByTable, TellsOfDisk, allowed, done, machine_refuses, no_reopen, refused, same_err, table_refuses}
 
 -- ---- the table for the order of steps
 
@@ -49,19 +49,18 @@ order_of_order last step top r is none =
     elim [ true ↦ λ same none. cc | false ↦ λ same none. subst (λ (o : Option Refusal). MatchOption o ⊥ (λ q. IsNoEvent q → ⊥)) same (λ no. no) none ] in
     cases (is_in_order last step top) is none
 
-abbrev pub Table : Option Refusal → Result (List ℕ) Refusal → Type 0
-Table table result = MatchOption table (IfErr result (λ r. IsFault r ⊎ IsNoEvent r)) (λ refusal. result ≡ Err refusal)
+abbrev Else : Refusal → Type 0
+Else r = IsFault r ⊎ IsNoEvent r
 
-allowed : (table : Option Refusal) (bytes : List ℕ) → Table table (Ok bytes) → table ≡ None
-allowed None bytes is = refl
-allowed (Some r) bytes is = let other : ◌≡◌ {A = Result (List ℕ) Refusal} (Ok bytes) (Err r) = is in cc
+abbrev Table : Option Refusal → Result (List ℕ) Refusal → Type 0
+Table = IsByTable Else
 
 module _ (step : ℕ) (top : Option ℕ) where
   abbrev order : (last : ℕ) → Option Refusal
   order last = order_refusal false last step (top_of top last)
 
   -- where the steps are in their order, there is no such event, or a page is bad
-  in_order : (last : ℕ) → order last ≡ None → (r : Refusal) → TellsOfDisk r → IsFault r ⊎ IsNoEvent r → TableProves step top (Err (fault_of_service r))
+  in_order : (last : ℕ) → order last ≡ None → (r : Refusal) → TellsOfDisk r → Else r → TableProves step top (Err (fault_of_service r))
   in_order last none (service.NoEvent count) tells is = (last, none)
   in_order last none (service.BadPage page) tells is = tt
   in_order last none service.DiskFault tells is = absurd tells
@@ -172,7 +171,7 @@ module _ (t : FoundDisk) (step index at : ℕ) (asked : Option ℕ) (top : ℕ) 
   proof_done bytes table made accepted machine finds =
       done (proved step index asked) (TableProves step asked) (MachineProves step index asked) t root pages opens bytes
       (λ ps is. sym (found_here ps) ∙ finds ps is)
-      (root.head.step, allowed (order step asked root.head.step) bytes (here_table (Ok bytes) table))
+      (root.head.step, allowed Else (order step asked root.head.step) bytes (here_table (Ok bytes) table))
       (λ h reads. subst (λ (to : ℕ). ProvesUnder step index to bytes h) (the_top h reads) (under h reads))
     where
       under : (h : History) → ReadsAs t.found h → ProvesUnder step index top bytes h
@@ -196,7 +195,7 @@ module _ (t : FoundDisk) (step index at : ℕ) (asked : Option ℕ) (top : ℕ) 
       → ProveComes t step index asked (Err came)
   proof_refused r came is table machine rose finds =
       refused (proved step index asked) (TableProves step asked) (MachineProves step index asked) t root pages opens r came is
-      (no_reopen (List ℕ) (order step asked root.head.step) (λ q. IsFault q ⊎ IsNoEvent q) (order_told root.head.step step (top_of asked root.head.step)) (λ is. ⊎_elim (λ no. no) (λ no. no) is) r (here_table (Err r) table)) rose
+      (no_reopen (List ℕ) Else (order step asked root.head.step) (order_told root.head.step step (top_of asked root.head.step)) (λ is. ⊎_elim (λ no. no) (λ no. no) is) r (here_table (Err r) table)) rose
       (λ ps told. subst (IsRefusalOf r) (found_here ps) (finds ps told))
       (λ tells. by_table step asked root.head.step (order step asked root.head.step) refl r tells (here_table (Err r) table))
       (λ tells h reads. refused_here h reads (fault_of_service r) (machine_refuses h (ProveEvent step at top) (λ b. OfProof b) NewServes r tells (machine whole h (serves h reads))))

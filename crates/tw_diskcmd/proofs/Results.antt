@@ -1,6 +1,6 @@
 -- From what a service answers, or isn't opened for, to what a command comes to; and one answer over a told disk.
 use Rattle.std.proofs.Common.{◌≡◌, ◌∙◌, ℕ, List, refl, ap, sym, subst, ◌⊎◌, ⊎_elim}
-use Rattle.std.specs.Prelude.{Option, Some, None, Result, Ok, Err, MatchOption, ◌≢◌}
+use Rattle.std.specs.Prelude.{Option, Some, None, Result, Ok, Err, IfErr, MatchOption, ◌≢◌}
 use Rattle.sha2.specs.Sha256.{sha256}
 use Rattle.tw_base.specs.Faults.{Rose}
 use Rattle.tw_base.specs.History.{History}
@@ -49,10 +49,18 @@ module _ {X : Type 0} where
   pub same_err : (r q : Refusal) → failed r ≡ failed q → q ≡ r
   same_err r q is = cc
 
+-- what a service's table says of an answer: its refusal, where it has one, and else a refusal of another kind at most
+abbrev pub IsByTable : {X : Type 0} → (Else : Refusal → Type 0) → Option Refusal → Result X Refusal → Type 0
+IsByTable Else table result = MatchOption table (IfErr result Else) (λ refusal. result ≡ Err refusal)
+
+pub allowed : {X : Type 0} (Else : Refusal → Type 0) (table : Option Refusal) (x : X) → IsByTable Else table (Ok x) → table ≡ None
+allowed Else None x is = refl
+allowed {X} Else (Some r) x is = let other : ◌≡◌ {A = Result X Refusal} (Ok x) (Err r) = is in cc
+
 -- that a call before met a disk fault is refused by no table of a service that was just opened
-pub no_reopen : (X : Type 0) (table : Option Refusal) (Else : Refusal → Type 0) → Of IsTold table → (Else service.Reopen → ⊥) → (r : Refusal) → MatchOption table (Else r) (λ q. failed {X = X} r ≡ failed q) → r ≡ service.Reopen → ⊥
-no_reopen X None Else told never r is same = never (subst Else same is)
-no_reopen X (Some q) Else told never r is same = told.1 (same_err {X = X} r q is ∙ same)
+pub no_reopen : (X : Type 0) (Else : Refusal → Type 0) (table : Option Refusal) → Of IsTold table → (Else service.Reopen → ⊥) → (r : Refusal) → IsByTable {X = X} Else table (Err r) → r ≡ service.Reopen → ⊥
+no_reopen X Else None told never r is same = never (subst Else same is)
+no_reopen X Else (Some q) told never r is same = told.1 (same_err {X = X} r q is ∙ same)
 
 pub table_refuses : (table : (last : ℕ) → Option Refusal) (last : ℕ) (r : Refusal) → table last ≡ Some r → TableRefuses table (fault_of_service r)
 table_refuses table last (service.BadPage page) is = tt

@@ -24,16 +24,12 @@ use Rattle.tw_diskcmd.specs.Appending.{MachineAdds, StepComes, TableAdds, added}
 use Rattle.tw_diskcmd.specs.Disks.{FoundDisk, IsLeft, LeavesOldOrOneOf, ReadsAs, ReadsAsOneOf, Rests}
 use Rattle.tw_diskcmd.specs.Faults.{fault_of_service}
 use Rattle.tw_diskcmd.specs.WorkSteps.{LeavesStep, WritesNothing}
-use Rattle.tw_diskcmd.proofs.Results.{TellsOfDisk, done, machine_refuses, no_reopen, refused, same_err, table_refuses}
+use Rattle.tw_diskcmd.proofs.Results.{IsByTable, TellsOfDisk, allowed, done, machine_refuses, no_reopen, refused, same_err, table_refuses}
 
 -- ---- the table for a step
 
-abbrev pub Table : Option Refusal → Result Thread Refusal → Type 0
-Table table result = MatchOption table (IfErr result IsFault) (λ refusal. result ≡ Err refusal)
-
-allowed : (table : Option Refusal) (thread : Thread) → Table table (Ok thread) → table ≡ None
-allowed None thread is = refl
-allowed (Some r) thread is = let other : ◌≡◌ {A = Result Thread Refusal} (Ok thread) (Err r) = is in cc
+abbrev Table : Option Refusal → Result Thread Refusal → Type 0
+Table = IsByTable IsFault
 
 -- a fault that tells of the disk is a bad page, of which the table says nothing
 page_free : (table : (last : ℕ) → Option Refusal) (r : Refusal) → TellsOfDisk r → IsFault r → TableRefuses table (fault_of_service r)
@@ -75,7 +71,7 @@ module _ (t : FoundDisk) (events : List (List ℕ)) (is_broken : Bool) (root : R
   step_done thread table next made machine finds =
       done (added events) (TableAdds events) (MachineAdds events) t root pages opens thread
       (λ ps is. subst (λ b. found_thread sha256 ps root.name root.head b events root.archive ≡ Is (Ok thread)) whole (finds ps is))
-      (root.head.step, allowed (append_refusal false root.head.step events) thread (whole_table (Ok thread) table), next.1)
+      (root.head.step, allowed IsFault (append_refusal false root.head.step events) thread (whole_table (Ok thread) table), next.1)
       (λ h reads. let step = machine whole h (serves h reads) in ((made h (serves h reads)).1, to_longer h step.0 events thread step.1))
 
   pub step_refused : (r : Refusal) (came : CommandFault) → came ≡ fault_of_service r → Table (append_refusal is_broken root.head.step events) (Err r)
@@ -85,7 +81,7 @@ module _ (t : FoundDisk) (events : List (List ℕ)) (is_broken : Bool) (root : R
       → StepComes t events (Err came)
   step_refused r came is table machine rose finds =
       refused (added events) (TableAdds events) (MachineAdds events) t root pages opens r came is
-      (no_reopen Thread (append_refusal false root.head.step events) IsFault (append_told root.head.step events) (λ is. is) r (whole_table (Err r) table)) rose
+      (no_reopen Thread IsFault (append_refusal false root.head.step events) (append_told root.head.step events) (λ is. is) r (whole_table (Err r) table)) rose
       (λ ps told. subst (λ b. IsRefusalOf r (found_thread sha256 ps root.name root.head b events root.archive)) whole (finds ps told))
       (λ tells. by_table events root.head.step (append_refusal false root.head.step events) refl r tells (whole_table (Err r) table))
       (λ tells h reads. machine_refuses h (Append events) (λ t. OfThread t) NewServes r tells (machine whole h (serves h reads)))
