@@ -1,8 +1,8 @@
 -- The codec of proofs is lawful, and the bytes of a proof of kind 1 are those of its existence proof.
-use Rattle.std.proofs.Common.{◌≡◌, ℕ, suc, zero, ◌≤◌, List, [], ◌∷◌, length, refl, ap, sym, ◌∙◌, subst, arith, lit≤, inl, inr}
-use Rattle.std.specs.Prelude.{Bool, true, false, ◌==◌, ◌||◌, ◌&&◌, nat_le}
+use Rattle.std.proofs.Common.{◌≡◌, ℕ, suc, zero, List, [], ◌∷◌, refl, ap, sym, ◌∙◌, subst, arith, lit≤, inl, inr}
+use Rattle.std.specs.Prelude.{true, ◌==◌, ◌&&◌, nat_le}
 use Rattle.std.proofs.lemmas.Bool.{and_parts, eqb-true, leb-true, or_cases}
-use Rattle.tw_base.specs.Codecs.{behind, by_kind, choose, number_codec, seen, pair, variant}
+use Rattle.tw_base.specs.Codecs.{behind, by_kind, number_codec, seen, pair, variant}
 use Rattle.tw_base.specs.Formats.{Spells}
 use Rattle.tw_base.specs.Formats.Format.{Byte, Done}
 use Rattle.tw_base.proofs.CodecLaws.{Lawful, lawful, lawful-by_kind, lawful-choose, lawful-pair, lawful-seen, lawful-variant, spelled-fits, written-as}
