@@ -9,14 +9,14 @@ use Rattle.tw_disk.specs.Image.{Image}
 use Rattle.tw_outside.specs.Files.{Files}
 use Rattle.tw_text.specs.CommandLine.{command_of}
 use Rattle.tw_text.specs.declared.command.Command.{Command}
-use Rattle.tw_text.specs.declared.command.Command.TheVariants.{Append, Init, ProveEvent, Show, VerifyFile, VerifyOne}
+use Rattle.tw_text.specs.declared.command.Command.TheVariants.{Append, Init, ProveEvent, Show, VerifyFile, VerifyOne, Strict}
 use Rattle.tw_text.specs.declared.fault.CommandFault.{CommandFault}
 use Rattle.tw_text.specs.declared.fault.CommandFault.TheVariants.{InputFault, DiskFault, NoMemory, Unserved}
 use Rattle.tw_text.specs.declared.refusal.StoreCause.{StoreCause}
 use Rattle.tw_text.specs.Faults.{fault_status}
 use Rattle.tw_chain.specs.declared.verdict.Verdict.{Verdict}
 use Rattle.tw_filecmd.specs.Showing.{ShowComes}
-use Rattle.tw_filecmd.specs.Verifying.{IsJudged, VerifyFileComes, VerifyOneComes}
+use Rattle.tw_filecmd.specs.Verifying.{HasAnchors, IsJudged, VerifyFileComes, VerifyOneComes}
 use Rattle.tw_diskcmd.specs.Disks.{IsLeft, Keeps, ReadLeaves, ReadsAs}
 use Rattle.tw_diskcmd.specs.WorkSteps.{WritesNothing}
 use Rattle.tw_diskcmd.proofs.AtRest.{left_keeps, untouched_left}
@@ -223,16 +223,17 @@ module _ {D : Type 0} (view : D → DiskView)
       (record { input = λ rose. (tt, rose); disk = λ came. absurd came; serves = λ h reads why came. came; memory = tt })
       (λ p n came. no_usage Proof proof_tells n came.0 came.2) (λ x v is comes. absurd (proof_of_disk.unjudged x v is))
 
-  verify_file_row : (proof anchors : List ℕ) → Row (VerifyFile proof anchors) (work view o (VerifyFile proof anchors))
-  verify_file_row proof anchors =
-      files_row (VerifyFile proof anchors) Judged judged_tells (VerifyFileComes o.inputs proof anchors)
-      (record { input = λ rose. (tt, rose); disk = λ came. absurd came; serves = λ h reads why came. came; memory = tt })
-      (λ p n came. no_usage Judged judged_tells n came.0 came.2) judging
+  -- one that judges a proof under the anchors of a file
+  anchors_row : (c : Command) (proof anchors : List ℕ) → IsBuilt view c → NamesFile c → proof_file c ≡ Some proof
+      → ((held : List Thread) → HasAnchors o.inputs.told anchors held → GivesAnchors o.inputs.told c held) → Row c (over_files view o Judged (VerifyFileComes o.inputs proof anchors))
+  anchors_row c proof anchors built names asked given =
+      files_row c Judged judged_tells (VerifyFileComes o.inputs proof anchors)
+      (record { input = λ rose. (names, rose); disk = λ came. absurd came; serves = λ h reads why came. came; memory = tt }) built judging
     where
-      judging : (w v : Verdict) → Judged v ≡ Judged w → VerifyFileComes o.inputs proof anchors (Ok w) → Judges o.inputs.told (VerifyFile proof anchors) v
+      judging : (w v : Verdict) → Judged v ≡ Judged w → VerifyFileComes o.inputs proof anchors (Ok w) → Judges o.inputs.told c v
       judging w v is comes =
           let same : w ≡ v = cc in
-          record { file = proof; anchors = comes.0; asked = refl; given = comes.1; judged = subst (IsJudged o.inputs.told proof comes.0) same comes.2 }
+          record { file = proof; anchors = comes.0; asked = asked; given = given comes.0 comes.1; judged = subst (IsJudged o.inputs.told proof comes.0) same comes.2 }
 
   verify_one_row : (proof : List ℕ) (anchor : Thread) → Row (VerifyOne proof anchor) (work view o (VerifyOne proof anchor))
   verify_one_row proof anchor =
@@ -256,7 +257,10 @@ module _ {D : Type 0} (view : D → DiskView)
   rows (ProveEvent step index top) =
       proof_row (ProveEvent step index top) (λ p n came. no_usage Proof proof_tells n came.0 came.2) (prove_causes o.inputs (found_of view o) step index top)
   rows (Show history step index) = show_row history step index
-  rows (VerifyFile proof anchors) = verify_file_row proof anchors
+  rows (VerifyFile proof anchors) =
+      anchors_row (VerifyFile proof anchors) proof anchors (λ p n came. no_usage Judged judged_tells n came.0 came.2) tt refl (λ held has. has)
+  rows (Strict proof anchors) =
+      anchors_row (Strict proof anchors) proof anchors (λ p n came. no_usage Judged judged_tells n came.0 came.2) tt refl (λ held has. has)
   rows (VerifyOne proof anchor) = verify_one_row proof anchor
   rows _ = unbuilt_row _
 
@@ -269,4 +273,5 @@ pub verdict_or_fault : {D : Type 0} (view : D → DiskView) (o : Outside D) (c :
     → ((v : Verdict) × (outcome ≡ Judged v)) ⊎ ((f : CommandFault) × (outcome ≡ Undone f))
 verdict_or_fault view o (VerifyFile proof anchors) outcome is came = of_result outcome came.0 came.2
 verdict_or_fault view o (VerifyOne proof anchor) outcome is came = of_result outcome came.0 came.2
+verdict_or_fault view o (Strict proof anchors) outcome is came = of_result outcome came.0 came.2
 verdict_or_fault view o _ outcome is came = absurd is

@@ -7,7 +7,7 @@ use Rattle.tw_text.specs.CommandLine.{IsFirstBad, command_of}
 use Rattle.tw_text.specs.declared.command.Command.{Command}
 use Rattle.tw_text.specs.declared.fault.CommandFault.{CommandFault}
 use Rattle.tw_text.specs.declared.fault.CommandFault.TheVariants.{NoMemory}
-use Rattle.tw_text.specs.declared.command.Command.TheVariants.{Init, Append, ProveEvent, Show, VerifyFile, VerifyOne}
+use Rattle.tw_text.specs.declared.command.Command.TheVariants.{Init, Append, ProveEvent, Show, VerifyFile, VerifyOne, Strict}
 use Rattle.tw_filecmd.specs.Showing.{ShowComes}
 use Rattle.tw_filecmd.specs.Verifying.{VerifyFileComes, VerifyOneComes}
 use Rattle.tw_diskcmd.specs.Appending.{AppendComes, AppendLeaves, AppendSafe}
@@ -97,6 +97,8 @@ module _ {D : Type 0} (view : D → DiskView) (o : Outside D) where
   work (Show history step index) = over_files Proof (ShowComes o.inputs history step index)
   work (VerifyFile proof anchors) = over_files Judged (VerifyFileComes o.inputs proof anchors)
   work (VerifyOne proof anchor) = over_files Judged (VerifyOneComes o.inputs proof anchor)
+  -- no thread is carried in a proof of the kinds that are verified, so none has to be refused
+  work (Strict proof anchors) = over_files Judged (VerifyFileComes o.inputs proof anchors)
   work _ = unbuilt
 
 -- ---- what words come to

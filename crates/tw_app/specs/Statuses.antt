@@ -16,7 +16,7 @@ use Rattle.tw_text.specs.CommandLine.{IsFirstBad, command_of}
 use Rattle.tw_text.specs.Lines.{usage_text}
 use Rattle.tw_text.specs.Reports.{rejected_text, report_text}
 use Rattle.tw_text.specs.declared.command.Command.{Command}
-use Rattle.tw_text.specs.declared.command.Command.TheVariants.{VerifyFile, VerifyOne}
+use Rattle.tw_text.specs.declared.command.Command.TheVariants.{VerifyFile, VerifyOne, Strict}
 use Rattle.tw_text.specs.Faults.{fault_text}
 use Rattle.tw_text.specs.declared.fault.CommandFault.{CommandFault}
 use Rattle.tw_text.specs.declared.fault.CommandFault.TheVariants.{InputFault, DiskFault}
@@ -36,10 +36,11 @@ use Rattle.tw_app.specs.Running.{Work, work}
 abbrev pub AreOf : (Command → Type 0) → (words : List (List ℕ)) → Type 0
 AreOf P words = MatchOption (command_of words) ⊥ P
 
--- the command that judges a proof
+-- the commands that judge a proof
 abbrev pub IsVerify : Command → Type 0
 IsVerify (VerifyFile proof anchors) = Unit {0}
 IsVerify (VerifyOne proof anchor) = Unit {0}
+IsVerify (Strict proof anchors) = Unit {0}
 IsVerify _ = ⊥
 
 -- the command is built: its work never comes to the usage line
@@ -60,12 +61,14 @@ IsIdle status = (status ≡ 0 → ⊥) × (status ≡ 4 → ⊥) × (status ≡ 
 abbrev pub proof_file : Command → Option (List ℕ)
 proof_file (VerifyFile proof anchors) = Some proof
 proof_file (VerifyOne proof anchor) = Some proof
+proof_file (Strict proof anchors) = Some proof
 proof_file _ = None
 
 -- the anchors that the command gives: those of its anchors file, or the one of its words
 abbrev pub GivesAnchors : Option Files → Command → List Thread → Type 0
 GivesAnchors told (VerifyFile proof file) anchors = HasAnchors told file anchors
 GivesAnchors told (VerifyOne proof anchor) anchors = anchors ≡ anchor ∷ []
+GivesAnchors told (Strict proof file) anchors = HasAnchors told file anchors
 GivesAnchors told _ anchors = ⊥
 
 -- status 0 of words that ask for a verdict: the proof file is there. Where the inputs tell its bytes, they spell a proof that

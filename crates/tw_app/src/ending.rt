@@ -143,7 +143,7 @@ pub fn run<D: Disk, I: Inputs, S: Sink>(
         (outside (asked (I.told inputs.old) (I.faults inputs.old) (I.faults inputs.new)) disk result.disk)
         (span (S.taken out.old) (S.taken out.new)) (span (S.faults out.old) (S.faults out.new))) result.status }
 
-    // Status 0 of `verify`: the proof file is there, and its bytes spell a proof that is accepted under the command's
+    // Status 0 of `verify` and `strict`: the proof file is there, and its bytes spell a proof that is accepted under the command's
     // anchors. These are the one of its words, or those of the anchors file, which is there and has no bad line. The
     // claim's report was written whole. And in every list of sound histories in which the proof's service has, at the
     // proof's top, the authenticator that is held of it there, the event stands at the place that the report names, and

@@ -78,6 +78,10 @@ fn follow<D: Disk, I: Inputs>(
             outcome: judged(verify_file(alloc, inputs, proof.as_str(), anchors.as_str())),
             disk,
         },
+        Command::Strict { proof, anchors } => Followed {
+            outcome: judged(verify_file(alloc, inputs, proof.as_str(), anchors.as_str())),
+            disk,
+        },
         Command::VerifyOne { proof, anchor } => Followed {
             outcome: judged(verify_one(alloc, inputs, proof.as_str(), *anchor)),
             disk,
