@@ -41,6 +41,7 @@ module _ (a : Asked) (t : FoundDisk) where
   }
 
   pub prove_causes : (step index : ℕ) (top : Option ℕ) → HasCauses a t ⊥ (Unit {0}) (ProveComes t step index top)
+  unfolding ProveComes
   prove_causes step index top = record {
     input = λ came. absurd came;
     disk = λ rose. (tt, rose);

@@ -168,6 +168,7 @@ module _ (t : FoundDisk) (step index at : ℕ) (asked : Option ℕ) (top : ℕ) 
       → (is_broken ≡ false → (h : History) → OldServes h → Answers sha256 h (ProveEvent step at top) (λ b. OfProof b) (Ok bytes) NewServes)
       → ((ps : Image) → pages ≡ Some ps → found_event sha256 ps root.name root.head step at top is_broken ≡ Is (Ok bytes))
       → ProveComes t step index asked (Ok bytes)
+  unfolding ProveComes
   proof_done bytes table made accepted machine finds =
       done (proved step index asked) (TableProves step asked) (MachineProves step index asked) t root pages opens bytes
       (λ ps is. sym (found_here ps) ∙ finds ps is)
@@ -193,6 +194,7 @@ module _ (t : FoundDisk) (step index at : ℕ) (asked : Option ℕ) (top : ℕ) 
       → (◌≡◌ {A = Result (List ℕ) Refusal} (Err r) (Err service.DiskFault) → Rose t.before t.after)
       → ((ps : Image) → pages ≡ Some ps → IsRefusalOf r (found_event sha256 ps root.name root.head step at top is_broken))
       → ProveComes t step index asked (Err came)
+  unfolding ProveComes
   proof_refused r came is table machine rose finds =
       refused (proved step index asked) (TableProves step asked) (MachineProves step index asked) t root pages opens r came is
       (no_reopen (List ℕ) Else (order step asked root.head.step) (order_told root.head.step step (top_of asked root.head.step)) (λ is. ⊎_elim (λ no. no) (λ no. no) is) r (here_table (Err r) table)) rose

@@ -60,11 +60,11 @@ OfEvents told file P = (events : List (List ℕ)) × AreEventsOf told file event
 
 -- the result of the adding of these events to the disk's service
 abbrev pub IsStepResult : (found : Option Image) (events : List (List ℕ)) → Result Thread CommandFault → Type 0
-IsStepResult found events = IsResult (added events) (TableAdds events) (MachineAdds events) found
+IsStepResult found events result = IsResult (added events) (TableAdds events) (MachineAdds events) found result
 
 -- what it comes to
 abbrev pub StepComes : FoundDisk → (events : List (List ℕ)) → Result Thread CommandFault → Type 0
-StepComes t events = ComesTo (added events) (TableAdds events) (MachineAdds events) t
+StepComes t events result = ComesTo (added events) (TableAdds events) (MachineAdds events) t result
 
 -- what the command comes to: the file isn't what it reads, or the inputs failed; else what the adding of its events comes to
 abbrev pub AppendComes : Asked → FoundDisk → (file : List ℕ) → Result Thread CommandFault → Type 0

@@ -55,5 +55,5 @@ MachineProves step index top h (Ok proof) = ProvesUnder step index (top_of top (
 MachineProves step index top h (Err why) = MachineRefuses h (ProveEvent step index (top_of top (length h.steps))) why
 
 -- what it comes to
-abbrev pub ProveComes : FoundDisk → (step index : ℕ) (top : Option ℕ) → Result (List ℕ) CommandFault → Type 0
-ProveComes t step index top = ComesTo (proved step index top) (TableProves step top) (MachineProves step index top) t
+unfoldable pub ProveComes : FoundDisk → (step index : ℕ) (top : Option ℕ) → Result (List ℕ) CommandFault → Type 0
+ProveComes t step index top result = ComesTo (proved step index top) (TableProves step top) (MachineProves step index top) t result

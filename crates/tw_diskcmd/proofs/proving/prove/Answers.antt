@@ -1,6 +1,6 @@
 use Rattle.std.proofs.Common.{ℕ, List}
 use Rattle.tw_service.specs.Serves.{disk_of}
-use Rattle.tw_diskcmd.specs.Proving.{MachineProves, TableProves, proved}
+use Rattle.tw_diskcmd.specs.Proving.{MachineProves, ProveComes, TableProves, proved}
 use Rattle.tw_diskcmd.proofs.AtRest.{left_on}
 use Rattle.tw_diskcmd.proofs.Landings.{leaves_of_reading, unopened_reading_leaves}
 use Rattle.tw_diskcmd.proofs.Results.{unserved}
@@ -22,6 +22,7 @@ returns-in-Ok-clause-leaves g c =
     (λ h reads. c.prove_by.ensures.rests h (c.in-Ok.ensures.served reads.image h.name h reads.told reads.stands))
 
 pub returns-in-Err-clause-comes : goal.returns-in-Err-clause-comes
+unfolding ProveComes
 returns-in-Err-clause-comes g c =
     let d = g.D.Disk in
     unserved (proved c.args.step c.args.index c.args.top) (TableProves c.args.step c.args.top) (MachineProves c.args.step c.args.index c.args.top) (λ cause. tt)
