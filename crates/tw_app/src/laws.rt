@@ -31,10 +31,10 @@ pub fn status_laws<D: Disk>()
     // Status 0 of `init`: no store was there. The line written is that of step 0 of the history of that name without
     // steps. The disk, where its content was told, stands for that history, at rest.
     // Status 0 of `append`: the events file is there, within its limit, and spells events that the table doesn't
-    // refuse. What the disk read as opens as a service's store, in whose pages each link of its next step is found. The
-    // line written is of its name and that step. And where the disk read as a history, with writes pending or not,
-    // adding the events is a step of the machine, the line is that of the longer history's last step, and the disk
-    // stands for the longer history, at rest.
+    // refuse. What the disk read as opens as a service's store, and the line written is that of its next step with these
+    // events, as it is found in its pages, whatever these keep. And where the disk read as a history, with writes
+    // pending or not, adding the events is a step of the machine, the line is that of the longer history's last step, and
+    // the disk stands for the longer history, at rest.
     ensures done { (a : Around D) → Ends D.view a 0 → IsDoneRun D.view a }
 
     // Status 1: the words are `verify` or `strict`, the proof file is there, its bytes spell no proof that is accepted under the
