@@ -1,5 +1,5 @@
 -- From the work on a disk to what the command comes to, and what it leaves.
-use Rattle.std.proofs.Common.{◌≡◌, ◌∙◌, ℕ, List, refl, ap, sym, subst, inl, inr, ◌⊎◌, ⊎_elim}
+use Rattle.std.proofs.Common.{◌≡◌, ◌∙◌, ℕ, List, refl, ap, sym, subst, inl, inr, ◌⊎◌}
 use Rattle.std.specs.Prelude.{Option, Some, Result, Ok, Err, ◌≢◌}
 use Rattle.tw_base.specs.declared.thread.Thread.{Thread}
 use Rattle.tw_base.specs.History.{History, with_events}

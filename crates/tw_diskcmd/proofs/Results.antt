@@ -1,5 +1,5 @@
 -- From what a service answers, or isn't opened for, to what a command comes to; and one answer over a told disk.
-use Rattle.std.proofs.Common.{◌≡◌, ◌∙◌, ℕ, List, refl, ap, sym, subst, ◌⊎◌, ⊎_elim}
+use Rattle.std.proofs.Common.{◌≡◌, ◌∙◌, ℕ, refl, ap, sym, subst, ◌⊎◌, ⊎_elim}
 use Rattle.std.specs.Prelude.{Option, Some, None, Result, Ok, Err, IfErr, MatchOption, ◌≢◌}
 use Rattle.sha2.specs.Sha256.{sha256}
 use Rattle.tw_base.specs.Faults.{Rose}
@@ -8,7 +8,7 @@ use Rattle.tw_disk.specs.Image.{Image}
 use Rattle.tw_pages.specs.declared.open.StoreFault.{StoreFault}
 use Rattle.tw_pages.specs.declared.open.StoreFault.TheVariants as store
 use Rattle.tw_skiplist.specs.Found.{Found}
-use Rattle.tw_skiplist.specs.Found.Found.{Is, Bad}
+use Rattle.tw_skiplist.specs.Found.Found.{Is}
 use Rattle.tw_service.specs.Finds.{IsRefusalOf}
 use Rattle.tw_service.specs.Machine.{Answers, Call, Reply}
 use Rattle.tw_service.specs.Stands.{IsNotOpenedFor, Served}

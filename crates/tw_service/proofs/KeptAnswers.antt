@@ -4,7 +4,6 @@ use Rattle.std.specs.Prelude.{Option, Some, None, Result, Ok, Err, if◌then◌e
 use Rattle.std.proofs.lemmas.Bool.{cases_lt, le-ltb}
 use Rattle.tw_base.specs.declared.limits.TheConstants.{LAST_STEP}
 use Rattle.tw_base.specs.declared.root.Root.{Root}
-use Rattle.tw_base.specs.Auth.{auth}
 use Rattle.tw_base.specs.History.{History, events_at, with_events}
 use Rattle.tw_base.specs.Limits.{MayRecord}
 use Rattle.tw_base.specs.Sound.{IsSound}

@@ -8,7 +8,6 @@ use Rattle.tw_pages.specs.declared.open.StoreFault.{StoreFault}
 use Rattle.tw_pages.specs.declared.open.StoreFault.TheVariants.{NotAStore}
 use Rattle.tw_pages.proofs.Once.{opens_once}
 use Rattle.tw_pages.proofs.NotRefused.{not_refused, refused_once}
-use Rattle.tw_skiplist.specs.declared.head.Head.{Head}
 use Rattle.tw_skiplist.specs.Keeping.{Keeps}
 use Rattle.tw_skiplist.proofs.Once.{keeps_one}
 use Rattle.tw_service.specs.declared.root.RootRecord.{RootRecord}
