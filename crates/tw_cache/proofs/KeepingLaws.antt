@@ -20,9 +20,10 @@ use Rattle.tw_cache.specs.Keeping.{IsPageOf, AreOf, AddsAtMost}
 All-within : {X : Type 0} (P : X → Type 0) (more less : List X) → ((x : X) → Contains less x → Contains more x) → All P more → All P less
 All-within P more less within all k d lt = All-contains P more _ all (within _ (All-contains_itself less k d lt))
 
--- the order of use is another, the pages are the same
-pub AreOf-promoted : (list : Option Image) (kept : List (ℕ × Box Page)) (test : ℕ → Bool) → AreOf list kept → AreOf list (promoted test kept)
-AreOf-promoted list kept test are pages told = All-within (IsPageOf pages) kept (promoted test kept) (Contains-promoted test kept) (are pages told)
+-- a look-up changes the order of use alone
+pub AreOf-used : (list : Option Image) (kept used : LruCache ℕ (Box Page)) (test : ℕ → Bool) → AreOf list kept.entries
+    → used ≡ lru_cache (promoted test kept.entries) kept.cap → AreOf list used.entries
+AreOf-used list kept used test are order = rw order (λ pages told. All-within (IsPageOf pages) kept.entries (promoted test kept.entries) (Contains-promoted test kept.entries) (are pages told))
 
 -- a page that is found is the one of its number
 pub AreOf-lookup : (list : Option Image) (kept : List (ℕ × Box Page)) (number : ℕ) (page : Box Page) → AreOf list kept

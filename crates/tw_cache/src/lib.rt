@@ -1,4 +1,4 @@
-//! Pages that are kept in memory: [`Cached`] answers what the pages below it answer, and asks them only for a page that it doesn't keep.
+//! Pages of which those read last are kept in memory: [`Cached`] answers what its inner pages answer, and asks them only for pages that it doesn't keep.
 #![tactic(auto)]
 
 mod cached;
