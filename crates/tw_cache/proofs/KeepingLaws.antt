@@ -1,5 +1,5 @@
 -- Pages that are kept, as one is used, added, or staged below.
-use Rattle.std.proofs.Common.{arith, ◌≡◌, ◌⊎◌, ◌<◌, ◌-◌, ◌++◌, ◌∷◌, [], ℕ, Bool, true, nat_eq, List, length, All, Contains, Option, Some, None, Result, Ok, Err, OnOk, OnErr, option_map, get_or, slice_get, refl, sym, ap, subst, ◌∙◌, inl, inr}
+use Rattle.std.proofs.Common.{arith, ◌≡◌, ◌⊎◌, ◌<◌, ◌-◌, ◌++◌, ◌∷◌, [], ℕ, Bool, nat_eq, List, length, All, Contains, Option, Some, None, Result, Ok, Err, OnOk, OnErr, option_map, get_or, slice_get, refl, sym, ap, subst, ◌∙◌, inl, inr}
 use Rattle.std.specs.Global.{Box}
 use Rattle.std.specs.Map.{lookup}
 use Rattle.std.proofs.lemmas.Bool.{eqb-true}

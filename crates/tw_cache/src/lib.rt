@@ -1,4 +1,4 @@
-//! Pages of which those read last are kept in memory: [`Cached`] answers what its inner pages answer, and asks them only for pages that it doesn't keep.
+//! Pages of which those read last are kept in memory, over any `Pages`: what is answered is what the inner pages answer.
 #![tactic(auto)]
 
 mod cached;
