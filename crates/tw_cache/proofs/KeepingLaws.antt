@@ -1,5 +1,7 @@
 -- Pages that are kept, as one is used, added, or staged below.
+use mathlib.Core.HLevel.{is_prop→PathP}
 use Rattle.std.proofs.Common.{arith, ◌≡◌, ◌⊎◌, ◌<◌, ◌-◌, ◌++◌, ◌∷◌, [], ℕ, Bool, nat_eq, List, length, All, Contains, Option, Some, None, Result, Ok, Err, OnOk, OnErr, option_map, get_or, slice_get, refl, sym, ap, subst, ◌∙◌, inl, inr}
+use Rattle.std.proofs.Props.{props}
 use Rattle.std.specs.Global.{Box}
 use Rattle.std.specs.Map.{lookup}
 use Rattle.std.proofs.lemmas.Bool.{eqb-true}
@@ -12,8 +14,6 @@ use Rattle.tw_disk.specs.Image.{Page, Image, page_at}
 use Rattle.tw_disk.specs.declared.limits.TheConstants.{FIRST_PAGE}
 use Rattle.tw_disk.specs.declared.pages.Pages.{Ghosts}
 use Rattle.tw_cache.specs.declared.cached.Cached.{Cached}
-use mathlib.Core.HLevel.{is_prop→PathP}
-use Rattle.std.proofs.Props.{props}
 use Rattle.tw_cache.specs.Keeping.{IsPageOf, AreOf, AddsAtMost}
 
 -- what holds of each element of a list holds of those of any list within it
@@ -50,6 +50,7 @@ IsPageOf-staged pages page e is =
     slice_get-get_or (pages ++ page ∷ []) at [] (omega (arith, within, length-append pages (page ∷ [])))
     ∙ ap (λ p. Some p) (get_or_append_left pages (page ∷ []) [] at within ∙ get_or_from_slice_get pages at e.1.value [] is)
 
+-- so all that are kept are right still
 AreOf-staged : (list : Option Image) (kept : List (ℕ × Box Page)) (page : Page) → AreOf list kept → AreOf (option_map (λ pages. pages ++ page ∷ []) list) kept
 AreOf-staged None kept page are pages told = absurd cc
 AreOf-staged (Some below) kept page are pages told =
@@ -62,6 +63,7 @@ pub AreOf-after_stage : {V E : Type 0} (old new : Option Image) (kept : List (�
 AreOf-after_stage old new kept page (Ok number) staged as_before are = rw staged (AreOf-staged old kept page are)
 AreOf-after_stage old new kept page (Err refused) staged as_before are = rw as_before are
 
+-- each entry after a put was there, or is the one that was put
 adds-put_entries : (old : LruCache ℕ (Box Page)) (number : ℕ) (page : Box Page) (e : ℕ × Box Page) → Contains (put_entries nat_eq old number page) e
     → Contains old.entries e ⊎ ((e.0 ≡ number) × (e.1.value ≡ page.value))
 adds-put_entries old number page e is = elim (Contains-put_entries nat_eq old number page e is) [
@@ -83,10 +85,11 @@ adds-put old new number page (Ok was) put kept =
     rw entries (λ k d lt. adds-put_entries old number page _ (All-contains_itself (put_entries nat_eq old number page) k d lt))
 adds-put old new number page (Err refused) put kept = rw kept (λ k d lt. inl (All-contains_itself old.entries k d lt))
 
--- two values over the same pages, with the same kept ones, are one
+-- the value over these pages that keeps these
 abbrev cached : {P : Type 0} {g : Ghosts P} (pages : P) (kept : LruCache ℕ (Box Page)) → AreOf (g.list pages) kept.entries → Cached P g
 cached pages kept right = record { pages = pages; kept = kept; right = right }
 
+-- two values over the same pages, with the same kept ones, are one
 pub one-value : {P : Type 0} {g : Ghosts P} (pages : P) (a b : LruCache ℕ (Box Page)) (a_right : AreOf (g.list pages) a.entries) (b_right : AreOf (g.list pages) b.entries)
     → a ≡ b → cached {g = g} pages a a_right ≡ cached {g = g} pages b b_right
 one-value {g = g} pages a b a_right b_right same = λ i. record { pages = pages; kept = same i; right = is_prop→PathP (λ j. AreOf (g.list pages) (same j).entries) (λ j. Prim.hlevel props) a_right b_right i }
