@@ -16,14 +16,15 @@ build:
 	@echo "building: only a proved program is built; the first build on a machine proves all below it, and takes long"
 	cd crates/timeweave && rt run -- verify data/p a 1 $(AUTH)
 
-# Builds the program, and shows a proof accepted, the same proof rejected under another authenticator, and two services that keep
-# their histories on disk.
+# Builds the program, and shows a proof accepted, the same proof rejected under another authenticator, two services that keep
+# their histories on disk, and proofs from a history that recorded threads of other services.
 demo: build
 	@echo; echo '$$ timeweave verify p a 1 $(AUTH)'
 	@$(PROGRAM) verify $(PROOF) a 1 $(AUTH)
 	@echo; echo '$$ timeweave verify p a 1 $(OTHER)'
 	@$(PROGRAM) verify $(PROOF) a 1 $(OTHER); test $$? -eq 1
 	@echo; examples/two_services.sh $(PROGRAM)
+	@echo; examples/archived_threads.sh $(PROGRAM)
 
 # The gate: every proof, wrong body, test and program, and then the acceptance run.
 test:

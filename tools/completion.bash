@@ -10,6 +10,7 @@ _timeweave_forms=(
     "show FILE STEP INDEX"
     "verify FILE FILE"
     "verify FILE NAME POS HEX"
+    "strict FILE FILE"
 )
 
 # Whether the words before the one that is completed are those of the form that is given part by part.

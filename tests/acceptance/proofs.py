@@ -18,7 +18,7 @@ from trees import absent, checked, present, proof_over, read_entry, read_tree_pr
 EXISTS, PRECEDES, THREAD, ABSENT, LINK = KINDS = range(1, 6)
 
 # The kinds that the program judges; of the others it says that they aren't built.
-BUILT_KINDS = (EXISTS,)
+BUILT_KINDS = (EXISTS, THREAD, ABSENT, LINK)
 
 
 # The sizes of hashed texts: of a link, of the datum of a step without a time, of a node of an archive's tree.

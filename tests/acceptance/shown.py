@@ -78,5 +78,15 @@ def manual_examples(room):
         raise Wrong("\n".join([*wrong, done.stderr]))
 
 
+def archived_threads(room):
+    """the proofs of what a history recorded of other services are judged as the demo shows them"""
+    linked(room)
+    status, shown = script(room, "archived_threads.sh", room.program)
+    wanted = ["accepted thread", "accepted absent", "accepted link", "rejected 7 BadTree 0"]
+    found = [line for line in shown.splitlines() if line.startswith(("accepted ", "rejected "))]
+    if (status, found) != (0, wanted):
+        raise Wrong(f"  archived_threads.sh\n  wanted {wanted}\n  got    {status} {shown!r}")
+
+
 def cases():
-    return [case(work, "shown") for work in (log_of_digests, manual_examples)]
+    return [case(work, "shown") for work in (log_of_digests, archived_threads, manual_examples)]

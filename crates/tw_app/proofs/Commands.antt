@@ -1,30 +1,32 @@
--- What is known of a command's outcome by its kind.
-use Rattle.std.proofs.Common.{◌≡◌, ◌∙◌, ℕ, List, [], ◌∷◌, refl, sym, subst, arith, inl, inr, ◌⊎◌, ⊎_elim}
-use Rattle.std.specs.Prelude.{Option, Some, None, MatchOption, Result, Ok, Err}
+-- What is known of each command's work.
+use Rattle.std.proofs.Common.{◌≡◌, ◌∙◌, ℕ, List, [], ◌∷◌, refl, ap, sym, subst, arith, inl, inr, ◌⊎◌}
+use Rattle.std.specs.Prelude.{Option, Some, MatchOption, Result, Ok, Err}
 use Rattle.tw_base.specs.declared.thread.Thread.{Thread}
 use Rattle.tw_base.specs.Faults.{Rose}
 use Rattle.tw_base.specs.History.{History}
+use Rattle.tw_disk.specs.Disk.{DiskView}
+use Rattle.tw_disk.specs.Image.{Image}
+use Rattle.tw_outside.specs.Files.{Files}
 use Rattle.tw_text.specs.CommandLine.{command_of}
 use Rattle.tw_text.specs.declared.command.Command.{Command}
-use Rattle.tw_text.specs.declared.command.Command.TheVariants.{Append, Init, ProveEvent, Show, VerifyFile, VerifyOne}
+use Rattle.tw_text.specs.declared.command.Command.TheVariants.{Append, Init, ProveEvent, Show, VerifyFile, VerifyOne, Strict}
 use Rattle.tw_text.specs.declared.fault.CommandFault.{CommandFault}
 use Rattle.tw_text.specs.declared.fault.CommandFault.TheVariants.{InputFault, DiskFault, NoMemory, Unserved}
 use Rattle.tw_text.specs.declared.refusal.StoreCause.{StoreCause}
 use Rattle.tw_text.specs.Faults.{fault_status}
 use Rattle.tw_chain.specs.declared.verdict.Verdict.{Verdict}
 use Rattle.tw_filecmd.specs.Showing.{ShowComes}
-use Rattle.tw_filecmd.specs.Verifying.{IsJudged, VerifyFileComes, VerifyOneComes}
-use Rattle.tw_diskcmd.specs.Appending.{AppendComes, MeetsBadLink}
-use Rattle.tw_diskcmd.specs.Disks.{ReadsAs}
-use Rattle.tw_diskcmd.specs.Making.{InitComes}
-use Rattle.tw_diskcmd.specs.Proving.{MeetsBadPage, ProveComes}
-use Rattle.tw_diskcmd.proofs.Served.{served}
+use Rattle.tw_filecmd.specs.Verifying.{HasAnchors, IsJudged, VerifyFileComes, VerifyOneComes}
+use Rattle.tw_diskcmd.specs.Disks.{IsLeft, Keeps, ReadLeaves, ReadsAs}
+use Rattle.tw_diskcmd.specs.WorkSteps.{WritesNothing}
+use Rattle.tw_diskcmd.proofs.AtRest.{left_keeps, untouched_left}
+use Rattle.tw_diskcmd.proofs.CommandLaws.{HasCauses, IsSafe, append_causes, append_is_safe, init_causes, init_is_safe, prove_causes, reading_is_safe}
 use Rattle.tw_app.specs.declared.outcome.Outcome.{Outcome}
 use Rattle.tw_app.specs.declared.outcome.Outcome.TheVariants.{Judged, Proof, Made, BadWords, Undone}
-use Rattle.tw_app.specs.Around.{Met}
-use Rattle.tw_app.specs.Commands.{NamesFile, UsesDisk}
-use Rattle.tw_app.specs.Outcomes.{judged, made, proved, status_of}
-use Rattle.tw_app.specs.Running.{ComesTo, HaveNoForm, HasOutcome, IsOutcomeOf, IsUnbuilt}
+use Rattle.tw_app.specs.Around.{Outside, found_of}
+use Rattle.tw_app.specs.Commands.{NamesFile}
+use Rattle.tw_app.specs.Outcomes.{TakesMemory, outcome_by, status_of, text_of}
+use Rattle.tw_app.specs.Running.{IsDoneBy, IsOutcomeOf, IsUnbuilt, IsUntouched, Work, by_results, over_files, reading, unbuilt, work, writing}
 use Rattle.tw_app.specs.Statuses.{AreOf, GivesAnchors, IsBuilt, IsVerify, proof_file}
 
 pub of_option : (P : Command → Type 0) (words : List (List ℕ)) (c : Command) → command_of words ≡ Some c → P c → AreOf P words
@@ -34,199 +36,242 @@ pub fault_not_zero : (f : CommandFault) → fault_status f ≡ 0 → ⊥
 fault_not_zero InputFault zeroth = omega (arith, zeroth)
 fault_not_zero _ zeroth = omega (arith, zeroth)
 
--- something was done
-abbrev IsDone : Outcome → Type 0
-IsDone (Judged verdict) = Unit {0}
-IsDone (Proof proof) = Unit {0}
-IsDone (Made thread) = Unit {0}
-IsDone _ = ⊥
-
-same_fault : (f g : CommandFault) → Undone f ≡ Undone g → g ≡ f
-same_fault f g is = cc
-
-pub unbuilt_status : (o : Outcome) → IsUnbuilt o → status_of o ≡ 0 → ⊥
+unbuilt_status : (o : Outcome) → IsUnbuilt o → status_of o ≡ 0 → ⊥
 unbuilt_status (BadWords number) is zeroth = omega (arith, zeroth)
 unbuilt_status (Undone f) is zeroth = fault_not_zero f zeroth
 unbuilt_status _ is zeroth = is
 
-pub no_form_status : (words : List (List ℕ)) (o : Outcome) → HaveNoForm words o → status_of o ≡ 0 → ⊥
-no_form_status words (BadWords number) is zeroth = omega (arith, zeroth)
-no_form_status words (Undone f) is zeroth = fault_not_zero f zeroth
-no_form_status words _ is zeroth = is
+same_fault : (f g : CommandFault) → Undone f ≡ Undone g → g ≡ f
+same_fault f g is = cc
 
--- ---- what is known of each command that is built
+not_judged : (v : Verdict) (f : CommandFault) → Judged v ≡ Undone f → ⊥
+not_judged v f is = cc
 
-module _ {A : Type 0} (of : Result A CommandFault → Outcome) (done : (a : A) → IsDone (of (Ok a))) (undone : (f : CommandFault) → of (Err f) ≡ Undone f) where
-  not_usage : (n : ℕ) (r : Result A CommandFault) → BadWords n ≡ of r → ⊥
-  not_usage n (Ok a) is = subst IsDone (sym is) (done a)
-  not_usage n (Err f) is = let same : BadWords n ≡ Undone f = is ∙ undone f in cc
+-- ---- how results are told
 
-  fault_by : (f : CommandFault) (P : Result A CommandFault → Type 0) → IsOutcomeOf of P (Undone f) → P (Err f)
-  fault_by f P came = by came.0 came.1 came.2
-    where
-      by : (r : Result A CommandFault) → P r → Undone f ≡ of r → P (Err f)
-      by (Ok a) holds is = absurd (subst IsDone (sym is) (done a))
-      by (Err g) holds is = subst (λ (h : CommandFault). P (Err h)) (same_fault f g (is ∙ undone g)) holds
+-- a value is told neither as a fault nor by the usage line
+record Tells {X : Type 0} (of : X → Outcome) : Type 0 where
+  value : (x : X) (f : CommandFault) → Undone f ≡ of x → ⊥
+  words : (x : X) (n : ℕ) → BadWords n ≡ of x → ⊥
 
-module _ (m : Met) where
-  -- the command asks for the verdict on a file under the anchors that it gives
-  pub record Judges (c : Command) (verdict : Verdict) : Type 0 where
-    pub file : List ℕ
-    pub anchors : List Thread
-    pub asked : proof_file c ≡ Some file
-    pub given : GivesAnchors m.inputs.told c anchors
-    pub judged : IsJudged m.inputs.told file anchors verdict
+-- and never as a verdict; its status is 0, and its text takes no memory
+record TellsOfDisk {X : Type 0} (of : X → Outcome) : Type 0 where
+  unjudged : (x : X) (v : Verdict) → Judged v ≡ of x → ⊥
+  takes : (x : X) → TakesMemory (of x) → ⊥
+  status : (x : X) → status_of (of x) ≡ 0
 
-  -- no usage line comes of it, each fault has its cause, a disk that reads as a history serves it, want of memory is free, and a
-  -- verdict is one that it asks for
-  record Row (c : Command) : Type 0 where
-    built : IsBuilt c
-    input : ComesTo m c (Undone InputFault) → NamesFile c × Rose m.inputs.before m.inputs.after
-    disk : ComesTo m c (Undone DiskFault) → UsesDisk c × Rose m.disk.before m.disk.after
-    served : (h : History) → ReadsAs m.disk.found h → (why : StoreCause) → ComesTo m c (Undone (Unserved why)) → ⊥
-    memory : ComesTo m c (Undone NoMemory)
-    judging : (v : Verdict) → ComesTo m c (Judged v) → Judges c v
+made_tells : Tells Made
+made_tells = record { value = λ x f is. cc; words = λ x n is. cc }
 
-  not_made : (v : Verdict) (r : Result Thread CommandFault) → Judged v ≡ made r → ⊥
-  not_made v (Ok thread) is = cc
-  not_made v (Err f) is = cc
+proof_tells : Tells Proof
+proof_tells = record { value = λ x f is. cc; words = λ x n is. cc }
 
-  not_proved : (v : Verdict) (r : Result (List ℕ) CommandFault) → Judged v ≡ proved r → ⊥
-  not_proved v (Ok proof) is = cc
-  not_proved v (Err f) is = cc
+judged_tells : Tells Judged
+judged_tells = record { value = λ x f is. cc; words = λ x n is. cc }
 
-  init_row : (name : List ℕ) → Row (Init name)
-  init_row name =
-      let by = fault_by made (λ a. tt) (λ f. refl) in
-      record {
-        built = λ any n came. not_usage made (λ a. tt) (λ f. refl) n came.0 came.2;
-        input = λ came. absurd (by InputFault (InitComes m.disk name) came);
-        disk = λ came. (tt, by DiskFault (InitComes m.disk name) came);
-        served = λ h reads why came. by (Unserved why) (InitComes m.disk name) came;
-        memory = (Err NoMemory, tt, refl);
-        judging = λ v came. absurd (not_made v came.0 came.2);
-      }
+made_of_disk : TellsOfDisk Made
+made_of_disk = record { unjudged = λ x v is. cc; takes = λ x taken. taken; status = λ x. refl }
 
-  append_row : (path : List ℕ) → Row (Append path)
-  append_row path =
-      let by = fault_by made (λ a. tt) (λ f. refl) in
-      record {
-        built = λ any n came. not_usage made (λ a. tt) (λ f. refl) n came.0 came.2;
-        input = λ came. (tt, by InputFault (AppendComes m.inputs m.disk path) came);
-        disk = λ came. let failed = by DiskFault (AppendComes m.inputs m.disk path) came in (tt, failed.2);
-        served = λ h reads why came.
-            let cant = by (Unserved why) (AppendComes m.inputs m.disk path) came in served (MeetsBadLink cant.0) m.disk.found h reads why cant.2;
-        memory = (Err NoMemory, tt, refl);
-        judging = λ v came. absurd (not_made v came.0 came.2);
-      }
+proof_of_disk : TellsOfDisk Proof
+proof_of_disk = record { unjudged = λ x v is. cc; takes = λ x taken. taken; status = λ x. refl }
 
-  prove_row : (step index : ℕ) (top : Option ℕ) → Row (ProveEvent step index top)
-  prove_row step index top =
-      let by = fault_by proved (λ a. tt) (λ f. refl) in
-      record {
-        built = λ any n came. not_usage proved (λ a. tt) (λ f. refl) n came.0 came.2;
-        input = λ came. absurd (by InputFault (ProveComes m.disk step index top) came);
-        disk = λ came. (tt, by DiskFault (ProveComes m.disk step index top) came);
-        served = λ h reads why came. served (MeetsBadPage step index top) m.disk.found h reads why (by (Unserved why) (ProveComes m.disk step index top) came);
-        memory = (Err NoMemory, tt, refl);
-        judging = λ v came. absurd (not_proved v came.0 came.2);
-      }
+-- where its text takes memory, or its status is neither 0 nor 5, nothing was written
+module _ {X : Type 0} (of : X → Outcome) (of_disk : TellsOfDisk of) where
+  quiet_text : (r : Result X CommandFault) → TakesMemory (outcome_by of r) → WritesNothing r
+  quiet_text (Ok x) taken = of_disk.takes x taken
+  quiet_text (Err DiskFault) taken = taken
+  quiet_text _ taken = tt
 
-  show_row : (history : List ℕ) (step index : ℕ) → Row (Show history step index)
+  quiet_status : (r : Result X CommandFault) → (status_of (outcome_by of r) ≡ 0 → ⊥) → (status_of (outcome_by of r) ≡ 5 → ⊥) → WritesNothing r
+  quiet_status (Ok x) zeroth fifth = zeroth (of_disk.status x)
+  quiet_status (Err DiskFault) zeroth fifth = fifth refl
+  quiet_status _ zeroth fifth = tt
+
+module _ {X : Type 0} (of : X → Outcome) (tells : Tells of) where
+  no_usage : (n : ℕ) (r : Result X CommandFault) → BadWords n ≡ outcome_by of r → ⊥
+  no_usage n (Ok x) is = tells.words x n is
+  no_usage n (Err f) is = cc
+
+  module _ (May : Result X CommandFault → Type 0) where
+    undone_of : (f : CommandFault) → IsOutcomeOf of May (Undone f) → May (Err f)
+    undone_of f came = by came.0 came.1 came.2
+      where
+        by : (r : Result X CommandFault) → May r → Undone f ≡ outcome_by of r → May (Err f)
+        by (Ok x) may is = absurd (tells.value x f is)
+        by (Err g) may is = subst (λ (h : CommandFault). May (Err h)) (same_fault f g is) may
+
+    done_of : (o : Outcome) → IsOutcomeOf of May o → status_of o ≡ 0 → IsDoneBy of May (text_of o)
+    done_of o came zeroth = by came.0 came.1 came.2
+      where
+        by : (r : Result X CommandFault) → May r → o ≡ outcome_by of r → IsDoneBy of May (text_of o)
+        by (Ok x) may is = (x, may, sym (ap status_of is) ∙ zeroth, ap text_of is)
+        by (Err f) may is = absurd (fault_not_zero f (sym (ap status_of is) ∙ zeroth))
+
+-- ---- what is known of each command
+
+-- the command asks for the verdict on a file under the anchors that it gives
+pub record Judges (told : Option Files) (c : Command) (verdict : Verdict) : Type 0 where
+  pub file : List ℕ
+  pub anchors : List Thread
+  pub asked : proof_file c ≡ Some file
+  pub given : GivesAnchors told c anchors
+  pub judged : IsJudged told file anchors verdict
+
+module _ {D : Type 0} (view : D → DiskView)
+    (only_now : (d : D) (image : Image) → (view d).left_since (view d).moment image → (view d).may_leave image)
+    (as_it_reads : (d : D) (image : Image) → (view d).content ≡ Some image → (view d).may_leave image) (o : Outside D) where
+  abbrev Left : Type 0
+  Left = IsLeft view o.disk.before o.disk.after
+
+  pub same_left : IsUntouched view o → Left
+  same_left is = untouched_left view o.disk.before o.disk.after only_now is
+
+  same_safe : IsUntouched view o → IsUntouched view o × Keeps view o.disk.before o.disk.after
+  same_safe is = (is, left_keeps view o.disk.before o.disk.after (same_left is))
+
+  -- that it is done, or why it isn't, by its outcome; each fault has its cause, a disk that reads as a history serves it, want of memory is
+  -- free, also for its text; a run of which nothing was made and no disk failed wrote nothing; and a verdict is one that it asks for
+  pub record Row (c : Command) (w : Work) : Type 0 where
+    pub built : IsBuilt view c ⊎ ((outcome : Outcome) → w.does outcome → status_of outcome ≡ 0 → ⊥)
+    pub usage : (n : ℕ) → w.does (BadWords n) → n ≡ 0
+    pub done : (outcome : Outcome) → w.does outcome → status_of outcome ≡ 0 → w.done (text_of outcome)
+    pub undone : (f : CommandFault) → w.does (Undone f) → w.undone f
+    pub input : w.undone InputFault → IsBuilt view c × NamesFile c × Rose o.inputs.before o.inputs.after
+    pub disk : w.undone DiskFault → w.uses_disk × Rose (view o.disk.before).faults (view o.disk.after).faults
+    pub serves : (h : History) → ReadsAs (view o.disk.before).content h → (why : StoreCause) → w.undone (Unserved why) → ⊥
+    pub memory : (outcome : Outcome) → TakesMemory outcome → w.does outcome → w.does (Undone NoMemory)
+    pub untouched : IsUntouched view o → w.does (Undone NoMemory)
+    pub idle : (outcome : Outcome) → (status_of outcome ≡ 0 → ⊥) → (status_of outcome ≡ 5 → ⊥) → w.does outcome → Left
+    pub safe : (outcome : Outcome) → w.does outcome → w.safe
+    pub judging : (v : Verdict) → w.does (Judged v) → Judges o.inputs.told c v
+
+  unbuilt_row : (c : Command) → Row c (unbuilt view o)
+  unbuilt_row c = record {
+    built = inr (λ outcome came zeroth. unbuilt_status outcome came.0 zeroth);
+    usage = λ n came. came.0;
+    done = λ outcome came zeroth. unbuilt_status outcome came.0 zeroth;
+    undone = λ f came. came;
+    input = λ came. absurd came.0;
+    disk = λ came. absurd came.0;
+    serves = λ h reads why came. came.0;
+    memory = λ outcome takes came. (tt, came.1);
+    untouched = λ is. (tt, is);
+    idle = λ outcome zeroth fifth came. same_left came.1;
+    safe = λ outcome came. same_safe came.1;
+    judging = λ v came. absurd came.0;
+  }
+
+  module _ {X : Type 0} (c : Command) (of : X → Outcome) (tells : Tells of) (Comes Leaves : Result X CommandFault → Type 0) (Safe UsesDisk : Type 0)
+      (causes : HasCauses o.inputs (found_of view o) (NamesFile c) UsesDisk Comes) (built : IsBuilt view c) where
+    abbrev May : Result X CommandFault → Type 0
+    May r = Comes r × Leaves r
+
+    row : ((r : Result X CommandFault) → TakesMemory (outcome_by of r) → Leaves r → Leaves (Err NoMemory))
+        → (IsUntouched view o → Leaves (Err NoMemory))
+        → ((r : Result X CommandFault) → (status_of (outcome_by of r) ≡ 0 → ⊥) → (status_of (outcome_by of r) ≡ 5 → ⊥) → Leaves r → Left)
+        → ((r : Result X CommandFault) → Leaves r → Safe)
+        → ((x : X) (v : Verdict) → Judged v ≡ of x → Comes (Ok x) → Judges o.inputs.told c v)
+        → Row c (by_results of (λ r. Comes r × Leaves r) Safe UsesDisk)
+    row memory untouched idle safe judging = record {
+      built = inl built;
+      usage = λ n came. absurd (no_usage of tells n came.0 came.2);
+      done = λ outcome came zeroth. done_of of tells May outcome came zeroth;
+      undone = λ f came. undone_of of tells May f came;
+      input = λ may. let failed = causes.input may.0 in (built, failed.0, failed.1);
+      disk = λ may. causes.disk may.0;
+      serves = λ h reads why may. causes.serves h reads why may.0;
+      memory = λ outcome takes came. no_memory (memory came.0 (subst TakesMemory came.2 takes) came.1.1);
+      untouched = λ is. no_memory (untouched is);
+      idle = λ outcome zeroth fifth came. idle came.0 (λ is. zeroth (ap status_of came.2 ∙ is)) (λ is. fifth (ap status_of came.2 ∙ is)) came.1.1;
+      safe = λ outcome came. safe came.0 came.1.1;
+      judging = λ v came. judged_by v came.0 came.1 came.2;
+    }
+      where
+        no_memory : Leaves (Err NoMemory) → IsOutcomeOf of May (Undone NoMemory)
+        no_memory left = (Err NoMemory, (causes.memory, left), refl)
+
+        judged_by : (v : Verdict) (r : Result X CommandFault) → May r → Judged v ≡ outcome_by of r → Judges o.inputs.told c v
+        judged_by v (Ok x) may is = judging x v is may.0
+        judged_by v (Err f) may is = absurd (not_judged v f is)
+
+    disk_row : TellsOfDisk of → IsSafe view o.disk.before o.disk.after Leaves Safe → Row c (by_results of (λ r. Comes r × Leaves r) Safe UsesDisk)
+    disk_row of_disk is_safe =
+        row (λ r takes left. is_safe.no_memory (is_safe.idle r left (quiet_text of of_disk r takes))) (λ is. is_safe.no_memory (same_left is))
+        (λ r zeroth fifth left. is_safe.idle r left (quiet_status of of_disk r zeroth fifth)) is_safe.safe (λ x v is comes. absurd (of_disk.unjudged x v is))
+
+  files_row : {X : Type 0} (c : Command) (of : X → Outcome) → Tells of → (Comes : Result X CommandFault → Type 0)
+      → HasCauses o.inputs (found_of view o) (NamesFile c) ⊥ Comes → IsBuilt view c
+      → ((x : X) (v : Verdict) → Judged v ≡ of x → Comes (Ok x) → Judges o.inputs.told c v) → Row c (over_files view o of Comes)
+  files_row c of tells Comes causes built judging =
+      row c of tells Comes (λ r. IsUntouched view o) (IsUntouched view o × Keeps view o.disk.before o.disk.after) ⊥ causes built
+      (λ r takes same. same) (λ is. is) (λ r zeroth fifth same. same_left same) (λ r same. same_safe same) judging
+
+  -- one that makes a service or a step, and one that reads a proof from a disk
+  made_row : {Comes Leaves : Result Thread CommandFault → Type 0} {Safe : Type 0} → (c : Command) → IsBuilt view c
+      → HasCauses o.inputs (found_of view o) (NamesFile c) (Unit {0}) Comes → IsSafe view o.disk.before o.disk.after Leaves Safe → Row c (writing view o Made Comes Leaves Safe)
+  made_row {Comes} {Leaves} {Safe} c built causes is_safe = disk_row c Made made_tells Comes Leaves Safe (Unit {0}) causes built made_of_disk is_safe
+
+  proof_row : {Comes : Result (List ℕ) CommandFault → Type 0} → (c : Command) → IsBuilt view c
+      → HasCauses o.inputs (found_of view o) (NamesFile c) (Unit {0}) Comes → Row c (reading view o Proof Comes)
+  proof_row {Comes} c built causes =
+      disk_row c Proof proof_tells Comes (ReadLeaves view o.disk.before o.disk.after) (Left × Keeps view o.disk.before o.disk.after) (Unit {0}) causes built
+      proof_of_disk (reading_is_safe view o.disk.before o.disk.after)
+
+  show_row : (history : List ℕ) (step index : ℕ) → Row (Show history step index) (work view o (Show history step index))
   show_row history step index =
-      let by = fault_by proved (λ a. tt) (λ f. refl) in
-      record {
-        built = λ any n came. not_usage proved (λ a. tt) (λ f. refl) n came.0 came.2;
-        input = λ came. (tt, by InputFault (ShowComes m.inputs history step index) came);
-        disk = λ came. absurd (by DiskFault (ShowComes m.inputs history step index) came);
-        served = λ h reads why came. by (Unserved why) (ShowComes m.inputs history step index) came;
-        memory = (Err NoMemory, tt, refl);
-        judging = λ v came. absurd (not_proved v came.0 came.2);
-      }
+      files_row (Show history step index) Proof proof_tells (ShowComes o.inputs history step index)
+      (record { input = λ rose. (tt, rose); disk = λ came. absurd came; serves = λ h reads why came. came; memory = tt })
+      (λ p n came. no_usage Proof proof_tells n came.0 came.2) (λ x v is comes. absurd (proof_of_disk.unjudged x v is))
 
-  -- a verdict that a command comes to is that of its result
-  verdict_of : (P : Result Verdict CommandFault → Type 0) (v : Verdict) → IsOutcomeOf judged P (Judged v) → P (Ok v)
-  verdict_of P v came = by came.0 came.1 came.2
+  -- one that judges a proof under the anchors of a file
+  anchors_row : (c : Command) (proof anchors : List ℕ) → IsBuilt view c → NamesFile c → proof_file c ≡ Some proof
+      → ((held : List Thread) → HasAnchors o.inputs.told anchors held → GivesAnchors o.inputs.told c held) → Row c (over_files view o Judged (VerifyFileComes o.inputs proof anchors))
+  anchors_row c proof anchors built names asked given =
+      files_row c Judged judged_tells (VerifyFileComes o.inputs proof anchors)
+      (record { input = λ rose. (names, rose); disk = λ came. absurd came; serves = λ h reads why came. came; memory = tt }) built judging
     where
-      by : (r : Result Verdict CommandFault) → P r → Judged v ≡ judged r → P (Ok v)
-      by (Ok w) holds is = let same : w ≡ v = cc in subst (λ (x : Verdict). P (Ok x)) same holds
-      by (Err f) holds is = absurd (cc)
+      judging : (w v : Verdict) → Judged v ≡ Judged w → VerifyFileComes o.inputs proof anchors (Ok w) → Judges o.inputs.told c v
+      judging w v is comes =
+          let same : w ≡ v = cc in
+          record { file = proof; anchors = comes.0; asked = asked; given = given comes.0 comes.1; judged = subst (IsJudged o.inputs.told proof comes.0) same comes.2 }
 
-  of_result : (o : Outcome) (r : Result Verdict CommandFault) → o ≡ judged r → ((v : Verdict) × (o ≡ Judged v)) ⊎ ((f : CommandFault) × (o ≡ Undone f))
-  of_result o (Ok v) is = inl (v, is)
-  of_result o (Err f) is = inr (f, is)
-
-  verify_file_row : (proof anchors : List ℕ) → Row (VerifyFile proof anchors)
-  verify_file_row proof anchors =
-      let by = fault_by judged (λ a. tt) (λ f. refl) in
-      record {
-        built = λ any n came. not_usage judged (λ a. tt) (λ f. refl) n came.0 came.2;
-        input = λ came. (tt, by InputFault (VerifyFileComes m.inputs proof anchors) came);
-        disk = λ came. absurd (by DiskFault (VerifyFileComes m.inputs proof anchors) came);
-        served = λ h reads why came. by (Unserved why) (VerifyFileComes m.inputs proof anchors) came;
-        memory = (Err NoMemory, tt, refl);
-        judging = λ v came.
-            let comes = verdict_of (VerifyFileComes m.inputs proof anchors) v came in record { file = proof; anchors = comes.0; asked = refl; given = comes.1; judged = comes.2 };
-      }
-
-  verify_one_row : (proof : List ℕ) (anchor : Thread) → Row (VerifyOne proof anchor)
+  verify_one_row : (proof : List ℕ) (anchor : Thread) → Row (VerifyOne proof anchor) (work view o (VerifyOne proof anchor))
   verify_one_row proof anchor =
-      let by = fault_by judged (λ a. tt) (λ f. refl) in
-      record {
-        built = λ any n came. not_usage judged (λ a. tt) (λ f. refl) n came.0 came.2;
-        input = λ came. (tt, by InputFault (VerifyOneComes m.inputs proof anchor) came);
-        disk = λ came. absurd (by DiskFault (VerifyOneComes m.inputs proof anchor) came);
-        served = λ h reads why came. by (Unserved why) (VerifyOneComes m.inputs proof anchor) came;
-        memory = (Err NoMemory, tt, refl);
-        judging = λ v came. record { file = proof; anchors = anchor ∷ []; asked = refl; given = refl; judged = verdict_of (VerifyOneComes m.inputs proof anchor) v came };
-      }
-
-  -- the row of a command, or it isn't built
-  rows : (c : Command) → Row c ⊎ ((o : Outcome) → (ComesTo m c o → IsUnbuilt o) × (IsUnbuilt o → ComesTo m c o))
-  rows (Init name) = inl (init_row name)
-  rows (Append path) = inl (append_row path)
-  rows (ProveEvent step index top) = inl (prove_row step index top)
-  rows (Show history step index) = inl (show_row history step index)
-  rows (VerifyFile proof anchors) = inl (verify_file_row proof anchors)
-  rows (VerifyOne proof anchor) = inl (verify_one_row proof anchor)
-  rows _ = inr (λ o. (λ is. is, λ is. is))
-
-  -- ---- what follows of every command
-
-  module _ (c : Command) where
-    -- a command that was done is built
-    pub built_by : (o : Outcome) → ComesTo m c o → status_of o ≡ 0 → IsBuilt c
-    built_by o comes zeroth = ⊎_elim (λ row. row.built) (λ un. absurd (unbuilt_status o ((un o).0 comes) zeroth)) (rows c)
-
-    pub unbuilt_of : (n : ℕ) → ComesTo m c (BadWords n) → (n ≡ 0) × (IsBuilt c → ⊥)
-    unbuilt_of n comes = (⊎_elim (λ row. absurd (row.built m n comes)) (λ un. (un (BadWords n)).0 comes) (rows c), λ built. built m n comes)
-
-    pub input_fault_of : ComesTo m c (Undone InputFault) → IsBuilt c × NamesFile c × Rose m.inputs.before m.inputs.after
-    input_fault_of comes = ⊎_elim (λ row. let input = row.input comes in (row.built, input.0, input.1)) (λ un. absurd ((un (Undone InputFault)).0 comes)) (rows c)
-
-    pub disk_fault_of : ComesTo m c (Undone DiskFault) → UsesDisk c × Rose m.disk.before m.disk.after
-    disk_fault_of comes = ⊎_elim (λ row. row.disk comes) (λ un. absurd ((un (Undone DiskFault)).0 comes)) (rows c)
-
-    -- a disk that reads as one that stands for a history can serve every command
-    pub served_command : (h : History) → ReadsAs m.disk.found h → (why : StoreCause) → ComesTo m c (Undone (Unserved why)) → ⊥
-    served_command h reads why comes = ⊎_elim (λ row. row.served h reads why comes) (λ un. (un (Undone (Unserved why))).0 comes) (rows c)
-
-    pub no_memory_comes : ComesTo m c (Undone NoMemory)
-    no_memory_comes = ⊎_elim (λ row. row.memory) (λ un. (un (Undone NoMemory)).1 tt) (rows c)
-
-    pub judging_of : (v : Verdict) → ComesTo m c (Judged v) → Judges c v
-    judging_of v comes = ⊎_elim (λ row. row.judging v comes) (λ un. absurd ((un (Judged v)).0 comes)) (rows c)
-
-  -- a command that judges comes to a verdict or isn't done
-  pub verdict_or_fault : (c : Command) (o : Outcome) → IsVerify c → ComesTo m c o → ((v : Verdict) × (o ≡ Judged v)) ⊎ ((f : CommandFault) × (o ≡ Undone f))
-  verdict_or_fault (VerifyFile proof anchors) o is came = of_result o came.0 came.2
-  verdict_or_fault (VerifyOne proof anchor) o is came = of_result o came.0 came.2
-  verdict_or_fault _ o is came = absurd is
-
-  -- the command that an outcome is of
-  pub of_words : (words : List (List ℕ)) (o : Outcome) → (HaveNoForm words o → ⊥) → HasOutcome m words o → (c : Command) × (command_of words ≡ Some c) × ComesTo m c o
-  of_words words o none has = by (command_of words) refl has
+      files_row (VerifyOne proof anchor) Judged judged_tells (VerifyOneComes o.inputs proof anchor)
+      (record { input = λ rose. (tt, rose); disk = λ came. absurd came; serves = λ h reads why came. came; memory = tt })
+      (λ p n came. no_usage Judged judged_tells n came.0 came.2) judging
     where
-      by : (option : Option Command) → command_of words ≡ option → MatchOption option (HaveNoForm words o) (λ c. ComesTo m c o) → (c : Command) × (command_of words ≡ Some c) × ComesTo m c o
-      by None is has = absurd (none has)
-      by (Some c) is has = (c, is, has)
+      judging : (w v : Verdict) → Judged v ≡ Judged w → VerifyOneComes o.inputs proof anchor (Ok w) → Judges o.inputs.told (VerifyOne proof anchor) v
+      judging w v is comes =
+          let same : w ≡ v = cc in
+          record { file = proof; anchors = anchor ∷ []; asked = refl; given = refl; judged = subst (IsJudged o.inputs.told proof (anchor ∷ [])) same comes }
+
+  -- each command, by what is known of its results
+  pub rows : (c : Command) → Row c (work view o c)
+  rows (Init name) =
+      made_row (Init name) (λ p n came. no_usage Made made_tells n came.0 came.2) (init_causes o.inputs (found_of view o) name)
+      (init_is_safe view o.disk.before o.disk.after only_now as_it_reads name)
+  rows (Append file) =
+      made_row (Append file) (λ p n came. no_usage Made made_tells n came.0 came.2) (append_causes o.inputs (found_of view o) file)
+      (append_is_safe view o.disk.before o.disk.after only_now as_it_reads o.inputs.told file)
+  rows (ProveEvent step index top) =
+      proof_row (ProveEvent step index top) (λ p n came. no_usage Proof proof_tells n came.0 came.2) (prove_causes o.inputs (found_of view o) step index top)
+  rows (Show history step index) = show_row history step index
+  rows (VerifyFile proof anchors) =
+      anchors_row (VerifyFile proof anchors) proof anchors (λ p n came. no_usage Judged judged_tells n came.0 came.2) tt refl (λ held has. has)
+  rows (Strict proof anchors) =
+      anchors_row (Strict proof anchors) proof anchors (λ p n came. no_usage Judged judged_tells n came.0 came.2) tt refl (λ held has. has)
+  rows (VerifyOne proof anchor) = verify_one_row proof anchor
+  rows _ = unbuilt_row _
+
+-- a command that judges comes to a verdict or isn't done
+of_result : (o : Outcome) (r : Result Verdict CommandFault) → o ≡ outcome_by Judged r → ((v : Verdict) × (o ≡ Judged v)) ⊎ ((f : CommandFault) × (o ≡ Undone f))
+of_result o (Ok v) is = inl (v, is)
+of_result o (Err f) is = inr (f, is)
+
+pub verdict_or_fault : {D : Type 0} (view : D → DiskView) (o : Outside D) (c : Command) (outcome : Outcome) → IsVerify c → (work view o c).does outcome
+    → ((v : Verdict) × (outcome ≡ Judged v)) ⊎ ((f : CommandFault) × (outcome ≡ Undone f))
+verdict_or_fault view o (VerifyFile proof anchors) outcome is came = of_result outcome came.0 came.2
+verdict_or_fault view o (VerifyOne proof anchor) outcome is came = of_result outcome came.0 came.2
+verdict_or_fault view o (Strict proof anchors) outcome is came = of_result outcome came.0 came.2
+verdict_or_fault view o _ outcome is came = absurd is

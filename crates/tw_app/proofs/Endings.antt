@@ -1,6 +1,7 @@
 -- What a run's status says by itself.
 use Rattle.std.proofs.Common.{◌≡◌, ℕ, ◌<◌, ◌≤◌, List, ◌++◌, ap, sym, ◌∙◌, subst, arith, inl, inr, ◌⊎◌, ⊎_elim, refl}
-use Rattle.std.specs.Prelude.{Option, Some, None, MatchOption, Result, Ok, Err}
+use Rattle.std.proofs.lemmas.Bool.{cases_eq}
+use Rattle.std.specs.Prelude.{Option, Some, None, MatchOption}
 use Rattle.sha2.specs.Sha256.{sha256}
 use Rattle.tw_base.specs.declared.report.Claim.{Claim}
 use Rattle.tw_base.specs.declared.report.Report.{Report}
@@ -9,9 +10,11 @@ use Rattle.tw_base.specs.Family.{Facts, family_texts}
 use Rattle.tw_base.specs.Faults.{Rose}
 use Rattle.tw_base.specs.History.{History}
 use Rattle.tw_base.proofs.FormatLaws.{one_value}
+use Rattle.tw_disk.specs.Disk.{DiskView}
+use Rattle.tw_disk.specs.Image.{Image}
 use Rattle.tw_outside.specs.TakenBytes.{Appends}
 use Rattle.tw_text.specs.CommandLine.{IsFirstBad, command_of}
-use Rattle.tw_text.specs.Faults.{fault_status}
+use Rattle.tw_text.specs.Faults.{fault_status, fault_text}
 use Rattle.tw_text.specs.Lines.{no_memory_text}
 use Rattle.tw_text.specs.declared.fault.CommandFault.{CommandFault}
 use Rattle.tw_text.specs.declared.fault.CommandFault.TheVariants.{InputFault, DiskFault, NoMemory, Refused, Unserved, Unreadable}
@@ -20,29 +23,20 @@ use Rattle.tw_text.specs.declared.refusal.Refusal.{Refusal}
 use Rattle.tw_text.specs.declared.refusal.StoreCause.{StoreCause}
 use Rattle.tw_text.specs.Reports.{report_text}
 use Rattle.tw_text.specs.declared.command.Command.{Command}
-use Rattle.tw_text.specs.declared.command.Command.TheVariants.{ProveEvent, Show}
 use Rattle.tw_chain.specs.Proofs.{proof_layout}
 use Rattle.tw_chain.specs.declared.verdict.Verdict.{Verdict}
 use Rattle.tw_chain.specs.declared.verdict.Verdict.TheVariants.{Yes, No}
 use Rattle.tw_chain.specs.Accepting.{Accepts, claim_of, proof_texts}
-use Rattle.tw_filecmd.specs.Showing.{OfHistory, ProvesEvent, ShowComes}
-use Rattle.tw_diskcmd.specs.Disks.{ReadsAs}
-use Rattle.tw_diskcmd.specs.Proving.{ProveComes, Proves}
+use Rattle.tw_diskcmd.specs.Disks.{IsLeft, ReadsAs}
 use Rattle.tw_app.specs.declared.outcome.Outcome.{Outcome}
 use Rattle.tw_app.specs.declared.outcome.Outcome.TheVariants.{Judged, Proof, Made, BadWords, Undone}
 use Rattle.tw_app.specs.Around.{Around, Writes}
-use Rattle.tw_app.specs.Commands.{NamesFile, UsesDisk}
-use Rattle.tw_app.specs.Outcomes.{TakesMemory, proved, status_of, text_of}
-use Rattle.tw_app.specs.Running.{ComesTo, EndsAs, EndsLeaving, EndsWith, HasOutcome, HaveNoForm}
-use Rattle.tw_app.specs.Statuses.{AreOf, IsAcceptedRun, IsBuilt, IsDiskFaultRun, IsInputFaultRun, IsRejectedRun, IsStatus, IsUsageRun, IsVerify, Says}
-use Rattle.tw_app.proofs.Words.{no_memory_outcome}
-use Rattle.tw_app.proofs.Commands.{Judges, built_by, disk_fault_of, fault_not_zero, input_fault_of, judging_of, no_form_status, of_option, of_words, served_command, unbuilt_of, verdict_or_fault}
-
--- the outcome that was come to, or want of memory for its text
-pub ends_by : (a : Around) (status : ℕ) (Leaves : Outcome → Type 0) (outcome : Outcome) → HasOutcome a.met a.words outcome → Leaves outcome → (TakesMemory outcome → Leaves (Undone NoMemory))
-    → EndsWith a.taken a.sink_faults status outcome ⊎ (TakesMemory outcome × EndsWith a.taken a.sink_faults status (Undone NoMemory)) → EndsLeaving a status Leaves
-ends_by a status Leaves outcome has leaves without (inl ends) = (outcome, record { has = has; ends = ends }, leaves)
-ends_by a status Leaves outcome has leaves without (inr ends) = (Undone NoMemory, record { has = no_memory_outcome a.words a.met; ends = ends.1 }, without ends.0)
+use Rattle.tw_app.specs.Commands.{NamesFile}
+use Rattle.tw_app.specs.Outcomes.{TakesMemory, status_of, text_of}
+use Rattle.tw_app.specs.Running.{Ends, EndsWith, HasOutcome, HaveNoForm, IsUntouched, Work, work}
+use Rattle.tw_app.specs.Statuses.{AreOf, DiskFailed, IsAcceptedRun, IsBuilt, IsDiskFaultRun, IsDoneRun, IsIdle, IsInputFaultRun, IsRejectedRun, IsStatus, IsUndoneRun, IsUsageRun, IsVerify, IsWork}
+use Rattle.tw_app.proofs.Words.{no_text_outcome}
+use Rattle.tw_app.proofs.Commands.{Judges, Row, fault_not_zero, of_option, rows, same_left, verdict_or_fault}
 
 pub zero_not_four : (n : ℕ) → n ≡ 0 → n ≡ 4 → ⊥
 zero_not_four n zeroth fourth = omega (arith, zeroth, fourth)
@@ -55,228 +49,297 @@ not_fault : (f : CommandFault) (n : ℕ) → n ≡ fault_status f → n < 3 → 
 not_fault InputFault n same low = omega (arith, same, low)
 not_fault _ n same low = omega (arith, same, low)
 
-module _ (a : Around) (status : ℕ) (outcome : Outcome) (e : EndsAs a status outcome) where
-  -- what the run's command comes to
-  pub comes_by : (c : Command) → command_of a.words ≡ Some c → ComesTo a.met c outcome
-  comes_by c is = subst (λ (o : Option Command). MatchOption o (HaveNoForm a.words outcome) (λ d. ComesTo a.met d outcome)) is e.has
+no_form_status : (words : List (List ℕ)) (o : Outcome) → HaveNoForm words o → status_of o ≡ 0 → ⊥
+no_form_status words (BadWords number) is zeroth = omega (arith, zeroth)
+no_form_status words (Undone f) is zeroth = fault_not_zero f zeroth
+no_form_status words _ is zeroth = is
 
-  -- the status and the text are the outcome's
-  abbrev pub Told : Outcome → Type 0
-  Told o = (status ≡ status_of o) × Writes a (text_of o)
+is_disk_fault : (o : Outcome) → status_of o ≡ 5 → o ≡ Undone DiskFault
+is_disk_fault (Judged verdict) fifth = absurd (not_verdict verdict 5 (λ k. omega arith) (λ k. omega arith) (sym fifth))
+is_disk_fault (Undone f) fifth = ap (λ (g : CommandFault). Undone g) (by f fifth)
+  where
+    by : (f : CommandFault) → fault_status f ≡ 5 → f ≡ DiskFault
+    by DiskFault fifth = refl
+    by _ fifth = absurd (omega (arith, fifth))
+is_disk_fault _ fifth = absurd (omega (arith, fifth))
 
-  pub told : (status ≡ 4 → ⊥) → Told outcome
-  told other = ⊎_elim (λ ends. ends) (λ ends. absurd (other ends.0)) e.ends
+module _ {D : Type 0} (view : D → DiskView)
+    (only_now : (d : D) (image : Image) → (view d).left_since (view d).moment image → (view d).may_leave image)
+    (as_it_reads : (d : D) (image : Image) → (view d).content ≡ Some image → (view d).may_leave image) (a : Around D) (status : ℕ) where
+  -- the outcome that was come to, or want of memory for its text
+  pub ends_by : (outcome : Outcome) → HasOutcome view a.outside a.words outcome
+      → EndsWith a.taken a.sink_faults status outcome ⊎ (TakesMemory outcome × EndsWith a.taken a.sink_faults status (Undone NoMemory)) → Ends view a status
+  ends_by outcome has (inl ends) = (outcome, record { has = has; ends = ends })
+  ends_by outcome has (inr ends) = (Undone NoMemory, record { has = no_text_outcome view only_now as_it_reads a.outside a.words outcome ends.0 has; ends = ends.1 })
 
-  pub told_of : (o : Outcome) → outcome ≡ o → (status ≡ 4 → ⊥) → Told o
-  told_of o is other = subst Told is (told other)
+  module _ (run : Ends view a status) where
+    abbrev outcome : Outcome
+    outcome = run.0
 
-  -- ---- status 0
+    abbrev Does : Command → Outcome → Type 0
+    Does c o = (work view a.outside c).does o
 
-  pub built : status ≡ 0 → AreOf IsBuilt a.words
-  built zeroth = by (command_of a.words) refl e.has
-    where
-      done : status_of outcome ≡ 0
-      done = sym (told (zero_not_four status zeroth)).0 ∙ zeroth
+    abbrev Has : Outcome → Type 0
+    Has o = HasOutcome view a.outside a.words o
 
-      by : (o : Option Command) → command_of a.words ≡ o → MatchOption o (HaveNoForm a.words outcome) (λ c. ComesTo a.met c outcome) → AreOf IsBuilt a.words
-      by None is has = absurd (no_form_status a.words outcome has done)
-      by (Some c) is has = of_option IsBuilt a.words c is (built_by a.met c outcome has done)
+    -- what is known of the run's command
+    abbrev known : (c : Command) → Row view only_now as_it_reads a.outside c (work view a.outside c)
+    known c = rows view only_now as_it_reads a.outside c
 
-  accepted_by : status ≡ 0 → (c : Command) (verdict : Verdict) → command_of a.words ≡ Some c → Judges a.met c verdict → Told (Judged verdict)
-      → IsAcceptedRun a.met.inputs.told a.words a.taken.before a.taken.after
-  accepted_by zeroth c (Yes report) is judges ended = record {
-    command = c;
-    file = judges.file;
-    anchors = judges.anchors;
-    is_command = is;
-    asked = judges.asked;
-    given = judges.given;
-    there = judges.judged.there;
-    accepted = λ bytes tells.
-        let is = judges.judged.is_verdict bytes tells in (is.0, subst (λ r. Appends a.taken.before a.taken.after (report_text r)) is.1 ended.1);
-    binds = λ bytes tells p spelled family sound has.
-        let is = judges.judged.is_verdict bytes tells in
-        let accepts : Accepts sha256 judges.anchors bytes = is.0 in
-        let same : accepts.0 ≡ p = one_value proof_layout bytes accepts.0 p accepts.1 spelled in
-        let claim : report.claim ≡ claim_of p = ap (λ (r : Report). r.claim) is.1 ∙ ap claim_of same in
-        let Claims : Claim → Type 0 = λ c. OrClash sha256 (family_texts sha256 family ++ proof_texts sha256 p) (Facts sha256 family c) in
-        subst Claims claim (judges.judged.binds bytes tells p spelled family sound has);
-  }
-  accepted_by zeroth c (No reason) is judges ended = absurd (omega (arith, zeroth, ended.0))
+    abbrev Left : Type 0
+    Left = IsLeft view a.outside.disk.before a.outside.disk.after
 
-  pub accepted : status ≡ 0 → AreOf IsVerify a.words → IsAcceptedRun a.met.inputs.told a.words a.taken.before a.taken.after
-  accepted zeroth asks = by (command_of a.words) refl e.has asks
-    where
-      of : (c : Command) → command_of a.words ≡ Some c → ComesTo a.met c outcome → ((v : Verdict) × (outcome ≡ Judged v)) ⊎ ((f : CommandFault) × (outcome ≡ Undone f)) → IsAcceptedRun a.met.inputs.told a.words a.taken.before a.taken.after
-      of c is comes (inl judged) =
-          accepted_by zeroth c judged.0 is (judging_of a.met c judged.0 (subst (λ (o : Outcome). ComesTo a.met c o) judged.1 comes)) (told_of (Judged judged.0) judged.1 (zero_not_four status zeroth))
-      of c is comes (inr fault) = absurd (fault_not_zero fault.0 (sym (told_of (Undone fault.0) fault.1 (zero_not_four status zeroth)).0 ∙ zeroth))
+    untouched_left : IsUntouched view a.outside → Left
+    untouched_left is = same_left view only_now as_it_reads a.outside is
 
-      by : (o : Option Command) → command_of a.words ≡ o → MatchOption o (HaveNoForm a.words outcome) (λ c. ComesTo a.met c outcome) → MatchOption o ⊥ IsVerify
-          → IsAcceptedRun a.met.inputs.told a.words a.taken.before a.taken.after
-      by None is has asks = absurd asks
-      by (Some c) is has asks = of c is has (verdict_or_fault a.met c outcome asks has)
+    -- words of no form, or a command
+    by_words : {Q : Type 0} → (o : Outcome) → Has o → (HaveNoForm a.words o × IsUntouched view a.outside → Q) → ((c : Command) → command_of a.words ≡ Some c → Does c o → Q) → Q
+    by_words {Q} o has none some = by (command_of a.words) refl has
+      where
+        by : (option : Option Command) → command_of a.words ≡ option → MatchOption option (HaveNoForm a.words o × IsUntouched view a.outside) (λ c. Does c o) → Q
+        by None is has = none has
+        by (Some c) is has = some c is has
 
-  pub event_shown : status ≡ 0 → (history : List ℕ) (step index : ℕ) → command_of a.words ≡ Some (Show history step index)
-      → (proof : List ℕ) × OfHistory a.met.inputs.told history (ProvesEvent step index proof) × Writes a proof
-  event_shown zeroth history step index is =
-      let of = comes_by (Show history step index) is in by of.0 of.1 (told_of (proved of.0) of.2 (zero_not_four status zeroth))
-    where
-      by : (r : Result (List ℕ) CommandFault) → ShowComes a.met.inputs history step index r → Told (proved r)
-          → (proof : List ℕ) × OfHistory a.met.inputs.told history (ProvesEvent step index proof) × Writes a proof
-      by (Ok proof) comes ended = (proof, comes, ended.1)
-      by (Err f) comes ended = absurd (fault_not_zero f (sym ended.0 ∙ zeroth))
+    of_work : (P : Work → Type 0) (c : Command) → command_of a.words ≡ Some c → P (work view a.outside c) → IsWork view a P
+    of_work P c is holds = of_option (λ d. P (work view a.outside d)) a.words c is holds
 
-  pub event_proved : status ≡ 0 → (step index : ℕ) (top : Option ℕ) → command_of a.words ≡ Some (ProveEvent step index top)
-      → (proof : List ℕ) × Proves a.met.disk.found step index top proof × Writes a proof
-  event_proved zeroth step index top is =
-      let of = comes_by (ProveEvent step index top) is in by of.0 of.1 (told_of (proved of.0) of.2 (zero_not_four status zeroth))
-    where
-      by : (r : Result (List ℕ) CommandFault) → ProveComes a.met.disk step index top r → Told (proved r)
-          → (proof : List ℕ) × Proves a.met.disk.found step index top proof × Writes a proof
-      by (Ok proof) comes ended = (proof, comes, ended.1)
-      by (Err f) comes ended = absurd (fault_not_zero f (sym ended.0 ∙ zeroth))
+    -- the status and the text are the outcome's
+    abbrev Told : Outcome → Type 0
+    Told o = (status ≡ status_of o) × Writes a (text_of o)
 
-  -- ---- the other statuses
+    told : (status ≡ 4 → ⊥) → Told outcome
+    told other = ⊎_elim (λ ends. ends) (λ ends. absurd (other ends.0)) run.1.ends
 
-  rejected_by : status ≡ 1 → (c : Command) (verdict : Verdict) → command_of a.words ≡ Some c → Judges a.met c verdict → Told (Judged verdict) → IsRejectedRun a
-  rejected_by first c (Yes report) is judges ended = absurd (omega (arith, first, ended.0))
-  rejected_by first c (No reason) is judges ended = record {
-    command = c;
-    file = judges.file;
-    anchors = judges.anchors;
-    reason = reason;
-    is_command = is;
-    asked = judges.asked;
-    given = judges.given;
-    there = judges.judged.there;
-    written = ended.1;
-    refused = λ bytes tells. judges.judged.is_verdict bytes tells;
-  }
+    told_of : (o : Outcome) → outcome ≡ o → (status ≡ 4 → ⊥) → Told o
+    told_of o is other = subst Told is (told other)
 
-  -- the outcome of a run with this status
-  by_status : {Q : Type 0} (n : ℕ) → status ≡ n → (n ≡ 4 → ⊥) → ((o : Outcome) → HasOutcome a.met a.words o → n ≡ status_of o → Writes a (text_of o) → Q) → Q
-  by_status n is other then = let ended = told (λ four. other (sym is ∙ four)) in then outcome e.has (sym is ∙ ended.0) ended.1
+    -- ---- what is left of the disk
 
-  pub rejected : status ≡ 1 → IsRejectedRun a
-  rejected is = by_status 1 is (λ k. omega arith) by
-    where
-      by : (o : Outcome) → HasOutcome a.met a.words o → 1 ≡ status_of o → Writes a (text_of o) → IsRejectedRun a
-      by (Judged verdict) has first written =
-          let of = of_words a.met a.words (Judged verdict) (λ none. none) has in rejected_by is of.0 verdict of.1 (judging_of a.met of.0 verdict of.2) (is ∙ first, written)
-      by (Undone f) has first written = absurd (not_fault f 1 first (omega arith))
-      by _ has first written = absurd (omega (arith, first))
+    pub crash : MatchOption (command_of a.words) (IsUntouched view a.outside) (λ c. (work view a.outside c).safe)
+    crash = by (command_of a.words) run.1.has
+      where
+        by : (option : Option Command) → MatchOption option (HaveNoForm a.words outcome × IsUntouched view a.outside) (λ c. Does c outcome)
+            → MatchOption option (IsUntouched view a.outside) (λ c. (work view a.outside c).safe)
+        by None has = has.1
+        by (Some c) has = (known c).safe outcome has
 
-  pub usage : status ≡ 2 → IsUsageRun a
-  usage is = by_status 2 is (λ k. omega arith) by
-    where
-      number_is : (n : ℕ) (o : Option Command) → MatchOption o (IsFirstBad a.words n) (λ c. ComesTo a.met c (BadWords n))
-          → MatchOption o (IsFirstBad a.words n) (λ c. (n ≡ 0) × (IsBuilt c → ⊥))
-      number_is n None has = has
-      number_is n (Some c) has = unbuilt_of a.met c n has
+    pub unwritten : IsIdle status → Left
+    unwritten is =
+        let same = (told is.1).0 in
+        by_words outcome run.1.has (λ has. untouched_left has.1) (λ c of has. (known c).idle outcome (λ zeroth. is.0 (same ∙ zeroth)) (λ fifth. is.2 (same ∙ fifth)) has)
 
-      by : (o : Outcome) → HasOutcome a.met a.words o → 2 ≡ status_of o → Writes a (text_of o) → IsUsageRun a
-      by (BadWords n) has second written = (n, number_is n (command_of a.words) has, written)
-      by (Judged verdict) has second written = absurd (not_verdict verdict 2 (λ k. omega arith) (λ k. omega arith) second)
-      by (Undone f) has second written = absurd (not_fault f 2 second (omega arith))
-      by _ has second written = absurd (omega (arith, second))
+    -- ---- status 0
 
-  -- a run with the status of a fault says it
-  says : {Q : Type 0} (n : ℕ) → status ≡ n → (n ≡ 4 → ⊥) → 3 ≤ n → ((f : CommandFault) → n ≡ fault_status f → HasOutcome a.met a.words (Undone f) → Writes a (text_of (Undone f)) → Q) → Q
-  says {Q} n is other high then = by_status n is other by
-    where
-      by : (o : Outcome) → HasOutcome a.met a.words o → n ≡ status_of o → Writes a (text_of o) → Q
-      by (Undone f) has same written = then f same has written
-      by (Judged verdict) has same written = absurd (not_verdict verdict n (λ k. omega (arith, k, high)) (λ k. omega (arith, k, high)) same)
-      by _ has same written = absurd (omega (arith, same, high))
+    done_status : status ≡ 0 → status_of outcome ≡ 0
+    done_status zeroth = sym (told (zero_not_four status zeroth)).0 ∙ zeroth
 
-  said : (f : CommandFault) → (HaveNoForm a.words (Undone f) → ⊥) → HasOutcome a.met a.words (Undone f) → Writes a (text_of (Undone f)) → Says a (Undone f)
-  said f none has written = let of = of_words a.met a.words (Undone f) none has in (of.0, of.1, of.2, written)
+    done_work : (c : Command) → command_of a.words ≡ Some c → Does c outcome → status_of outcome ≡ 0 → IsWork view a (λ w. w.done (text_of outcome))
+    done_work c is has zeroth = of_work (λ w. w.done (text_of outcome)) c is ((known c).done outcome has zeroth)
 
-  pub input_fault : status ≡ 3 → IsInputFaultRun a
-  input_fault is = says 3 is (λ k. omega arith) (omega arith) by
-    where
-      by : (f : CommandFault) → 3 ≡ fault_status f → HasOutcome a.met a.words (Undone f) → Writes a (text_of (Undone f)) → IsInputFaultRun a
-      by InputFault same has written =
-          let says = said InputFault (λ none. none) has written in
-          let failed = input_fault_of a.met says.0 says.2 in
-          (of_option IsBuilt a.words says.0 says.1 failed.0, of_option NamesFile a.words says.0 says.1 failed.1, failed.2, says)
-      by _ same has written = absurd (omega (arith, same))
+    pub built : status ≡ 0 → AreOf (IsBuilt view) a.words
+    built zeroth =
+        by_words outcome run.1.has (λ has. absurd (no_form_status a.words outcome has.0 (done_status zeroth)))
+        (λ c is has. of_option (IsBuilt view) a.words c is (⊎_elim (λ built. built) (λ un. absurd (un outcome has (done_status zeroth))) (known c).built))
 
-  pub output_fault : status ≡ 4 → Rose a.sink_faults.before a.sink_faults.after
-  output_fault is = ⊎_elim (λ ends. absurd (never outcome (sym ends.0 ∙ is))) (λ ends. ends.2) e.ends
-    where
-      never_verdict : (v : Verdict) → status_of (Judged v) ≡ 4 → ⊥
-      never_verdict (Yes report) fourth = omega (arith, fourth)
-      never_verdict (No reason) fourth = omega (arith, fourth)
+    pub done : status ≡ 0 → IsDoneRun view a
+    done zeroth = (
+      text_of outcome,
+      by_words outcome run.1.has (λ has. absurd (no_form_status a.words outcome has.0 (done_status zeroth))) (λ c is has. done_work c is has (done_status zeroth)),
+      (told (zero_not_four status zeroth)).1,
+    )
 
-      never_fault : (f : CommandFault) → fault_status f ≡ 4 → ⊥
-      never_fault InputFault fourth = omega (arith, fourth)
-      never_fault _ fourth = omega (arith, fourth)
+    accepted_by : status ≡ 0 → (c : Command) (verdict : Verdict) → command_of a.words ≡ Some c → Judges a.outside.inputs.told c verdict → Told (Judged verdict)
+        → IsAcceptedRun a.outside.inputs.told a.words a.taken.before a.taken.after
+    accepted_by zeroth c (Yes report) is judges ended = record {
+      command = c;
+      file = judges.file;
+      anchors = judges.anchors;
+      is_command = is;
+      asked = judges.asked;
+      given = judges.given;
+      there = judges.judged.there;
+      accepted = λ bytes tells.
+          let is = judges.judged.is_verdict bytes tells in (is.0, subst (λ r. Appends a.taken.before a.taken.after (report_text r)) is.1 ended.1);
+      binds = λ bytes tells p spelled family sound has.
+          let is = judges.judged.is_verdict bytes tells in
+          let accepts : Accepts sha256 judges.anchors bytes = is.0 in
+          let same : accepts.0 ≡ p = one_value proof_layout bytes accepts.0 p accepts.1 spelled in
+          let claim : report.claim ≡ claim_of p = ap (λ (r : Report). r.claim) is.1 ∙ ap claim_of same in
+          let Claims : Claim → Type 0 = λ c. OrClash sha256 (family_texts sha256 family ++ proof_texts sha256 p) (Facts sha256 family c) in
+          subst Claims claim (judges.judged.binds bytes tells p spelled family sound has);
+    }
+    accepted_by zeroth c (No reason) is judges ended = absurd (omega (arith, zeroth, ended.0))
 
-      never : (o : Outcome) → status_of o ≡ 4 → ⊥
-      never (Judged v) fourth = never_verdict v fourth
-      never (Undone f) fourth = never_fault f fourth
-      never _ fourth = omega (arith, fourth)
+    pub accepted : status ≡ 0 → AreOf IsVerify a.words → IsAcceptedRun a.outside.inputs.told a.words a.taken.before a.taken.after
+    accepted zeroth asks = by (command_of a.words) refl run.1.has asks
+      where
+        of : (c : Command) → command_of a.words ≡ Some c → Does c outcome → ((v : Verdict) × (outcome ≡ Judged v)) ⊎ ((f : CommandFault) × (outcome ≡ Undone f))
+            → IsAcceptedRun a.outside.inputs.told a.words a.taken.before a.taken.after
+        of c is does (inl judged) =
+            accepted_by zeroth c judged.0 is ((known c).judging judged.0 (subst (λ (o : Outcome). Does c o) judged.1 does))
+            (told_of (Judged judged.0) judged.1 (zero_not_four status zeroth))
+        of c is does (inr fault) = absurd (fault_not_zero fault.0 (sym (told_of (Undone fault.0) fault.1 (zero_not_four status zeroth)).0 ∙ zeroth))
 
-  pub disk_fault : status ≡ 5 → IsDiskFaultRun a
-  disk_fault is = says 5 is (λ k. omega arith) (omega arith) by
-    where
-      by : (f : CommandFault) → 5 ≡ fault_status f → HasOutcome a.met a.words (Undone f) → Writes a (text_of (Undone f)) → IsDiskFaultRun a
-      by DiskFault same has written =
-          let says = said DiskFault (λ none. none) has written in
-          let failed = disk_fault_of a.met says.0 says.2 in
-          (of_option UsesDisk a.words says.0 says.1 failed.0, failed.1, says)
-      by _ same has written = absurd (omega (arith, same))
+        by : (option : Option Command) → command_of a.words ≡ option → MatchOption option (HaveNoForm a.words outcome × IsUntouched view a.outside) (λ c. Does c outcome) → MatchOption option ⊥ IsVerify
+            → IsAcceptedRun a.outside.inputs.told a.words a.taken.before a.taken.after
+        by None is has asks = absurd asks
+        by (Some c) is has asks = of c is has (verdict_or_fault view a.outside c outcome asks has)
 
-  pub no_memory : status ≡ 6 → Writes a no_memory_text
-  no_memory is = says 6 is (λ k. omega arith) (omega arith) by
-    where
-      by : (f : CommandFault) → 6 ≡ fault_status f → HasOutcome a.met a.words (Undone f) → Writes a (text_of (Undone f)) → Writes a no_memory_text
-      by NoMemory same has written = written
-      by _ same has written = absurd (omega (arith, same))
+    -- ---- the other statuses
 
-  pub refused : status ≡ 7 → (refusal : Refusal) × Says a (Undone (Refused refusal))
-  refused is = says 7 is (λ k. omega arith) (omega arith) by
-    where
-      by : (f : CommandFault) → 7 ≡ fault_status f → HasOutcome a.met a.words (Undone f) → Writes a (text_of (Undone f)) → (refusal : Refusal) × Says a (Undone (Refused refusal))
-      by (Refused refusal) same has written = (refusal, said (Refused refusal) (λ none. none) has written)
-      by _ same has written = absurd (omega (arith, same))
+    rejected_by : status ≡ 1 → (c : Command) (verdict : Verdict) → command_of a.words ≡ Some c → Judges a.outside.inputs.told c verdict → Told (Judged verdict) → IsRejectedRun a
+    rejected_by first c (Yes report) is judges ended = absurd (omega (arith, first, ended.0))
+    rejected_by first c (No reason) is judges ended = record {
+      command = c;
+      file = judges.file;
+      anchors = judges.anchors;
+      reason = reason;
+      is_command = is;
+      asked = judges.asked;
+      given = judges.given;
+      there = judges.judged.there;
+      written = ended.1;
+      refused = λ bytes tells. judges.judged.is_verdict bytes tells;
+    }
 
-  pub unserved : status ≡ 8 → (cause : StoreCause) × Says a (Undone (Unserved cause))
-  unserved is = says 8 is (λ k. omega arith) (omega arith) by
-    where
-      by : (f : CommandFault) → 8 ≡ fault_status f → HasOutcome a.met a.words (Undone f) → Writes a (text_of (Undone f)) → (cause : StoreCause) × Says a (Undone (Unserved cause))
-      by (Unserved cause) same has written = (cause, said (Unserved cause) (λ none. none) has written)
-      by _ same has written = absurd (omega (arith, same))
+    -- the outcome of a run with this status
+    by_status : {Q : Type 0} (n : ℕ) → status ≡ n → (n ≡ 4 → ⊥) → ((o : Outcome) → Has o → n ≡ status_of o → Writes a (text_of o) → Q) → Q
+    by_status n is other then = let ended = told (λ four. other (sym is ∙ four)) in then outcome run.1.has (sym is ∙ ended.0) ended.1
 
-  pub complete : status ≡ 8 → (h : History) → ReadsAs a.met.disk.found h → ⊥
-  complete is h reads = let run = unserved is in served_command a.met run.1.0 h reads run.0 run.1.2
+    pub rejected : status ≡ 1 → IsRejectedRun a
+    rejected is = by_status 1 is (λ k. omega arith) by
+      where
+        by : (o : Outcome) → Has o → 1 ≡ status_of o → Writes a (text_of o) → IsRejectedRun a
+        by (Judged verdict) has first written =
+            by_words (Judged verdict) has (λ none. absurd none.0) (λ c of does. rejected_by is c verdict of ((known c).judging verdict does) (is ∙ first, written))
+        by (Undone f) has first written = absurd (not_fault f 1 first (omega arith))
+        by _ has first written = absurd (omega (arith, first))
 
-  pub unreadable : status ≡ 9 → (bad : BadInput) × Says a (Undone (Unreadable bad))
-  unreadable is = says 9 is (λ k. omega arith) (omega arith) by
-    where
-      by : (f : CommandFault) → 9 ≡ fault_status f → HasOutcome a.met a.words (Undone f) → Writes a (text_of (Undone f)) → (bad : BadInput) × Says a (Undone (Unreadable bad))
-      by (Unreadable bad) same has written = (bad, said (Unreadable bad) (λ none. none) has written)
-      by _ same has written = absurd (omega (arith, same))
+    pub usage : status ≡ 2 → IsUsageRun view a
+    usage is = by_status 2 is (λ k. omega arith) by
+      where
+        number_is : (n : ℕ) (option : Option Command) → MatchOption option (IsFirstBad a.words n × IsUntouched view a.outside) (λ c. Does c (BadWords n))
+            → MatchOption option (IsFirstBad a.words n) (λ c. (n ≡ 0) × (IsBuilt view c → ⊥))
+        number_is n None has = has.0
+        number_is n (Some c) has = ((known c).usage n has, λ built. built a.outside n has)
 
-  -- ---- the statuses
+        by : (o : Outcome) → Has o → 2 ≡ status_of o → Writes a (text_of o) → IsUsageRun view a
+        by (BadWords n) has second written = (n, number_is n (command_of a.words) has, written)
+        by (Judged verdict) has second written = absurd (not_verdict verdict 2 (λ k. omega arith) (λ k. omega arith) second)
+        by (Undone f) has second written = absurd (not_fault f 2 second (omega arith))
+        by _ has second written = absurd (omega (arith, second))
 
-  fault_is_status : (f : CommandFault) → IsStatus (fault_status f)
-  fault_is_status InputFault = inr (inr (inr (inl refl)))
-  fault_is_status DiskFault = inr (inr (inr (inr (inr (inl refl)))))
-  fault_is_status NoMemory = inr (inr (inr (inr (inr (inr (inl refl))))))
-  fault_is_status (Refused refusal) = inr (inr (inr (inr (inr (inr (inr (inl refl)))))))
-  fault_is_status (Unserved cause) = inr (inr (inr (inr (inr (inr (inr (inr (inl refl))))))))
-  fault_is_status (Unreadable bad) = inr (inr (inr (inr (inr (inr (inr (inr (inr (inl refl)))))))))
+    -- a run with the status of a fault says it
+    says : {Q : Type 0} (n : ℕ) → status ≡ n → (n ≡ 4 → ⊥) → 3 ≤ n → ((f : CommandFault) → n ≡ fault_status f → Has (Undone f) → Writes a (fault_text f) → Q) → Q
+    says {Q} n is other high then = by_status n is other by
+      where
+        by : (o : Outcome) → Has o → n ≡ status_of o → Writes a (text_of o) → Q
+        by (Undone f) has same written = then f same has written
+        by (Judged verdict) has same written = absurd (not_verdict verdict n (λ k. omega (arith, k, high)) (λ k. omega (arith, k, high)) same)
+        by _ has same written = absurd (omega (arith, same, high))
 
-  is_status : (o : Outcome) → IsStatus (status_of o)
-  is_status (Judged (Yes report)) = inl refl
-  is_status (Judged (No reason)) = inr (inl refl)
-  is_status (Proof proof) = inl refl
-  is_status (Made thread) = inl refl
-  is_status (BadWords n) = inr (inr (inl refl))
-  is_status (Undone f) = fault_is_status f
+    -- the command that isn't done for it
+    undone_by : {Q : Type 0} → (f : CommandFault) → (HaveNoForm a.words (Undone f) → ⊥) → Has (Undone f) → ((c : Command) → command_of a.words ≡ Some c → (work view a.outside c).undone f → Q) → Q
+    undone_by f none has then = by_words (Undone f) has (λ no. absurd (none no.0)) (λ c is does. then c is ((known c).undone f does))
 
-  pub statuses : IsStatus status
-  statuses = ⊎_elim (λ ends. subst IsStatus (sym ends.0) (is_status outcome)) (λ ends. inr (inr (inr (inr (inl ends.0))))) e.ends
+    said : (f : CommandFault) → (HaveNoForm a.words (Undone f) → ⊥) → Has (Undone f) → Writes a (fault_text f) → IsUndoneRun view a f
+    said f none has written = (undone_by f none has (λ c is undone. of_work (λ w. w.undone f) c is undone), written)
+
+    pub input_fault : status ≡ 3 → IsInputFaultRun view a
+    input_fault is = says 3 is (λ k. omega arith) (omega arith) by
+      where
+        by : (f : CommandFault) → 3 ≡ fault_status f → Has (Undone f) → Writes a (fault_text f) → IsInputFaultRun view a
+        by InputFault same has written = undone_by InputFault (λ none. none) has (λ c of undone.
+            let failed = (known c).input undone in
+            (of_option (IsBuilt view) a.words c of failed.0, of_option NamesFile a.words c of failed.1, failed.2, said InputFault (λ none. none) has written))
+        by _ same has written = absurd (omega (arith, same))
+
+    pub output_fault : status ≡ 4 → Rose a.sink_faults.before a.sink_faults.after
+    output_fault is = ⊎_elim (λ ends. absurd (never outcome (sym ends.0 ∙ is))) (λ ends. ends.2) run.1.ends
+      where
+        never_verdict : (v : Verdict) → status_of (Judged v) ≡ 4 → ⊥
+        never_verdict (Yes report) fourth = omega (arith, fourth)
+        never_verdict (No reason) fourth = omega (arith, fourth)
+
+        never_fault : (f : CommandFault) → fault_status f ≡ 4 → ⊥
+        never_fault InputFault fourth = omega (arith, fourth)
+        never_fault _ fourth = omega (arith, fourth)
+
+        never : (o : Outcome) → status_of o ≡ 4 → ⊥
+        never (Judged v) fourth = never_verdict v fourth
+        never (Undone f) fourth = never_fault f fourth
+        never _ fourth = omega (arith, fourth)
+
+    pub cut_short : (DiskFailed view a → ⊥) → ((text : List ℕ) × IsWork view a (λ w. w.done text)) ⊎ Left
+    cut_short unfailed = by_words outcome run.1.has (λ has. inr (untouched_left has.1)) (λ c is has. elim (cases_eq (status_of outcome) 0) [
+      | inl zeroth ↦ inl (text_of outcome, done_work c is has zeroth)
+      | inr other ↦ inr ((known c).idle outcome other (λ fifth. unfailed (failed c (subst (λ (o : Outcome). Does c o) (is_disk_fault outcome fifth) has))) has)
+    ])
+      where
+        failed : (c : Command) → Does c (Undone DiskFault) → DiskFailed view a
+        failed c does = ((known c).disk ((known c).undone DiskFault does)).1
+
+    pub disk_fault : status ≡ 5 → IsDiskFaultRun view a
+    disk_fault is = says 5 is (λ k. omega arith) (omega arith) by
+      where
+        by : (f : CommandFault) → 5 ≡ fault_status f → Has (Undone f) → Writes a (fault_text f) → IsDiskFaultRun view a
+        by DiskFault same has written = undone_by DiskFault (λ none. none) has (λ c of undone.
+            let failed = (known c).disk undone in
+            (of_work (λ w. w.uses_disk) c of failed.0, failed.1, said DiskFault (λ none. none) has written))
+        by _ same has written = absurd (omega (arith, same))
+
+    pub no_memory : status ≡ 6 → Writes a no_memory_text
+    no_memory is = says 6 is (λ k. omega arith) (omega arith) by
+      where
+        by : (f : CommandFault) → 6 ≡ fault_status f → Has (Undone f) → Writes a (fault_text f) → Writes a no_memory_text
+        by NoMemory same has written = written
+        by _ same has written = absurd (omega (arith, same))
+
+    pub refused : status ≡ 7 → (refusal : Refusal) × IsUndoneRun view a (Refused refusal)
+    refused is = says 7 is (λ k. omega arith) (omega arith) by
+      where
+        by : (f : CommandFault) → 7 ≡ fault_status f → Has (Undone f) → Writes a (fault_text f) → (refusal : Refusal) × IsUndoneRun view a (Refused refusal)
+        by (Refused refusal) same has written = (refusal, said (Refused refusal) (λ none. none) has written)
+        by _ same has written = absurd (omega (arith, same))
+
+    -- a run of status 8 tells why its command isn't served
+    unserved_by : {Q : Type 0} → status ≡ 8 → ((cause : StoreCause) → Has (Undone (Unserved cause)) → Writes a (fault_text (Unserved cause)) → Q) → Q
+    unserved_by {Q} is then = says 8 is (λ k. omega arith) (omega arith) by
+      where
+        by : (f : CommandFault) → 8 ≡ fault_status f → Has (Undone f) → Writes a (fault_text f) → Q
+        by (Unserved cause) same has written = then cause has written
+        by _ same has written = absurd (omega (arith, same))
+
+    pub unserved : status ≡ 8 → (cause : StoreCause) × IsUndoneRun view a (Unserved cause)
+    unserved is = unserved_by is (λ cause has written. (cause, said (Unserved cause) (λ none. none) has written))
+
+    pub complete : status ≡ 8 → (h : History) → ReadsAs (view a.outside.disk.before).content h → ⊥
+    complete is h reads = unserved_by is (λ cause has written. undone_by (Unserved cause) (λ none. none) has (λ c of undone. (known c).serves h reads cause undone))
+
+    pub unreadable : status ≡ 9 → (bad : BadInput) × IsUndoneRun view a (Unreadable bad)
+    unreadable is = says 9 is (λ k. omega arith) (omega arith) by
+      where
+        by : (f : CommandFault) → 9 ≡ fault_status f → Has (Undone f) → Writes a (fault_text f) → (bad : BadInput) × IsUndoneRun view a (Unreadable bad)
+        by (Unreadable bad) same has written = (bad, said (Unreadable bad) (λ none. none) has written)
+        by _ same has written = absurd (omega (arith, same))
+
+    -- ---- the statuses
+
+    fault_is_status : (f : CommandFault) → IsStatus (fault_status f)
+    fault_is_status InputFault = inr (inr (inr (inl refl)))
+    fault_is_status DiskFault = inr (inr (inr (inr (inr (inl refl)))))
+    fault_is_status NoMemory = inr (inr (inr (inr (inr (inr (inl refl))))))
+    fault_is_status (Refused refusal) = inr (inr (inr (inr (inr (inr (inr (inl refl)))))))
+    fault_is_status (Unserved cause) = inr (inr (inr (inr (inr (inr (inr (inr (inl refl))))))))
+    fault_is_status (Unreadable bad) = inr (inr (inr (inr (inr (inr (inr (inr (inr (inl refl)))))))))
+
+    is_status : (o : Outcome) → IsStatus (status_of o)
+    is_status (Judged (Yes report)) = inl refl
+    is_status (Judged (No reason)) = inr (inl refl)
+    is_status (Proof proof) = inl refl
+    is_status (Made thread) = inl refl
+    is_status (BadWords n) = inr (inr (inl refl))
+    is_status (Undone f) = fault_is_status f
+
+    pub statuses : IsStatus status
+    statuses = ⊎_elim (λ ends. subst IsStatus (sym ends.0) (is_status outcome)) (λ ends. inr (inr (inr (inr (inl ends.0))))) run.1.ends

@@ -1,4 +1,3 @@
 pub mod Commands
 pub mod Words
 pub mod Endings
-pub mod DiskEndings

@@ -2,7 +2,7 @@
 use Rattle.std.proofs.Common.{◌≡◌, ℕ, List, refl, subst, sym, ◌∙◌}
 use Rattle.std.specs.Prelude.{Option, Some, None, Result, Ok, IfSome, IfNone, IsErrAnd, MatchOption, MatchResult}
 use Rattle.tw_disk.specs.Disk.{DiskView}
-use Rattle.tw_outside.specs.Files.{Files}
+use Rattle.tw_disk.specs.Image.{Image}
 use Rattle.tw_text.specs.CommandLine.{IsBadWord, command_of}
 use Rattle.tw_text.specs.declared.command.Command.{Command}
 use Rattle.tw_text.specs.declared.words.WordFault.{WordFault}
@@ -10,9 +10,10 @@ use Rattle.tw_text.specs.declared.words.WordFault.TheVariants.{NoMemory}
 use Rattle.tw_app.specs.declared.outcome.Outcome.{Outcome}
 use Rattle.tw_app.specs.declared.outcome.Outcome.TheVariants.{Undone}
 use Rattle.tw_text.specs.declared.fault.CommandFault.TheVariants.{NoMemory as NoMemoryFault}
-use Rattle.tw_app.specs.Around.{Met}
-use Rattle.tw_app.proofs.Commands.{no_memory_comes}
-use Rattle.tw_app.specs.Running.{ComesTo, HasOutcome, HaveNoForm, Leaves, LeavesTo}
+use Rattle.tw_app.specs.Around.{Outside}
+use Rattle.tw_app.specs.Outcomes.{TakesMemory}
+use Rattle.tw_app.specs.Running.{HasOutcome, HaveNoForm, IsUntouched, work}
+use Rattle.tw_app.proofs.Commands.{rows}
 
 abbrev asOk : Command → Result Command WordFault
 asOk c = Ok c
@@ -25,20 +26,27 @@ read_command words c some none = by (command_of words) refl some none
     by None is some none = absurd none
     by (Some d) is some none = is ∙ (λ i. Some (sym some i))
 
-module _ (words : List (List ℕ)) (c : Command) (is : command_of words ≡ Some c) where
+module _ {D : Type 0} (view : D → DiskView)
+    (only_now : (d : D) (image : Image) → (view d).left_since (view d).moment image → (view d).may_leave image)
+    (as_it_reads : (d : D) (image : Image) → (view d).content ≡ Some image → (view d).may_leave image) (o : Outside D) (words : List (List ℕ)) where
+  abbrev HasAt : Outcome → Option Command → Type 0
+  HasAt outcome option = MatchOption option (HaveNoForm words outcome × IsUntouched view o) (λ c. (work view o c).does outcome)
+
   -- what the words' command comes to, the words come to
-  pub has_outcome : (m : Met) (outcome : Outcome) → ComesTo m c outcome → HasOutcome m words outcome
-  has_outcome m outcome comes = subst (λ (o : Option Command). MatchOption o (HaveNoForm words outcome) (λ d. ComesTo m d outcome)) (sym is) comes
+  pub has_outcome : (c : Command) → command_of words ≡ Some c → (outcome : Outcome) → (work view o c).does outcome → HasOutcome view o words outcome
+  has_outcome c is outcome does = subst (HasAt outcome) (sym is) does
 
-  pub leaves_words : {D : Type 0} (view : D → DiskView) (old new : D) (told : Option Files) (outcome : Outcome) → LeavesTo view old new told c outcome
-      → Leaves view old new told words outcome
-  leaves_words view old new told outcome leaves =
-      subst (λ (o : Option Command). MatchOption o (new ≡ old) (λ d. LeavesTo view old new told d outcome)) (sym is) leaves
+  -- want of memory is free, for the command and for its text
+  pub no_memory_outcome : IsUntouched view o → HasOutcome view o words (Undone NoMemoryFault)
+  no_memory_outcome same = by (command_of words)
+    where
+      by : (option : Option Command) → HasAt (Undone NoMemoryFault) option
+      by None = (tt, same)
+      by (Some c) = (rows view only_now as_it_reads o c).untouched same
 
--- want of memory for the command is free
-pub no_memory_outcome : (words : List (List ℕ)) (m : Met) → HasOutcome m words (Undone NoMemoryFault)
-no_memory_outcome words m = by (command_of words)
-  where
-    by : (o : Option Command) → MatchOption o (HaveNoForm words (Undone NoMemoryFault)) (λ c. ComesTo m c (Undone NoMemoryFault))
-    by None = tt
-    by (Some c) = no_memory_comes m c
+  pub no_text_outcome : (outcome : Outcome) → TakesMemory outcome → HasOutcome view o words outcome → HasOutcome view o words (Undone NoMemoryFault)
+  no_text_outcome outcome takes has = by (command_of words) has
+    where
+      by : (option : Option Command) → HasAt outcome option → HasAt (Undone NoMemoryFault) option
+      by None has = (tt, has.1)
+      by (Some c) has = (rows view only_now as_it_reads o c).memory outcome takes has

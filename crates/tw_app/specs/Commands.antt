@@ -1,7 +1,7 @@
--- The commands: which files they name, and which work on a disk.
+-- Which files the commands name.
 use Rattle.std.specs.Prelude.{ℕ, List, [], ◌∷◌}
 use Rattle.tw_text.specs.declared.command.Command.{Command}
-use Rattle.tw_text.specs.declared.command.Command.TheVariants.{Init, Append, Receive, ProveEvent, Show, Join, VerifyFile, VerifyOne, Strict, CheckMap, Audit, Replay}
+use Rattle.tw_text.specs.declared.command.Command.TheVariants.{Append, Receive, Show, Join, VerifyFile, VerifyOne, Strict, CheckMap, Audit, Replay}
 
 -- the files that a command's words name, in their order; a directory is none
 abbrev pub files_of : Command → List (List ℕ)
@@ -25,10 +25,3 @@ IsSomeFile (file ∷ files) = Unit {0}
 -- the command's words name a file
 abbrev pub NamesFile : Command → Type 0
 NamesFile command = IsSomeFile (files_of command)
-
--- the commands that work on the disk of a directory
-abbrev pub UsesDisk : Command → Type 0
-UsesDisk (Init name) = Unit {0}
-UsesDisk (Append file) = Unit {0}
-UsesDisk (ProveEvent step index top) = Unit {0}
-UsesDisk _ = ⊥

@@ -1,28 +1,18 @@
 -- The outcome of what a command came to, and each outcome's status and text.
 use Rattle.std.specs.Prelude.{ℕ, List, Result, Ok, Err}
-use Rattle.tw_base.specs.declared.thread.Thread.{Thread}
 use Rattle.tw_text.specs.Faults.{fault_status, fault_text}
 use Rattle.tw_text.specs.Lines.{anchor_text, usage_text}
 use Rattle.tw_text.specs.Reports.{rejected_text, report_text}
 use Rattle.tw_text.specs.declared.fault.CommandFault.{CommandFault}
 use Rattle.tw_text.specs.declared.fault.CommandFault.TheVariants as fault
-use Rattle.tw_chain.specs.declared.verdict.Verdict.{Verdict}
 use Rattle.tw_chain.specs.declared.verdict.Verdict.TheVariants.{Yes, No}
 use Rattle.tw_app.specs.declared.outcome.Outcome.{Outcome}
 use Rattle.tw_app.specs.declared.outcome.Outcome.TheVariants.{Judged, Proof, Made, BadWords, Undone}
 
--- of a proof that was judged, of an event that was shown or proved, and of a service or a step that was made
-abbrev pub judged : Result Verdict CommandFault → Outcome
-judged (Ok verdict) = Judged verdict
-judged (Err fault) = Undone fault
-
-abbrev pub proved : Result (List ℕ) CommandFault → Outcome
-proved (Ok proof) = Proof proof
-proved (Err fault) = Undone fault
-
-abbrev pub made : Result Thread CommandFault → Outcome
-made (Ok thread) = Made thread
-made (Err fault) = Undone fault
+-- the outcome of a result: a fault is told as it is
+abbrev pub outcome_by : {X : Type 0} → (of : X → Outcome) → Result X CommandFault → Outcome
+outcome_by of (Ok value) = of value
+outcome_by of (Err fault) = Undone fault
 
 abbrev pub status_of : Outcome → ℕ
 status_of (Judged (Yes report)) = 0

@@ -1,29 +1,46 @@
--- What a run of the program comes to, how it ends, and what it leaves of its disk.
-use Rattle.std.specs.Prelude.{◌≡◌, ◌⊎◌, ℕ, List, Option, MatchOption}
+-- What each command does, what a run of the program comes to, and how it ends.
+use Rattle.std.specs.Prelude.{◌≡◌, ◌⊎◌, ℕ, List, Option, Result, Ok, Err, MatchOption}
 use Rattle.tw_base.specs.Faults.{Rose}
 use Rattle.tw_disk.specs.Disk.{DiskView}
-use Rattle.tw_outside.specs.Files.{Files}
 use Rattle.tw_outside.specs.TakenBytes.{Appends, AppendsPart}
 use Rattle.tw_text.specs.CommandLine.{IsFirstBad, command_of}
 use Rattle.tw_text.specs.declared.command.Command.{Command}
+use Rattle.tw_text.specs.declared.fault.CommandFault.{CommandFault}
 use Rattle.tw_text.specs.declared.fault.CommandFault.TheVariants.{NoMemory}
-use Rattle.tw_text.specs.declared.command.Command.TheVariants.{Init, Append, ProveEvent, Show, VerifyFile, VerifyOne}
+use Rattle.tw_text.specs.declared.command.Command.TheVariants.{Init, Append, ProveEvent, Show, VerifyFile, VerifyOne, Strict}
 use Rattle.tw_filecmd.specs.Showing.{ShowComes}
 use Rattle.tw_filecmd.specs.Verifying.{VerifyFileComes, VerifyOneComes}
 use Rattle.tw_diskcmd.specs.Appending.{AppendComes, AppendLeaves, AppendSafe}
-use Rattle.tw_diskcmd.specs.Disks.{Keeps}
+use Rattle.tw_diskcmd.specs.Disks.{IsLeft, Keeps, ReadLeaves}
 use Rattle.tw_diskcmd.specs.Making.{InitComes, InitLeaves, InitSafe}
-use Rattle.tw_diskcmd.specs.Proving.{ProveComes, ProveLeaves}
+use Rattle.tw_diskcmd.specs.Proving.{ProveComes}
 use Rattle.tw_app.specs.declared.outcome.Outcome.{Outcome}
-use Rattle.tw_app.specs.declared.outcome.Outcome.TheVariants.{BadWords, Undone}
-use Rattle.tw_app.specs.Around.{Around, Met, Span}
-use Rattle.tw_app.specs.Outcomes.{judged, made, proved, status_of, text_of}
+use Rattle.tw_app.specs.declared.outcome.Outcome.TheVariants.{Judged, Proof, Made, BadWords, Undone}
+use Rattle.tw_app.specs.Around.{Around, Outside, Span, found_of}
+use Rattle.tw_app.specs.Outcomes.{outcome_by, status_of, text_of}
 
--- ---- what a command comes to
+-- ---- what a command does
 
--- the outcome is that of a result for which P holds
-abbrev pub IsOutcomeOf : {X : Type 0} → (outcome_of : X → Outcome) → (P : X → Type 0) → Outcome → Type 0
-IsOutcomeOf {X} outcome_of P outcome = (x : X) × P x × (outcome ≡ outcome_of x)
+-- what is said of a command
+pub record Work : Type 1 where
+  -- it may come to this outcome, and leaves the disk as is right for it
+  pub does : Outcome → Type 0
+  -- it is done, and this is its text
+  pub done : (text : List ℕ) → Type 0
+  -- it isn't done for this fault, and leaves the disk as is right for it
+  pub undone : CommandFault → Type 0
+  -- whatever it comes to, this holds of the disk
+  pub safe : Type 0
+  -- it works on the disk of a folder
+  pub uses_disk : Type 0
+
+-- the outcome is that of a result for which May holds
+abbrev pub IsOutcomeOf : {X : Type 0} → (of : X → Outcome) → (May : Result X CommandFault → Type 0) → Outcome → Type 0
+IsOutcomeOf {X} of May outcome = (result : Result X CommandFault) × May result × (outcome ≡ outcome_by of result)
+
+-- May holds of a value whose outcome has status 0 and this text
+abbrev pub IsDoneBy : {X : Type 0} → (of : X → Outcome) → (May : Result X CommandFault → Type 0) → (text : List ℕ) → Type 0
+IsDoneBy {X} of May text = (value : X) × May (Ok value) × (status_of (of value) ≡ 0) × (text ≡ text_of (of value))
 
 -- what a command comes to that isn't built
 abbrev pub IsUnbuilt : Outcome → Type 0
@@ -31,15 +48,60 @@ IsUnbuilt (BadWords number) = number ≡ 0
 IsUnbuilt (Undone NoMemory) = Unit {0}
 IsUnbuilt _ = ⊥
 
--- what each command may come to
-abbrev pub ComesTo : Met → Command → Outcome → Type 0
-ComesTo m (Init name) outcome = IsOutcomeOf made (InitComes m.disk name) outcome
-ComesTo m (Append file) outcome = IsOutcomeOf made (AppendComes m.inputs m.disk file) outcome
-ComesTo m (ProveEvent step index top) outcome = IsOutcomeOf proved (ProveComes m.disk step index top) outcome
-ComesTo m (Show history step index) outcome = IsOutcomeOf proved (ShowComes m.inputs history step index) outcome
-ComesTo m (VerifyFile proof anchors) outcome = IsOutcomeOf judged (VerifyFileComes m.inputs proof anchors) outcome
-ComesTo m (VerifyOne proof anchor) outcome = IsOutcomeOf judged (VerifyOneComes m.inputs proof anchor) outcome
-ComesTo m _ outcome = IsUnbuilt outcome
+-- a command with results of its own, of which May holds
+abbrev pub by_results : {X : Type 0} → (of : X → Outcome) → (May : Result X CommandFault → Type 0) → (Safe UsesDisk : Type 0) → Work
+by_results of May Safe UsesDisk = record {
+  does = IsOutcomeOf of May;
+  done = IsDoneBy of May;
+  undone = λ fault. May (Err fault);
+  safe = Safe;
+  uses_disk = UsesDisk;
+}
+
+module _ {D : Type 0} (view : D → DiskView) (o : Outside D) where
+  -- no device call was made, and so the disk keeps what it keeps
+  abbrev pub IsUntouched : Type 0
+  IsUntouched = o.disk.after ≡ o.disk.before
+
+  abbrev pub unbuilt : Work
+  unbuilt = record {
+    does = λ outcome. IsUnbuilt outcome × IsUntouched;
+    done = λ text. ⊥;
+    undone = λ fault. IsUnbuilt (Undone fault) × IsUntouched;
+    safe = IsUntouched × Keeps view o.disk.before o.disk.after;
+    uses_disk = ⊥;
+  }
+
+  -- a command without a folder
+  abbrev pub over_files : {X : Type 0} → (of : X → Outcome) → (Comes : Result X CommandFault → Type 0) → Work
+  over_files of Comes = by_results of (λ result. Comes result × IsUntouched) (IsUntouched × Keeps view o.disk.before o.disk.after) ⊥
+
+  -- a command that reads the disk of a folder, and writes nothing
+  abbrev pub reading : {X : Type 0} → (of : X → Outcome) → (Comes : Result X CommandFault → Type 0) → Work
+  reading of Comes =
+      by_results of (λ result. Comes result × ReadLeaves view o.disk.before o.disk.after result)
+      (IsLeft view o.disk.before o.disk.after × Keeps view o.disk.before o.disk.after) (Unit {0})
+
+  -- one that writes it
+  abbrev pub writing : {X : Type 0} → (of : X → Outcome) → (Comes Leaves : Result X CommandFault → Type 0) → (Safe : Type 0) → Work
+  writing of Comes Leaves Safe = by_results of (λ result. Comes result × Leaves result) Safe (Unit {0})
+
+  -- what each command does
+  abbrev pub work : Command → Work
+  work (Init name) =
+      writing Made (InitComes (found_of view o) name) (InitLeaves view o.disk.before o.disk.after name) (InitSafe view o.disk.before o.disk.after name)
+  work (Append file) =
+      writing Made (AppendComes o.inputs (found_of view o) file) (AppendLeaves view o.disk.before o.disk.after o.inputs.told file)
+      (AppendSafe view o.disk.before o.disk.after o.inputs.told file)
+  work (ProveEvent step index top) = reading Proof (ProveComes (found_of view o) step index top)
+  work (Show history step index) = over_files Proof (ShowComes o.inputs history step index)
+  work (VerifyFile proof anchors) = over_files Judged (VerifyFileComes o.inputs proof anchors)
+  work (VerifyOne proof anchor) = over_files Judged (VerifyOneComes o.inputs proof anchor)
+  -- no thread is carried in a proof of the kinds that are verified, so none has to be refused
+  work (Strict proof anchors) = over_files Judged (VerifyFileComes o.inputs proof anchors)
+  work _ = unbuilt
+
+-- ---- what words come to
 
 -- what words come to that have no form: the number is that of the first word at which none goes on
 abbrev pub HaveNoForm : (words : List (List ℕ)) → Outcome → Type 0
@@ -47,9 +109,10 @@ HaveNoForm words (BadWords number) = IsFirstBad words number
 HaveNoForm words (Undone NoMemory) = Unit {0}
 HaveNoForm words _ = ⊥
 
--- what the words come to
-abbrev pub HasOutcome : Met → (words : List (List ℕ)) → Outcome → Type 0
-HasOutcome m words outcome = MatchOption (command_of words) (HaveNoForm words outcome) (λ command. ComesTo m command outcome)
+-- what the words come to, and what that leaves of the disk
+abbrev pub HasOutcome : {D : Type 0} → (view : D → DiskView) → Outside D → (words : List (List ℕ)) → Outcome → Type 0
+HasOutcome view o words outcome =
+    MatchOption (command_of words) (HaveNoForm words outcome × IsUntouched view o) (λ command. (work view o command).does outcome)
 
 -- ---- how the run ends
 
@@ -60,31 +123,12 @@ EndsWith taken sink_faults status outcome =
     ((status ≡ status_of outcome) × Appends taken.before taken.after (text_of outcome))
     ⊎ ((status ≡ 4) × AppendsPart taken.before taken.after (text_of outcome) × Rose sink_faults.before sink_faults.after)
 
--- the run comes to this outcome, which is allowed, and ends with this status
-pub record EndsAs (around : Around) (status : ℕ) (outcome : Outcome) : Type 0 where
-  pub has : HasOutcome around.met around.words outcome
-  pub ends : EndsWith around.taken around.sink_faults status outcome
+module _ {D : Type 0} (view : D → DiskView) (around : Around D) (status : ℕ) where
+  -- the run comes to this outcome, which is allowed, leaves the disk as is right for it, whether its text could be written or not, and ends
+  -- with this status
+  pub record EndsAs (outcome : Outcome) : Type 0 where
+    pub has : HasOutcome view around.outside around.words outcome
+    pub ends : EndsWith around.taken around.sink_faults status outcome
 
--- it ends so with some outcome, and what it leaves is right for that, whether its text could be written or not
-abbrev pub EndsLeaving : Around → (status : ℕ) → (Outcome → Type 0) → Type 0
-EndsLeaving around status LeavesDisk = (outcome : Outcome) × EndsAs around status outcome × LeavesDisk outcome
-
--- ---- what it leaves of the disk
-
-module _ {D : Type 0} (view : D → DiskView) (old new : D) where
-  -- what each command leaves; one without a directory makes no device call
-  abbrev pub LeavesTo : (told : Option Files) → Command → Outcome → Type 0
-  LeavesTo told (Init name) outcome = IsOutcomeOf made (InitLeaves view old new name) outcome
-  LeavesTo told (Append file) outcome = IsOutcomeOf made (AppendLeaves view old new told file) outcome
-  LeavesTo told (ProveEvent step index top) outcome = IsOutcomeOf proved (ProveLeaves view old new) outcome
-  LeavesTo told _ outcome = new ≡ old
-
-  abbrev pub Leaves : (told : Option Files) (words : List (List ℕ)) → Outcome → Type 0
-  Leaves told words outcome = MatchOption (command_of words) (new ≡ old) (λ command. LeavesTo told command outcome)
-
-  -- whatever the status: `init` leaves no image but such that there might have been, blank ones and the empty history, leaves a store
-  -- that is there, and keeps a history; `append` at most adds the step; every other command keeps the history in each image
-  abbrev pub IsCrashSafe : (told : Option Files) → Command → Type 0
-  IsCrashSafe told (Init name) = InitSafe view old new name
-  IsCrashSafe told (Append file) = AppendSafe view old new told file
-  IsCrashSafe told _ = Keeps view old new
+  abbrev pub Ends : Type 0
+  Ends = (outcome : Outcome) × EndsAs outcome

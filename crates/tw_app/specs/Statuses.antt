@@ -9,25 +9,26 @@ use Rattle.tw_base.specs.Faults.{Rose}
 use Rattle.tw_base.specs.Formats.{Spells}
 use Rattle.tw_base.specs.History.{History}
 use Rattle.tw_base.specs.Lists.{In}
+use Rattle.tw_disk.specs.Disk.{DiskView}
 use Rattle.tw_outside.specs.Files.{Files, IsThere, Tells}
 use Rattle.tw_outside.specs.TakenBytes.{Appends}
 use Rattle.tw_text.specs.CommandLine.{IsFirstBad, command_of}
 use Rattle.tw_text.specs.Lines.{usage_text}
 use Rattle.tw_text.specs.Reports.{rejected_text, report_text}
 use Rattle.tw_text.specs.declared.command.Command.{Command}
-use Rattle.tw_text.specs.declared.command.Command.TheVariants.{Append, ProveEvent, VerifyFile, VerifyOne}
+use Rattle.tw_text.specs.declared.command.Command.TheVariants.{VerifyFile, VerifyOne, Strict}
+use Rattle.tw_text.specs.Faults.{fault_text}
+use Rattle.tw_text.specs.declared.fault.CommandFault.{CommandFault}
 use Rattle.tw_text.specs.declared.fault.CommandFault.TheVariants.{InputFault, DiskFault}
 use Rattle.tw_chain.specs.declared.proof.Proof.{Proof}
 use Rattle.tw_chain.specs.Proofs.{proof_layout}
 use Rattle.tw_chain.specs.Accepting.{Accepts, claim_of, held, proof_texts, report_of}
 use Rattle.tw_chain.specs.Reasons.{IsLowest}
 use Rattle.tw_filecmd.specs.Verifying.{HasAnchors}
-use Rattle.tw_app.specs.declared.outcome.Outcome.{Outcome}
-use Rattle.tw_app.specs.declared.outcome.Outcome.TheVariants.{BadWords, Undone}
-use Rattle.tw_app.specs.Around.{Around, Met, Writes}
-use Rattle.tw_app.specs.Commands.{NamesFile, UsesDisk}
-use Rattle.tw_app.specs.Outcomes.{text_of}
-use Rattle.tw_app.specs.Running.{ComesTo}
+use Rattle.tw_app.specs.declared.outcome.Outcome.TheVariants.{BadWords}
+use Rattle.tw_app.specs.Around.{Around, Outside, Writes}
+use Rattle.tw_app.specs.Commands.{NamesFile}
+use Rattle.tw_app.specs.Running.{Work, work}
 
 -- ---- what the words ask for
 
@@ -35,25 +36,16 @@ use Rattle.tw_app.specs.Running.{ComesTo}
 abbrev pub AreOf : (Command → Type 0) → (words : List (List ℕ)) → Type 0
 AreOf P words = MatchOption (command_of words) ⊥ P
 
--- the command that judges a proof
+-- the commands that judge a proof
 abbrev pub IsVerify : Command → Type 0
 IsVerify (VerifyFile proof anchors) = Unit {0}
 IsVerify (VerifyOne proof anchor) = Unit {0}
+IsVerify (Strict proof anchors) = Unit {0}
 IsVerify _ = ⊥
 
--- the command that adds a step
-abbrev pub IsAppend : Command → Type 0
-IsAppend (Append file) = Unit {0}
-IsAppend _ = ⊥
-
--- the commands that work on a disk and write nothing
-abbrev pub OnlyReads : Command → Type 0
-OnlyReads (ProveEvent step index top) = Unit {0}
-OnlyReads _ = ⊥
-
 -- the command is built: its work never comes to the usage line
-abbrev pub IsBuilt : Command → Type 0
-IsBuilt command = (m : Met) (number : ℕ) → ComesTo m command (BadWords number) → ⊥
+abbrev pub IsBuilt : {D : Type 0} → (view : D → DiskView) → Command → Type 0
+IsBuilt {D} view command = (o : Outside D) (number : ℕ) → (work view o command).does (BadWords number) → ⊥
 
 -- ---- the statuses
 
@@ -61,7 +53,7 @@ IsBuilt command = (m : Met) (number : ℕ) → ComesTo m command (BadWords numbe
 abbrev pub IsStatus : ℕ → Type 0
 IsStatus status = In status (0 ∷ 1 ∷ 2 ∷ 3 ∷ 4 ∷ 5 ∷ 6 ∷ 7 ∷ 8 ∷ 9 ∷ [])
 
--- those after which nothing was written to a disk: neither was anything made, nor did the sink or the disk fail
+-- those after which nothing was written to a disk: neither was the command done, nor did the sink or the disk fail
 abbrev pub IsIdle : ℕ → Type 0
 IsIdle status = (status ≡ 0 → ⊥) × (status ≡ 4 → ⊥) × (status ≡ 5 → ⊥)
 
@@ -69,12 +61,14 @@ IsIdle status = (status ≡ 0 → ⊥) × (status ≡ 4 → ⊥) × (status ≡ 
 abbrev pub proof_file : Command → Option (List ℕ)
 proof_file (VerifyFile proof anchors) = Some proof
 proof_file (VerifyOne proof anchor) = Some proof
+proof_file (Strict proof anchors) = Some proof
 proof_file _ = None
 
 -- the anchors that the command gives: those of its anchors file, or the one of its words
 abbrev pub GivesAnchors : Option Files → Command → List Thread → Type 0
 GivesAnchors told (VerifyFile proof file) anchors = HasAnchors told file anchors
 GivesAnchors told (VerifyOne proof anchor) anchors = anchors ≡ anchor ∷ []
+GivesAnchors told (Strict proof file) anchors = HasAnchors told file anchors
 GivesAnchors told _ anchors = ⊥
 
 -- status 0 of words that ask for a verdict: the proof file is there. Where the inputs tell its bytes, they spell a proof that
@@ -96,38 +90,52 @@ pub record IsAcceptedRun (told : Option Files) (words : List (List ℕ)) (taken_
 
 -- status 1: the words ask for a verdict, and the proof file is there; the bytes told spell no proof that is accepted under the
 -- command's anchors, and the line of the lowest reason that stands against them was written whole
-pub record IsRejectedRun (around : Around) : Type 0 where
+pub record IsRejectedRun {D : Type 0} (around : Around D) : Type 0 where
   pub command : Command
   pub file : List ℕ
   pub anchors : List Thread
   pub reason : Reason
   pub is_command : command_of around.words ≡ Some command
   pub asked : proof_file command ≡ Some file
-  pub given : GivesAnchors around.met.inputs.told command anchors
-  pub there : IsThere around.met.inputs.told file
+  pub given : GivesAnchors around.outside.inputs.told command anchors
+  pub there : IsThere around.outside.inputs.told file
   pub written : Writes around (rejected_text reason)
-  pub refused : (bytes : List ℕ) → Tells around.met.inputs.told file bytes →
+  pub refused : (bytes : List ℕ) → Tells around.outside.inputs.told file bytes →
       (Accepts sha256 anchors bytes → ⊥) × IsLowest sha256 anchors bytes reason
 
--- the words have no form, and this is the first word at which none goes on; or they have one that isn't built, and the
--- number is 0
-abbrev pub IsUsage : (words : List (List ℕ)) (number : ℕ) → Type 0
-IsUsage words number =
-    MatchOption (command_of words) (IsFirstBad words number) (λ command. (number ≡ 0) × (IsBuilt command → ⊥))
+module _ {D : Type 0} (view : D → DiskView) where
+  -- the words are of a command, and this holds of what it does
+  abbrev pub IsWork : Around D → (Work → Type 0) → Type 0
+  IsWork around P = AreOf (λ command. P (work view around.outside command)) around.words
 
--- status 2: the words have no form, or none that is built, and the line with the word's number was written whole
-abbrev pub IsUsageRun : Around → Type 0
-IsUsageRun around = (number : ℕ) × IsUsage around.words number × Writes around (usage_text number)
+  -- status 0: the words are of a command that is done, and its text was written whole
+  abbrev pub IsDoneRun : Around D → Type 0
+  IsDoneRun around = (text : List ℕ) × IsWork around (λ w. w.done text) × Writes around text
 
--- the words are of a command that comes to this outcome, and its text was written whole
-abbrev pub Says : Around → Outcome → Type 0
-Says around outcome = (command : Command) × (command_of around.words ≡ Some command) × ComesTo around.met command outcome × Writes around (text_of outcome)
+  -- the words are of a command that isn't done for this fault, and its text was written whole
+  abbrev pub IsUndoneRun : Around D → CommandFault → Type 0
+  IsUndoneRun around fault = IsWork around (λ w. w.undone fault) × Writes around (fault_text fault)
 
--- status 3: the words are of a command that is built and names a file, and the inputs failed
-abbrev pub IsInputFaultRun : Around → Type 0
-IsInputFaultRun around =
-    AreOf IsBuilt around.words × AreOf NamesFile around.words × Rose around.met.inputs.before around.met.inputs.after × Says around (Undone InputFault)
+  -- the words have no form, and this is the first word at which none goes on; or they have one that isn't built, and the
+  -- number is 0
+  abbrev pub IsUsage : (words : List (List ℕ)) (number : ℕ) → Type 0
+  IsUsage words number =
+      MatchOption (command_of words) (IsFirstBad words number) (λ command. (number ≡ 0) × (IsBuilt view command → ⊥))
 
--- status 5: the words ask for work on a disk, to which the command came, and the disk failed
-abbrev pub IsDiskFaultRun : Around → Type 0
-IsDiskFaultRun around = AreOf UsesDisk around.words × Rose around.met.disk.before around.met.disk.after × Says around (Undone DiskFault)
+  -- status 2: the words have no form, or none that is built, and the line with the word's number was written whole
+  abbrev pub IsUsageRun : Around D → Type 0
+  IsUsageRun around = (number : ℕ) × IsUsage around.words number × Writes around (usage_text number)
+
+  -- status 3: the words are of a command that is built and names a file, and the inputs failed
+  abbrev pub IsInputFaultRun : Around D → Type 0
+  IsInputFaultRun around =
+      AreOf (IsBuilt view) around.words × AreOf NamesFile around.words × Rose around.outside.inputs.before around.outside.inputs.after
+      × IsUndoneRun around InputFault
+
+  -- the disk failed
+  abbrev pub DiskFailed : Around D → Type 0
+  DiskFailed around = Rose (view around.outside.disk.before).faults (view around.outside.disk.after).faults
+
+  -- status 5: the words ask for work on a disk, to which the command came, and the disk failed
+  abbrev pub IsDiskFaultRun : Around D → Type 0
+  IsDiskFaultRun around = IsWork around (λ w. w.uses_disk) × DiskFailed around × IsUndoneRun around DiskFault

@@ -1,21 +1,20 @@
 // How a run ends.
 
-ghost use Rattle.std.specs.Prelude.{◌≡◌, ◌⊎◌, map, string_bytes, Some, IfSome};
+ghost use Rattle.std.specs.Prelude.{◌≡◌, ◌⊎◌, map, string_bytes, IfSome, MatchOption};
 ghost use Rattle.tw_base.specs.Lists.{Each};
 ghost use Rattle.tw_base.specs.Faults.{Rose};
-ghost use Rattle.tw_diskcmd.specs.Disks.{IsLeft, Settles, touched};
+ghost use Rattle.tw_diskcmd.specs.Disks.{IsLeft};
 ghost use Rattle.tw_outside.specs.Asked.{asked};
 ghost use Rattle.tw_outside.specs.TakenBytes.{Appends, AppendsPart};
 ghost use Rattle.tw_text.specs.CommandLine.{command_of};
-ghost use Rattle.tw_text.specs.declared.command.Command.{Command};
 ghost use Rattle.tw_text.specs.Lines.{anchor_text};
 ghost use Rattle.tw_app.specs.declared.outcome.Outcome.TheVariants.{Undone};
 ghost use Rattle.tw_text.specs.declared.fault.CommandFault.TheVariants.{NoMemory as NoMemoryFault};
-ghost use Rattle.tw_app.specs.Around.{around, met, span};
-ghost use Rattle.tw_app.specs.Commands.{UsesDisk, files_of};
+ghost use Rattle.tw_app.specs.Around.{around, outside, span};
+ghost use Rattle.tw_app.specs.Commands.{files_of};
 ghost use Rattle.tw_app.specs.Outcomes.{TakesMemory, status_of as status_of_outcome};
-ghost use Rattle.tw_app.specs.Running.{EndsLeaving, EndsWith, IsCrashSafe, Leaves};
-ghost use Rattle.tw_app.specs.Statuses.{AreOf, IsAcceptedRun, IsAppend, IsIdle, IsStatus, IsVerify, OnlyReads};
+ghost use Rattle.tw_app.specs.Running.{Ends, EndsWith, work};
+ghost use Rattle.tw_app.specs.Statuses.{AreOf, IsAcceptedRun, IsIdle, IsStatus, IsVerify};
 
 use crate::following::{Followed, follow_words};
 use crate::outcome::Outcome;
@@ -41,14 +40,14 @@ fn tell<S: Sink>(out: &mut S, status: u8, text: &[u8]) -> u8
     }
 }
 
-/// Writes the anchor line of the thread whole and answers 0, or answers 4 where the sink failed. It
-/// takes no memory.
-fn tell_thread<S: Sink>(out: &mut S, thread: &Thread) -> u8
-    ensures { ((result ≡ 0) × Appends (S.taken out.old) (S.taken out.new) (anchor_text thread.now))
+/// Writes the anchor line of the thread whole and answers the status, or answers 4 where the sink
+/// failed. It takes no memory.
+fn tell_thread<S: Sink>(out: &mut S, status: u8, thread: &Thread) -> u8
+    ensures { ((result ≡ status) × Appends (S.taken out.old) (S.taken out.new) (anchor_text thread.now))
         ⊎ ((result ≡ 4) × AppendsPart (S.taken out.old) (S.taken out.new) (anchor_text thread.now) × Rose (S.faults out.old) (S.faults out.new)) }
 {
     let line = anchor_line(thread);
-    tell(out, 0, &line.bytes[..line.count as usize])
+    tell(out, status, &line.bytes[..line.count as usize])
 }
 
 /// The status of an outcome whose text could be written.
@@ -69,15 +68,16 @@ fn conclude<S: Sink>(alloc: Global, outcome: &Outcome, out: &mut S) -> u8
     ensures { EndsWith (span (S.taken out.old) (S.taken out.new)) (span (S.faults out.old) (S.faults out.new)) result outcome.now
         ⊎ (TakesMemory outcome.now × EndsWith (span (S.taken out.old) (S.taken out.new)) (span (S.faults out.old) (S.faults out.new)) result (Undone NoMemoryFault)) }
 {
+    let status = status_of(outcome);
     match outcome {
-        Outcome::Undone(CommandFault::InputFault) => tell(out, 3, fault_input()),
-        Outcome::Undone(CommandFault::DiskFault) => tell(out, 5, fault_disk()),
-        Outcome::Undone(CommandFault::NoMemory) => tell(out, 6, no_memory()),
-        Outcome::Made(thread) => tell_thread(out, thread),
-        Outcome::Proof(proof) => tell(out, 0, proof.as_slice()),
+        Outcome::Undone(CommandFault::InputFault) => tell(out, status, fault_input()),
+        Outcome::Undone(CommandFault::DiskFault) => tell(out, status, fault_disk()),
+        Outcome::Undone(CommandFault::NoMemory) => tell(out, status, no_memory()),
+        Outcome::Made(thread) => tell_thread(out, status, thread),
+        Outcome::Proof(proof) => tell(out, status, proof.as_slice()),
         _ => match print(alloc, outcome) {
-            Ok(text) => tell(out, status_of(outcome), text.as_slice()),
-            Err(NoMemory) => tell(out, 6, no_memory()),
+            Ok(text) => tell(out, status, text.as_slice()),
+            Err(NoMemory) => tell(out, fault_status(&CommandFault::NoMemory), no_memory()),
         },
     }
 }
@@ -98,10 +98,9 @@ fn run_to_the_end<D: Disk, I: Inputs, S: Sink>(
     out: &mut S,
 ) -> Ran<D>
     requires { IfSome (command_of (map string_bytes words.now)) (λ command. Each (I.may_ask inputs.old) (files_of command)) }
-    ensures { EndsLeaving (around (map string_bytes words.now)
-        (met (asked (I.told inputs.old) (I.faults inputs.old) (I.faults inputs.new)) (touched (D.view disk).content (D.view disk).faults (D.view result.disk).faults))
-        (span (S.taken out.old) (S.taken out.new)) (span (S.faults out.old) (S.faults out.new)))
-        result.status (Leaves D.view disk result.disk (I.told inputs.old) (map string_bytes words.now)) }
+    ensures { Ends D.view (around (map string_bytes words.now)
+        (outside (asked (I.told inputs.old) (I.faults inputs.old) (I.faults inputs.new)) disk result.disk)
+        (span (S.taken out.old) (S.taken out.new)) (span (S.faults out.old) (S.faults out.new))) result.status }
 {
     let Followed { outcome, disk } = follow_words(alloc, words, disk, inputs);
     let status = conclude(alloc, &outcome, out);
@@ -140,12 +139,11 @@ pub fn run<D: Disk, I: Inputs, S: Sink>(
     // and leaves the disk as is right for that outcome. It ends with the outcome's text, written whole, and its status;
     // or the sink's count of faults rose, a part of the text was written, and the status is 4. Want of memory is always
     // allowed, all else only for its cause.
-    ensures ends { EndsLeaving (around (map string_bytes words.now)
-        (met (asked (I.told inputs.old) (I.faults inputs.old) (I.faults inputs.new)) (touched (D.view disk).content (D.view disk).faults (D.view result.disk).faults))
-        (span (S.taken out.old) (S.taken out.new)) (span (S.faults out.old) (S.faults out.new)))
-        result.status (Leaves D.view disk result.disk (I.told inputs.old) (map string_bytes words.now)) }
+    ensures ends { Ends D.view (around (map string_bytes words.now)
+        (outside (asked (I.told inputs.old) (I.faults inputs.old) (I.faults inputs.new)) disk result.disk)
+        (span (S.taken out.old) (S.taken out.new)) (span (S.faults out.old) (S.faults out.new))) result.status }
 
-    // Status 0 of `verify`: the proof file is there, and its bytes spell a proof that is accepted under the command's
+    // Status 0 of `verify` and `strict`: the proof file is there, and its bytes spell a proof that is accepted under the command's
     // anchors. These are the one of its words, or those of the anchors file, which is there and has no bad line. The
     // claim's report was written whole. And in every list of sound histories in which the proof's service has, at the
     // proof's top, the authenticator that is held of it there, the event stands at the place that the report names, and
@@ -163,20 +161,13 @@ pub fn run<D: Disk, I: Inputs, S: Sink>(
     // What the disk reads as is told still, and stands for one of the two. At `init`, where the content was told, each
     // image is one that a crash might have left before, or is blank, or stands for the history of that name without
     // steps. What the disk then reads as is told still, and is such an image. Where a store was there, of a service or
-    // not, with writes pending or not, nothing is written.
-    ensures crash { (command : Command) → command_of (map string_bytes words.now) ≡ Some command
-        → IsCrashSafe D.view disk result.disk (I.told inputs.old) command }
-    // At every other status than 0, 4 and 5 of a command with a folder, and whatever the status of `prove`, nothing was
-    // written. (At 4 the disk is as is right for the outcome whose text wasn't written whole, by `ends`.)
-    ensures unwritten { (AreOf UsesDisk (map string_bytes words.now) × IsIdle result.status) ⊎ AreOf OnlyReads (map string_bytes words.now)
-        → IsLeft D.view disk result.disk }
-    // Status 0 of `prove`, and status 7 of `append` and `prove`: where the disk read as a history, with writes pending
-    // or not, it stands for it, at rest.
-    ensures settled { (AreOf OnlyReads (map string_bytes words.now) × (result.status ≡ 0))
-        ⊎ ((AreOf IsAppend (map string_bytes words.now) ⊎ AreOf OnlyReads (map string_bytes words.now)) × (result.status ≡ 7))
-        → Settles D.view disk result.disk }
-    // A command without a folder hands the disk back as it is.
-    ensures untouched { (AreOf UsesDisk (map string_bytes words.now) → ⊥) → result.disk ≡ disk }
+    // not, with writes pending or not, nothing is written. `prove` writes nothing. A command without a folder hands the
+    // disk back as it is, and so does a run of words that have no form.
+    ensures crash { MatchOption (command_of (map string_bytes words.now)) (result.disk ≡ disk)
+        (λ command. (work D.view (outside (asked (I.told inputs.old) (I.faults inputs.old) (I.faults inputs.new)) disk result.disk) command).safe) }
+    // At every other status than 0, 4 and 5 nothing was written. (At 4 the disk is as is right for the outcome whose text
+    // wasn't written whole, by `ends`.)
+    ensures unwritten { IsIdle result.status → IsLeft D.view disk result.disk }
 {
     run_to_the_end(alloc, words, disk, inputs, out)
 }

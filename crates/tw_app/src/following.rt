@@ -1,18 +1,20 @@
 // From words to what they come to.
 
-ghost use Rattle.std.specs.Prelude.{map, string_bytes, IfSome};
+ghost use Rattle.std.specs.Prelude.{◌≡◌, map, string_bytes, IfSome};
 ghost use Rattle.tw_base.specs.Lists.{Each};
 ghost use Rattle.tw_outside.specs.Asked.{asked};
 ghost use Rattle.tw_text.specs.CommandLine.{command_of};
-ghost use Rattle.tw_app.specs.Around.{met};
-ghost use Rattle.tw_app.specs.Commands.{UsesDisk, files_of};
-ghost use Rattle.tw_app.specs.Running.{ComesTo, HasOutcome, Leaves, LeavesTo};
-ghost use Rattle.tw_diskcmd.specs.Disks.{Touched, touched};
+ghost use Rattle.tw_app.specs.Around.{outside};
+ghost use Rattle.tw_app.specs.Commands.{files_of};
+ghost use Rattle.tw_app.specs.Outcomes.{outcome_by};
+ghost use Rattle.tw_app.specs.declared.outcome.Outcome.TheVariants.{Made as OfThread, Proof as OfProof};
+ghost use Rattle.tw_app.specs.Running.{HasOutcome, work};
 
 use crate::outcome::{Outcome, judged, made, proved};
 use std::alloc::Global;
+use tw_base::{Bytes, Thread};
 use tw_disk::Disk;
-use tw_diskcmd::{append, make, prove};
+use tw_diskcmd::{Worked, append, make, prove};
 use tw_filecmd::{show, verify_file, verify_one};
 use tw_outside::Inputs;
 use tw_text::{Command, CommandFault, WordFault, read_words};
@@ -32,9 +34,8 @@ pub(crate) fn follow_words<D: Disk, I: Inputs>(
     inputs: &mut I,
 ) -> Followed<D>
     requires { IfSome (command_of (map string_bytes words.now)) (λ command. Each (I.may_ask inputs.old) (files_of command)) }
-    ensures comes { HasOutcome (met (asked (I.told inputs.old) (I.faults inputs.old) (I.faults inputs.new))
-        (touched (D.view disk).content (D.view disk).faults (D.view result.disk).faults)) (map string_bytes words.now) result.outcome }
-    ensures leaves { Leaves D.view disk result.disk (I.told inputs.old) (map string_bytes words.now) result.outcome }
+    ensures { HasOutcome D.view (outside (asked (I.told inputs.old) (I.faults inputs.old) (I.faults inputs.new)) disk result.disk)
+        (map string_bytes words.now) result.outcome }
 {
     match read_words(alloc, words) {
         Ok(command) => follow(alloc, &command, disk, inputs),
@@ -57,60 +58,59 @@ fn follow<D: Disk, I: Inputs>(
     inputs: &mut I,
 ) -> Followed<D>
     requires { Each (I.may_ask inputs.old) (files_of command.now) }
-    ensures comes { ComesTo (met (asked (I.told inputs.old) (I.faults inputs.old) (I.faults inputs.new))
-        (touched (D.view disk).content (D.view disk).faults (D.view result.disk).faults)) command.now result.outcome }
-    ensures leaves { LeavesTo D.view disk result.disk (I.told inputs.old) command.now result.outcome }
+    ensures { (work D.view (outside (asked (I.told inputs.old) (I.faults inputs.old) (I.faults inputs.new)) disk result.disk) command.now).does result.outcome }
 {
     match command {
-        Command::Init { name } => {
-            let worked = make(alloc, disk, *name);
-            Followed {
-                outcome: made(worked.outcome),
-                disk: worked.disk,
-            }
-        }
-        Command::Append { file } => {
-            let worked = append(alloc, disk, inputs, file.as_str());
-            Followed {
-                outcome: made(worked.outcome),
-                disk: worked.disk,
-            }
-        }
+        Command::Init { name } => with_thread(make(alloc, disk, *name)),
+        Command::Append { file } => with_thread(append(alloc, disk, inputs, file.as_str())),
         Command::ProveEvent { step, index, top } => {
-            let worked = prove(alloc, disk, *step, *index, *top);
-            Followed {
-                outcome: proved(worked.outcome),
-                disk: worked.disk,
-            }
+            with_proof(prove(alloc, disk, *step, *index, *top))
         }
+        Command::Show {
+            history,
+            step,
+            index,
+        } => Followed {
+            outcome: proved(show(alloc, inputs, history.as_str(), *step, *index)),
+            disk,
+        },
+        Command::VerifyFile { proof, anchors } => Followed {
+            outcome: judged(verify_file(alloc, inputs, proof.as_str(), anchors.as_str())),
+            disk,
+        },
+        Command::Strict { proof, anchors } => Followed {
+            outcome: judged(verify_file(alloc, inputs, proof.as_str(), anchors.as_str())),
+            disk,
+        },
+        Command::VerifyOne { proof, anchor } => Followed {
+            outcome: judged(verify_one(alloc, inputs, proof.as_str(), *anchor)),
+            disk,
+        },
         _ => Followed {
-            outcome: follow_files(alloc, command, inputs),
+            outcome: Outcome::BadWords { number: 0 },
             disk,
         },
     }
 }
 
-/// What the command comes to that has no directory.
-fn follow_files<I: Inputs>(alloc: Global, command: &Command, inputs: &mut I) -> Outcome
-    requires files { Each (I.may_ask inputs.old) (files_of command.now) }
-    requires no_disk { UsesDisk command.now → ⊥ }
-    ensures { (disk : Touched) → ComesTo (met (asked (I.told inputs.old) (I.faults inputs.old) (I.faults inputs.new)) disk) command.now result }
+/// What came of a command that makes a service or a step.
+fn with_thread<D>(worked: Worked<D, Thread>) -> Followed<D>
+    ensures outcome { result.outcome ≡ outcome_by OfThread worked.outcome }
+    ensures disk { result.disk ≡ worked.disk }
 {
-    match command {
-        Command::Show {
-            history,
-            step,
-            index,
-        } => proved(show(alloc, inputs, history.as_str(), *step, *index)),
-        Command::VerifyFile { proof, anchors } => judged(verify_file(
-            alloc,
-            inputs,
-            proof.as_str(),
-            anchors.as_str(),
-        )),
-        Command::VerifyOne { proof, anchor } => {
-            judged(verify_one(alloc, inputs, proof.as_str(), *anchor))
-        }
-        _ => Outcome::BadWords { number: 0 },
+    Followed {
+        outcome: made(worked.outcome),
+        disk: worked.disk,
+    }
+}
+
+/// What came of a command that proves an event.
+fn with_proof<D>(worked: Worked<D, Bytes>) -> Followed<D>
+    ensures outcome { result.outcome ≡ outcome_by OfProof worked.outcome }
+    ensures disk { result.disk ≡ worked.disk }
+{
+    Followed {
+        outcome: proved(worked.outcome),
+        disk: worked.disk,
     }
 }

@@ -1,103 +1,82 @@
 // What the status of a run says by itself, whatever ends so.
 
-ghost use Rattle.std.specs.Prelude.{◌≡◌, ℕ, List, Option, Some};
+ghost use Rattle.std.specs.Prelude.{◌⊎◌, ℕ, List};
 ghost use Rattle.tw_base.specs.Faults.{Rose};
 ghost use Rattle.tw_base.specs.History.{History};
-ghost use Rattle.tw_base.specs.declared.thread.Thread.{Thread};
-ghost use Rattle.tw_diskcmd.specs.Appending.{AddsStep, OfEvents};
-ghost use Rattle.tw_diskcmd.specs.Disks.{Adds, Begins, ReadsAs};
-ghost use Rattle.tw_diskcmd.specs.Making.{MakesService};
-ghost use Rattle.tw_diskcmd.specs.Proving.{Proves};
-ghost use Rattle.tw_filecmd.specs.Showing.{OfHistory, ProvesEvent};
-ghost use Rattle.tw_service.specs.Machine.Call.{Append as AppendCall};
-ghost use Rattle.tw_text.specs.CommandLine.{command_of};
-ghost use Rattle.tw_text.specs.Lines.{anchor_text, no_memory_text};
-ghost use Rattle.tw_text.specs.declared.command.Command.TheVariants.{Append, Init, ProveEvent, Show};
+ghost use Rattle.tw_diskcmd.specs.Disks.{IsLeft, ReadsAs};
+ghost use Rattle.tw_text.specs.Lines.{no_memory_text};
 ghost use Rattle.tw_text.specs.declared.fault.CommandFault.TheVariants.{Refused, Unreadable, Unserved};
 ghost use Rattle.tw_text.specs.declared.refusal.BadInput.{BadInput};
 ghost use Rattle.tw_text.specs.declared.refusal.Refusal.{Refusal};
 ghost use Rattle.tw_text.specs.declared.refusal.StoreCause.{StoreCause};
-ghost use Rattle.tw_app.specs.declared.outcome.Outcome.{Outcome};
-ghost use Rattle.tw_app.specs.declared.outcome.Outcome.TheVariants.{Undone};
 ghost use Rattle.tw_app.specs.Around.{Around, Writes};
-ghost use Rattle.tw_app.specs.Running.{EndsAs, Leaves};
-ghost use Rattle.tw_app.specs.Statuses.{AreOf, IsBuilt, IsDiskFaultRun, IsInputFaultRun, IsRejectedRun, IsUsageRun, Says};
+ghost use Rattle.tw_app.specs.Running.{Ends};
+ghost use Rattle.tw_app.specs.Statuses.{AreOf, DiskFailed, IsBuilt, IsDiskFaultRun, IsDoneRun, IsInputFaultRun, IsRejectedRun, IsUndoneRun, IsUsageRun, IsWork};
 
 use tw_disk::Disk;
 
-/// What each status says of a run that ends so.
-pub fn status_laws()
+/// What each status says of a run that ends so, by what its command does.
+pub fn status_laws<D: Disk>()
     // Status 0: the words are of a command that is built.
-    ensures built { (a : Around) (outcome : Outcome) → EndsAs a 0 outcome → AreOf IsBuilt a.words }
+    ensures built { (a : Around D) → Ends D.view a 0 → AreOf (IsBuilt D.view) a.words }
+    // Status 0: the words are of a command that is done, its text was written whole, and the disk is left as is right for that.
     // Status 0 of `show`: the history file is there and is that of a sound history. The bytes written are the proof
     // that this history has of that event, with its last step as the top, and are accepted under any anchors of which
     // that of the history's name and last step has the history's authenticator.
-    ensures shown { (a : Around) (outcome : Outcome) → EndsAs a 0 outcome
-        → (history : List ℕ) (step index : ℕ) → command_of a.words ≡ Some (Show history step index)
-        → (proof : List ℕ) × OfHistory a.met.inputs.told history (ProvesEvent step index proof) × Writes a proof }
     // Status 0 of `prove`: what the disk read as opens as a service's store. Step, top and its last step are in their
     // order, and the bytes written are the proof of the event of that index that is found in its pages, whatever these
-    // keep. And where the disk read as a history, they are the proof that this history has of that event under that
-    // top, or under its last step, and a step of the machine. They are accepted under any anchors of which that of the
-    // history's name and top has the history's authenticator.
-    ensures proved { (a : Around) (outcome : Outcome) → EndsAs a 0 outcome
-        → (step index : ℕ) (top : Option ℕ) → command_of a.words ≡ Some (ProveEvent step index top)
-        → (proof : List ℕ) × Proves a.met.disk.found step index top proof × Writes a proof }
-
-    // Status 1: the words are `verify`, the proof file is there, its bytes spell no proof that is accepted under the
-    // command's anchors, and the line written names the lowest reason that stands against them.
-    ensures rejected { (a : Around) (outcome : Outcome) → EndsAs a 1 outcome → IsRejectedRun a }
-    // Status 2: the words have no form, and the number written is that of the first word at which none goes on; or they
-    // have one that isn't built, and it is 0.
-    ensures usage { (a : Around) (outcome : Outcome) → EndsAs a 2 outcome → IsUsageRun a }
-    // Status 3: the words are of a command that is built and name a file, the inputs' count of faults rose, and `fault
-    // input` was written whole.
-    ensures input_fault { (a : Around) (outcome : Outcome) → EndsAs a 3 outcome → IsInputFaultRun a }
-    // Status 4: the sink's count of faults rose.
-    ensures output_fault { (a : Around) (outcome : Outcome) → EndsAs a 4 outcome → Rose a.sink_faults.before a.sink_faults.after }
-    // Status 5: the words are of a command with a folder, the disk's count of faults rose, and `fault disk` was written
-    // whole. At `append` the events file was judged before.
-    ensures disk_fault { (a : Around) (outcome : Outcome) → EndsAs a 5 outcome → IsDiskFaultRun a }
-    // Status 6: `no memory` was written whole.
-    ensures no_memory { (a : Around) (outcome : Outcome) → EndsAs a 6 outcome → Writes a no_memory_text }
-    // Status 7 of `show`: the history file is there and is that of a sound history, which has no such step, or no such
-    // event in it. The line written tells the last step, or the number of the step's events. Status 7 of `init`: a
-    // store was there. Status 7 of `append` and `prove`: what the disk read as opens as a service's store, and the line
-    // written is the first refusal of its table that stands; `NoEvent` tells how many events the step's page counts.
-    // Where the disk read as a history, it is the machine's refusal.
-    ensures refused { (a : Around) (outcome : Outcome) → EndsAs a 7 outcome → (refusal : Refusal) × Says a (Undone (Refused refusal)) }
-    // Status 8: the words are `append` or `prove`; at `append` the events file was judged before. With `Blank` and
-    // `NotAStore`, what the disk read as opens as no store of a service, for the reason that the line tells. With
-    // `BadPage`, what the disk read as opens as a service's store whose table refuses nothing before a page is read,
-    // and stands for no history. The page told is the first that the command meets there that isn't of its kind, or, at
-    // `prove`, the one read last where the event pages don't spell the step's events.
-    ensures store { (a : Around) (outcome : Outcome) → EndsAs a 8 outcome → (cause : StoreCause) × Says a (Undone (Unserved cause)) }
-    // Status 8 never comes where the disk read as a history.
-    ensures complete { (a : Around) (outcome : Outcome) → EndsAs a 8 outcome → (h : History) → ReadsAs a.met.disk.found h → ⊥ }
-    // Status 9 of `append`: the events file is there, and the line tells the byte of the limit, where the file is
-    // longer, else the first byte at which no events file goes on. Status 9 of `verify`: proof and anchors file are
-    // there, and the line written tells the first line of the anchors file that can't follow those before it. Status 9
-    // of `show`: the history file is there, and the line tells the byte of the limit, where the file is longer; else
-    // the first byte at which no history file goes on; else the first step that breaks a rule of sound histories, and
-    // its first broken rule.
-    ensures unreadable { (a : Around) (outcome : Outcome) → EndsAs a 9 outcome → (bad : BadInput) × Says a (Undone (Unreadable bad)) }
-{}
-
-/// What status 0 says of a run that made a service or a step, whose line was written whole: the disk stands for the
-/// service's history without a step, or, where it read as a history, with writes pending or not, for the longer one, at rest.
-pub fn disk_status_laws<D: Disk>()
+    // keep. And where the disk read as a history, with writes pending or not, they are the proof that this history has of
+    // that event under that top, or under its last step, and a step of the machine; and the disk stands for it, at rest.
+    // They are accepted under any anchors of which that of the history's name and top has the history's authenticator.
     // Status 0 of `init`: no store was there. The line written is that of step 0 of the history of that name without
     // steps. The disk, where its content was told, stands for that history, at rest.
-    ensures initialised { (old new : D) (a : Around) (outcome : Outcome) → EndsAs a 0 outcome
-        → Leaves D.view old new a.met.inputs.told a.words outcome → (name : List ℕ) → command_of a.words ≡ Some (Init name)
-        → (thread : Thread) × MakesService a.met.disk.found name thread × Begins D.view name old new × Writes a (anchor_text thread) }
     // Status 0 of `append`: the events file is there, within its limit, and spells events that the table doesn't
     // refuse. What the disk read as opens as a service's store, in whose pages each link of its next step is found. The
     // line written is of its name and that step. And where the disk read as a history, with writes pending or not,
     // adding the events is a step of the machine, the line is that of the longer history's last step, and the disk
     // stands for the longer history, at rest.
-    ensures appended { (old new : D) (a : Around) (outcome : Outcome) → EndsAs a 0 outcome
-        → Leaves D.view old new a.met.inputs.told a.words outcome → (file : List ℕ) → command_of a.words ≡ Some (Append file)
-        → (thread : Thread) × OfEvents a.met.inputs.told file (λ events. AddsStep (D.view old).content events thread × Adds D.view (AppendCall events) old new)
-        × Writes a (anchor_text thread) }
+    ensures done { (a : Around D) → Ends D.view a 0 → IsDoneRun D.view a }
+
+    // Status 1: the words are `verify` or `strict`, the proof file is there, its bytes spell no proof that is accepted under the
+    // command's anchors, and the line written names the lowest reason that stands against them.
+    ensures rejected { (a : Around D) → Ends D.view a 1 → IsRejectedRun a }
+    // Status 2: the words have no form, and the number written is that of the first word at which none goes on; or they
+    // have one that isn't built, and it is 0.
+    ensures usage { (a : Around D) → Ends D.view a 2 → IsUsageRun D.view a }
+    // Status 3: the words are of a command that is built and name a file, the inputs' count of faults rose, and `fault
+    // input` was written whole.
+    ensures input_fault { (a : Around D) → Ends D.view a 3 → IsInputFaultRun D.view a }
+    // Status 4: the sink's count of faults rose.
+    ensures output_fault { (a : Around D) → Ends D.view a 4 → Rose a.sink_faults.before a.sink_faults.after }
+    // Status 4, where the disk's count of faults didn't rise: the words are of a command that is done, and the disk is left as
+    // is right for that; or nothing was written to it.
+    ensures cut_short { (a : Around D) → Ends D.view a 4 → (DiskFailed D.view a → ⊥)
+        → ((text : List ℕ) × IsWork D.view a (λ w. w.done text)) ⊎ IsLeft D.view a.outside.disk.before a.outside.disk.after }
+    // Status 5: the words are of a command with a folder, the disk's count of faults rose, and `fault disk` was written
+    // whole. At `append` the events file was judged before.
+    ensures disk_fault { (a : Around D) → Ends D.view a 5 → IsDiskFaultRun D.view a }
+    // Status 6: `no memory` was written whole.
+    ensures no_memory { (a : Around D) → Ends D.view a 6 → Writes a no_memory_text }
+    // Status 7 of `show`: the history file is there and is that of a sound history, which has no such step, or no such
+    // event in it. The line written tells the last step, or the number of the step's events. Status 7 of `init`: a
+    // store was there. Status 7 of `append` and `prove`: what the disk read as opens as a service's store, and the line
+    // written is the first refusal of its table that stands; `NoEvent` tells how many events the step's page counts.
+    // Where the disk read as a history, with writes pending or not, it is the machine's refusal, nothing was written, and
+    // the disk stands for that history, at rest.
+    ensures refused { (a : Around D) → Ends D.view a 7 → (refusal : Refusal) × IsUndoneRun D.view a (Refused refusal) }
+    // Status 8: the words are `append` or `prove`; at `append` the events file was judged before. With `Blank` and
+    // `NotAStore`, what the disk read as opens as no store of a service, for the reason that the line tells. With
+    // `BadPage`, what the disk read as opens as a service's store whose table refuses nothing before a page is read,
+    // and stands for no history. The page told is the first that the command meets there that isn't of its kind, or, at
+    // `prove`, the one read last where the event pages don't spell the step's events.
+    ensures store { (a : Around D) → Ends D.view a 8 → (cause : StoreCause) × IsUndoneRun D.view a (Unserved cause) }
+    // Status 8 never comes where the disk read as a history.
+    ensures complete { (a : Around D) → Ends D.view a 8 → (h : History) → ReadsAs (D.view a.outside.disk.before).content h → ⊥ }
+    // Status 9 of `append`: the events file is there, and the line tells the byte of the limit, where the file is
+    // longer, else the first byte at which no events file goes on. Status 9 of `verify` and `strict`: proof and anchors file are
+    // there, and the line written tells the first line of the anchors file that can't follow those before it. Status 9
+    // of `show`: the history file is there, and the line tells the byte of the limit, where the file is longer; else
+    // the first byte at which no history file goes on; else the first step that breaks a rule of sound histories, and
+    // its first broken rule.
+    ensures unreadable { (a : Around D) → Ends D.view a 9 → (bad : BadInput) × IsUndoneRun D.view a (Unreadable bad) }
 {}

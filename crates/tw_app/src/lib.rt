@@ -8,5 +8,5 @@ mod outcome;
 mod printing;
 
 pub use ending::{Ran, run};
-pub use laws::{disk_status_laws, status_laws};
+pub use laws::status_laws;
 pub use outcome::Outcome;

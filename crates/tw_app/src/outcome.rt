@@ -1,7 +1,8 @@
 // What a run of the program comes to.
 
 ghost use Rattle.std.specs.Prelude.{◌≡◌};
-ghost use Rattle.tw_app.specs.Outcomes.{judged as judged_outcome, made as made_outcome, proved as proved_outcome};
+ghost use Rattle.tw_app.specs.Outcomes.{outcome_by};
+ghost use Rattle.tw_app.specs.declared.outcome.Outcome.TheVariants.{Judged as OfVerdict, Made as OfThread, Proof as OfProof};
 
 use tw_base::{Bytes, Thread};
 use tw_chain::Verdict;
@@ -25,7 +26,7 @@ pub enum Outcome {
 
 /// The outcome of a proof that was judged.
 pub(crate) fn judged(came: Result<Verdict, CommandFault>) -> Outcome
-    ensures { result ≡ judged_outcome came }
+    ensures { result ≡ outcome_by OfVerdict came }
 {
     match came {
         Ok(verdict) => Outcome::Judged(verdict),
@@ -35,7 +36,7 @@ pub(crate) fn judged(came: Result<Verdict, CommandFault>) -> Outcome
 
 /// The outcome of an event that was shown or proved.
 pub(crate) fn proved(came: Result<Bytes, CommandFault>) -> Outcome
-    ensures { result ≡ proved_outcome came }
+    ensures { result ≡ outcome_by OfProof came }
 {
     match came {
         Ok(proof) => Outcome::Proof(proof),
@@ -45,7 +46,7 @@ pub(crate) fn proved(came: Result<Bytes, CommandFault>) -> Outcome
 
 /// The outcome of a service or a step that was made.
 pub(crate) fn made(came: Result<Thread, CommandFault>) -> Outcome
-    ensures { result ≡ made_outcome came }
+    ensures { result ≡ outcome_by OfThread came }
 {
     match came {
         Ok(thread) => Outcome::Made(thread),

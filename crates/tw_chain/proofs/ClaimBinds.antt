@@ -1,5 +1,5 @@
 -- From what an opening's roots show to the claim of the family's history, or two texts clash.
-use Rattle.std.proofs.Common.{◌≡◌, ℕ, suc, zero, ◌<◌, ◌≤◌, List, [], ◌++◌, length, refl, subst, arith, inl}
+use Rattle.std.proofs.Common.{◌≡◌, ℕ, suc, zero, ◌<◌, ◌≤◌, List, ◌++◌, length, refl, arith, inl}
 use Rattle.std.specs.Prelude.{Some, slice_get}
 use Rattle.tw_base.specs.declared.tree_proof.Ask.{Ask}
 use Rattle.tw_base.specs.declared.tree_proof.Ask.TheVariants as ask
@@ -8,7 +8,7 @@ use Rattle.tw_base.specs.AuditPath.{audit_texts}
 use Rattle.tw_base.specs.Auth.{tree_label}
 use Rattle.tw_base.specs.Clash.{OrClash, Within}
 use Rattle.tw_base.specs.EventTree.{event_root, event_texts}
-use Rattle.tw_base.specs.Family.{AllSound, HasHistory, family_texts}
+use Rattle.tw_base.specs.Family.{HasHistory, family_texts}
 use Rattle.tw_base.specs.History.{History, events_at}
 use Rattle.tw_base.specs.HistoryTexts.{history_texts, tree_texts}
 use Rattle.tw_base.specs.Sound.{IsSound}

@@ -1,5 +1,5 @@
 -- The proofs that a history has are accepted under anchors, and claim what they are of.
-use Rattle.std.proofs.Common.{◌≡◌, ℕ, suc, zero, ◌<◌, ◌≤◌, List, [], length, refl, sym, ap, ◌∙◌, subst, arith}
+use Rattle.std.proofs.Common.{◌≡◌, ℕ, suc, zero, ◌<◌, ◌≤◌, List, [], length, sym, ap, ◌∙◌, subst, arith}
 use Rattle.std.specs.Prelude.{Some, None, slice_get}
 use Rattle.std.proofs.lemmas.Option.{get_or_from_slice_get}
 use Rattle.tw_base.specs.declared.event_part.EventPart.{EventPart}
@@ -10,7 +10,7 @@ use Rattle.tw_base.specs.declared.tree_proof.Ask.{Ask}
 use Rattle.tw_base.specs.declared.tree_proof.Ask.TheVariants as ask
 use Rattle.tw_base.specs.declared.tree_proof.TreeProof.{TreeProof}
 use Rattle.tw_base.specs.Anchors.{anchor_of}
-use Rattle.tw_base.specs.Auth.{auth, tree_label}
+use Rattle.tw_base.specs.Auth.{auth}
 use Rattle.tw_base.specs.Bytes.{AreBytes}
 use Rattle.tw_base.specs.Formats.{Spells}
 use Rattle.tw_base.specs.History.{History, entry_at, events_at}
@@ -19,10 +19,10 @@ use Rattle.tw_base.specs.Tree.{entries, tree}
 use Rattle.tw_base.proofs.Trees.{tree-rises}
 use Rattle.tw_skipproof.specs.declared.existence.ExistenceProof.{ExistenceProof}
 use Rattle.tw_skipproof.specs.declared.existence.Part.{Part}
-use Rattle.tw_skipproof.specs.Acceptance.{Reaches, ShowsEvent}
+use Rattle.tw_skipproof.specs.Acceptance.{Reaches}
 use Rattle.tw_skipproof.specs.HistoryProofs.{IsExistenceOf, IsPartOf, MakesExistence}
 use Rattle.tw_skipproof.specs.Existence.{existence_bytes}
-use Rattle.tw_skipproof.specs.Paths.{Climbs, climbed}
+use Rattle.tw_skipproof.specs.Paths.{Climbs}
 use Rattle.tw_skipproof.proofs.ExistenceOf.{accepted-made, spelled-made}
 use Rattle.tw_skipproof.proofs.OwnPaths.{path-of}
 use Rattle.tw_skipproof.proofs.PartOf.{reaches-made}

@@ -10,3 +10,4 @@ pub mod Fronts
 pub mod Completeness
 pub mod OwnSpelling
 pub mod ProofBytes
+pub mod ProofFits

@@ -1,6 +1,5 @@
 -- The proofs that a sound history has are spelled.
-use Rattle.std.proofs.Common.{◌≡◌, ℕ, ◌<◌, ◌≤◌, List, length, refl, sym, ap, ◌∙◌, subst, arith}
-use Rattle.tw_base.specs.declared.limits.TheConstants.{LAST_STEP}
+use Rattle.std.proofs.Common.{◌≡◌, ℕ, ◌<◌, ◌≤◌, List, length, refl, sym, subst, arith}
 use Rattle.tw_base.specs.declared.thread.Entry.{Entry}
 use Rattle.tw_base.specs.declared.tree_proof.Ask.{Ask}
 use Rattle.tw_base.specs.declared.tree_proof.Ask.TheVariants as ask
@@ -18,11 +17,10 @@ use Rattle.tw_base.proofs.DigestBytes.{auth-digest}
 use Rattle.tw_base.proofs.ListLemmas.{Each-in, Each-map}
 use Rattle.tw_base.proofs.Trees.{IsArchived, entry_at-parts, received-sound, tree-archived, tree-rises}
 use Rattle.tw_tree.proofs.Members.{in-with}
-use Rattle.tw_skipproof.specs.declared.existence.ExistenceProof.{ExistenceProof}
 use Rattle.tw_skipproof.specs.declared.existence.Part.{Part}
 use Rattle.tw_skipproof.specs.Codecs.{existence_codec, part_codec, path_codec}
 use Rattle.tw_skipproof.specs.Existence.{existence_bytes}
-use Rattle.tw_skipproof.specs.HistoryProofs.{IsExistenceOf, IsPartOf}
+use Rattle.tw_skipproof.specs.HistoryProofs.{IsPartOf}
 use Rattle.tw_skipproof.proofs.ExistenceOf.{spelled-made}
 use Rattle.tw_skipproof.proofs.LawfulCodecs.{existence-lawful}
 use Rattle.tw_skipproof.proofs.PartOf.{part-fits-made, part_in_range-made, part_shaped-made, path-fits-made}

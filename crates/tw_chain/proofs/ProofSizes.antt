@@ -1,5 +1,5 @@
 -- How many bytes a proof has at most.
-use Rattle.std.proofs.Common.{◌≡◌, ℕ, ◌<◌, ◌≤◌, List, ◌++◌, length, arith}
+use Rattle.std.proofs.Common.{ℕ, ◌≤◌, List, length, arith}
 use Rattle.std.specs.Prelude.{◌==◌}
 use Rattle.std.proofs.lemmas.List.{length-append}
 use Rattle.tw_base.specs.declared.limits.TheConstants.{LAST_STEP}
@@ -7,7 +7,7 @@ use Rattle.tw_base.specs.Codecs.{Codec, behind, number_codec, variant}
 use Rattle.tw_base.specs.Formats.{Spells}
 use Rattle.tw_base.specs.HistoryCodec.{thread_codec}
 use Rattle.tw_base.proofs.CodecSizes.{AtMost, at_most-behind, at_most-by_kind, at_most-bytes, at_most-choose, at_most-name, at_most-number, at_most-pair, at_most-seen, at_most-variant, word-size}
-use Rattle.tw_skipproof.specs.Codecs.{existence_body, existence_codec, existence_magic, step_codec}
+use Rattle.tw_skipproof.specs.Codecs.{existence_body, existence_codec, existence_magic}
 use Rattle.tw_skipproof.proofs.Shapes.{existence-most, part-most, path-most}
 use Rattle.tw_treeproof.specs.Codecs.{entry_codec}
 use Rattle.tw_treeproof.proofs.LawfulCodecs.{gap-most, present-most}

@@ -1,5 +1,5 @@
 -- The bytes of proofs, by their kinds.
-use Rattle.std.specs.Prelude.{◌≡◌, ℕ, ◌<◌, ◌≤◌, List, [], ◌∷◌, ◌++◌, Bool, true, false, Option, Some, None, ◌==◌, ◌||◌, ◌&&◌, nat_le}
+use Rattle.std.specs.Prelude.{◌≡◌, ℕ, ◌≤◌, List, [], ◌∷◌, ◌++◌, Bool, true, false, Option, Some, None, ◌==◌, ◌||◌, ◌&&◌, nat_le}
 use Rattle.tw_base.specs.declared.limits.TheConstants.{LAST_STEP}
 use Rattle.tw_base.specs.declared.thread.Key.{Key}
 use Rattle.tw_base.specs.Codecs.{Codec, behind, by_kind, choose, digest_codec, name_codec, number_codec, pair, seen, variant}
@@ -7,8 +7,10 @@ use Rattle.tw_base.specs.Formats.{Format, read_at}
 use Rattle.tw_base.specs.Formats.Format.{Byte, Done}
 use Rattle.tw_skipproof.specs.declared.existence.ExistenceProof.{ExistenceProof}
 use Rattle.tw_skipproof.specs.Codecs.{existence_body, part_codec, path_codec, proof_magic, step_codec}
-use Rattle.tw_skipproof.specs.Existence.{IsExistenceInRange, IsPartInRange}
+use Rattle.tw_skipproof.specs.Existence.{IsExistenceInRange, IsPartInRange, IsPartShaped, IsShaped}
+use Rattle.tw_skipproof.specs.Paths.{HasShape}
 use Rattle.tw_treeproof.specs.Answers.{is_of_entry}
+use Rattle.tw_treeproof.specs.Limits.{IsEntryInRange, IsProofInRange, IsStep}
 use Rattle.tw_treeproof.specs.Codecs.{entry_codec, gap_codec, present_codec}
 use Rattle.tw_chain.specs.declared.proof.AbsenceProof.{AbsenceProof}
 use Rattle.tw_chain.specs.declared.proof.LinkProof.{LinkProof}
@@ -106,6 +108,16 @@ HasTreeOfKind (Exists p) = Unit {0}
 HasTreeOfKind (Archived p) = is_of_entry p.shown ≡ true
 HasTreeOfKind (Absent p) = is_of_entry p.shown ≡ false
 HasTreeOfKind (Linked p) = Unit {0}
+
+-- the numbers of the proof are in the ranges of its format, its paths and its opening have the links and the numbers of labels
+-- that its steps give them, and its tree proof is of its kind
+abbrev pub IsSpellable : Proof → Type 0
+IsSpellable (Exists p) = IsExistenceInRange p × IsShaped p
+IsSpellable (Archived p) =
+    IsPartInRange p.at × IsPartShaped p.at × IsEntryInRange p.entry × IsProofInRange p.shown × (is_of_entry p.shown ≡ true)
+IsSpellable (Absent p) =
+    IsPartInRange p.at × IsPartShaped p.at × IsStep p.key.step × IsProofInRange p.shown × (is_of_entry p.shown ≡ false)
+IsSpellable (Linked p) = (p.step ≤ LAST_STEP) × IsStep p.top × HasShape p.path.links p.top p.step
 
 -- the bounds that checking needs: those of the steps, and of an event its ranges in the format, which a proof that was read has
 abbrev pub IsInRange : Proof → Type 0

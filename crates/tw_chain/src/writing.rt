@@ -2,10 +2,12 @@
 
 ghost use Rattle.std.specs.Prelude.{◌≡◌, [], ◌∷◌, ◌++◌, IfOk, OnOk, true, false};
 ghost use Rattle.tw_skipproof.specs.Codecs.{part_bytes, path_bytes};
+ghost use Rattle.tw_base.specs.Formats.{Spells};
+ghost use Rattle.tw_treeproof.specs.Limits.{IsStep};
 ghost use Rattle.tw_treeproof.specs.Answers.{is_of_entry};
 ghost use Rattle.tw_treeproof.specs.Codecs.{entry_codec, tree_proof_bytes};
 ghost use Rattle.tw_chain.specs.declared.proof.Proof.TheVariants.{Absent, Archived, Linked};
-ghost use Rattle.tw_chain.specs.Proofs.{HasTreeOfKind, IsInRange, key_codec, kind_bytes, link_body, proof_bytes};
+ghost use Rattle.tw_chain.specs.Proofs.{HasTreeOfKind, IsInRange, IsSpellable, absence_body, key_codec, kind_bytes, link_body, proof_bytes, proof_layout, thread_body};
 
 use crate::proof::{AbsenceProof, LinkProof, Proof, ThreadProof};
 use std::alloc::Global;
@@ -26,7 +28,8 @@ fn put_kind(into: &mut Bytes, kind: u8) -> Result<(), NoMemory>
 /// Appends the key.
 #[tactic(auto, unfolding(crate::specs::Proofs::key_codec, tw_base::specs::Codecs::name_codec, tw_base::specs::Codecs::number_codec, tw_base::specs::Codecs::pair, tw_base::specs::Codecs::seen))]
 fn put_key(into: &mut Bytes, key: &Key) -> Result<(), NoMemory>
-    ensures { OnOk result (into.new ≡ into.old ++ key_codec.write key.now) }
+    ensures ok { OnOk result (into.new ≡ into.old ++ key_codec.write key.now) }
+    ensures fits { OnOk result (IsStep key.now.step → key_codec.Fits key.now) }
 {
     put_name(into, &key.from)?;
     put_number(into, key.step, 8)?;
@@ -35,7 +38,8 @@ fn put_key(into: &mut Bytes, key: &Key) -> Result<(), NoMemory>
 
 /// Appends the proof of an entry.
 fn put_thread(into: &mut Bytes, proof: &ThreadProof) -> Result<(), NoMemory>
-    ensures { OnOk result (into.new ≡ into.old ++ (kind_bytes 3 ++ (part_bytes proof.now.at ++ (entry_codec.write proof.now.entry ++ tree_proof_bytes proof.now.shown)))) }
+    ensures fits { OnOk result (IsSpellable (Archived proof.now) → thread_body.Fits proof.now) }
+    ensures ok { OnOk result (into.new ≡ into.old ++ (kind_bytes 3 ++ (part_bytes proof.now.at ++ (entry_codec.write proof.now.entry ++ tree_proof_bytes proof.now.shown)))) }
 {
     put_kind(into, 3)?;
     put_part(into, &proof.at)?;
@@ -46,7 +50,8 @@ fn put_thread(into: &mut Bytes, proof: &ThreadProof) -> Result<(), NoMemory>
 
 /// Appends the proof that there is no entry.
 fn put_absence(into: &mut Bytes, proof: &AbsenceProof) -> Result<(), NoMemory>
-    ensures { OnOk result (into.new ≡ into.old ++ (kind_bytes 4 ++ (part_bytes proof.now.at ++ (key_codec.write proof.now.key ++ tree_proof_bytes proof.now.shown)))) }
+    ensures fits { OnOk result (IsSpellable (Absent proof.now) → absence_body.Fits proof.now) }
+    ensures ok { OnOk result (into.new ≡ into.old ++ (kind_bytes 4 ++ (part_bytes proof.now.at ++ (key_codec.write proof.now.key ++ tree_proof_bytes proof.now.shown)))) }
 {
     put_kind(into, 4)?;
     put_part(into, &proof.at)?;
@@ -58,7 +63,8 @@ fn put_absence(into: &mut Bytes, proof: &AbsenceProof) -> Result<(), NoMemory>
 /// Appends the proof of a link.
 #[tactic(auto, unfolding(crate::specs::Proofs::link_body, tw_base::specs::Codecs::bytes_codec, tw_base::specs::Codecs::name_codec, tw_base::specs::Codecs::number_codec, tw_base::specs::Codecs::pair, tw_base::specs::Codecs::seen, tw_skipproof::specs::Codecs::path_bytes, tw_skipproof::specs::Codecs::path_codec, tw_base::specs::Codecs::each))]
 fn put_link(into: &mut Bytes, proof: &LinkProof) -> Result<(), NoMemory>
-    ensures { OnOk result (into.new ≡ into.old ++ (kind_bytes 5 ++ link_body.write proof.now)) }
+    ensures fits { OnOk result (IsSpellable (Linked proof.now) → link_body.Fits proof.now) }
+    ensures ok { OnOk result (into.new ≡ into.old ++ (kind_bytes 5 ++ link_body.write proof.now)) }
 {
     put_kind(into, 5)?;
     put_name(into, &proof.service)?;
@@ -71,7 +77,8 @@ fn put_link(into: &mut Bytes, proof: &LinkProof) -> Result<(), NoMemory>
 
 /// The bytes of the proof of an entry.
 fn write_thread(alloc: Global, proof: &ThreadProof) -> Result<Bytes, NoMemory>
-    ensures { IfOk result (λ bytes. HasTreeOfKind (Archived proof.now) → bytes ≡ proof_bytes (Archived proof.now)) }
+    ensures spelled { IfOk result (λ bytes. IsSpellable (Archived proof.now) → Spells proof_layout bytes (Archived proof.now)) }
+    ensures bytes { IfOk result (λ bytes. HasTreeOfKind (Archived proof.now) → bytes ≡ proof_bytes (Archived proof.now)) }
 {
     let mut bytes = Bytes::new(alloc);
     put_thread(&mut bytes, proof)?;
@@ -80,7 +87,8 @@ fn write_thread(alloc: Global, proof: &ThreadProof) -> Result<Bytes, NoMemory>
 
 /// The bytes of the proof that there is no entry.
 fn write_absence(alloc: Global, proof: &AbsenceProof) -> Result<Bytes, NoMemory>
-    ensures { IfOk result (λ bytes. HasTreeOfKind (Absent proof.now) → bytes ≡ proof_bytes (Absent proof.now)) }
+    ensures spelled { IfOk result (λ bytes. IsSpellable (Absent proof.now) → Spells proof_layout bytes (Absent proof.now)) }
+    ensures bytes { IfOk result (λ bytes. HasTreeOfKind (Absent proof.now) → bytes ≡ proof_bytes (Absent proof.now)) }
 {
     let mut bytes = Bytes::new(alloc);
     put_absence(&mut bytes, proof)?;
@@ -89,7 +97,8 @@ fn write_absence(alloc: Global, proof: &AbsenceProof) -> Result<Bytes, NoMemory>
 
 /// The bytes of the proof of a link.
 fn write_link(alloc: Global, proof: &LinkProof) -> Result<Bytes, NoMemory>
-    ensures { IfOk result (λ bytes. bytes ≡ proof_bytes (Linked proof.now)) }
+    ensures spelled { IfOk result (λ bytes. IsSpellable (Linked proof.now) → Spells proof_layout bytes (Linked proof.now)) }
+    ensures bytes { IfOk result (λ bytes. bytes ≡ proof_bytes (Linked proof.now)) }
 {
     let mut bytes = Bytes::new(alloc);
     put_link(&mut bytes, proof)?;
@@ -103,7 +112,10 @@ pub fn write_proof(alloc: Global, proof: &Proof) -> Result<Bytes, NoMemory>
     requires { IsInRange proof.now }
     // What is written of a proof is its bytes in the format, where its tree proof is of its kind: of an entry in a proof
     // that a thread was received, of an empty place in one that none was.
-    ensures { IfOk result (λ bytes. HasTreeOfKind proof.now → bytes ≡ proof_bytes proof.now) }
+    ensures bytes { IfOk result (λ bytes. HasTreeOfKind proof.now → bytes ≡ proof_bytes proof.now) }
+    // The bytes that are written spell the proof, where its numbers are in the ranges of its format, and its paths, its
+    // opening and its tree proof are those of its steps and of its kind.
+    ensures spelled { IfOk result (λ bytes. IsSpellable proof.now → Spells proof_layout bytes proof.now) }
 {
     match proof {
         Proof::Exists(existence) => write_existence(alloc, existence),

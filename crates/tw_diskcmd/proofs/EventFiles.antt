@@ -1,7 +1,6 @@
 -- From an events file that was read to its events, or to the byte at which it is none.
 use Rattle.std.proofs.Common.{◌≡◌, ℕ, ◌<◌, ◌≤◌, List, length, take, refl, subst, sym, ap, ◌∙◌, arith, inl, inr}
 use Rattle.tw_outside.specs.Asked.{Asked}
-use Rattle.tw_text.specs.Faults.{IsWhereMemory}
 use Rattle.tw_diskcmd.specs.WorkSteps.{ComesOfFile}
 use Rattle.std.proofs.lemmas.Bool.{cases_lt}
 use Rattle.std.proofs.lemmas.List.{length-take, length-take-le, take_all}
@@ -9,7 +8,7 @@ use Rattle.tw_base.specs.Formats.{IsPlace, Spells, SpellsNothing}
 use Rattle.tw_msg.specs.EventsFile.{events_file}
 use Rattle.tw_outside.specs.Files.{IsReadTo, IsThere}
 use Rattle.tw_text.specs.declared.fault.CommandFault.{CommandFault}
-use Rattle.tw_text.specs.declared.fault.CommandFault.TheVariants.{Unreadable, NoMemory}
+use Rattle.tw_text.specs.declared.fault.CommandFault.TheVariants.{Unreadable}
 use Rattle.tw_text.specs.declared.refusal.BadInput.TheVariants.{BadByte}
 use Rattle.tw_diskcmd.specs.declared.limits.TheConstants.{EVENTS_LIMIT}
 use Rattle.tw_diskcmd.specs.Appending.{AreEventsOf}
@@ -30,14 +29,6 @@ is_whole all bytes is short = elim (cases_lt events_read (length bytes)) [
 is_longer : (all bytes : List ℕ) → all ≡ take events_read bytes → EVENTS_LIMIT < length all → EVENTS_LIMIT < length bytes
 is_longer all bytes is longer = omega (arith, ap length is, length-take events_read bytes, longer)
 
--- what holds of the wanted fault and of want of memory holds of the one that came
-where_memory : (P : CommandFault → Type 0) (wanted came : CommandFault) → P NoMemory → IsWhereMemory wanted came → P wanted → P came
-where_memory P wanted came none (inl is) holds = subst P (sym is) holds
-where_memory P wanted came none (inr is) holds = subst P (sym is) none
-
-pub no_memory : (a : Asked) (file : List ℕ) → ComesOfFile a file NoMemory
-no_memory a file = record { stops = tt; comes = λ t. tt }
-
 module _ (a : Asked) (file all : List ℕ) (there : IsThere a.told file) (read : IsReadTo a.told file events_read all) where
   pub are_events : (events : List (List ℕ)) → length all ≤ EVENTS_LIMIT → Spells events_file all events → AreEventsOf a.told file events
   are_events events short spelled = record {
@@ -46,25 +37,22 @@ module _ (a : Asked) (file all : List ℕ) (there : IsThere a.told file) (read :
     spelled = λ bytes tells. subst (λ (b : List ℕ). Spells events_file b events) (is_whole all bytes (read bytes tells) short) spelled;
   }
 
-  pub too_long : (came : CommandFault) → EVENTS_LIMIT < length all → IsWhereMemory (Unreadable (BadByte file EVENTS_LIMIT)) came → ComesOfFile a file came
-  too_long came longer is =
-      where_memory (ComesOfFile a file) (Unreadable (BadByte file EVENTS_LIMIT)) came (no_memory a file) is
-      (record { stops = tt; comes = λ t. (refl, there, λ bytes tells. inl (is_longer all bytes (read bytes tells) longer, refl)) })
+  pub too_long : (came : CommandFault) → EVENTS_LIMIT < length all → came ≡ Unreadable (BadByte file EVENTS_LIMIT) → ComesOfFile a file came
+  too_long came longer is = subst (ComesOfFile a file) (sym is) (record { stops = tt; comes = λ t. (refl, there, λ bytes tells. inl (is_longer all bytes (read bytes tells) longer, refl)) })
 
   pub no_events : (place : ℕ) (came : CommandFault) → length all ≤ EVENTS_LIMIT → SpellsNothing events_file all × IsPlace events_file all place
-      → IsWhereMemory (Unreadable (BadByte file place)) came → ComesOfFile a file came
-  no_events place came short none is =
-      where_memory (ComesOfFile a file) (Unreadable (BadByte file place)) came (no_memory a file) is (record {
-        stops = tt;
-        comes = λ t. (
-          refl,
-          there,
-          λ bytes tells.
-              let whole : all ≡ bytes = is_whole all bytes (read bytes tells) short in
-              inr (
-                subst (λ (b : List ℕ). length b ≤ EVENTS_LIMIT) whole short,
-                subst (λ (b : List ℕ). SpellsNothing events_file b) whole none.0,
-                subst (λ (b : List ℕ). IsPlace events_file b place) whole none.1,
-              ),
-        );
-      })
+      → came ≡ Unreadable (BadByte file place) → ComesOfFile a file came
+  no_events place came short none is = subst (ComesOfFile a file) (sym is) (record {
+    stops = tt;
+    comes = λ t. (
+      refl,
+      there,
+      λ bytes tells.
+          let whole : all ≡ bytes = is_whole all bytes (read bytes tells) short in
+          inr (
+            subst (λ (b : List ℕ). length b ≤ EVENTS_LIMIT) whole short,
+            subst (λ (b : List ℕ). SpellsNothing events_file b) whole none.0,
+            subst (λ (b : List ℕ). IsPlace events_file b place) whole none.1,
+          ),
+    );
+  })

@@ -29,7 +29,7 @@ use Rattle.tw_service.specs.Machine.{Answers, IsStepOf, Reply}
 use Rattle.tw_service.specs.Machine.Call.{ProveEvent}
 use Rattle.tw_service.specs.Machine.Reply.{OfProof, Refused}
 use Rattle.tw_text.specs.declared.fault.CommandFault.{CommandFault}
-use Rattle.tw_diskcmd.specs.Disks.{OpensAsService, OpensAsServiceWith, ReadsAs, touched}
+use Rattle.tw_diskcmd.specs.Disks.{OpensAsService, OpensAsServiceWith, ReadsAs, found_disk}
 use Rattle.tw_diskcmd.specs.Proving.{MeetsBadPage, ProveComes, Proves, ProvesUnder, top_of}
 use Rattle.tw_diskcmd.specs.Faults.{fault_of_service}
 use Rattle.tw_skipproof.proofs.WideIndex.{few_events, makes_at}
@@ -190,9 +190,9 @@ module _ (found : Option Image) (before after : ℕ) (step index at : ℕ) (aske
       → (is_broken ≡ false → (h : History) → OldServes h → Answers sha256 h (ProveEvent step at top) (λ b. OfProof b) (Err r) NewServes)
       → (refusal r ≡ Err service.DiskFault → Rose before after)
       → ((pages : Image) → told ≡ Some pages → IsRefusalOf r (found_event sha256 pages name head step at top is_broken))
-      → ProveComes (touched found before after) step index asked (Err came)
+      → ProveComes (found_disk found before after) step index asked (Err came)
   proof_refused r came is table_then machine fault met =
-      subst (λ (f : CommandFault). ProveComes (touched found before after) step index asked (Err f)) (sym is) (by r table_then machine fault met)
+      subst (λ (f : CommandFault). ProveComes (found_disk found before after) step index asked (Err f)) (sym is) (by r table_then machine fault met)
     where
       only : OpensAsService found name head
       only = only_opens found name head (λ pages. told ≡ Some pages) opens
@@ -225,7 +225,7 @@ module _ (found : Option Image) (before after : ℕ) (step index at : ℕ) (aske
           → (is_broken ≡ false → (h : History) → OldServes h → Answers sha256 h (ProveEvent step at top) (λ b. OfProof b) (Err r) NewServes)
           → (refusal r ≡ Err service.DiskFault → Rose before after)
           → ((pages : Image) → told ≡ Some pages → IsRefusalOf r (found_event sha256 pages name head step at top is_broken))
-          → ProveComes (touched found before after) step index asked (Err (fault_of_service r))
+          → ProveComes (found_disk found before after) step index asked (Err (fault_of_service r))
       by (service.NoStep told) table machine fault met =
           (record { name = name; head = head; opens = only; table = no_step told table; machine = λ h reads. machine_at (Refused (service.NoStep told)) h h reads (machine whole h (serves h reads)).0 }, last_told told table)
       by (service.NoEvent count) table machine fault met = (

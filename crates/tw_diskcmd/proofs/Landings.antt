@@ -12,48 +12,42 @@ use Rattle.tw_pages.specs.Slots.{IsTaken}
 use Rattle.tw_pages.specs.declared.open.StoreFault.{StoreFault}
 use Rattle.tw_pages.specs.declared.open.StoreFault.TheVariants as store
 use Rattle.tw_service.specs.Stands.{IsNotOpenedFor}
+use Rattle.tw_skiplist.specs.declared.head.Head.{Head}
+use Rattle.tw_text.specs.declared.refusal.StoreCause.{StoreCause}
+use Rattle.tw_text.specs.declared.refusal.StoreCause.TheVariants.{Blank, NotAStore}
 use Rattle.tw_text.specs.declared.fault.CommandFault.{CommandFault}
 use Rattle.tw_text.specs.declared.fault.CommandFault.TheVariants.{Refused, Unserved, Unreadable, InputFault, DiskFault, NoMemory}
-use Rattle.tw_diskcmd.specs.Appending.{AppendComes, AppendLeaves, AppendSafe, AreEventsOf, StepComes}
-use Rattle.tw_diskcmd.specs.Disks.{IsLeft, ReadsAs, Settles, Touched, touched}
+use Rattle.tw_diskcmd.specs.Appending.{AppendComes, AppendLeaves, AreEventsOf, StepComes}
+use Rattle.tw_diskcmd.specs.Disks.{FoundDisk, IsLeft, IsUnserved, ReadLeaves, ReadsAs, Settles, found_disk}
 use Rattle.tw_diskcmd.specs.Faults.{fault_of_store}
 use Rattle.tw_diskcmd.specs.Making.{InitComes, InitLeaves, InitSafe}
-use Rattle.tw_diskcmd.specs.Proving.{ProveComes, ProveLeaves}
 use Rattle.tw_diskcmd.specs.WorkSteps.{IsStop, LeavesStep, WritesNothing}
-use Rattle.tw_diskcmd.proofs.AtRest.{left_begins, left_keeps, no_call_left, old_or_one, one_of, reads_as, rests_reads, untouched_left}
+use Rattle.tw_diskcmd.proofs.AtRest.{no_call_left, old_or_one, one_of, reads_as}
 
 -- ---- a disk that isn't opened
 
-module _ (found : Option Image) (before after : ℕ) (events : List (List ℕ)) (f : StoreFault)
+module _ (found : Option Image) (before after : ℕ) (f : StoreFault)
     (refused : (image : Image) → found ≡ Some image → (f ≡ store.DiskFault) ⊎ IsNotOpenedFor image f)
     (answers : (f ≢ store.Taken) × (f ≢ store.NoMemory)) (fault : f ≡ store.DiskFault → Rose before after) where
   not_opened : (g : StoreFault) → g ≡ f → (g ≡ store.DiskFault → ⊥) → (image : Image) → found ≡ Some image → IsNotOpenedFor image g
   not_opened g same other image told =
       ⊎_elim (λ is. absurd (other (same ∙ is))) (λ why. subst (IsNotOpenedFor image) (sym same) why) (refused image told)
 
-  pub unopened_step : (came : CommandFault) → came ≡ fault_of_store f → StepComes (touched found before after) events (Err came)
-  unopened_step came is = subst (λ (c : CommandFault). StepComes (touched found before after) events (Err c)) (sym is) (by f refl)
+  -- what holds where nothing is served, and after a disk fault, holds of what a command comes to then
+  pub unopened : (Meets : (pages : Image) → (name : List ℕ) → Head → (page : ℕ) → Type 0) (P : CommandFault → Type 0)
+      → ((cause : StoreCause) → IsUnserved Meets found cause → P (Unserved cause)) → (Rose before after → P DiskFault) → (came : CommandFault) → came ≡ fault_of_store f → P came
+  unopened Meets P unserved failed came is = subst P (sym is) (by f refl)
     where
-      by : (g : StoreFault) → g ≡ f → StepComes (touched found before after) events (Err (fault_of_store g))
+      by : (g : StoreFault) → g ≡ f → P (fault_of_store g)
       by store.Taken same = absurd (answers.0 (sym same))
-      by store.Blank same = not_opened store.Blank same (λ is. cc)
-      by (store.NotAStore slot) same = not_opened (store.NotAStore slot) same (λ is. cc)
-      by store.DiskFault same = fault (sym same)
-      by store.NoMemory same = tt
-
-  pub unopened_proof : (step index : ℕ) (top : Option ℕ) (came : CommandFault) → came ≡ fault_of_store f → ProveComes (touched found before after) step index top (Err came)
-  unopened_proof step index top came is = subst (λ (c : CommandFault). ProveComes (touched found before after) step index top (Err c)) (sym is) (by f refl)
-    where
-      by : (g : StoreFault) → g ≡ f → ProveComes (touched found before after) step index top (Err (fault_of_store g))
-      by store.Taken same = absurd (answers.0 (sym same))
-      by store.Blank same = not_opened store.Blank same (λ is. cc)
-      by (store.NotAStore slot) same = not_opened (store.NotAStore slot) same (λ is. cc)
-      by store.DiskFault same = fault (sym same)
-      by store.NoMemory same = tt
+      by store.Blank same = unserved Blank (not_opened store.Blank same (λ is. cc))
+      by (store.NotAStore slot) same = unserved (NotAStore slot) (not_opened (store.NotAStore slot) same (λ is. cc))
+      by store.DiskFault same = failed (fault (sym same))
+      by store.NoMemory same = absurd (answers.1 (sym same))
 
 -- ---- what the work comes to is what its command comes to
 
-pub comes_of_step : (a : Asked) (t : Touched) (file : List ℕ) (events : List (List ℕ)) (came : Result Thread CommandFault) → AreEventsOf a.told file events
+pub comes_of_step : (a : Asked) (t : FoundDisk) (file : List ℕ) (events : List (List ℕ)) (came : Result Thread CommandFault) → AreEventsOf a.told file events
     → StepComes t events came → AppendComes a t file came
 comes_of_step a t file events (Ok thread) are comes = (events, are, comes)
 comes_of_step a t file events (Err (Refused refusal)) are comes = (events, are, comes)
@@ -63,7 +57,7 @@ comes_of_step a t file events (Err NoMemory) are comes = tt
 comes_of_step a t file events _ are comes = absurd comes
 
 -- a service that isn't made: only where there is one, or where the disk failed
-pub unmade : (t : Touched) (name : List ℕ) (f : StoreFault) (came : CommandFault) → came ≡ fault_of_store f → (f ≡ store.Taken) ⊎ (f ≡ store.DiskFault)
+pub unmade : (t : FoundDisk) (name : List ℕ) (f : StoreFault) (came : CommandFault) → came ≡ fault_of_store f → (f ≡ store.Taken) ⊎ (f ≡ store.DiskFault)
     → (f ≡ store.Taken → (image : Image) → t.found ≡ Some image → IsTaken image) → (f ≡ store.DiskFault → Rose t.before t.after)
     → InitComes t name (Err came)
 unmade t name f came is (inl taken) has fault = subst (λ (c : CommandFault). InitComes t name (Err c)) (sym (is ∙ ap fault_of_store taken)) (has taken)
@@ -82,7 +76,7 @@ module _ {D : Type 0} (view : D → DiskView) where
         (old_or_one view old new (with_events h events) h left, record { image = reads.image; told = same ∙ reads.told; has = inl reads.stands })
 
     pub leaves_of_step : (as_it_reads : (d : D) (image : Image) → (view d).content ≡ Some image → (view d).may_leave image) → (told : Option Files) (before after : ℕ) (file : List ℕ) (events : List (List ℕ)) (came : Result Thread CommandFault) → AreEventsOf told file events
-        → StepComes (touched (view old).content before after) events came
+        → StepComes (found_disk (view old).content before after) events came
         → ((h : History) → ReadsAs (view old).content h → LeavesStep view old new h (with_events h events) came)
         → (WritesNothing came → IsLeft view old new)
         → AppendLeaves view old new told file came
@@ -114,17 +108,17 @@ module _ {D : Type 0} (view : D → DiskView) where
     leaves_of_step as_it_reads told before after file events (Err NoMemory) are comes leaves nothing = nothing tt
     leaves_of_step as_it_reads told before after file events _ are comes leaves nothing = absurd comes
 
-    -- a proof leaves a disk that settles, or that wasn't opened
-    pub leaves_of_proof : (came : Result (List ℕ) CommandFault) → IsLeft view old new → Settles view old new → ProveLeaves view old new came
-    leaves_of_proof (Ok proof) left settles = (left, settles)
-    leaves_of_proof (Err (Refused refusal)) left settles = (left, settles)
-    leaves_of_proof _ left settles = left
+    -- a command that only reads leaves a disk that settles, or that wasn't opened
+    pub leaves_of_reading : {X : Type 0} → (came : Result X CommandFault) → IsLeft view old new → Settles view old new → ReadLeaves view old new came
+    leaves_of_reading (Ok value) left settles = (left, settles)
+    leaves_of_reading (Err (Refused refusal)) left settles = (left, settles)
+    leaves_of_reading _ left settles = left
 
-    pub unopened_proof_leaves : (f : StoreFault) (came : CommandFault) → came ≡ fault_of_store f → f ≢ store.Taken → IsLeft view old new
-        → ProveLeaves view old new (Err came)
-    unopened_proof_leaves f came is not_taken left = subst (λ (c : CommandFault). ProveLeaves view old new (Err c)) (sym is) (by f not_taken)
+    pub unopened_reading_leaves : (X : Type 0) (f : StoreFault) (came : CommandFault) → came ≡ fault_of_store f → f ≢ store.Taken → IsLeft view old new
+        → ReadLeaves view {X = X} old new (Err came)
+    unopened_reading_leaves X f came is not_taken left = subst (λ (c : CommandFault). ReadLeaves view {X = X} old new (Err c)) (sym is) (by f not_taken)
       where
-        by : (g : StoreFault) → g ≢ store.Taken → ProveLeaves view old new (Err (fault_of_store g))
+        by : (g : StoreFault) → g ≢ store.Taken → ReadLeaves view {X = X} old new (Err (fault_of_store g))
         by store.Taken not_taken = absurd (not_taken refl)
         by store.Blank not_taken = left
         by (store.NotAStore slot) not_taken = left
@@ -137,40 +131,6 @@ module _ {D : Type 0} (view : D → DiskView) where
         subst (λ (c : CommandFault). InitLeaves view old new name (Err c)) (sym (is ∙ ap fault_of_store taken)) (left taken)
     unmade_leaves name f came is (inr failed) left safe =
         subst (λ (c : CommandFault). InitLeaves view old new name (Err c)) (sym (is ∙ ap fault_of_store failed)) safe
-
-    -- ---- what a crash may leave
-
-    module _ (only_now : (d : D) (image : Image) → (view d).left_since (view d).moment image → (view d).may_leave image)
-        (as_it_reads : (d : D) (image : Image) → (view d).content ≡ Some image → (view d).may_leave image) where
-      left_safe : (name : List ℕ) → IsLeft view old new → InitSafe view old new name
-      left_safe name left = (left_begins view as_it_reads old new name left, left_keeps view old new left, λ image told taken. left)
-
-      pub init_safe : (name : List ℕ) (came : Result Thread CommandFault) → InitLeaves view old new name came → InitSafe view old new name
-      init_safe name (Ok thread) left = left.1
-      init_safe name (Err DiskFault) left = left
-      init_safe name _ left = left_safe name left
-
-      left_adds : (told : Option Files) (file : List ℕ) → IsLeft view old new → AppendSafe view old new told file
-      left_adds told file left = λ h. (λ reads. inl (left.1, record { image = reads.image; told = left.0 ∙ reads.told; stands = reads.stands }), λ stands. inl ((left_keeps view old new left h).0 stands).0)
-
-      pub append_safe : (told : Option Files) (file : List ℕ) (came : Result Thread CommandFault) → AppendLeaves view old new told file came → AppendSafe view old new told file
-      append_safe told file (Ok thread) left = λ h. (
-        λ reads. let adds = left.2.1 h in let made = adds.2 reads in inr (left.0, left.1, (adds.0, adds.1, made.1, rests_reads view as_it_reads new adds.0 h (ap (λ (n : History). n.name) adds.1) made.0)),
-        λ stands. let adds = left.2.1 h in inr (left.0, left.1, (adds.0, adds.1, adds.3 stands)),
-      )
-      append_safe told file (Err DiskFault) left = λ h. (
-        λ reads. let adds = left.2 h in let made = adds.2 reads in inr (left.0, left.1, (adds.0, adds.1, made.0, made.1)),
-        λ stands. let adds = left.2 h in inr (left.0, left.1, (adds.0, adds.1, adds.3 stands)),
-      )
-      append_safe told file (Err (Refused refusal)) left = left_adds told file left.0
-      append_safe told file (Err (Unreadable bad)) left = left_adds told file (untouched_left view old new only_now left)
-      append_safe told file (Err InputFault) left = left_adds told file (untouched_left view old new only_now left)
-      append_safe told file _ left = left_adds told file left
-
-    pub prove_left : (came : Result (List ℕ) CommandFault) → ProveLeaves view old new came → IsLeft view old new
-    prove_left (Ok proof) left = left.0
-    prove_left (Err (Refused refusal)) left = left.0
-    prove_left _ left = left
 
   -- ---- a disk that wasn't touched
 

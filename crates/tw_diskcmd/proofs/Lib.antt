@@ -6,3 +6,4 @@ pub mod EventProofs
 pub mod Landings
 pub mod OneAnswer
 pub mod Served
+pub mod CommandLaws

@@ -1,5 +1,5 @@
 -- Over a disk that tells its content one answer stands at most, of those that tell of it.
-use Rattle.std.proofs.Common.{◌≡◌, ◌∙◌, ℕ, ◌+◌, ◌^◌, ◌≤◌, List, length, refl, ap, sym, subst, inl, inr, false}
+use Rattle.std.proofs.Common.{◌≡◌, ◌∙◌, ℕ, ◌+◌, List, refl, ap, sym, subst, inl, inr, false}
 use Rattle.std.specs.Prelude.{Option, Some, None, Result, Ok, Err}
 use Rattle.sha2.specs.Sha256.{sha256}
 use Rattle.tw_base.specs.declared.thread.Thread.{Thread}
@@ -30,7 +30,7 @@ use Rattle.tw_text.specs.declared.refusal.StoreCause.TheVariants.{Blank, NotASto
 use Rattle.tw_diskcmd.specs.Agreeing.{Agrees, HasSameService, TellsContent}
 use Rattle.tw_diskcmd.specs.Appending.{AddsStep, MeetsBadLink, RefusesAs, RefusesEvents, StepComes}
 use Rattle.tw_diskcmd.proofs.Openings.{opens_also, opens_only}
-use Rattle.tw_diskcmd.specs.Disks.{IsUnserved, touched}
+use Rattle.tw_diskcmd.specs.Disks.{IsUnserved, found_disk}
 use Rattle.tw_diskcmd.specs.Proving.{MeetsBadPage, ProveComes, Proves, RefusesProof, top_of}
 use Rattle.tw_diskcmd.specs.Faults.{fault_of_service}
 
@@ -203,7 +203,7 @@ module _ (image : Image) where
         (a.from ∙ same.names ∙ sym b.from, a.next ∙ ap (λ (h : Head). h.step + 1) same.heads ∙ sym b.next)
 
     abbrev Comes : Result Thread CommandFault → Type 0
-    Comes outcome = StepComes (touched (Some image) before after) events outcome
+    Comes outcome = StepComes (found_disk (Some image) before after) events outcome
 
     pub agree_step : (one other : Result Thread CommandFault) → TellsContent one → TellsContent other → Comes one → Comes other → Agrees HasSameService one other
     agree_step (Ok s) other tells tells' a b = by other tells' b
@@ -326,7 +326,7 @@ module _ (image : Image) where
     proved_once one other a b = let same = both a b in same_ok one other (same_found (Ok one) (Ok other) (sym same.first.1 ∙ same.second.1))
 
     abbrev ComesProof : Result (List ℕ) CommandFault → Type 0
-    ComesProof outcome = ProveComes (touched (Some image) before after) step index top outcome
+    ComesProof outcome = ProveComes (found_disk (Some image) before after) step index top outcome
 
     pub agree_proof : (one other : Result (List ℕ) CommandFault) → TellsContent one → TellsContent other → ComesProof one → ComesProof other → Agrees AreOne one other
     agree_proof (Ok s) other tells tells' a b = by other tells' b

@@ -10,14 +10,14 @@ use Rattle.tw_base.specs.Faults.{Rose}
 use Rattle.tw_skiplist.specs.declared.head.Head.{Head}
 use Rattle.tw_service.specs.declared.refusal.Refusal.{Refusal}
 use Rattle.tw_service.specs.declared.refusal.Refusal.TheVariants as service
-use Rattle.tw_service.specs.Refusals.{IsBadPage, IsFault, OfBadPage}
+use Rattle.tw_service.specs.Refusals.{IsFault}
 use Rattle.tw_base.specs.declared.root.Root.{Root}
 use Rattle.tw_skiplist.specs.declared.head.StepRef.{StepRef}
 use Rattle.tw_skiplist.specs.Appended.{Next, appended, next_of}
 use Rattle.tw_skiplist.specs.Found.{Found, ◌>>=◌}
 use Rattle.tw_skiplist.specs.Found.Found.{Is, Bad}
 use Rattle.tw_skiplist.specs.Walks.{next_links}
-use Rattle.tw_service.specs.Finds.{IsAnswer, IsRefusalOf, found_thread, thread_at, unless}
+use Rattle.tw_service.specs.Finds.{IsRefusalOf, found_thread, thread_at, unless}
 use Rattle.tw_service.specs.Limits.{append_refusal, first_long, bytes_of, length_refusal, limits_refusal}
 use Rattle.tw_service.specs.Machine.{Answers, IsStepOf, last_thread}
 use Rattle.tw_service.specs.Machine.Call.{Append}
@@ -25,7 +25,7 @@ use Rattle.tw_service.specs.Machine.Reply.{OfThread, Refused}
 use Rattle.tw_text.specs.declared.fault.CommandFault.{CommandFault}
 use Rattle.tw_diskcmd.specs.Appending.{AddsStep, MeetsBadLink, StepComes}
 use Rattle.tw_diskcmd.proofs.Openings.{only_opens, opens_with}
-use Rattle.tw_diskcmd.specs.Disks.{IsLeft, LeavesOldOrOneOf, OpensAsService, OpensAsServiceWith, ReadsAs, ReadsAsOneOf, Rests, touched}
+use Rattle.tw_diskcmd.specs.Disks.{IsLeft, LeavesOldOrOneOf, OpensAsService, OpensAsServiceWith, ReadsAs, ReadsAsOneOf, Rests, found_disk}
 use Rattle.tw_diskcmd.specs.Faults.{fault_of_service}
 use Rattle.tw_diskcmd.specs.WorkSteps.{LeavesStep, WritesNothing}
 
@@ -159,8 +159,8 @@ module _ (found : Option Image) (before after : ℕ) (events : List (List ℕ)) 
       → (is_broken ≡ false → (h : History) → OldServes h → Answers sha256 h (Append events) (λ t. OfThread t) (Err r) NewServes)
       → (refusal r ≡ Err service.DiskFault → Rose before after)
       → ((pages : Image) → told ≡ Some pages → IsRefusalOf r (found_thread sha256 pages name head is_broken events archive))
-      → StepComes (touched found before after) events (Err came)
-  step_refused r came is table_then machine fault met = subst (λ (f : CommandFault). StepComes (touched found before after) events (Err f)) (sym is) (by r table_then machine fault met)
+      → StepComes (found_disk found before after) events (Err came)
+  step_refused r came is table_then machine fault met = subst (λ (f : CommandFault). StepComes (found_disk found before after) events (Err f)) (sym is) (by r table_then machine fault met)
     where
       only : OpensAsService found name head
       only = only_opens found name head (λ pages. told ≡ Some pages) opens
@@ -179,7 +179,7 @@ module _ (found : Option Image) (before after : ℕ) (events : List (List ℕ)) 
           → (is_broken ≡ false → (h : History) → OldServes h → Answers sha256 h (Append events) (λ t. OfThread t) (Err r) NewServes)
           → (refusal r ≡ Err service.DiskFault → Rose before after)
           → ((pages : Image) → told ≡ Some pages → IsRefusalOf r (found_thread sha256 pages name head is_broken events archive))
-          → StepComes (touched found before after) events (Err (fault_of_service r))
+          → StepComes (found_disk found before after) events (Err (fault_of_service r))
       by service.Full table machine fault met = record { name = name; head = head; opens = only; refused = table_of service.Full table (λ no. no); machine = λ h reads. (machine whole h (serves h reads)).0 }
       by (service.TooMany count) table machine fault met =
           record { name = name; head = head; opens = only; refused = table_of (service.TooMany count) table (λ no. no); machine = λ h reads. (machine whole h (serves h reads)).0 }
@@ -229,6 +229,6 @@ module _ {D : Type 0} (view : D → DiskView)
 module _ {D : Type 0} (view : D → DiskView) (old new : D) where
   -- what it wrote: nothing, but where there was a disk fault
   pub step_unwritten : (r : Refusal) (came : CommandFault) → came ≡ fault_of_service r
-      → (r ≡ service.DiskFault) ⊎ IsLeft view old new → WritesNothing (Err came) → IsLeft view old new
+      → (r ≡ service.DiskFault) ⊎ IsLeft view old new → WritesNothing {X = Thread} (Err came) → IsLeft view old new
   step_unwritten r came is (inr left) nothing = left
-  step_unwritten r came is (inl fault) nothing = absurd (subst (λ (f : CommandFault). WritesNothing (Err f)) (is ∙ ap fault_of_service fault) nothing)
+  step_unwritten r came is (inl fault) nothing = absurd (subst (λ (f : CommandFault). WritesNothing {X = Thread} (Err f)) (is ∙ ap fault_of_service fault) nothing)

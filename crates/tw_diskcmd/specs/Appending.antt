@@ -27,7 +27,7 @@ use Rattle.tw_text.specs.declared.refusal.Refusal.TheVariants.{Full, TooMany, To
 use Rattle.tw_diskcmd.specs.declared.limits.TheConstants.{EVENTS_LIMIT}
 use Rattle.tw_text.specs.declared.fault.CommandFault.{CommandFault}
 use Rattle.tw_text.specs.declared.fault.CommandFault.TheVariants as fault
-use Rattle.tw_diskcmd.specs.Disks.{Adds, IsLeft, IsOf, IsUnserved, KeepsOrAdds, LeavesOldOrOneOf, OpensAsService, OpensAsServiceWith, ReadsAs, ReadsAsOneOf, Settles, Stands, Touched}
+use Rattle.tw_diskcmd.specs.Disks.{Adds, FoundDisk, IsLeft, IsOf, IsUnserved, KeepsOrAdds, LeavesOldOrOneOf, OpensAsService, OpensAsServiceWith, ReadsAs, ReadsAsOneOf, Settles, Stands}
 
 -- the file is there; where the inputs tell its bytes, they are the events file of these events
 pub record AreEventsOf (told : Option Files) (file : List ℕ) (events : List (List ℕ)) : Type 0 where
@@ -81,7 +81,7 @@ RefusesAs found events (TooLong bytes) = RefusesEvents found events (service.Too
 RefusesAs found events _ = ⊥
 
 -- what the adding of these events comes to on the disk; want of memory is free
-abbrev pub StepComes : Touched → (events : List (List ℕ)) → Result Thread CommandFault → Type 0
+abbrev pub StepComes : FoundDisk → (events : List (List ℕ)) → Result Thread CommandFault → Type 0
 StepComes t events (Ok thread) = AddsStep t.found events thread
 StepComes t events (Err (fault.Refused refusal)) = RefusesAs t.found events refusal
 StepComes t events (Err (fault.Unserved cause)) = IsUnserved (MeetsBadLink events) t.found cause
@@ -90,7 +90,7 @@ StepComes t events (Err fault.NoMemory) = Unit {0}
 StepComes t events _ = ⊥
 
 -- what the command comes to: the file isn't what it reads, or the inputs failed; else what the adding of its events comes to
-abbrev pub AppendComes : Asked → Touched → (file : List ℕ) → Result Thread CommandFault → Type 0
+abbrev pub AppendComes : Asked → FoundDisk → (file : List ℕ) → Result Thread CommandFault → Type 0
 AppendComes a t file (Err (fault.Unreadable (BadByte named place))) =
     (named ≡ file) × IsThere a.told file × ((bytes : List ℕ) → Tells a.told file bytes → IsBadEventsByte bytes place)
 AppendComes a t file (Err fault.InputFault) = Rose a.before a.after

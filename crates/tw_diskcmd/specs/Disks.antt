@@ -1,5 +1,5 @@
 -- What a disk reads as, what it stands for, and what a run leaves of it.
-use Rattle.std.specs.Prelude.{◌≡◌, ◌⊎◌, ℕ, List, Option, Some}
+use Rattle.std.specs.Prelude.{◌≡◌, ◌⊎◌, ℕ, List, Option, Some, Result, Ok, Err}
 use Rattle.sha2.specs.Sha256.{sha256}
 use Rattle.tw_base.specs.History.{History}
 use Rattle.tw_disk.specs.Disk.{DiskView, LeavesOnly, Only, Reads}
@@ -9,17 +9,19 @@ use Rattle.tw_pages.specs.declared.open.StoreFault.TheVariants as fault
 use Rattle.tw_skiplist.specs.declared.head.Head.{Head}
 use Rattle.tw_service.specs.Machine.{Call, NextOf}
 use Rattle.tw_service.specs.Stands.{IsBlankOrNew, IsNotOpenedFor, OpensFor, OpensWith, StandsFor, StandsForOneOf, no_history}
+use Rattle.tw_text.specs.declared.fault.CommandFault.{CommandFault}
+use Rattle.tw_text.specs.declared.fault.CommandFault.TheVariants.{Refused}
 use Rattle.tw_text.specs.declared.refusal.StoreCause.{StoreCause}
 use Rattle.tw_text.specs.declared.refusal.StoreCause.TheVariants.{Blank, NotAStore, BadPage}
 
 -- what a command met of a disk: what it read as at first, where it tells that, and how often it had failed before and after
-pub record Touched : Type 0 where
+pub record FoundDisk : Type 0 where
   pub found : Option Image
   pub before : ℕ
   pub after : ℕ
 
-abbrev pub touched : (found : Option Image) (before after : ℕ) → Touched
-touched found before after = record { found = found; before = before; after = after }
+abbrev pub found_disk : (found : Option Image) (before after : ℕ) → FoundDisk
+found_disk found before after = record { found = found; before = before; after = after }
 
 -- the image stands for the history, under its name
 abbrev pub IsOf : History → Image → Type 0
@@ -117,6 +119,12 @@ module _ {D : Type 0} (view : D → DiskView) where
   -- it reads as before, and a crash leaves nothing else than before
   abbrev pub IsLeft : (old new : D) → Type 0
   IsLeft old new = ((view new).content ≡ (view old).content) × LeavesOnly (view old) (view new) (view old).may_leave
+
+  -- what a command leaves that only reads: nothing was written, and where it was done or refused, the disk became stable
+  abbrev pub ReadLeaves : {X : Type 0} → (old new : D) → Result X CommandFault → Type 0
+  ReadLeaves old new (Ok value) = IsLeft old new × Settles old new
+  ReadLeaves old new (Err (Refused refusal)) = IsLeft old new × Settles old new
+  ReadLeaves old new _ = IsLeft old new
 
   -- a store that is there, that of a service or not, is left so, with writes pending or not
   abbrev pub SparesStore : (old new : D) → Type 0

@@ -11,7 +11,7 @@ use Rattle.tw_service.specs.Stands.{no_history}
 use Rattle.tw_text.specs.declared.refusal.Refusal.TheVariants.{Taken}
 use Rattle.tw_text.specs.declared.fault.CommandFault.{CommandFault}
 use Rattle.tw_text.specs.declared.fault.CommandFault.TheVariants.{Refused, DiskFault, NoMemory}
-use Rattle.tw_diskcmd.specs.Disks.{Begins, IsLeft, Keeps, MayBegin, SparesStore, Touched}
+use Rattle.tw_diskcmd.specs.Disks.{Begins, FoundDisk, IsLeft, Keeps, MayBegin, SparesStore}
 
 -- there was no store, where the disk tells what it reads as, and the thread is that of the history of this name without a step
 pub record MakesService (found : Option Image) (name : List ℕ) (thread : Thread) : Type 0 where
@@ -23,7 +23,7 @@ abbrev pub HasStore : (found : Option Image) → Type 0
 HasStore found = (image : Image) → found ≡ Some image → IsTaken image
 
 -- what it comes to; want of memory is free
-abbrev pub InitComes : Touched → (name : List ℕ) → Result Thread CommandFault → Type 0
+abbrev pub InitComes : FoundDisk → (name : List ℕ) → Result Thread CommandFault → Type 0
 InitComes t name (Ok thread) = MakesService t.found name thread
 InitComes t name (Err (Refused Taken)) = HasStore t.found
 InitComes t name (Err DiskFault) = Rose t.before t.after

@@ -1,4 +1,4 @@
--- `prove DIR event`: when an event of a service is proved, when it isn't, what the command comes to, and what it leaves of the disk.
+-- `prove DIR event`: when an event of a service is proved, when it isn't, and what the command comes to.
 use Rattle.std.specs.Prelude.{◌≡◌, ℕ, List, length, Option, Some, None, Result, Ok, Err, false}
 use Rattle.sha2.specs.Sha256.{sha256}
 use Rattle.tw_base.specs.declared.thread.Thread.{Thread}
@@ -8,7 +8,6 @@ use Rattle.tw_base.specs.History.{History}
 use Rattle.tw_chain.specs.Accepting.{Accepts}
 use Rattle.tw_skipproof.specs.HistoryProofs.{MakesExistence}
 use Rattle.tw_base.specs.Faults.{Rose}
-use Rattle.tw_disk.specs.Disk.{DiskView}
 use Rattle.tw_disk.specs.Image.{Image}
 use Rattle.tw_skiplist.specs.declared.head.Head.{Head}
 use Rattle.tw_service.specs.declared.refusal.Refusal.{Refusal as ServiceRefusal}
@@ -23,7 +22,7 @@ use Rattle.tw_text.specs.declared.refusal.Refusal.{Refusal}
 use Rattle.tw_text.specs.declared.refusal.Refusal.TheVariants.{NoStep, NoEvent}
 use Rattle.tw_text.specs.declared.fault.CommandFault.{CommandFault}
 use Rattle.tw_text.specs.declared.fault.CommandFault.TheVariants as fault
-use Rattle.tw_diskcmd.specs.Disks.{IsLeft, IsUnserved, OpensAsService, OpensAsServiceWith, ReadsAs, Settles, Touched}
+use Rattle.tw_diskcmd.specs.Disks.{FoundDisk, IsUnserved, OpensAsService, OpensAsServiceWith, ReadsAs}
 
 -- the top that the words give, or the last step where they give none
 abbrev pub top_of : (top : Option ℕ) → (last : ℕ) → ℕ
@@ -78,17 +77,10 @@ MeetsBadPage step index top pages name head page =
     (order_refusal false head.step step (top_of top head.step) ≡ None) × (event_proof sha256 pages name head step index (top_of top head.step) ≡ Bad page)
 
 -- what it comes to; want of memory is free
-abbrev pub ProveComes : Touched → (step index : ℕ) (top : Option ℕ) → Result (List ℕ) CommandFault → Type 0
+abbrev pub ProveComes : FoundDisk → (step index : ℕ) (top : Option ℕ) → Result (List ℕ) CommandFault → Type 0
 ProveComes t step index top (Ok proof) = Proves t.found step index top proof
 ProveComes t step index top (Err (fault.Refused refusal)) = RefusesProof t.found step index top refusal
 ProveComes t step index top (Err (fault.Unserved cause)) = IsUnserved (MeetsBadPage step index top) t.found cause
 ProveComes t step index top (Err fault.DiskFault) = Rose t.before t.after
 ProveComes t step index top (Err fault.NoMemory) = Unit {0}
 ProveComes t step index top _ = ⊥
-
-module _ {D : Type 0} (view : D → DiskView) (old new : D) where
-  -- a proof writes nothing, and where it was made or refused, the disk became stable
-  abbrev pub ProveLeaves : Result (List ℕ) CommandFault → Type 0
-  ProveLeaves (Ok proof) = IsLeft view old new × Settles view old new
-  ProveLeaves (Err (fault.Refused refusal)) = IsLeft view old new × Settles view old new
-  ProveLeaves _ = IsLeft view old new

@@ -7,7 +7,7 @@ use Rattle.tw_outside.specs.Asked.{Asked}
 use Rattle.tw_text.specs.declared.fault.CommandFault.{CommandFault}
 use Rattle.tw_text.specs.declared.fault.CommandFault.TheVariants.{Unreadable, InputFault, DiskFault, NoMemory}
 use Rattle.tw_diskcmd.specs.Appending.{AppendComes}
-use Rattle.tw_diskcmd.specs.Disks.{LeavesOldOrOneOf, ReadsAsOneOf, Rests, Touched}
+use Rattle.tw_diskcmd.specs.Disks.{FoundDisk, LeavesOldOrOneOf, ReadsAsOneOf, Rests}
 
 -- the command stops before the disk is touched
 abbrev pub IsStop : CommandFault → Type 0
@@ -19,11 +19,11 @@ IsStop _ = ⊥
 -- what comes of an events file that isn't read or is none, over whatever disk
 pub record ComesOfFile (a : Asked) (file : List ℕ) (fault : CommandFault) : Type 0 where
   pub stops : IsStop fault
-  pub comes : (t : Touched) → AppendComes a t file (Err fault)
+  pub comes : (t : FoundDisk) → AppendComes a t file (Err fault)
 
--- the results of an adding that wrote nothing
-abbrev pub WritesNothing : Result Thread CommandFault → Type 0
-WritesNothing (Ok thread) = ⊥
+-- the results of a command of which nothing was made and no disk failed
+abbrev pub WritesNothing : {X : Type 0} → Result X CommandFault → Type 0
+WritesNothing (Ok value) = ⊥
 WritesNothing (Err DiskFault) = ⊥
 WritesNothing _ = Unit {0}
 

@@ -7,10 +7,10 @@ ghost use Rattle.tw_disk.specs.Image.{Image};
 ghost use Rattle.tw_outside.specs.Asked.{asked};
 ghost use Rattle.tw_service.specs.Serves.{Serves, disk_of, has_failed, head_of, name_of, pages_of};
 ghost use Rattle.tw_diskcmd.specs.Appending.{AppendComes, AppendLeaves, AreEventsOf, StepComes};
-ghost use Rattle.tw_diskcmd.specs.Disks.{IsLeft, OpensAsServiceWith, ReadsAs, touched};
+ghost use Rattle.tw_diskcmd.specs.Disks.{IsLeft, OpensAsServiceWith, ReadsAs, found_disk};
 ghost use Rattle.tw_diskcmd.specs.WorkSteps.{ComesOfFile, LeavesStep, WritesNothing};
 
-use crate::faults::{fault_of_service, fault_of_store, refuse_byte};
+use crate::faults::{bad_byte, fault_of_service, fault_of_store};
 use crate::limits::{EVENTS_LIMIT, EVENTS_READ};
 use crate::worked::Worked;
 use std::alloc::Global;
@@ -33,7 +33,7 @@ pub fn append<D: Disk, I: Inputs>(
     // What `append` comes to is what its file, the disk and the counts of faults allow: the thread of the new step, or
     // a fault with its cause.
     ensures comes { AppendComes (asked (I.told inputs.old) (I.faults inputs.old) (I.faults inputs.new))
-        (touched (D.view disk).content (D.view disk).faults (D.view result.disk).faults) file.now result.outcome }
+        (found_disk (D.view disk).content (D.view disk).faults (D.view result.disk).faults) file.now result.outcome }
     // It leaves the disk as is right for what it came to.
     ensures leaves { AppendLeaves D.view disk result.disk (I.told inputs.old) file.now result.outcome }
 {
@@ -58,18 +58,18 @@ fn read_step<I: Inputs>(
 {
     let bytes = read_all(alloc, inputs, file, EVENTS_READ)?;
     if bytes.len() > EVENTS_LIMIT {
-        return Err(refuse_byte(alloc, file, EVENTS_LIMIT as u64));
+        return Err(bad_byte(alloc, file, EVENTS_LIMIT as u64)?);
     }
     match read_events(alloc, bytes.as_slice()) {
         Ok(events) => Ok(events),
-        Err(ReadFault::Malformed { place }) => Err(refuse_byte(alloc, file, place)),
+        Err(ReadFault::Malformed { place }) => Err(bad_byte(alloc, file, place)?),
         Err(ReadFault::NoMemory) => Err(CommandFault::NoMemory),
     }
 }
 
 /// Adds a step of these events to the service on the disk.
 fn append_events<D: Disk>(alloc: Global, disk: D, events: &EventList) -> Worked<D, Thread>
-    ensures comes { StepComes (touched (D.view disk).content (D.view disk).faults (D.view result.disk).faults) events.now result.outcome }
+    ensures comes { StepComes (found_disk (D.view disk).content (D.view disk).faults (D.view result.disk).faults) events.now result.outcome }
     ensures leaves { (h : History) → ReadsAs (D.view disk).content h
         → LeavesStep D.view disk result.disk h (with_events h events.now) result.outcome }
     ensures unwritten { WritesNothing result.outcome → IsLeft D.view disk result.disk }
@@ -88,7 +88,7 @@ fn append_to<D: Disk>(service: Service<D, Sha>, events: &EventList) -> Worked<D,
     requires { has_failed service ≡ false }
     ensures comes { (found : Option Image) (before : ℕ) → OpensAsServiceWith found (name_of service) (head_of service) (λ ps. pages_of D.view service ≡ Some ps)
         → ((h : History) → ReadsAs found h → Serves sha256 D.view service h) → before ≤ (D.view (disk_of service)).faults
-        → StepComes (touched found before (D.view result.disk).faults) events.now result.outcome }
+        → StepComes (found_disk found before (D.view result.disk).faults) events.now result.outcome }
     ensures leaves { (h : History) → Serves sha256 D.view service h
         → LeavesStep D.view (disk_of service) result.disk h (with_events h events.now) result.outcome }
     ensures unwritten { WritesNothing result.outcome → IsLeft D.view (disk_of service) result.disk }

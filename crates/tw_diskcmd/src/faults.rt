@@ -1,8 +1,7 @@
 // Faults of stores, refusals of services and bad files, as the command's.
 
-ghost use Rattle.std.specs.Prelude.{◌≡◌};
+ghost use Rattle.std.specs.Prelude.{◌≡◌, IfOk};
 ghost use Rattle.tw_diskcmd.specs.Faults.{fault_of_service as fault_of_refusal, fault_of_store as fault_of_store_fault};
-ghost use Rattle.tw_text.specs.Faults.{IsWhereMemory};
 ghost use Rattle.tw_text.specs.declared.fault.CommandFault.TheVariants.{Unreadable};
 ghost use Rattle.tw_text.specs.declared.refusal.BadInput.TheVariants.{BadByte};
 
@@ -44,11 +43,9 @@ pub(crate) fn fault_of_service(refusal: ServiceRefusal) -> CommandFault
 }
 
 /// The fault of a file that goes on at this byte as no word of its format does.
-pub(crate) fn refuse_byte(alloc: Global, file: &str, place: u64) -> CommandFault
-    ensures { IsWhereMemory (Unreadable (BadByte file.now place)) result }
+pub(crate) fn bad_byte(alloc: Global, file: &str, place: u64) -> Result<CommandFault, NoMemory>
+    ensures { IfOk result (λ fault. fault ≡ Unreadable (BadByte file.now place)) }
 {
-    match Bytes::from_slice(alloc, file.as_bytes()) {
-        Ok(file) => CommandFault::Unreadable(BadInput::BadByte { file, place }),
-        Err(NoMemory) => CommandFault::NoMemory,
-    }
+    let file = Bytes::from_slice(alloc, file.as_bytes())?;
+    Ok(CommandFault::Unreadable(BadInput::BadByte { file, place }))
 }

@@ -6,7 +6,7 @@ ghost use Rattle.tw_disk.specs.Image.{Image};
 ghost use Rattle.tw_text.specs.declared.fault.CommandFault.{CommandFault};
 ghost use Rattle.tw_diskcmd.specs.Agreeing.{Agrees, HasSameService, TellsContent};
 ghost use Rattle.tw_diskcmd.specs.Appending.{StepComes};
-ghost use Rattle.tw_diskcmd.specs.Disks.{IsLeft, Keeps, touched};
+ghost use Rattle.tw_diskcmd.specs.Disks.{IsLeft, Keeps, found_disk};
 ghost use Rattle.tw_diskcmd.specs.Proving.{ProveComes};
 
 use tw_disk::Disk;
@@ -19,17 +19,17 @@ pub fn told_laws()
     // service and number, one refusal with its number, or one reason of status 8 with its slot or page. So each of
     // these comes exactly where it stands, but for a disk fault, want of memory and status 4.
     ensures adding { (image : Image) (events : List (List ℕ)) (before after : ℕ) (one other : Result Thread CommandFault) → TellsContent one → TellsContent other →
-        StepComes (touched (Some image) before after) events one → StepComes (touched (Some image) before after) events other → Agrees HasSameService one other }
+        StepComes (found_disk (Some image) before after) events one → StepComes (found_disk (Some image) before after) events other → Agrees HasSameService one other }
     // Over a disk that tells its content, what `prove` comes to is one thing: a proof of the same bytes, one refusal
     // with its number, or one reason of status 8 with its slot or page. So each of these comes exactly where it stands,
     // but for a disk fault, want of memory and status 4.
     ensures proving { (image : Image) (step index : ℕ) (top : Option ℕ) (before after : ℕ) (one other : Result (List ℕ) CommandFault) → TellsContent one → TellsContent other →
-        ProveComes (touched (Some image) before after) step index top one → ProveComes (touched (Some image) before after) step index top other → Agrees (λ proof same. proof ≡ same) one other }
+        ProveComes (found_disk (Some image) before after) step index top one → ProveComes (found_disk (Some image) before after) step index top other → Agrees (λ proof same. proof ≡ same) one other }
 {}
 
 /// A disk that is left as it was keeps the history that it stands for.
 pub fn idle_laws<D: Disk>()
     // A run that leaves a disk as it was keeps the history that the disk stood for: it stands for it still, for good,
     // and one at rest is still at rest. So at every other status than 0, 4 and 5, by `unwritten` of `run`.
-    ensures { (old new : D) → IsLeft D.view old new → Keeps D.view old new }
+    ensures kept { (old new : D) → IsLeft D.view old new → Keeps D.view old new }
 {}

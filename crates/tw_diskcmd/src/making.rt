@@ -4,7 +4,7 @@ ghost use Rattle.std.specs.Prelude.{◌≡◌};
 ghost use Rattle.sha2.specs.Sha256.{sha256};
 ghost use Rattle.tw_service.specs.Machine.{last_thread};
 ghost use Rattle.tw_service.specs.Stands.{no_history};
-ghost use Rattle.tw_diskcmd.specs.Disks.{touched};
+ghost use Rattle.tw_diskcmd.specs.Disks.{found_disk};
 ghost use Rattle.tw_diskcmd.specs.Making.{InitComes, InitLeaves};
 
 use crate::faults::fault_of_store;
@@ -18,7 +18,7 @@ use tw_service::Service;
 pub fn make<D: Disk>(alloc: Global, disk: D, name: Name) -> Worked<D, Thread>
     // What `init` comes to is what the disk and its count of faults allow: the thread of step 0, or a fault with its
     // cause.
-    ensures comes { InitComes (touched (D.view disk).content (D.view disk).faults (D.view result.disk).faults) name result.outcome }
+    ensures comes { InitComes (found_disk (D.view disk).content (D.view disk).faults (D.view result.disk).faults) name result.outcome }
     // It leaves the disk as is right for what it came to.
     ensures leaves { InitLeaves D.view disk result.disk name result.outcome }
 {

@@ -5,8 +5,8 @@ ghost use Rattle.sha2.specs.Sha256.{sha256};
 ghost use Rattle.tw_base.specs.History.{History};
 ghost use Rattle.tw_disk.specs.Image.{Image};
 ghost use Rattle.tw_service.specs.Serves.{Serves, disk_of, has_failed, head_of, name_of, pages_of};
-ghost use Rattle.tw_diskcmd.specs.Disks.{IsLeft, OpensAsServiceWith, ReadsAs, Rests, touched};
-ghost use Rattle.tw_diskcmd.specs.Proving.{ProveComes, ProveLeaves, top_of};
+ghost use Rattle.tw_diskcmd.specs.Disks.{IsLeft, OpensAsServiceWith, ReadLeaves, ReadsAs, Rests, found_disk};
+ghost use Rattle.tw_diskcmd.specs.Proving.{ProveComes, top_of};
 
 use crate::faults::{fault_of_service, fault_of_store};
 use crate::worked::Worked;
@@ -25,9 +25,9 @@ pub fn prove<D: Disk>(
     top: Option<u64>,
 ) -> Worked<D, Bytes>
     // What `prove` comes to is what the disk and its count of faults allow: the proof, or a fault with its cause.
-    ensures comes { ProveComes (touched (D.view disk).content (D.view disk).faults (D.view result.disk).faults) step index top result.outcome }
-    // It leaves the disk as is right for what it came to.
-    ensures leaves { ProveLeaves D.view disk result.disk result.outcome }
+    ensures comes { ProveComes (found_disk (D.view disk).content (D.view disk).faults (D.view result.disk).faults) step index top result.outcome }
+    // It writes nothing. Where it made a proof or was refused, the disk stands for the history that it read as, at rest.
+    ensures leaves { ReadLeaves D.view disk result.disk result.outcome }
 {
     match Service::<D, Sha>::open(alloc, disk) {
         Ok(service) => prove_by(service, step, index, top),
@@ -49,7 +49,7 @@ fn prove_by<D: Disk>(
     requires { has_failed service ≡ false }
     ensures comes { (found : Option Image) (before : ℕ) → OpensAsServiceWith found (name_of service) (head_of service) (λ ps. pages_of D.view service ≡ Some ps)
         → ((h : History) → ReadsAs found h → Serves sha256 D.view service h) → before ≤ (D.view (disk_of service)).faults
-        → ProveComes (touched found before (D.view result.disk).faults) step index top result.outcome }
+        → ProveComes (found_disk found before (D.view result.disk).faults) step index top result.outcome }
     ensures leaves { IsLeft D.view (disk_of service) result.disk }
     ensures rests { (h : History) → Serves sha256 D.view service h → Rests D.view result.disk h }
 {

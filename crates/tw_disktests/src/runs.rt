@@ -119,3 +119,18 @@ fn a_read_of_the_proof_fails_behind_the_anchors(rt: HostRuntime) {
         b"fault input\n",
     );
 }
+
+#[test]
+fn strict_judges_under_a_file_of_anchors(rt: HostRuntime) {
+    let alloc = rt.alloc();
+    let mut inputs = inputs(&rt, alloc);
+    inputs.put("k", LINE.as_bytes()).expect(&rt, "memory");
+    expect_over(
+        &rt,
+        alloc,
+        &mut inputs,
+        &["strict", "p", "k"],
+        0,
+        b"accepted exists\nevent a 1 0 -\n",
+    );
+}

@@ -8,7 +8,7 @@ use std::process::Abort;
 use std::test::Fail;
 use tw_base::{Bytes, Digest, EventList, Name, NoMemory, Root, Sha, event_leaf, genesis};
 use tw_disk::{MemPages, Pages};
-use tw_skiplist::{Head, ListFault, append, events, path, prove, step};
+use tw_skiplist::{Head, ListFault, StepInfo, append, events, path, prove, step};
 use tw_skipproof::{check_opening, climb};
 
 /// The archive of each step: a label, and a root in page 3.
@@ -73,46 +73,94 @@ fn fault_at(alloc: Global, pages: &mut MemPages, head: &Head, i: u64) -> Option<
     step::<MemPages, Sha>(alloc, pages, head, i).err()
 }
 
+/// Whether it is the page of a first step, behind the page of its event.
+fn lies_first(info: &StepInfo) -> bool {
+    info.page == 5 && info.stream.page == 4 && info.stream.size == 5
+}
+
+/// Whether this is told of a step of one event, which is the last one.
+fn is_of_one_event(info: &StepInfo, head: &Head) -> bool {
+    info.count == 1
+        && info.event_root == event_leaf::<Sha>(&[9])
+        && info.archive == ARCHIVE
+        && info.auth == head.auth
+}
+
 #[test]
 fn a_step_is_told(rt: HostRuntime) -> Result<(), Fail> {
     let mut pages = MemPages::new(rt.alloc())?;
     let head = steps(rt.alloc(), &mut pages, 1)?;
-    assert_eq!(rt; head.page, 5);
     let info = step::<MemPages, Sha>(rt.alloc(), &mut pages, &head, 1)?;
-    assert_eq!(rt; info.page, 5);
-    assert_eq!(rt; info.stream.page, 4);
-    assert_eq!(rt; info.stream.size, 5);
-    assert_eq!(rt; info.count, 1);
-    assert_eq!(rt; info.event_root, event_leaf::<Sha>(&[9]));
-    assert_eq!(rt; info.archive, ARCHIVE);
-    assert_eq!(rt; info.auth, head.auth);
-    assert_eq!(rt; check_opening::<Sha>(&info.opening, 1), Some(head.auth));
+    assert!(rt; lies_first(&info));
+    assert!(rt; is_of_one_event(&info, &head));
+    assert!(rt; check_opening::<Sha>(&info.opening, 1) == Some(head.auth));
     Ok(())
+}
+
+/// How many links the path from step 48 down to step 1 has.
+fn links_from_48(alloc: Global, pages: &mut MemPages, head: &Head) -> Option<usize>
+    requires { head.now.step ≤ 1000 }
+{
+    match path::<MemPages, Sha>(alloc, pages, head, 48, 1) {
+        Ok(path) => Some(path.links.as_slice().len()),
+        Err(_) => None,
+    }
+}
+
+/// The authenticator of step 63 that a proof of step 1 under it leads up to.
+fn proved_under_63(alloc: Global, pages: &mut MemPages, head: &Head) -> Option<Digest>
+    requires { head.now.step ≤ 1000 }
+{
+    match prove::<MemPages, Sha>(alloc, pages, head, 63, 1) {
+        Ok(proof) => climb::<Sha>(&proof.path, 63, 1, &proof.info.auth),
+        Err(_) => None,
+    }
+}
+
+/// How many events step 1 has.
+fn events_of_first(alloc: Global, pages: &mut MemPages, head: &Head) -> Option<usize>
+    requires { head.now.step ≤ 1000 }
+{
+    match events::<MemPages, Sha>(alloc, pages, head, 1) {
+        Ok(events) => Some(events.len()),
+        Err(_) => None,
+    }
 }
 
 // From step 63 down to step 48 the greedy path has 4 links, and from there down to step 1 it has 6.
 #[test]
-fn each_page_is_read_once(rt: HostRuntime) -> Result<(), Fail> {
+fn a_step_and_a_path_read_each_page_once(rt: HostRuntime) -> Result<(), Fail> {
     let mut pages = MemPages::new(rt.alloc())?;
     let head = steps(rt.alloc(), &mut pages, 63)?;
     let start = pages.reads();
     assert_eq!(rt; fault_at(rt.alloc(), &mut pages, &head, 1), None);
     assert_eq!(rt; pages.reads(), start.saturating_add(11));
-    let path = path::<MemPages, Sha>(rt.alloc(), &mut pages, &head, 48, 1)?;
-    assert_eq!(rt; path.links.as_slice().len(), 6);
+    assert_eq!(rt; links_from_48(rt.alloc(), &mut pages, &head), Some(6));
     assert_eq!(rt; pages.reads(), start.saturating_add(21));
-    let proof = prove::<MemPages, Sha>(rt.alloc(), &mut pages, &head, 63, 1)?;
-    assert_eq!(rt;
-        climb::<Sha>(&proof.path, 63, 1, &proof.info.auth),
-        Some(head.auth)
-    );
-    assert_eq!(rt; pages.reads(), start.saturating_add(32));
-    let events = events::<MemPages, Sha>(rt.alloc(), &mut pages, &head, 1)?;
-    assert_eq!(rt; events.len(), 1);
-    assert_eq!(rt; pages.reads(), start.saturating_add(44));
+    Ok(())
+}
+
+#[test]
+fn a_proof_and_events_read_each_page_once(rt: HostRuntime) -> Result<(), Fail> {
+    let mut pages = MemPages::new(rt.alloc())?;
+    let head = steps(rt.alloc(), &mut pages, 63)?;
+    let start = pages.reads();
+    let proved = proved_under_63(rt.alloc(), &mut pages, &head);
+    assert!(rt; proved == Some(head.auth));
+    assert_eq!(rt; pages.reads(), start.saturating_add(11));
+    assert_eq!(rt; events_of_first(rt.alloc(), &mut pages, &head), Some(1));
+    assert_eq!(rt; pages.reads(), start.saturating_add(23));
+    Ok(())
+}
+
+#[test]
+fn an_append_reads_the_pages_of_its_links(rt: HostRuntime) -> Result<(), Fail> {
+    let mut pages = MemPages::new(rt.alloc())?;
+    let head = steps(rt.alloc(), &mut pages, 63)?;
+    let start = pages.reads();
     let next = add(rt.alloc(), &mut pages, &head)?;
     assert_eq!(rt; next.step, 64);
-    assert_eq!(rt; pages.reads(), start.saturating_add(50));
+    assert_eq!(rt; pages.reads(), start.saturating_add(6));
     Ok(())
 }
 

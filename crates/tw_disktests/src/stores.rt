@@ -1,7 +1,6 @@
 // A store whose commit is stopped, on a disk in memory.
 
 use std::alloc::Global;
-use std::process::Abort;
 use std::test::Fail;
 use tw_disk::{Failed, MemDisk, NoMemory, Pages};
 use tw_pages::{CommitFault, Store, StoreFault};
@@ -32,40 +31,85 @@ fn commit_byte(store: &mut Store<MemDisk>, byte: u8) -> Result<(), CommitFault> 
     store.commit(&[byte])
 }
 
-// The disk of a store with one page, committed with the root record 2: ten device calls make the store, and seven the commit.
-fn disk_of_a_page(rt: &impl Abort, alloc: Global) -> MemDisk {
-    let Ok(mut store) = Store::init(alloc, MemDisk::new(alloc), &[1]) else {
-        panic!(rt; "no store");
-    };
-    assert_eq!(rt; stage_byte(&mut store, 7), Ok(4));
-    assert_eq!(rt; commit_byte(&mut store, 2), Ok(()));
-    let disk = store.close();
+// A new store on this disk.
+fn init(alloc: Global, disk: MemDisk) -> Option<Store<MemDisk>> {
+    match Store::init(alloc, disk, &[1]) {
+        Ok(store) => Some(store),
+        Err((_, _)) => None,
+    }
+}
+
+// Why no store is made on this disk.
+fn fault_of_init(alloc: Global, disk: MemDisk) -> Option<StoreFault> {
+    match Store::init(alloc, disk, &[1]) {
+        Ok(_) => None,
+        Err((_, fault)) => Some(fault),
+    }
+}
+
+// The store on this disk.
+fn open(alloc: Global, disk: MemDisk) -> Option<Store<MemDisk>> {
+    match Store::open(alloc, disk) {
+        Ok(store) => Some(store),
+        Err((_, _)) => None,
+    }
+}
+
+// The disk of a store with one page, committed with the root record 2.
+fn disk_of_a_page(alloc: Global) -> Option<MemDisk> {
+    let mut store = init(alloc, MemDisk::new(alloc))?;
+    let _ = stage_byte(&mut store, 7);
+    let _ = commit_byte(&mut store, 2);
+    Some(store.close())
+}
+
+// The store on it, which is stopped at the fourth call, with one more page staged.
+fn store_to_be_stopped(alloc: Global) -> Option<Store<MemDisk>> {
+    let mut disk = disk_of_a_page(alloc)?;
+    disk.stop_at(4);
+    let mut store = open(alloc, disk)?;
+    let _ = stage_byte(&mut store, 9);
+    Some(store)
+}
+
+// The disk after a commit of it was stopped, and a crash.
+fn disk_after_a_stop(alloc: Global) -> Option<MemDisk> {
+    let mut store = store_to_be_stopped(alloc)?;
+    let _ = commit_byte(&mut store, 3);
+    let mut disk = store.close();
+    disk.crash(2);
+    Some(disk)
+}
+
+#[test]
+fn a_store_takes_ten_calls_and_a_commit_seven(rt: HostRuntime) -> Result<(), Fail> {
+    let disk = disk_of_a_page(rt.alloc()).ok_or("no store")?;
     assert_eq!(rt; disk.device_calls(), 17);
-    disk
+    Ok(())
+}
+
+#[test]
+fn a_commit_that_is_stopped(rt: HostRuntime) -> Result<(), Fail> {
+    let mut store = store_to_be_stopped(rt.alloc()).ok_or("no store")?;
+    assert_eq!(rt; store.used(), 6);
+    assert_eq!(rt; commit_byte(&mut store, 3), Err(CommitFault::DiskFault));
+    assert_eq!(rt; commit_byte(&mut store, 3), Err(CommitFault::Reopen));
+    Ok(())
 }
 
 #[test]
 fn a_stopped_commit_reopens_as_the_store_before_it(rt: HostRuntime) -> Result<(), Fail> {
-    let alloc = rt.alloc();
-    let mut disk = disk_of_a_page(&rt, alloc);
-    disk.stop_at(4);
-    let Ok(mut store) = Store::open(alloc, disk) else {
-        panic!(rt; "not opened");
-    };
-    assert_eq!(rt; stage_byte(&mut store, 9)?, 5);
-    assert_eq!(rt; commit_byte(&mut store, 3), Err(CommitFault::DiskFault));
-    assert_eq!(rt; commit_byte(&mut store, 3), Err(CommitFault::Reopen));
-    let mut disk = store.close();
-    disk.crash(2);
-    let Ok(mut store) = Store::open(alloc, disk) else {
-        panic!(rt; "not opened again");
-    };
-    assert_eq!(rt; store.root(), [2].as_slice());
-    assert_eq!(rt; byte_at(&mut store, 4)?, Some(7));
-    assert_eq!(rt; byte_at(&mut store, 5)?, None);
-    let Err((_disk, fault)) = Store::init(alloc, store.close(), &[1]) else {
-        panic!(rt; "made anew");
-    };
-    assert_eq!(rt; fault, StoreFault::Taken);
+    let disk = disk_after_a_stop(rt.alloc()).ok_or("no store")?;
+    let mut store = open(rt.alloc(), disk).ok_or("not opened again")?;
+    assert!(rt; store.root() == [2].as_slice());
+    assert!(rt; byte_at(&mut store, 4) == Ok(Some(7)));
+    assert!(rt; byte_at(&mut store, 5) == Ok(None));
+    Ok(())
+}
+
+#[test]
+fn a_store_is_made_once(rt: HostRuntime) -> Result<(), Fail> {
+    let disk = disk_after_a_stop(rt.alloc()).ok_or("no store")?;
+    assert_eq!(rt; fault_of_init(rt.alloc(), disk), Some(StoreFault::Taken));
     Ok(())
 }

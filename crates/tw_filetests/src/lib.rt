@@ -10,8 +10,6 @@ mod events;
 #[cfg(test)]
 mod failing;
 #[cfg(test)]
-mod fields;
-#[cfg(test)]
 mod histories;
 #[cfg(test)]
 mod labels;

@@ -1,9 +1,9 @@
-// Tests of the readers at a place that moves.
+// Readers at a place that moves, each once where it takes memory; the acceptance run changes and cuts each byte of what they read.
 
 use std::test::Fail;
 use tw_base::{
-    Bytes, Content, Digest, ReadFault, put_number, put_sized, put_text, put_time, take_bytes,
-    take_flag, take_labels, take_number, take_recorded, take_sized, take_slice, take_time,
+    Bytes, Content, Digest, ReadFault, put_number, put_sized, put_text, take_bytes, take_labels,
+    take_number, take_recorded, take_sized, take_slice,
 };
 
 #[test]
@@ -35,18 +35,6 @@ fn runs_of_bytes(rt: HostRuntime) -> Result<(), Fail> {
 }
 
 #[test]
-fn byte_string_at_a_place(rt: HostRuntime) -> Result<(), Fail> {
-    let mut at = 4;
-    let bytes = take_bytes(rt.alloc(), b"timeweave", &mut at, 5)?;
-    assert_eq!(rt; bytes.as_slice(), b"weave".as_slice());
-    match take_bytes(rt.alloc(), b"timeweave", &mut 4, 6) {
-        Ok(_) => panic!(rt; "six bytes"),
-        Err(fault) => assert_eq!(rt; fault, ReadFault::Malformed { place: 9 }),
-    }
-    Ok(())
-}
-
-#[test]
 fn events_of_a_step(rt: HostRuntime) -> Result<(), Fail> {
     let bytes = [3, 0, 0, 0, 0, 0, 0, 0, 5, 0, 0, 0, 1, 0, 0, 0, 2, 104, 105];
     let mut at = 0;
@@ -57,20 +45,5 @@ fn events_of_a_step(rt: HostRuntime) -> Result<(), Fail> {
         Content::Received(_) => assert!(rt; false),
     }
     assert_eq!(rt; at, 19);
-    Ok(())
-}
-
-#[test]
-fn flags_and_times(rt: HostRuntime) -> Result<(), Fail> {
-    let mut bytes = Bytes::new(rt.alloc());
-    put_time(&mut bytes, Some(5))?;
-    put_time(&mut bytes, None)?;
-    assert_eq!(rt; bytes.len(), 8);
-    let timed = take_flag(&[128], &mut 0)?;
-    assert_eq!(rt; take_time(bytes.as_slice(), &mut 0, timed)?, Some(5));
-    let other = take_flag(&[127], &mut 0);
-    assert_eq!(rt; other, Err(ReadFault::Malformed { place: 0 }));
-    let late = take_time(&[0, 0, 1, 0, 0, 0, 0, 0], &mut 0, true);
-    assert_eq!(rt; late, Err(ReadFault::Malformed { place: 2 }));
     Ok(())
 }

@@ -1,5 +1,5 @@
 -- The existence proof that a history has of an event is accepted under the history's authenticator of the top, and is spelled.
-use Rattle.std.proofs.Common.{refl, ◌≡◌, ℕ, suc, zero, ◌-◌, ◌<◌, ◌≤◌, ◌^◌, List, [], length, sym, subst, arith, lit≤}
+use Rattle.std.proofs.Common.{refl, ◌≡◌, ℕ, suc, zero, ◌<◌, ◌≤◌, ◌^◌, List, [], length, sym, subst, arith, lit≤}
 use Rattle.std.specs.Prelude.{slice_index_or}
 use Rattle.std.proofs.lemmas.Option.{slice_get-get_or}
 use Rattle.tw_base.specs.declared.event_part.EventPart.{EventPart}

@@ -1,42 +1,42 @@
 use Rattle.std.proofs.Common.{refl}
-use Rattle.tw_app.proofs.Endings.{built, complete, disk_fault, event_proved, event_shown, input_fault, no_memory, output_fault, refused, rejected, unreadable, unserved, usage}
+use Rattle.tw_app.proofs.Endings.{built, complete, cut_short, disk_fault, done, input_fault, no_memory, output_fault, refused, rejected, unreadable, unserved, usage}
 use Rattle.tw_app.proofs.laws.status_laws.Goals as goal
 
 pub returns-clause-built : goal.returns-clause-built
-returns-clause-built c = λ a outcome e. built a 0 outcome e refl
+returns-clause-built g c = λ a run. built g.D.Disk.view g.met.D.Disk.only_now g.met.D.Disk.as_it_reads a 0 run refl
 
-pub returns-clause-shown : goal.returns-clause-shown
-returns-clause-shown c = λ a outcome e. event_shown a 0 outcome e refl
-
-pub returns-clause-proved : goal.returns-clause-proved
-returns-clause-proved c = λ a outcome e. event_proved a 0 outcome e refl
+pub returns-clause-done : goal.returns-clause-done
+returns-clause-done g c = λ a run. done g.D.Disk.view g.met.D.Disk.only_now g.met.D.Disk.as_it_reads a 0 run refl
 
 pub returns-clause-rejected : goal.returns-clause-rejected
-returns-clause-rejected c = λ a outcome e. rejected a 1 outcome e refl
+returns-clause-rejected g c = λ a run. rejected g.D.Disk.view g.met.D.Disk.only_now g.met.D.Disk.as_it_reads a 1 run refl
 
 pub returns-clause-usage : goal.returns-clause-usage
-returns-clause-usage c = λ a outcome e. usage a 2 outcome e refl
+returns-clause-usage g c = λ a run. usage g.D.Disk.view g.met.D.Disk.only_now g.met.D.Disk.as_it_reads a 2 run refl
 
 pub returns-clause-input_fault : goal.returns-clause-input_fault
-returns-clause-input_fault c = λ a outcome e. input_fault a 3 outcome e refl
+returns-clause-input_fault g c = λ a run. input_fault g.D.Disk.view g.met.D.Disk.only_now g.met.D.Disk.as_it_reads a 3 run refl
 
 pub returns-clause-output_fault : goal.returns-clause-output_fault
-returns-clause-output_fault c = λ a outcome e. output_fault a 4 outcome e refl
+returns-clause-output_fault g c = λ a run. output_fault g.D.Disk.view g.met.D.Disk.only_now g.met.D.Disk.as_it_reads a 4 run refl
+
+pub returns-clause-cut_short : goal.returns-clause-cut_short
+returns-clause-cut_short g c = λ a run. cut_short g.D.Disk.view g.met.D.Disk.only_now g.met.D.Disk.as_it_reads a 4 run
 
 pub returns-clause-disk_fault : goal.returns-clause-disk_fault
-returns-clause-disk_fault c = λ a outcome e. disk_fault a 5 outcome e refl
+returns-clause-disk_fault g c = λ a run. disk_fault g.D.Disk.view g.met.D.Disk.only_now g.met.D.Disk.as_it_reads a 5 run refl
 
 pub returns-clause-no_memory : goal.returns-clause-no_memory
-returns-clause-no_memory c = λ a outcome e. no_memory a 6 outcome e refl
+returns-clause-no_memory g c = λ a run. no_memory g.D.Disk.view g.met.D.Disk.only_now g.met.D.Disk.as_it_reads a 6 run refl
 
 pub returns-clause-refused : goal.returns-clause-refused
-returns-clause-refused c = λ a outcome e. refused a 7 outcome e refl
+returns-clause-refused g c = λ a run. refused g.D.Disk.view g.met.D.Disk.only_now g.met.D.Disk.as_it_reads a 7 run refl
 
 pub returns-clause-store : goal.returns-clause-store
-returns-clause-store c = λ a outcome e. unserved a 8 outcome e refl
+returns-clause-store g c = λ a run. unserved g.D.Disk.view g.met.D.Disk.only_now g.met.D.Disk.as_it_reads a 8 run refl
 
 pub returns-clause-complete : goal.returns-clause-complete
-returns-clause-complete c = λ a outcome e. complete a 8 outcome e refl
+returns-clause-complete g c = λ a run. complete g.D.Disk.view g.met.D.Disk.only_now g.met.D.Disk.as_it_reads a 8 run refl
 
 pub returns-clause-unreadable : goal.returns-clause-unreadable
-returns-clause-unreadable c = λ a outcome e. unreadable a 9 outcome e refl
+returns-clause-unreadable g c = λ a run. unreadable g.D.Disk.view g.met.D.Disk.only_now g.met.D.Disk.as_it_reads a 9 run refl

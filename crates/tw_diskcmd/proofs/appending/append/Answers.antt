@@ -1,12 +1,12 @@
 use Rattle.tw_outside.specs.Asked.{asked}
-use Rattle.tw_diskcmd.specs.Disks.{touched}
+use Rattle.tw_diskcmd.specs.Disks.{found_disk}
 use Rattle.tw_diskcmd.proofs.Landings.{comes_of_step, leaves_of_step, stop_leaves}
 use Rattle.tw_diskcmd.proofs.appending.append.Goals as goal
 
 pub returns-in-Ok-clause-comes : goal.returns-in-Ok-clause-comes
 returns-in-Ok-clause-comes g c =
     comes_of_step (asked (g.I.Inputs.told c.args.inputs.now) (g.I.Inputs.faults c.args.inputs.now) (g.I.Inputs.faults c.read_step.new.inputs))
-    (touched (g.D.Disk.view c.args.disk).content (g.D.Disk.view c.args.disk).faults (g.D.Disk.view c.append_events.result.disk).faults)
+    (found_disk (g.D.Disk.view c.args.disk).content (g.D.Disk.view c.args.disk).faults (g.D.Disk.view c.append_events.result.disk).faults)
     c.args.file.now c.in-Ok.events c.append_events.result.outcome c.in-Ok.ensures.read c.append_events.ensures.comes
 
 pub returns-in-Ok-clause-leaves : goal.returns-in-Ok-clause-leaves
@@ -18,7 +18,7 @@ returns-in-Ok-clause-leaves g c =
 
 pub returns-in-Err-clause-comes : goal.returns-in-Err-clause-comes
 returns-in-Err-clause-comes g c =
-    c.in-Err.ensures.stopped.comes (touched (g.D.Disk.view c.args.disk).content (g.D.Disk.view c.args.disk).faults (g.D.Disk.view c.args.disk).faults)
+    c.in-Err.ensures.stopped.comes (found_disk (g.D.Disk.view c.args.disk).content (g.D.Disk.view c.args.disk).faults (g.D.Disk.view c.args.disk).faults)
 
 pub returns-in-Err-clause-leaves : goal.returns-in-Err-clause-leaves
 returns-in-Err-clause-leaves g c =

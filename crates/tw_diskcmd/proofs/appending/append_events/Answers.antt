@@ -1,7 +1,10 @@
 use Rattle.tw_base.specs.History.{with_events}
+use Rattle.std.specs.Prelude.{Err}
 use Rattle.tw_service.specs.Serves.{disk_of}
+use Rattle.tw_diskcmd.specs.Appending.{MeetsBadLink, StepComes}
+use Rattle.tw_diskcmd.specs.Disks.{found_disk}
 use Rattle.tw_diskcmd.proofs.AtRest.{leaves_from, left_on}
-use Rattle.tw_diskcmd.proofs.Landings.{unopened_leaves, unopened_step}
+use Rattle.tw_diskcmd.proofs.Landings.{unopened, unopened_leaves}
 use Rattle.tw_diskcmd.proofs.appending.append_events.Goals as goal
 
 pub returns-in-Ok-clause-comes : goal.returns-in-Ok-clause-comes
@@ -18,8 +21,12 @@ returns-in-Ok-clause-leaves g c = λ h reads.
 
 pub returns-in-Err-clause-comes : goal.returns-in-Err-clause-comes
 returns-in-Err-clause-comes g c =
-    unopened_step (g.D.Disk.view c.args.disk).content (g.D.Disk.view c.args.disk).faults (g.D.Disk.view c.in-Err.disk).faults c.args.events.now c.in-Err.fault
-    c.in-Err.ensures.refused c.in-Err.ensures.answers c.in-Err.ensures.fault c.fault_of_store.result c.fault_of_store.ensures
+    let d = g.D.Disk in
+    let events = c.args.events.now in
+    unopened (d.view c.args.disk).content (d.view c.args.disk).faults (d.view c.in-Err.disk).faults c.in-Err.fault
+    c.in-Err.ensures.refused c.in-Err.ensures.answers c.in-Err.ensures.fault (MeetsBadLink events)
+    (λ fault. StepComes (found_disk (d.view c.args.disk).content (d.view c.args.disk).faults (d.view c.in-Err.disk).faults) events (Err fault))
+    (λ cause why. why) (λ rose. rose) c.fault_of_store.result c.fault_of_store.ensures
 
 pub returns-in-Err-clause-leaves : goal.returns-in-Err-clause-leaves
 returns-in-Err-clause-leaves g c = λ h reads.

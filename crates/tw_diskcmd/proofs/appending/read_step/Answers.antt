@@ -6,7 +6,7 @@ use Rattle.tw_diskcmd.proofs.appending.read_step.Goals as goal
 pub returns-then-len-gt-EVENTS_LIMIT-clause-stopped : goal.returns-then-len-gt-EVENTS_LIMIT-clause-stopped
 returns-then-len-gt-EVENTS_LIMIT-clause-stopped g c =
     too_long (asked (g.I.Inputs.told c.args.inputs.now) (g.I.Inputs.faults c.args.inputs.now) (g.I.Inputs.faults c.read_all.new.inputs))
-    c.args.file.now c.in_ok-bytes.bytes.items c.in_ok-bytes.ensures.there c.in_ok-bytes.ensures.read c.refuse_byte.result (omega arith) c.refuse_byte.ensures
+    c.args.file.now c.in_ok-bytes.bytes.items c.in_ok-bytes.ensures.there c.in_ok-bytes.ensures.read _ (omega arith) c.in_ok-bad_byte.ensures
 
 pub returns-in-Ok-clause-read : goal.returns-in-Ok-clause-read
 returns-in-Ok-clause-read g c =
@@ -19,5 +19,5 @@ returns-in-Err-Malformed-clause-stopped g c =
     no_events (asked (g.I.Inputs.told c.args.inputs.now) (g.I.Inputs.faults c.args.inputs.now) (g.I.Inputs.faults c.read_all.new.inputs))
     c.args.file.now c.as_slice.result.now c.in_ok-bytes.ensures.there
     (λ bytes tells. c.as_slice.ensures.value ∙ c.in_ok-bytes.ensures.read bytes tells)
-    c.in-Err-Malformed.place c.refuse_byte-in-Err-Malformed.result (omega arith)
-    (rw c.in-Err-Malformed.field-0-is at c.in-Err-Malformed.ensures) c.refuse_byte-in-Err-Malformed.ensures
+    c.in-Err-Malformed.place _ (omega arith)
+    (rw c.in-Err-Malformed.field-0-is at c.in-Err-Malformed.ensures) c.in_ok-bad_byte-in-Err-Malformed.ensures

@@ -3,7 +3,7 @@ use Rattle.std.specs.Prelude.{Some}
 use Rattle.tw_service.specs.Stands.{no_history}
 use Rattle.tw_disk.specs.Disk.{LeavesOnly}
 use Rattle.tw_disk.specs.Image.{Image}
-use Rattle.tw_diskcmd.specs.Disks.{IsOldOrBegun, MayBegin, touched}
+use Rattle.tw_diskcmd.specs.Disks.{IsOldOrBegun, MayBegin, found_disk}
 use Rattle.tw_diskcmd.proofs.AtRest.{free_keeps, held_keeps, own_rest, rests_begun}
 use Rattle.tw_diskcmd.proofs.Landings.{unmade, unmade_leaves}
 use Rattle.tw_diskcmd.proofs.making.make.Goals as goal
@@ -34,7 +34,7 @@ returns-in-Ok-clause-leaves g c =
 
 pub returns-in-Err-clause-comes : goal.returns-in-Err-clause-comes
 returns-in-Err-clause-comes g c =
-    unmade (touched (g.D.Disk.view c.args.disk).content (g.D.Disk.view c.args.disk).faults (g.D.Disk.view c.in-Err.disk).faults) c.args.name c.in-Err.fault
+    unmade (found_disk (g.D.Disk.view c.args.disk).content (g.D.Disk.view c.args.disk).faults (g.D.Disk.view c.in-Err.disk).faults) c.args.name c.in-Err.fault
     c.fault_of_store.result c.fault_of_store.ensures c.in-Err.ensures.answers c.in-Err.ensures.taken c.in-Err.ensures.fault
 
 pub returns-in-Err-clause-leaves : goal.returns-in-Err-clause-leaves

@@ -1,0 +1,117 @@
+-- What holds of each command over a disk: each of its faults has its cause, and whatever it leaves is safe.
+use Rattle.std.proofs.Common.{◌≡◌, ◌∙◌, ℕ, List, ap, inl, inr}
+use Rattle.std.specs.Prelude.{Option, Some, Result, Ok, Err}
+use Rattle.tw_base.specs.declared.thread.Thread.{Thread}
+use Rattle.tw_base.specs.Faults.{Rose}
+use Rattle.tw_base.specs.History.{History}
+use Rattle.tw_disk.specs.Disk.{DiskView}
+use Rattle.tw_disk.specs.Image.{Image}
+use Rattle.tw_outside.specs.Asked.{Asked}
+use Rattle.tw_outside.specs.Files.{Files}
+use Rattle.tw_text.specs.declared.refusal.StoreCause.{StoreCause}
+use Rattle.tw_text.specs.declared.fault.CommandFault.{CommandFault}
+use Rattle.tw_text.specs.declared.fault.CommandFault.TheVariants.{Refused, Unserved, Unreadable, InputFault, DiskFault, NoMemory}
+use Rattle.tw_diskcmd.specs.Appending.{AppendComes, AppendLeaves, AppendSafe, MeetsBadLink}
+use Rattle.tw_diskcmd.specs.Disks.{FoundDisk, IsLeft, Keeps, ReadLeaves, ReadsAs}
+use Rattle.tw_diskcmd.specs.Making.{InitComes, InitLeaves, InitSafe}
+use Rattle.tw_diskcmd.specs.Proving.{MeetsBadPage, ProveComes}
+use Rattle.tw_diskcmd.specs.WorkSteps.{WritesNothing}
+use Rattle.tw_diskcmd.proofs.AtRest.{left_begins, left_keeps, rests_reads, untouched_left}
+use Rattle.tw_diskcmd.proofs.Served.{served}
+
+-- ---- what it comes to
+
+-- the inputs fail only where the command names a file, and the disk only where it uses one; a disk that reads as a history serves it,
+-- and want of memory is free
+pub record HasCauses {X : Type 0} (a : Asked) (t : FoundDisk) (NamesFile UsesDisk : Type 0) (Comes : Result X CommandFault → Type 0) : Type 0 where
+  pub input : Comes (Err InputFault) → NamesFile × Rose a.before a.after
+  pub disk : Comes (Err DiskFault) → UsesDisk × Rose t.before t.after
+  pub serves : (h : History) → ReadsAs t.found h → (why : StoreCause) → Comes (Err (Unserved why)) → ⊥
+  pub memory : Comes (Err NoMemory)
+
+module _ (a : Asked) (t : FoundDisk) where
+  pub init_causes : (name : List ℕ) → HasCauses a t ⊥ (Unit {0}) (InitComes t name)
+  init_causes name = record { input = λ came. absurd came; disk = λ rose. (tt, rose); serves = λ h reads why came. came; memory = tt }
+
+  pub append_causes : (file : List ℕ) → HasCauses a t (Unit {0}) (Unit {0}) (AppendComes a t file)
+  append_causes file = record {
+    input = λ rose. (tt, rose);
+    disk = λ came. (tt, came.2);
+    serves = λ h reads why came. served (MeetsBadLink came.0) t.found h reads why came.2;
+    memory = tt;
+  }
+
+  pub prove_causes : (step index : ℕ) (top : Option ℕ) → HasCauses a t ⊥ (Unit {0}) (ProveComes t step index top)
+  prove_causes step index top = record {
+    input = λ came. absurd came;
+    disk = λ rose. (tt, rose);
+    serves = λ h reads why came. served (MeetsBadPage step index top) t.found h reads why came;
+    memory = tt;
+  }
+
+-- ---- what it leaves
+
+module _ {D : Type 0} (view : D → DiskView) (old new : D) where
+  -- where nothing was made and no disk failed, nothing was written, which is right for want of memory too; and a crash leaves what it may
+  pub record IsSafe {X : Type 0} (Leaves : Result X CommandFault → Type 0) (Safe : Type 0) : Type 0 where
+    pub idle : (r : Result X CommandFault) → Leaves r → WritesNothing r → IsLeft view old new
+    pub no_memory : IsLeft view old new → Leaves (Err NoMemory)
+    pub safe : (r : Result X CommandFault) → Leaves r → Safe
+
+  read_left : {X : Type 0} → (came : Result X CommandFault) → ReadLeaves view old new came → IsLeft view old new
+  read_left (Ok value) left = left.0
+  read_left (Err (Refused refusal)) left = left.0
+  read_left _ left = left
+
+  pub reading_is_safe : {X : Type 0} → IsSafe {X = X} (ReadLeaves view old new) (IsLeft view old new × Keeps view old new)
+  reading_is_safe = record {
+    idle = λ r left nothing. read_left r left;
+    no_memory = λ left. left;
+    safe = λ r leaves. let left = read_left r leaves in (left, left_keeps view old new left);
+  }
+
+  module _ (only_now : (d : D) (image : Image) → (view d).left_since (view d).moment image → (view d).may_leave image)
+      (as_it_reads : (d : D) (image : Image) → (view d).content ≡ Some image → (view d).may_leave image) where
+    left_safe : (name : List ℕ) → IsLeft view old new → InitSafe view old new name
+    left_safe name left = (left_begins view as_it_reads old new name left, left_keeps view old new left, λ image told taken. left)
+
+    init_safe : (name : List ℕ) (came : Result Thread CommandFault) → InitLeaves view old new name came → InitSafe view old new name
+    init_safe name (Ok thread) left = left.1
+    init_safe name (Err DiskFault) left = left
+    init_safe name _ left = left_safe name left
+
+    left_adds : (told : Option Files) (file : List ℕ) → IsLeft view old new → AppendSafe view old new told file
+    left_adds told file left = λ h. (λ reads. inl (left.1, record { image = reads.image; told = left.0 ∙ reads.told; stands = reads.stands }), λ stands. inl ((left_keeps view old new left h).0 stands).0)
+
+    append_safe : (told : Option Files) (file : List ℕ) (came : Result Thread CommandFault) → AppendLeaves view old new told file came → AppendSafe view old new told file
+    append_safe told file (Ok thread) left = λ h. (
+      λ reads. let adds = left.2.1 h in let made = adds.2 reads in inr (left.0, left.1, (adds.0, adds.1, made.1, rests_reads view as_it_reads new adds.0 h (ap (λ (n : History). n.name) adds.1) made.0)),
+      λ stands. let adds = left.2.1 h in inr (left.0, left.1, (adds.0, adds.1, adds.3 stands)),
+    )
+    append_safe told file (Err DiskFault) left = λ h. (
+      λ reads. let adds = left.2 h in let made = adds.2 reads in inr (left.0, left.1, (adds.0, adds.1, made.0, made.1)),
+      λ stands. let adds = left.2 h in inr (left.0, left.1, (adds.0, adds.1, adds.3 stands)),
+    )
+    append_safe told file (Err (Refused refusal)) left = left_adds told file left.0
+    append_safe told file (Err (Unreadable bad)) left = left_adds told file (untouched_left view old new only_now left)
+    append_safe told file (Err InputFault) left = left_adds told file (untouched_left view old new only_now left)
+    append_safe told file _ left = left_adds told file left
+
+    pub init_is_safe : (name : List ℕ) → IsSafe (InitLeaves view old new name) (InitSafe view old new name)
+    init_is_safe name = record { idle = idle; no_memory = λ left. left; safe = init_safe name }
+      where
+        idle : (r : Result Thread CommandFault) → InitLeaves view old new name r → WritesNothing r → IsLeft view old new
+        idle (Ok thread) left nothing = absurd nothing
+        idle (Err DiskFault) left nothing = absurd nothing
+        idle _ left nothing = left
+
+    pub append_is_safe : (told : Option Files) (file : List ℕ) → IsSafe (AppendLeaves view old new told file) (AppendSafe view old new told file)
+    append_is_safe told file = record { idle = idle; no_memory = λ left. left; safe = append_safe told file }
+      where
+        idle : (r : Result Thread CommandFault) → AppendLeaves view old new told file r → WritesNothing r → IsLeft view old new
+        idle (Ok thread) left nothing = absurd nothing
+        idle (Err DiskFault) left nothing = absurd nothing
+        idle (Err (Refused refusal)) left nothing = left.0
+        idle (Err (Unreadable bad)) left nothing = untouched_left view old new only_now left
+        idle (Err InputFault) left nothing = untouched_left view old new only_now left
+        idle _ left nothing = left
