@@ -6,6 +6,3 @@ mod keep;
 mod paged;
 
 pub use cached::Cached;
-
-#[cfg(test)]
-mod tests;

@@ -1,8 +1,8 @@
 // What of the cache no clause says: that a page is read once, and kept for as long as is said.
 
-use crate::Cached;
 use std::alloc::Global;
 use std::test::Fail;
+use tw_cache::Cached;
 use tw_disk::{Failed, MemPages, NoMemory, Pages};
 
 // Stages a page full of this byte.
