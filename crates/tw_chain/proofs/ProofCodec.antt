@@ -1,9 +1,10 @@
 -- The codec of proofs is lawful, and the bytes of a proof of kind 1 are those of its existence proof.
 use Rattle.std.proofs.Common.{◌≡◌, ℕ, suc, zero, List, [], ◌∷◌, refl, ap, sym, ◌∙◌, subst, arith, lit≤, inl, inr}
-use Rattle.std.specs.Prelude.{true, ◌==◌, ◌&&◌, nat_le}
+use Rattle.std.specs.Prelude.{IfOk, Result, Ok, Err, take, true, ◌==◌, ◌&&◌, nat_le}
 use Rattle.std.proofs.lemmas.Bool.{and_parts, eqb-true, leb-true, or_cases}
+use Rattle.tw_base.specs.declared.failure.ReadFault.{ReadFault}
 use Rattle.tw_base.specs.Codecs.{behind, by_kind, number_codec, seen, pair, variant}
-use Rattle.tw_base.specs.Formats.{Spells}
+use Rattle.tw_base.specs.Formats.{ReadsFrontAs, Spells}
 use Rattle.tw_base.specs.Formats.Format.{Byte, Done}
 use Rattle.tw_base.proofs.CodecLaws.{Lawful, lawful, lawful-by_kind, lawful-choose, lawful-pair, lawful-seen, lawful-variant, spelled-fits, written-as}
 use Rattle.tw_base.proofs.FormatLaws.{AllWords}
@@ -141,3 +142,8 @@ proof-range (Exists p) fits = (existence-shape p fits.1.1).1
 proof-range (Archived p) fits = (part-shape 0 p.at fits.1.1.0).1
 proof-range (Absent p) fits = (part-shape 0 p.at fits.1.1.0).1
 proof-range (Linked p) fits = fits.1.1.1.1.0.1
+
+-- so are those of a proof that was read from the front
+pub first-range : (bytes : List ℕ) (r : Result (Proof × ℕ) ReadFault) → ReadsFrontAs (λ p. p) proof_layout bytes r → IfOk r (λ read. IsInRange read.0)
+first-range bytes (Ok read) is = proof-range read.0 (spelled-fits proof_codec proof-lawful (take read.1 bytes) read.0 is.1)
+first-range bytes (Err fault) is = tt

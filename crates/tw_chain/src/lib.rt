@@ -13,6 +13,6 @@ mod writing;
 
 pub use laws::{completeness_laws, proof_laws};
 pub use proof::{AbsenceProof, LinkProof, Proof, ThreadProof};
-pub use reading::read_proof;
+pub use reading::{read_first, read_proof};
 pub use verdict::{Verdict, verify};
 pub use writing::write_proof;

@@ -2,14 +2,14 @@
 #![tactic(auto, unfolding(crate::specs::Proofs::absence_body, crate::specs::Proofs::key_codec, crate::specs::Proofs::link_body, crate::specs::Proofs::thread_body, tw_base::specs::Codecs::pair, tw_base::specs::Codecs::seen))]
 
 ghost use Rattle.std.specs.Prelude.{◌≡◌, ◌≤◌, length, IfOk};
-ghost use Rattle.tw_base.specs.Formats.{ReadsAs};
+ghost use Rattle.tw_base.specs.Formats.{ReadsAs, ReadsFrontAs};
 ghost use Rattle.tw_base.specs.Taking.{Takes};
 ghost use Rattle.tw_chain.specs.Proofs.{IsInRange, absence_body, body_of_kind, is_kind as is_kind_of_proof, key_codec, kind_codec, kinds_codec, link_body, proof_codec, proof_layout, thread_body};
 
 use crate::proof::{AbsenceProof, LinkProof, Proof, ThreadProof};
 use std::alloc::Global;
 use tw_base::limits::LAST_STEP;
-use tw_base::{Key, ReadFault, take_digest, take_name, take_number, take_text, whole_to};
+use tw_base::{Key, ReadFault, front_to, take_digest, take_name, take_number, take_text, whole_to};
 use tw_skipproof::{PROOF_MAGIC, take_existence_body, take_part, take_path};
 use tw_treeproof::{take_entry, take_gap, take_present};
 
@@ -149,4 +149,19 @@ pub fn read_proof(alloc: Global, bytes: &[u8]) -> Result<Proof, ReadFault>
     let mut at = 0;
     let read = take_proof(alloc, bytes, &mut at);
     whole_to(bytes, at, read)
+}
+
+/// The proof that a front of the bytes spells, and the number of its bytes; no proof is the front of a
+/// longer one. Malformed exactly where no front of them spells one, with the place of the first byte at
+/// which no proof goes on.
+#[tactic(auto)]
+pub fn read_first(alloc: Global, bytes: &[u8]) -> Result<(Proof, u64), ReadFault>
+    // A proof is read from the front of bytes exactly where a front of them spells one, with that proof and its number
+    // of bytes; else the length of the longest front that some proof begins with is told.
+    ensures read { ReadsFrontAs (λ p. p) proof_layout bytes.now result }
+    ensures range { IfOk result (λ read. IsInRange read.0) }
+{
+    let mut at = 0;
+    let read = take_proof(alloc, bytes, &mut at);
+    front_to(at, read)
 }

@@ -1,0 +1,8 @@
+//! Pages of which those read last are kept in memory, over any `Pages`: what is answered is what the inner pages answer.
+#![tactic(auto)]
+
+mod cached;
+mod keep;
+mod paged;
+
+pub use cached::Cached;

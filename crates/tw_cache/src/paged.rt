@@ -1,0 +1,62 @@
+// Pages of which some are kept, as upper crates see them.
+ghost use Rattle.std.specs.Prelude.{◌≡◌, ◌-◌, ◌<◌, ◌≤◌, Some, IsOk, OnOk};
+ghost use Rattle.tw_base.specs.Faults.{HasCause};
+ghost use Rattle.tw_disk.specs.Image.{Image, page_at};
+ghost use Rattle.tw_disk.specs.Pages.{OnlyReads};
+ghost use Rattle.tw_disk.specs.declared.limits.TheConstants.{FIRST_PAGE, NUMBER_LIMIT};
+ghost use Rattle.tw_cache.specs.Cached.{Keeps, inner_of};
+
+use crate::Cached;
+use crate::keep::keep;
+use tw_disk::{Failed, NoMemory, Page, Pages};
+
+/// The inner pages: their list, number, faults, `same` and `unbroken`.
+impl<P: Pages> Pages for Cached<P> {
+    ghost list = { λ c. P.list c.pages };
+
+    ghost used_count = { λ c. P.used_count c.pages };
+
+    ghost faults = { λ c. P.faults c.pages };
+
+    ghost same = { λ a b. P.same a.pages b.pages };
+
+    ghost unbroken = { λ c. P.unbroken c.pages };
+
+    ghost told_count = { λ c. P.told_count c.pages };
+
+    ghost same_itself = { λ c. P.same_itself c.pages };
+
+    ghost same_on = { λ a b c. P.same_on a.pages b.pages c.pages };
+
+    fn used(&self) -> u64 {
+        self.pages.used()
+    }
+
+    // Where there is no memory to keep the page, it is answered all the same.
+    fn read(&mut self, page: u64, into: &mut Page) -> Result<(), Failed>
+        requires low { FIRST_PAGE ≤ page }
+        requires below { page < P.used_count (inner_of self.old) }
+        // A read gives the page that the inner pages have, whether it is kept or not.
+        ensures page { OnOk result ((pages : Image) → P.list (inner_of self.old) ≡ Some pages
+            → into.new ≡ page_at pages (page - FIRST_PAGE)) }
+        // Reading changes nothing of what the inner pages tell.
+        ensures kept { OnlyReads (λ c. P.used_count (inner_of c)) (λ c. P.list (inner_of c)) (λ a b. P.same (inner_of a) (inner_of b)) (λ c. P.unbroken (inner_of c)) self.old self.new (IsOk result) }
+        // A read fails only where the inner pages' count of faults rose.
+        ensures cause { HasCause (P.faults (inner_of self.old)) (P.faults (inner_of self.new)) result }
+
+        // A page that is kept is answered, and the inner pages aren't asked.
+        ensures without_reading { Keeps self.old page → IsOk result × (inner_of self.new ≡ inner_of self.old) }
+    {
+        if let Some(kept) = self.kept.get(&page) {
+            *into = **kept;
+            return Ok(());
+        }
+        self.pages.read(page, into)?;
+        keep(&mut self.kept, page, into);
+        Ok(())
+    }
+
+    fn stage(&mut self, page: &Page) -> Result<u64, NoMemory> {
+        self.pages.stage(page)
+    }
+}
