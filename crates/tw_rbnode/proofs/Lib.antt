@@ -1,0 +1,9 @@
+pub mod Laws
+pub mod Places
+pub mod Growing
+pub mod Opening
+pub mod Pages
+pub mod Rising
+pub mod ChildLaws
+pub mod Descents
+pub mod LabelLaws
