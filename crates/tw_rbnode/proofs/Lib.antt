@@ -7,3 +7,6 @@ pub mod Rising
 pub mod ChildLaws
 pub mod Descents
 pub mod LabelLaws
+pub mod LinkLists
+pub mod Heights
+pub mod NodeCodecs

@@ -4,3 +4,4 @@ pub mod Page
 pub mod Answers
 pub mod Children
 pub mod Trees
+pub mod NodeBytes

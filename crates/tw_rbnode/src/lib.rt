@@ -11,11 +11,16 @@ mod links;
 mod node;
 #[cfg(test)]
 mod tests;
+mod reading;
+mod slot;
 mod ways;
+mod writing;
 
 pub use adding::{add, put_child, single};
 pub use child::Child;
 pub use labels::{label, sides};
 pub use node::{Added, Found, RbNode, below, child_at, entry_at, find, keys, level, top};
+pub use reading::read_node;
 pub use tw_base::{Ancestor, Digest, Entry, Hasher, Key};
 pub use ways::{WayDown, way};
+pub use writing::write_node;

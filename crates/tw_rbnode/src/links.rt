@@ -293,3 +293,39 @@ pub(crate) fn with_node(links: &[Link; 26], top: u8, count: u8, place: u8) -> ([
     );
     (out, grown)
 }
+
+/// How many black nodes stand on each way down, where the slots above `low` up to `high` are a tree that keeps the law.
+pub(crate) fn height_in(links: &[Link; 26], low: u8, high: u8, at: u8) -> Option<u8>
+    requires blank { slice_get links.now 0 ≡ Some (link false 0 0) }
+    requires order { low ≤ high }
+    requires last { high < 26 }
+    ensures found { IfSome result (λ h. (t : Shape) × (IsTree (slice_get links.now) low t at) × (high ≡ low + size t) × (IsEven h t) × (h ≤ size t)) }
+    ensures none { IfNone result ((t : Shape) (h : ℕ) → IsTree (slice_get links.now) low t at → high ≡ low + size t → IsEven h t → ⊥) }
+{
+    if at == 0 {
+        return if low == high { Some(0) } else { None };
+    }
+    if at <= low || high < at {
+        return None;
+    }
+    let node = link_at(links, at);
+    match height_in(links, low, at - 1, node.left) {
+        None => None,
+        Some(left) => match height_in(links, at, high, node.right) {
+            None => None,
+            Some(right) => {
+                if left != right {
+                    None
+                } else if !node.red {
+                    Some(left + 1)
+                } else if link_at(links, node.left).red {
+                    None
+                } else if link_at(links, node.right).red {
+                    None
+                } else {
+                    Some(left)
+                }
+            }
+        },
+    }
+}

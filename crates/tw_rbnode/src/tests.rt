@@ -2,6 +2,7 @@
 use crate::{
     Added, Child, Entry, Found, RbNode, add, below, entry_at, find, keys, label, single, top, way,
 };
+use crate::{read_node, write_node};
 use std::process::Abort;
 use std::test::Fail;
 use tw_base::{Digest, Key, Name, Sha, Thread, empty_tree, tree_node};
@@ -101,6 +102,26 @@ fn a_full_page_splits_at_the_thirteenth_key(rt: HostRuntime) -> Result<(), Fail>
             assert_eq!(rt; top(&left), 7);
             assert_eq!(rt; entry_at(&right, 1).thread.step, 14);
         }
+    }
+    Ok(())
+}
+
+#[test]
+fn what_is_written_is_read(rt: HostRuntime) -> Result<(), Fail> {
+    let mut node = one(1);
+    let bytes = write_node(&node);
+    assert!(rt; bytes[0] == 3 && bytes[2] == 1 && bytes[150] != 0 && bytes[151] == 0);
+    let mut red = bytes;
+    red[4] = 1;
+    assert!(rt; read_node::<Sha>(&red, 4).is_none());
+    assert!(rt; read_node::<tw_base::Weak>(&bytes, 4).is_none());
+    for step in 2..25u64 {
+        node = more(&rt, &node, step);
+    }
+    let bytes = write_node(&node);
+    match read_node::<Sha>(&bytes, 4) {
+        None => panic!(rt; "no page"),
+        Some(found) => assert!(rt; write_node(&found) == bytes && label::<Sha>(&found) == label::<Sha>(&node)),
     }
     Ok(())
 }
