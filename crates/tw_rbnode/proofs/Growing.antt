@@ -6,7 +6,7 @@ use Rattle.tw_rbnode.specs.declared.links.Link.{Link}
 use Rattle.tw_rbnode.specs.Shape.{Shape, Empty, Node, size, is_red, blacken, recoloured, join_left, join_right, grown}
 use Rattle.tw_rbnode.specs.Slots.{slot_of, link, At, Blank, SameOutside, IsTree, bump, Gap, IsGap}
 use Rattle.tw_rbnode.proofs.Places.{At-frame, at_node, slot_within, seen, left_tree, right_tree, tree_red, JoinsLeft, JoinsRight, no_way}
-use Rattle.tw_rbnode.proofs.Laws.{size_grown}
+use Rattle.tw_rbnode.proofs.RedBlack.{size_grown}
 
 pub bump_before : (place slot : ℕ) → slot ≤ place → bump place slot ≡ slot
 bump_before place slot h = let e : nat_le slot place ≡ true = le-leb slot place h in rw e refl

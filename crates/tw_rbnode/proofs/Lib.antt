@@ -1,4 +1,4 @@
-pub mod Laws
+pub mod RedBlack
 pub mod Places
 pub mod Growing
 pub mod Opening
@@ -10,3 +10,5 @@ pub mod LabelLaws
 pub mod LinkLists
 pub mod Heights
 pub mod NodeCodecs
+pub mod HeldPages
+pub mod TreeLabels

@@ -55,11 +55,11 @@ module _ (f : ℕ → Option Link) where
         | inl h ↦ get-left xs _ k (omega (arith, h, n)) ∙ links-read base l at.1 k h
         | inr two ↦ elim two [
           | inl h ↦
-            ap (slice_get (links_of base (Node red l r))) (let e : k ≡ length (links_of base l) + 0 = omega (arith, h, n) in e) ∙ get-right xs _ 0
-            ∙ sym at.0 ∙ ap f (let e : base + size l + 1 ≡ base + k + 1 = omega (arith, h) in e)
+              ap (slice_get (links_of base (Node red l r))) (let e : k ≡ length (links_of base l) + 0 = omega (arith, h, n) in e) ∙ get-right xs _ 0
+              ∙ sym at.0 ∙ ap f (let e : base + size l + 1 ≡ base + k + 1 = omega (arith, h) in e)
           | inr h ↦
-            ap (slice_get (links_of base (Node red l r))) (let e : k ≡ length (links_of base l) + suc (k - size l - 1) = omega (arith, h, n) in e) ∙ get-right xs _ (suc (k - size l - 1))
-            ∙ links-read (base + size l + 1) r at.2 (k - size l - 1) (omega (arith, h, less)) ∙ ap f (let e : base + size l + 1 + (k - size l - 1) + 1 ≡ base + k + 1 = omega (arith, h) in e)
+              ap (slice_get (links_of base (Node red l r))) (let e : k ≡ length (links_of base l) + suc (k - size l - 1) = omega (arith, h, n) in e) ∙ get-right xs _ (suc (k - size l - 1))
+              ∙ links-read (base + size l + 1) r at.2 (k - size l - 1) (omega (arith, h, less)) ∙ ap f (let e : base + size l + 1 + (k - size l - 1) + 1 ≡ base + k + 1 = omega (arith, h) in e)
         ]
       ]
 
@@ -70,19 +70,20 @@ module _ (f : ℕ → Option Link) where
       let xs = links_of base l in
       let n : length (links_of base l) ≡ size l = links-size base l in
       let own : f (base + size l + 1) ≡ Some (link red (slot_of base l) (slot_of (base + size l + 1) r)) =
-        sym (h (size l) (omega arith)) ∙ ap (slice_get (links_of base (Node red l r))) (let e : size l ≡ length (links_of base l) + 0 = omega (arith, n) in e) ∙ get-right xs _ 0 in
-      (own,
-       links-at base l (λ k less. sym (get-left xs _ k (omega (arith, less, n))) ∙ h k (omega (arith, less))),
-       links-at (base + size l + 1) r (λ k less.
-         sym (get-right xs _ (suc k)) ∙ ap (slice_get (links_of base (Node red l r))) (let e : length (links_of base l) + suc k ≡ size l + suc k = omega (arith, n) in e)
-         ∙ h (size l + suc k) (omega (arith, less)) ∙ ap f (let e : base + (size l + suc k) + 1 ≡ base + size l + 1 + k + 1 = omega arith in e)))
+      sym (h (size l) (omega arith)) ∙ ap (slice_get (links_of base (Node red l r))) (let e : size l ≡ length (links_of base l) + 0 = omega (arith, n) in e) ∙ get-right xs _ 0 in (
+        own,
+        links-at base l (λ k less. sym (get-left xs _ k (omega (arith, less, n))) ∙ h k (omega (arith, less))),
+        links-at (base + size l + 1) r (λ k less.
+            sym (get-right xs _ (suc k)) ∙ ap (slice_get (links_of base (Node red l r))) (let e : length (links_of base l) + suc k ≡ size l + suc k = omega (arith, n) in e)
+            ∙ h (size l + suc k) (omega (arith, less)) ∙ ap f (let e : base + (size l + suc k) + 1 ≡ base + size l + 1 + k + 1 = omega arith in e)),
+      )
 
 pub links-held : (links : List Link) (t : Shape) (n : ℕ) → length links ≡ 26 → n ≡ size t → n ≤ 24 → At (slice_get links) 0 t → take n (drop 1 links) ≡ links_of 0 t
 links-held links t n whole sized few at =
     let front : length (take n (drop 1 links)) ≡ n = omega (arith, length-take n (drop 1 links), length-drop 1 links) in
     same_lists (take n (drop 1 links)) (links_of 0 t) (omega (arith, links-size 0 t, front)) (λ k l.
-      get-take n (drop 1 links) k (omega (arith, l, front)) ∙ get-behind links k ∙ ap (slice_get links) (let e : suc k ≡ 0 + k + 1 = omega arith in e)
-      ∙ sym (links-read (slice_get links) 0 t at k (omega (arith, l, front))))
+    get-take n (drop 1 links) k (omega (arith, l, front)) ∙ get-behind links k ∙ ap (slice_get links) (let e : suc k ≡ 0 + k + 1 = omega arith in e)
+    ∙ sym (links-read (slice_get links) 0 t at k (omega (arith, l, front))))
 
 pub slots-more : (xs : List Link) (es : List Entry) (i : ℕ) (x : Link) (e : Entry) → slice_get xs i ≡ Some x → slice_get es i ≡ Some e
     → slots_with (take (suc i) xs) (take (suc i) es) ≡ slots_with (take i xs) (take i es) ++ record { link = x; entry = e } ∷ []

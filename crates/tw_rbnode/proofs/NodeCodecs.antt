@@ -1,14 +1,14 @@
 -- The codec of tree pages is lawful.
-use Rattle.std.proofs.Common.{◌≡◌, ℕ, suc, ◌+◌, ◌≤◌, Bool, true, false, List, length, refl, arith}
+use Rattle.std.proofs.Common.{◌≡◌, ℕ, suc, zero, ◌+◌, ◌≤◌, Bool, true, false, List, length, refl, arith}
 use Rattle.std.specs.Prelude.{◌==◌, if◌then◌else◌}
 use Rattle.tw_base.specs.Codecs.{Codec, many, nothing, number_codec, pair}
-use Rattle.tw_base.proofs.CodecLaws.{Lawful, lawful, lawful-by_kind, lawful-nothing}
+use Rattle.tw_base.proofs.CodecLaws.{Lawful, lawful, lawful-by_kind, lawful-many, lawful-nothing, lawful-number, lawful-pair}
 use Rattle.tw_base.proofs.HistoryCodecLaws.{thread-lawful}
 use Rattle.tw_rbnode.specs.NodeBytes.{Held, child_codec, colour_codec, counted_codec, entry_codec, held_codec, node_codec, slot_codec}
 
 colour-kind : (n : ℕ) (red : Bool) → n ≤ 1 → (n == 1) ≡ red → (if red then 1 else 0) ≡ n
-colour-kind 0 red few is = grind arith
-colour-kind 1 red few is = grind arith
+colour-kind zero red few is = grind arith
+colour-kind (suc zero) red few is = grind arith
 colour-kind (suc (suc n)) red few is = absurd (omega arith)
 
 pub colour-lawful : Lawful colour_codec
@@ -28,7 +28,8 @@ unfolding child_codec
 child-lawful = search lawful depth 20
 
 pub held-lawful : (n : ℕ) → 1 ≤ n → n ≤ 24 → Lawful (held_codec n)
-held-lawful n some few = search (lawful, slot-lawful, child-lawful) depth 20
+held-lawful n some few =
+    lawful-pair _ _ (lawful-number 1 1 n some (omega arith)) (λ top _. lawful-pair _ _ (lawful-many slot_codec slot-lawful n) (λ slots _. lawful-many child_codec child-lawful (suc n)))
 
 pub held-count : (n : ℕ) (h : Held) → (held_codec n).Fits h → length h.1.0 ≡ n
 unfolding pair many

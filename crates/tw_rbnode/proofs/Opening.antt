@@ -5,7 +5,7 @@ use Rattle.tw_rbnode.specs.Shape.{Shape, Empty, Node, size, is_red, blacken, ins
 use Rattle.tw_rbnode.specs.Slots.{slot_of, link, At, Blank, SameOutside, IsTree, bump, bumped, Gap, IsGap}
 use Rattle.tw_rbnode.proofs.Places.{At-frame, at_node, slot_within, seen}
 use Rattle.tw_rbnode.proofs.Growing.{bump_before, bump_behind}
-use Rattle.tw_rbnode.proofs.Laws.{size_grown}
+use Rattle.tw_rbnode.proofs.RedBlack.{size_grown}
 
 pub bump_apart : (place j k : ℕ) → j < k → bump place j < bump place k
 bump_apart place j k h =

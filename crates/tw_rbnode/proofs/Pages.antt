@@ -14,7 +14,7 @@ use Rattle.tw_rbnode.specs.Slots.{slot_of, link, At, Blank, IsTree}
 use Rattle.tw_rbnode.specs.Page.{TreePage, IsBetween, IsInRange, IsNode, tree_of}
 use Rattle.tw_rbnode.specs.Answers.{more_children, more_entries}
 use Rattle.tw_rbnode.proofs.Rising.{Each-with, Rising-with}
-use Rattle.tw_rbnode.proofs.Laws.{size_insert, insert_lawful}
+use Rattle.tw_rbnode.proofs.RedBlack.{size_insert, insert_lawful}
 
 not_zero : (n : ℕ) → 0 < n → nat_eq n 0 ≡ false
 not_zero n h = grind arith

@@ -1,9 +1,12 @@
 -- Lists with an entry more, and entries that rise.
-use Rattle.std.proofs.Common.{◌≡◌, ℕ, suc, zero, ◌+◌, ◌<◌, ◌≤◌, List, [], ◌∷◌, ◌++◌, take, drop, length, get_or, Option, Some, None, arith, slice_get, refl, subst, sym, ap}
+use Rattle.std.proofs.Common.{◌≡◌, ℕ, suc, zero, ◌+◌, ◌<◌, ◌≤◌, List, [], ◌∷◌, ◌++◌, take, drop, length, get_or, Option, Some, None, arith, slice_get, true, false, refl, subst, sym, ap}
 use Rattle.std.proofs.lemmas.Option.{none-some, same_Some}
 use Rattle.tw_base.specs.declared.thread.Entry.{Entry}
 use Rattle.tw_base.specs.declared.thread.Key.{Key}
-use Rattle.tw_base.specs.Entries.{KeyBelow, key_of}
+use Rattle.std.specs.Ordering.{is_lt}
+use Rattle.std.specs.declared.cmp.Ordering.{Ordering}
+use Rattle.std.specs.declared.cmp.Ordering.TheVariants.{Less, Equal, Greater}
+use Rattle.tw_base.specs.Entries.{KeyBelow, key_cmp, key_of}
 use Rattle.tw_base.specs.Lists.{Each}
 use Rattle.tw_base.specs.Tree.{IsRising}
 use Rattle.tw_base.proofs.Keys.{KeyBelow-trans}
@@ -74,3 +77,43 @@ module _ {X : Type 0} where
   get-read [] i x e = refl
   get-read (y ∷ xs) zero x e = same_Some _ _ e
   get-read (y ∷ xs) (suc i) x e = get-read xs i x e
+
+module _ {X : Type 0} (P : X → Type 0) where
+  pub Each-get : (xs : List X) (i : ℕ) (x : X) → Each P (take (suc i) xs) → slice_get xs i ≡ Some x → P x
+  Each-get [] i x h e = absurd (none-some x e)
+  Each-get (y ∷ xs) zero x h e = subst P (same_Some _ _ e) h.0
+  Each-get (y ∷ xs) (suc i) x h e = Each-get xs i x h.1 e
+
+  pub Each-at : (xs : List X) (i : ℕ) (x : X) → Each P xs → slice_get xs i ≡ Some x → P x
+  Each-at [] i x h e = absurd (none-some x e)
+  Each-at (y ∷ xs) zero x h e = subst P (same_Some _ _ e) h.0
+  Each-at (y ∷ xs) (suc i) x h e = Each-at xs i x h.1 e
+
+-- one entry more that lies above the last
+pub rise-more : (es : List Entry) (i : ℕ) (a b : Entry) → IsRising (take (suc i) es) → slice_get es i ≡ Some a → slice_get es (suc i) ≡ Some b → KeyBelow (key_of a) (key_of b) → IsRising (take (suc (suc i)) es)
+rise-more [] i a b h ea eb less = absurd (none-some a ea)
+rise-more (x ∷ []) i a b h ea eb less = absurd (none-some b eb)
+rise-more (x ∷ y ∷ es) zero a b h ea eb less =
+    let first : x ≡ a = same_Some _ _ ea in
+    let second : y ≡ b = same_Some _ _ eb in
+    let P : Entry → Type 0 = λ z. KeyBelow (key_of z) (key_of y) in
+    let Q : Entry → Type 0 = λ z. KeyBelow (key_of a) (key_of z) in
+    ((subst P (sym first) (subst Q (sym second) less), tt), (tt, tt))
+rise-more (x ∷ y ∷ es) (suc i) a b h ea eb less =
+    let above : KeyBelow (key_of x) (key_of a) = Each-get (λ f. KeyBelow (key_of x) (key_of f)) (y ∷ es) i a h.0 ea in (
+      Each-one_more (λ f. KeyBelow (key_of x) (key_of f)) (y ∷ es) (suc i) b h.0 eb (KeyBelow-trans (key_of x) (key_of a) (key_of b) above less),
+      rise-more (y ∷ es) i a b h.1 ea eb less,
+    )
+
+pub rising-next : (es : List Entry) (i : ℕ) (a b : Entry) → IsRising es → slice_get es i ≡ Some a → slice_get es (suc i) ≡ Some b → KeyBelow (key_of a) (key_of b)
+rising-next [] i a b h ea eb = absurd (none-some a ea)
+rising-next (x ∷ es) zero a b h ea eb = subst (λ (z : Entry). KeyBelow (key_of z) (key_of b)) (same_Some _ _ ea) (Each-at (λ f. KeyBelow (key_of x) (key_of f)) es 0 b h.0 eb)
+rising-next (x ∷ es) (suc i) a b h ea eb = rising-next es i a b h.1 ea eb
+
+pub lt-below : (a b : Key) → is_lt (key_cmp a b) ≡ true → KeyBelow a b
+lt-below a b sure = by (key_cmp a b) refl sure
+  where
+    by : (o : Ordering) → key_cmp a b ≡ o → is_lt o ≡ true → key_cmp a b ≡ Less
+    by Less is test = is
+    by Equal is test = cc
+    by Greater is test = cc

@@ -6,19 +6,21 @@ mod adding;
 mod child;
 mod kept;
 mod labels;
+mod laws;
 pub mod limits;
 mod links;
 mod node;
-#[cfg(test)]
-mod tests;
 mod reading;
 mod slot;
+#[cfg(test)]
+mod tests;
 mod ways;
 mod writing;
 
 pub use adding::{add, put_child, single};
 pub use child::Child;
 pub use labels::{label, sides};
+pub use laws::label_laws;
 pub use node::{Added, Found, RbNode, below, child_at, entry_at, find, keys, level, top};
 pub use reading::read_node;
 pub use tw_base::{Ancestor, Digest, Entry, Hasher, Key};

@@ -22,7 +22,7 @@ pub(crate) fn link_at(links: &[Link; 26], slot: u8) -> Link
 }
 
 /// Sets the link of a slot.
-fn put(links: &mut [Link; 26], slot: u8, link: Link)
+pub(crate) fn put(links: &mut [Link; 26], slot: u8, link: Link)
     requires { slot < 26 }
     ensures there { slice_get links.new slot ≡ Some link }
     ensures others { (k : ℕ) → k ≢ slot → slice_get links.new k ≡ slice_get links.old k }

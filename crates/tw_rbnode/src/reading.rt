@@ -1,7 +1,9 @@
 // Reading a page.
 #![tactic(auto, unfolding(crate::specs::NodeBytes::child_codec, crate::specs::NodeBytes::colour_codec, crate::specs::NodeBytes::entry_codec, crate::specs::NodeBytes::node_codec, crate::specs::NodeBytes::slot_codec, tw_base::specs::Codecs::behind, tw_base::specs::Codecs::by_kind, tw_base::specs::Codecs::nothing, tw_base::specs::Codecs::pair, tw_base::specs::Codecs::seen, tw_base::specs::HistoryCodec::thread_codec))]
 
-ghost use Rattle.std.specs.Prelude.{◌≡◌, ◌≢◌, ◌↔◌, ◌+◌, ◌≤◌, ◌<◌, suc, drop, length, map, take, false, IfErr, IsTrue, MatchOption, slice_get, Some};
+ghost use Rattle.std.specs.Prelude.{◌≡◌, ◌≢◌, ◌↔◌, ◌+◌, ◌≤◌, ◌<◌, ℕ, suc, length, map, false, IfErr, IsTrue, MatchOption, slice_get, Some};
+ghost use Rattle.std.specs.Ordering.{is_lt};
+ghost use Rattle.tw_base.specs.Entries.{key_cmp, key_of};
 ghost use Rattle.tw_base.specs.Lists.{Each};
 ghost use Rattle.tw_base.specs.Codecs.{many};
 ghost use Rattle.tw_base.specs.Taking.{Takes};
@@ -16,11 +18,10 @@ ghost use Rattle.tw_rbnode.specs.declared.limits.TheConstants.{MOST_KEYS, TOP_LE
 use crate::child::Child;
 use crate::kept::{Kept, entry_of};
 use crate::limits::{MOST_KEYS, TOP_LEVEL};
-use crate::links::{BLANK, Link, height_in, link_at};
+use crate::links::{BLANK, Link, height_in, link_at, put};
 use crate::node::RbNode;
 use crate::slot::Slot;
 use arrayvec::ArrayVec;
-use std::cmp::Ordering;
 use tw_base::limits::LAST_STEP;
 use tw_base::{
     Digest, Entry, Hasher, ReadFault, Thread, compare_keys, empty_tree, entry_key, is_same_digest,
@@ -197,6 +198,14 @@ fn are_children<H: Hasher>(level: u8, page: u64, children: &[Child]) -> bool
     true
 }
 
+/// Whether the key of one entry lies below that of another.
+#[tactic(auto)]
+fn is_below(one: &Entry, other: &Entry) -> bool
+    ensures { result ≡ is_lt (key_cmp (key_of one.now) (key_of other.now)) }
+{
+    compare_keys(&entry_key(one), &entry_key(other)).is_lt()
+}
+
 /// Whether the keys rise.
 #[tactic(auto)]
 fn are_rising(entries: &[Kept]) -> bool
@@ -204,9 +213,9 @@ fn are_rising(entries: &[Kept]) -> bool
     ensures { IsTrue result ↔ IsRising entries.now }
 {
     for index in 1..entries.len() {
-        let before = entry_key(&entry_of(entries, index - 1));
-        let own = entry_key(&entry_of(entries, index));
-        if compare_keys(&before, &own) != Ordering::Less {
+        let before = entry_of(entries, index - 1);
+        let own = entry_of(entries, index);
+        if !is_below(&before, &own) {
             return false;
         }
     }
@@ -218,11 +227,11 @@ fn are_rising(entries: &[Kept]) -> bool
 fn links_of(slots: &[Slot]) -> [Link; 26]
     requires { length slots.now ≤ 24 }
     ensures blank { slice_get result 0 ≡ Some (record { red = false; left = 0; right = 0 }) }
-    ensures links { take (length slots.now) (drop 1 result) ≡ map (λ s. s.link) slots.now }
+    ensures links { (k : ℕ) → k < length slots.now → slice_get result (k + 1) ≡ slice_get (map (λ s. s.link) slots.now) k }
 {
     let mut links = [BLANK; 26];
     for index in 0..slots.len() {
-        links[index + 1] = slots[index].link;
+        put(&mut links, index as u8 + 1, slots[index].link);
     }
     links
 }
@@ -250,7 +259,7 @@ fn node_of(level: u8, held: Held) -> Option<RbNode>
     requires places { length held.children.items ≡ length held.slots.items + 1 }
     requires ranges { Each (λ s. IsInRange s.entry) held.slots.items }
     ensures { MatchOption result ((p : TreePage) → IsNode p → held_of p ≡ (held.top, (held.slots.items, held.children.items)) → ⊥)
-        (λ n. (n.level ≡ level) × (held_of n ≡ (held.top, (held.slots.items, held.children.items)))) }
+        (λ n. IsNode n × (n.level ≡ level) × (held_of n ≡ (held.top, (held.slots.items, held.children.items)))) }
 {
     let count = held.slots.len() as u8;
     let links = links_of(held.slots.as_slice());

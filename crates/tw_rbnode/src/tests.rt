@@ -1,8 +1,8 @@
 // Rows of one page.
 use crate::{
-    Added, Child, Entry, Found, RbNode, add, below, entry_at, find, keys, label, single, top, way,
+    Added, Child, Entry, Found, RbNode, add, below, entry_at, find, keys, label, read_node, single,
+    top, way, write_node,
 };
-use crate::{read_node, write_node};
 use std::process::Abort;
 use std::test::Fail;
 use tw_base::{Digest, Key, Name, Sha, Thread, empty_tree, tree_node};
@@ -121,7 +121,9 @@ fn what_is_written_is_read(rt: HostRuntime) -> Result<(), Fail> {
     let bytes = write_node(&node);
     match read_node::<Sha>(&bytes, 4) {
         None => panic!(rt; "no page"),
-        Some(found) => assert!(rt; write_node(&found) == bytes && label::<Sha>(&found) == label::<Sha>(&node)),
+        Some(found) => assert!(rt;
+            write_node(&found) == bytes && label::<Sha>(&found) == label::<Sha>(&node)
+        ),
     }
     Ok(())
 }

@@ -1,7 +1,7 @@
 use Rattle.std.proofs.Common.{◌≡◌, ◌+◌, ◌<◌, ◌≤◌, ℕ, length, arith, slice_get}
 use Rattle.tw_rbnode.specs.Page.{tree_of}
 use Rattle.tw_rbnode.specs.Shape.{depth, size}
-use Rattle.tw_rbnode.proofs.Laws.{depth_at_most}
+use Rattle.tw_rbnode.proofs.RedBlack.{depth_at_most}
 use Rattle.tw_rbnode.proofs.ways.way.Goals as goal
 
 pub way_in-requires-clause-tree : goal.way_in-requires-clause-tree
