@@ -1,12 +1,12 @@
 -- The children of pages with one more entry are of their level.
-use Rattle.std.proofs.Common.{◌≡◌, ℕ, suc, ◌+◌, List, ◌++◌, ◌∷◌, [], subst, sym}
+use Rattle.std.proofs.Common.{ℕ, ◌+◌, List, ◌∷◌, [], subst, sym}
 use Rattle.tw_base.specs.declared.thread.Entry.{Entry}
 use Rattle.tw_base.specs.Lists.{Each}
 use Rattle.tw_base.proofs.ListLemmas.{Each-parts}
 use Rattle.tw_rbnode.specs.declared.child.Child.{Child}
 use Rattle.tw_rbnode.specs.declared.node.Added.{Added}
 use Rattle.tw_rbnode.specs.declared.node.Added.TheVariants.{One, Two}
-use Rattle.tw_rbnode.specs.Answers.{IsAdded, more_children}
+use Rattle.tw_rbnode.specs.Answers.{IsAdded}
 use Rattle.tw_rbnode.specs.Children.{AddedHasChildren, HasChildren, IsChildAt}
 use Rattle.tw_rbnode.specs.Page.{TreePage}
 use Rattle.tw_rbnode.proofs.Rising.{Each-two}

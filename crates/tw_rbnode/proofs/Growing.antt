@@ -1,11 +1,11 @@
 -- A node more in the slots.
-use Rattle.std.proofs.Common.{◌≡◌, ◌≢◌, ℕ, suc, zero, ◌+◌, ◌-◌, ◌<◌, ◌≤◌, Bool, true, false, cond, List, length, Option, Some, None, refl, sym, ap, ◌∙◌, subst, ◌⊎◌, inl, inr, arith, slice_get, nat_le}
-use Rattle.std.proofs.lemmas.Option.{same_Some, slice_get_within}
+use Rattle.std.proofs.Common.{◌≡◌, ◌≢◌, ℕ, ◌+◌, ◌-◌, ◌<◌, ◌≤◌, Bool, true, false, cond, Option, Some, refl, sym, ap, ◌∙◌, subst, ◌⊎◌, inl, inr, arith, nat_le}
+use Rattle.std.proofs.lemmas.Option.{same_Some}
 use Rattle.std.proofs.lemmas.Bool.{le-leb, lt-leb}
 use Rattle.tw_rbnode.specs.declared.links.Link.{Link}
-use Rattle.tw_rbnode.specs.Shape.{Shape, Empty, Node, size, is_red, blacken, recoloured, join_left, join_right, grown}
-use Rattle.tw_rbnode.specs.Slots.{slot_of, link, At, Blank, SameOutside, IsTree, bump, Gap, IsGap}
-use Rattle.tw_rbnode.proofs.Places.{At-frame, at_node, slot_within, seen, left_tree, right_tree, tree_red, JoinsLeft, JoinsRight, no_way}
+use Rattle.tw_rbnode.specs.Shape.{Shape, Empty, Node, size, is_red, recoloured, join_left, join_right, grown}
+use Rattle.tw_rbnode.specs.Slots.{slot_of, link, At, SameOutside, IsTree, bump, Gap, IsGap}
+use Rattle.tw_rbnode.proofs.Places.{At-frame, at_node, seen, left_tree, right_tree, JoinsLeft, JoinsRight, no_way}
 use Rattle.tw_rbnode.proofs.RedBlack.{size_grown}
 
 pub bump_before : (place slot : ℕ) → slot ≤ place → bump place slot ≡ slot

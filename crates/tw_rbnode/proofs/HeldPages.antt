@@ -1,5 +1,5 @@
 -- What a page has in its bytes, and the tree in its slots.
-use Rattle.std.proofs.Common.{◌≡◌, ℕ, suc, zero, ◌+◌, ◌-◌, ◌<◌, ◌≤◌, Bool, true, false, List, [], ◌∷◌, ◌++◌, length, Option, Some, None, refl, sym, ap, ◌∙◌, subst, arith, slice_get}
+use Rattle.std.proofs.Common.{◌≡◌, ℕ, suc, zero, ◌+◌, ◌<◌, ◌≤◌, false, List, [], ◌∷◌, length, Option, Some, None, refl, sym, ap, ◌∙◌, arith, slice_get}
 use Rattle.std.specs.Prelude.{map, MatchOption}
 use Rattle.std.proofs.lemmas.Option.{same_Some, none-some}
 use Rattle.tw_base.specs.declared.thread.Entry.{Entry}
@@ -13,7 +13,7 @@ use Rattle.tw_rbnode.specs.declared.slot.Slot.{Slot}
 use Rattle.tw_rbnode.specs.NodeBytes.{Held, entry_codec, held_of, links_of, node_codec, slot_codec, slots_with}
 use Rattle.tw_rbnode.specs.Page.{IsInRange, IsNode, TreePage}
 use Rattle.tw_rbnode.specs.Shape.{Shape, size}
-use Rattle.tw_rbnode.specs.Slots.{At, IsTree, link, slot_of}
+use Rattle.tw_rbnode.specs.Slots.{IsTree, link, slot_of}
 use Rattle.tw_rbnode.proofs.LinkLists.{links-at, links-read, links-size, same_lists, slots-size}
 
 pub get-map : (ss : List Slot) (i : ℕ) (s : Slot) → slice_get ss i ≡ Some s → slice_get (map (λ (s : Slot). s.link) ss) i ≡ Some s.link

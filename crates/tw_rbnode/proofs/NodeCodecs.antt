@@ -1,7 +1,7 @@
 -- The codec of tree pages is lawful.
-use Rattle.std.proofs.Common.{◌≡◌, ℕ, suc, zero, ◌+◌, ◌≤◌, Bool, true, false, List, length, refl, arith}
+use Rattle.std.proofs.Common.{◌≡◌, ℕ, suc, zero, ◌≤◌, Bool, length, arith}
 use Rattle.std.specs.Prelude.{◌==◌, if◌then◌else◌}
-use Rattle.tw_base.specs.Codecs.{Codec, many, nothing, number_codec, pair}
+use Rattle.tw_base.specs.Codecs.{many, nothing, number_codec, pair}
 use Rattle.tw_base.proofs.CodecLaws.{Lawful, lawful, lawful-by_kind, lawful-many, lawful-nothing, lawful-number, lawful-pair}
 use Rattle.tw_base.proofs.HistoryCodecLaws.{thread-lawful}
 use Rattle.tw_rbnode.specs.NodeBytes.{Held, child_codec, colour_codec, counted_codec, entry_codec, held_codec, node_codec, slot_codec}

@@ -1,9 +1,9 @@
 -- A new slot among the slots of a tree.
-use Rattle.std.proofs.Common.{◌≡◌, ◌≢◌, ℕ, suc, zero, ◌+◌, ◌-◌, ◌<◌, ◌≤◌, Bool, true, false, cond, List, length, Option, Some, None, refl, sym, ap, ◌∙◌, subst, ◌⊎◌, inl, inr, arith, slice_get, nat_le}
+use Rattle.std.proofs.Common.{◌≡◌, ◌≢◌, ℕ, ◌+◌, ◌<◌, ◌≤◌, Bool, false, Option, Some, refl, sym, ap, ◌∙◌, subst, ◌⊎◌, inl, inr, arith}
 use Rattle.tw_rbnode.specs.declared.links.Link.{Link}
-use Rattle.tw_rbnode.specs.Shape.{Shape, Empty, Node, size, is_red, blacken, insert, grown}
-use Rattle.tw_rbnode.specs.Slots.{slot_of, link, At, Blank, SameOutside, IsTree, bump, bumped, Gap, IsGap}
-use Rattle.tw_rbnode.proofs.Places.{At-frame, at_node, slot_within, seen}
+use Rattle.tw_rbnode.specs.Shape.{Shape, Empty, Node, size, blacken, grown}
+use Rattle.tw_rbnode.specs.Slots.{slot_of, link, At, IsTree, bump, bumped, Gap, IsGap}
+use Rattle.tw_rbnode.proofs.Places.{At-frame, at_node, seen}
 use Rattle.tw_rbnode.proofs.Growing.{bump_before, bump_behind}
 use Rattle.tw_rbnode.proofs.RedBlack.{size_grown}
 

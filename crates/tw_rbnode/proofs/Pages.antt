@@ -1,8 +1,7 @@
 -- Pages of slots.
-use Rattle.std.proofs.Common.{◌≡◌, ◌≢◌, ℕ, suc, zero, ◌+◌, ◌-◌, ◌<◌, ◌≤◌, Bool, true, false, cond, List, [], ◌∷◌, ◌++◌, take, drop, length, Option, Some, None, refl, sym, ap, ◌∙◌, subst, ◌⊎◌, inl, inr, arith, slice_get, nat_eq, get_or, length-append, length-take, length-drop}
+use Rattle.std.proofs.Common.{◌≡◌, ℕ, suc, zero, ◌+◌, ◌-◌, ◌<◌, ◌≤◌, true, false, List, [], ◌∷◌, ◌++◌, take, drop, length, Option, refl, sym, ap, ◌∙◌, subst, arith, nat_eq, get_or, length-append, length-take, length-drop}
 use Rattle.std.proofs.lemmas.List.{take_all, take-append-drop}
 use Rattle.std.proofs.lemmas.Grind.{take_at_read}
-use Rattle.std.proofs.lemmas.Option.{same_Some, slice_get_within, none-some}
 use Rattle.tw_rbnode.specs.declared.links.Link.{Link}
 use Rattle.tw_base.specs.declared.thread.Entry.{Entry}
 use Rattle.tw_base.specs.Entries.{key_of}
@@ -10,7 +9,7 @@ use Rattle.tw_base.specs.Lists.{Each}
 use Rattle.tw_base.specs.Tree.{IsRising}
 use Rattle.tw_rbnode.specs.declared.child.Child.{Child}
 use Rattle.tw_rbnode.specs.Shape.{Shape, Empty, Node, size, IsEven, IsRedBlack, insert}
-use Rattle.tw_rbnode.specs.Slots.{slot_of, link, At, Blank, IsTree}
+use Rattle.tw_rbnode.specs.Slots.{slot_of, At, IsTree}
 use Rattle.tw_rbnode.specs.Page.{TreePage, IsBetween, IsInRange, IsNode, tree_of}
 use Rattle.tw_rbnode.specs.Answers.{more_children, more_entries}
 use Rattle.tw_rbnode.proofs.Rising.{Each-with, Rising-with}

@@ -1,9 +1,9 @@
 -- Trees in slots, as links change.
-use Rattle.std.proofs.Common.{not, ◌≡◌, ◌≢◌, ℕ, suc, zero, ◌+◌, ◌-◌, ◌<◌, ◌≤◌, Bool, true, false, cond, List, length, Option, Some, None, refl, sym, ap, ◌∙◌, subst, ◌⊎◌, inl, inr, arith, slice_get}
+use Rattle.std.proofs.Common.{not, ◌≡◌, ◌≢◌, ℕ, ◌+◌, ◌<◌, ◌≤◌, Bool, true, false, List, length, Option, Some, refl, sym, ap, ◌∙◌, subst, ◌⊎◌, inl, inr, arith, slice_get}
 use Rattle.std.proofs.lemmas.Option.{same_Some, slice_get_within}
 use Rattle.tw_rbnode.specs.declared.links.Link.{Link}
-use Rattle.tw_rbnode.specs.Shape.{Shape, Empty, Node, size, is_red, blacken, recoloured, turned, outer_left, inner_left, over_red_left, join_left, outer_right, inner_right, over_red_right, join_right, grown}
-use Rattle.tw_rbnode.specs.Slots.{slot_of, link, At, Blank, SameOutside, IsTree, bump, Gap, IsGap}
+use Rattle.tw_rbnode.specs.Shape.{Shape, Empty, Node, size, is_red, turned, over_red_left, join_left, over_red_right, join_right}
+use Rattle.tw_rbnode.specs.Slots.{slot_of, link, At, Blank, SameOutside, IsTree}
 
 pub At-frame : (f g : ℕ → Option Link) (base : ℕ) (t : Shape) → At f base t → ((k : ℕ) → base < k → k ≤ base + size t → g k ≡ f k) → At g base t
 At-frame f g base Empty h same = tt

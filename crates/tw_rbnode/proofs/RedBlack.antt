@@ -1,8 +1,8 @@
 -- The red-black law.
-use Rattle.std.proofs.Common.{◌≡◌, ◌≢◌, ℕ, suc, zero, ◌+◌, ◌-◌, ◌*◌, ◌^◌, ◌<◌, ◌≤◌, Bool, true, false, cond, refl, sym, ap, ◌∙◌, subst, ◌⊎◌, inl, inr, arith, max, nat_le}
+use Rattle.std.proofs.Common.{◌≡◌, ℕ, ◌+◌, ◌-◌, ◌*◌, ◌^◌, ◌≤◌, Bool, true, false, cond, refl, sym, ap, ◌∙◌, subst, ◌⊎◌, inl, inr, arith, max, nat_le}
 use Rattle.std.proofs.Math.Nat.{max-le, pow-le-pow_right}
 use Rattle.std.proofs.lemmas.Nat.{pow-add}
-use Rattle.tw_rbnode.specs.Shape.{Shape, Empty, Node, size, is_red, blacken, IsEven, IsRedBlack, recoloured, turned, outer_left, inner_left, over_red_left, over_left, join_left, outer_right, inner_right, over_red_right, over_right, join_right, grown, insert, depth}
+use Rattle.tw_rbnode.specs.Shape.{Shape, Empty, Node, size, is_red, blacken, IsEven, IsRedBlack, recoloured, outer_left, inner_left, over_red_left, over_left, join_left, outer_right, inner_right, over_red_right, over_right, join_right, grown, insert, depth}
 
 -- one more for a red root
 abbrev pub one_if : Bool → ℕ

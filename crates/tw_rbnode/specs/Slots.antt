@@ -1,5 +1,5 @@
 -- A shape kept in slots: slots stand in order and are counted from 1, and 0 is an empty place.
-use Rattle.std.specs.Prelude.{◌≡◌, ℕ, ◌+◌, ◌≤◌, ◌<◌, ◌==◌, Bool, true, false, cond, nat_le, nat_lt, Option, Some, ◌⊎◌, if◌then◌else◌}
+use Rattle.std.specs.Prelude.{◌≡◌, ℕ, ◌+◌, ◌≤◌, ◌<◌, ◌==◌, Bool, false, cond, nat_le, nat_lt, Option, Some, ◌⊎◌, if◌then◌else◌}
 use Rattle.tw_rbnode.specs.declared.links.Link.{Link}
 use Rattle.tw_rbnode.specs.Shape.{Shape, Empty, Node, size}
 

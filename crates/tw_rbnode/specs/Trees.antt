@@ -1,5 +1,5 @@
 -- The tree that a page stands for, its label, and the nodes above a slot or a place.
-use Rattle.std.specs.Prelude.{ℕ, suc, ◌+◌, ◌-◌, ◌*◌, ◌==◌, nat_lt, List, [], ◌∷◌, ◌++◌, map, slice_get, slice_index_or, Option, Some, None, if◌then◌else◌}
+use Rattle.std.specs.Prelude.{ℕ, ◌+◌, ◌*◌, ◌==◌, nat_lt, List, [], ◌∷◌, ◌++◌, map, slice_get, slice_index_or, Option, Some, None, if◌then◌else◌}
 use Rattle.tw_base.specs.declared.thread.Entry.{Entry}
 use Rattle.tw_base.specs.declared.tree_proof.Ancestor.{Ancestor}
 use Rattle.tw_base.specs.Entries.{entry_text}

@@ -12,8 +12,6 @@ mod links;
 mod node;
 mod reading;
 mod slot;
-#[cfg(test)]
-mod tests;
 mod ways;
 mod writing;
 

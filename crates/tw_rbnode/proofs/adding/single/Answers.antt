@@ -1,7 +1,6 @@
-use Rattle.std.proofs.Common.{◌≡◌, ◌++◌, ◌∷◌, [], ◌+◌, ◌<◌, ◌≤◌, ℕ, length, refl, sym, ap, ◌∙◌, subst, arith, false}
+use Rattle.std.proofs.Common.{◌≡◌, ◌++◌, ◌∷◌, [], length, refl, sym, ap, ◌∙◌, subst, arith, false}
 use Rattle.tw_base.specs.Lists.{Each}
 use Rattle.tw_base.specs.Tree.{IsRising}
-use Rattle.tw_rbnode.specs.Children.{IsChildAt}
 use Rattle.tw_rbnode.specs.Page.{IsInRange}
 use Rattle.tw_rbnode.specs.Shape.{Empty, Node}
 use Rattle.tw_rbnode.proofs.Pages.{whole_node}

@@ -1,10 +1,7 @@
-use Rattle.std.proofs.Common.{◌≡◌, ◌++◌, ◌∷◌, [], ◌+◌, ◌-◌, ◌<◌, ◌≤◌, ℕ, List, length, take, drop, refl, sym, ap, ◌∙◌, subst, arith, length-take, length-drop}
+use Rattle.std.proofs.Common.{◌≡◌, ◌++◌, ◌∷◌, [], length, sym, ap, ◌∙◌, arith, length-take, length-drop}
 use Rattle.tw_base.specs.declared.thread.Entry.{Entry}
-use Rattle.tw_base.specs.Entries.{key_of}
-use Rattle.tw_base.specs.Lists.{Each}
-use Rattle.tw_rbnode.specs.declared.child.Child.{Child}
 use Rattle.tw_rbnode.specs.Answers.{more_children, more_entries}
-use Rattle.tw_rbnode.specs.Page.{IsBetween, IsInRange, TreePage}
+use Rattle.tw_rbnode.specs.Page.{IsInRange, TreePage}
 use Rattle.tw_rbnode.proofs.Pages.{rest_taken, with_size, joined_children, joined_entries, more_rising, more_ranges}
 use Rattle.tw_rbnode.proofs.Rising.{Each-drop, Each-take, Rising-drop, Rising-take, get-read}
 use Rattle.tw_rbnode.proofs.adding.split.Goals as goal

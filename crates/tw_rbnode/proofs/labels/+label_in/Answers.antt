@@ -1,9 +1,8 @@
-use Rattle.std.proofs.Common.{◌≡◌, ◌+◌, ◌-◌, ◌<◌, ◌≤◌, ℕ, List, length, slice_get, sym, ap, ◌∙◌, arith}
-use Rattle.tw_base.specs.declared.thread.Entry.{Entry}
+use Rattle.std.proofs.Common.{◌≡◌, ◌+◌, ◌<◌, length, ap, ◌∙◌, arith}
 use Rattle.tw_base.specs.Entries.{entry_text}
 use Rattle.tw_rbnode.specs.Shape.{size}
 use Rattle.tw_rbnode.specs.Trees.{labels_of}
-use Rattle.tw_rbnode.proofs.Descents.{no_node, parts, within as slots_within}
+use Rattle.tw_rbnode.proofs.Descents.{no_node, parts}
 use Rattle.tw_rbnode.proofs.LabelLaws.{leaf-label, node-label}
 use Rattle.tw_rbnode.proofs.Places.{tree_slot}
 use Rattle.tw_rbnode.proofs.labels.+label_in.Goals as goal

@@ -1,4 +1,4 @@
-use Rattle.std.proofs.Common.{◌≡◌, ◌+◌, ◌-◌, ◌<◌, ◌≤◌, ℕ, List, length, slice_get, sym, ap, ◌∙◌, arith}
+use Rattle.std.proofs.Common.{◌≡◌, ◌+◌, ap, ◌∙◌, arith}
 use Rattle.tw_rbnode.specs.Shape.{size}
 use Rattle.tw_rbnode.specs.Trees.{labels_of}
 use Rattle.tw_rbnode.proofs.Descents.{has_node, parts}

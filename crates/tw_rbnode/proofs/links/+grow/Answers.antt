@@ -1,4 +1,4 @@
-use Rattle.std.proofs.Common.{◌≡◌, ◌<◌, ◌+◌, ◌-◌, ℕ, slice_get, arith}
+use Rattle.std.proofs.Common.{◌≡◌, ◌<◌, ◌+◌, ◌-◌, slice_get, arith}
 use Rattle.tw_rbnode.specs.Shape.{size, grown}
 use Rattle.tw_rbnode.proofs.Growing.{gap_node, on_left, on_right, left_joined, right_joined, grows_left, grows_right}
 use Rattle.tw_rbnode.proofs.links.+grow.Goals as goal

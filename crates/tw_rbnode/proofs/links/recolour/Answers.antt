@@ -1,4 +1,3 @@
-use Rattle.std.proofs.Common.{slice_get}
 use Rattle.tw_rbnode.proofs.Growing.{recoloured_at}
 use Rattle.tw_rbnode.proofs.links.recolour.Goals as goal
 

@@ -1,4 +1,4 @@
-use Rattle.std.proofs.Common.{length, ◌<◌, ℕ, Bool, true, false, subst, sym, slice_get, arith}
+use Rattle.std.proofs.Common.{length, ◌<◌, ℕ, subst, sym, slice_get, arith}
 use Rattle.std.proofs.lemmas.Option.{slice_get_within}
 use Rattle.tw_rbnode.proofs.Places.{JoinsLeft, kept_left, turned_outer_left, turned_inner_left, not_false}
 use Rattle.tw_rbnode.proofs.links.settle_left.Goals as goal

@@ -1,4 +1,4 @@
-use Rattle.std.proofs.Common.{length, ◌<◌, ℕ, Bool, true, false, subst, sym, slice_get, arith}
+use Rattle.std.proofs.Common.{length, ◌<◌, ℕ, subst, sym, slice_get, arith}
 use Rattle.std.proofs.lemmas.Option.{slice_get_within}
 use Rattle.tw_rbnode.proofs.Places.{JoinsRight, kept_right, turned_outer_right, turned_inner_right, not_false}
 use Rattle.tw_rbnode.proofs.links.settle_right.Goals as goal

@@ -1,4 +1,4 @@
-use Rattle.std.proofs.Common.{◌≡◌, ◌+◌, ◌<◌, ◌≤◌, ℕ, length, sym, ap, ◌∙◌, arith, slice_get}
+use Rattle.std.proofs.Common.{◌≡◌, length, ap, ◌∙◌, arith, slice_get}
 use Rattle.tw_rbnode.specs.Page.{TreePage, tree_of}
 use Rattle.tw_rbnode.specs.Shape.{size}
 use Rattle.tw_rbnode.specs.Slots.{below_at}

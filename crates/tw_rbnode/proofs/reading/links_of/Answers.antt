@@ -1,4 +1,4 @@
-use Rattle.std.proofs.Common.{◌≡◌, ◌≢◌, ◌+◌, ◌<◌, ℕ, ap, sym, ◌∙◌, arith, ◌⊎◌, inl, inr, slice_get}
+use Rattle.std.proofs.Common.{◌≡◌, ◌+◌, ◌<◌, ℕ, ap, sym, ◌∙◌, arith, ◌⊎◌, inl, inr, slice_get}
 use Rattle.std.specs.Prelude.{map, Some}
 use Rattle.tw_rbnode.specs.declared.slot.Slot.{Slot}
 use Rattle.tw_rbnode.proofs.HeldPages.{get-map}

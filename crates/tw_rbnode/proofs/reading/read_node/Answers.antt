@@ -1,12 +1,11 @@
-use Rattle.std.proofs.Common.{◌≡◌, ◌+◌, ◌<◌, ◌≤◌, ℕ, List, length, refl, sym, ap, ◌∙◌, subst, arith, true, false}
+use Rattle.std.proofs.Common.{◌≡◌, ℕ, List, sym, ap, subst, arith, true}
 use Rattle.tw_base.specs.Lists.{Each}
 use Rattle.tw_disk.specs.PageBytes.{IsPageOf}
 use Rattle.tw_disk.proofs.PageLaws.{page-once, takes-page}
 use Rattle.tw_rbnode.specs.declared.child.Child.{Child}
 use Rattle.tw_rbnode.specs.declared.reading.PageFields.{PageFields}
 use Rattle.tw_rbnode.specs.Children.{IsChildAt}
-use Rattle.tw_rbnode.specs.NodeBytes.{Held, LiesBelow, MayStand, fields_of, node_codec}
-use Rattle.tw_rbnode.specs.Page.{TreePage}
+use Rattle.tw_rbnode.specs.NodeBytes.{Held, LiesBelow, fields_of, node_codec}
 use Rattle.tw_rbnode.proofs.HeldPages.{Each-apart, Each-both, match_map, node-fitting}
 use Rattle.tw_rbnode.proofs.NodeCodecs.{node-lawful}
 use Rattle.tw_rbnode.proofs.reading.read_node.Goals as goal

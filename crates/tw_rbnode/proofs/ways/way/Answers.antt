@@ -1,4 +1,4 @@
-use Rattle.std.proofs.Common.{◌≡◌, ◌+◌, ◌<◌, ◌≤◌, ℕ, length, arith, slice_get}
+use Rattle.std.proofs.Common.{◌≡◌, ◌+◌, ◌≤◌, length, arith, slice_get}
 use Rattle.tw_rbnode.specs.Page.{tree_of}
 use Rattle.tw_rbnode.specs.Shape.{depth, size}
 use Rattle.tw_rbnode.proofs.RedBlack.{depth_at_most}

@@ -1,6 +1,5 @@
-use Rattle.std.proofs.Common.{◌≡◌, ◌++◌, ◌∷◌, [], ◌+◌, ◌<◌, ℕ, suc, List, drop, length, take, sym, ap, ◌∙◌, subst, arith, slice_get}
-use Rattle.std.specs.Prelude.{Option, Some}
-use Rattle.tw_rbnode.specs.declared.links.Link.{Link}
+use Rattle.std.proofs.Common.{◌≡◌, ◌++◌, ◌∷◌, [], ◌+◌, ℕ, suc, List, drop, length, take, sym, ap, ◌∙◌, arith, slice_get}
+use Rattle.std.specs.Prelude.{Some}
 use Rattle.tw_rbnode.specs.declared.slot.Slot.{Slot}
 use Rattle.tw_rbnode.specs.NodeBytes.{slots_with}
 use Rattle.tw_rbnode.proofs.LinkLists.{get-behind, slots-more}
