@@ -12,3 +12,4 @@ pub mod Heights
 pub mod NodeCodecs
 pub mod HeldPages
 pub mod TreeLabels
+pub mod PageOnce
