@@ -13,3 +13,4 @@ pub mod NodeCodecs
 pub mod HeldPages
 pub mod TreeLabels
 pub mod PageOnce
+pub mod TreeLists

@@ -67,3 +67,9 @@ module _ (dig : List ℕ → List ℕ) where
   -- the nodes of a page above a slot or a place
   abbrev pub nodes_above : TreePage → Found → List Ancestor
   nodes_above p at = above_at p.entries (labels_of p.children) (mark_of at) 0 p.shape
+
+-- lists with an entry between each two: what a page lists over what its children list
+abbrev pub woven : List (List Entry) → List Entry → List Entry
+woven [] es = es
+woven (c ∷ cs) [] = c
+woven (c ∷ cs) (e ∷ es) = c ++ e ∷ woven cs es
