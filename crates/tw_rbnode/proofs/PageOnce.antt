@@ -1,15 +1,13 @@
 -- Bytes are those of one page at most.
-use Rattle.std.proofs.Common.{◌≡◌, ℕ, suc, ◌+◌, ◌<◌, List, ◌∷◌, length, Option, Some, false, refl, sym, ap, ◌∙◌, arith, slice_get}
+use Rattle.std.proofs.Common.{◌≡◌, ℕ, suc, ◌+◌, List, ◌∷◌, length, false, refl, sym, ap, ◌∙◌, arith, slice_get}
 use Rattle.std.specs.Prelude.{map}
-use Rattle.tw_base.specs.declared.thread.Entry.{Entry}
 use Rattle.tw_disk.specs.PageBytes.{IsPageOf}
 use Rattle.tw_disk.proofs.PageLaws.{page-once}
-use Rattle.tw_rbnode.specs.declared.child.Child.{Child}
 use Rattle.tw_rbnode.specs.declared.links.Link.{Link}
 use Rattle.tw_rbnode.specs.declared.slot.Slot.{Slot}
 use Rattle.tw_rbnode.specs.NodeBytes.{Held, fields_of, links_of, node_codec, slots_with}
 use Rattle.tw_rbnode.specs.Page.{IsNode, TreePage}
-use Rattle.tw_rbnode.specs.Shape.{Shape, size}
+use Rattle.tw_rbnode.specs.Shape.{Shape}
 use Rattle.tw_rbnode.specs.Slots.{IsTree, link, slot_of}
 use Rattle.tw_rbnode.proofs.HeldPages.{slots-entries, slots-links}
 use Rattle.tw_rbnode.proofs.Heights.{tree_unique}

@@ -18,7 +18,7 @@ mod writing;
 pub use adding::{add, put_child, single};
 pub use child::Child;
 pub use labels::{label, sides};
-pub use laws::{page_tree_laws, page_spelling_laws};
+pub use laws::{page_spelling_laws, page_tree_laws};
 pub use node::{Added, Found, RbNode, below, child_at, entry_at, find, keys, level, top};
 pub use reading::read_node;
 pub use tw_base::{Ancestor, Digest, Entry, Hasher, Key};
