@@ -1,0 +1,16 @@
+pub mod RedBlack
+pub mod Places
+pub mod Growing
+pub mod Opening
+pub mod Pages
+pub mod Rising
+pub mod ChildLaws
+pub mod Descents
+pub mod LabelLaws
+pub mod LinkLists
+pub mod Heights
+pub mod NodeCodecs
+pub mod HeldPages
+pub mod TreeLabels
+pub mod PageOnce
+pub mod TreeLists

@@ -1,0 +1,11 @@
+// What a slot of a page has in its bytes.
+
+use crate::kept::Kept;
+use crate::links::Link;
+
+/// A slot: its link, and its entry.
+#[derive(Clone, Copy, Default, Drop)]
+pub(crate) struct Slot {
+    pub link: Link,
+    pub entry: Kept,
+}

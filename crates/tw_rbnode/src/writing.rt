@@ -1,0 +1,147 @@
+// Writing a page.
+#![tactic(auto, unfolding(crate::specs::NodeBytes::child_codec, crate::specs::NodeBytes::colour_codec, crate::specs::NodeBytes::entry_codec, crate::specs::NodeBytes::node_codec, crate::specs::NodeBytes::slot_codec, tw_base::specs::Codecs::behind, tw_base::specs::Codecs::by_kind, tw_base::specs::Codecs::bytes_codec, tw_base::specs::Codecs::many, tw_base::specs::Codecs::name_codec, tw_base::specs::Codecs::nothing, tw_base::specs::Codecs::number_codec, tw_base::specs::Codecs::pair, tw_base::specs::Codecs::seen, tw_base::specs::HistoryCodec::thread_codec))]
+
+ghost use Rattle.std.specs.Prelude.{◌≡◌, ◌+◌, ◌*◌, ◌≤◌, ◌<◌, ◌++◌, ◌∷◌, [], length, drop, flat_map, take};
+ghost use Rattle.tw_base.specs.Bytes.{AreBytes};
+ghost use Rattle.tw_base.specs.Codecs.{HasBytes};
+ghost use Rattle.tw_base.specs.Lists.{Each};
+ghost use Rattle.tw_disk.specs.PageBytes.{IsPageOf};
+ghost use Rattle.tw_rbnode.specs.NodeBytes.{child_codec, entry_codec, fields_of, links_of, node_codec, slot_codec, slots_with};
+ghost use Rattle.tw_rbnode.specs.Page.{IsInRange};
+
+use crate::child::Child;
+use crate::kept::Kept;
+use crate::links::{Link, link_at};
+use crate::node::RbNode;
+use crate::slot::Slot;
+use arrayvec::ArrayVec;
+use tw_base::{Digest, Entry};
+use tw_disk::{Page, PageFront};
+
+/// Tells that bytes are bytes.
+#[tactic(auto)]
+fn are_bytes(bytes: &[u8])
+    ensures { AreBytes bytes.now }
+{
+    let _count = bytes.len();
+}
+
+/// Puts a digest, and tells that it has 32 bytes.
+#[tactic(auto)]
+fn put_digest(page: &mut PageFront, digest: &Digest)
+    requires { length page.old + 32 ≤ 4096 }
+    ensures bytes { page.new ≡ page.old ++ digest.now }
+    ensures size { length page.new ≡ length page.old + 32 }
+    ensures fits { HasBytes 32 digest.now }
+{
+    are_bytes(&digest.0);
+    page.put_digest(digest);
+}
+
+/// Puts an entry, 64 bytes.
+fn put_entry(page: &mut PageFront, entry: &Entry)
+    requires room { length page.old + 64 ≤ 4096 }
+    requires range { IsInRange entry.now }
+    ensures bytes { page.new ≡ page.old ++ entry_codec.write entry.now }
+    ensures fits { entry_codec.Fits entry.now }
+    ensures size { length page.new ≡ length page.old + 64 }
+{
+    page.put(entry.thread.from.as_bytes());
+    page.put_number(entry.thread.step, 8);
+    put_digest(page, &entry.thread.auth);
+    page.put_number(entry.archived, 8);
+}
+
+/// Puts a slot, 67 bytes.
+#[tactic(auto, unfolding(crate::specs::NodeBytes::colour_codec, crate::specs::NodeBytes::slot_codec, tw_base::specs::Codecs::by_kind, tw_base::specs::Codecs::nothing, tw_base::specs::Codecs::number_codec, tw_base::specs::Codecs::pair, tw_base::specs::Codecs::seen))]
+fn put_slot(page: &mut PageFront, slot: &Slot)
+    requires room { length page.old + 67 ≤ 4096 }
+    requires range { IsInRange slot.now.entry }
+    ensures bytes { page.new ≡ page.old ++ slot_codec.write slot.now }
+    ensures fits { slot_codec.Fits slot.now }
+    ensures size { length page.new ≡ length page.old + 67 }
+{
+    page.put_number(if slot.link.red { 1 } else { 0 }, 1);
+    page.put_number(slot.link.left as u64, 1);
+    page.put_number(slot.link.right as u64, 1);
+    put_entry(page, &slot.entry.entry);
+}
+
+/// Puts the slots.
+#[tactic(auto)]
+fn put_slots(page: &mut PageFront, slots: &[Slot])
+    requires room { length page.old + 67 * length slots.now ≤ 4096 }
+    requires ranges { Each (λ s. IsInRange s.entry) slots.now }
+    ensures bytes { page.new ≡ page.old ++ flat_map slot_codec.write slots.now }
+    ensures fits { Each slot_codec.Fits slots.now }
+    ensures size { length page.new ≡ length page.old + 67 * length slots.now }
+{
+    for slot in slots {
+        put_slot(page, slot);
+    }
+}
+
+/// Puts a child, 40 bytes.
+fn put_one(page: &mut PageFront, child: &Child)
+    requires { length page.old + 40 ≤ 4096 }
+    ensures bytes { page.new ≡ page.old ++ child_codec.write child.now }
+    ensures fits { child_codec.Fits child.now }
+    ensures size { length page.new ≡ length page.old + 40 }
+{
+    page.put_number(child.page, 8);
+    put_digest(page, &child.label);
+}
+
+/// Puts the children.
+#[tactic(auto)]
+fn put_children(page: &mut PageFront, children: &[Child])
+    requires { length page.old + 40 * length children.now ≤ 4096 }
+    ensures bytes { page.new ≡ page.old ++ flat_map child_codec.write children.now }
+    ensures fits { Each child_codec.Fits children.now }
+{
+    for child in children {
+        put_one(page, child);
+    }
+}
+
+/// The slots of the page.
+#[tactic(auto)]
+fn slots_of(node: &RbNode) -> ArrayVec<Slot, 24>
+    ensures slots { result.items ≡ slots_with (links_of 0 node.now.shape) node.now.entries }
+    ensures count { length result.items ≡ length node.now.entries }
+    ensures ranges { Each (λ s. IsInRange s.entry) result.items }
+{
+    slots_in(&node.links, node.entries.as_slice())
+}
+
+/// The slots with these links, of which the first is slot 1's, and entries.
+#[tactic(auto)]
+fn slots_in(links: &[Link; 26], entries: &[Kept]) -> ArrayVec<Slot, 24>
+    requires { length entries.now ≤ 24 }
+    ensures slots { result.items ≡ slots_with (take (length entries.now) (drop 1 links.now)) entries.now }
+    ensures long { length links.now ≡ 26 }
+{
+    let mut slots = ArrayVec::new();
+    for index in 0..entries.len() {
+        slots.push(Slot {
+            link: link_at(links, index as u8 + 1),
+            entry: entries[index],
+        });
+    }
+    slots
+}
+
+/// The bytes of the page. Takes no memory.
+pub fn write_node(node: &RbNode) -> Page
+    // The bytes are those that the format gives the page, and they may be read.
+    ensures { IsPageOf node_codec result (fields_of node.now) }
+{
+    let mut page = PageFront::new();
+    page.put(&[3]);
+    page.put_number(node.level as u64, 1);
+    page.put_number(node.entries.len() as u64, 1);
+    page.put_number(node.top as u64, 1);
+    put_slots(&mut page, slots_of(node).as_slice());
+    put_children(&mut page, node.children.as_slice());
+    page.into_page()
+}
