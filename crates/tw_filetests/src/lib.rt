@@ -18,7 +18,7 @@ mod names;
 #[cfg(test)]
 mod openings;
 #[cfg(test)]
-mod proof_kinds;
+mod proofs;
 #[cfg(test)]
 mod reading;
 #[cfg(test)]

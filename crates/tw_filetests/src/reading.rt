@@ -2,21 +2,18 @@
 
 use std::test::Fail;
 use tw_base::{
-    Bytes, Content, Digest, ReadFault, put_number, put_sized, put_text, take_bytes, take_labels,
-    take_number, take_recorded, take_sized, take_slice,
+    Content, Digest, ReadFault, take_bytes, take_labels, take_number, take_recorded, take_sized,
+    take_slice,
 };
 
 #[test]
 fn fields_one_after_another(rt: HostRuntime) -> Result<(), Fail> {
-    let mut bytes = Bytes::new(rt.alloc());
-    put_text(&mut bytes, b"TW")?;
-    put_sized(&mut bytes, b"abc", 4)?;
-    put_number(&mut bytes, 5, 2)?;
+    let bytes = [84, 87, 0, 0, 0, 3, 97, 98, 99, 0, 5];
     let mut at = 2;
-    let read = take_sized(rt.alloc(), bytes.as_slice(), &mut at, 4, 0, 8)?;
+    let read = take_sized(rt.alloc(), &bytes, &mut at, 4, 0, 8)?;
     assert_eq!(rt; read.as_slice(), b"abc".as_slice());
     assert_eq!(rt; at, 9);
-    let beyond = take_number(bytes.as_slice(), &mut at, 2, 6, 8);
+    let beyond = take_number(&bytes, &mut at, 2, 6, 8);
     assert_eq!(rt; beyond, Err(ReadFault::Malformed { place: 10 }));
     Ok(())
 }

@@ -3,6 +3,7 @@
 use std::test::Fail;
 use tw_base::{
     Bytes, Digest, Labels, Name, put_bytes, put_digest, put_labels, put_name, put_number,
+    put_sized, put_text,
 };
 
 #[test]
@@ -18,6 +19,18 @@ fn fields_in_order(rt: HostRuntime) -> Result<(), Fail> {
             84, 87, 1, 2, 255, 255, 255, 255, 255, 255, 255, 255, 0, 0, 0, 7
         ]
         .as_slice()
+    );
+    Ok(())
+}
+
+#[test]
+fn runs_of_bytes(rt: HostRuntime) -> Result<(), Fail> {
+    let mut into = Bytes::new(rt.alloc());
+    put_text(&mut into, b"TW")?;
+    put_sized(&mut into, b"abc", 4)?;
+    assert_eq!(rt;
+        into.as_slice(),
+        [84, 87, 0, 0, 0, 3, 97, 98, 99].as_slice()
     );
     Ok(())
 }
