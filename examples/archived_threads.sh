@@ -6,16 +6,7 @@
 set -e
 
 maker=$(realpath "$(dirname "$0")/../tests/acceptance/histories.py")
-PATH=$(dirname "$(realpath "$1")"):$PATH
-folder=$(mktemp -d)
-trap 'rm -r "$folder"' EXIT
-cd "$folder"
-
-# Shows a command, and runs it.
-run() {
-    printf '$ %s\n' "$1"
-    sh -c "$1" || echo "(status $?)"
-}
+. "$(dirname "$0")/shown.sh"
 
 python3 "$maker" .
 run "cat anchors"

@@ -4,16 +4,7 @@
 #     examples/two_services.sh PROGRAM
 set -e
 
-PATH=$(dirname "$(realpath "$1")"):$PATH
-folder=$(mktemp -d)
-trap 'rm -r "$folder"' EXIT
-cd "$folder"
-
-# Shows a command, and runs it.
-run() {
-    printf '$ %s\n' "$1"
-    sh -c "$1" || echo "(status $?)"
-}
+. "$(dirname "$0")/shown.sh"
 
 run "mkdir store till"
 run "timeweave init store shop"
