@@ -21,6 +21,8 @@ pub mod Levels
 pub mod Auth
 pub mod HistoryTexts
 pub mod Family
+pub mod Chains
+pub mod Facts
 pub mod Reasons
 pub mod Formats
 pub mod Fields
@@ -31,3 +33,4 @@ pub mod Codecs
 pub mod Taking
 pub mod HistoryCodec
 pub mod Resuming
+pub mod Feeding

@@ -21,3 +21,6 @@ pub const MOST_HISTORY_BYTES: u64 = 67_108_864;
 
 /// The most anchors that a verifier holds.
 pub const MOST_ANCHORS: u64 = 64;
+
+/// The most hops of a proof from event to event.
+pub const MOST_HOPS: u64 = 64;

@@ -11,3 +11,6 @@ pub mod Completeness
 pub mod OwnSpelling
 pub mod ProofBytes
 pub mod ProofFits
+pub mod LowerSteps
+pub mod ChainSteps
+pub mod HeadStep
