@@ -1,16 +1,5 @@
-pub mod KindBytes
-pub mod ProofCodec
 pub mod PathBinds
 pub mod ArchiveAnswers
-pub mod ClaimBinds
-pub mod ClaimHolds
-pub mod Verdicts
-pub mod ProofSizes
-pub mod Fronts
-pub mod Completeness
-pub mod OwnSpelling
-pub mod ProofBytes
-pub mod ProofFits
 pub mod LowerSteps
 pub mod ChainSteps
 pub mod HeadStep

@@ -30,7 +30,7 @@ use Rattle.tw_chain.specs.declared.stage.Stage.TheVariants.{Begun, Head, LinkHea
 use Rattle.tw_chain.specs.declared.stage.Way.{Way}
 use Rattle.tw_chain.specs.declared.stage.Way.TheVariants as way
 use Rattle.tw_chain.specs.Chaining.{behind_chain, chain_of, closed, with_hop}
-use Rattle.tw_chain.specs.Judging.{judged_layout, judgement_of}
+use Rattle.tw_chain.specs.Judgements.{judged_layout, judgement_of}
 use Rattle.tw_chain.specs.Proofs.{behind_codec, key_codec}
 
 -- the least count of events of the opening: 1 where an event follows

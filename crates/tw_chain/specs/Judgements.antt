@@ -1,5 +1,5 @@
 -- The verdict as a value of the proof, for the verifier that reads in pieces: it holds the lowest reason so far, and what the report
--- needs, and no part of the proof that was judged.
+-- needs, and of the proof that was judged no part but the opening that shows the next hop.
 use Rattle.std.specs.Prelude.{ℕ, List, [], ◌∷◌, ◌++◌, length, reverse, Bool, true, false, Option, Some, None, ◌==◌, ◌&&◌, not, nat_le, nat_lt, is_some, if◌then◌else◌}
 use Rattle.std.specs.Option.{option_map_or}
 use Rattle.std.specs.Str.{bytes_eq}
