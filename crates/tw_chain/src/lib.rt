@@ -2,9 +2,11 @@
 #![tactic(auto)]
 
 mod chain;
+mod finding;
 mod joining;
 mod judgement;
 mod laws;
+mod passing;
 mod proof;
 mod reading;
 mod stage;
