@@ -1,7 +1,8 @@
 // A reader that is fed a word in pieces.
 
 use crate::failure::{NoMemory, ReadFault};
-use crate::resuming::{Resumed, Segments};
+use crate::resumed::Resumed;
+use crate::resuming::Segments;
 use std::alloc::Global;
 use std::mem;
 
@@ -48,7 +49,19 @@ impl<S: Segments> Fed<S> {
         // Pieces behind a bad byte change nothing.
         ensures still { IsTrue (is_broken self.old) → self.new ≡ self.old }
     {
-        Err(NoMemory)
+        match mem::replace(self, Fed::Spent { broken: false }) {
+            Fed::Reading(reader) => match reader.feed(alloc, piece) {
+                Ok(reader) => *self = Fed::Reading(reader),
+                Err(ReadFault::Malformed { place }) => *self = Fed::Broken { place },
+                Err(ReadFault::NoMemory) => return Err(NoMemory),
+            },
+            Fed::Broken { place } => *self = Fed::Broken { place },
+            Fed::Spent { broken } => {
+                *self = Fed::Spent { broken };
+                return Err(NoMemory);
+            }
+        }
+        Ok(())
     }
 
     /// Whether no word goes on behind the pieces, as the reader knows it.
@@ -58,7 +71,11 @@ impl<S: Segments> Fed<S> {
         ensures exact { (whole : Format S.Whole) (pieces : List ℕ) → HasFed S.rest whole self.now pieces → (IsSpent self.now → ⊥) →
             IsTrue result ↔ (IsFront whole pieces → ⊥) }
     {
-        false
+        match self {
+            Fed::Reading(_) => false,
+            Fed::Broken { .. } => true,
+            Fed::Spent { broken } => *broken,
+        }
     }
 
     /// The value of the word, now that no piece more comes. Malformed where the pieces are no word.
@@ -68,6 +85,10 @@ impl<S: Segments> Fed<S> {
         // Where no memory was left for a piece, that is the answer.
         ensures spent { IsSpent self → result ≡ Err WantOfMemory }
     {
-        Err(ReadFault::NoMemory)
+        match self {
+            Fed::Reading(reader) => reader.finish(),
+            Fed::Broken { place } => Err(ReadFault::Malformed { place }),
+            Fed::Spent { .. } => Err(ReadFault::NoMemory),
+        }
     }
 }
