@@ -6,3 +6,5 @@ pub mod HeadStep
 pub mod PieceSizes
 pub mod CheckBinds
 pub mod ChainBinds
+pub mod TimesRise
+pub mod Headline
