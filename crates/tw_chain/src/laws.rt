@@ -25,6 +25,4 @@ pub fn chain_laws<H: Hasher>()
     // the proof, or two different texts of the histories and of the proof have one digest.
     ensures headline { (bytes : List ℕ) (p : Proof) (anchors : List Thread) →
         Spells proof_layout bytes p → IsAccepted H.dig anchors p → BindsReport H.dig anchors p (report_of p) }
-{
-    proof_laws();
-}
+{}
