@@ -4,3 +4,4 @@ pub mod LowerSteps
 pub mod ChainSteps
 pub mod HeadStep
 pub mod PassesLaws
+pub mod Lowest
