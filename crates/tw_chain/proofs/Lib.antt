@@ -5,3 +5,4 @@ pub mod ChainSteps
 pub mod HeadStep
 pub mod PassesLaws
 pub mod Lowest
+pub mod JudgedFronts
