@@ -6,3 +6,4 @@ pub mod HeadStep
 pub mod PassesLaws
 pub mod Lowest
 pub mod JudgedFronts
+pub mod Verdicts
