@@ -7,3 +7,4 @@ pub mod PassesLaws
 pub mod Lowest
 pub mod JudgedFronts
 pub mod Verdicts
+pub mod ProofCodec
