@@ -31,6 +31,7 @@ pub mod Faults
 pub mod PlannedFailures
 pub mod Codecs
 pub mod Taking
+pub mod PageBytes
 pub mod HistoryCodec
 pub mod Resuming
 pub mod Feeding

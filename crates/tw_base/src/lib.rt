@@ -23,6 +23,7 @@ mod labels;
 pub mod limits;
 mod link_level;
 mod name;
+mod page_bytes;
 mod path_sides;
 mod received_thread;
 mod report;
@@ -61,6 +62,7 @@ pub use labels::{
 };
 pub use link_level::{power_of_two, top_level};
 pub use name::{Name, is_name_byte};
+pub use page_bytes::{Page, PageFront, page_to};
 pub use path_sides::{path_length, sides_of};
 pub use received_thread::ReceivedThread;
 pub use report::{Claim, Hop, HopList, Reason, Report, Seen};

@@ -9,7 +9,7 @@ ghost use Rattle.tw_base.specs.Codecs.{many};
 ghost use Rattle.tw_base.specs.Taking.{Takes};
 ghost use Rattle.tw_base.specs.Texts.{empty_tree_text};
 ghost use Rattle.tw_base.specs.Tree.{IsRising};
-ghost use Rattle.tw_disk.specs.PageBytes.{IsPageOf};
+ghost use Rattle.tw_base.specs.PageBytes.{IsPageOf};
 ghost use Rattle.tw_rbnode.specs.Children.{IsChildAt};
 ghost use Rattle.tw_rbnode.specs.NodeBytes.{LiesBelow, MayStand, child_codec, colour_codec, counted_codec, entry_codec, fields_of, held_codec, held_of, node_codec, slot_codec};
 ghost use Rattle.tw_rbnode.specs.Page.{IsInRange, IsNode, TreePage};
@@ -24,10 +24,9 @@ use crate::slot::Slot;
 use arrayvec::ArrayVec;
 use tw_base::limits::LAST_STEP;
 use tw_base::{
-    Digest, Entry, Hasher, ReadFault, Thread, compare_keys, empty_tree, entry_key, is_same_digest,
-    take_digest, take_name, take_number, take_text,
+    Digest, Entry, Hasher, Page, ReadFault, Thread, compare_keys, empty_tree, entry_key,
+    is_same_digest, page_to, take_digest, take_name, take_number, take_text,
 };
-use tw_disk::{Page, page_to};
 
 /// The root slot, the slots and the children of a page.
 #[derive(Drop)]

@@ -5,7 +5,7 @@ ghost use Rattle.std.specs.Prelude.{◌≡◌, ◌+◌, ◌*◌, ◌≤◌, ◌<
 ghost use Rattle.tw_base.specs.Bytes.{AreBytes};
 ghost use Rattle.tw_base.specs.Codecs.{HasBytes};
 ghost use Rattle.tw_base.specs.Lists.{Each};
-ghost use Rattle.tw_disk.specs.PageBytes.{IsPageOf};
+ghost use Rattle.tw_base.specs.PageBytes.{IsPageOf};
 ghost use Rattle.tw_rbnode.specs.NodeBytes.{child_codec, entry_codec, fields_of, links_of, node_codec, slot_codec, slots_with};
 ghost use Rattle.tw_rbnode.specs.Page.{IsInRange};
 
@@ -15,8 +15,7 @@ use crate::links::{Link, link_at};
 use crate::node::RbNode;
 use crate::slot::Slot;
 use arrayvec::ArrayVec;
-use tw_base::{Digest, Entry};
-use tw_disk::{Page, PageFront};
+use tw_base::{Digest, Entry, Page, PageFront};
 
 /// Tells that bytes are bytes.
 #[tactic(auto)]
