@@ -33,5 +33,6 @@ pub mod Codecs
 pub mod Taking
 pub mod PageBytes
 pub mod HistoryCodec
+pub mod EntryCodec
 pub mod Resuming
 pub mod Feeding

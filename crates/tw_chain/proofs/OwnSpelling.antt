@@ -16,6 +16,8 @@ use Rattle.tw_base.proofs.CodecLaws.{spelled-fits}
 use Rattle.tw_base.proofs.DigestBytes.{auth-digest}
 use Rattle.tw_base.proofs.ListLemmas.{Each-in, Each-map}
 use Rattle.tw_base.proofs.Trees.{IsArchived, entry_at-parts, received-sound, tree-archived, tree-rises}
+use Rattle.tw_base.specs.EntryCodec.{entry_codec}
+use Rattle.tw_base.proofs.EntryCodecLaws.{entry-fits}
 use Rattle.tw_tree.proofs.Members.{in-with}
 use Rattle.tw_skipproof.specs.declared.existence.Part.{Part}
 use Rattle.tw_skipproof.specs.Codecs.{existence_codec, part_codec, path_codec}
@@ -26,9 +28,8 @@ use Rattle.tw_skipproof.proofs.LawfulCodecs.{existence-lawful}
 use Rattle.tw_skipproof.proofs.PartOf.{part-fits-made, part_in_range-made, part_shaped-made, path-fits-made}
 use Rattle.tw_treeproof.specs.declared.limits.TheConstants.{MOST_ABOVE_PLACE}
 use Rattle.tw_treeproof.specs.Answers.{asks_entry}
-use Rattle.tw_treeproof.specs.Codecs.{entry_codec, gap_codec, present_codec, tree_proof_codec}
+use Rattle.tw_treeproof.specs.Codecs.{gap_codec, present_codec, tree_proof_codec}
 use Rattle.tw_treeproof.specs.Making.{IsSo, height, proof_of}
-use Rattle.tw_treeproof.proofs.LawfulCodecs.{entry-fits}
 use Rattle.tw_treeproof.proofs.OwnProofs.{own-fits}
 use Rattle.tw_chain.specs.declared.proof.AbsenceProof.{AbsenceProof}
 use Rattle.tw_chain.specs.declared.proof.LinkProof.{LinkProof}

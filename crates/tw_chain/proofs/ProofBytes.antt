@@ -3,11 +3,12 @@ use Rattle.std.proofs.Common.{◌≡◌, ℕ, List, ◌++◌, refl, ap, sym, ◌
 use Rattle.std.specs.Prelude.{true, false, IfOk, Result, Ok, Err}
 use Rattle.tw_base.specs.declared.failure.NoMemory.{NoMemory as WantOfMemory}
 use Rattle.tw_base.specs.Codecs.{behind, by_kind, pair, seen, variant}
+use Rattle.tw_base.specs.EntryCodec.{entry_codec}
 use Rattle.tw_skipproof.specs.Codecs.{part_bytes}
 use Rattle.tw_skipproof.specs.Existence.{existence_bytes}
 use Rattle.tw_skipproof.specs.declared.existence.ExistenceProof.{ExistenceProof}
 use Rattle.tw_treeproof.specs.Answers.{is_of_entry}
-use Rattle.tw_treeproof.specs.Codecs.{entry_codec, tree_proof_bytes, tree_proof_codec}
+use Rattle.tw_treeproof.specs.Codecs.{tree_proof_bytes, tree_proof_codec}
 use Rattle.tw_chain.specs.declared.proof.AbsenceProof.{AbsenceProof}
 use Rattle.tw_chain.specs.declared.proof.LinkProof.{LinkProof}
 use Rattle.tw_chain.specs.declared.proof.Proof.TheVariants.{Exists, Archived, Absent, Linked}

@@ -8,13 +8,15 @@ use Rattle.tw_base.specs.Formats.{ReadsFrontAs, Spells}
 use Rattle.tw_base.specs.Formats.Format.{Byte, Done}
 use Rattle.tw_base.proofs.CodecLaws.{Lawful, lawful, lawful-by_kind, lawful-choose, lawful-pair, lawful-seen, lawful-variant, spelled-fits, written-as}
 use Rattle.tw_base.proofs.FormatLaws.{AllWords}
+use Rattle.tw_base.specs.EntryCodec.{entry_codec}
+use Rattle.tw_base.proofs.EntryCodecLaws.{entry-lawful}
 use Rattle.tw_skipproof.specs.declared.existence.ExistenceProof.{ExistenceProof}
 use Rattle.tw_skipproof.specs.Codecs.{existence_body, existence_codec, part_codec}
 use Rattle.tw_skipproof.specs.Existence.{existence_layout}
 use Rattle.tw_skipproof.proofs.LawfulCodecs.{body-lawful, existence-lawful, part-lawful, path-lawful}
 use Rattle.tw_skipproof.proofs.Shapes.{existence-shape, part-shape}
-use Rattle.tw_treeproof.specs.Codecs.{entry_codec, gap_codec, present_codec}
-use Rattle.tw_treeproof.proofs.LawfulCodecs.{entry-lawful, gap-lawful, present-lawful}
+use Rattle.tw_treeproof.specs.Codecs.{gap_codec, present_codec}
+use Rattle.tw_treeproof.proofs.LawfulCodecs.{gap-lawful, present-lawful}
 use Rattle.tw_chain.specs.declared.proof.Proof.{Proof}
 use Rattle.tw_chain.specs.declared.proof.Proof.TheVariants.{Exists, Archived, Absent, Linked}
 use Rattle.tw_chain.specs.Proofs.{IsInRange, absence_body, absence_of, body_of_kind, existence_of, is_kind, key_codec, kind_codec, kind_of, kinds_codec, link_body, link_of, proof_codec, proof_layout, thread_body, thread_of}

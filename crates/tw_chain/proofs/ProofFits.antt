@@ -5,12 +5,14 @@ use Rattle.tw_base.specs.declared.failure.NoMemory.{NoMemory as WantOfMemory}
 use Rattle.tw_base.specs.declared.thread.Key.{Key}
 use Rattle.tw_base.specs.Codecs.{behind, by_kind, digest_codec, name_codec, number_codec, pair, seen, variant}
 use Rattle.tw_base.specs.Formats.{Spells}
+use Rattle.tw_base.specs.EntryCodec.{entry_codec}
+use Rattle.tw_base.specs.Limits.{IsEntryInRange, IsStep}
 use Rattle.tw_skipproof.specs.declared.existence.ExistenceProof.{ExistenceProof}
 use Rattle.tw_skipproof.specs.Existence.{IsExistenceInRange, IsShaped, existence_layout}
 use Rattle.tw_skipproof.specs.Spelling.{FitsAsPart, FitsAsPath}
 use Rattle.tw_treeproof.specs.Answers.{is_of_entry}
-use Rattle.tw_treeproof.specs.Codecs.{entry_codec, tree_proof_codec}
-use Rattle.tw_treeproof.specs.Limits.{IsEntryInRange, IsProofInRange, IsStep}
+use Rattle.tw_treeproof.specs.Codecs.{tree_proof_codec}
+use Rattle.tw_treeproof.specs.Limits.{IsProofInRange}
 use Rattle.tw_chain.specs.declared.proof.AbsenceProof.{AbsenceProof}
 use Rattle.tw_chain.specs.declared.proof.LinkProof.{LinkProof}
 use Rattle.tw_chain.specs.declared.proof.Proof.{Proof}

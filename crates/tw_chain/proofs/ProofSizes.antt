@@ -5,11 +5,10 @@ use Rattle.std.proofs.lemmas.List.{length-append}
 use Rattle.tw_base.specs.declared.limits.TheConstants.{LAST_STEP}
 use Rattle.tw_base.specs.Codecs.{Codec, behind, number_codec, variant}
 use Rattle.tw_base.specs.Formats.{Spells}
-use Rattle.tw_base.specs.HistoryCodec.{thread_codec}
+use Rattle.tw_base.proofs.EntryCodecLaws.{entry-most}
 use Rattle.tw_base.proofs.CodecSizes.{AtMost, at_most-behind, at_most-by_kind, at_most-bytes, at_most-choose, at_most-name, at_most-number, at_most-pair, at_most-seen, at_most-variant, word-size}
 use Rattle.tw_skipproof.specs.Codecs.{existence_body, existence_codec, existence_magic}
 use Rattle.tw_skipproof.proofs.Shapes.{existence-most, part-most, path-most}
-use Rattle.tw_treeproof.specs.Codecs.{entry_codec}
 use Rattle.tw_treeproof.proofs.LawfulCodecs.{gap-most, present-most}
 use Rattle.tw_chain.specs.declared.proof.Proof.{Proof}
 use Rattle.tw_chain.specs.declared.proof.Proof.TheVariants.{Exists, Archived, Absent, Linked}
@@ -22,14 +21,6 @@ at_most-wider c m n l h x f = omega (arith, h x f, l)
 body-most : AtMost existence_body 56500
 unfolding existence_codec behind
 body-most p f = let all = existence-most p f in omega (arith, all, length-append existence_magic (existence_body.write p))
-
-thread-most : AtMost thread_codec 56
-unfolding thread_codec
-thread-most = at_most-seen _ _ _ 56 (at_most-pair _ _ 16 40 at_most-name (λ _ _. at_most-pair _ _ 8 32 (at_most-number 8 1 LAST_STEP) (λ _ _. at_most-bytes 32)))
-
-entry-most : AtMost entry_codec 64
-unfolding entry_codec
-entry-most = at_most-seen _ _ _ 64 (at_most-pair _ _ 56 8 thread-most (λ _ _. at_most-number 8 1 LAST_STEP))
 
 thread_body-most : AtMost thread_body 67469
 unfolding thread_body

@@ -1,6 +1,7 @@
 use Rattle.std.proofs.Common.{List, ℕ, ◌++◌, ap, ◌∙◌}
 use Rattle.tw_skipproof.specs.Codecs.{part_bytes}
-use Rattle.tw_treeproof.specs.Codecs.{entry_codec, tree_proof_bytes}
+use Rattle.tw_base.specs.EntryCodec.{entry_codec}
+use Rattle.tw_treeproof.specs.Codecs.{tree_proof_bytes}
 use Rattle.tw_chain.specs.Proofs.{kind_bytes}
 use Rattle.tw_chain.proofs.ProofBytes.{thread-bytes}
 use Rattle.tw_chain.proofs.ProofFits.{thread-spelled}
