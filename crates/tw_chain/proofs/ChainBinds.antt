@@ -17,7 +17,8 @@ use Rattle.tw_base.proofs.ListLemmas.{Each-parts}
 use Rattle.tw_skipproof.specs.declared.opening.Opening.{Opening}
 use Rattle.tw_skipproof.specs.Codecs.{opening_codec, path_codec}
 use Rattle.tw_skipproof.specs.Paths.{HasLinkSizes}
-use Rattle.tw_treeproof.specs.Codecs.{entry_codec, present_codec}
+use Rattle.tw_base.specs.EntryCodec.{entry_codec}
+use Rattle.tw_treeproof.specs.Codecs.{present_codec}
 use Rattle.tw_treeproof.specs.Sizes.{HasProofSizes}
 use Rattle.tw_chain.specs.declared.proof.HopPart.{HopPart}
 use Rattle.tw_chain.specs.Accepting.{hop_from, hops_to}
