@@ -15,7 +15,7 @@ use Rattle.tw_chain.specs.declared.proof.Tail.{Tail}
 use Rattle.tw_chain.specs.Accepting.{hops_to, seen_at}
 use Rattle.tw_chain.specs.Chaining.{behind_checks, closed, found_with, with_hop}
 use Rattle.tw_chain.specs.Checks.{Check, hop_checks, hops_checks, last_thread, root_of, tail_checks}
-use Rattle.tw_chain.specs.Judging.{found_in, lower_of, passes}
+use Rattle.tw_chain.specs.Judgements.{found_in, lower_of, passes}
 use Rattle.tw_chain.specs.Passing.{carried_by, reason_of}
 use Rattle.tw_chain.proofs.LowerSteps.{lower-assoc}
 

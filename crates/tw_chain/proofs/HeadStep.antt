@@ -9,9 +9,9 @@ use Rattle.tw_base.specs.declared.thread.Thread.{Thread}
 use Rattle.tw_skipproof.specs.declared.opening.Opening.{Opening}
 use Rattle.tw_chain.specs.declared.proof.PrecedenceProof.{PrecedenceProof}
 use Rattle.tw_chain.specs.declared.proof.Proof.TheVariants.{Precedes}
-use Rattle.tw_chain.specs.Chaining.{behind_checks, chain_of, closed, found_with, head_checks}
-use Rattle.tw_chain.specs.Checks.{Check, checks, end_of, hops_checks, opening_checks, root_of, start_of, tail_checks}
-use Rattle.tw_chain.specs.Judging.{found_in, judgement_of, lower_of}
+use Rattle.tw_chain.specs.Chaining.{behind_checks, chain_of, closed, found_with}
+use Rattle.tw_chain.specs.Checks.{Check, checks, end_of, head_checks, hops_checks, opening_checks, root_of, start_of, tail_checks}
+use Rattle.tw_chain.specs.Judgements.{found_in, judgement_of, lower_of}
 use Rattle.tw_chain.specs.Passing.{carried_by}
 use Rattle.tw_base.specs.declared.report.Hop.{Hop}
 use Rattle.tw_chain.specs.declared.judgement.Judgement.{Judgement}

@@ -62,12 +62,14 @@ claim_of (Archived p) = claims.Archived p.at.service p.at.step p.entry
 claim_of (Absent p) = claims.Absent p.at.service p.at.step p.key
 claim_of (Linked p) = claims.Linked p.service p.step p.top p.auth
 
+-- the hop to the archive of this service that the part tells
+abbrev pub hop_from : (by : List ℕ) → HopPart → Hop
+hop_from by hop = record { from = hop.entry.thread.from; step = hop.entry.thread.step; by = by; archived = hop.entry.archived }
+
 -- the hops to the archives of this service and on, from the first event's service to it: in the bytes they stand the other way
 abbrev pub hops_to : (by : List ℕ) → List HopPart → List Hop
 hops_to by [] = []
-hops_to by (hop ∷ hops) =
-    hops_to hop.entry.thread.from hops
-    ++ record { from = hop.entry.thread.from; step = hop.entry.thread.step; by = by; archived = hop.entry.archived } ∷ []
+hops_to by (hop ∷ hops) = hops_to hop.entry.thread.from hops ++ hop_from by hop ∷ []
 
 abbrev pub hops_of : Proof → List Hop
 hops_of (Precedes p) = hops_to p.head.service p.hops

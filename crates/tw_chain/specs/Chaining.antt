@@ -13,10 +13,9 @@ use Rattle.tw_chain.specs.declared.judgement.Judgement.{Judgement}
 use Rattle.tw_chain.specs.declared.proof.HopPart.{HopPart}
 use Rattle.tw_chain.specs.declared.proof.PrecedenceProof.{PrecedenceProof}
 use Rattle.tw_chain.specs.declared.proof.Tail.{Tail}
-use Rattle.tw_chain.specs.Accepting.{hops_to, seen_at}
-use Rattle.tw_chain.specs.Checks.{Check, hop_checks, hops_checks, last_thread, opening_checks, root_of, start_of, tail_at, tail_checks, under_anchor}
-use Rattle.tw_chain.specs.Checks.Check.{EventOf}
-use Rattle.tw_chain.specs.Judging.{found_in, lower_of}
+use Rattle.tw_chain.specs.Accepting.{hop_from, hops_to, seen_at}
+use Rattle.tw_chain.specs.Checks.{Check, head_checks, hop_checks, hops_checks, last_thread, root_of, start_of, tail_at, tail_checks}
+use Rattle.tw_chain.specs.Judgements.{found_in, lower_of}
 use Rattle.tw_chain.specs.Proofs.{following, hop_bytes, hop_codec, tail_codec}
 use Rattle.tw_chain.specs.Passing.{carried_by}
 
@@ -24,9 +23,6 @@ use Rattle.tw_chain.specs.Passing.{carried_by}
 abbrev pub behind_checks : Chain → List HopPart → Tail → List Check
 behind_checks c hops tail =
     hops_checks c.part c.known.step (root_of c.opening) hops ++ tail_checks (c.part + length hops) (last_thread c.known hops) tail
-
-abbrev pub head_checks : PrecedenceProof → List Check
-head_checks p = under_anchor 0 p.head ++ EventOf 0 p.head.opening p.event ∷ opening_checks 0 (start_of p) p.before
 
 module _ (dig : List ℕ → List ℕ) (anchors : List Thread) where
   -- the lowest reason so far, with those of more checks
@@ -55,7 +51,7 @@ module _ (dig : List ℕ → List ℕ) (anchors : List Thread) where
         part = suc c.part;
         more = more;
         found = found_with c.found here;
-        hops = c.hops ++ record { from = hop.entry.thread.from; step = hop.entry.thread.step; by = c.known.from; archived = hop.entry.archived } ∷ [];
+        hops = c.hops ++ hop_from c.known.from hop ∷ [];
         carried = c.carried ++ flat_map carried_by here;
         second = c.second;
       }

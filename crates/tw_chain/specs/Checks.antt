@@ -28,7 +28,7 @@ pub data Check : Type 0 where
   InOrder : (lower upper : ℕ) → Check
   -- an anchor of the service and step is held
   NeedsAnchor : Key → Check
-  -- the thread is carried: nothing is checked of it
+  -- the thread is carried: no path binds it, so nothing more is checked of it
   CarriesThread : Thread → Check
   -- the path climbs from what the opening computes to the upper end
   PathOf : (part : ℕ) → Part → Upper → Check
@@ -111,11 +111,13 @@ abbrev pub tail_checks : (part : ℕ) → Thread → Tail → List Check
 tail_checks part t tail =
     InOrder tail.step t.step ∷ PathOf part (tail_at t tail) (Known t.auth) ∷ EventOf part tail.opening tail.event ∷ []
 
+-- the second event under its anchor, and the opening of the step before it
+abbrev pub head_checks : PrecedenceProof → List Check
+head_checks p = under_anchor 0 p.head ++ EventOf 0 p.head.opening p.event ∷ opening_checks 0 (start_of p) p.before
+
 abbrev pub precedence_checks : PrecedenceProof → List Check
 precedence_checks p =
-    under_anchor 0 p.head ++ EventOf 0 p.head.opening p.event
-    ∷ (opening_checks 0 (start_of p) p.before
-    ++ (hops_checks 1 (start_of p).step (root_of p.before) p.hops ++ tail_checks (suc (length p.hops)) (end_of p) p.tail))
+    head_checks p ++ (hops_checks 1 (start_of p).step (root_of p.before) p.hops ++ tail_checks (suc (length p.hops)) (end_of p) p.tail)
 
 -- what is checked of a proof
 abbrev pub checks : Proof → List Check

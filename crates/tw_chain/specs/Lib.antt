@@ -6,7 +6,7 @@ pub mod Claiming
 pub mod OwnProofs
 pub mod Reasons
 pub mod Binding
-pub mod Judging
+pub mod Judgements
 pub mod Joining
 pub mod Chaining
 pub mod OwnParts

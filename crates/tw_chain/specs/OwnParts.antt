@@ -41,8 +41,8 @@ module _ (dig : List ℕ → List ℕ) (family : List History) where
 
 -- parts that services of a sound family made, for hops that stand there, and that fit, join to a proof that is accepted wherever
 -- the family's anchors of the tops that it names are held
-abbrev pub JoinsAccepted : (dig : List ℕ → List ℕ) → Type 0
-JoinsAccepted dig =
+abbrev pub JoinedIsAccepted : (dig : List ℕ → List ℕ) → Type 0
+JoinedIsAccepted dig =
     (family : List History) (parts : List Proof) (p : PrecedenceProof) (anchors : List Thread) → AllSound family
     → Each (IsMade dig family) parts → Each (HopOfPartStands dig family) parts → joined Nothing 1 parts ≡ Ok p
     → IsAnchored dig family anchors (Precedes p) → IsAccepted dig anchors (Precedes p)

@@ -46,7 +46,7 @@ module _ (dig : List ℕ → List ℕ) where
   check_texts (AnswerOf part root ask proof) = tree_proof_texts dig ask proof
   check_texts _ = []
 
--- the reason where the check doesn't pass; that of a carried thread never stands alone, since the strict form counts them
+-- the reason where the check doesn't pass; that of a carried thread never stands, since it passes, and the strict form counts them
 abbrev pub reason_of : Check → Reason
 reason_of (InOrder lower upper) = BadOrder
 reason_of (NeedsAnchor key) = NotHeld key.from key.step

@@ -6,7 +6,7 @@ use Rattle.tw_base.specs.Formats.{Format}
 use Rattle.tw_chain.specs.declared.judgement.Judgement.{Judgement}
 use Rattle.tw_chain.specs.declared.verifier.Judging.{Judging}
 use Rattle.tw_chain.specs.declared.verifier.Verifier.{Verifier}
-use Rattle.tw_chain.specs.Judging.{judged_layout}
+use Rattle.tw_chain.specs.Judgements.{judged_layout}
 use Rattle.tw_chain.specs.Stages.{rest}
 
 module _ {H : Type 0} (dig : List ℕ → List ℕ) where

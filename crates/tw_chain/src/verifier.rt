@@ -13,8 +13,8 @@ pub struct Judging<H> {
     pub(crate) hasher: PhantomData<H>,
 }
 
-/// A verifier that is fed the bytes of a proof in pieces, cut anywhere. It holds one segment of the
-/// proof at a time, and what the report needs.
+/// A verifier that is fed the bytes of a proof in pieces, cut anywhere. It holds the part of the
+/// proof at hand, and what the report needs.
 #[derive(Drop)]
 pub struct Verifier<H> {
     pub(crate) alloc: Global,
