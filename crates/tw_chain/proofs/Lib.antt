@@ -12,3 +12,4 @@ pub mod Lowest
 pub mod JudgedFronts
 pub mod Verdicts
 pub mod ProofCodec
+pub mod FoundSteps

@@ -3,9 +3,11 @@
 
 mod chain;
 mod chain_reading;
+mod finding;
 mod joining;
 mod judgement;
 mod laws;
+mod passing;
 mod proof;
 mod reading;
 mod stage;
