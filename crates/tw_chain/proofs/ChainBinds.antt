@@ -1,28 +1,24 @@
 -- What the hops of a chain bind, one after another.
-use Rattle.std.proofs.Common.{◌≡◌, ℕ, suc, ◌≤◌, List, [], ◌∷◌, ◌++◌, length, Bool, true, false, refl, subst, arith, inl}
+use Rattle.std.proofs.Common.{◌≡◌, ℕ, suc, ◌≤◌, List, [], ◌∷◌, length, Bool, true, false, refl, subst, arith, inl}
 use Rattle.std.specs.Prelude.{Option, Some, None, MatchOption, ◌==◌, if◌then◌else◌, nat_lt}
 use Rattle.std.proofs.lemmas.Bool.{lt-ltb}
-use Rattle.tw_base.specs.declared.thread.Key.{Key}
 use Rattle.tw_base.specs.declared.thread.Thread.{Thread}
 use Rattle.tw_base.specs.declared.tree_proof.Ask.TheVariants as ask
 use Rattle.tw_base.specs.Chains.{HopStands, LeadsBy}
-use Rattle.tw_base.specs.Clash.{OrClash, Within}
-use Rattle.tw_base.specs.Codecs.{EachFits, number_codec, optional, pair, present, seen}
-use Rattle.tw_base.specs.Family.{AllSound, HasThread, family_texts}
-use Rattle.tw_base.specs.History.{History, entry_at}
-use Rattle.tw_base.specs.Lists.{Each}
+use Rattle.tw_base.specs.Codecs.{EachFits, optional, pair, present, seen}
+use Rattle.tw_base.specs.Family.{HasThread}
+use Rattle.tw_base.specs.History.{entry_at}
 use Rattle.tw_base.proofs.Clashes.{and_then}
 use Rattle.tw_base.proofs.Leads.{hop-stands, leads-snoc}
 use Rattle.tw_base.proofs.ListLemmas.{Each-parts}
 use Rattle.tw_skipproof.specs.declared.opening.Opening.{Opening}
-use Rattle.tw_skipproof.specs.Codecs.{opening_codec, path_codec}
+use Rattle.tw_skipproof.specs.Codecs.{opening_codec}
 use Rattle.tw_skipproof.specs.Paths.{HasLinkSizes}
-use Rattle.tw_treeproof.specs.Codecs.{entry_codec, present_codec}
 use Rattle.tw_treeproof.specs.Sizes.{HasProofSizes}
 use Rattle.tw_chain.specs.declared.proof.HopPart.{HopPart}
 use Rattle.tw_chain.specs.Accepting.{hop_from, hops_to}
 use Rattle.tw_chain.specs.Checks.{Check, bind_checks, bind_of, hop_checks, hops_checks, last_thread, link_checks, opening_checks, root_of}
-use Rattle.tw_chain.specs.Checks.Check.{AnswerOf, CarriesThread, InOrder}
+use Rattle.tw_chain.specs.Checks.Check.{AnswerOf, CarriesThread}
 use Rattle.tw_chain.specs.Proofs.{following, hop_bytes, hop_codec}
 use Rattle.tw_chain.proofs.ArchiveAnswers.{has-received}
 use Rattle.tw_chain.proofs.CheckBinds.{AreChecked, Checked, Opened, OrTheyClash, Setting, answer-step, link-step, opening-step}
@@ -103,5 +99,5 @@ module _ (s : Setting) where
       (λ leads. inl (
         leads.0,
         leads-snoc s.dig s.family (hops_to hop.entry.thread.from hops) (record { from = last.from; step = step }) (record { from = hop.entry.thread.from; step = hop.entry.thread.step })
-        (record { from = t.from; step = t.step }) (hop_from t.from hop) leads.1 refl (omega arith) stands.1 refl parts.0.0.passes,
+            (record { from = t.from; step = t.step }) (hop_from t.from hop) leads.1 refl (omega arith) stands.1 refl parts.0.0.passes,
       ))))

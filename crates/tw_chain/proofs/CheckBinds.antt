@@ -1,5 +1,5 @@
 -- What each sort of check binds, over texts that have those of the family and of the checks.
-use Rattle.std.proofs.Common.{◌≡◌, ℕ, suc, zero, ◌<◌, ◌≤◌, List, [], ◌∷◌, ◌++◌, length, refl, ap, sym, ◌∙◌, subst, arith, inl}
+use Rattle.std.proofs.Common.{◌≡◌, ℕ, suc, zero, ◌<◌, ◌≤◌, List, [], ◌∷◌, ◌++◌, length, refl, sym, ◌∙◌, subst, arith, inl}
 use Rattle.std.specs.Prelude.{Option, Some, None, IsSome, IfSome, slice_get}
 use Rattle.std.specs.List.{flat_map}
 use Rattle.std.specs.Option.{option_map, option_to_list}
@@ -11,7 +11,7 @@ use Rattle.tw_base.specs.declared.tree_proof.Ask.TheVariants as ask
 use Rattle.tw_base.specs.declared.tree_proof.TreeProof.{TreeProof}
 use Rattle.tw_base.specs.AuditPath.{audit_texts}
 use Rattle.tw_base.specs.Auth.{auth}
-use Rattle.tw_base.specs.Clash.{Among, OrClash, Within}
+use Rattle.tw_base.specs.Clash.{OrClash, Within}
 use Rattle.tw_base.specs.Digests.{AllDigests}
 use Rattle.tw_base.specs.EventTree.{event_texts}
 use Rattle.tw_base.specs.Facts.{SeenStands}
@@ -19,7 +19,6 @@ use Rattle.tw_base.specs.Family.{AllSound, HasHistory, HasThread, HasThreads, fa
 use Rattle.tw_base.specs.History.{History, events_at}
 use Rattle.tw_base.specs.HistoryTexts.{history_texts, tree_texts}
 use Rattle.tw_base.specs.Lists.{Each}
-use Rattle.tw_base.specs.Sound.{IsSound}
 use Rattle.tw_base.specs.Tree.{entries, tree}
 use Rattle.tw_base.proofs.Anchoring.{anchor_of-is}
 use Rattle.tw_base.proofs.ArchiveTexts.{joined_within, tree_texts-within}
@@ -39,14 +38,12 @@ use Rattle.tw_skipproof.proofs.OpeningBinding.{opening-binds_sound}
 use Rattle.tw_skipproof.proofs.PathBinding.{climb-binds}
 use Rattle.tw_treeproof.specs.Answers.{Checks, IsAnswer, Shows, ancestors_of, answer_of, proof_texts as tree_proof_texts}
 use Rattle.tw_treeproof.specs.Sizes.{HasProofSizes}
-use Rattle.tw_treeproof.specs.declared.shown.Shown.{Shown}
-use Rattle.tw_treeproof.specs.declared.shown.Shown.TheVariants.{Wrong}
 use Rattle.tw_treeproof.proofs.Binding.{check-binds}
 use Rattle.tw_chain.specs.declared.proof.LinkProof.{LinkProof}
 use Rattle.tw_chain.specs.Accepting.{seen_at}
 use Rattle.tw_chain.specs.Checks.{Check, link_checks, link_top, top_of, under_anchor}
-use Rattle.tw_chain.specs.Checks.Check.{AnswerOf, EventOf, InOrder, LinkOf, NeedsAnchor, OpeningOf, PathOf}
-use Rattle.tw_chain.specs.Checks.Upper.{AtAnchor, Known}
+use Rattle.tw_chain.specs.Checks.Check.{AnswerOf, EventOf, LinkOf, NeedsAnchor, OpeningOf, PathOf}
+use Rattle.tw_chain.specs.Checks.Upper.{AtAnchor}
 use Rattle.tw_chain.specs.Passing.{Passes, anchor_at, check_texts, held_by}
 use Rattle.tw_chain.proofs.PieceSizes.{PartSizes}
 

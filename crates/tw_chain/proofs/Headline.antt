@@ -1,15 +1,11 @@
 -- What an accepted proof of each kind says of the histories of a family.
-use Rattle.std.proofs.Common.{◌≡◌, ℕ, suc, ◌-◌, ◌≤◌, List, [], ◌∷◌, ◌++◌, length, arith, inl}
-use Rattle.tw_base.specs.declared.report.Claim.TheVariants as claims
+use Rattle.std.proofs.Common.{◌≡◌, ℕ, suc, List, [], ◌∷◌, ◌++◌, length, arith, inl}
 use Rattle.tw_base.specs.declared.thread.Thread.{Thread}
 use Rattle.tw_base.specs.declared.tree_proof.Ask.TheVariants as ask
-use Rattle.tw_base.specs.Clash.{OrClash, Within}
 use Rattle.tw_base.specs.Codecs.{EachFits, behind, by_kind, each, pair, seen, variant}
 use Rattle.tw_base.specs.Digests.{AllDigests}
 use Rattle.tw_base.specs.Facts.{Facts, Precedence, SeenStands, TimesRise, WasNotReceived, WasReceived}
-use Rattle.tw_base.specs.Family.{AllSound, HasThread, HasThreads, family_texts}
-use Rattle.tw_base.specs.History.{History}
-use Rattle.tw_base.specs.Lists.{Each}
+use Rattle.tw_base.specs.Family.{HasThread, family_texts}
 use Rattle.tw_base.proofs.Clashes.{Among-left, Among-right, and_then}
 use Rattle.tw_base.proofs.Families.{sound_of}
 use Rattle.tw_base.proofs.ListLemmas.{Each-parts}
@@ -22,7 +18,7 @@ use Rattle.tw_chain.specs.declared.proof.PrecedenceProof.{PrecedenceProof}
 use Rattle.tw_chain.specs.declared.proof.Proof.{Proof}
 use Rattle.tw_chain.specs.declared.proof.Proof.TheVariants.{Exists, Precedes, Archived, Absent, Linked}
 use Rattle.tw_chain.specs.declared.proof.ThreadProof.{ThreadProof}
-use Rattle.tw_chain.specs.Accepting.{IsAccepted, claim_of, held, hops_of, hops_to, proof_texts, report_of, seen_at}
+use Rattle.tw_chain.specs.Accepting.{IsAccepted, claim_of, hops_of, proof_texts, report_of, seen_at}
 use Rattle.tw_chain.specs.Binding.{BindsReport}
 use Rattle.tw_chain.specs.Checks.{Check, checks, end_of, head_checks, hops_checks, opening_checks, root_of, start_of, tail_at, tail_checks, under_anchor}
 use Rattle.tw_chain.specs.Checks.Check.{AnswerOf, EventOf, InOrder}
