@@ -1,12 +1,14 @@
 -- What an accepted proof of each kind says of the histories of a family.
-use Rattle.std.proofs.Common.{◌≡◌, ℕ, suc, List, [], ◌∷◌, ◌++◌, length, arith, inl}
+use Rattle.std.proofs.Common.{◌≡◌, ℕ, suc, List, [], ◌∷◌, ◌++◌, length, Bool, ap, sym, ◌∙◌, subst, arith, inl}
 use Rattle.tw_base.specs.declared.thread.Thread.{Thread}
 use Rattle.tw_base.specs.declared.tree_proof.Ask.TheVariants as ask
 use Rattle.tw_base.specs.Codecs.{EachFits, behind, by_kind, each, pair, seen, variant}
 use Rattle.tw_base.specs.Digests.{AllDigests}
 use Rattle.tw_base.specs.Facts.{Facts, Precedence, SeenStands, TimesRise, WasNotReceived, WasReceived}
 use Rattle.tw_base.specs.Family.{HasThread, family_texts}
+use Rattle.tw_base.specs.Formats.{Spells}
 use Rattle.tw_base.proofs.Clashes.{Among-left, Among-right, and_then}
+use Rattle.tw_base.proofs.CodecLaws.{spelled-fits, unambiguous}
 use Rattle.tw_base.proofs.Families.{sound_of}
 use Rattle.tw_base.proofs.ListLemmas.{Each-parts}
 use Rattle.tw_skipproof.specs.declared.existence.ExistenceProof.{ExistenceProof}
@@ -18,15 +20,19 @@ use Rattle.tw_chain.specs.declared.proof.PrecedenceProof.{PrecedenceProof}
 use Rattle.tw_chain.specs.declared.proof.Proof.{Proof}
 use Rattle.tw_chain.specs.declared.proof.Proof.TheVariants.{Exists, Precedes, Archived, Absent, Linked}
 use Rattle.tw_chain.specs.declared.proof.ThreadProof.{ThreadProof}
-use Rattle.tw_chain.specs.Accepting.{IsAccepted, claim_of, hops_of, proof_texts, report_of, seen_at}
-use Rattle.tw_chain.specs.Binding.{BindsReport}
+use Rattle.tw_chain.specs.declared.verdict.Verdict.{Verdict}
+use Rattle.tw_chain.specs.declared.verdict.Verdict.TheVariants.{Yes, No}
+use Rattle.tw_chain.specs.Accepting.{Accepts, IsAccepted, claim_of, hops_of, proof_texts, report_of, seen_at}
+use Rattle.tw_chain.specs.Binding.{BindsHistories, BindsReport}
 use Rattle.tw_chain.specs.Checks.{Check, checks, end_of, head_checks, hops_checks, opening_checks, root_of, start_of, tail_at, tail_checks, under_anchor}
 use Rattle.tw_chain.specs.Checks.Check.{AnswerOf, EventOf, InOrder}
-use Rattle.tw_chain.specs.Proofs.{absence_body, behind_codec, following, hop_bytes, hop_codec, hops_codec, kinds_codec, link_body, precedence_body, proof_codec, tail_codec, thread_body}
+use Rattle.tw_chain.specs.Proofs.{absence_body, behind_codec, following, hop_bytes, hop_codec, hops_codec, kinds_codec, link_body, precedence_body, proof_codec, proof_layout, tail_codec, thread_body}
+use Rattle.tw_chain.specs.Reasons.{IsVerdict}
 use Rattle.tw_chain.proofs.ArchiveAnswers.{has-received, lacks-received}
 use Rattle.tw_chain.proofs.ChainBinds.{FitsOpening, chain-binds}
 use Rattle.tw_chain.proofs.CheckBinds.{AreChecked, Checked, Opened, OrTheyClash, Setting, anchored-part, answer-step, each-checked, event-step, link-step, part-step}
 use Rattle.tw_chain.proofs.PieceSizes.{PartSizes, event-sizes, gap-sizes, opening-sizes, part-sizes, path-sizes, present-sizes}
+use Rattle.tw_chain.proofs.ProofCodec.{proof-lawful}
 use Rattle.tw_chain.proofs.TimesRise.{times-rise}
 
 -- the fields of a proof of kind 2 as its checks take them
@@ -132,18 +138,27 @@ module _ (s : Setting) where
   claim-binds (Absent p) fits checked = and_then s.dig s.texts _ _ (absent-binds p fits.1.1 checked) (λ fact. inl (fact, tt))
   claim-binds (Linked p) fits checked = and_then s.dig s.texts _ _ (linked-binds p fits.1.1 checked) (λ fact. inl (fact, tt))
 
-pub headline : (dig : List ℕ → List ℕ) → ((text : List ℕ) → length (dig text) ≡ 32) → (anchors : List Thread) (p : Proof) → proof_codec.Fits p → IsAccepted dig anchors p
-    → BindsReport dig anchors p (report_of p)
-headline dig size anchors p fits accepted family sound has =
-    let of_family : List (List ℕ) = family_texts dig family in
-    let own : List (List ℕ) = proof_texts dig p in
-    let s : Setting = record {
-      dig = dig;
-      size = size;
-      anchors = anchors;
-      family = family;
-      sound = sound;
-      texts = of_family ++ own;
-      has_texts = λ t a. Among-left t of_family own a;
-    } in
-    claim-binds s p fits (each-checked s (checks p) accepted has (λ t a. Among-right t of_family own a))
+module _ (dig : List ℕ → List ℕ) (size : (text : List ℕ) → length (dig text) ≡ 32) (anchors : List Thread) where
+  pub headline : (bytes : List ℕ) (p : Proof) → Spells proof_layout bytes p → IsAccepted dig anchors p → BindsReport dig anchors p (report_of p)
+  headline bytes p spells accepted family sound has =
+      let of_family : List (List ℕ) = family_texts dig family in
+      let own : List (List ℕ) = proof_texts dig p in
+      let s : Setting = record {
+        dig = dig;
+        size = size;
+        anchors = anchors;
+        family = family;
+        sound = sound;
+        texts = of_family ++ own;
+        has_texts = λ t a. Among-left t of_family own a;
+      } in
+      claim-binds s p (spelled-fits proof_codec proof-lawful bytes p spells) (each-checked s (checks p) accepted has (λ t a. Among-right t of_family own a))
+
+  -- a verdict binds, whatever it is
+  pub verdict-binds : (strict : Bool) (bytes : List ℕ) (verdict : Verdict) → IsVerdict dig anchors strict bytes verdict → BindsHistories dig anchors bytes verdict
+  verdict-binds strict bytes (No reason) is = tt
+  verdict-binds strict bytes (Yes report) is = λ p spells.
+      let accepts : Accepts dig anchors bytes = is.0 in
+      let same : accepts.0 ≡ p = (unambiguous proof_codec proof-lawful).one_value bytes accepts.0 p accepts.1 spells in
+      let told : report_of p ≡ report = sym (is.2 ∙ ap report_of same) in
+      subst (BindsReport dig anchors p) told (headline bytes p spells (subst (IsAccepted dig anchors) same accepts.2))

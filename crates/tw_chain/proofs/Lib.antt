@@ -7,4 +7,8 @@ pub mod ArchiveAnswers
 pub mod LowerSteps
 pub mod ChainSteps
 pub mod HeadStep
+pub mod PassesLaws
+pub mod Lowest
+pub mod JudgedFronts
+pub mod Verdicts
 pub mod ProofCodec

@@ -20,7 +20,8 @@ use Rattle.tw_skipproof.specs.declared.path.Link.{Link}
 use Rattle.tw_skipproof.specs.Codecs.{count_codec, event_codec, link_bytes, link_codec, opening_codec, part_codec, path_codec}
 use Rattle.tw_skipproof.specs.Openings.{HasSizes as HasOpeningSizes}
 use Rattle.tw_skipproof.specs.Paths.{HasLinkSizes, greedy_steps}
-use Rattle.tw_treeproof.specs.Codecs.{ancestor_codec, entry_codec, gap_codec, present_codec}
+use Rattle.tw_base.specs.EntryCodec.{entry_codec}
+use Rattle.tw_treeproof.specs.Codecs.{ancestor_codec, gap_codec, present_codec}
 use Rattle.tw_treeproof.specs.Sizes.{HasProofSizes, HasSizes}
 
 digests-size : (ds : List (List ℕ)) → Each (HasBytes 32) ds → AllDigests ds
