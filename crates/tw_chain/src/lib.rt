@@ -5,6 +5,7 @@ mod chain;
 mod chain_reading;
 mod joining;
 mod judgement;
+mod judging;
 mod laws;
 mod proof;
 mod reading;
