@@ -1,10 +1,9 @@
 -- Ways over hops: one hop more at the end, and when a hop stands.
-use Rattle.std.proofs.Common.{◌≡◌, ℕ, ◌≤◌, List, [], ◌∷◌, ◌++◌, length, refl, sym, ap, ◌∙◌, arith}
+use Rattle.std.proofs.Common.{◌≡◌, ℕ, ◌≤◌, List, [], ◌∷◌, ◌++◌, sym, ap, ◌∙◌, arith}
 use Rattle.std.specs.Prelude.{Some}
 use Rattle.tw_base.specs.declared.report.Hop.{Hop}
 use Rattle.tw_base.specs.declared.thread.Entry.{Entry}
 use Rattle.tw_base.specs.declared.thread.Key.{Key}
-use Rattle.tw_base.specs.Auth.{auth}
 use Rattle.tw_base.specs.Chains.{HopStands, LeadsBy}
 use Rattle.tw_base.specs.Family.{HasHistory, HasThread}
 use Rattle.tw_base.specs.History.{History, entry_at}

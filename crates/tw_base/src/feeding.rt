@@ -34,9 +34,9 @@ impl<S: Segments> Fed<S> {
         Fed::Reading(Resumed::begin(alloc, state))
     }
 
-    /// A piece more. Where the pieces broke before, nothing is read nor held of it. Once no memory was
-    /// left, the answer is `NoMemory` for ever; so it is where the pieces have 2^64 bytes or more and
-    /// are still a front of a word, since no count of them would be told.
+    /// A piece more. Where the pieces broke before, nothing is read or held of it. Once no memory was
+    /// left, the answer is `NoMemory` for ever; so it is where the pieces so far have 2^64 bytes or
+    /// more, too many for their count.
     pub fn feed(&mut self, alloc: Global, piece: &[u8]) -> Result<(), NoMemory>
         // The reader was fed what it was fed before, and then the piece.
         ensures fed { (whole : Format S.Whole) (pieces : List ℕ) → HasFed S.rest whole self.old pieces → HasFed S.rest whole self.new (pieces ++ piece.now) }

@@ -36,8 +36,8 @@ impl<S: Segments> Resumed<S> {
 
     /// A piece more. Malformed exactly where the pieces so far are no front of a word, with the place
     /// of the first byte at which none goes on. The bytes held of a segment are looked at again only
-    /// where it may end or break with the piece. No memory is left where the pieces so far have 2^64
-    /// bytes or more, which no count would tell.
+    /// where it may end or break with the piece. The answer is `NoMemory` also where the pieces so far
+    /// have 2^64 bytes or more, too many for their count.
     pub fn feed(self, alloc: Global, piece: &[u8]) -> Result<Self, ReadFault>
         // A piece is refused exactly where all that came so far is no front of a word, with the place.
         ensures { (whole : Format S.Whole) (pieces : List ℕ) → IsSoFar S.rest whole self pieces → Goes S.rest whole (pieces ++ piece.now) result }

@@ -50,12 +50,12 @@ fn put_claim(alloc: Global, text: &mut Bytes, claim: &Claim) -> Result<(), NoMem
     match claim {
         Claim::Exists(seen) => {
             text.extend_from_slice(b"accepted exists\n")?;
-            put_seen(alloc, text, seen)
+            put_seen(alloc, text, seen)?;
         }
         Claim::Precedes { first, second } => {
             text.extend_from_slice(b"accepted precedes\n")?;
             put_seen(alloc, text, first)?;
-            put_seen(alloc, text, second)
+            put_seen(alloc, text, second)?;
         }
         Claim::Archived {
             service,
@@ -63,11 +63,11 @@ fn put_claim(alloc: Global, text: &mut Bytes, claim: &Claim) -> Result<(), NoMem
             entry,
         } => {
             text.extend_from_slice(b"accepted thread\n")?;
-            put_thread(alloc, text, service, *step, entry)
+            put_thread(alloc, text, service, *step, entry)?;
         }
         Claim::Absent { service, step, key } => {
             text.extend_from_slice(b"accepted absent\n")?;
-            put_absent(text, service, *step, key)
+            put_absent(text, service, *step, key)?;
         }
         Claim::Linked {
             service,
@@ -76,9 +76,10 @@ fn put_claim(alloc: Global, text: &mut Bytes, claim: &Claim) -> Result<(), NoMem
             auth,
         } => {
             text.extend_from_slice(b"accepted link\n")?;
-            put_link(alloc, text, service, *step, *top, auth)
+            put_link(alloc, text, service, *step, *top, auth)?;
         }
     }
+    Ok(())
 }
 
 /// Puts the line of each hop at the text's end.

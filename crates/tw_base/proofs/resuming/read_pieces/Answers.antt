@@ -1,9 +1,8 @@
-use Rattle.std.proofs.Common.{ℕ, List, [], ◌+◌, length, take, drop, get_or, sym, ap, arith}
+use Rattle.std.proofs.Common.{ℕ, List, [], ◌+◌, take, sym}
 use Rattle.std.specs.Borrow.{Bor}
-use Rattle.std.proofs.lemmas.List.{length-append}
 use Rattle.std.proofs.lemmas.Result.{err_from_is_err_and}
 use Rattle.tw_base.specs.Resuming.{all_of}
-use Rattle.tw_base.proofs.PieceLaws.{all_of-more, all_of-parts, breaks-all, so_far-size}
+use Rattle.tw_base.proofs.PieceLaws.{all_of-more, breaks-all}
 use Rattle.tw_base.proofs.resuming.read_pieces.Goals as goal
 
 abbrev none : Bor (List ℕ)

@@ -1,5 +1,5 @@
 use Rattle.std.proofs.Common.{◌≡◌, ℕ, ◌+◌, ◌-◌, List, [], ◌++◌, length, take, drop, refl, ap, sym, ◌∙◌, subst, arith}
-use Rattle.std.specs.Prelude.{Ok, Err}
+use Rattle.std.specs.Prelude.{Err}
 use Rattle.tw_base.specs.declared.failure.ReadFault.TheVariants.{Malformed}
 use Rattle.std.proofs.lemmas.List.{length-drop, take_rest}
 use Rattle.tw_base.specs.Resuming.{Goes}

@@ -1,4 +1,4 @@
-use Rattle.std.proofs.Common.{◌<◌, length, sym, arith}
+use Rattle.std.proofs.Common.{sym, arith}
 use Rattle.std.proofs.lemmas.List.{length-append}
 use Rattle.tw_base.proofs.PieceLaws.{broken-more}
 use Rattle.tw_base.proofs.feeding.Fed.feed.Goals as goal
