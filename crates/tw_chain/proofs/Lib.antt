@@ -1,4 +1,8 @@
-pub mod PathBinds
+pub mod PieceSizes
+pub mod CheckBinds
+pub mod ChainBinds
+pub mod TimesRise
+pub mod Headline
 pub mod ArchiveAnswers
 pub mod LowerSteps
 pub mod ChainSteps
