@@ -6,6 +6,7 @@ mod chain_reading;
 mod finding;
 mod joining;
 mod judgement;
+mod judging;
 mod laws;
 mod passing;
 mod proof;
