@@ -4,3 +4,7 @@ pub mod LowerSteps
 pub mod ChainSteps
 pub mod HeadStep
 pub mod ProofCodec
+pub mod ChainShapes
+pub mod ProofSizes
+pub mod Completeness
+pub mod OwnSpelling
