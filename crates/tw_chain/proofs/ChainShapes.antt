@@ -3,13 +3,12 @@ use Rattle.std.proofs.Common.{◌≡◌, ℕ, suc, zero, ◌-◌, ◌<◌, ◌�
 use Rattle.std.specs.Prelude.{Bool, true, false, Option, Some, None, nat_lt, slice_get}
 use Rattle.std.proofs.lemmas.Bool.{lt-ltb}
 use Rattle.tw_base.specs.declared.limits.TheConstants.{LAST_STEP, MOST_HOPS}
-use Rattle.tw_base.specs.declared.thread.Entry.{Entry}
 use Rattle.tw_base.specs.Codecs.{Codec, EachFits, behind, by_kind, bytes_codec, each, name_codec, nothing, number_codec, optional, pair, present, seen, variant}
-use Rattle.tw_base.specs.HistoryCodec.{thread_codec}
+use Rattle.tw_base.specs.EntryCodec.{entry_codec}
+use Rattle.tw_base.proofs.EntryCodecLaws.{entry-range}
 use Rattle.tw_skipproof.specs.declared.opening.Opening.{Opening}
-use Rattle.tw_skipproof.specs.declared.existence.Part.{Part}
 use Rattle.tw_skipproof.specs.Codecs.{event_codec, opening_codec, part_codec, path_codec}
-use Rattle.tw_treeproof.specs.Codecs.{entry_codec, present_codec}
+use Rattle.tw_treeproof.specs.Codecs.{present_codec}
 use Rattle.tw_chain.specs.declared.proof.HopPart.{HopPart}
 use Rattle.tw_chain.specs.declared.proof.PrecedenceProof.{PrecedenceProof}
 use Rattle.tw_chain.specs.declared.proof.Proof.TheVariants.{Precedes}
@@ -92,20 +91,12 @@ hop-ends hop fits = none-there (opening_codec 0 hop.entry.thread.step) hop.openi
 
 -- ---- steps
 
-pub entry-step : (e : Entry) → entry_codec.Fits e → (1 ≤ e.thread.step) × (e.thread.step ≤ LAST_STEP)
-unfolding entry_codec thread_codec seen pair number_codec
-entry-step e fits = fits.0.1.0
-
-pub part-steps : (least : ℕ) (p : Part) → (part_codec least).Fits p → (1 ≤ p.step) × (p.step ≤ LAST_STEP)
-unfolding part_codec seen pair number_codec
-part-steps least p fits = fits.1.0
-
 -- the hops come to a step within the limit
 last_step-small : (step count : ℕ) (hops : List HopPart) → step ≤ LAST_STEP → HopsFit count hops → last_step step hops ≤ LAST_STEP
 last_step-small step count [] small fits = small
 last_step-small step zero (hop ∷ hops) small fits = let no : [] ≡ hop ∷ hops = fits in cc
 last_step-small step (suc more) (hop ∷ hops) small fits =
-    last_step-small hop.entry.thread.step more hops (entry-step hop.entry (hop-parts more hop fits.0).entry).1 fits.1
+    last_step-small hop.entry.thread.step more hops (entry-range hop.entry (hop-parts more hop fits.0).entry).0.1 fits.1
 
 pub last_step-all : (step count : ℕ) (hops : List HopPart) → step ≤ LAST_STEP → (each hop_bytes hop_codec (following count)).Fits hops → last_step step hops ≤ LAST_STEP
 unfolding each

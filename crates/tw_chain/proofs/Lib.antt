@@ -1,8 +1,16 @@
-pub mod PathBinds
+pub mod PieceSizes
+pub mod CheckBinds
+pub mod ChainBinds
+pub mod TimesRise
+pub mod Headline
 pub mod ArchiveAnswers
 pub mod LowerSteps
 pub mod ChainSteps
 pub mod HeadStep
+pub mod PassesLaws
+pub mod Lowest
+pub mod JudgedFronts
+pub mod Verdicts
 pub mod ProofCodec
 pub mod ChainShapes
 pub mod ProofSizes

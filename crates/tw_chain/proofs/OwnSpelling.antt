@@ -6,6 +6,8 @@ use Rattle.tw_base.specs.declared.tree_proof.Ask.TheVariants as ask
 use Rattle.tw_base.specs.Bytes.{AreBytes}
 use Rattle.tw_base.specs.Codecs.{HasBytes, behind, by_kind, bytes_codec, name_codec, number_codec, pair, seen, variant}
 use Rattle.tw_base.specs.Entries.{key_of}
+use Rattle.tw_base.specs.EntryCodec.{entry_codec}
+use Rattle.tw_base.proofs.EntryCodecLaws.{entry-fits}
 use Rattle.tw_base.specs.Formats.{Spells}
 use Rattle.tw_base.specs.History.{History}
 use Rattle.tw_base.specs.Lists.{Each}
@@ -26,9 +28,8 @@ use Rattle.tw_skipproof.proofs.LawfulCodecs.{existence-lawful}
 use Rattle.tw_skipproof.proofs.PartOf.{part-fits-made, part_in_range-made, part_shaped-made, path-fits-made}
 use Rattle.tw_treeproof.specs.declared.limits.TheConstants.{MOST_ABOVE_PLACE}
 use Rattle.tw_treeproof.specs.Answers.{asks_entry}
-use Rattle.tw_treeproof.specs.Codecs.{entry_codec, gap_codec, present_codec, tree_proof_codec}
+use Rattle.tw_treeproof.specs.Codecs.{gap_codec, present_codec, tree_proof_codec}
 use Rattle.tw_treeproof.specs.Making.{IsSo, height, proof_of}
-use Rattle.tw_treeproof.proofs.LawfulCodecs.{entry-fits}
 use Rattle.tw_treeproof.proofs.OwnProofs.{own-fits}
 use Rattle.tw_chain.specs.declared.proof.AbsenceProof.{AbsenceProof}
 use Rattle.tw_chain.specs.declared.proof.LinkProof.{LinkProof}

@@ -6,18 +6,17 @@ use Rattle.std.proofs.Math.Nat.{mul-le-mul_right, suc-mul}
 use Rattle.tw_base.specs.declared.limits.TheConstants.{LAST_STEP, MOST_HOPS}
 use Rattle.tw_base.specs.Codecs.{Codec, behind, each, number_codec, variant}
 use Rattle.tw_base.specs.Formats.{Spells}
-use Rattle.tw_base.specs.HistoryCodec.{thread_codec}
+use Rattle.tw_base.proofs.EntryCodecLaws.{entry-most, entry-range}
 use Rattle.tw_base.proofs.CodecSizes.{AtMost, at_most-behind, at_most-by_kind, at_most-bytes, at_most-choose, at_most-name, at_most-number, at_most-optional, at_most-pair, at_most-seen, at_most-variant, word-size}
 use Rattle.tw_skipproof.specs.Codecs.{existence_body, existence_codec, existence_magic, opening_codec}
 use Rattle.tw_skipproof.proofs.LawfulCodecs.{opening-few, part-counts}
-use Rattle.tw_skipproof.proofs.Shapes.{event-most, existence-most, opening-most, part-most, path-most}
-use Rattle.tw_treeproof.specs.Codecs.{entry_codec}
+use Rattle.tw_skipproof.proofs.Shapes.{event-most, existence-most, opening-most, part-most, part-shape, path-most}
 use Rattle.tw_treeproof.proofs.LawfulCodecs.{gap-most, present-most}
 use Rattle.tw_chain.specs.declared.proof.HopPart.{HopPart}
 use Rattle.tw_chain.specs.declared.proof.Proof.{Proof}
 use Rattle.tw_chain.specs.declared.proof.Proof.TheVariants.{Exists, Precedes, Archived, Absent, Linked}
 use Rattle.tw_chain.specs.Proofs.{absence_body, absence_of, behind_codec, body_of_kind, existence_of, following, hop_bytes, hop_codec, hops_codec, key_codec, kind_codec, kinds_codec, last_step, link_body, link_of, precedence_body, precedence_of, proof_codec, proof_layout, tail_codec, thread_body, thread_of}
-use Rattle.tw_chain.proofs.ChainShapes.{HopsFit, entry-step, last_step-all, part-steps}
+use Rattle.tw_chain.proofs.ChainShapes.{HopsFit, last_step-all}
 use Rattle.tw_chain.proofs.ProofCodec.{hop-written, proof-lawful}
 
 at_most-wider : {X : Type 0} (c : Codec X) (m n : ℕ) → m ≤ n → AtMost c m → AtMost c n
@@ -26,14 +25,6 @@ at_most-wider c m n l h x f = omega (arith, h x f, l)
 body-most : AtMost existence_body 56500
 unfolding existence_codec behind
 body-most p f = let all = existence-most p f in omega (arith, all, length-append existence_magic (existence_body.write p))
-
-thread-most : AtMost thread_codec 56
-unfolding thread_codec
-thread-most = at_most-seen _ _ _ 56 (at_most-pair _ _ 16 40 at_most-name (λ _ _. at_most-pair _ _ 8 32 (at_most-number 8 1 LAST_STEP) (λ _ _. at_most-bytes 32)))
-
-entry-most : AtMost entry_codec 64
-unfolding entry_codec
-entry-most = at_most-seen _ _ _ 64 (at_most-pair _ _ 56 8 thread-most (λ _ _. at_most-number 8 1 LAST_STEP))
 
 thread_body-most : AtMost thread_body 67469
 unfolding thread_body
@@ -60,7 +51,7 @@ unfolding hop_codec number_codec
 hop-most more p f =
     at_most-seen _ _ _ 67445 (at_most-pair _ _ 64 67381 entry-most (λ entry e. at_most-pair _ _ 12257 55124 present-most (λ _ _. at_most-pair _ _ 8 55116 (at_most-number 8 0 LAST_STEP) (λ bind b.
     at_most-pair _ _ 53760 1356 (path-most bind entry.thread.step (omega (arith, b.1))) (λ _ _.
-    at_most-optional (nat_lt 0 more) (opening_codec 0 entry.thread.step) 1356 (opening-most 0 entry.thread.step (entry-step entry e).1)))))) p f
+    at_most-optional (nat_lt 0 more) (opening_codec 0 entry.thread.step) 1356 (opening-most 0 entry.thread.step (entry-range entry e).0.1)))))) p f
 
 hops-most : (count : ℕ) (hops : List HopPart) → HopsFit count hops → length (flat_map hop_bytes hops) ≤ count * 67445
 hops-most count [] fits = omega arith
@@ -89,7 +80,7 @@ with_hops-most : (count : ℕ) → count ≤ MOST_HOPS → AtMost (hops_codec co
 unfolding hops_codec
 with_hops-most count few =
     at_most-seen _ _ _ 4430812 (at_most-pair _ _ 55148 4375664 (part-most 1) (λ head f.
-    at_most-pair _ _ 1352 4374312 (event-most head.opening.count (part-counts 1 head f).1) (λ _ _. behind-most count head.step few (part-steps 1 head f).1)))
+    at_most-pair _ _ 1352 4374312 (event-most head.opening.count (part-counts 1 head f).1) (λ _ _. behind-most count head.step few (part-shape 1 head f).1.step)))
 
 precedence-most : AtMost precedence_body 4430813
 unfolding precedence_body number_codec

@@ -11,9 +11,9 @@ ghost use Rattle.tw_chain.specs.Proofs.{behind_codec, following, hop_bytes, hop_
 use crate::proof::{HopPart, HopParts, PrecedenceProof, Tail};
 use std::alloc::Global;
 use tw_base::limits::{LAST_STEP, MOST_HOPS};
-use tw_base::{ReadFault, take_number};
+use tw_base::{ReadFault, take_entry, take_number};
 use tw_skipproof::{Opening, take_event, take_opening, take_part, take_path};
-use tw_treeproof::{take_entry, take_present};
+use tw_treeproof::take_present;
 
 /// Takes the opening of a step where there is to be one.
 #[tactic(auto, unfolding(tw_base::specs::Codecs::nothing, tw_base::specs::Codecs::present))]

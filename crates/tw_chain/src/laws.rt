@@ -1,4 +1,4 @@
-// The laws of the proofs that a history has.
+// The laws of proofs: their spelling, and what an accepted one says of histories.
 
 ghost use Rattle.std.specs.Prelude.{◌≡◌, ℕ, ◌<◌, ◌≤◌, List, length, Some, slice_get};
 ghost use Rattle.tw_base.specs.declared.thread.Thread.{Thread};
@@ -16,7 +16,8 @@ ghost use Rattle.tw_treeproof.specs.declared.limits.TheConstants.{MOST_ABOVE_PLA
 ghost use Rattle.tw_treeproof.specs.Making.{height};
 ghost use Rattle.tw_chain.specs.declared.proof.Proof.{Proof};
 ghost use Rattle.tw_chain.specs.declared.proof.Proof.TheVariants.{Exists};
-ghost use Rattle.tw_chain.specs.Accepting.{Accepts, IsAccepted, claim_of};
+ghost use Rattle.tw_chain.specs.Accepting.{Accepts, IsAccepted, claim_of, report_of};
+ghost use Rattle.tw_chain.specs.Binding.{BindsReport};
 ghost use Rattle.tw_chain.specs.Claiming.{ClaimsOf, claim_at};
 ghost use Rattle.tw_chain.specs.OwnProofs.{IsOwnProof};
 ghost use Rattle.tw_chain.specs.Proofs.{proof_bytes, proof_codec, proof_layout};
@@ -75,4 +76,12 @@ pub fn proof_laws()
     ensures once { IsUnambiguous proof_codec }
     // A proof has fewer than 5,242,880 bytes.
     ensures small { (bytes : List ℕ) (p : Proof) → Spells proof_layout bytes p → length bytes < 5242880 }
+{}
+
+/// What an accepted proof says of histories, whatever its kind.
+pub fn chain_laws<H: Hasher>()
+    // What the report of an accepted proof claims is so in every family of sound histories that has the threads held of
+    // the proof, or two different texts of the histories and of the proof have one digest.
+    ensures headline { (bytes : List ℕ) (p : Proof) (anchors : List Thread) →
+        Spells proof_layout bytes p → IsAccepted H.dig anchors p → BindsReport H.dig anchors p (report_of p) }
 {}

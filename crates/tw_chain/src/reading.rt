@@ -10,9 +10,11 @@ use crate::chain_reading::take_precedence_body;
 use crate::proof::{AbsenceProof, LinkProof, Proof, ThreadProof};
 use std::alloc::Global;
 use tw_base::limits::LAST_STEP;
-use tw_base::{Key, ReadFault, front_to, take_digest, take_name, take_number, take_text, whole_to};
+use tw_base::{
+    Key, ReadFault, front_to, take_digest, take_entry, take_name, take_number, take_text, whole_to,
+};
 use tw_skipproof::{PROOF_MAGIC, take_existence_body, take_part, take_path};
-use tw_treeproof::{take_entry, take_gap, take_present};
+use tw_treeproof::{take_gap, take_present};
 
 /// Takes a proof that an archive has an entry, behind its kind.
 fn take_thread_body(alloc: Global, bytes: &[u8], at: &mut u64) -> Result<ThreadProof, ReadFault>

@@ -1,6 +1,6 @@
 use Rattle.std.proofs.Common.{◌++◌, ◌-◌, take, drop, ap, ◌∙◌}
 use Rattle.tw_base.proofs.NumberLaws.{number_bytes-last}
-use Rattle.tw_disk.proofs.page_bytes.PageFront.put_number.Goals as goal
+use Rattle.tw_base.proofs.page_bytes.PageFront.put_number.Goals as goal
 
 pub returns-clause-bytes : goal.returns-clause-bytes
 returns-clause-bytes c =

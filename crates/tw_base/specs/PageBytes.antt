@@ -2,7 +2,7 @@
 use Rattle.std.specs.Prelude.{◌≡◌, ℕ, ◌-◌, List, ◌++◌, length, drop, replicate, Result, Ok, Err, Option, Some, None}
 use Rattle.tw_base.specs.declared.failure.ReadFault.{ReadFault}
 use Rattle.tw_base.specs.Codecs.{Codec}
-use Rattle.tw_disk.specs.declared.limits.TheConstants.{PAGE_SIZE}
+use Rattle.tw_base.specs.declared.limits.TheConstants.{PAGE_SIZE}
 
 -- these bytes, and then zeros to the end of a page
 abbrev pub padded : List ℕ → List ℕ

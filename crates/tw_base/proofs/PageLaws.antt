@@ -9,7 +9,7 @@ use Rattle.tw_base.specs.Formats.{Placed}
 use Rattle.tw_base.specs.Taking.{Takes}
 use Rattle.tw_base.proofs.CodecLaws.{Lawful}
 use Rattle.tw_base.proofs.FormatLaws.{read_at-spells, read_at-word}
-use Rattle.tw_disk.specs.PageBytes.{IsPageOf, IsPageTo, IsZeroFrom}
+use Rattle.tw_base.specs.PageBytes.{IsPageOf, IsPageTo, IsZeroFrom}
 
 value_or : {X : Type 0} → X → Result (Placed X) ℕ → X
 value_or d (Ok p) = p.value

@@ -2,12 +2,13 @@
 
 ghost use Rattle.std.specs.Prelude.{◌≡◌, ◌↔◌, ◌+◌, ◌-◌, ◌^◌, ◌<◌, ◌++◌, ◌≤◌, [], length, replicate, IfOk, IsTrue};
 ghost use Rattle.tw_base.specs.Fields.{number_bytes};
-ghost use Rattle.tw_disk.specs.PageBytes.{IsPageTo, padded};
-ghost use Rattle.tw_disk.specs.declared.limits.TheConstants.{PAGE_SIZE};
+ghost use Rattle.tw_base.specs.PageBytes.{IsPageTo, padded};
+ghost use Rattle.tw_base.specs.declared.limits.TheConstants.{PAGE_SIZE};
 
+use crate::digest::Digest;
+use crate::failure::ReadFault;
 use crate::limits::PAGE_SIZE;
 use std::marker::Model;
-use tw_base::{Digest, ReadFault};
 
 /// The bytes of a page.
 pub type Page = [u8; PAGE_SIZE];

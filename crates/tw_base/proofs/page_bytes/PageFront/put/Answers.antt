@@ -1,7 +1,7 @@
 use Rattle.std.proofs.Common.{◌≡◌, ◌≤◌, ◌+◌, ◌-◌, length, drop, replicate, ap, sym, ◌∙◌, arith}
 use Rattle.std.proofs.lemmas.List.{drop-drop, drop-replicate, length-take-le}
 use Rattle.std.proofs.lemmas.Slice.{drop-put_mid}
-use Rattle.tw_disk.proofs.page_bytes.PageFront.put.Goals as goal
+use Rattle.tw_base.proofs.page_bytes.PageFront.put.Goals as goal
 
 pub invariant_of-self : goal.invariant_of-self
 invariant_of-self c =
