@@ -45,7 +45,7 @@ pub fn read_pieces<S: Segments>(
     state: S,
     pieces: &[&[u8]],
 ) -> Result<S::Whole, ReadFault>
-    requires starts { StaysFront (S.rest state) [] 0 }
+    requires { StaysFront (S.rest state) [] 0 }
     // Bytes that come in pieces are read as all of them at once would be, wherever they are cut.
     ensures { ReadsAs (λ x. x) (S.rest state) (all_of pieces.now) result }
 {
