@@ -30,7 +30,7 @@ pub(crate) const MAGIC: [u8; 5] = [
 ];
 
 /// Takes the event under an opening with this count of events.
-pub(crate) fn take_event(
+pub fn take_event(
     alloc: Global,
     bytes: &[u8],
     at: &mut u64,
