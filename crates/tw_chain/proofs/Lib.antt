@@ -3,3 +3,4 @@ pub mod ArchiveAnswers
 pub mod LowerSteps
 pub mod ChainSteps
 pub mod HeadStep
+pub mod ProofCodec

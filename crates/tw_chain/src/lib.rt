@@ -2,6 +2,7 @@
 #![tactic(auto)]
 
 mod chain;
+mod chain_reading;
 mod joining;
 mod judgement;
 mod laws;

@@ -4,9 +4,10 @@
 ghost use Rattle.std.specs.Prelude.{◌≡◌, ◌≤◌, length, IfOk};
 ghost use Rattle.tw_base.specs.Formats.{ReadsAs, ReadsFrontAs};
 ghost use Rattle.tw_base.specs.Taking.{Takes};
-ghost use Rattle.tw_chain.specs.Proofs.{absence_body, body_of_kind, key_codec, kind_codec, kinds_codec, link_body, precedence_body, proof_codec, proof_layout, thread_body};
+ghost use Rattle.tw_chain.specs.Proofs.{absence_body, body_of_kind, key_codec, kind_codec, kinds_codec, link_body, proof_codec, proof_layout, thread_body};
 
-use crate::proof::{AbsenceProof, LinkProof, PrecedenceProof, Proof, ThreadProof};
+use crate::chain_reading::take_precedence_body;
+use crate::proof::{AbsenceProof, LinkProof, Proof, ThreadProof};
 use std::alloc::Global;
 use tw_base::limits::LAST_STEP;
 use tw_base::{Key, ReadFault, front_to, take_digest, take_name, take_number, take_text, whole_to};
@@ -70,18 +71,6 @@ fn take_link_body(alloc: Global, bytes: &[u8], at: &mut u64) -> Result<LinkProof
         auth,
         path,
     })
-}
-
-/// Takes a proof from event to event, behind its kind.
-fn take_precedence_body(
-    alloc: Global,
-    bytes: &[u8],
-    at: &mut u64,
-) -> Result<PrecedenceProof, ReadFault>
-    requires { at.old ≤ length bytes.now }
-    ensures { Takes precedence_body (λ p. p) bytes.now at.old at.new result }
-{
-    Err(ReadFault::NoMemory)
 }
 
 /// Takes what a proof of this kind has.

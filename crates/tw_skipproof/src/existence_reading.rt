@@ -39,6 +39,8 @@ pub fn take_event(
     requires within { at.old ≤ length bytes.now }
     requires some { 1 ≤ count }
     requires few { count ≤ MOST_EVENTS }
+    // An event under an opening is taken at a place exactly as its codec reads it; else the place of the first bad byte is
+    // told.
     ensures { Takes (event_codec count) (λ e. e) bytes.now at.old at.new result }
 {
     let index = take_number(bytes, at, 4, 0, count as u64 - 1)? as u32;
