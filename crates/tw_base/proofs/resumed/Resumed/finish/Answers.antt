@@ -1,6 +1,6 @@
 use Rattle.std.proofs.Common.{arith}
 use Rattle.tw_base.proofs.PieceLaws.{ends-between, ends-held}
-use Rattle.tw_base.proofs.resuming.Resumed.finish.Goals as goal
+use Rattle.tw_base.proofs.resumed.Resumed.finish.Goals as goal
 
 pub returns-then-len-gt0 : goal.returns-then-len-gt0
 returns-then-len-gt0 g c = λ whole pieces s.
