@@ -20,10 +20,10 @@ module _ (dig : List ℕ → List ℕ) (family : List History) where
       archived = hop.archived;
     })
 
-  -- the hops lead from one step to another: each hop stands, and begins at the service that the way has come to, at a step
-  -- no lower; where no hop is left, the way has come to the last service, at a step at most the last one
-  abbrev pub LeadsBy : List Hop → (from to : Key) → Type 0
-  LeadsBy [] from to = (from.from ≡ to.from) × (from.step ≤ to.step)
-  LeadsBy (hop ∷ hops) from to =
-      (hop.from ≡ from.from) × (from.step ≤ hop.step) × HopStands hop
-      × LeadsBy hops (record { from = hop.by; step = hop.archived }) to
+  -- the hops lead from the start to the goal: each hop stands, and begins at the service that the way has come to, at a step
+  -- no lower; where no hop is left, the way has come to the goal's service, at a step at most the goal's
+  abbrev pub LeadsBy : List Hop → (start goal : Key) → Type 0
+  LeadsBy [] start goal = (start.from ≡ goal.from) × (start.step ≤ goal.step)
+  LeadsBy (hop ∷ hops) start goal =
+      (hop.from ≡ start.from) × (start.step ≤ hop.step) × HopStands hop
+      × LeadsBy hops (record { from = hop.by; step = hop.archived }) goal

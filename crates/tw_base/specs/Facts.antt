@@ -1,5 +1,5 @@
 -- What a claim says of the histories of several services.
-use Rattle.std.specs.Prelude.{◌≡◌, ◌≢◌, ℕ, ◌-◌, ◌≤◌, List, [], ◌∷◌, slice_get, Some, IfSome}
+use Rattle.std.specs.Prelude.{◌≡◌, ◌≢◌, ℕ, ◌-◌, ◌≤◌, List, [], slice_get, Some, IfSome}
 use Rattle.tw_base.specs.declared.report.Claim.{Claim}
 use Rattle.tw_base.specs.declared.report.Claim.TheVariants.{Exists, Precedes, Archived, Absent, Linked}
 use Rattle.tw_base.specs.declared.report.Hop.{Hop}

@@ -1,5 +1,5 @@
 -- A reader that is fed a word in pieces, and can be asked between them whether a word still goes on.
-use Rattle.std.specs.Prelude.{◌≡◌, ℕ, ◌<◌, List, length, Bool, true, false}
+use Rattle.std.specs.Prelude.{ℕ, ◌<◌, List, length, Bool, true, false}
 use Rattle.tw_base.specs.declared.feeding.Fed.{Fed}
 use Rattle.tw_base.specs.declared.feeding.Fed.TheVariants.{Reading, Broken, Spent}
 use Rattle.tw_base.specs.Formats.{Format, IsFront, IsPlace}

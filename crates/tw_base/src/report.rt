@@ -65,8 +65,8 @@ pub enum Claim {
 }
 
 /// What is reported of an accepted proof: its claim, the hops between the events that it claims, and
-/// the threads of these hops that no anchor binds, which are carried. Both lists stand in the order
-/// from the first event to the second, and are empty where the claim is of another kind.
+/// the threads of these hops that the proof binds to no anchor, which are carried. Both lists stand in
+/// the order from the first event to the second, and are empty where the claim is of another kind.
 #[derive(Drop, Debug)]
 pub struct Report {
     pub claim: Claim,
@@ -75,8 +75,13 @@ pub struct Report {
 }
 
 /// Why a proof isn't accepted. Of several reasons that stand the one with the lowest number is
-/// answered, and of its parts or places the lowest. Part 0 is the head of a proof from event to
-/// event, and the whole of a proof of another kind.
+/// answered, and of its parts or places the lowest.
+///
+/// A proof from event to event over h hops has the parts 0 to h + 1, in the order of its bytes. Part 0
+/// is the head: the second event with its path and opening, and the opening of the step before it.
+/// Part t, from 1 to h, is the t-th hop, which is the t-th from the second event backwards: its tree
+/// proof, the path of its bind, and the opening behind it. Part h + 1 is the first event with its path
+/// and opening. A proof of another kind is part 0 as a whole.
 #[derive(Clone, Copy, PartialEq, Eq, Debug, Drop)]
 pub enum Reason {
     /// 1: the bytes are no proof. The place is that of the first byte, counted from 0, at which no
@@ -85,9 +90,12 @@ pub enum Reason {
     /// 2: a step above the one that it is proved under, an archived step above the step whose archive
     /// shows it, or an opening of step 0.
     BadOrder,
-    /// 3: no anchor of this service and step is held.
+    /// 3: no anchor of this service and step is held. Of several that aren't held it is the first in
+    /// the order of the bytes.
     NotHeld { service: Name, step: u64 },
-    /// 4: a path doesn't climb from its bottom to its known upper end.
+    /// 4: a path doesn't climb from its bottom to its known upper end. Where the bottom is what an
+    /// opening computes, since the proof doesn't hold the authenticator of its step before, a false
+    /// opening counts here.
     BadPath { part: u8 },
     /// 5: an opening computes another authenticator than the proof already holds for its step.
     BadOpening { part: u8 },

@@ -36,7 +36,7 @@ event_lines seen = event_line seen ++ time_line seen
 abbrev pub hop_line : Hop → List ℕ
 hop_line hop = line (codes "hop") (Named hop.from ∷ Number hop.step ∷ Named hop.by ∷ Number hop.archived ∷ [])
 
--- a thread that no anchor binds
+-- a thread that the proof binds to no anchor
 abbrev pub carried_line : Thread → List ℕ
 carried_line t = line (codes "carried") (Named t.from ∷ Number t.step ∷ Hex t.auth ∷ [])
 
