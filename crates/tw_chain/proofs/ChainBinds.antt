@@ -108,5 +108,5 @@ module _ (dig : List ℕ → List ℕ) (anchors : List Thread) (family : List Hi
       (λ leads. inl (
         leads.0,
         leads-snoc dig family (hops_to hop.entry.thread.from hops) (record { from = last.from; step = step }) (record { from = hop.entry.thread.from; step = hop.entry.thread.step })
-        (record { from = t.from; step = t.step }) (hop_from t.from hop) leads.1 refl (omega arith) stands.1 refl parts.0.0.passes,
+            (record { from = t.from; step = t.step }) (hop_from t.from hop) leads.1 refl (omega arith) stands.1 refl parts.0.0.passes,
       ))))

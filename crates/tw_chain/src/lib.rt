@@ -3,6 +3,7 @@
 
 mod chain;
 mod chain_reading;
+mod chain_writing;
 mod joining;
 mod judgement;
 mod laws;

@@ -29,5 +29,6 @@ pub use piece_reading::read_existence_pieces;
 pub use reading::{read_opening, read_path, take_opening, take_path};
 pub use so_far::{ExistenceSoFar, Middle};
 pub use writing::{
-    put_event, put_opening, put_part, put_path, write_existence, write_opening, write_path,
+    put_event, put_existence_body, put_opening, put_part, put_path, write_existence, write_opening,
+    write_path,
 };
