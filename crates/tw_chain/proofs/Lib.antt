@@ -10,5 +10,6 @@ pub mod HeadStep
 pub mod PassesLaws
 pub mod Lowest
 pub mod JudgedFronts
+pub mod CarriedCounts
 pub mod Verdicts
 pub mod ProofCodec
