@@ -10,7 +10,6 @@ use Rattle.tw_base.specs.Family.{HasThread}
 use Rattle.tw_base.specs.History.{entry_at}
 use Rattle.tw_base.proofs.Clashes.{and_then}
 use Rattle.tw_base.proofs.Leads.{hop-stands, leads-snoc}
-use Rattle.tw_base.proofs.ListLemmas.{Each-parts}
 use Rattle.tw_skipproof.specs.declared.opening.Opening.{Opening}
 use Rattle.tw_skipproof.specs.Codecs.{opening_codec}
 use Rattle.tw_skipproof.specs.Paths.{HasLinkSizes}
@@ -21,7 +20,7 @@ use Rattle.tw_chain.specs.Checks.{Check, bind_checks, bind_of, hop_checks, hops_
 use Rattle.tw_chain.specs.Checks.Check.{AnswerOf, CarriesThread}
 use Rattle.tw_chain.specs.Proofs.{following, hop_bytes, hop_codec}
 use Rattle.tw_chain.proofs.ArchiveAnswers.{has-received}
-use Rattle.tw_chain.proofs.CheckBinds.{AreChecked, Checked, Opened, OrTheyClash, Setting, answer-step, link-step, opening-step}
+use Rattle.tw_chain.proofs.CheckBinds.{AreChecked, Checked, Opened, OrTheyClash, Setting, answer-step, link-step, opening-step, parted}
 use Rattle.tw_chain.proofs.PieceSizes.{opening-sizes, path-sizes, present-sizes}
 
 -- the opening of the step whose archive shows the next of so many hops
@@ -72,7 +71,7 @@ module _ (s : Setting) where
       → AreChecked s (hop_checks part t.step o.archive_root hop)
       → OrTheyClash s (HasThread s.dig s.family hop.entry.thread × HopStands s.dig s.family (hop_from t.from hop))
   hop-step part more t o hop fits opened checked =
-      let bind = Each-parts (Checked s) (bind_checks part hop) (opening_checks part hop.entry.thread hop.opening) checked.1.1 in
+      let bind = parted s (bind_checks part hop) (opening_checks part hop.entry.thread hop.opening) checked.1.1 in
       and_then s.dig s.texts _ _ (received-step part t o hop fits.shown opened checked.1.0)
       (λ received. and_then s.dig s.texts _ _ (bind-step part hop fits.links bind.0)
       (λ thread. inl (thread, hop-stands s.dig s.family t.from hop.entry opened.history opened.has received thread)))
@@ -91,8 +90,8 @@ module _ (s : Setting) where
       let known : HopFits more hop = hop-fits more hop fits.0 in
       let own : List Check = hop_checks at t.step o.archive_root hop in
       let onward : List Check = hops_checks (suc at) hop.entry.thread.step (root_of hop.opening) hops in
-      let parts = Each-parts (Checked s) own onward checked in
-      let rest = Each-parts (Checked s) (bind_checks at hop) (opening_checks at hop.entry.thread hop.opening) parts.0.1.1 in
+      let parts = parted s own onward checked in
+      let rest = parted s (bind_checks at hop) (opening_checks at hop.entry.thread hop.opening) parts.0.1.1 in
       and_then s.dig s.texts _ _ (opening-step s part t o (opening-sizes 0 t.step o (opens-some more t.step (Some o) opens)) thread opened.1.0)
       (λ opened. and_then s.dig s.texts _ _ (hop-step at more t o hop known opened parts.0)
       (λ stands. and_then s.dig s.texts _ _ (chain-binds hops at (suc at) hop.entry.thread hop.opening fits.1 known.opening stands.0 rest.1 parts.1 step order)

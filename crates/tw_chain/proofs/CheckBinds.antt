@@ -78,6 +78,9 @@ module _ (s : Setting) where
   abbrev pub AreChecked : List Check → Type 0
   AreChecked = Each Checked
 
+  pub parted : (xs ys : List Check) → AreChecked (xs ++ ys) → AreChecked xs × AreChecked ys
+  parted = Each-parts Checked
+
   pub each-checked : (cs : List Check) → Each (Passes s.dig s.anchors) cs → HasThreads s.dig s.family (flat_map (held_by s.anchors) cs)
       → Within (flat_map (check_texts s.dig) cs) s.texts → AreChecked cs
   each-checked [] pass has within = tt

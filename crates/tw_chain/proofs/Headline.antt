@@ -10,7 +10,6 @@ use Rattle.tw_base.specs.Formats.{Spells}
 use Rattle.tw_base.proofs.Clashes.{Among-left, Among-right, and_then}
 use Rattle.tw_base.proofs.CodecLaws.{spelled-fits, unambiguous}
 use Rattle.tw_base.proofs.Families.{sound_of}
-use Rattle.tw_base.proofs.ListLemmas.{Each-parts}
 use Rattle.tw_skipproof.specs.declared.existence.ExistenceProof.{ExistenceProof}
 use Rattle.tw_skipproof.specs.declared.existence.Part.{Part}
 use Rattle.tw_skipproof.specs.Codecs.{existence_body}
@@ -30,7 +29,7 @@ use Rattle.tw_chain.specs.Proofs.{absence_body, behind_codec, following, hop_byt
 use Rattle.tw_chain.specs.Reasons.{IsVerdict}
 use Rattle.tw_chain.proofs.ArchiveAnswers.{has-received, lacks-received}
 use Rattle.tw_chain.proofs.ChainBinds.{FitsOpening, chain-binds}
-use Rattle.tw_chain.proofs.CheckBinds.{AreChecked, Checked, Opened, OrTheyClash, Setting, anchored-part, answer-step, each-checked, event-step, link-step, part-step}
+use Rattle.tw_chain.proofs.CheckBinds.{AreChecked, Opened, OrTheyClash, Setting, anchored-part, answer-step, each-checked, event-step, link-step, parted, part-step}
 use Rattle.tw_chain.proofs.PieceSizes.{PartSizes, event-sizes, gap-sizes, opening-sizes, part-sizes, path-sizes, present-sizes}
 use Rattle.tw_chain.proofs.ProofCodec.{proof-lawful}
 use Rattle.tw_chain.proofs.TimesRise.{times-rise}
@@ -62,13 +61,10 @@ module _ (s : Setting) where
   abbrev OpenedPart : Part → Type 0
   OpenedPart at = Opened s at.service at.step at.opening
 
-  parted : (xs ys : List Check) → AreChecked s (xs ++ ys) → AreChecked s xs × AreChecked s ys
-  parted = Each-parts (Checked s)
-
   exists-binds : (p : ExistenceProof) → existence_body.Fits p → AreChecked s (checks (Exists p)) → OrTheyClash s (SeenStands s.family (seen_at p.at p.event))
   unfolding existence_body pair seen
   exists-binds p fits checked =
-      let parts = parted (under_anchor 0 p.at) (EventOf 0 p.at.opening p.event ∷ []) checked in
+      let parts = parted s (under_anchor 0 p.at) (EventOf 0 p.at.opening p.event ∷ []) checked in
       and_then s.dig s.texts _ _ (anchored-part s 0 p.at (part-sizes 1 p.at fits.0) parts.0)
       (λ opened. event-step s 0 p.at p.event (event-sizes p.at.opening.count p.event fits.1) opened parts.1.0)
 
@@ -77,7 +73,7 @@ module _ (s : Setting) where
   archived-binds p fits checked =
       let at : Part = p.at in
       let shown : List Check = InOrder p.entry.archived at.step ∷ AnswerOf 0 at.opening.archive_root (ask.Present p.entry) p.shown ∷ [] in
-      let parts = parted (under_anchor 0 at) shown checked in
+      let parts = parted s (under_anchor 0 at) shown checked in
       and_then s.dig s.texts _ _ (anchored-part s 0 at (part-sizes 0 at fits.0) parts.0)
       (λ (opened : OpenedPart at). and_then s.dig s.texts _ _
       (answer-step s 0 at.service at.step at.opening (ask.Present p.entry) p.shown (present-sizes p.entry p.shown fits.1.0 fits.1.1) opened parts.1.1.0)
@@ -87,7 +83,7 @@ module _ (s : Setting) where
   unfolding absence_body pair seen
   absent-binds p fits checked =
       let at : Part = p.at in
-      let parts = parted (under_anchor 0 at) (AnswerOf 0 at.opening.archive_root (ask.Absent p.key) p.shown ∷ []) checked in
+      let parts = parted s (under_anchor 0 at) (AnswerOf 0 at.opening.archive_root (ask.Absent p.key) p.shown ∷ []) checked in
       and_then s.dig s.texts _ _ (anchored-part s 0 at (part-sizes 0 at fits.0) parts.0)
       (λ (opened : OpenedPart at). and_then s.dig s.texts _ _
       (answer-step s 0 at.service at.step at.opening (ask.Absent p.key) p.shown (gap-sizes p.key p.shown fits.1.1) opened parts.1.0)
@@ -118,9 +114,9 @@ module _ (s : Setting) where
   precedes-binds p fits checked =
       let hops : List Check = hops_checks 1 (start_of p).step (root_of p.before) p.hops in
       let tail : List Check = tail_checks (suc (length p.hops)) (end_of p) p.tail in
-      let parts = parted (head_checks p) (hops ++ tail) checked in
-      let head = parted (under_anchor 0 p.head) (EventOf 0 p.head.opening p.event ∷ opening_checks 0 (start_of p) p.before) parts.0 in
-      let rest = parted hops tail parts.1 in
+      let parts = parted s (head_checks p) (hops ++ tail) checked in
+      let head = parted s (under_anchor 0 p.head) (EventOf 0 p.head.opening p.event ∷ opening_checks 0 (start_of p) p.before) parts.0 in
+      let rest = parted s hops tail parts.1 in
       and_then s.dig s.texts _ _ (anchored-part s 0 p.head fits.head head.0)
       (λ (opened : OpenedPart p.head). and_then s.dig s.texts _ _ (event-step s 0 p.head p.event fits.second opened head.1.0)
       (λ second. and_then s.dig s.texts _ _

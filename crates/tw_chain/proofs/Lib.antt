@@ -13,3 +13,8 @@ pub mod JudgedFronts
 pub mod CarriedCounts
 pub mod Verdicts
 pub mod ProofCodec
+pub mod FoundSteps
+pub mod ChainShapes
+pub mod ProofSizes
+pub mod Completeness
+pub mod OwnSpelling

@@ -84,7 +84,7 @@ pub fn take_opening(
 }
 
 /// Takes the record of the link that leaves the step.
-pub(crate) fn take_link(
+pub fn take_link(
     alloc: Global,
     bytes: &[u8],
     at: &mut u64,
@@ -100,7 +100,7 @@ pub(crate) fn take_link(
 }
 
 /// The step that the greedy path's next link leads to.
-pub(crate) fn next_step(from: u64, to: u64) -> u64
+pub fn next_step(from: u64, to: u64) -> u64
     requires below { to < from }
     requires step { from ≤ LAST_STEP }
     ensures value { result ≡ hop from to }
