@@ -10,6 +10,7 @@ pub mod HeadStep
 pub mod PassesLaws
 pub mod Lowest
 pub mod JudgedFronts
+pub mod CarriedCounts
 pub mod Verdicts
 pub mod ProofCodec
 pub mod FoundSteps
