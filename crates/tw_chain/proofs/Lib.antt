@@ -4,3 +4,5 @@ pub mod LowerSteps
 pub mod ChainSteps
 pub mod HeadStep
 pub mod ProofCodec
+pub mod StageForms
+pub mod StageLaws

@@ -28,7 +28,7 @@ thread-lawful =
     lawful-seen _ _ _ (λ t. refl) (λ p. refl) (lawful-pair (part_codec 0) (λ at. pair entry_codec (λ entry. present_codec)) (part-lawful 0 (lit≤ tt))
     (λ _ _. lawful-pair entry_codec (λ entry. present_codec) entry-lawful (λ _ _. present-lawful)))
 
-key-lawful : Lawful key_codec
+pub key-lawful : Lawful key_codec
 unfolding key_codec
 key-lawful = search lawful depth 20
 
@@ -44,7 +44,7 @@ link-lawful = search (lawful, path-lawful) depth 20
 
 -- ---- kind 2
 
-hop-lawful : (more : ℕ) → Lawful (hop_codec more)
+pub hop-lawful : (more : ℕ) → Lawful (hop_codec more)
 unfolding hop_codec
 hop-lawful more =
     lawful-seen _ _ _ (λ t. refl) (λ p. refl) (lawful-pair entry_codec _ entry-lawful (λ entry _. lawful-pair present_codec _ present-lawful (λ shown _.
@@ -59,7 +59,7 @@ opening-written true step (Some o) fits = refl
 opening-written false step None fits = refl
 opening-written false step (Some o) fits = cc
 
-hop-written : (more : ℕ) (p : HopPart) → (hop_codec more).Fits p → (hop_codec more).write p ≡ hop_bytes p
+pub hop-written : (more : ℕ) (p : HopPart) → (hop_codec more).Fits p → (hop_codec more).write p ≡ hop_bytes p
 unfolding hop_codec hop_bytes path_bytes path_codec each number_codec seen pair
 hop-written more p fits =
     ap (λ w. entry_codec.write p.entry ++ (present_codec.write p.shown ++ (number_bytes 8 p.bind ++ (path_bytes p.link.links ++ w))))
