@@ -31,6 +31,8 @@ pub mod Faults
 pub mod PlannedFailures
 pub mod Codecs
 pub mod Taking
+pub mod PageBytes
 pub mod HistoryCodec
+pub mod EntryCodec
 pub mod Resuming
 pub mod Feeding

@@ -4,16 +4,18 @@ use Rattle.std.specs.Prelude.{Bool, true, false, Option, Some, None, MatchOption
 use Rattle.std.specs.Option.{option_map_or}
 use Rattle.tw_base.specs.declared.limits.TheConstants.{LAST_STEP, MOST_HOPS}
 use Rattle.tw_base.specs.Codecs.{Codec, EachFits, behind, by_kind, each, labels_codec, many, nothing, number_codec, optional, pair, present, seen, variant}
+use Rattle.tw_base.specs.EntryCodec.{entry_codec}
 use Rattle.tw_base.specs.Fields.{number_bytes}
 use Rattle.tw_base.specs.Formats.{Spells}
+use Rattle.tw_base.proofs.EntryCodecLaws.{entry-lawful}
 use Rattle.tw_base.proofs.CodecLaws.{Lawful, lawful, lawful-by_kind, lawful-choose, lawful-each, lawful-optional, lawful-pair, lawful-seen, lawful-variant, spelled-fits, written-as}
 use Rattle.tw_skipproof.specs.declared.existence.ExistenceProof.{ExistenceProof}
 use Rattle.tw_skipproof.specs.declared.opening.Opening.{Opening}
 use Rattle.tw_skipproof.specs.Codecs.{event_codec, existence_body, existence_codec, opening_bytes, opening_codec, part_codec, path_bytes, path_codec, step_codec}
 use Rattle.tw_skipproof.specs.Existence.{existence_layout}
 use Rattle.tw_skipproof.proofs.LawfulCodecs.{body-lawful, event-lawful, existence-lawful, opening-few, opening-lawful, part-counts, part-lawful, path-lawful}
-use Rattle.tw_treeproof.specs.Codecs.{entry_codec, gap_codec, present_codec}
-use Rattle.tw_treeproof.proofs.LawfulCodecs.{entry-lawful, gap-lawful, present-lawful}
+use Rattle.tw_treeproof.specs.Codecs.{gap_codec, present_codec}
+use Rattle.tw_treeproof.proofs.LawfulCodecs.{gap-lawful, present-lawful}
 use Rattle.tw_chain.specs.declared.proof.HopPart.{HopPart}
 use Rattle.tw_chain.specs.declared.proof.PrecedenceProof.{PrecedenceProof}
 use Rattle.tw_chain.specs.declared.proof.Proof.{Proof}

@@ -12,6 +12,7 @@ use Rattle.tw_base.specs.declared.tree_proof.Ancestor.{Ancestor}
 use Rattle.tw_base.specs.declared.tree_proof.TreeProof.{TreeProof}
 use Rattle.tw_base.specs.declared.tree_proof.TreeProof.TheVariants.{Present, Gap}
 use Rattle.tw_base.specs.Codecs.{Codec, choose, counted, digest_codec, each, each_format, many, name_codec, number_codec, optional, pair, text_codec}
+use Rattle.tw_base.specs.EntryCodec.{entry_codec}
 use Rattle.tw_base.specs.Formats.{Format, then_by}
 use Rattle.tw_base.specs.Formats.Format.{Done}
 use Rattle.tw_base.proofs.SegmentLaws.{then_absent, then_assoc, then_behind, then_each, then_kind, then_many, then_none, then_pair, then_present, then_seen, then_variant}
@@ -22,7 +23,7 @@ use Rattle.tw_skipproof.specs.Codecs.{event_codec, existence_body, link_bytes, l
 use Rattle.tw_skipproof.specs.Paths.{greedy_steps, hop}
 use Rattle.tw_skipproof.proofs.GreedySteps.{greedy_steps-more, greedy_steps-none}
 use Rattle.tw_treeproof.specs.declared.limits.TheConstants.{MOST_ABOVE_ENTRY, MOST_ABOVE_PLACE}
-use Rattle.tw_treeproof.specs.Codecs.{PresentParts, ancestor_codec, entry_codec, gap_codec, gap_of, parts_codec, parts_of, present_codec}
+use Rattle.tw_treeproof.specs.Codecs.{PresentParts, ancestor_codec, gap_codec, gap_of, parts_codec, parts_of, present_codec}
 use Rattle.tw_chain.specs.declared.chain.Chain.{Chain}
 use Rattle.tw_chain.specs.declared.judgement.Judgement.{Judgement}
 use Rattle.tw_chain.specs.declared.proof.HopPart.{HopPart}

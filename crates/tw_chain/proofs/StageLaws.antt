@@ -9,6 +9,7 @@ use Rattle.tw_base.specs.declared.thread.Thread.{Thread}
 use Rattle.tw_base.specs.declared.tree_proof.TreeProof.{TreeProof}
 use Rattle.tw_base.specs.Codecs.{Codec, behind, bytes_codec, digest_codec, each, each_format, labels_codec, many, name_codec, number_codec, optional, pair, seen, sized_codec, by_kind, text_codec}
 use Rattle.tw_base.specs.Fields.{byte_then, bytes, name, name_part, number, text}
+use Rattle.tw_base.specs.EntryCodec.{entry_codec}
 use Rattle.tw_base.specs.Formats.{Format, GoesOn, SpellsNothing, then_by}
 use Rattle.tw_base.specs.HistoryCodec.{thread_codec}
 use Rattle.tw_base.proofs.CodecLaws.{Lawful, goes-then, lawful, lawful-each, lawful-optional}
@@ -17,8 +18,9 @@ use Rattle.tw_skipproof.specs.declared.opening.Opening.{Opening}
 use Rattle.tw_skipproof.specs.declared.path.Link.{Link}
 use Rattle.tw_skipproof.specs.Codecs.{event_codec, link_codec, opening_codec, path_codec, proof_magic, step_codec}
 use Rattle.tw_skipproof.proofs.LawfulCodecs.{event-lawful, opening-few, opening-lawful, path-lawful}
-use Rattle.tw_treeproof.specs.Codecs.{ancestor_codec, entry_codec, gap_codec, present_codec}
-use Rattle.tw_treeproof.proofs.LawfulCodecs.{ancestor-lawful, entry-lawful, gap-lawful, present-lawful}
+use Rattle.tw_treeproof.specs.Codecs.{ancestor_codec, gap_codec, present_codec}
+use Rattle.tw_treeproof.proofs.LawfulCodecs.{ancestor-lawful, gap-lawful, present-lawful}
+use Rattle.tw_base.proofs.EntryCodecLaws.{entry-lawful}
 use Rattle.tw_chain.specs.declared.chain.Chain.{Chain}
 use Rattle.tw_chain.specs.declared.judgement.Judgement.{Judgement}
 use Rattle.tw_chain.specs.declared.stage.Asked.{Asked}

@@ -5,6 +5,8 @@ use Rattle.std.specs.Option.{option_map_or}
 use Rattle.std.specs.Str.{bytes_eq}
 use Rattle.tw_base.specs.declared.event_part.EventPart.{EventPart}
 use Rattle.tw_base.specs.declared.report.Reason.{Reason}
+use Rattle.tw_base.specs.declared.report.Reason.TheVariants.{Carried}
+use Rattle.tw_base.specs.declared.report.Report.{Report}
 use Rattle.tw_base.specs.declared.thread.Thread.{Thread}
 use Rattle.tw_base.specs.declared.tree_proof.Ancestor.{Ancestor}
 use Rattle.tw_base.specs.declared.tree_proof.Ask.{Ask}
@@ -24,6 +26,8 @@ use Rattle.tw_treeproof.specs.Answers.{ancestors_of, asks_entry, is_of_entry, pl
 use Rattle.tw_treeproof.specs.Ways.{climbed as tree_climbed, has_asked_key, is_left}
 use Rattle.tw_chain.specs.declared.judgement.Judgement.{Judgement}
 use Rattle.tw_chain.specs.declared.proof.Proof.{Proof}
+use Rattle.tw_chain.specs.declared.verdict.Verdict.{Verdict}
+use Rattle.tw_chain.specs.declared.verdict.Verdict.TheVariants.{Yes, No}
 use Rattle.tw_chain.specs.Accepting.{report_of}
 use Rattle.tw_chain.specs.Checks.{Check, Upper, checks, link_top}
 use Rattle.tw_chain.specs.Checks.Check.{InOrder, NeedsAnchor, CarriesThread, PathOf, LinkOf, OpeningOf, EventOf, AnswerOf}
@@ -105,3 +109,14 @@ module _ (dig : List ℕ → List ℕ) (anchors : List Thread) where
   -- the words of proofs, each with its judgement as its value
   unfoldable pub judged_layout : Format Judgement
   judged_layout = then_by proof_layout (λ p. Done (judgement_of p))
+
+-- ---- the verdict
+
+-- where no reason was found, No in the strict form with the number of the carried threads where there are some; else Yes
+abbrev pub unfound : (strict : Bool) → Report → Verdict
+unfound strict report =
+    if strict && nat_lt 0 (length report.carried) then No (Carried (length report.carried)) else Yes report
+
+-- No with the reason that was found, and else as the carried threads let it be
+abbrev pub verdict_of : (strict : Bool) → Judgement → Verdict
+verdict_of strict j = option_map_or No j.found (unfound strict j.report)

@@ -11,13 +11,14 @@ use Rattle.tw_base.specs.declared.tree_proof.TreeProof.TheVariants.{Present, Gap
 use Rattle.tw_base.specs.Codecs.{Codec, behind, digest_codec, each, each_format, many, name_codec, number_codec, optional, pair}
 use Rattle.tw_base.specs.Formats.{Format, then_by}
 use Rattle.tw_base.specs.Formats.Format.{Done as End}
+use Rattle.tw_base.specs.EntryCodec.{entry_codec}
 use Rattle.tw_skipproof.specs.declared.existence.Part.{Part}
 use Rattle.tw_skipproof.specs.declared.opening.Opening.{Opening}
 use Rattle.tw_skipproof.specs.declared.path.Link.{Link}
 use Rattle.tw_skipproof.specs.Codecs.{event_codec, link_bytes, link_codec, opening_codec, proof_magic, step_codec}
 use Rattle.tw_skipproof.specs.Paths.{greedy_steps, hop}
 use Rattle.tw_treeproof.specs.declared.limits.TheConstants.{MOST_ABOVE_ENTRY, MOST_ABOVE_PLACE}
-use Rattle.tw_treeproof.specs.Codecs.{ancestor_codec, entry_codec, gap_codec, present_codec}
+use Rattle.tw_treeproof.specs.Codecs.{ancestor_codec, gap_codec, present_codec}
 use Rattle.tw_chain.specs.declared.chain.Chain.{Chain}
 use Rattle.tw_chain.specs.declared.judgement.Judgement.{Judgement}
 use Rattle.tw_chain.specs.declared.proof.HopPart.{HopPart}

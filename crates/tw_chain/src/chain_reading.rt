@@ -1,7 +1,7 @@
 // Reading proofs from event to event.
 #![tactic(auto, unfolding(crate::specs::Proofs::behind_codec, crate::specs::Proofs::hop_codec, crate::specs::Proofs::hops_codec, crate::specs::Proofs::tail_codec, tw_base::specs::Codecs::pair, tw_base::specs::Codecs::seen))]
 
-ghost use Rattle.std.specs.Prelude.{◌≡◌, ◌-◌, ◌≤◌, length, nat_lt, IfOk};
+ghost use Rattle.std.specs.Prelude.{◌≡◌, ◌-◌, ◌≤◌, length, nat_lt};
 ghost use Rattle.tw_base.specs.declared.limits.TheConstants.{LAST_STEP};
 ghost use Rattle.tw_base.specs.Codecs.{each, optional};
 ghost use Rattle.tw_base.specs.Taking.{Takes};
@@ -11,9 +11,9 @@ ghost use Rattle.tw_chain.specs.Proofs.{behind_codec, following, hop_bytes, hop_
 use crate::proof::{HopPart, HopParts, PrecedenceProof, Tail};
 use std::alloc::Global;
 use tw_base::limits::{LAST_STEP, MOST_HOPS};
-use tw_base::{ReadFault, take_number};
+use tw_base::{ReadFault, take_entry, take_number};
 use tw_skipproof::{Opening, take_event, take_opening, take_part, take_path};
-use tw_treeproof::{take_entry, take_present};
+use tw_treeproof::take_present;
 
 /// Takes the opening of a step where there is to be one.
 #[tactic(auto, unfolding(tw_base::specs::Codecs::nothing, tw_base::specs::Codecs::present))]
@@ -38,8 +38,7 @@ fn take_optional(
 /// Takes a hop behind which so many follow.
 fn take_hop(alloc: Global, bytes: &[u8], at: &mut u64, more: u64) -> Result<HopPart, ReadFault>
     requires { at.old ≤ length bytes.now }
-    ensures takes { Takes (hop_codec more) (λ hop. hop) bytes.now at.old at.new result }
-    ensures step { IfOk result (λ hop. hop.entry.thread.step ≤ LAST_STEP) }
+    ensures { Takes (hop_codec more) (λ hop. hop) bytes.now at.old at.new result }
 {
     let entry = take_entry(bytes, at)?;
     let shown = take_present(alloc, bytes, at)?;

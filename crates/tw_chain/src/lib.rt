@@ -3,9 +3,12 @@
 
 mod chain;
 mod chain_reading;
+mod finding;
 mod joining;
 mod judgement;
+mod judging;
 mod laws;
+mod passing;
 mod proof;
 mod reading;
 mod stage;
@@ -14,7 +17,7 @@ mod verifier;
 mod writing;
 
 pub use joining::{JoinFault, join};
-pub use laws::proof_laws;
+pub use laws::{chain_laws, completeness_laws, proof_laws};
 pub use proof::{
     AbsenceProof, HopPart, HopParts, LinkProof, PrecedenceProof, Proof, Tail, ThreadProof,
 };

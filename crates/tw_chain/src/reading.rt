@@ -10,9 +10,11 @@ use crate::chain_reading::take_precedence_body;
 use crate::proof::{AbsenceProof, LinkProof, Proof, ThreadProof};
 use std::alloc::Global;
 use tw_base::limits::LAST_STEP;
-use tw_base::{Key, ReadFault, front_to, take_digest, take_name, take_number, take_text, whole_to};
+use tw_base::{
+    Key, ReadFault, front_to, take_digest, take_entry, take_name, take_number, take_text, whole_to,
+};
 use tw_skipproof::{PROOF_MAGIC, take_existence_body, take_part, take_path};
-use tw_treeproof::{take_entry, take_gap, take_present};
+use tw_treeproof::{take_gap, take_present};
 
 /// Takes a proof that an archive has an entry, behind its kind.
 fn take_thread_body(alloc: Global, bytes: &[u8], at: &mut u64) -> Result<ThreadProof, ReadFault>
@@ -130,7 +132,7 @@ fn take_proof(alloc: Global, bytes: &[u8], at: &mut u64) -> Result<Proof, ReadFa
 pub fn read_proof(alloc: Global, bytes: &[u8]) -> Result<Proof, ReadFault>
     // Bytes are read as a proof exactly where they spell one, with that proof; else the length of the longest front
     // that some proof begins with is told.
-    ensures read { ReadsAs (λ p. p) proof_layout bytes.now result }
+    ensures { ReadsAs (λ p. p) proof_layout bytes.now result }
 {
     let mut at = 0;
     let read = take_proof(alloc, bytes, &mut at);
@@ -144,7 +146,7 @@ pub fn read_proof(alloc: Global, bytes: &[u8]) -> Result<Proof, ReadFault>
 pub fn read_first(alloc: Global, bytes: &[u8]) -> Result<(Proof, u64), ReadFault>
     // A proof is read from the front of bytes exactly where a front of them spells one, with that proof and its number
     // of bytes; else the length of the longest front that some proof begins with is told.
-    ensures read { ReadsFrontAs (λ p. p) proof_layout bytes.now result }
+    ensures { ReadsFrontAs (λ p. p) proof_layout bytes.now result }
 {
     let mut at = 0;
     let read = take_proof(alloc, bytes, &mut at);

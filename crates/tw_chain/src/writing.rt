@@ -3,17 +3,18 @@
 ghost use Rattle.std.specs.Prelude.{◌≡◌, [], ◌∷◌, ◌++◌, IfOk, OnOk, true, false};
 ghost use Rattle.tw_skipproof.specs.Codecs.{part_bytes, path_bytes};
 ghost use Rattle.tw_base.specs.Formats.{Spells};
-ghost use Rattle.tw_treeproof.specs.Limits.{IsStep};
+ghost use Rattle.tw_base.specs.EntryCodec.{entry_codec};
+ghost use Rattle.tw_base.specs.Limits.{IsStep};
 ghost use Rattle.tw_treeproof.specs.Answers.{is_of_entry};
-ghost use Rattle.tw_treeproof.specs.Codecs.{entry_codec, tree_proof_bytes};
+ghost use Rattle.tw_treeproof.specs.Codecs.{tree_proof_bytes};
 ghost use Rattle.tw_chain.specs.declared.proof.Proof.TheVariants.{Absent, Archived, Linked, Precedes};
 ghost use Rattle.tw_chain.specs.Proofs.{HasTreeOfKind, IsSpellable, absence_body, key_codec, kind_bytes, link_body, proof_bytes, proof_layout, thread_body};
 
 use crate::proof::{AbsenceProof, LinkProof, PrecedenceProof, Proof, ThreadProof};
 use std::alloc::Global;
-use tw_base::{Bytes, Key, NoMemory, put_digest, put_name, put_number, put_text};
+use tw_base::{Bytes, Key, NoMemory, put_digest, put_entry, put_name, put_number, put_text};
 use tw_skipproof::{PROOF_MAGIC, put_part, put_path, write_existence};
-use tw_treeproof::{put_entry, put_tree_proof};
+use tw_treeproof::put_tree_proof;
 
 /// Appends the magic and the kind, which is a byte.
 #[tactic(auto, unfolding(tw_base::specs::Codecs::number_codec, tw_base::specs::Codecs::text_codec, tw_base::specs::Fields::number_bytes))]

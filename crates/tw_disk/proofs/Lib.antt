@@ -5,4 +5,3 @@ pub mod KeptCallLaws
 pub mod LooseLaws
 pub mod Unwinding
 pub mod ReadingLaws
-pub mod PageLaws

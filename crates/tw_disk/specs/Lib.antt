@@ -1,6 +1,5 @@
 pub mod Image
 pub mod PutSteps
-pub mod PageBytes
 pub mod Disk
 pub mod DiskSteps
 pub mod Model

@@ -70,14 +70,14 @@ count-most least c fits = by c.0 c.1
     by n None = omega (arith, length-number_bytes 4 n)
     by n (Some t) = omega (arith, length-number_bytes 4 (n + 2 ^ 31), length-number_bytes 8 t, length-append (number_bytes 4 (n + 2 ^ 31)) (number_bytes 8 t))
 
-opening-most : (least step : ℕ) → step ≤ LAST_STEP → AtMost (opening_codec least step) 1356
+pub opening-most : (least step : ℕ) → step ≤ LAST_STEP → AtMost (opening_codec least step) 1356
 unfolding opening_codec
 opening-most least step l =
     at_most-seen _ _ _ 1356 (at_most-pair _ _ 32 1324 (at_most-bytes 32) (λ _ _. at_most-pair _ _ 32 1292 (at_most-bytes 32) (λ _ _.
     at_most-pair _ _ 12 1280 (count-most least) (λ _ _. at_most-pair _ _ 32 1248 (at_most-bytes 32) (λ _ _.
     at_most-labels _ 39 (omega (arith, top_level-below step (omega (arith, l)))))))))
 
-event-most : (count : ℕ) → count ≤ MOST_EVENTS → AtMost (event_codec count) 1352
+pub event-most : (count : ℕ) → count ≤ MOST_EVENTS → AtMost (event_codec count) 1352
 unfolding event_codec number_codec
 event-most count few =
     at_most-seen _ _ _ 1352 (at_most-pair _ _ 4 1348 (at_most-number 4 0 (count - 1)) (λ index f.
