@@ -19,3 +19,4 @@ pub mod ChainShapes
 pub mod ProofSizes
 pub mod Completeness
 pub mod OwnSpelling
+pub mod NoRoot
