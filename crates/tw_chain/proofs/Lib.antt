@@ -13,6 +13,8 @@ pub mod JudgedFronts
 pub mod CarriedCounts
 pub mod Verdicts
 pub mod ProofCodec
+pub mod StageForms
+pub mod StageLaws
 pub mod FoundSteps
 pub mod NoRoot
 pub mod ChainShapes
