@@ -1,5 +1,8 @@
 // What a verifier answers: the claim of an accepted proof, or the reason against it.
 
+ghost use Rattle.std.specs.Prelude.{◌≡◌};
+ghost use Rattle.tw_base.specs.Reasons.{reason_number, reason_place};
+
 use crate::digest::Digest;
 use crate::name::Name;
 use crate::sequence::{Bytes, Sequence};
@@ -102,4 +105,38 @@ pub enum Reason {
     BadTree { part: u8 },
     /// 8: so many threads are carried, and none may be.
     Carried { count: u8 },
+}
+
+impl Reason {
+    /// The number of the reason, by which reasons are ordered.
+    pub fn number(&self) -> u64
+        ensures { result ≡ reason_number self.now }
+    {
+        match self {
+            Reason::Malformed { .. } => 1,
+            Reason::BadOrder => 2,
+            Reason::NotHeld { .. } => 3,
+            Reason::BadPath { .. } => 4,
+            Reason::BadOpening { .. } => 5,
+            Reason::BadEvent { .. } => 6,
+            Reason::BadTree { .. } => 7,
+            Reason::Carried { .. } => 8,
+        }
+    }
+
+    /// The place, the part or the count that the reason tells, by which reasons of one number are
+    /// ordered; 0 where it tells none.
+    pub fn place(&self) -> u64
+        ensures { result ≡ reason_place self.now }
+    {
+        match self {
+            Reason::Malformed { place } => *place,
+            Reason::BadPath { part }
+            | Reason::BadOpening { part }
+            | Reason::BadEvent { part }
+            | Reason::BadTree { part } => *part as u64,
+            Reason::Carried { count } => *count as u64,
+            Reason::BadOrder | Reason::NotHeld { .. } => 0,
+        }
+    }
 }

@@ -1,5 +1,5 @@
 -- Where an event precedes another without hops, its time isn't the later one.
-use Rattle.std.proofs.Common.{◌≡◌, ℕ, ◌≤◌, List, [], ◌∷◌, sym, ap, ◌∙◌, subst, arith}
+use Rattle.std.proofs.Common.{◌≡◌, ℕ, ◌≤◌, List, [], ◌∷◌, sym, ap, ◌∙◌, arith}
 use Rattle.std.specs.Prelude.{Option, Some, None, IfSome}
 use Rattle.tw_base.specs.declared.report.Claim.TheVariants as claims
 use Rattle.tw_base.specs.declared.report.Hop.{Hop}

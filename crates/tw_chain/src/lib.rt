@@ -4,9 +4,12 @@
 mod chain;
 mod chain_reading;
 mod chain_writing;
+mod finding;
 mod joining;
 mod judgement;
+mod judging;
 mod laws;
+mod passing;
 mod proof;
 mod reading;
 mod stage;

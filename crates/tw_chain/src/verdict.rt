@@ -1,9 +1,12 @@
 // The verdict on the bytes of a proof.
 
-ghost use Rattle.std.specs.Prelude.{IfOk};
+ghost use Rattle.std.specs.Prelude.{◌≡◌, ◌<◌, ◌^◌, length, IfOk};
 ghost use Rattle.tw_chain.specs.Binding.{BindsHistories};
+ghost use Rattle.tw_chain.specs.Judgements.{verdict_of};
 ghost use Rattle.tw_chain.specs.Reasons.{IsVerdict};
 
+use crate::judgement::Judgement;
+use crate::verifier::Verifier;
 use std::alloc::Global;
 use tw_base::{Hasher, NoMemory, Reason, Report, Thread};
 
@@ -14,6 +17,21 @@ pub enum Verdict {
     Yes(Report),
     /// It isn't, for the lowest reason that stands.
     No(Reason),
+}
+
+impl Verdict {
+    /// The verdict that a judgement comes to.
+    pub(crate) fn of(judgement: Judgement, strict: bool) -> Verdict
+        ensures { length judgement.report.carried < 2 ^ 8 → result ≡ verdict_of strict judgement }
+    {
+        let Judgement { found, report } = judgement;
+        let count = u8::try_from(report.carried.len()).unwrap_or(u8::MAX);
+        match found {
+            Some(reason) => Verdict::No(reason),
+            None if strict && 0 < count => Verdict::No(Reason::Carried { count }),
+            None => Verdict::Yes(report),
+        }
+    }
 }
 
 /// The verdict on the bytes of a proof under the anchors: Yes exactly where the bytes spell a proof
@@ -38,5 +56,7 @@ pub fn verify<H: Hasher>(
     // times rise; or two different texts of these histories and of the proof have one digest.
     ensures binds { IfOk result (BindsHistories H.dig anchors.now bytes.now) }
 {
-    Err(NoMemory)
+    let mut verifier = Verifier::<H>::new(alloc, anchors, strict)?;
+    verifier.feed(bytes)?;
+    verifier.finish()
 }
