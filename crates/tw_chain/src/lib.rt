@@ -3,6 +3,7 @@
 
 mod chain;
 mod chain_reading;
+mod copying;
 mod finding;
 mod joining;
 mod judgement;
