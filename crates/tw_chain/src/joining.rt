@@ -1,8 +1,9 @@
 // Joining proofs to one from event to event.
 
-ghost use Rattle.std.specs.Prelude.{◌≡◌, ◌++◌, ◌∷◌, [], IfOk, None};
-ghost use Rattle.std.specs.Option.{option_map, option_map_or};
+ghost use Rattle.std.specs.Prelude.{◌≡◌, [], None, IfOk};
+ghost use Rattle.std.specs.Option.{option_map};
 ghost use Rattle.tw_skipproof.specs.declared.existence.ExistenceProof.{ExistenceProof as AnyExistence};
+ghost use Rattle.tw_chain.specs.declared.joining.JoinFault.TheVariants.{NoMemory as WantedMemory};
 ghost use Rattle.tw_chain.specs.declared.proof.Proof.TheVariants.{Linked};
 ghost use Rattle.tw_chain.specs.Joining.{Joins, hop_of as hop_of_joint, hops_before, is_key as is_key_of, is_link_of as is_link_of_thread, joined_of, wanted as wanted_of, with_part as with_part_more};
 ghost use Rattle.tw_chain.specs.Joining.Taken.{Hops};
@@ -25,7 +26,9 @@ pub enum JoinFault {
 }
 
 impl From<NoMemory> for JoinFault {
-    fn from(_: NoMemory) -> Self {
+    ghost from_gives = { λ _ fault. fault ≡ WantedMemory };
+
+    fn from(_none: NoMemory) -> Self {
         JoinFault::NoMemory
     }
 }
