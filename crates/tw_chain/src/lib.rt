@@ -3,9 +3,11 @@
 
 mod chain;
 mod chain_reading;
+mod chain_writing;
 mod copying;
 mod finding;
 mod joining;
+mod joining_laws;
 mod judgement;
 mod judging;
 mod laws;
@@ -18,6 +20,7 @@ mod verifier;
 mod writing;
 
 pub use joining::{JoinFault, join};
+pub use joining_laws::joining_laws;
 pub use laws::{chain_laws, completeness_laws, proof_laws};
 pub use proof::{
     AbsenceProof, HopPart, HopParts, LinkProof, PrecedenceProof, Proof, Tail, ThreadProof,
