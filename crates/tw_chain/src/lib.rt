@@ -6,8 +6,8 @@ mod chain_reading;
 mod chain_writing;
 mod copying;
 mod finding;
+mod joined_laws;
 mod joining;
-mod joining_laws;
 mod judgement;
 mod judging;
 mod laws;
@@ -19,8 +19,8 @@ mod verdict;
 mod verifier;
 mod writing;
 
+pub use joined_laws::joining_laws;
 pub use joining::{JoinFault, join};
-pub use joining_laws::joining_laws;
 pub use laws::{chain_laws, completeness_laws, proof_laws};
 pub use proof::{
     AbsenceProof, HopPart, HopParts, LinkProof, PrecedenceProof, Proof, Tail, ThreadProof,
