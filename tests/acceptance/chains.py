@@ -1,6 +1,12 @@
 """Proofs that an event precedes another, over the histories of several services, in Python over hashlib: how they are made, joined, read,
 judged and reported; and what the program is to say of the bytes of any proof.
 
+    python3 tests/acceptance/chains.py FOLDER    writes the histories `shop` and `bank` into the folder, of which the second one received
+                                                 a thread of the first, with the proofs `thread` and `link` of a proof that an event of
+                                                 the one precedes an event of the other, and `lines`, the anchors that it needs
+
+The bytes of such a proof:
+
     the number of hops      at most 64
     head                    service, step and top, path, opening and event part of the second event
     before                  the opening of the step before, where there is a hop
@@ -11,10 +17,16 @@ judged and reported; and what the program is to say of the bytes of any proof.
 The hops stand from the second event's service backwards. Each archive is that after the step of which the opening stands before it.
 """
 
+import sys
+from pathlib import Path
+
+from histories import History
 from proofs import (
     BAD_ORDER, EXISTS, LINK, PRECEDES, THREAD, EventClaim, Opening, Proof, answers, link_proof, read_path, thread_proof, unbound,
 )
-from reference import LAST_STEP, Malformed, Reader, accepted_text, be, climbed, event_bytes, opening_bytes, padded, path_bytes, proof_bytes
+from reference import (
+    LAST_STEP, Malformed, Reader, accepted_text, be, climbed, event_bytes, listed, opening_bytes, padded, path_bytes, proof_bytes,
+)
 from trees import present, proof_over, read_entry, read_tree_proof
 
 MOST_HOPS = 64
@@ -268,3 +280,35 @@ def composed(second, hops, binds, first, part):
         data += entry.bytes() + hop.claim.shown.bytes() + be(link.top if link else 0, 8) + link_data[5 + 16 + 8 + 8 + 32 :]
         data += opening_of(hops[number]) if number < len(hops) else b""
     return data + be(part.step, 8) + first[5 + 16 + 8 + 8 :]
+
+
+# ---- an example
+
+
+def example():
+    """The shop's history, as it was when the bank received the thread of its last step; and the way from the shop's order to the bank's
+    payment, over the histories as they are now."""
+    shop, bank = History("shop"), History("bank")
+    shop.append([b"ordered"])
+    shop.append([b"packed"])
+    early, handed = shop.bytes(), shop.line().auths[2]
+    bank.append([b"opened"])
+    bank.receive("shop", 2, handed)
+    bank.append([b"paid"])
+    shop.append([b"sent"])
+    shop.append([b"settled"])
+    received = listed(bank.trees[2])[0]
+    return early, Way({"shop": shop, "bank": bank}, ("bank", 3, 0, 3), [(received, 4)], (1, 0))
+
+
+def write_example(folder):
+    """What the services hand out, but for the proofs of the two events, which `show` makes of the histories."""
+    early, way = example()
+    _, thread, link, _ = way.parts()
+    lines = "".join(f"{name} {step} {auth.hex()}\n" for name, (step, auth) in way.anchors().items())
+    for name, data in (("shop", early), ("bank", way.family["bank"].bytes()), ("thread", thread), ("link", link), ("lines", lines.encode())):
+        (folder / name).write_bytes(data)
+
+
+if __name__ == "__main__":
+    write_example(Path(sys.argv[1]))
