@@ -282,7 +282,17 @@ def composed(second, hops, binds, first, part):
     return data + be(part.step, 8) + first[5 + 16 + 8 + 8 :]
 
 
-# ---- an example
+# ---- examples
+
+
+def least_way():
+    """The way from the event `hi` of step 1 of alpha to the event of no bytes of step 2 of beta, whose step 1 received the thread of alpha's
+    step 1; nothing but the proof binds it."""
+    alpha, beta = History("alpha"), History("beta")
+    alpha.append([b"hi"])
+    beta.receive("alpha", 1, alpha.line().auths[1])
+    beta.append([b""])
+    return Way({"alpha": alpha, "beta": beta}, ("beta", 2, 0, 2), [(listed(beta.trees[1])[0], 0)], (1, 0))
 
 
 def example():

@@ -10,7 +10,7 @@ from functools import cache
 from itertools import combinations, product
 
 import large
-from chains import MOST_HOPS, Way, joined, verdict
+from chains import MOST_HOPS, Way, joined, least_way, verdict
 from histories import History, event_text, reshaping
 from large import deep_way
 from proofs import absent_proof, link_bytes, link_proof
@@ -168,12 +168,7 @@ def good_proofs():
 
 def worked():
     """The histories of two services that the first example tells: 533 bytes."""
-    family = {"alpha": History("alpha"), "beta": History("beta")}
-    family["alpha"].append([b"hi"])
-    receive(family, "beta", "alpha", 1, reshaping(random.Random(0)))
-    family["beta"].append([b""])
-    entry = listed(family["beta"].trees[1])[0]
-    way = Way(family, ("beta", 2, 0, 2), [(entry, 0)], (1, 0))
+    way = least_way()
     data = way.bytes()
     assert len(data) == 533
     yield accepted("worked", way)
