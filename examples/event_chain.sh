@@ -6,13 +6,13 @@
 #     examples/event_chain.sh PROGRAM
 set -e
 
-maker=$(realpath "$(dirname "$0")/../tests/acceptance/chains.py")
+script=$(realpath "$(dirname "$0")/../tests/acceptance/chains.py")
 . "$(dirname "$0")/shown.sh"
 
-python3 "$maker" .
+python3 "$script" .
 run "cat lines"
 run "timeweave show bank 3 0 > paid"
-run "timeweave show shop 1 0 > ordered"
+run "timeweave show maker 1 0 > ordered"
 run "timeweave join paid thread link ordered > chain"
 run "timeweave verify chain lines"
 run "timeweave strict chain lines"

@@ -1,7 +1,7 @@
 """Proofs that an event precedes another, over the histories of several services, in Python over hashlib: how they are made, joined, read,
 judged and reported; and what the program is to say of the bytes of any proof.
 
-    python3 tests/acceptance/chains.py FOLDER    writes the histories `shop` and `bank` into the folder, of which the second one received
+    python3 tests/acceptance/chains.py FOLDER    writes the histories `maker` and `bank` into the folder, of which the second one received
                                                  a thread of the first, with the proofs `thread` and `link` of a proof that an event of
                                                  the one precedes an event of the other, and `lines`, the anchors that it needs
 
@@ -296,19 +296,19 @@ def least_way():
 
 
 def example():
-    """The shop's history, as it was when the bank received the thread of its last step; and the way from the shop's order to the bank's
+    """The maker's history, as it was when the bank received the thread of its last step; and the way from the maker's order to the bank's
     payment, over the histories as they are now."""
-    shop, bank = History("shop"), History("bank")
-    shop.append([b"ordered"])
-    shop.append([b"packed"])
-    early, handed = shop.bytes(), shop.line().auths[2]
+    maker, bank = History("maker"), History("bank")
+    maker.append([b"ordered"])
+    maker.append([b"packed"])
+    early, handed = maker.bytes(), maker.line().auths[2]
     bank.append([b"opened"])
-    bank.receive("shop", 2, handed)
+    bank.receive("maker", 2, handed)
     bank.append([b"paid"])
-    shop.append([b"sent"])
-    shop.append([b"settled"])
+    maker.append([b"sent"])
+    maker.append([b"settled"])
     received = listed(bank.trees[2])[0]
-    return early, Way({"shop": shop, "bank": bank}, ("bank", 3, 0, 3), [(received, 4)], (1, 0))
+    return early, Way({"maker": maker, "bank": bank}, ("bank", 3, 0, 3), [(received, 4)], (1, 0))
 
 
 def write_example(folder):
@@ -316,7 +316,7 @@ def write_example(folder):
     early, way = example()
     _, thread, link, _ = way.parts()
     lines = "".join(f"{name} {step} {auth.hex()}\n" for name, (step, auth) in way.anchors().items())
-    for name, data in (("shop", early), ("bank", way.family["bank"].bytes()), ("thread", thread), ("link", link), ("lines", lines.encode())):
+    for name, data in (("maker", early), ("bank", way.family["bank"].bytes()), ("thread", thread), ("link", link), ("lines", lines.encode())):
         (folder / name).write_bytes(data)
 
 
