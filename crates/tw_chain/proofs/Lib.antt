@@ -24,3 +24,4 @@ pub mod OwnSpelling
 pub mod ChainBytes
 pub mod JoinedParts
 pub mod JoinedHops
+pub mod JoinedSpelling
