@@ -25,3 +25,4 @@ pub mod ChainBytes
 pub mod JoinedParts
 pub mod JoinedHops
 pub mod JoinedSpelling
+pub mod JoinedAccepted
