@@ -1,9 +1,8 @@
 -- A proof that parts join to, which the services of a sound family made, is accepted under the family's anchors.
-use Rattle.std.proofs.Common.{◌≡◌, ℕ, suc, ◌+◌, ◌-◌, ◌<◌, ◌≤◌, List, [], ◌∷◌, ◌++◌, length, refl, sym, ap, ◌∙◌, subst, arith}
-use Rattle.std.specs.Prelude.{Bool, true, false, Option, Some, None, IfSome, Ok, ◌==◌, if◌then◌else◌}
+use Rattle.std.proofs.Common.{◌≡◌, ℕ, suc, ◌-◌, ◌<◌, List, [], ◌∷◌, ◌++◌, length, refl, sym, ap, ◌∙◌, subst, arith}
+use Rattle.std.specs.Prelude.{Bool, true, false, Option, Some, None, IfSome, ◌==◌, if◌then◌else◌}
 use Rattle.std.specs.List.{flat_map}
 use Rattle.std.proofs.lemmas.List.{append_assoc}
-use Rattle.tw_base.specs.declared.event_part.EventPart.{EventPart}
 use Rattle.tw_base.specs.declared.thread.Entry.{Entry}
 use Rattle.tw_base.specs.declared.thread.Key.{Key}
 use Rattle.tw_base.specs.declared.thread.Thread.{Thread}
@@ -11,14 +10,12 @@ use Rattle.tw_base.specs.declared.tree_proof.Ask.TheVariants as ask
 use Rattle.tw_base.specs.Anchors.{anchor_of}
 use Rattle.tw_base.specs.Auth.{auth}
 use Rattle.tw_base.specs.Family.{AllSound, HasHistory, HasThread, history_of}
-use Rattle.tw_base.specs.History.{History, entry_at, events_at}
+use Rattle.tw_base.specs.History.{History, entry_at}
 use Rattle.tw_base.specs.Lists.{Each}
-use Rattle.tw_base.specs.Sound.{IsSound}
 use Rattle.tw_base.proofs.Anchoring.{anchor_of-is}
 use Rattle.tw_base.proofs.Families.{sound_of}
 use Rattle.tw_base.proofs.ListLemmas.{Each-append, Each-parts}
 use Rattle.tw_skipproof.specs.declared.existence.ExistenceProof.{ExistenceProof}
-use Rattle.tw_skipproof.specs.declared.existence.Part.{Part}
 use Rattle.tw_skipproof.specs.declared.opening.Opening.{Opening}
 use Rattle.tw_skipproof.specs.Acceptance.{Reaches}
 use Rattle.tw_skipproof.specs.Openings.{IsOpeningAt, opening_auth}
@@ -34,9 +31,8 @@ use Rattle.tw_chain.specs.declared.proof.ThreadProof.{ThreadProof}
 use Rattle.tw_chain.specs.Accepting.{IsAccepted}
 use Rattle.tw_chain.specs.Checks.{Check, bind_checks, bind_of, checks, end_of, hops_checks, link_checks, link_top, opening_checks, root_of, start_of, tail_at, tail_checks, top_of, under_anchor}
 use Rattle.tw_chain.specs.Checks.Check.{AnswerOf, CarriesThread, EventOf, InOrder}
-use Rattle.tw_chain.specs.Joining.{Joint, hop_of, hops_before, joined, joined_of, shown_hop, wanted}
-use Rattle.tw_chain.specs.Joining.Taken.{Nothing}
-use Rattle.tw_chain.specs.OwnParts.{HopOfPartStands, IsAnchored, IsMade, JoinedIsAccepted}
+use Rattle.tw_chain.specs.Joining.{Joint, hop_of, hops_before, joined_of, wanted}
+use Rattle.tw_chain.specs.OwnParts.{HopOfPartStands, IsMade, JoinedIsAccepted}
 use Rattle.tw_chain.specs.Passing.{Passes, anchor_at, needed_by}
 use Rattle.tw_chain.proofs.Completeness.{entry-shown, from_1_of_entry, own-accepted}
 use Rattle.tw_chain.proofs.JoinedHops.{come_to, last-thread}
@@ -69,7 +65,7 @@ module _ (dig : List ℕ → List ℕ) (family : List History) (sound : AllSound
       let same : made.history ≡ hop.archive = same_history made.history.name t.at.service made.history hop.archive made.has hop.has_archive (sym made.own.at.service) in
       let thread : Thread = record { from = t.entry.thread.from; step = t.entry.thread.step; auth = auth dig hop.source t.entry.thread.step } in
       let both : Some t.entry ≡ Some (record { thread = thread; archived = t.entry.archived }) =
-          sym made.own.received ∙ ap (λ h. entry_at h t.entry.archived) same ∙ hop.received in
+      sym made.own.received ∙ ap (λ h. entry_at h t.entry.archived) same ∙ hop.received in
       let entry : t.entry ≡ record { thread = thread; archived = t.entry.archived } = cc in
       (hop.source, hop.has_source, hop.within, sym (ap (λ (e : Entry). e.thread.auth) entry))
 
@@ -99,7 +95,7 @@ module _ (dig : List ℕ → List ℕ) (family : List History) (sound : AllSound
       let at : t.step ≡ made.step = step ∙ is.at.at_step in
       let here = opening-of dig h made.step o from_1 is.at.opening in
       let opened : opening_auth dig t.step o ≡ t.auth =
-          ap (λ s. opening_auth dig s o) at ∙ here.1 ∙ ap (auth dig h) (sym at) ∙ ap (λ g. auth dig g t.step) (sym same) ∙ has.3 in
+      ap (λ s. opening_auth dig s o) at ∙ here.1 ∙ ap (auth dig h) (sym at) ∙ ap (λ g. auth dig g t.step) (sym same) ∙ has.3 in
       (omega (arith, at, from_1), ((subst (λ s. IsOpeningAt s o) (sym at) here.0, opened), tt))
 
   first-passes : (n : ℕ) (t : Thread) (p : ExistenceProof) → HasThread dig family t → OwnPart (Exists p) → t.from ≡ p.at.service → t.step ≡ p.at.top
@@ -115,7 +111,7 @@ module _ (dig : List ℕ → List ℕ) (family : List History) (sound : AllSound
       let upper : auth dig h made.top ≡ t.auth = ap (auth dig h) (sym at) ∙ ap (λ g. auth dig g t.step) (sym same) ∙ has.3 in
       let tail : Tail = record { step = p.at.step; path = p.at.path; opening = p.at.opening; event = p.event } in
       let part : p.at ≡ tail_at t tail =
-          (λ k. record { service = sym service k; step = p.at.step; top = sym top k; path = p.at.path; opening = p.at.opening }) in
+      (λ k. record { service = sym service k; step = p.at.step; top = sym top k; path = p.at.path; opening = p.at.opening }) in
       let reaches : Reaches dig (tail_at t tail) t.auth = subst (λ a. Reaches dig a t.auth) part (subst (Reaches dig p.at) upper passes.path) in
       (omega (arith, passes.order, top), (reaches, (passes.event, tt)))
 
@@ -135,7 +131,7 @@ module _ (dig : List ℕ → List ℕ) (family : List History) (sound : AllSound
         let same : thread.0 ≡ h = same_history anchor.from h.name thread.0 h thread.1 made.has (at.0 ∙ from) in
         let held : anchor_of anchors h.name made.top ≡ Some anchor = (λ k. anchor_of anchors (sym from k) (sym step k)) ∙ has.1 in
         let reached : anchor.auth ≡ auth dig h made.top =
-            sym thread.3 ∙ ap (λ g. auth dig g anchor.step) same ∙ ap (auth dig h) (at.1 ∙ step) in
+        sym thread.3 ∙ ap (λ g. auth dig g anchor.step) same ∙ ap (auth dig h) (at.1 ∙ step) in
         own-accepted dig h made.step made.top made.order anchors anchor held reached (sound_of family h.name h sound made.has) made.within part made.own
 
     -- each of the checks passes where the anchors are held that they need
@@ -161,6 +157,7 @@ module _ (dig : List ℕ → List ℕ) (family : List History) (sound : AllSound
       where
         is : l ≡ bind_of (hop_of (record { thread = t; link = Some l }) behind)
         is = (λ k. record { service = sym fits.from k; step = sym fits.step k; top = l.top; auth = sym fits.auth k; path = l.path })
+
         by : (b : Bool) → Hold (if b then CarriesThread t.entry.thread ∷ [] else link_checks n (bind_of (hop_of (record { thread = t; link = Some l }) behind)))
         by true = (λ needed. (tt, tt))
         by false = subst (λ m. Hold (link_checks n m)) is (link-holds n l fits.part)
@@ -183,7 +180,7 @@ module _ (dig : List ℕ → List ℕ) (family : List History) (sound : AllSound
         let shown = entry-shown dig made.history made.step made.top (sound_of family made.history.name made.history sound made.has) (omega (arith, made.order, made.within)) p made.own in
         let answers : Hold answer = (λ needed. (omega (arith, shown.0, fits.step), (shown.1, tt))) in
         let rest : Hold ((bind ++ opening) ++ onward) =
-            subst Hold (sym (append_assoc bind opening onward)) (both-hold bind (opening ++ onward) (bind-holds (suc n) p joint.link before fits.link) (behind (suc n))) in
+        subst Hold (sym (append_assoc bind opening onward)) (both-hold bind (opening ++ onward) (bind-holds (suc n) p joint.link before fits.link) (behind (suc n))) in
         both-hold (opening_checks n t (Some p.at.opening)) (answer ++ ((bind ++ opening) ++ onward))
         (λ needed. opens n t p has fits.part fits.service fits.step anchors) (both-hold answer ((bind ++ opening) ++ onward) answers rest)
 
@@ -225,9 +222,9 @@ module _ (dig : List ℕ → List ℕ) (family : List History) (sound : AllSound
         let key = come_to-key second own joints in
         let last : Thread = come_to (start_of p) joints in
         let tail : Hold (tail_checks n (end_of p) p.tail) =
-            subst (λ t. Hold (tail_checks n t p.tail)) (sym (last-thread (start_of p) joints None []))
-            (λ needed. first-passes n last first (come_to-thread second own joints fits.joints_fit) fits.first_part
-            (sym (ap (λ (k : Key). k.from) key) ∙ fits.service) (sym (ap (λ (k : Key). k.step) key) ∙ fits.top) anchors) in
+        subst (λ t. Hold (tail_checks n t p.tail)) (sym (last-thread (start_of p) joints None []))
+        (λ needed. first-passes n last first (come_to-thread second own joints fits.joints_fit) fits.first_part
+        (sym (ap (λ (k : Key). k.from) key) ∙ fits.service) (sym (ap (λ (k : Key). k.step) key) ∙ fits.top) anchors) in
         let hops : Hold (opening ++ onward) = hops-hold second own joints None [] fits.joints_fit (λ m needed. tt) 0 in
         both-hold (under_anchor 0 second.at ++ EventOf 0 second.at.opening second.event ∷ []) (opening ++ (onward ++ tail_checks n (end_of p) p.tail)) (second-holds second own)
         (subst Hold (append_assoc opening onward (tail_checks n (end_of p) p.tail)) (both-hold (opening ++ onward) (tail_checks n (end_of p) p.tail) hops tail))

@@ -1,9 +1,9 @@
 -- A proof that parts join to, each of which is spelled, is spelled.
-use Rattle.std.proofs.Common.{◌≡◌, ℕ, suc, ◌+◌, ◌-◌, ◌≤◌, List, [], ◌∷◌, length, refl, sym, ap, ◌∙◌, subst, arith, lit≤}
-use Rattle.std.specs.Prelude.{true, Option, Some, None, IfSome, Ok, nat_lt}
+use Rattle.std.proofs.Common.{◌≡◌, ℕ, suc, ◌-◌, ◌≤◌, List, [], ◌∷◌, length, refl, sym, ap, ◌∙◌, subst, arith, lit≤}
+use Rattle.std.specs.Prelude.{Option, Some, None, IfSome, Ok, nat_lt}
 use Rattle.std.proofs.lemmas.Bool.{lt-ltb}
-use Rattle.tw_base.specs.declared.limits.TheConstants.{LAST_STEP, MOST_HOPS}
-use Rattle.tw_base.specs.Codecs.{behind, by_kind, bytes_codec, choose, each, name_codec, nothing, number_codec, optional, pair, present, seen, variant}
+use Rattle.tw_base.specs.declared.limits.TheConstants.{LAST_STEP}
+use Rattle.tw_base.specs.Codecs.{behind, by_kind, each, nothing, number_codec, optional, pair, present, seen, variant}
 use Rattle.tw_base.specs.declared.thread.Key.{Key}
 use Rattle.tw_base.specs.declared.thread.Thread.{Thread}
 use Rattle.tw_base.specs.EntryCodec.{entry_codec}
@@ -14,7 +14,6 @@ use Rattle.tw_base.proofs.ListLemmas.{Each-map}
 use Rattle.tw_skipproof.specs.declared.existence.ExistenceProof.{ExistenceProof}
 use Rattle.tw_skipproof.specs.declared.existence.Part.{Part}
 use Rattle.tw_skipproof.specs.declared.opening.Opening.{Opening}
-use Rattle.tw_skipproof.specs.declared.path.Link.{Link}
 use Rattle.tw_skipproof.specs.Codecs.{event_codec, existence_body, opening_codec, part_codec, path_codec}
 use Rattle.tw_skipproof.specs.Paths.{greedy_steps, steps_within}
 use Rattle.tw_treeproof.specs.Codecs.{present_codec}
@@ -23,9 +22,8 @@ use Rattle.tw_chain.specs.declared.proof.LinkProof.{LinkProof}
 use Rattle.tw_chain.specs.declared.proof.PrecedenceProof.{PrecedenceProof}
 use Rattle.tw_chain.specs.declared.proof.Proof.{Proof}
 use Rattle.tw_chain.specs.declared.proof.Proof.TheVariants.{Exists, Precedes, Archived, Linked}
-use Rattle.tw_chain.specs.declared.proof.Tail.{Tail}
 use Rattle.tw_chain.specs.declared.proof.ThreadProof.{ThreadProof}
-use Rattle.tw_chain.specs.Checks.{end_of, start_of}
+use Rattle.tw_chain.specs.Checks.{start_of}
 use Rattle.tw_chain.specs.Joining.{Joint, hop_of, hops_before, joined, joined_of, wanted}
 use Rattle.tw_chain.specs.Joining.Taken.{Nothing}
 use Rattle.tw_chain.specs.Proofs.{behind_codec, hop_codec, hops_codec, kinds_codec, last_step, link_body, precedence_body, proof_bytes, proof_codec, proof_layout, tail_codec, thread_body}
@@ -128,10 +126,10 @@ wanted-step : (second : ExistenceProof) (joints : List Joint) (first : Existence
 wanted-step second joints first =
     let p : PrecedenceProof = joined_of second joints first in
     last-step (second.at.step - 1) (start_of p) p.hops refl ∙ ap (λ (t : Thread). t.step) (last-thread (start_of p) joints None []) ∙ by joints
-    where
-      by : (some : List Joint) → (come_to (start_of (joined_of second joints first)) some).step ≡ (wanted second some).step
-      by [] = refl
-      by (joint ∷ more) = refl
+  where
+    by : (some : List Joint) → (come_to (start_of (joined_of second joints first)) some).step ≡ (wanted second some).step
+    by [] = refl
+    by (joint ∷ more) = refl
 
 tail-fits : (upper : ℕ) (first : ExistenceProof) → upper ≡ first.at.top → ExistenceFits first
     → (tail_codec upper).Fits (record { step = first.at.step; path = first.at.path; opening = first.at.opening; event = first.event })
@@ -156,6 +154,6 @@ pub joined-spelled : (parts : List Proof) (p : PrecedenceProof) → Each (λ par
     → joined Nothing 1 parts ≡ Ok p → Spells proof_layout (proof_bytes (Precedes p)) (Precedes p)
 joined-spelled parts p all is =
     let each_fits : Each FitsPart parts = Each-map (λ part. (bytes : List ℕ) × Spells proof_layout bytes part) FitsPart parts
-        (λ part spelled. spelled-fits proof_codec proof-lawful spelled.0 part spelled.1) all in
+    (λ part spelled. spelled-fits proof_codec proof-lawful spelled.0 part spelled.1) all in
     let had = joined-fits FitsPart parts p each_fits is in
     proof-lawful.spells (Precedes p) (subst (λ (q : PrecedenceProof). FitsPart (Precedes q)) (sym had.is) (whole-fits had.second had.joints had.first had.fits))
