@@ -135,11 +135,7 @@ fn with_part<'a>(
 }
 
 /// The hop of these parts, and the opening behind it.
-fn hop_of(
-    alloc: Global,
-    joint: &Joint<'_>,
-    behind: Option<Opening>,
-) -> Result<HopPart, NoMemory>
+fn hop_of(alloc: Global, joint: &Joint<'_>, behind: Option<Opening>) -> Result<HopPart, NoMemory>
     ensures { IfOk result (λ hop. hop ≡ hop_of_joint (joint_of joint.now) behind) }
 {
     let (bind, link) = match joint.link {
