@@ -4,6 +4,7 @@
 mod chain;
 mod chain_reading;
 mod finding;
+mod following;
 mod joining;
 mod judgement;
 mod judging;
