@@ -10,13 +10,15 @@ pub mod HeadStep
 pub mod PassesLaws
 pub mod Lowest
 pub mod JudgedFronts
+pub mod CarriedCounts
 pub mod Verdicts
 pub mod ProofCodec
 pub mod StageForms
 pub mod StageLaws
 pub mod FoundSteps
+pub mod NoRoot
 pub mod ChainShapes
 pub mod ProofSizes
 pub mod Completeness
 pub mod OwnSpelling
-pub mod NoRoot
+pub mod ChainBytes

@@ -4,7 +4,8 @@ ghost use Rattle.std.specs.Prelude.{◌≡◌, ◌≤◌, [], length};
 ghost use Rattle.tw_base.specs.declared.limits.TheConstants.{LAST_STEP, MOST_EVENTS, MOST_EVENT_BYTES};
 ghost use Rattle.tw_chain.specs.declared.proof.Proof.TheVariants.{Absent, Archived, Exists, Linked};
 ghost use Rattle.tw_chain.specs.Accepting.{seen_at};
-ghost use Rattle.tw_chain.specs.Judgements.{judgement_of};
+ghost use Rattle.tw_chain.specs.Checks.{checks};
+ghost use Rattle.tw_chain.specs.Judgements.{found_in, judgement_of};
 
 use crate::finding::{under_anchor, with_answer, with_event, with_link, with_order};
 use crate::proof::{AbsenceProof, LinkProof, ThreadProof};
@@ -37,11 +38,33 @@ pub(crate) fn seen(at: &Part, event: EventPart) -> Seen
     }
 }
 
+/// What is found of a proof that a thread was received.
+fn found_of_thread<H: Hasher>(proof: &ThreadProof, anchors: &[Thread]) -> Option<Reason>
+    requires step { proof.now.at.step ≤ LAST_STEP }
+    requires top { proof.now.at.top ≤ LAST_STEP }
+    ensures { result ≡ found_in H.dig anchors.now (checks (Archived proof.now)) }
+{
+    let found = under_anchor::<H>(&proof.at, anchors);
+    let found = with_order(found, proof.entry.archived, proof.at.step);
+    let ask = Ask::Present(proof.entry);
+    with_answer::<H>(found, 0, &proof.at.opening.archive_root, &ask, &proof.shown)
+}
+
+/// What is found of a proof that no thread of a key was received.
+fn found_of_absence<H: Hasher>(proof: &AbsenceProof, anchors: &[Thread]) -> Option<Reason>
+    requires step { proof.now.at.step ≤ LAST_STEP }
+    requires top { proof.now.at.top ≤ LAST_STEP }
+    ensures { result ≡ found_in H.dig anchors.now (checks (Absent proof.now)) }
+{
+    let found = under_anchor::<H>(&proof.at, anchors);
+    let ask = Ask::Absent(proof.key);
+    with_answer::<H>(found, 0, &proof.at.opening.archive_root, &ask, &proof.shown)
+}
+
 impl Judgement {
     /// The judgement of a proof of a claim without hops.
     fn without_hops(alloc: Global, found: Option<Reason>, claim: Claim) -> Self
-        ensures found { result.found ≡ found }
-        ensures report { result.report ≡ record { claim = claim; hops = []; carried = [] } }
+        ensures { result ≡ record { found = found; report = record { claim = claim; hops = []; carried = [] } } }
     {
         Judgement {
             found,
@@ -81,11 +104,8 @@ impl Judgement {
         requires top { proof.at.top ≤ LAST_STEP }
         ensures { result ≡ judgement_of H.dig anchors.now (Archived proof) }
     {
-        let ThreadProof { at, entry, shown } = proof;
-        let found = under_anchor::<H>(&at, anchors);
-        let found = with_order(found, entry.archived, at.step);
-        let ask = Ask::Present(entry);
-        let found = with_answer::<H>(found, 0, &at.opening.archive_root, &ask, &shown);
+        let found = found_of_thread::<H>(&proof, anchors);
+        let ThreadProof { at, entry, .. } = proof;
         let claim = Claim::Archived {
             service: at.service,
             step: at.step,
@@ -104,10 +124,8 @@ impl Judgement {
         requires top { proof.at.top ≤ LAST_STEP }
         ensures { result ≡ judgement_of H.dig anchors.now (Absent proof) }
     {
-        let AbsenceProof { at, key, shown } = proof;
-        let found = under_anchor::<H>(&at, anchors);
-        let ask = Ask::Absent(key);
-        let found = with_answer::<H>(found, 0, &at.opening.archive_root, &ask, &shown);
+        let found = found_of_absence::<H>(&proof, anchors);
+        let AbsenceProof { at, key, .. } = proof;
         let claim = Claim::Absent {
             service: at.service,
             step: at.step,
