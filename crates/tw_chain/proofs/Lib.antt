@@ -13,8 +13,14 @@ pub mod JudgedFronts
 pub mod CarriedCounts
 pub mod Verdicts
 pub mod ProofCodec
+pub mod StageForms
+pub mod StageLaws
 pub mod FoundSteps
+pub mod NoRoot
 pub mod ChainShapes
 pub mod ProofSizes
 pub mod Completeness
 pub mod OwnSpelling
+pub mod ChainBytes
+pub mod JoinedParts
+pub mod JoinedHops
