@@ -7,9 +7,6 @@ pub mod OwnProofs
 pub mod Reasons
 pub mod Binding
 pub mod Judgements
-pub mod Joining
-pub mod TakenParts
 pub mod Chaining
-pub mod OwnParts
 pub mod Stages
 pub mod Verifying

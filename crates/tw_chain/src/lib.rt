@@ -4,11 +4,8 @@
 mod chain;
 mod chain_reading;
 mod chain_writing;
-mod copying;
 mod finding;
-mod joined_laws;
 mod following;
-mod joining;
 mod judgement;
 mod judging;
 mod laws;
@@ -20,8 +17,6 @@ mod verdict;
 mod verifier;
 mod writing;
 
-pub use joined_laws::joining_laws;
-pub use joining::{JoinFault, join};
 pub use laws::{chain_laws, completeness_laws, proof_laws};
 pub use proof::{
     AbsenceProof, HopPart, HopParts, LinkProof, PrecedenceProof, Proof, Tail, ThreadProof,

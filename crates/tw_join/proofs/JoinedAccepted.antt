@@ -31,12 +31,12 @@ use Rattle.tw_chain.specs.declared.proof.ThreadProof.{ThreadProof}
 use Rattle.tw_chain.specs.Accepting.{IsAccepted}
 use Rattle.tw_chain.specs.Checks.{Check, bind_checks, bind_of, checks, end_of, hops_checks, link_checks, link_top, opening_checks, root_of, start_of, tail_at, tail_checks, top_of, under_anchor}
 use Rattle.tw_chain.specs.Checks.Check.{AnswerOf, CarriesThread, EventOf, InOrder}
-use Rattle.tw_chain.specs.Joining.{Joint, hop_of, hops_before, joined_of, wanted}
-use Rattle.tw_chain.specs.OwnParts.{HopOfPartStands, IsMade, JoinedIsAccepted}
+use Rattle.tw_join.specs.Joining.{Joint, hop_of, hops_before, joined_of, wanted}
+use Rattle.tw_join.specs.OwnParts.{HopOfPartStands, IsMade, JoinedIsAccepted}
 use Rattle.tw_chain.specs.Passing.{Passes, anchor_at, needed_by}
 use Rattle.tw_chain.proofs.Completeness.{entry-shown, from_1_of_entry, own-accepted}
-use Rattle.tw_chain.proofs.JoinedHops.{come_to, last-thread}
-use Rattle.tw_chain.proofs.JoinedParts.{JointFits, JointsFit, LinkFits, WholeFits, joined-fits}
+use Rattle.tw_join.proofs.JoinedHops.{come_to, last-thread}
+use Rattle.tw_join.proofs.JoinedParts.{JointFits, JointsFit, LinkFits, WholeFits, joined-fits}
 
 each-both : (P Q : Proof → Type 0) (parts : List Proof) → Each P parts → Each Q parts → Each (λ part. P part × Q part) parts
 each-both P Q [] ps qs = tt

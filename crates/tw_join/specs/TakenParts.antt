@@ -1,11 +1,11 @@
 -- The parts that code holds by reference, in the order of the bytes, as the definition of joining has them.
 use Rattle.std.specs.Prelude.{List, map, reverse}
 use Rattle.std.specs.Option.{option_map}
-use Rattle.tw_chain.specs.declared.joining.Joint.{Joint as HeldJoint}
-use Rattle.tw_chain.specs.declared.joining.Taken.{Taken as HeldParts}
-use Rattle.tw_chain.specs.declared.joining.Taken.TheVariants as held
-use Rattle.tw_chain.specs.Joining.{Joint, Taken}
-use Rattle.tw_chain.specs.Joining.Taken.{Nothing, Hops, Whole}
+use Rattle.tw_join.specs.declared.joining.Joint.{Joint as HeldJoint}
+use Rattle.tw_join.specs.declared.joining.Taken.{Taken as HeldParts}
+use Rattle.tw_join.specs.declared.joining.Taken.TheVariants as held
+use Rattle.tw_join.specs.Joining.{Joint, Taken}
+use Rattle.tw_join.specs.Joining.Taken.{Nothing, Hops, Whole}
 
 abbrev pub joint_of : HeldJoint → Joint
 joint_of j = record { thread = j.thread.now; link = option_map (λ l. l.now) j.link }

@@ -17,8 +17,8 @@ use Rattle.tw_chain.specs.declared.proof.PrecedenceProof.{PrecedenceProof}
 use Rattle.tw_chain.specs.declared.proof.Proof.{Proof}
 use Rattle.tw_chain.specs.declared.proof.Proof.TheVariants.{Exists, Precedes, Archived, Absent, Linked}
 use Rattle.tw_chain.specs.declared.proof.ThreadProof.{ThreadProof}
-use Rattle.tw_chain.specs.Joining.{Joint, Taken, is_key, is_link_of, joined, joined_of, only_if, shown_hop, shown_hops, wanted, with_part}
-use Rattle.tw_chain.specs.Joining.Taken.{Nothing, Hops, Whole}
+use Rattle.tw_join.specs.Joining.{Joint, Taken, is_key, is_link_of, joined, joined_of, only_if, shown_hop, shown_hops, wanted, with_part}
+use Rattle.tw_join.specs.Joining.Taken.{Nothing, Hops, Whole}
 
 -- ---- what the tests say
 

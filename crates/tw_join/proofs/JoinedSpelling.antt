@@ -24,12 +24,12 @@ use Rattle.tw_chain.specs.declared.proof.Proof.{Proof}
 use Rattle.tw_chain.specs.declared.proof.Proof.TheVariants.{Exists, Precedes, Archived, Linked}
 use Rattle.tw_chain.specs.declared.proof.ThreadProof.{ThreadProof}
 use Rattle.tw_chain.specs.Checks.{start_of}
-use Rattle.tw_chain.specs.Joining.{Joint, hop_of, hops_before, joined, joined_of, wanted}
-use Rattle.tw_chain.specs.Joining.Taken.{Nothing}
+use Rattle.tw_join.specs.Joining.{Joint, hop_of, hops_before, joined, joined_of, wanted}
+use Rattle.tw_join.specs.Joining.Taken.{Nothing}
 use Rattle.tw_chain.specs.Proofs.{behind_codec, hop_codec, hops_codec, kinds_codec, last_step, link_body, precedence_body, proof_bytes, proof_codec, proof_layout, tail_codec, thread_body}
 use Rattle.tw_chain.proofs.ChainShapes.{HopsFit}
-use Rattle.tw_chain.proofs.JoinedHops.{come_to, hops-count, joints-few, last-step, last-thread}
-use Rattle.tw_chain.proofs.JoinedParts.{JointFits, JointsFit, LinkFits, WholeFits, joined-fits}
+use Rattle.tw_join.proofs.JoinedHops.{come_to, hops-count, joints-few, last-step, last-thread}
+use Rattle.tw_join.proofs.JoinedParts.{JointFits, JointsFit, LinkFits, WholeFits, joined-fits}
 use Rattle.tw_chain.proofs.ProofCodec.{proof-lawful}
 
 abbrev FitsPart : Proof → Type 0

@@ -1,9 +1,9 @@
 -- The parts that are left join to what was taken as all join.
 use Rattle.std.proofs.Common.{◌≡◌, ◌+◌, drop}
-use Rattle.tw_chain.specs.Joining.{joined}
-use Rattle.tw_chain.specs.Joining.Taken.{Nothing}
-use Rattle.tw_chain.specs.TakenParts.{taken_of}
-use Rattle.tw_chain.proofs.joining.join.Given as goal
+use Rattle.tw_join.specs.Joining.{joined}
+use Rattle.tw_join.specs.Joining.Taken.{Nothing}
+use Rattle.tw_join.specs.TakenParts.{taken_of}
+use Rattle.tw_join.proofs.joining.join.Given as goal
 
 abbrev pub invariant-loop-part : goal.invariant-loop-part
 invariant-loop-part l =

@@ -9,8 +9,8 @@ use Rattle.tw_chain.specs.declared.proof.PrecedenceProof.{PrecedenceProof}
 use Rattle.tw_chain.specs.declared.proof.Proof.{Proof}
 use Rattle.tw_chain.specs.declared.proof.Proof.TheVariants.{Precedes, Archived}
 use Rattle.tw_chain.specs.Accepting.{IsAccepted, named}
-use Rattle.tw_chain.specs.Joining.{joined, shown_hop}
-use Rattle.tw_chain.specs.Joining.Taken.{Nothing}
+use Rattle.tw_join.specs.Joining.{joined, shown_hop}
+use Rattle.tw_join.specs.Joining.Taken.{Nothing}
 use Rattle.tw_chain.specs.OwnProofs.{IsOwnProof}
 use Rattle.tw_chain.specs.Passing.{anchor_at}
 

@@ -13,10 +13,10 @@ use Rattle.tw_chain.specs.declared.proof.Proof.{Proof}
 use Rattle.tw_chain.specs.declared.proof.Proof.TheVariants.{Precedes}
 use Rattle.tw_chain.specs.Accepting.{hop_from, hops_of, hops_to, report_of}
 use Rattle.tw_chain.specs.Checks.{last_thread}
-use Rattle.tw_chain.specs.Joining.{Joint, hop_of, hops_before, joined, shown_hops, wanted}
-use Rattle.tw_chain.specs.Joining.Taken.{Nothing}
+use Rattle.tw_join.specs.Joining.{Joint, hop_of, hops_before, joined, shown_hops, wanted}
+use Rattle.tw_join.specs.Joining.Taken.{Nothing}
 use Rattle.tw_chain.specs.Proofs.{last_step}
-use Rattle.tw_chain.proofs.JoinedParts.{JointsFit, joined-fits, joint_hops}
+use Rattle.tw_join.proofs.JoinedParts.{JointsFit, joined-fits, joint_hops}
 
 -- the thread of the last hop's parts, or the one before them all
 abbrev pub come_to : Thread → List Joint → Thread

@@ -1,8 +1,8 @@
 -- Each law, from what the parts are.
-use Rattle.tw_chain.proofs.JoinedAccepted.{joined-accepted}
-use Rattle.tw_chain.proofs.JoinedHops.{joined-hops}
-use Rattle.tw_chain.proofs.JoinedSpelling.{joined-spelled}
-use Rattle.tw_chain.proofs.joined_laws.joining_laws.Goals as goal
+use Rattle.tw_join.proofs.JoinedAccepted.{joined-accepted}
+use Rattle.tw_join.proofs.JoinedHops.{joined-hops}
+use Rattle.tw_join.proofs.JoinedSpelling.{joined-spelled}
+use Rattle.tw_join.proofs.laws.joining_laws.Goals as goal
 
 pub returns-clause-joined : goal.returns-clause-joined
 returns-clause-joined g c = joined-accepted _

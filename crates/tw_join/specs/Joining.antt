@@ -10,8 +10,8 @@ use Rattle.tw_base.specs.declared.thread.Thread.{Thread}
 use Rattle.tw_base.specs.Entries.{key_of}
 use Rattle.tw_skipproof.specs.declared.existence.ExistenceProof.{ExistenceProof}
 use Rattle.tw_skipproof.specs.declared.opening.Opening.{Opening}
-use Rattle.tw_chain.specs.declared.joining.JoinFault.{JoinFault}
-use Rattle.tw_chain.specs.declared.joining.JoinFault.TheVariants.{Gap, NoMemory}
+use Rattle.tw_join.specs.declared.joining.JoinFault.{JoinFault}
+use Rattle.tw_join.specs.declared.joining.JoinFault.TheVariants.{Gap, NoMemory}
 use Rattle.tw_chain.specs.declared.proof.HopPart.{HopPart}
 use Rattle.tw_chain.specs.declared.proof.LinkProof.{LinkProof}
 use Rattle.tw_chain.specs.declared.proof.PrecedenceProof.{PrecedenceProof}

@@ -7,9 +7,9 @@ ghost use Rattle.tw_chain.specs.declared.proof.PrecedenceProof.{PrecedenceProof}
 ghost use Rattle.tw_chain.specs.declared.proof.Proof.{Proof};
 ghost use Rattle.tw_chain.specs.declared.proof.Proof.TheVariants.{Precedes};
 ghost use Rattle.tw_chain.specs.Accepting.{report_of};
-ghost use Rattle.tw_chain.specs.Joining.{joined, shown_hops};
-ghost use Rattle.tw_chain.specs.Joining.Taken.{Nothing};
-ghost use Rattle.tw_chain.specs.OwnParts.{JoinedIsAccepted};
+ghost use Rattle.tw_join.specs.Joining.{joined, shown_hops};
+ghost use Rattle.tw_join.specs.Joining.Taken.{Nothing};
+ghost use Rattle.tw_join.specs.OwnParts.{JoinedIsAccepted};
 ghost use Rattle.tw_chain.specs.Proofs.{proof_bytes, proof_layout};
 
 use tw_base::Hasher;

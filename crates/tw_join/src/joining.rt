@@ -3,17 +3,17 @@
 ghost use Rattle.std.specs.Prelude.{◌≡◌, [], None, IfOk};
 ghost use Rattle.std.specs.Option.{option_map};
 ghost use Rattle.tw_skipproof.specs.declared.existence.ExistenceProof.{ExistenceProof as AnyExistence};
-ghost use Rattle.tw_chain.specs.declared.joining.JoinFault.TheVariants.{NoMemory as WantedMemory};
+ghost use Rattle.tw_join.specs.declared.joining.JoinFault.TheVariants.{NoMemory as WantedMemory};
 ghost use Rattle.tw_chain.specs.declared.proof.Proof.TheVariants.{Linked};
-ghost use Rattle.tw_chain.specs.Joining.{Joins, hop_of as hop_of_joint, hops_before, is_key as is_key_of, is_link_of as is_link_of_thread, joined_of, wanted as wanted_of, with_part as with_part_more};
-ghost use Rattle.tw_chain.specs.Joining.Taken.{Hops};
-ghost use Rattle.tw_chain.specs.TakenParts.{joint_of, joints_of, taken_of};
+ghost use Rattle.tw_join.specs.Joining.{Joins, hop_of as hop_of_joint, hops_before, is_key as is_key_of, is_link_of as is_link_of_thread, joined_of, wanted as wanted_of, with_part as with_part_more};
+ghost use Rattle.tw_join.specs.Joining.Taken.{Hops};
+ghost use Rattle.tw_join.specs.TakenParts.{joint_of, joints_of, taken_of};
 
 use crate::copying::{copy_event, copy_opening, copy_part, copy_path, copy_tree_proof};
-use crate::proof::{HopPart, HopParts, LinkProof, PrecedenceProof, Proof, Tail, ThreadProof};
 use std::alloc::Global;
 use tw_base::limits::MOST_HOPS;
 use tw_base::{Key, Name, NoMemory, Thread, entry_key};
+use tw_chain::{HopPart, HopParts, LinkProof, PrecedenceProof, Proof, Tail, ThreadProof};
 use tw_skipproof::{ExistenceProof, LinkList, Opening, Path};
 
 /// Why proofs don't join.

@@ -1,0 +1,4 @@
+pub mod JoinedParts
+pub mod JoinedHops
+pub mod JoinedSpelling
+pub mod JoinedAccepted
