@@ -238,7 +238,7 @@ module _ (dig : List ℕ → List ℕ) (anchors : List Thread) where
   pub counted-goes : (hops : ℕ) → GoesOn (head_of 1 (event_of (behind_second dig anchors hops)))
   counted-goes hops = head-goes 1 _ (lit≤ tt) (λ at few. event-goes (behind_second dig anchors hops) at few (second-goes hops at))
 
-  hops-number : Lawful (number_codec 1 0 MOST_HOPS)
+  pub hops-number : Lawful (number_codec 1 0 MOST_HOPS)
   hops-number = search lawful
 
   chosen : (b : Bool) (one other : Format Judgement) → GoesOn one → GoesOn other → GoesOn (if b then one else other)

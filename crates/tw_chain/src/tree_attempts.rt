@@ -7,7 +7,7 @@ ghost use Rattle.tw_base.specs.declared.thread.Thread.{Thread as Anchor};
 ghost use Rattle.tw_base.specs.Formats.{then_by};
 ghost use Rattle.tw_base.specs.Resuming.{Attempts};
 ghost use Rattle.tw_treeproof.specs.Codecs.{gap_codec, present_codec};
-ghost use Rattle.tw_chain.specs.declared.stage.Stage.TheVariants.{Bind, Done, Entry, Key, Nodes, Tail, Tree};
+ghost use Rattle.tw_chain.specs.declared.stage.Stage.TheVariants.{Bind, Done, Entry as OfEntry, Key, Nodes, Tail, Tree};
 ghost use Rattle.tw_chain.specs.Stages.{behind_entry, behind_tree, nodes_of, rest, with_nodes};
 
 use crate::following::{along_path, along_tree};
@@ -39,7 +39,7 @@ fn asked_by(shower: Shower, entry: Entry) -> Asked
 
 /// Looks for an entry.
 pub(crate) fn attempt_entry(shower: Shower, held: &[u8]) -> Result<Attempt<Stage>, NoMemory>
-    ensures { (dig : List ℕ → List ℕ) (anchors : List Anchor) → Attempts (rest dig anchors) (Entry shower) held.now result }
+    ensures { (dig : List ℕ → List ℕ) (anchors : List Anchor) → Attempts (rest dig anchors) (OfEntry shower) held.now result }
 {
     let mut at = 0;
     match take_entry(held, &mut at) {
@@ -234,15 +234,15 @@ pub(crate) fn attempt_tail<H: Hasher>(
     let mut at = 0;
     match take_number(held, &mut at, 8, 1, LAST_STEP) {
         Ok(step) => {
-            let top = onward.chain.known.step;
+            let known = onward.chain.known;
             let under = Under {
-                service: onward.chain.known.from,
+                service: known.from,
                 step,
-                top,
+                top: known.step,
             };
             let goal = Goal::Event(Role::First(onward));
             let way = Way::Part { goal, under };
-            let next = along_path::<H>(alloc, anchors, way, LinkList::new(alloc), top, step)?;
+            let next = along_path::<H>(alloc, anchors, way, LinkList::new(alloc), known.step, step)?;
             Ok(Attempt::Ended {
                 next,
                 size: at as usize,
