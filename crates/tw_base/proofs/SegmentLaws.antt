@@ -132,10 +132,10 @@ module _ {X Z : Type 0} (f : Format X) (next : X → Format Z) (n : ℕ) (t : Ta
       (any-front (held ++ more) (AreBytes-append held more are bytes) (omega (arith, all)), λ some. any-nothing (held ++ more) all)
 
 -- until it ends, a field that stays a front does so whatever follows it
-module _ {X Z : Type 0} (f : Format X) (next : X → Format Z) (goes : (x : X) → GoesOn (next x)) where
+module _ {X Z : Type 0} (f : Format X) (next : X → Format Z) (goes : (word : List ℕ) (x : X) → Spells f word x → GoesOn (next x)) where
   front-then : (word : List ℕ) → IsFront f word → IsFront (then_by f next) word
   front-then word front =
-      let last = some_word (next front.1) (goes front.1) in
+      let last = some_word (next front.1) (goes (word ++ front.0) front.1 front.2) in
       let P : List ℕ → Type 0 = λ w. Spells (then_by f next) w last.1 in
       (front.0 ++ last.0, last.1, subst P (append_assoc word front.0 last.0) (spells_then f next (word ++ front.0) last.0 front.1 last.1 front.2 last.2))
 

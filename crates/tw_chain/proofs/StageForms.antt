@@ -1,8 +1,8 @@
 -- The formats of proofs as chains of segments: what stands behind each segment is the rest of the next stage.
-use Rattle.std.proofs.Common.{◌≡◌, ℕ, suc, zero, ◌+◌, ◌-◌, ◌<◌, ◌≤◌, List, [], ◌∷◌, ◌++◌, length, refl, sym, ap, ◌∙◌, append_assoc, arith}
+use Rattle.std.proofs.Common.{◌≡◌, ℕ, suc, zero, ◌+◌, ◌-◌, ◌<◌, ◌≤◌, List, [], ◌∷◌, ◌++◌, length, replicate, refl, sym, ap, ◌∙◌, append_assoc, arith}
 use Rattle.std.specs.Prelude.{Bool, true, false, Option, Some, None, nat_lt, ◌==◌, if◌then◌else◌}
 use Rattle.std.proofs.lemmas.Bool.{le-ltb, lt-ltb}
-use Rattle.std.proofs.lemmas.List.{append-nil}
+use Rattle.std.proofs.lemmas.List.{append-nil, length-replicate}
 use Rattle.tw_base.specs.declared.event_part.EventPart.{EventPart}
 use Rattle.tw_base.specs.declared.limits.TheConstants.{LAST_STEP, MOST_HOPS}
 use Rattle.tw_base.specs.declared.thread.Entry.{Entry}
@@ -313,3 +313,44 @@ module _ (dig : List ℕ → List ℕ) (anchors : List Thread) where
     second-begins hops tail =
         let start : Thread = (chain_of dig anchors (proof_of hops tail)).known in
         λ k. then_by (each_format hop_bytes hop_codec (following (length hops))) (λ list. then_by (tail_codec (last-step start list k)).format (λ t. Done (judgement-chain dig anchors (proof_of list t) k)))
+
+-- ---- the chain that stands behind the second event
+
+any-tail : Tail
+any-tail = record {
+  step = 0;
+  path = record { links = [] };
+  opening = record { event_root = []; archive_root = []; count = 0; time = None; prev = []; others = [] };
+  event = record { index = 0; event = []; path = [] };
+}
+
+any-hop : HopPart
+any-hop = record {
+  entry = record { thread = record { from = []; step = 0; auth = [] }; archived = 0 };
+  shown = Gap [];
+  bind = 0;
+  link = record { links = [] };
+  opening = None;
+}
+
+module _ (dig : List ℕ → List ℕ) (anchors : List Thread) (c : Chain) (head : Part) (e : EventPart) (hops : ℕ) (before : Option Opening)
+    (is : (list : List HopPart) (tail : Tail) → length list ≡ hops → c ≡ chain_of dig anchors (proof_of dig anchors head e before list tail)) where
+  abbrev list : List HopPart
+  list = replicate hops any-hop
+
+  size : length list ≡ hops
+  size = length-replicate {A = HopPart} hops any-hop
+
+  begun-is : c ≡ chain_of dig anchors (proof_of dig anchors head e before list any-tail)
+  begun-is = is list any-tail size
+
+  pub begun-fits : hops ≤ MOST_HOPS → head.step ≤ LAST_STEP → (c.part + c.more ≤ 65) × (c.known.step ≤ LAST_STEP)
+  begun-fits few within = (
+    omega (arith, few, size, ap (λ (d : Chain). d.part) begun-is, ap (λ (d : Chain). d.more) begun-is),
+    omega (arith, within, ap (λ (d : Chain). d.known.step) begun-is),
+  )
+
+  pub begun-rest : behind_chain dig anchors c ≡ behind_before dig anchors head e hops before
+  begun-rest =
+      ap (behind_chain dig anchors) begun-is ∙ sym (second-begins dig anchors head e before list any-tail)
+      ∙ ap (λ n. behind_before dig anchors head e n before) size

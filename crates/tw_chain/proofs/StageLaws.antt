@@ -1,16 +1,18 @@
 -- The segments of a proof that comes in pieces are lawful and have a byte or more, and no front of what follows breaks.
-use Rattle.std.proofs.Common.{◌≡◌, ℕ, ◌-◌, ◌<◌, ◌≤◌, List, [], ◌∷◌, ◌++◌, length, lit≤, arith}
+use Rattle.std.proofs.Common.{◌≡◌, ℕ, suc, zero, ◌-◌, ◌<◌, ◌≤◌, List, [], ◌∷◌, ◌++◌, length, take, lit≤, arith, refl}
 use Rattle.std.specs.Prelude.{Bool, true, false, Option, Some, None, nat_lt, ◌==◌, if◌then◌else◌}
 use Rattle.tw_base.specs.declared.event_part.EventPart.{EventPart}
-use Rattle.tw_base.specs.declared.limits.TheConstants.{LAST_STEP, MOST_EVENTS, MOST_EVENT_BYTES}
+use Rattle.tw_base.specs.declared.limits.TheConstants.{LAST_STEP, MOST_EVENTS, MOST_EVENT_BYTES, MOST_HOPS}
 use Rattle.tw_base.specs.declared.thread.Entry.{Entry}
 use Rattle.tw_base.specs.declared.thread.Key.{Key}
 use Rattle.tw_base.specs.declared.thread.Thread.{Thread}
 use Rattle.tw_base.specs.declared.tree_proof.TreeProof.{TreeProof}
-use Rattle.tw_base.specs.Codecs.{Codec, behind, bytes_codec, digest_codec, each, each_format, labels_codec, many, name_codec, number_codec, optional, pair, seen, sized_codec, by_kind, text_codec}
+use Rattle.tw_base.specs.Codecs.{Codec, behind, bytes_codec, digest_codec, each, each_format, labels_codec, many, name_codec, number_codec, optional, pair, seen, sized_codec, by_kind, counted, variant}
 use Rattle.tw_base.specs.Fields.{byte_then, bytes, name, name_part, number, text}
 use Rattle.tw_base.specs.EntryCodec.{entry_codec}
-use Rattle.tw_base.specs.Formats.{Format, GoesOn, SpellsNothing, then_by}
+use Rattle.tw_base.specs.Formats.{Format, GoesOn, IsFront, IsPlace, SpellsNothing, then_by}
+use Rattle.tw_base.specs.Formats.Format.{Done, Byte}
+use Rattle.tw_base.specs.Resuming.{StaysFront}
 use Rattle.tw_base.specs.HistoryCodec.{thread_codec}
 use Rattle.tw_base.proofs.CodecLaws.{Lawful, goes-then, lawful, lawful-each, lawful-optional}
 use Rattle.tw_skipproof.specs.declared.existence.Part.{Part}
@@ -33,12 +35,14 @@ use Rattle.tw_chain.specs.declared.stage.Role.{Role}
 use Rattle.tw_chain.specs.declared.stage.Role.TheVariants as role
 use Rattle.tw_chain.specs.declared.stage.Shower.{Shower}
 use Rattle.tw_chain.specs.declared.stage.Shower.TheVariants as shower
+use Rattle.tw_chain.specs.declared.stage.Stage.{Stage}
+use Rattle.tw_chain.specs.declared.stage.Stage.TheVariants as stage
 use Rattle.tw_chain.specs.declared.stage.Way.{Way}
 use Rattle.tw_chain.specs.declared.stage.Way.TheVariants as way
 use Rattle.tw_chain.specs.Chaining.{behind_chain}
 use Rattle.tw_chain.specs.Checks.{last_thread}
 use Rattle.tw_chain.specs.Proofs.{following, hop_bytes, hop_codec, key_codec, kind_codec, last_step, tail_codec}
-use Rattle.tw_chain.specs.Stages.{behind_absent, behind_archived, behind_before, behind_entry, behind_event, behind_first, behind_kind, behind_link, behind_only, behind_opening, behind_part, behind_path, behind_second, behind_shown, behind_tree, chain_with, counted_hops, event_of, gap_head, head_of, kind_head, least_of, link_head, linked, nodes_of, part_head, part_of, path_of, present_head, tail_of}
+use Rattle.tw_chain.specs.Stages.{behind_absent, behind_archived, behind_before, behind_entry, behind_event, behind_first, behind_kind, behind_link, behind_only, behind_opening, behind_part, behind_path, behind_second, behind_shown, behind_tree, chain_with, counted_hops, event_of, gap_head, head_of, kind_head, least_of, least_opened, link_head, linked, nodes_of, part_head, part_of, path_of, present_head, rest, step_opened}
 use Rattle.tw_chain.proofs.ProofCodec.{hop-lawful, hop-written, key-lawful, tail-lawful}
 
 -- ---- segments
@@ -234,7 +238,7 @@ module _ (dig : List ℕ → List ℕ) (anchors : List Thread) where
   pub counted-goes : (hops : ℕ) → GoesOn (head_of 1 (event_of (behind_second dig anchors hops)))
   counted-goes hops = head-goes 1 _ (lit≤ tt) (λ at few. event-goes (behind_second dig anchors hops) at few (second-goes hops at))
 
-  hops-number : Lawful (number_codec 1 0 64)
+  pub hops-number : Lawful (number_codec 1 0 MOST_HOPS)
   hops-number = search lawful
 
   chosen : (b : Bool) (one other : Format Judgement) → GoesOn one → GoesOn other → GoesOn (if b then one else other)
@@ -244,9 +248,67 @@ module _ (dig : List ℕ → List ℕ) (anchors : List Thread) where
   pub kind-goes : (kind : ℕ) → GoesOn (behind_kind dig anchors kind)
   kind-goes kind =
       chosen (kind == 1) _ _ (head-goes 1 _ (lit≤ tt) (λ at few. event-goes (behind_only dig anchors) at few (λ e. tt)))
-      (chosen (kind == 2) _ _ (goes-then (number_codec 1 0 64).format _ hops-number.goes (λ word hops s. counted-goes hops))
+      (chosen (kind == 2) _ _ (goes-then (number_codec 1 0 MOST_HOPS).format _ hops-number.goes (λ word hops s. counted-goes hops))
       (chosen (kind == 3) _ _ (goal-head-goes goal.Archived)
       (chosen (kind == 4) _ _ (goal-head-goes goal.Absent) linked-goes)))
 
   pub first-goes : (c : Chain) (service : List ℕ) (step top : ℕ) → GoesOn (part_of 1 (event_of (behind_first dig anchors c)) service step top)
   first-goes c = part-goes 1 _ (lit≤ tt) (λ at few. event-goes (behind_first dig anchors c) at few (λ e. tt))
+
+-- ---- sizes of what is taken
+
+pub event-small : (count : ℕ) (e : EventPart) → (event_codec count).Fits e → length e.event ≤ MOST_EVENT_BYTES
+unfolding event_codec seen pair sized_codec by_kind number_codec
+event-small count e fits = fits.1.0.0.1
+
+pub entry-within : (entry : Entry) → entry_codec.Fits entry → entry.thread.step ≤ LAST_STEP
+unfolding entry_codec thread_codec seen pair number_codec
+entry-within entry fits = fits.0.1.0.1
+
+-- ---- the end
+
+module _ {X : Type 0} (x : X) where
+  pub done-stays : (held : List ℕ) → length held ≡ 0 → StaysFront (Done x) held 0
+  done-stays [] e [] bytes none = (([], x, refl), λ some. absurd (omega (arith, some)))
+  done-stays [] e (b ∷ more) bytes none = let no = none (omega arith) in absurd (omega (arith, no))
+  done-stays (b ∷ held) e more bytes none = absurd (omega (arith, e))
+
+  pub done-breaks : (held : List ℕ) → 0 < length held → IsPlace (Done x) held 0
+  done-breaks [] some = absurd (omega (arith, some))
+  done-breaks (b ∷ held) some = record { within = omega arith; good = ([], x, refl); longest = longest }
+    where
+      longest : (n : ℕ) → n ≤ length (b ∷ held) → IsFront (Done x) (take n (b ∷ held)) → n ≤ 0
+      longest zero l f = omega arith
+      longest (suc n) l f = absurd f.2
+
+module _ {X Z : Type 0} where
+  nothing-first : (f : Format X) (next : X → Format Z) → SpellsNothing f [] → SpellsNothing (then_by f next) []
+  nothing-first (Done x) next n z s = absurd (n x refl)
+  nothing-first (Byte test more) next n z s = s
+
+present-nothing : SpellsNothing present_codec.format []
+unfolding present_codec variant by_kind number_codec number
+present-nothing x s = s
+
+gap-nothing : SpellsNothing gap_codec.format []
+unfolding gap_codec variant counted by_kind number_codec number
+gap-nothing x s = s
+
+-- no bytes end a proof but behind the whole
+pub unfinished : (dig : List ℕ → List ℕ) (anchors : List Thread) (s : Stage) → ((j : Judgement) → s ≡ stage.Done j → ⊥) → SpellsNothing (rest dig anchors s) []
+unfinished dig anchors stage.Begun not = nothing-first kind_head.format _ kind-nothing
+unfinished dig anchors stage.Counted not = nothing-first (number_codec 1 0 MOST_HOPS).format _ (number-nothing 0 MOST_HOPS)
+unfinished dig anchors (stage.Head g) not = nothing-first part_head.format _ part-nothing
+unfinished dig anchors stage.LinkHead not = nothing-first link_head.format _ head-nothing
+unfinished dig anchors (stage.Path p) not = nothing-first (link_codec p.at).format _ (link-nothing p.at)
+unfinished dig anchors (stage.Opening o) not = nothing-first (opening_codec (least_opened o) (step_opened o)).format _ (opening-nothing (least_opened o) (step_opened o))
+unfinished dig anchors (stage.Event e) not = nothing-first (event_codec e.at.part.opening.count).format _ (event-nothing e.at.part.opening.count)
+unfinished dig anchors (stage.Entry s) not = nothing-first entry_codec.format _ entry-nothing
+unfinished dig anchors (stage.Key r) not = nothing-first key_codec.format _ key-nothing
+unfinished dig anchors (stage.Tree (asked.Archived at entry)) not = nothing-first present_codec.format _ present-nothing
+unfinished dig anchors (stage.Tree (asked.Absent at key)) not = nothing-first gap_codec.format _ gap-nothing
+unfinished dig anchors (stage.Tree (asked.Hop h)) not = nothing-first present_codec.format _ present-nothing
+unfinished dig anchors (stage.Nodes c) not = nothing-first ancestor_codec.format _ ancestor-nothing
+unfinished dig anchors (stage.Bind h shown) not = nothing-first (number_codec 8 0 LAST_STEP).format _ (step-nothing 0 LAST_STEP)
+unfinished dig anchors (stage.Tail onward) not = nothing-first step_codec.format _ (step-nothing 1 LAST_STEP)
+unfinished dig anchors (stage.Done j) not = absurd (not j refl)

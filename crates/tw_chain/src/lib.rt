@@ -1,11 +1,13 @@
 // Proofs and their verdicts.
 #![tactic(auto)]
 
+mod attempts;
 mod chain;
 mod chain_reading;
 mod chain_writing;
 mod finding;
 mod following;
+mod heads;
 mod judgement;
 mod judging;
 mod laws;
@@ -13,6 +15,7 @@ mod passing;
 mod proof;
 mod reading;
 mod stage;
+mod tree_attempts;
 mod verdict;
 mod verifier;
 mod writing;

@@ -32,7 +32,7 @@ fn take_thread_body(alloc: Global, bytes: &[u8], at: &mut u64) -> Result<ThreadP
 }
 
 /// Takes a key.
-fn take_key(bytes: &[u8], at: &mut u64) -> Result<Key, ReadFault>
+pub(crate) fn take_key(bytes: &[u8], at: &mut u64) -> Result<Key, ReadFault>
     requires { at.old ≤ length bytes.now }
     ensures { Takes key_codec (λ k. k) bytes.now at.old at.new result }
 {
@@ -98,7 +98,7 @@ fn take_of_kind(alloc: Global, bytes: &[u8], at: &mut u64, kind: u64) -> Result<
 
 /// Takes the kind of a proof.
 #[tactic(auto)]
-fn take_kind(bytes: &[u8], at: &mut u64) -> Result<u64, ReadFault>
+pub(crate) fn take_kind(bytes: &[u8], at: &mut u64) -> Result<u64, ReadFault>
     requires { at.old ≤ length bytes.now }
     ensures { Takes kind_codec (λ kind. kind) bytes.now at.old at.new result }
 {
