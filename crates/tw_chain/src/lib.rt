@@ -6,12 +6,13 @@ mod chain_reading;
 mod chain_writing;
 mod copying;
 mod finding;
-mod joined_laws;
 mod following;
+mod joined_laws;
 mod joining;
 mod judgement;
 mod judging;
 mod laws;
+mod least;
 mod passing;
 mod proof;
 mod reading;
@@ -23,6 +24,7 @@ mod writing;
 pub use joined_laws::joining_laws;
 pub use joining::{JoinFault, join};
 pub use laws::{chain_laws, completeness_laws, proof_laws};
+pub use least::{LEAST_PRECEDENCE, LEAST_PRECEDENCE_AUTHENTICATOR};
 pub use proof::{
     AbsenceProof, HopPart, HopParts, LinkProof, PrecedenceProof, Proof, Tail, ThreadProof,
 };

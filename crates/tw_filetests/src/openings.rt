@@ -9,8 +9,7 @@ use std::test::Fail;
 use tw_base::{Bytes, Digest, Labels, ReadFault, Sha, event_leaf};
 use tw_skipproof::{
     LEAST_AUTHENTICATOR, LEAST_EXISTENCE, Link, LinkList, Path, check_opening, climb, next_hop,
-    read_existence, read_existence_pieces, read_opening, read_path, write_existence, write_opening,
-    write_path,
+    read_existence, read_opening, read_path, write_existence, write_opening, write_path,
 };
 
 /// The place at which the bytes were found malformed.
@@ -113,18 +112,5 @@ fn a_path(rt: HostRuntime) -> Result<(), Fail> {
     assert!(rt; climb::<Sha>(&path, 2, 1, &bottom).is_some());
     assert_eq!(rt; climb::<Sha>(&path, 2, 2, &bottom), None);
     assert_eq!(rt; climb::<Sha>(&path, 3, 1, &bottom), None);
-    Ok(())
-}
-
-#[test]
-fn a_proof_in_pieces(rt: HostRuntime) -> Result<(), Fail> {
-    let (one, rest) = LEAST_EXISTENCE.split_at(3);
-    let (two, three) = rest.split_at(60);
-    let proof = read_existence_pieces(rt.alloc(), &[one, two, &[], three])?;
-    assert_eq!(rt; proof.at.step, 1);
-    let cut = read_existence_pieces(rt.alloc(), &[one, two]);
-    assert_eq!(rt; place_of(cut), Some(63));
-    let broken = read_existence_pieces(rt.alloc(), &[one, &[0x32], three]);
-    assert_eq!(rt; place_of(broken), Some(3));
     Ok(())
 }
