@@ -11,6 +11,7 @@ mod heads;
 mod judgement;
 mod judging;
 mod laws;
+mod least;
 mod passing;
 mod proof;
 mod reading;
@@ -21,6 +22,7 @@ mod verifier;
 mod writing;
 
 pub use laws::{chain_laws, completeness_laws, proof_laws};
+pub use least::{LEAST_PRECEDENCE, LEAST_PRECEDENCE_AUTHENTICATOR};
 pub use proof::{
     AbsenceProof, HopPart, HopParts, LinkProof, PrecedenceProof, Proof, Tail, ThreadProof,
 };

@@ -4,6 +4,8 @@
 #[cfg(test)]
 mod caches;
 #[cfg(test)]
+mod chain_runs;
+#[cfg(test)]
 mod disk_runs;
 #[cfg(test)]
 mod disks;

@@ -62,7 +62,7 @@ fn is_accepted(
 ) -> bool {
     match service.prove_event(step, 0, anchor.step) {
         Err(_) => false,
-        Ok(bytes) => match verify::<Sha>(alloc, bytes.as_slice(), &[anchor]) {
+        Ok(bytes) => match verify::<Sha>(alloc, bytes.as_slice(), &[anchor], false) {
             Ok(Verdict::Yes(_)) => true,
             Ok(Verdict::No(_)) => false,
             Err(_) => false,

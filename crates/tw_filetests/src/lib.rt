@@ -4,6 +4,8 @@
 #[cfg(test)]
 mod anchors;
 #[cfg(test)]
+mod chains;
+#[cfg(test)]
 mod event_files;
 #[cfg(test)]
 mod events;
@@ -17,6 +19,8 @@ mod labels;
 mod names;
 #[cfg(test)]
 mod openings;
+#[cfg(test)]
+mod pages;
 #[cfg(test)]
 mod proofs;
 #[cfg(test)]

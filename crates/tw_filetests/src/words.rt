@@ -2,10 +2,10 @@
 
 use std::alloc::Global;
 use std::test::Fail;
-use tw_base::{Bytes, Claim, Digest, Name, Place, Reason, Report, Seen, Thread};
+use tw_base::{Bytes, Claim, Digest, HopList, Name, Place, Reason, Report, Seen, Thread, Threads};
 use tw_text::{
-    Command, Field, FieldList, WordFault, anchor_line, fault_disk, print_line, print_rejected,
-    print_report, print_usage, read_words,
+    Command, Field, FieldList, WordFault, anchor_line, fault_disk, print_gap, print_line,
+    print_rejected, print_report, print_usage, read_words,
 };
 
 /// The words of a line, with one blank between.
@@ -65,13 +65,18 @@ fn a_report_is_printed(rt: HostRuntime) -> Result<(), Fail> {
         event,
         time: Some(5),
     });
-    let text = print_report(alloc, &Report { claim })?;
+    let report = Report {
+        claim,
+        hops: HopList::new(alloc),
+        carried: Threads::new(alloc),
+    };
+    let text = print_report(alloc, &report)?;
     assert!(rt; is(&text, "accepted exists\nevent a 1 0 68690a\ntime a 1 5\n"));
     Ok(())
 }
 
 #[test]
-fn reasons_of_proofs_to_come_are_printed(rt: HostRuntime) -> Result<(), Fail> {
+fn reasons_are_printed(rt: HostRuntime) -> Result<(), Fail> {
     let alloc = rt.alloc();
     let text = print_rejected(alloc, &Reason::BadOpening { part: 2 })?;
     assert!(rt; is(&text, "rejected 5 BadOpening 2\n"));
@@ -90,6 +95,7 @@ fn lines_are_printed(rt: HostRuntime) -> Result<(), Fail> {
     fields.push(Field::Hex(Bytes::new(alloc)))?;
     assert!(rt; is(&print_line(alloc, b"refused", &fields)?, "refused 3 -\n"));
     assert!(rt; is(&print_usage(alloc, 0)?, "usage 0\n"));
+    assert!(rt; is(&print_gap(alloc, 2)?, "rejected Gap 2\n"));
     assert_eq!(rt; fault_disk(), b"fault disk\n".as_slice());
     Ok(())
 }
