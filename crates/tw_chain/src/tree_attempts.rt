@@ -11,7 +11,7 @@ ghost use Rattle.tw_base.specs.Resuming.{Attempts};
 ghost use Rattle.tw_skipproof.specs.declared.path.Link.{Link as AnyLink};
 ghost use Rattle.tw_treeproof.specs.Codecs.{gap_codec, present_codec};
 ghost use Rattle.tw_chain.specs.declared.stage.Stage.TheVariants.{Bind, Done, Entry as OfEntry, Key, Nodes, Tail, Tree};
-ghost use Rattle.tw_chain.specs.Stages.{behind_entry, behind_links_of, behind_path, behind_tree, nodes_of, rest, with_nodes};
+ghost use Rattle.tw_chain.specs.Stages.{behind_entry, behind_first, behind_links_of, behind_path, behind_tree, event_of, nodes_of, part_of, rest, with_nodes};
 
 use crate::following::{along_path, along_tree};
 use crate::heads::take_present_head;
@@ -257,6 +257,23 @@ fn way_down(onward: Onward, step: u64) -> Way
     }
 }
 
+/// Behind the step of the first event.
+fn behind_step<H: Hasher>(
+    alloc: Global,
+    anchors: &[Thread],
+    onward: Onward,
+    step: u64,
+) -> Result<Stage, NoMemory>
+    requires some { 0 < step }
+    requires within { step ≤ LAST_STEP }
+    ensures { IfOk result (λ stage. rest H.dig anchors.now stage
+        ≡ part_of 1 (event_of (behind_first H.dig anchors.now onward.chain)) onward.chain.known.from step onward.chain.known.step) }
+{
+    let top = onward.chain.known.step;
+    let way = way_down(onward, step);
+    along_path::<H>(alloc, anchors, way, LinkList::new(alloc), top, step)
+}
+
 /// Looks for the step of the first event.
 pub(crate) fn attempt_tail<H: Hasher>(
     alloc: Global,
@@ -269,16 +286,7 @@ pub(crate) fn attempt_tail<H: Hasher>(
     let mut at = 0;
     match take_number(held, &mut at, 8, 1, LAST_STEP) {
         Ok(step) => {
-            let known = onward.chain.known;
-            let way = way_down(onward, step);
-            let next = along_path::<H>(
-                alloc,
-                anchors,
-                way,
-                LinkList::new(alloc),
-                known.step,
-                step,
-            )?;
+            let next = behind_step::<H>(alloc, anchors, onward, step)?;
             Ok(Attempt::Ended {
                 next,
                 size: at as usize,
