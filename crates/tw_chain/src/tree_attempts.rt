@@ -237,6 +237,13 @@ pub(crate) fn attempt_bind<H: Hasher>(
     }
 }
 
+/// The thread to which a chain has come.
+fn known_of(onward: &Onward) -> Thread
+    ensures { result ≡ onward.now.chain.known }
+{
+    onward.chain.known
+}
+
 /// The way from the thread of a chain down to the step of the first event.
 fn way_down(onward: Onward, step: u64) -> Way
     requires some { 0 < step }
@@ -244,7 +251,7 @@ fn way_down(onward: Onward, step: u64) -> Way
     ensures { (dig : List ℕ → List ℕ) (anchors : List Anchor) (links : List AnyLink) → behind_path dig anchors result links
         ≡ behind_links_of dig anchors onward.chain step links }
 {
-    let known = onward.chain.known;
+    let known = known_of(&onward);
     let under = Under {
         service: known.from,
         step,
