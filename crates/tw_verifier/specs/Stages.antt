@@ -143,6 +143,12 @@ module _ (dig : List ℕ → List ℕ) (anchors : List Thread) where
   behind_event (role.Second hops) = behind_second hops.count
   behind_event (role.First onward) = behind_first onward.chain
 
+  -- behind the path of the first event
+  abbrev pub behind_links_of : Chain → (step : ℕ) → List Link → Format Judgement
+  behind_links_of c step links =
+      then_by (opening_codec 1 step).format (λ o.
+      event_of (behind_first c) (record { service = c.known.from; step = step; top = c.known.step; path = record { links = links }; opening = o }))
+
   -- the first event of a proof, behind a chain
   abbrev pub tail_of : Chain → Format Judgement
   tail_of c = then_by step_codec.format (λ step. part_of 1 (event_of (behind_first c)) c.known.from step c.known.step)

@@ -2,12 +2,12 @@
 #![tactic(auto)]
 
 ghost use Rattle.std.specs.Prelude.{◌≡◌, ℕ, ◌≤◌, List, [], ◌∷◌, ◌++◌, IfOk};
-ghost use Rattle.tw_base.specs.declared.limits.TheConstants.{LAST_STEP};
+ghost use Rattle.tw_base.specs.declared.limits.TheConstants.{LAST_STEP, MOST_HOPS};
 ghost use Rattle.tw_base.specs.declared.thread.Thread.{Thread as Anchor};
 ghost use Rattle.tw_base.specs.Resuming.{Attempts};
 ghost use Rattle.tw_skipproof.specs.Paths.{hop};
 ghost use Rattle.tw_verifier.specs.declared.stage.Stage.TheVariants.{Begun, Counted, Event, Head, LinkHead, Opening, Path};
-ghost use Rattle.tw_verifier.specs.Stages.{behind_kind as behind_kind_of, behind_path, least_opened, path_of, rest, step_opened};
+ghost use Rattle.tw_verifier.specs.Stages.{behind_kind as behind_kind_of, behind_path, behind_second, event_of, head_of, least_opened, path_of, rest, step_opened};
 
 use crate::following::{along_path, behind_event, behind_opening};
 use crate::heads::{take_kind_head, take_link_head, take_part_head};
@@ -53,19 +53,25 @@ pub(crate) fn attempt_begun(held: &[u8]) -> Result<Attempt<Stage>, NoMemory>
     }
 }
 
+/// Behind the number of hops.
+fn behind_count(hops: u64) -> Stage
+    requires { hops ≤ MOST_HOPS }
+    ensures { (dig : List ℕ → List ℕ) (anchors : List Anchor) → rest dig anchors result ≡ head_of 1 (event_of (behind_second dig anchors hops)) }
+{
+    let hops = HopCount { count: hops as u8 };
+    Stage::Head(Goal::Event(Role::Second(hops)))
+}
+
 /// Looks for the number of hops.
 pub(crate) fn attempt_counted(held: &[u8]) -> Result<Attempt<Stage>, NoMemory>
     ensures { (dig : List ℕ → List ℕ) (anchors : List Anchor) → Attempts (rest dig anchors) Counted held.now result }
 {
     let mut at = 0;
     match take_number(held, &mut at, 1, 0, MOST_HOPS) {
-        Ok(hops) => {
-            let hops = HopCount { count: hops as u8 };
-            Ok(Attempt::Ended {
-                next: Stage::Head(Goal::Event(Role::Second(hops))),
-                size: at as usize,
-            })
-        }
+        Ok(hops) => Ok(Attempt::Ended {
+            next: behind_count(hops),
+            size: at as usize,
+        }),
         Err(fault) => missed(Stage::Counted, held, fault),
     }
 }

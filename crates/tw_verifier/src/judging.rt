@@ -1,5 +1,12 @@
 // What a verifier in pieces takes, segment by segment.
 
+ghost use Rattle.std.specs.Prelude.{ℕ, List, Ok};
+ghost use Rattle.tw_base.specs.Resuming.{Attempts, EndsAs};
+ghost use Rattle.tw_base.specs.declared.thread.Thread.{Thread as Anchor};
+ghost use Rattle.tw_verifier.specs.declared.stage.Stage.{Stage as AnyStage};
+ghost use Rattle.tw_verifier.specs.Stages.{rest};
+ghost use Rattle.tw_verifier.specs.Verifying.{judging_rest};
+
 use crate::attempts::{
     attempt_begun, attempt_counted, attempt_event, attempt_head, attempt_link, attempt_link_head,
     attempt_opening,
@@ -13,10 +20,6 @@ use crate::verifier::Judging;
 use std::alloc::Global;
 use std::marker::PhantomData;
 use tw_base::{Attempt, Hasher, NoMemory, Segments, Thread, Threads};
-
-ghost use Rattle.std.specs.Prelude.{Ok};
-ghost use Rattle.tw_base.specs.Resuming.{Attempts};
-ghost use Rattle.tw_verifier.specs.Stages.{rest};
 
 /// Looks at the bytes that are held of the segment at hand.
 #[tactic(auto)]
@@ -46,42 +49,65 @@ fn attempt_stage<H: Hasher>(
     }
 }
 
-impl<H: Hasher> Segments for Judging<H> {
-    ghost use Rattle.tw_verifier.specs.Verifying.{judging_rest};
+/// The judgement of a whole proof.
+#[tactic(auto)]
+fn ended(stage: Stage) -> Option<Judgement>
+    ensures { (dig : List ℕ → List ℕ) (anchors : List Anchor) → EndsAs (rest dig anchors stage) result }
+{
+    match stage {
+        Stage::Done(judgement) => Some(judgement),
+        _ => None,
+    }
+}
 
+/// The same under these anchors.
+#[tactic(auto)]
+fn under<H: Hasher>(
+    anchors: Threads,
+    hasher: PhantomData<H>,
+    found: Attempt<Stage>,
+) -> Attempt<Judging<H>>
+    ensures { (stage : AnyStage) (held : List ℕ) → Attempts (rest H.dig anchors) stage held (Ok found) →
+        Attempts (judging_rest H.dig) (record { anchors = anchors; stage = stage; hasher = hasher }) held (Ok result) }
+{
+    match found {
+        Attempt::Ended { next, size } => Attempt::Ended {
+            next: Judging {
+                anchors,
+                stage: next,
+                hasher,
+            },
+            size,
+        },
+        Attempt::Front { same, until } => Attempt::Front {
+            same: Judging {
+                anchors,
+                stage: same,
+                hasher,
+            },
+            until,
+        },
+        Attempt::Broken { place } => Attempt::Broken { place },
+    }
+}
+
+impl<H: Hasher> Segments for Judging<H> {
     type Whole = Judgement;
 
     ghost rest = { judging_rest H.dig };
 
     fn attempt(self, alloc: Global, held: &[u8]) -> Result<Attempt<Self>, NoMemory> {
-        let Judging { anchors, stage, .. } = self;
+        let Judging {
+            anchors,
+            stage,
+            hasher,
+        } = self;
         let found = attempt_stage::<H>(alloc, anchors.as_slice(), stage, held)?;
-        Ok(match found {
-            Attempt::Ended { next, size } => Attempt::Ended {
-                next: Judging {
-                    anchors,
-                    stage: next,
-                    hasher: PhantomData,
-                },
-                size,
-            },
-            Attempt::Front { same, until } => Attempt::Front {
-                same: Judging {
-                    anchors,
-                    stage: same,
-                    hasher: PhantomData,
-                },
-                until,
-            },
-            Attempt::Broken { place } => Attempt::Broken { place },
-        })
+        Ok(under(anchors, hasher, found))
     }
 
     fn whole(self) -> Option<Judgement> {
         let Judging { stage, .. } = self;
-        match stage {
-            Stage::Done(judgement) => Some(judgement),
-            _ => None,
-        }
+        ended(stage)
     }
 }

@@ -153,7 +153,10 @@ pub enum Opens {
     /// Of the step before the second event's.
     Before(Seconded),
     /// Of the step of a hop's thread with these links, where another hop follows.
-    Hop { hop: HopBind, links: LinkList },
+    Hop {
+        hop: HopBind,
+        links: LinkList,
+    },
 }
 
 /// What shows the entry at hand.

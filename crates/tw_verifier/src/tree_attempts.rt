@@ -1,14 +1,17 @@
 // What is found in the bytes that are held of each segment behind an opening that shows an archive, of a tail, and behind the whole.
 #![tactic(auto)]
 
-ghost use Rattle.std.specs.Prelude.{◌≡◌, ℕ, ◌-◌, ◌≤◌, List, [], ◌∷◌, length, IfOk, Ok};
+ghost use Rattle.std.specs.Prelude.{◌≡◌, ℕ, ◌-◌, ◌<◌, ◌≤◌, List, [], ◌∷◌, length, IfOk, Ok};
 ghost use Rattle.tw_base.specs.declared.limits.TheConstants.{LAST_STEP};
 ghost use Rattle.tw_base.specs.declared.thread.Thread.{Thread as Anchor};
+ghost use Rattle.tw_base.specs.declared.tree_proof.TreeProof.TheVariants.{Present};
+ghost use Rattle.tw_treeproof.specs.declared.limits.TheConstants.{MOST_ABOVE_ENTRY};
 ghost use Rattle.tw_base.specs.Formats.{then_by};
 ghost use Rattle.tw_base.specs.Resuming.{Attempts};
+ghost use Rattle.tw_skipproof.specs.declared.path.Link.{Link as AnyLink};
 ghost use Rattle.tw_treeproof.specs.Codecs.{gap_codec, present_codec};
 ghost use Rattle.tw_verifier.specs.declared.stage.Stage.TheVariants.{Bind, Done, Entry as OfEntry, Key, Nodes, Tail, Tree};
-ghost use Rattle.tw_verifier.specs.Stages.{behind_entry, behind_tree, nodes_of, rest, with_nodes};
+ghost use Rattle.tw_verifier.specs.Stages.{behind_entry, behind_first, behind_links_of, behind_path, behind_tree, event_of, nodes_of, part_of, rest, with_nodes};
 
 use crate::following::{along_path, along_tree};
 use crate::heads::take_present_head;
@@ -20,7 +23,7 @@ use crate::stage::{
 use std::alloc::Global;
 use tw_base::limits::LAST_STEP;
 use tw_base::{
-    Ancestor, AncestorList, Attempt, Entry, Hasher, NoMemory, Thread, TreeProof, missed,
+    Ancestor, AncestorList, Attempt, Digest, Entry, Hasher, NoMemory, Thread, TreeProof, missed,
     take_entry, take_number,
 };
 use tw_skipproof::LinkList;
@@ -65,6 +68,25 @@ pub(crate) fn attempt_key(reached: Reached, held: &[u8]) -> Result<Attempt<Stage
     }
 }
 
+/// Behind the number of the nodes above an entry's node, and the labels of its sides.
+fn behind_labels<H: Hasher>(
+    alloc: Global,
+    anchors: &[Thread],
+    asked: Asked,
+    head: (u64, (Digest, Digest)),
+) -> Stage
+    requires { head.0 ≤ MOST_ABOVE_ENTRY }
+    ensures { rest H.dig anchors.now result ≡ nodes_of H.dig anchors.now (behind_tree H.dig anchors.now asked) (Present head.1.0 head.1.1 []) head.0 }
+{
+    let (more, (left, right)) = head;
+    let shown = TreeProof::Present {
+        left,
+        right,
+        ancestors: AncestorList::new(alloc),
+    };
+    along_tree::<H>(alloc, anchors, asked, shown, more as u8)
+}
+
 /// Looks for the number of the nodes of a tree proof of an entry, and the labels of the sides of its node.
 fn attempt_present<H: Hasher>(
     alloc: Global,
@@ -77,17 +99,10 @@ fn attempt_present<H: Hasher>(
 {
     let mut at = 0;
     match take_present_head(held, &mut at) {
-        Ok((more, (left, right))) => {
-            let shown = TreeProof::Present {
-                left,
-                right,
-                ancestors: AncestorList::new(alloc),
-            };
-            Ok(Attempt::Ended {
-                next: along_tree::<H>(alloc, anchors, asked, shown, more as u8),
-                size: at as usize,
-            })
-        }
+        Ok(head) => Ok(Attempt::Ended {
+            next: behind_labels::<H>(alloc, anchors, asked, head),
+            size: at as usize,
+        }),
         Err(fault) => missed(Stage::Tree(asked), held, fault),
     }
 }
@@ -222,6 +237,50 @@ pub(crate) fn attempt_bind<H: Hasher>(
     }
 }
 
+/// The thread to which a chain has come.
+fn known_of(onward: &Onward) -> Thread
+    ensures { result ≡ onward.now.chain.known }
+{
+    onward.chain.known
+}
+
+/// The way from the thread of a chain down to the step of the first event.
+fn way_down(onward: Onward, step: u64) -> Way
+    requires some { 0 < step }
+    requires within { step ≤ LAST_STEP }
+    ensures { (dig : List ℕ → List ℕ) (anchors : List Anchor) (links : List AnyLink) → behind_path dig anchors result links
+        ≡ behind_links_of dig anchors onward.chain step links }
+{
+    let known = known_of(&onward);
+    let under = Under {
+        service: known.from,
+        step,
+        top: known.step,
+    };
+    let role = Role::First(onward);
+    Way::Part {
+        goal: Goal::Event(role),
+        under,
+    }
+}
+
+/// Behind the step of the first event.
+fn behind_step<H: Hasher>(
+    alloc: Global,
+    anchors: &[Thread],
+    onward: Onward,
+    step: u64,
+) -> Result<Stage, NoMemory>
+    requires some { 0 < step }
+    requires within { step ≤ LAST_STEP }
+    ensures { IfOk result (λ stage. rest H.dig anchors.now stage
+        ≡ part_of 1 (event_of (behind_first H.dig anchors.now onward.chain)) onward.chain.known.from step onward.chain.known.step) }
+{
+    let top = onward.chain.known.step;
+    let way = way_down(onward, step);
+    along_path::<H>(alloc, anchors, way, LinkList::new(alloc), top, step)
+}
+
 /// Looks for the step of the first event.
 pub(crate) fn attempt_tail<H: Hasher>(
     alloc: Global,
@@ -234,15 +293,7 @@ pub(crate) fn attempt_tail<H: Hasher>(
     let mut at = 0;
     match take_number(held, &mut at, 8, 1, LAST_STEP) {
         Ok(step) => {
-            let known = onward.chain.known;
-            let under = Under {
-                service: known.from,
-                step,
-                top: known.step,
-            };
-            let goal = Goal::Event(Role::First(onward));
-            let way = Way::Part { goal, under };
-            let next = along_path::<H>(alloc, anchors, way, LinkList::new(alloc), known.step, step)?;
+            let next = behind_step::<H>(alloc, anchors, onward, step)?;
             Ok(Attempt::Ended {
                 next,
                 size: at as usize,

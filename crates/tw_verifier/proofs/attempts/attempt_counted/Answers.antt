@@ -1,4 +1,4 @@
-use Rattle.std.proofs.Common.{ℕ, refl}
+use Rattle.std.proofs.Common.{ℕ, refl, sym}
 use Rattle.tw_base.specs.declared.limits.TheConstants.{MOST_HOPS}
 use Rattle.tw_base.specs.Codecs.{number_codec}
 use Rattle.tw_base.proofs.SegmentLaws.{attempts-ended, attempts-missed}
@@ -9,8 +9,8 @@ use Rattle.tw_verifier.proofs.attempts.attempt_counted.Goals as goal
 
 pub returns-in-Ok : goal.returns-in-Ok
 returns-in-Ok c = λ dig anchors.
-    attempts-ended (rest dig anchors) (number_codec 1 0 MOST_HOPS) (hops-number dig anchors) (λ (n : ℕ). head_of 1 (event_of (behind_second dig anchors n))) (number-nothing 0 MOST_HOPS) Counted _ c.args.held.now
-    c.take_number.new.at c.in-Ok.hops refl refl c.in-Ok.ensures.takes.0
+    attempts-ended (rest dig anchors) (number_codec 1 0 MOST_HOPS) (hops-number dig anchors) (λ (n : ℕ). head_of 1 (event_of (behind_second dig anchors n))) (number-nothing 0 MOST_HOPS) Counted c.behind_count.result c.args.held.now
+    c.take_number.new.at c.in-Ok.hops refl (sym (c.behind_count.ensures dig anchors)) c.in-Ok.ensures.takes.0
 
 pub returns-in-Err : goal.returns-in-Err
 returns-in-Err c = λ dig anchors.

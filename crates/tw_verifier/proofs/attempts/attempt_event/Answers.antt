@@ -10,15 +10,14 @@ use Rattle.tw_verifier.proofs.attempts.attempt_event.Goals as goal
 
 pub returns-then-held-until : goal.returns-then-held-until
 returns-then-held-until g c =
-    let e = c.args.event_at in
-    (
+    let e = c.args.event_at in (
       refl,
       stays-then (event_codec e.at.part.opening.count).format (behind_event g.H.Hasher.dig c.args.anchors.now e.role e.at.part)
           (λ word x s. role-goes g.H.Hasher.dig c.args.anchors.now e.role e.at.part x) c.args.held.now c.event_until-until.result (c.event_until-until.ensures c.if-held-until.true),
     )
 
 pub behind_event-requires : goal.behind_event-requires
-behind_event-requires g c = event-small c.args.event_at.at.part.opening.count c.in-Ok.event c.in-Ok.ensures.1.0
+behind_event-requires g c = event-small c.args.event_at.at.part.opening.count c.in-Ok.event c.in-Ok.ensures.1
 
 pub returns-in-Ok : goal.returns-in-Ok
 returns-in-Ok g c =

@@ -11,8 +11,7 @@ use Rattle.tw_verifier.proofs.attempts.attempt_link.Goals as goal
 
 pub returns-then-held-until : goal.returns-then-held-until
 returns-then-held-until g c =
-    let p = c.args.path in
-    (
+    let p = c.args.path in (
       refl,
       stays-then (link_codec p.at).format (λ (l : Link). path_of (p.links ++ l ∷ []) (hop p.at p.to) p.to (behind_path g.H.Hasher.dig c.args.anchors.now p.way))
           (λ word l s. path-goes (p.links ++ l ∷ []) (hop p.at p.to) p.to _ (way-goes g.H.Hasher.dig c.args.anchors.now p.way)) c.args.held.now c.link_until-until.result

@@ -19,8 +19,7 @@ returns-then-held-until g c =
     let least = c.opened-least.result.0 in
     let step = c.opened-least.result.1 in
     let lawful = opening-lawful least step (omega (arith, c.opened-least.ensures.least_few)) in
-    let P : Format Judgement → Type 0 = λ f. StaysFront f c.args.held.now c.opening_until-until.result in
-    (
+    let P : Format Judgement → Type 0 = λ f. StaysFront f c.args.held.now c.opening_until-until.result in (
       refl,
       subst P (λ k. then_by (opening_codec (c.opened-least.ensures.least k) (c.opened-least.ensures.step k)).format next)
           (stays-then (opening_codec least step).format next (λ word x s. opened-goes g.H.Hasher.dig c.args.anchors.now o x (opening-few least step x (lawful.words word x s).1)) c.args.held.now

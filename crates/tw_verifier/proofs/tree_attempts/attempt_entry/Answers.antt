@@ -9,7 +9,7 @@ use Rattle.tw_verifier.proofs.StageLaws.{entry-goes, entry-nothing, entry-within
 use Rattle.tw_verifier.proofs.tree_attempts.attempt_entry.Goals as goal
 
 pub asked_by-requires : goal.asked_by-requires
-asked_by-requires c = entry-within c.in-Ok.entry c.in-Ok.ensures.takes.1.0
+asked_by-requires c = entry-within c.in-Ok.entry c.in-Ok.ensures.takes.1
 
 pub returns-in-Ok : goal.returns-in-Ok
 returns-in-Ok c = λ dig anchors.

@@ -1,5 +1,4 @@
-use Rattle.std.proofs.Common.{ℕ, List, [], ◌∙◌, refl, sym, ap}
-use Rattle.tw_base.specs.declared.tree_proof.Ancestor.{Ancestor}
+use Rattle.std.proofs.Common.{ℕ, List, [], ◌∙◌, sym}
 use Rattle.tw_base.specs.declared.tree_proof.TreeProof.TheVariants.{Present}
 use Rattle.tw_base.proofs.SegmentLaws.{attempts-ended, attempts-missed}
 use Rattle.tw_verifier.specs.declared.stage.Stage.TheVariants.{Tree}
@@ -12,9 +11,9 @@ pub returns-in-Ok : goal.returns-in-Ok
 returns-in-Ok g c =
     attempts-ended (rest g.H.Hasher.dig c.args.anchors.now) present_head present-head-lawful
     (λ (t : ℕ × (List ℕ × List ℕ)). nodes_of g.H.Hasher.dig c.args.anchors.now (behind_tree g.H.Hasher.dig c.args.anchors.now c.args.asked) (Present t.1.0 t.1.1 []) t.0) present-head-nothing
-    (Tree c.args.asked) c.along_tree.result c.args.held.now c.take_present_head.new.at (c.in-Ok.more, (c.in-Ok.left, c.in-Ok.right))
+    (Tree c.args.asked) c.behind_labels.result c.args.held.now c.take_present_head.new.at c.in-Ok.head
     (c.requires ∙ present-flat (behind_tree g.H.Hasher.dig c.args.anchors.now c.args.asked))
-    (sym (c.along_tree.ensures ∙ ap (λ (up : List Ancestor). nodes_of g.H.Hasher.dig c.args.anchors.now (behind_tree g.H.Hasher.dig c.args.anchors.now c.args.asked) (Present c.in-Ok.left c.in-Ok.right up) c.in-Ok.more) c.new.ensures)) c.in-Ok.ensures.takes.0
+    (sym c.behind_labels.ensures) c.in-Ok.ensures.takes.0
 
 pub returns-in-Err : goal.returns-in-Err
 returns-in-Err g c =

@@ -1,11 +1,8 @@
-use Rattle.std.proofs.Common.{ℕ, List, ◌∙◌, refl, sym, ap}
+use Rattle.std.proofs.Common.{ℕ, refl, sym}
 use Rattle.tw_base.proofs.SegmentLaws.{attempts-ended, attempts-missed}
-use Rattle.tw_base.specs.Formats.{then_by}
-use Rattle.tw_skipproof.specs.declared.opening.Opening.{Opening}
-use Rattle.tw_skipproof.specs.declared.path.Link.{Link}
-use Rattle.tw_skipproof.specs.Codecs.{opening_codec, step_codec}
+use Rattle.tw_skipproof.specs.Codecs.{step_codec}
 use Rattle.tw_verifier.specs.declared.stage.Stage.TheVariants.{Tail}
-use Rattle.tw_verifier.specs.Stages.{behind_first, event_of, part_of, path_of, rest}
+use Rattle.tw_verifier.specs.Stages.{behind_first, event_of, part_of, rest}
 use Rattle.tw_verifier.proofs.StageLaws.{first-goes, step-lawful, step-nothing}
 use Rattle.tw_base.specs.declared.limits.TheConstants.{LAST_STEP}
 use Rattle.tw_verifier.proofs.tree_attempts.attempt_tail.Goals as goal
@@ -17,8 +14,7 @@ returns-in_ok-next-in-Ok g c =
     attempts-ended (rest g.H.Hasher.dig c.args.anchors.now) step_codec step-lawful
     (λ (step : ℕ). part_of 1 (event_of (behind_first g.H.Hasher.dig c.args.anchors.now chain)) chain.known.from step chain.known.step) (step-nothing 1 LAST_STEP) (Tail c.args.onward)
     c.in_ok-next-in-Ok.next c.args.held.now c.take_number.new.at step refl
-    (sym (c.in_ok-next-in-Ok.ensures ∙ ap (λ (ls : List Link). path_of ls chain.known.step step (λ links. then_by (opening_codec 1 step).format (λ (o : Opening).
-    event_of (behind_first g.H.Hasher.dig c.args.anchors.now chain) (record { service = chain.known.from; step = step; top = chain.known.step; path = record { links = links }; opening = o })))) c.new.ensures))
+    (sym c.in_ok-next-in-Ok.ensures)
     c.in-Ok.ensures.takes.0
 
 pub returns-in-Err : goal.returns-in-Err

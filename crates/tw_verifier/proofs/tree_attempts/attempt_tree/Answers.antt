@@ -7,4 +7,4 @@ pub returns-in-Absent : goal.returns-in-Absent
 returns-in-Absent g c = rw c.in-Absent.is c.attempt_gap.ensures
 
 pub returns-in-Hop : goal.returns-in-Hop
-returns-in-Hop g c = rw c.in-Hop.is c.attempt_present-2.ensures
+returns-in-Hop g c = rw c.in-Hop.is c.attempt_present-in-Hop.ensures
