@@ -84,12 +84,7 @@ pub fn take_opening(
 }
 
 /// Takes the record of the link that leaves the step.
-pub fn take_link(
-    alloc: Global,
-    bytes: &[u8],
-    at: &mut u64,
-    step: u64,
-) -> Result<Link, ReadFault>
+pub fn take_link(alloc: Global, bytes: &[u8], at: &mut u64, step: u64) -> Result<Link, ReadFault>
     requires within { at.old ≤ length bytes.now }
     requires step { step ≤ LAST_STEP }
     // The record of a link is taken at a place exactly as its codec reads it; else the place of the first bad byte is

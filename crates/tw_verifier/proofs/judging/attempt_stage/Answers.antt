@@ -1,3 +1,8 @@
+use Rattle.std.proofs.Common.{subst, sym}
+use Rattle.std.specs.Prelude.{Ok}
+use Rattle.tw_base.specs.Resuming.{Attempts}
+use Rattle.tw_verifier.specs.declared.stage.Stage.{Stage}
+use Rattle.tw_verifier.specs.Stages.{rest}
 use Rattle.tw_verifier.proofs.judging.attempt_stage.Goals as goal
 
 pub returns-in-Begun : goal.returns-in-Begun
@@ -40,4 +45,6 @@ pub returns-in-Tail : goal.returns-in-Tail
 returns-in-Tail g c = rw c.in-Tail.is c.attempt_tail.ensures
 
 pub returns-in-Done : goal.returns-in-Done
-returns-in-Done g c = rw c.in-Done.is (c.attempt_end.ensures g.H.Hasher.dig c.args.anchors.now)
+returns-in-Done g c =
+    let P : Stage → Type 0 = λ s. Attempts (rest g.H.Hasher.dig c.args.anchors.now) s c.args.held.now (Ok c.attempt_end.result) in
+    subst P (sym c.in-Done.is) (c.attempt_end.ensures g.H.Hasher.dig c.args.anchors.now)
