@@ -5,7 +5,7 @@ ghost use Rattle.tw_outside.specs.Files.{IsThere, IsFrontOfFile, IsReadTo};
 
 use crate::inputs::Inputs;
 use std::alloc::{AllocError, Global};
-use tw_base::Failed;
+use tw_base::{Failed, NoMemory};
 
 /// The size of a piece in bytes: one read asks for no more, and for none beyond the next multiple of it.
 pub const PIECE: usize = 4096;
@@ -37,6 +37,17 @@ impl From<AllocError> for InputFault {
     ghost from_gives = { λ _ fault. fault ≡ WantedMemory };
 
     fn from(_: AllocError) -> Self {
+        InputFault::NoMemory
+    }
+}
+
+impl From<NoMemory> for InputFault {
+    ghost use Rattle.std.specs.Prelude.{◌≡◌};
+    ghost use Rattle.tw_outside.specs.declared.reading.InputFault.TheVariants.{NoMemory as WantedMemory};
+
+    ghost from_gives = { λ _ fault. fault ≡ WantedMemory };
+
+    fn from(_: NoMemory) -> Self {
         InputFault::NoMemory
     }
 }
