@@ -1,7 +1,6 @@
 -- Bytes that come in pieces: what stands behind what was taken, and a chain of segments.
 use Rattle.std.proofs.Common.{◌≡◌, ℕ, ◌+◌, ◌-◌, ◌<◌, ◌≤◌, List, [], ◌∷◌, ◌++◌, length, take, drop, get_or, ap, sym, ◌∙◌, subst, arith, append_assoc, inl, inr, refl}
 use Rattle.std.specs.Prelude.{Result, Ok, Err}
-use Rattle.std.specs.Borrow.{Bor}
 use Rattle.std.proofs.lemmas.Bool.{cases_lt}
 use Rattle.std.proofs.lemmas.List.{append-nil, take_more, length-append, length-drop, length-take-le, take_all, take-append-drop, take-append-le}
 use Rattle.std.proofs.Math.Seq.{take-add, take-append-add}
@@ -11,7 +10,7 @@ use Rattle.tw_base.specs.declared.resumed.Resumed.{Resumed}
 use Rattle.tw_base.specs.Bytes.{AreBytes}
 use Rattle.tw_base.specs.Formats.{Format, GoesOn, IsFront, IsPlace, ReadsAs, Spells, SpellsNothing, then_by}
 use Rattle.tw_base.specs.Formats.Format.{Done, Byte}
-use Rattle.tw_base.specs.Resuming.{Goes, all_of, IsSoFar, StandsBehind, StaysFront}
+use Rattle.tw_base.specs.Resuming.{Goes, IsSoFar, StandsBehind, StaysFront}
 use Rattle.tw_base.proofs.ByteLemmas.{AreBytes-append}
 use Rattle.tw_base.proofs.FormatLaws.{some_word, spells_then}
 
@@ -246,29 +245,3 @@ module _ {S X : Type 0} (rest : S → Format X) (whole : Format X) where
     ends-whole x none spelled =
         let P : List ℕ → Type 0 = λ w. Spells whole w x in
         subst P (sym (s.are ∙ ap (λ w. s.taken ++ w) (nil r.held none))) (s.behind.back [] x spelled)
-
--- ---- all pieces
-
-all_of-append : (ps qs : List (Bor (List ℕ))) → all_of (ps ++ qs) ≡ all_of ps ++ all_of qs
-all_of-append [] qs = refl
-all_of-append (p ∷ ps) qs = ap (λ w. p.now ++ w) (all_of-append ps qs) ∙ sym (append_assoc p.now (all_of ps) (all_of qs))
-
-pub all_of-more : (ps : List (Bor (List ℕ))) (i : ℕ) (default : Bor (List ℕ)) → i < length ps → all_of (take (i + 1) ps) ≡ all_of (take i ps) ++ (get_or ps i default).now
-all_of-more ps i default l =
-    let p : Bor (List ℕ) = get_or ps i default in
-    ap all_of (take_more ps i default l) ∙ all_of-append (take i ps) (p ∷ []) ∙ ap (λ w. all_of (take i ps) ++ w) (append-nil p.now)
-
-pub all_of-parts : (ps : List (Bor (List ℕ))) (i : ℕ) → all_of ps ≡ all_of (take i ps) ++ all_of (drop i ps)
-all_of-parts ps i = ap all_of (sym (take-append-drop i ps)) ∙ all_of-append (take i ps) (drop i ps)
-
-module _ {S X : Type 0} (rest : S → Format X) (whole : Format X) where
-  -- what was held and taken is as long as the pieces
-  pub so_far-size : (r : Resumed S) (pieces : List ℕ) → IsSoFar rest whole r pieces → r.taken + length r.held ≡ length pieces
-  so_far-size r pieces s = omega (arith, s.count, ap length s.are, length-append s.taken r.held)
-
-  -- what broke within the first pieces is what reading all of them answers
-  pub breaks-all : (ps : List (Bor (List ℕ))) (i : ℕ) (bytes : List ℕ) (fault : ReadFault) → bytes ≡ all_of (take i ps) → Goes rest whole bytes (Err fault) → ReadsAs {X = X} {Y = X} (λ x. x) whole (all_of ps) (Err fault)
-  breaks-all ps i bytes (Malformed place) e is =
-      let P : List ℕ → Type 0 = λ w. SpellsNothing whole w × IsPlace whole w place in
-      subst P (sym (all_of-parts ps i ∙ ap (λ w. w ++ all_of (drop i ps)) (sym e))) (broken-more whole bytes (all_of (drop i ps)) place is.1 is.0)
-  breaks-all ps i bytes NoMemory e is = tt

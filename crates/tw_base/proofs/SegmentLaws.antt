@@ -1,23 +1,25 @@
 -- What a reader of one codec finds in the bytes that are held of a segment, and chains of fields as chains of segments.
 use Rattle.std.proofs.Common.{◌≡◌, ℕ, suc, zero, ◌+◌, ◌-◌, ◌*◌, ◌<◌, ◌≤◌, List, [], ◌∷◌, ◌++◌, length, replicate, take, drop, ap, sym, ◌∙◌, subst, append_assoc, arith, lit<, refl, inl, inr}
-use Rattle.std.specs.Prelude.{Result, Ok, Err}
+use Rattle.std.specs.Prelude.{Bool, true, false, Option, Some, None, Result, Ok, Err}
 use Rattle.std.proofs.lemmas.List.{append-nil, length-append, length-drop, length-replicate, length-take-le, take-append-drop, take_all, take_at}
 use Rattle.std.proofs.lemmas.Bool.{cases_lt}
 use Rattle.tw_base.specs.declared.failure.NoMemory.{NoMemory as WantOfMemory}
 use Rattle.tw_base.specs.declared.failure.ReadFault.{ReadFault}
 use Rattle.tw_base.specs.declared.failure.ReadFault.TheVariants.{Malformed, NoMemory}
 use Rattle.tw_base.specs.declared.resuming.Attempt.{Attempt}
+use Rattle.tw_base.specs.declared.resuming.Attempt.TheVariants.{Ended}
 use Rattle.tw_base.specs.Bytes.{AreBytes}
 use Rattle.tw_base.specs.Lists.{Each}
 use Rattle.tw_base.specs.Texts.{joined}
-use Rattle.tw_base.specs.Codecs.{Codec, HasBytes, each_format, pair}
+use Rattle.tw_base.specs.Codecs.{Codec, HasBytes, behind, by_kind, each_format, many, nothing, optional, pair, present, seen, text_codec, variant}
+use Rattle.tw_base.specs.Fields.{repeated, text}
 use Rattle.tw_base.specs.Formats.{Format, GoesOn, IsFront, IsPlace, Spells, SpellsNothing, read_at, then_by, ◌>>=◌}
 use Rattle.tw_base.specs.Formats.Format.{Done, Byte}
 use Rattle.tw_base.specs.Resuming.{Attempts, Misses, StandsBehind, StaysFront}
 use Rattle.tw_base.specs.Taking.{Takes}
 use Rattle.tw_base.proofs.CodecLaws.{Lawful, goes-then}
 use Rattle.tw_base.proofs.ByteLemmas.{AreBytes-append, AreBytes-drop, AreBytes-take}
-use Rattle.tw_base.proofs.FormatLaws.{read_at-spells, read_at-then, some_word, spells_then, then_spells, whole-stops}
+use Rattle.tw_base.proofs.FormatLaws.{no_longer_word, read_at-spells, read_at-then, some_word, spells_then, then_spells, whole-stops}
 use Rattle.tw_base.proofs.PieceLaws.{behind-first, behind-front, behind-spells_nothing}
 
 module _ {X Z : Type 0} (c : Codec X) (l : Lawful c) (next : X → Format Z) where
@@ -62,6 +64,25 @@ module _ {X Z : Type 0} (c : Codec X) (l : Lawful c) (next : X → Format Z) whe
       let parts = then_spells c.format next [] z s in
       let written = l.words parts.0 parts.2 parts.4 in
       absurd (omega (arith, some parts.2 written.1, ap length written.0, ap length parts.3, length-append parts.0 parts.1))
+
+-- a value has a byte or more where no bytes are no word
+module _ {X : Type 0} (c : Codec X) (l : Lawful c) (nothing : SpellsNothing c.format []) where
+  pub some-bytes : (x : X) → c.Fits x → 0 < length (c.write x)
+  some-bytes x fits = by (c.write x) (l.spells x fits)
+    where
+      by : (word : List ℕ) → Spells c.format word x → 0 < length word
+      by [] s = absurd (nothing x s)
+      by (b ∷ word) s = omega arith
+
+-- a segment that has a byte or more ended
+module _ {S X Z : Type 0} (rest : S → Format Z) (c : Codec X) (l : Lawful c) (next : X → Format Z) (nothing : SpellsNothing c.format []) where
+  pub attempts-ended : (s n : S) (held : List ℕ) (after : ℕ) (x : X) → rest s ≡ then_by c.format next → next x ≡ rest n
+      → c.read held 0 ≡ Ok (record { value = x; after = after }) → Attempts rest s held (Ok (Ended n after))
+  attempts-ended s n held after x is onward e =
+      let found = segment-ended c l next (some-bytes c l nothing) held after x e in
+      let P : Format Z → Type 0 = λ f. StandsBehind f (take after held) (rest n) in
+      let Q : Format Z → Type 0 = λ f. StandsBehind (then_by c.format next) (take after held) f in
+      (found.0, found.1, subst P (sym is) (subst Q onward found.2))
 
 -- a reader of the segment at hand failed
 module _ {S X Y Z : Type 0} (rest : S → Format Z) (c : Codec X) (l : Lawful c) (next : X → Format Z) (goes : (x : X) → c.Fits x → GoesOn (next x)) (view : Y → X) where
@@ -110,6 +131,33 @@ module _ {X Z : Type 0} (f : Format X) (next : X → Format Z) (n : ℕ) (t : Ta
       elim (cases_lt 0 (length more)) [ inl some ↦ short some | inr none ↦ omega (arith, few, none, length-append held more) ] in
       (any-front (held ++ more) (AreBytes-append held more are bytes) (omega (arith, all)), λ some. any-nothing (held ++ more) all)
 
+-- until it ends, a field that stays a front does so whatever follows it
+module _ {X Z : Type 0} (f : Format X) (next : X → Format Z) (goes : (x : X) → GoesOn (next x)) where
+  front-then : (word : List ℕ) → IsFront f word → IsFront (then_by f next) word
+  front-then word front =
+      let last = some_word (next front.1) (goes front.1) in
+      let P : List ℕ → Type 0 = λ w. Spells (then_by f next) w last.1 in
+      (front.0 ++ last.0, last.1, subst P (append_assoc word front.0 last.0) (spells_then f next (word ++ front.0) last.0 front.1 last.1 front.2 last.2))
+
+  nothing-then : (word : List ℕ) → IsFront f word → SpellsNothing f word → SpellsNothing (then_by f next) word
+  nothing-then word front nothing z s =
+      let parts = then_spells f next word z s in
+      let P : List ℕ → Type 0 = λ w. Spells f w front.1 in
+      let whole : Spells f (parts.0 ++ (parts.1 ++ front.0)) front.1 =
+      subst P (ap (λ w. w ++ front.0) parts.3 ∙ append_assoc parts.0 parts.1 front.0) front.2 in
+      let none : length (parts.1 ++ front.0) ≡ 0 = ap length (no_longer_word f parts.0 (parts.1 ++ front.0) parts.2 front.1 parts.4 whole) in
+      let Q : List ℕ → Type 0 = λ w. Spells f w parts.2 in
+      nothing parts.2 (subst Q (sym (parts.3 ∙ ap (λ w. parts.0 ++ w) (nil parts.1 (omega (arith, none, length-append parts.1 front.0))) ∙ append-nil parts.0)) parts.4)
+    where
+      nil : (xs : List ℕ) → length xs ≡ 0 → xs ≡ []
+      nil [] e = refl
+      nil (x ∷ xs) e = absurd (omega (arith, e))
+
+  pub stays-then : (held : List ℕ) (until : ℕ) → StaysFront f held until → StaysFront (then_by f next) held until
+  stays-then held until s more are short =
+      let found = s more are short in
+      (front-then (held ++ more) found.0, λ some. nothing-then (held ++ more) found.0 (found.1 some))
+
 -- behind bytes that were taken stand bytes that stay a front
 pub stays-behind : {X : Type 0} (whole rest : Format X) (held : List ℕ) (after until : ℕ) → after ≤ length held → StandsBehind whole (take after held) rest → SpellsNothing rest []
     → StaysFront rest (drop after held) until → StaysFront whole held (after + until)
@@ -125,6 +173,18 @@ stays-behind whole rest held after until within b nothing s more are short =
     none : (w : List ℕ) → (0 < length w → SpellsNothing rest w) → SpellsNothing rest w
     none [] h = nothing
     none (b ∷ w) h = h (omega arith)
+
+-- a field that tells how many bytes of any kind follow it was taken: until they are there, the bytes are a front
+module _ {X Y Z : Type 0} (c : Codec X) (l : Lawful c) (nothing : SpellsNothing c.format []) (f : X → Format Y) (n : X → ℕ) (t : (x : X) → TakesAny (f x) (n x)) (next : X → Y → Format Z)
+    (goes : (x : X) (y : Y) → GoesOn (next x y)) where
+  pub sized-stays : (held : List ℕ) (after : ℕ) (x : X) → AreBytes held → c.read held 0 ≡ Ok (record { value = x; after = after }) → length held < after + n x
+      → StaysFront (then_by c.format (λ x. then_by (f x) (next x))) held (after + n x)
+  sized-stays held after x are e short =
+      let found = segment-ended c l (λ x. then_by (f x) (next x)) (some-bytes c l nothing) held after x e in
+      let left : length (drop after held) < n x = omega (arith, short, length-drop after held, found.1) in
+      stays-behind (then_by c.format (λ x. then_by (f x) (next x))) (then_by (f x) (next x)) held after (n x) found.1 found.2
+      (any-nothing (f x) (next x) (n x) (t x) (goes x) [] (omega (arith, left)))
+      (any-stays (f x) (next x) (n x) (t x) (goes x) (drop after held) (AreBytes-drop after held are) left)
 
 -- ---- lists of digests
 
@@ -153,6 +213,43 @@ module _ {X Y Z : Type 0} where
   then_pair c next h =
       then_assoc c.format (λ x. then_by (next x).format (λ y. Done (x, y))) h
       ∙ (λ k. then_by c.format (λ x. then_assoc (next x).format (λ y. Done (x, y)) h k))
+
+module _ {X Y Z : Type 0} where
+  pub then_seen : (to : X → Y) (from : Y → X) (c : Codec X) (h : Y → Format Z) → then_by (seen to from c).format h ≡ then_by c.format (λ x. h (to x))
+  unfolding seen
+  then_seen to from c h = then_assoc c.format (λ x. Done (to x)) h
+
+  pub then_variant : (to : X → Y) (fields : Y → Option X) (c : Codec X) (h : Y → Format Z) → then_by (variant to fields c).format h ≡ then_by c.format (λ x. h (to x))
+  unfolding variant
+  then_variant to fields c h = then_assoc c.format (λ x. Done (to x)) h
+
+  pub then_kind : (kind_of : Y → X) (c : Codec X) (next : X → Codec Y) (h : Y → Format Z) → then_by (by_kind kind_of c next).format h ≡ then_by c.format (λ x. then_by (next x).format h)
+  unfolding by_kind
+  then_kind kind_of c next h = then_assoc c.format (λ x. (next x).format) h
+
+module _ {X Z : Type 0} where
+  pub then_behind : (magic : List ℕ) (c : Codec X) (h : X → Format Z) → then_by (behind magic c).format h ≡ then_by (text_codec magic).format (λ t. then_by c.format h)
+  unfolding behind text_codec
+  then_behind magic c h = then_assoc (text magic) (λ t. c.format) h
+
+  pub then_present : (c : Codec X) (h : Option X → Format Z) → then_by (optional true c).format h ≡ then_by c.format (λ x. h (Some x))
+  unfolding present
+  then_present c h = then_assoc c.format (λ x. Done (Some x)) h
+
+  pub then_absent : (c : Codec X) (h : Option X → Format Z) → then_by (optional false c).format h ≡ h None
+  unfolding nothing
+  then_absent c h = refl
+
+  pub then_many : (n : ℕ) (c : Codec X) (h : List X → Format Z)
+      → then_by (many (suc n) c).format h ≡ then_by c.format (λ x. then_by (many n c).format (λ xs. h (x ∷ xs)))
+  unfolding many repeated
+  then_many n c h =
+      then_assoc c.format (λ x. then_by (repeated n c.format) (λ xs. Done (x ∷ xs))) h
+      ∙ (λ k. then_by c.format (λ x. then_assoc (repeated n c.format) (λ xs. Done (x ∷ xs)) h k))
+
+  pub then_none : (c : Codec X) (h : List X → Format Z) → then_by (many 0 c).format h ≡ h []
+  unfolding many repeated
+  then_none c h = refl
 
 module _ {A X Z : Type 0} (write : X → List ℕ) (f : A → Codec X) where
   pub then_each : (a : A) (rest : List A) (h : List X → Format Z)

@@ -1,5 +1,4 @@
 -- Reading in pieces: what stands behind the bytes that were taken, and what a reader holds of a word that came so far.
-use Rattle.std.specs.Borrow.{Bor}
 use Rattle.std.specs.Prelude.{◌≡◌, ℕ, ◌<◌, ◌≤◌, List, [], ◌∷◌, ◌++◌, length, take, Option, Some, None, Result, Ok, Err}
 use Rattle.tw_base.specs.declared.failure.NoMemory.{NoMemory as WantOfMemory}
 use Rattle.tw_base.specs.declared.failure.ReadFault.{ReadFault}
@@ -27,11 +26,6 @@ module _ {X : Type 0} where
   abbrev pub EndsAs : Format X → Option X → Type 0
   EndsAs f (Some x) = Spells f [] x
   EndsAs f None = SpellsNothing f []
-
--- all bytes of the pieces, one piece after another
-abbrev pub all_of : List (Bor (List ℕ)) → List ℕ
-all_of [] = []
-all_of (piece ∷ pieces) = piece.now ++ all_of pieces
 
 module _ {S : Type 0} where
   -- reading what is held failed: it breaks before its end, or is a front

@@ -70,7 +70,7 @@ pub use path_sides::{path_length, sides_of};
 pub use received_thread::ReceivedThread;
 pub use report::{Claim, Hop, HopList, Reason, Report, Seen};
 pub use resumed::Resumed;
-pub use resuming::{Attempt, Segments, missed, read_pieces};
+pub use resuming::{Attempt, Segments, missed};
 pub use root::Root;
 pub use sequence::{Bytes, EventList, Sequence};
 pub use side::Side;

@@ -2,8 +2,8 @@
 // holds the bytes of the segment at hand alone.
 
 ghost use Rattle.std.specs.Prelude.{◌≡◌, ℕ, ◌+◌, ◌<◌, ◌≤◌, ◌^◌, List, [], ◌++◌, length, drop, IfOk};
-ghost use Rattle.tw_base.specs.Formats.{Format, ReadsAs};
-ghost use Rattle.tw_base.specs.Resuming.{Attempts, EndsAs, all_of, Goes, Misses, StandsBehind, StaysFront};
+ghost use Rattle.tw_base.specs.Formats.{Format};
+ghost use Rattle.tw_base.specs.Resuming.{Attempts, EndsAs, Goes, Misses, StandsBehind, StaysFront};
 
 use crate::failure::{NoMemory, ReadFault};
 use crate::resumed::Resumed;
@@ -35,25 +35,6 @@ pub trait Segments: Drop + Sized {
     /// The value, where nothing more follows.
     fn whole(self) -> Option<Self::Whole>
         ensures { EndsAs (rest self) result };
-}
-
-/// The value that the pieces spell, one after another. Malformed exactly where they spell none, with
-/// the place of the first byte at which no word goes on; no piece behind it is looked at. So the
-/// answer is that of reading all the bytes at once, wherever they are cut.
-pub fn read_pieces<S: Segments>(
-    alloc: Global,
-    state: S,
-    pieces: &[&[u8]],
-) -> Result<S::Whole, ReadFault>
-    requires { StaysFront (S.rest state) [] 0 }
-    // Bytes that come in pieces are read as all of them at once would be, wherever they are cut.
-    ensures { ReadsAs (λ x. x) (S.rest state) (all_of pieces.now) result }
-{
-    let mut reader = Resumed::begin(alloc, state);
-    for piece in pieces {
-        reader = reader.feed(alloc, piece)?;
-    }
-    reader.finish()
 }
 
 /// What was found where reading the bytes that are held of a segment failed.

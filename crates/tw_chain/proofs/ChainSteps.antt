@@ -2,7 +2,8 @@
 use Rattle.std.proofs.Common.{◌≡◌, ℕ, suc, zero, ◌+◌, List, [], ◌∷◌, ◌++◌, length, refl, sym, ap, ◌∙◌, append_assoc, arith}
 use Rattle.std.specs.Prelude.{Option, Some, None, reverse, if◌then◌else◌}
 use Rattle.std.specs.List.{flat_map}
-use Rattle.std.proofs.lemmas.List.{reverse-append}
+use Rattle.std.proofs.lemmas.List.{append-nil, reverse-append}
+use Rattle.std.proofs.Math.Nat.{add-zero}
 use Rattle.std.proofs.lemmas.Grind.{flat_map-append}
 use Rattle.tw_base.specs.declared.report.Claim.{Claim}
 use Rattle.tw_base.specs.declared.report.Hop.{Hop}
@@ -66,3 +67,16 @@ module _ (dig : List ℕ → List ℕ) (anchors : List Thread) where
         ∙ ap (λ hs. judgement claim (found_with dig anchors (found_with dig anchors c.found here) (behind_checks (with_hop dig anchors c hop more) hops tail)) hs (reverse (c.carried ++ flat_map carried_by (behind_checks c (hop ∷ hops) tail))))
         (hops-hop one (hops_to hop.entry.thread.from hops))
         ∙ ap (λ cs. judgement claim (found_with dig anchors (found_with dig anchors c.found here) (behind_checks (with_hop dig anchors c hop more) hops tail)) (hops_to hop.entry.thread.from hops ++ reverse (c.hops ++ one ∷ [])) (reverse cs)) carried-hop
+
+  module _ (c : Chain) (tail : Tail) where
+    abbrev ended : (found : Option Reason) (carried : List Thread) → Judgement
+    ended found carried = record {
+      found = found;
+      report = record { claim = (closed dig anchors c [] tail).report.claim; hops = reverse c.hops; carried = reverse carried };
+    }
+
+    -- with no hop to come it is the tail that is left
+    pub closed-ended : ended (found_with dig anchors c.found (tail_checks c.part c.known tail)) c.carried ≡ closed dig anchors c [] tail
+    closed-ended =
+        ap (λ (n : ℕ). ended (found_with dig anchors c.found (tail_checks n c.known tail)) c.carried) (sym (add-zero c.part))
+        ∙ ap (ended (found_with dig anchors c.found (tail_checks (c.part + 0) c.known tail))) (sym (append-nil c.carried))

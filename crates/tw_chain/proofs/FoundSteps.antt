@@ -69,3 +69,9 @@ module _ (dig : List ℕ → List ℕ) (anchors : List Thread) where
         ∙ ap (lower_of before) (sym (lower-none (if passes dig anchors path then None else Some (reason_of path))))
         ∙ rw some refl in
         here ∙ onto
+
+  -- three checks, one after another
+  pub found-three : (found one two : Option Reason) (a b c : Check) → one ≡ found_with dig anchors found (a ∷ []) → two ≡ found_with dig anchors one (b ∷ [])
+      → found_with dig anchors two (c ∷ []) ≡ found_with dig anchors found (a ∷ b ∷ c ∷ [])
+  found-three found one two a b c first second =
+      found-onto found two (a ∷ b ∷ []) (c ∷ []) (second ∙ found-onto found one (a ∷ []) (b ∷ []) first)

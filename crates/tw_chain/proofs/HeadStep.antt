@@ -18,11 +18,11 @@ use Rattle.tw_chain.specs.declared.judgement.Judgement.{Judgement}
 use Rattle.tw_chain.specs.Accepting.{claim_of, hops_to}
 use Rattle.tw_chain.proofs.ChainSteps.{found-append}
 
-carried-opening : (part : ℕ) (t : Thread) (o : Option Opening) → flat_map carried_by (opening_checks part t o) ≡ []
+pub carried-opening : (part : ℕ) (t : Thread) (o : Option Opening) → flat_map carried_by (opening_checks part t o) ≡ []
 carried-opening part t None = refl
 carried-opening part t (Some o) = refl
 
-carried-head : (p : PrecedenceProof) (more : List Check) → flat_map carried_by (head_checks p ++ more) ≡ flat_map carried_by more
+pub carried-head : (p : PrecedenceProof) (more : List Check) → flat_map carried_by (head_checks p ++ more) ≡ flat_map carried_by more
 carried-head p more =
     flat_map-append carried_by (head_checks p) more
     ∙ ap (λ r. r ++ flat_map carried_by more) (carried-opening 0 (record { from = p.head.service; step = p.head.step - 1; auth = p.head.opening.prev }) p.before)

@@ -4,11 +4,14 @@ use Rattle.std.proofs.lemmas.List.{append-nil}
 use Rattle.tw_base.specs.declared.thread.Thread.{Thread}
 use Rattle.tw_base.specs.Formats.{Format, IsFront, IsPlace, Spells, SpellsNothing, then_by}
 use Rattle.tw_base.specs.Formats.Format.{Done}
-use Rattle.tw_base.proofs.FormatLaws.{spells_then, then_spells}
+use Rattle.tw_base.specs.Resuming.{StaysFront}
+use Rattle.tw_base.proofs.FormatLaws.{goes_on-then, spells_then, then_spells}
+use Rattle.tw_base.proofs.PieceLaws.{starts}
 use Rattle.tw_chain.specs.declared.judgement.Judgement.{Judgement}
 use Rattle.tw_chain.specs.declared.proof.Proof.{Proof}
 use Rattle.tw_chain.specs.Judgements.{judged_layout, judgement_of}
 use Rattle.tw_chain.specs.Proofs.{proof_layout}
+use Rattle.tw_chain.proofs.ProofCodec.{proof-lawful}
 
 -- ---- any format, and its words with a value of each one's value
 
@@ -76,3 +79,8 @@ module _ (dig : List ℕ → List ℕ) (anchors : List Thread) (bytes : List ℕ
   pub judged-place : (place : ℕ) → IsPlace (judged_layout dig anchors) bytes place → IsPlace proof_layout bytes place
   unfolding judged_layout
   judged-place place is = viewed-place proof_layout (judgement_of dig anchors) bytes place is
+
+-- no bytes are a front of a word
+pub judged-starts : (dig : List ℕ → List ℕ) (anchors : List Thread) → StaysFront (judged_layout dig anchors) [] 0
+unfolding judged_layout
+judged-starts dig anchors = starts (judged_layout dig anchors) (goes_on-then proof_layout (λ p. Done (judgement_of dig anchors p)) proof-lawful.goes (λ p. tt))

@@ -10,9 +10,13 @@ pub mod HeadStep
 pub mod PassesLaws
 pub mod Lowest
 pub mod JudgedFronts
+pub mod CarriedCounts
 pub mod Verdicts
 pub mod ProofCodec
+pub mod StageForms
+pub mod StageLaws
 pub mod FoundSteps
+pub mod NoRoot
 pub mod ChainShapes
 pub mod ProofSizes
 pub mod Completeness

@@ -30,7 +30,7 @@ thread-lawful =
     lawful-seen _ _ _ (λ t. refl) (λ p. refl) (lawful-pair (part_codec 0) (λ at. pair entry_codec (λ entry. present_codec)) (part-lawful 0 (lit≤ tt))
     (λ _ _. lawful-pair entry_codec (λ entry. present_codec) entry-lawful (λ _ _. present-lawful)))
 
-key-lawful : Lawful key_codec
+pub key-lawful : Lawful key_codec
 unfolding key_codec
 key-lawful = search lawful depth 20
 

@@ -1,5 +1,5 @@
 -- The verdict on bytes, from the judgement of the proof that they spell, or the place where they spell none.
-use Rattle.std.proofs.Common.{◌≡◌, ◌≢◌, ◌⊎◌, ℕ, ◌<◌, ◌≤◌, List, [], ◌∷◌, length, refl, sym, ap, ◌∙◌, subst, arith, inl, inr}
+use Rattle.std.proofs.Common.{◌≡◌, ◌≢◌, ◌⊎◌, ℕ, ◌<◌, ◌≤◌, ◌^◌, List, [], ◌∷◌, length, refl, sym, ap, ◌∙◌, subst, arith, inl, inr}
 use Rattle.std.specs.Prelude.{Bool, true, false, Option, Some, None, ◌&&◌, nat_lt, reverse, if◌then◌else◌}
 use Rattle.std.specs.Option.{option_map_or}
 use Rattle.std.proofs.lemmas.Bool.{and_parts, ltb-false, ltb-true}
@@ -11,16 +11,19 @@ use Rattle.tw_base.specs.declared.report.Report.{Report}
 use Rattle.tw_base.specs.Formats.{Format, IsPlace, Spells, SpellsNothing}
 use Rattle.tw_base.specs.Reasons.{IsNoHigher}
 use Rattle.tw_base.proofs.FormatLaws.{one_value}
+use Rattle.tw_chain.specs.declared.judgement.Judgement.{Judgement}
 use Rattle.tw_chain.specs.declared.proof.Proof.{Proof}
 use Rattle.tw_chain.specs.declared.verdict.Verdict.{Verdict}
 use Rattle.tw_chain.specs.declared.verdict.Verdict.TheVariants.{Yes, No}
 use Rattle.tw_chain.specs.Accepting.{IsAccepted, carried, report_of}
 use Rattle.tw_chain.specs.Checks.{Check, checks}
 use Rattle.tw_chain.specs.Checks.Check.{InOrder, NeedsAnchor, CarriesThread, PathOf, LinkOf, OpeningOf, EventOf, AnswerOf}
-use Rattle.tw_chain.specs.Judgements.{found_in, judgement_of, unfound, verdict_of}
+use Rattle.tw_chain.specs.Judgements.{found_in, judged_layout, judgement_of, unfound, verdict_of}
 use Rattle.tw_chain.specs.Passing.{Passes, reason_of}
 use Rattle.tw_chain.specs.Proofs.{proof_layout}
 use Rattle.tw_chain.specs.Reasons.{Fails, IsLowest, IsVerdict, Stands, StandsAgainst}
+use Rattle.tw_chain.proofs.CarriedCounts.{few-carried}
+use Rattle.tw_chain.proofs.JudgedFronts.{judged-word}
 use Rattle.tw_chain.proofs.Lowest.{IsLeast, first-fails, found-lowest, found-none, no_higher-self, passing-fails}
 
 one_place : (f : Format Proof) (bytes : List ℕ) (one other : ℕ) → IsPlace f bytes one → IsPlace f bytes other → one ≡ other
@@ -189,3 +192,12 @@ module _ (dig : List ℕ → List ℕ) (anchors : List Thread) (strict : Bool) w
             | Some reason ↦ λ some. found_some reason some
           ]
           in cases (found_in dig anchors (checks p)) refl
+
+    -- so is the verdict of the judgement that the bytes spell, which a count of the carried threads in one byte tells
+    pub judged-verdict : (j : Judgement) (verdict : Verdict) → Spells (judged_layout dig anchors) bytes j → (length j.report.carried < 2 ^ 8 → verdict ≡ verdict_of strict j)
+        → IsVerdict dig anchors strict bytes verdict
+    judged-verdict j verdict spelled is =
+        let word = judged-word dig anchors bytes j spelled in
+        let few : length j.report.carried < 2 ^ 8 =
+        subst (λ (k : Judgement). length k.report.carried < 2 ^ 8) word.2 (omega (arith, few-carried bytes word.0 word.1, length-reverse (carried word.0))) in
+        subst (IsVerdict dig anchors strict bytes) (sym (is few ∙ ap (verdict_of strict) (sym word.2))) (judgement-verdict word.0 word.1)

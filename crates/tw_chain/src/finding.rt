@@ -2,6 +2,7 @@
 
 ghost use Rattle.std.specs.Prelude.{◌≡◌, ℕ, ◌≤◌, List, [], ◌∷◌, length, Some, None, if◌then◌else◌};
 ghost use Rattle.tw_base.specs.declared.limits.TheConstants.{LAST_STEP, MOST_EVENTS, MOST_EVENT_BYTES};
+ghost use Rattle.tw_base.specs.declared.report.Reason.TheVariants.{BadTree};
 ghost use Rattle.tw_base.specs.declared.thread.Thread.{Thread as Anchor};
 ghost use Rattle.tw_chain.specs.Chaining.{found_with};
 ghost use Rattle.tw_chain.specs.Checks.{link_checks, opening_checks, under_anchor as under_anchor_of};
@@ -163,4 +164,12 @@ pub(crate) fn with_answer<H: Hasher>(
         found,
         Reason::BadTree { part },
     )
+}
+
+/// What is found with the check that a tree proof gives an answer where no root is known, which never
+/// passes.
+pub(crate) fn without_answer(found: Option<Reason>, part: u8) -> Option<Reason>
+    ensures { result ≡ lower_of found (Some (BadTree part)) }
+{
+    lower(found, Reason::BadTree { part })
 }

@@ -11,6 +11,5 @@ pub mod GreedySteps
 pub mod CountWords
 pub mod LawfulCodecs
 pub mod Shapes
-pub mod PieceCodecs
-pub mod TailCodecs
+pub mod Waits
 pub mod WideIndex

@@ -9,10 +9,8 @@ mod laws;
 mod least;
 mod opening;
 mod path;
-mod piece_reading;
 mod reading;
-mod so_far;
-mod tail_waiting;
+mod waiting;
 mod writing;
 
 pub use climbing::climb;
@@ -25,9 +23,6 @@ pub use laws::{making_laws, spelling_laws};
 pub use least::{LEAST_AUTHENTICATOR, LEAST_EXISTENCE};
 pub use opening::{Opening, check_opening};
 pub use path::{Link, LinkList, Path};
-pub use piece_reading::read_existence_pieces;
-pub use reading::{read_opening, read_path, take_opening, take_path};
-pub use so_far::{ExistenceSoFar, Middle};
-pub use writing::{
-    put_event, put_opening, put_part, put_path, write_existence, write_opening, write_path,
-};
+pub use reading::{next_step, read_opening, read_path, take_link, take_opening, take_path};
+pub use waiting::{event_until, link_until, opening_until};
+pub use writing::{put_event, put_opening, put_part, put_path, write_existence, write_opening, write_path};

@@ -84,7 +84,7 @@ pub fn take_opening(
 }
 
 /// Takes the record of the link that leaves the step.
-pub(crate) fn take_link(
+pub fn take_link(
     alloc: Global,
     bytes: &[u8],
     at: &mut u64,
@@ -92,6 +92,8 @@ pub(crate) fn take_link(
 ) -> Result<Link, ReadFault>
     requires within { at.old ≤ length bytes.now }
     requires step { step ≤ LAST_STEP }
+    // The record of a link is taken at a place exactly as its codec reads it; else the place of the first bad byte is
+    // told.
     ensures { Takes (link_codec step) (λ l. l) bytes.now at.old at.new result }
 {
     let datum = take_digest(bytes, at)?;
@@ -100,9 +102,10 @@ pub(crate) fn take_link(
 }
 
 /// The step that the greedy path's next link leads to.
-pub(crate) fn next_step(from: u64, to: u64) -> u64
+pub fn next_step(from: u64, to: u64) -> u64
     requires below { to < from }
     requires step { from ≤ LAST_STEP }
+    // The next step of a path is that of the greedy rule.
     ensures value { result ≡ hop from to }
     ensures less { result < from }
 {

@@ -15,7 +15,7 @@ pub use checking::check;
 pub use laws::{tree_proof_laws, tree_proof_spelling_laws};
 pub use limits::{MOST_ABOVE_ENTRY, MOST_ABOVE_PLACE};
 pub use making::{ProveFault, prove};
-pub use reading::{take_gap, take_present};
+pub use reading::{take_ancestor, take_gap, take_present};
 pub use shown::Shown;
 pub use tw_base::{Ancestor, AncestorList, Ask, TreeProof};
 pub use writing::put_tree_proof;

@@ -13,9 +13,10 @@ use tw_base::{
     Ancestor, AncestorList, Digest, ReadFault, TreeProof, take_digest, take_entry, take_number,
 };
 
-/// Takes a node above the asked place.
-fn take_ancestor(bytes: &[u8], at: &mut u64) -> Result<Ancestor, ReadFault>
+/// Takes a node above the asked place, 96 bytes.
+pub fn take_ancestor(bytes: &[u8], at: &mut u64) -> Result<Ancestor, ReadFault>
     requires { at.old ≤ length bytes.now }
+    // A node is taken at a place exactly as its codec reads it; else the place of the first bad byte is told.
     ensures { Takes ancestor_codec (λ a. a) bytes.now at.old at.new result }
 {
     let entry = take_entry(bytes, at)?;
