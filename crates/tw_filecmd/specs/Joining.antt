@@ -1,5 +1,5 @@
 -- `join`: which proofs the files of the parts hold, and what joining them comes to.
-use Rattle.std.specs.Prelude.{◌≡◌, ◌⊎◌, ℕ, List, [], ◌∷◌, Option, Result, Ok, Err}
+use Rattle.std.specs.Prelude.{◌≡◌, ◌≢◌, ◌⊎◌, ℕ, List, [], ◌∷◌, Option, Result, Ok, Err}
 use Rattle.tw_base.specs.Faults.{Rose}
 use Rattle.tw_base.specs.Formats.{IsPlace, Spells, SpellsNothing}
 use Rattle.tw_base.specs.Lists.{Each}
@@ -48,6 +48,6 @@ JoinComes a files (Ok (Whole bytes)) =
     (parts : List Proof) × AreProofsOf a.told files parts × ((p : Proof) × Joins parts (Ok p) × Spells proof_layout bytes p)
 JoinComes a files (Ok (Unfit place)) = (parts : List Proof) × AreProofsOf a.told files parts × Joins parts (Err (Gap place))
 JoinComes a files (Err (Unreadable (BadByte named place))) = HasBadPart a.told files named place
-JoinComes a files (Err InputFault) = Rose a.before a.after
+JoinComes a files (Err InputFault) = (files ≢ []) × Rose a.before a.after
 JoinComes a files (Err NoMemory) = Unit {0}
 JoinComes a files _ = ⊥

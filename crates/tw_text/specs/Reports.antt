@@ -92,3 +92,9 @@ reason_fields (Carried count) = Number count ∷ []
 -- why a proof is not accepted
 abbrev pub rejected_text : Reason → List ℕ
 rejected_text reason = line (codes "rejected") (Number (reason_number reason) ∷ Word (reason_name reason) ∷ reason_fields reason)
+
+-- ---- proofs that don't join
+
+-- the number of the part that doesn't fit, or is missing behind all
+abbrev pub gap_text : (place : ℕ) → List ℕ
+gap_text place = line (codes "rejected") (Word (codes "Gap") ∷ Number place ∷ [])

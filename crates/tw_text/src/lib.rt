@@ -26,5 +26,5 @@ pub use line::{print_line, print_usage};
 pub use number::{read_digest, read_number};
 pub use path::FilePath;
 pub use refusal::{BadInput, Refusal, StoreCause};
-pub use report::{print_rejected, print_report};
+pub use report::{print_gap, print_rejected, print_report};
 pub use words::{WordFault, read_words};

@@ -4,7 +4,7 @@ ghost use Rattle.std.specs.Prelude.{◌≡◌, [], ◌∷◌, ◌++◌, OnOk, If
 ghost use Rattle.tw_text.specs.Lines.{fields_text};
 ghost use Rattle.tw_text.specs.declared.field.Field.TheVariants.{Hex, Named, Number};
 ghost use Rattle.std.specs.List.{flat_map};
-ghost use Rattle.tw_text.specs.Reports.{absent_line, carried_line, claim_text, event_line, event_lines, hop_line, link_line, reason_fields, report_text, rejected_text, thread_line, time_line};
+ghost use Rattle.tw_text.specs.Reports.{absent_line, carried_line, claim_text, event_line, event_lines, gap_text, hop_line, link_line, reason_fields, report_text, rejected_text, thread_line, time_line};
 ghost use Rattle.tw_base.specs.Reasons.{reason_number as reason_number_of};
 ghost use Rattle.tw_text.specs.Reports.{reason_name as reason_name_of};
 
@@ -39,6 +39,20 @@ pub fn print_rejected(alloc: Global, reason: &Reason) -> Result<Bytes, NoMemory>
     put_number(&mut text, reason_number(reason))?;
     put_word(&mut text, reason_name(reason).as_bytes())?;
     put_reason_fields(&mut text, reason)?;
+    text.extend_from_slice(b"\n")?;
+    Ok(text)
+}
+
+/// The line of proofs that don't join: `rejected Gap` and the number of the first part that doesn't fit,
+/// or is missing behind all.
+pub fn print_gap(alloc: Global, place: u64) -> Result<Bytes, NoMemory>
+    // The line of a part that doesn't fit is exactly the text of the definitions.
+    ensures { IfOk result (λ text. text ≡ gap_text place) }
+{
+    let mut text = Bytes::new(alloc);
+    text.extend_from_slice(b"rejected")?;
+    put_word(&mut text, b"Gap")?;
+    put_number(&mut text, place)?;
     text.extend_from_slice(b"\n")?;
     Ok(text)
 }
