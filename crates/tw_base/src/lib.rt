@@ -81,4 +81,6 @@ pub use taking::{
 pub use thread::{Entries, Entry, Key, Place, Thread, Threads, compare_keys, entry_key, is_below};
 pub use time::{put_time, take_time};
 pub use tree_proof::{Ancestor, AncestorList, Ask, TreeProof};
-pub use writers::{put_bytes, put_digest, put_labels, put_name, put_number, put_sized, put_text};
+pub use writers::{
+    put_bytes, put_digest, put_labels, put_last_bytes, put_name, put_number, put_sized, put_text,
+};

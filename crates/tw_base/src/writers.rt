@@ -2,8 +2,9 @@
 // Numbers are big-endian. After want of memory nothing was appended, but by `put_labels`.
 #![tactic(auto, unfolding(crate::specs::Codecs::by_kind, crate::specs::Codecs::bytes_codec, crate::specs::Codecs::labels_codec, crate::specs::Codecs::name_codec, crate::specs::Codecs::number_codec, crate::specs::Codecs::sized_codec, crate::specs::Codecs::text_codec))]
 
-ghost use Rattle.std.specs.Prelude.{◌≡◌, ℕ, ◌-◌, ◌^◌, ◌<◌, ◌≤◌, ◌++◌, length, take, OnErr};
+ghost use Rattle.std.specs.Prelude.{◌≡◌, ℕ, ◌-◌, ◌^◌, ◌<◌, ◌≤◌, ◌++◌, length, take, OnErr, OnOk};
 ghost use Rattle.tw_base.specs.Codecs.{bytes_codec, digest_codec, labels_codec, name_codec, number_codec, sized_codec, text_codec};
+ghost use Rattle.tw_base.specs.Fields.{number_bytes};
 ghost use Rattle.tw_base.specs.Taking.{Puts};
 ghost use Rattle.tw_base.specs.Texts.{joined};
 
@@ -13,6 +14,17 @@ use crate::label_list::Labels;
 use crate::name::Name;
 use crate::sequence::Bytes;
 
+/// Appends the last `width` bytes (at most 8) of a number: all of it where it fits them.
+pub fn put_last_bytes(into: &mut Bytes, value: u64, width: u8) -> Result<(), NoMemory>
+    requires { width ≤ 8 }
+    // The last bytes of a number are appended as its codec writes them, high byte first.
+    ensures ok { OnOk result (into.new ≡ into.old ++ number_bytes width value) }
+    ensures err { OnErr result (into.new ≡ into.old) }
+{
+    let bytes = value.to_be_bytes();
+    into.extend_from_slice(&bytes[8 - width as usize..])
+}
+
 /// Appends a number that fits `width` bytes (at most 8).
 pub fn put_number(into: &mut Bytes, value: u64, width: u8) -> Result<(), NoMemory>
     requires width { width ≤ 8 }
@@ -21,8 +33,7 @@ pub fn put_number(into: &mut Bytes, value: u64, width: u8) -> Result<(), NoMemor
     ensures puts { Puts (number_codec width 0 (256 ^ width - 1)) value into.old into.new result }
     ensures err { OnErr result (into.new ≡ into.old) }
 {
-    let bytes = value.to_be_bytes();
-    into.extend_from_slice(&bytes[8 - width as usize..])
+    put_last_bytes(into, value, width)
 }
 
 /// Appends the 16 bytes of a name.
@@ -75,12 +86,11 @@ pub fn put_text(into: &mut Bytes, text: &[u8]) -> Result<(), NoMemory>
 
 /// Appends the number of the bytes in `width` bytes (at most 8), and the bytes.
 pub fn put_sized(into: &mut Bytes, bytes: &[u8], width: u8) -> Result<(), NoMemory>
-    requires width { width ≤ 8 }
-    requires fits { length bytes.now < 256 ^ width }
+    requires { width ≤ 8 }
     // Bytes within the range of their length are appended behind it, as their codec writes them.
     ensures { (least most : ℕ) → least ≤ length bytes.now → length bytes.now ≤ most →
         Puts (sized_codec width least most) bytes.now into.old into.new result }
 {
-    put_number(into, bytes.len() as u64, width)?;
+    put_last_bytes(into, bytes.len() as u64, width)?;
     put_bytes(into, bytes)
 }

@@ -21,3 +21,4 @@ pub mod ChainShapes
 pub mod ProofSizes
 pub mod Completeness
 pub mod OwnSpelling
+pub mod ChainBytes

@@ -160,22 +160,3 @@ proof_bytes = proof_codec.write
 -- TWP1 and the kind
 abbrev pub kind_bytes : (kind : ℕ) → List ℕ
 kind_bytes kind = proof_magic ++ kind ∷ []
-
--- the tree proof of a proof of kind 3 is of an entry, that of one of kind 4 of an empty place
-abbrev pub HasTreeOfKind : Proof → Type 0
-HasTreeOfKind (Exists p) = Unit {0}
-HasTreeOfKind (Precedes p) = Each (λ hop. is_of_entry hop.shown ≡ true) p.hops
-HasTreeOfKind (Archived p) = is_of_entry p.shown ≡ true
-HasTreeOfKind (Absent p) = is_of_entry p.shown ≡ false
-HasTreeOfKind (Linked p) = Unit {0}
-
--- the numbers of the proof are in the ranges of its format, its paths and its opening have the links and the numbers of labels
--- that its steps give them, and its tree proof is of its kind
-abbrev pub IsSpellable : Proof → Type 0
-IsSpellable (Exists p) = IsExistenceInRange p × IsShaped p
-IsSpellable (Precedes p) = precedence_body.Fits p
-IsSpellable (Archived p) =
-    IsPartInRange p.at × IsPartShaped p.at × IsEntryInRange p.entry × IsProofInRange p.shown × (is_of_entry p.shown ≡ true)
-IsSpellable (Absent p) =
-    IsPartInRange p.at × IsPartShaped p.at × IsStep p.key.step × IsProofInRange p.shown × (is_of_entry p.shown ≡ false)
-IsSpellable (Linked p) = (p.step ≤ LAST_STEP) × IsStep p.top × HasShape p.path.links p.top p.step

@@ -3,6 +3,7 @@
 
 mod chain;
 mod chain_reading;
+mod chain_writing;
 mod finding;
 mod joining;
 mod judgement;

@@ -127,7 +127,11 @@ part-fits p service links opening least some range shape = (
 )
 
 -- and so does a proof
-pub existence-fits : (p : ExistenceProof) → IsExistenceInRange p → IsShaped p → FitsAsPart p.at → FitsAsEvent p.event → existence_codec.Fits p
-unfolding existence_codec existence_body behind pair seen
-existence-fits p range shape at event =
+pub body-fits : (p : ExistenceProof) → IsExistenceInRange p → IsShaped p → FitsAsPart p.at → FitsAsEvent p.event → existence_body.Fits p
+unfolding existence_body pair seen
+body-fits p range shape at event =
     (at 1 (omega (arith, range.index)) range.at shape.at, event p.at.opening.count range.index range.event shape.event)
+
+pub existence-fits : (p : ExistenceProof) → IsExistenceInRange p → IsShaped p → FitsAsPart p.at → FitsAsEvent p.event → existence_codec.Fits p
+unfolding existence_codec behind
+existence-fits p range shape at event = body-fits p range shape at event

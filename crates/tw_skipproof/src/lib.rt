@@ -25,4 +25,7 @@ pub use opening::{Opening, check_opening};
 pub use path::{Link, LinkList, Path};
 pub use reading::{next_step, read_opening, read_path, take_link, take_opening, take_path};
 pub use waiting::{event_until, link_until, opening_until};
-pub use writing::{put_event, put_opening, put_part, put_path, write_existence, write_opening, write_path};
+pub use writing::{
+    put_event, put_existence_body, put_opening, put_part, put_path, write_existence, write_opening,
+    write_path,
+};

@@ -8,7 +8,7 @@ ghost use Rattle.tw_base.specs.Formats.{Spells};
 ghost use Rattle.tw_base.specs.Levels.{top_level};
 ghost use Rattle.tw_base.specs.Limits.{IsTimeWithinLimits};
 ghost use Rattle.tw_base.specs.Lists.{Each};
-ghost use Rattle.tw_skipproof.specs.Codecs.{count_bytes, event_codec, existence_codec, link_bytes, opening_bytes, opening_codec, part_bytes, path_bytes, path_codec};
+ghost use Rattle.tw_skipproof.specs.Codecs.{count_bytes, event_codec, existence_body, existence_codec, link_bytes, opening_bytes, opening_codec, part_bytes, path_bytes, path_codec};
 ghost use Rattle.tw_skipproof.specs.Existence.{IsExistenceInRange, IsShaped, existence_bytes, existence_layout};
 ghost use Rattle.tw_skipproof.specs.Paths.{HasShape};
 ghost use Rattle.tw_skipproof.specs.Spelling.{FitsAsEvent, FitsAsLink, FitsAsOpening, FitsAsPart, FitsAsPath};
@@ -89,7 +89,6 @@ fn put_links(into: &mut Bytes, links: &[Link]) -> Result<(), NoMemory>
 
 /// Appends the fields of the event.
 pub fn put_event(into: &mut Bytes, event: &EventPart) -> Result<(), NoMemory>
-    requires { length event.now.event < 2 ^ 32 }
     // What is put of an event is its bytes in the format.
     ensures ok { OnOk result (into.new ≡ into.old ++ (event_codec 1).write event.now) }
     // They spell it under each opening whose count of events is above its index, where it has at most 1,024 bytes and its
@@ -130,17 +129,28 @@ pub fn put_part(into: &mut Bytes, part: &Part) -> Result<(), NoMemory>
     Ok(())
 }
 
+/// Appends the proof behind its kind: the step under its top, and the event.
+#[tactic(auto, unfolding(crate::specs::Codecs::count_codec, crate::specs::Codecs::event_codec, crate::specs::Codecs::existence_body, crate::specs::Codecs::opening_codec, crate::specs::Codecs::part_bytes, crate::specs::Codecs::part_codec, tw_base::specs::Codecs::by_kind, tw_base::specs::Codecs::labels_codec, tw_base::specs::Codecs::many, tw_base::specs::Codecs::number_codec, tw_base::specs::Codecs::pair, tw_base::specs::Codecs::seen, tw_base::specs::Codecs::written))]
+pub fn put_existence_body(into: &mut Bytes, proof: &ExistenceProof) -> Result<(), NoMemory>
+    // What is put of an existence proof behind its kind is its bytes in the format.
+    ensures ok { OnOk result (into.new ≡ into.old ++ existence_body.write proof.now) }
+    // They spell it where the proof is within the format's limits, and its path, its opening and its event's path have the
+    // labels that the format gives them.
+    ensures fits { OnOk result (IsExistenceInRange proof.now → IsShaped proof.now → existence_body.Fits proof.now) }
+{
+    put_part(into, &proof.at)?;
+    put_event(into, &proof.event)?;
+    Ok(())
+}
+
 /// Appends the proof.
-#[tactic(auto, unfolding(crate::specs::Codecs::count_codec, crate::specs::Codecs::event_codec, crate::specs::Codecs::existence_body, crate::specs::Codecs::existence_codec, crate::specs::Codecs::opening_bytes, crate::specs::Codecs::opening_codec, crate::specs::Codecs::part_bytes, crate::specs::Codecs::part_codec, crate::specs::Codecs::path_bytes, crate::specs::Codecs::path_codec, tw_base::specs::Codecs::behind, tw_base::specs::Codecs::by_kind, tw_base::specs::Codecs::bytes_codec, tw_base::specs::Codecs::each, tw_base::specs::Codecs::labels_codec, tw_base::specs::Codecs::many, tw_base::specs::Codecs::name_codec, tw_base::specs::Codecs::number_codec, tw_base::specs::Codecs::pair, tw_base::specs::Codecs::seen, tw_base::specs::Codecs::sized_codec, tw_base::specs::Codecs::text_codec, tw_base::specs::Codecs::written))]
+#[tactic(auto, unfolding(crate::specs::Codecs::existence_codec, tw_base::specs::Codecs::behind, tw_base::specs::Codecs::text_codec))]
 fn put_existence(into: &mut Bytes, proof: &ExistenceProof) -> Result<(), NoMemory>
-    requires { length proof.now.event.event < 2 ^ 32 }
     ensures ok { OnOk result (into.new ≡ into.old ++ existence_bytes proof.now) }
     ensures fits { OnOk result (IsExistenceInRange proof.now → IsShaped proof.now → existence_codec.Fits proof.now) }
 {
     put_text(into, &MAGIC)?;
-    put_part(into, &proof.at)?;
-    put_event(into, &proof.event)?;
-    Ok(())
+    put_existence_body(into, proof)
 }
 
 /// The bytes of the opening: the digests of its events and of its archive, the count word and its
@@ -185,7 +195,6 @@ pub fn write_path(alloc: Global, path: &Path) -> Result<Bytes, NoMemory>
 /// opening and its event's path have the labels that the format gives them.
 #[tactic(auto)]
 pub fn write_existence(alloc: Global, proof: &ExistenceProof) -> Result<Bytes, NoMemory>
-    requires { length proof.now.event.event < 2 ^ 32 }
     // What is written of an existence proof is its bytes in the format.
     ensures bytes { IfOk result (λ bytes. bytes ≡ existence_bytes proof.now) }
     // The bytes that are written spell the proof, where it is within the format's limits.

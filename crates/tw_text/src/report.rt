@@ -5,7 +5,6 @@ ghost use Rattle.tw_text.specs.Lines.{fields_text};
 ghost use Rattle.tw_text.specs.declared.field.Field.TheVariants.{Hex, Named, Number};
 ghost use Rattle.std.specs.List.{flat_map};
 ghost use Rattle.tw_text.specs.Reports.{absent_line, carried_line, claim_text, event_line, event_lines, gap_text, hop_line, link_line, reason_fields, report_text, rejected_text, thread_line, time_line};
-ghost use Rattle.tw_base.specs.Reasons.{reason_number as reason_number_of};
 ghost use Rattle.tw_text.specs.Reports.{reason_name as reason_name_of};
 
 use crate::line::{put_hex, put_name, put_number, put_word};
@@ -36,7 +35,7 @@ pub fn print_rejected(alloc: Global, reason: &Reason) -> Result<Bytes, NoMemory>
 {
     let mut text = Bytes::new(alloc);
     text.extend_from_slice(b"rejected")?;
-    put_number(&mut text, reason_number(reason))?;
+    put_number(&mut text, reason.number())?;
     put_word(&mut text, reason_name(reason).as_bytes())?;
     put_reason_fields(&mut text, reason)?;
     text.extend_from_slice(b"\n")?;
@@ -227,21 +226,6 @@ fn put_link(
     put_number(text, top)?;
     put_hex(alloc, text, &auth.0)?;
     text.extend_from_slice(b"\n")
-}
-
-fn reason_number(reason: &Reason) -> u64
-    ensures { result ≡ reason_number_of reason.now }
-{
-    match reason {
-        Reason::Malformed { .. } => 1,
-        Reason::BadOrder => 2,
-        Reason::NotHeld { .. } => 3,
-        Reason::BadPath { .. } => 4,
-        Reason::BadOpening { .. } => 5,
-        Reason::BadEvent { .. } => 6,
-        Reason::BadTree { .. } => 7,
-        Reason::Carried { .. } => 8,
-    }
 }
 
 fn reason_name(reason: &Reason) -> &'static str

@@ -1,5 +1,4 @@
 mod Climbs
-mod Counts
 pub mod LawfulCodecs
 pub mod Places
 pub mod Ways

@@ -1,15 +1,15 @@
 // Writing tree proofs.
 #![tactic(auto, unfolding(crate::specs::Codecs::ancestor_codec, tw_base::specs::Codecs::bytes_codec, tw_base::specs::Codecs::pair, tw_base::specs::Codecs::seen))]
 
-ghost use Rattle.std.specs.Prelude.{◌≡◌, ◌++◌, ◌%◌, flat_map, length, OnOk};
+ghost use Rattle.std.specs.Prelude.{◌≡◌, ◌++◌, flat_map, length, OnOk};
 ghost use Rattle.tw_base.specs.Fields.{number_bytes};
 ghost use Rattle.tw_base.specs.Lists.{Each};
-ghost use Rattle.tw_treeproof.specs.Codecs.{ancestor_codec, tree_proof_bytes, tree_proof_codec};
+ghost use Rattle.tw_treeproof.specs.Codecs.{ancestor_codec, gap_codec, present_codec, tree_proof_bytes, tree_proof_codec};
 ghost use Rattle.tw_treeproof.specs.Answers.{is_of_entry};
 ghost use Rattle.tw_treeproof.specs.Limits.{IsAncestorInRange, IsProofInRange};
 
 use tw_base::{
-    Ancestor, AncestorList, Bytes, NoMemory, TreeProof, put_digest, put_entry, put_number,
+    Ancestor, AncestorList, Bytes, NoMemory, TreeProof, put_digest, put_entry, put_last_bytes,
 };
 
 /// Appends a node above the asked place.
@@ -26,7 +26,7 @@ fn put_ancestor(into: &mut Bytes, ancestor: &Ancestor) -> Result<(), NoMemory>
 fn put_count(into: &mut Bytes, ancestors: &AncestorList) -> Result<(), NoMemory>
     ensures { OnOk result (into.new ≡ into.old ++ number_bytes 1 (length ancestors.now)) }
 {
-    put_number(into, ancestors.len() as u64 % 256, 1)
+    put_last_bytes(into, ancestors.len() as u64, 1)
 }
 
 /// Appends the nodes.
@@ -66,5 +66,29 @@ pub fn put_tree_proof(into: &mut Bytes, proof: &TreeProof) -> Result<(), NoMemor
             put_count(into, ancestors)?;
             put_ancestors(into, ancestors.as_slice())
         }
+    }
+}
+
+/// Appends the proof where it is of an entry, and else nothing.
+#[tactic(auto, unfolding(crate::specs::Codecs::present_codec, tw_base::specs::Codecs::variant))]
+pub fn put_present(into: &mut Bytes, proof: &TreeProof) -> Result<(), NoMemory>
+    // What is appended of a proof of an entry is its bytes in the format; of another proof nothing.
+    ensures { OnOk result (into.new ≡ into.old ++ present_codec.write proof.now) }
+{
+    match proof {
+        TreeProof::Present { .. } => put_tree_proof(into, proof),
+        TreeProof::Gap { .. } => Ok(()),
+    }
+}
+
+/// Appends the proof where it is of an empty place, and else nothing.
+#[tactic(auto, unfolding(crate::specs::Codecs::gap_codec, tw_base::specs::Codecs::variant))]
+pub fn put_gap(into: &mut Bytes, proof: &TreeProof) -> Result<(), NoMemory>
+    // What is appended of a proof of an empty place is its bytes in the format; of another proof nothing.
+    ensures { OnOk result (into.new ≡ into.old ++ gap_codec.write proof.now) }
+{
+    match proof {
+        TreeProof::Gap { .. } => put_tree_proof(into, proof),
+        TreeProof::Present { .. } => Ok(()),
     }
 }
