@@ -1,16 +1,31 @@
 -- What was read of the files of parts, file after file.
 use Rattle.std.proofs.Common.{◌≡◌, ℕ, ◌<◌, List, [], ◌∷◌, ◌++◌, length, take, drop, ap, ◌∙◌, refl, sym, subst, arith, inl, inr}
-use Rattle.std.specs.Prelude.{Option}
+use Rattle.std.specs.Prelude.{Option, Some, Ok, Err}
 use Rattle.std.proofs.lemmas.Bool.{cases_lt}
 use Rattle.std.proofs.lemmas.List.{length-take-le, take-append-drop, take_all}
+use Rattle.tw_base.specs.Faults.{Rose}
 use Rattle.tw_base.specs.Formats.{IsFront, IsPlace, Spells, SpellsNothing}
 use Rattle.tw_base.specs.Lists.{Each}
 use Rattle.tw_base.proofs.ListLemmas.{Each-append}
+use Rattle.tw_outside.specs.Asked.{Asked}
 use Rattle.tw_outside.specs.Files.{Files, IsReadTo, IsThere}
+use Rattle.tw_outside.specs.declared.reading.InputFault.{InputFault as ReadingFault}
+use Rattle.tw_outside.specs.declared.reading.InputFault.TheVariants.{Failed, NoMemory}
+use Rattle.tw_text.specs.Faults.{fault_of_input}
+use Rattle.tw_text.specs.declared.fault.CommandFault.{CommandFault}
+use Rattle.tw_text.specs.declared.fault.CommandFault.TheVariants.{Unreadable}
+use Rattle.tw_text.specs.declared.refusal.BadInput.{BadInput}
+use Rattle.tw_text.specs.declared.refusal.BadInput.TheVariants.{BadByte, BadLine, Unsound}
 use Rattle.tw_chain.specs.declared.proof.Proof.{Proof}
-use Rattle.tw_chain.specs.Proofs.{proof_layout}
+use Rattle.tw_chain.specs.declared.proof.Proof.TheVariants.{Precedes}
+use Rattle.tw_chain.specs.Joining.{Joins, joined}
+use Rattle.tw_chain.specs.Joining.Taken.{Nothing}
+use Rattle.tw_chain.specs.Proofs.{proof_bytes, proof_layout}
+use Rattle.tw_chain.proofs.JoinedSpelling.{joined-spelled}
 use Rattle.tw_chain.proofs.ProofSizes.{proof-size}
-use Rattle.tw_filecmd.specs.Joining.{AreProofsOf, HasBadPart, IsNoProof, IsProofOf}
+use Rattle.tw_filecmd.specs.Joining.{AreProofsOf, HasBadPart, IsNoProof, IsProofOf, JoinComes}
+use Rattle.tw_filecmd.specs.Parts.{AreRead, PartsCome}
+use Rattle.tw_filecmd.specs.declared.joining.Joined.TheVariants.{Whole}
 use Rattle.tw_filecmd.proofs.AnchorFronts.{file_limit}
 use Rattle.tw_filecmd.proofs.ProofFronts.{front-size, nothing_behind, place_behind, whole_below}
 
@@ -62,3 +77,35 @@ module _ (told : Option Files) where
             subst (λ b. SpellsNothing proof_layout b × IsPlace proof_layout b place) (read bytes tells ∙ take_all file_limit bytes fits) (nothing, is)
       ];
     }
+
+-- ---- from the files to what joining them comes to
+
+module _ (a : Asked) where
+  -- a fault of reading one of them
+  pub refuses_input : (files : List (List ℕ)) (fault : ReadingFault) (came : CommandFault) → (files ≡ [] → ⊥)
+      → (fault ≡ Failed → Rose a.before a.after) → came ≡ fault_of_input fault → PartsCome a files (Err came)
+  refuses_input files Failed came some rose is = subst (λ (f : CommandFault). PartsCome a files (Err f)) (sym is) (some, rose refl)
+  refuses_input files NoMemory came some rose is = subst (λ (f : CommandFault). PartsCome a files (Err f)) (sym is) tt
+
+  -- one that holds no proof
+  pub refuses_part : (files : List (List ℕ)) (parts : List Proof) (bad : BadInput) → AreRead a.told files parts (Some bad)
+      → PartsCome a files (Err (Unreadable bad))
+  refuses_part files parts (BadByte named place) read = read
+  refuses_part files parts (BadLine named number) read = absurd read
+  refuses_part files parts (Unsound named step rule) read = absurd read
+
+  spelled_parts : (files : List (List ℕ)) (parts : List Proof) → AreProofsOf a.told files parts
+      → Each (λ part. (bytes : List ℕ) × Spells proof_layout bytes part) parts
+  spelled_parts [] [] are = tt
+  spelled_parts [] (p ∷ parts) are = absurd are
+  spelled_parts (file ∷ files) [] are = absurd are
+  spelled_parts (file ∷ files) (p ∷ parts) are = ((are.0.bytes, are.0.spelled), spelled_parts files parts are.1)
+
+  -- the bytes of the proof that they join to
+  pub joins_parts : (files : List (List ℕ)) (parts : List Proof) (p : Proof) (bytes : List ℕ) → AreProofsOf a.told files parts
+      → Joins parts (Ok p) → bytes ≡ proof_bytes p → JoinComes a files (Ok (Whole bytes))
+  joins_parts files parts p bytes are joins written =
+      let whole : Spells proof_layout (proof_bytes (Precedes joins.0)) (Precedes joins.0) =
+      joined-spelled parts joins.0 (spelled_parts files parts are) joins.1 in
+      let of_p : Spells proof_layout (proof_bytes p) p = subst (λ q. Spells proof_layout (proof_bytes q) q) (sym joins.2) whole in
+      (parts, are, (p, joins, subst (λ b. Spells proof_layout b p) (sym written) of_p))

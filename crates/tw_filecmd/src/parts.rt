@@ -40,8 +40,9 @@ pub(crate) fn read_parts<I: Inputs>(
         let bytes = read_all(alloc, inputs, file.as_str(), FILE_READ)?;
         parts.add(alloc, file.as_str(), bytes.as_slice())?;
     }
-    match parts.bad {
-        None => Ok(parts.proofs),
+    let Parts { proofs, bad } = parts;
+    match bad {
+        None => Ok(proofs),
         Some(bad) => Err(CommandFault::Unreadable(bad)),
     }
 }
