@@ -22,3 +22,6 @@ pub mod ProofSizes
 pub mod Completeness
 pub mod OwnSpelling
 pub mod ChainBytes
+pub mod JoinedParts
+pub mod JoinedHops
+pub mod JoinedSpelling

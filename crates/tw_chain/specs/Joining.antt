@@ -4,6 +4,7 @@ use Rattle.std.specs.Prelude.{◌≡◌, ℕ, ◌+◌, ◌-◌, List, [], ◌∷
 use Rattle.std.specs.Option.{option_map_or}
 use Rattle.std.specs.Str.{bytes_eq}
 use Rattle.tw_base.specs.declared.limits.TheConstants.{MOST_HOPS}
+use Rattle.tw_base.specs.declared.report.Hop.{Hop}
 use Rattle.tw_base.specs.declared.thread.Key.{Key}
 use Rattle.tw_base.specs.declared.thread.Thread.{Thread}
 use Rattle.tw_base.specs.Entries.{key_of}
@@ -102,3 +103,20 @@ abbrev pub Joins : List Proof → Result Proof JoinFault → Type 0
 Joins parts (Ok p) = (whole : PrecedenceProof) × (joined Nothing 1 parts ≡ Ok whole) × (p ≡ Precedes whole)
 Joins parts (Err (Gap place)) = joined Nothing 1 parts ≡ Err place
 Joins parts (Err NoMemory) = Unit {0}
+
+-- ---- the hops that they tell
+
+-- the hop that a proof of a thread shows
+abbrev pub shown_hop : ThreadProof → Hop
+shown_hop t = record {
+  from = t.entry.thread.from;
+  step = t.entry.thread.step;
+  by = t.at.service;
+  archived = t.entry.archived;
+}
+
+-- the hops that the parts show, in their order
+abbrev pub shown_hops : List Proof → List Hop
+shown_hops [] = []
+shown_hops (Archived t ∷ parts) = shown_hop t ∷ shown_hops parts
+shown_hops (_ ∷ parts) = shown_hops parts

@@ -8,6 +8,7 @@ pub mod Reasons
 pub mod Binding
 pub mod Judgements
 pub mod Joining
+pub mod TakenParts
 pub mod Chaining
 pub mod OwnParts
 pub mod Stages

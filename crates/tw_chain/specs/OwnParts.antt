@@ -9,7 +9,7 @@ use Rattle.tw_chain.specs.declared.proof.PrecedenceProof.{PrecedenceProof}
 use Rattle.tw_chain.specs.declared.proof.Proof.{Proof}
 use Rattle.tw_chain.specs.declared.proof.Proof.TheVariants.{Precedes, Archived}
 use Rattle.tw_chain.specs.Accepting.{IsAccepted, named}
-use Rattle.tw_chain.specs.Joining.{joined}
+use Rattle.tw_chain.specs.Joining.{joined, shown_hop}
 use Rattle.tw_chain.specs.Joining.Taken.{Nothing}
 use Rattle.tw_chain.specs.OwnProofs.{IsOwnProof}
 use Rattle.tw_chain.specs.Passing.{anchor_at}
@@ -27,12 +27,7 @@ module _ (dig : List ℕ → List ℕ) (family : List History) where
 
   -- the hop that a proof of a thread shows stands in the family
   abbrev pub HopOfPartStands : Proof → Type 0
-  HopOfPartStands (Archived p) = HopStands dig family (record {
-    from = p.entry.thread.from;
-    step = p.entry.thread.step;
-    by = p.at.service;
-    archived = p.entry.archived;
-  })
+  HopOfPartStands (Archived t) = HopStands dig family (shown_hop t)
   HopOfPartStands _ = Unit {0}
 
   -- each anchor that the proof needs is held, and the family has it

@@ -4,7 +4,9 @@
 mod chain;
 mod chain_reading;
 mod chain_writing;
+mod copying;
 mod finding;
+mod joined_laws;
 mod joining;
 mod judgement;
 mod judging;
@@ -17,6 +19,7 @@ mod verdict;
 mod verifier;
 mod writing;
 
+pub use joined_laws::joining_laws;
 pub use joining::{JoinFault, join};
 pub use laws::{chain_laws, completeness_laws, proof_laws};
 pub use proof::{

@@ -1,0 +1,215 @@
+-- Parts that join, taken apart: what each of them is, where each has some property.
+use Rattle.std.proofs.Common.{◌≡◌, ℕ, ◌+◌, ◌<◌, List, [], ◌∷◌, ◌++◌, length, refl, sym, ap, ◌∙◌, subst}
+use Rattle.std.specs.Prelude.{reverse, Bool, true, false, Option, Some, None, Result, Ok, Err, IfSome, nat_lt, is_none, ◌==◌, ◌&&◌}
+use Rattle.std.specs.Option.{option_map_or}
+use Rattle.std.specs.Str.{bytes_eq}
+use Rattle.std.proofs.lemmas.Bool.{and_parts, eqb-true, ltb-true}
+use Rattle.std.proofs.lemmas.List.{append-nil, append_assoc, reverse-append}
+use Rattle.std.proofs.lemmas.Slice.Eq.{bytes_eq-Decides}
+use Rattle.tw_base.specs.declared.limits.TheConstants.{MOST_HOPS}
+use Rattle.tw_base.specs.declared.report.Hop.{Hop}
+use Rattle.tw_base.specs.declared.thread.Key.{Key}
+use Rattle.tw_base.specs.declared.thread.Thread.{Thread}
+use Rattle.tw_base.specs.Lists.{Each}
+use Rattle.tw_skipproof.specs.declared.existence.ExistenceProof.{ExistenceProof}
+use Rattle.tw_chain.specs.declared.proof.LinkProof.{LinkProof}
+use Rattle.tw_chain.specs.declared.proof.PrecedenceProof.{PrecedenceProof}
+use Rattle.tw_chain.specs.declared.proof.Proof.{Proof}
+use Rattle.tw_chain.specs.declared.proof.Proof.TheVariants.{Exists, Precedes, Archived, Absent, Linked}
+use Rattle.tw_chain.specs.declared.proof.ThreadProof.{ThreadProof}
+use Rattle.tw_chain.specs.Joining.{Joint, Taken, is_key, is_link_of, joined, joined_of, only_if, shown_hop, shown_hops, wanted, with_part}
+use Rattle.tw_chain.specs.Joining.Taken.{Nothing, Hops, Whole}
+
+-- ---- what the tests say
+
+same-bytes : (a b : List ℕ) → bytes_eq a b ≡ true → a ≡ b
+same-bytes a b is = (bytes_eq-Decides a b).0 is
+
+key-parts : (key : Key) (service : List ℕ) (step : ℕ) → is_key key service step ≡ true → (key.from ≡ service) × (key.step ≡ step)
+key-parts key service step is =
+    let both = and_parts (bytes_eq key.from service) (key.step == step) is in
+    (same-bytes key.from service both.0, eqb-true key.step step both.1)
+
+only-if : (fits : Bool) (taken next : Taken) → only_if fits taken ≡ Some next → (fits ≡ true) × (taken ≡ next)
+only-if true taken next is = (refl, cc)
+only-if false taken next is = cc
+
+-- ---- the hops that they show
+
+-- the hops of the parts, the last hop first
+abbrev pub joint_hops : List Joint → List Hop
+joint_hops [] = []
+joint_hops (joint ∷ joints) = shown_hop joint.thread ∷ joint_hops joints
+
+abbrev taken_hops : Taken → List Hop
+taken_hops Nothing = []
+taken_hops (Hops second joints) = joint_hops joints
+taken_hops (Whole second joints first) = joint_hops joints
+
+shown-more : (part : Proof) (parts : List Proof) → reverse (shown_hops (part ∷ parts)) ≡ reverse (shown_hops parts) ++ reverse (shown_hops (part ∷ []))
+shown-more (Archived t) parts = reverse-append (shown_hop t ∷ []) (shown_hops parts)
+shown-more (Exists p) parts = sym (append-nil (reverse (shown_hops parts)))
+shown-more (Precedes p) parts = sym (append-nil (reverse (shown_hops parts)))
+shown-more (Absent p) parts = sym (append-nil (reverse (shown_hops parts)))
+shown-more (Linked p) parts = sym (append-nil (reverse (shown_hops parts)))
+
+-- one part more shows its hop behind those of the parts taken
+part-hops : (taken : Taken) (part : Proof) (next : Taken) → with_part taken part ≡ Some next → taken_hops next ≡ reverse (shown_hops (part ∷ [])) ++ taken_hops taken
+part-hops Nothing (Exists p) next is = let same : Hops p [] ≡ next = cc in ap taken_hops (sym same)
+part-hops Nothing (Precedes p) next is = cc
+part-hops Nothing (Archived p) next is = cc
+part-hops Nothing (Absent p) next is = cc
+part-hops Nothing (Linked p) next is = cc
+part-hops (Hops second joints) (Archived t) next is =
+    ap taken_hops (sym (only-if (nat_lt (length joints) MOST_HOPS && is_key (wanted second joints) t.at.service t.at.step)
+    (Hops second (record { thread = t; link = None } ∷ joints)) next is).1)
+part-hops (Hops second (joint ∷ joints)) (Linked l) next is =
+    ap taken_hops (sym (only-if (is_none joint.link && is_link_of joint.thread.entry.thread l)
+    (Hops second (record { thread = joint.thread; link = Some l } ∷ joints)) next is).1)
+part-hops (Hops second []) (Linked l) next is = cc
+part-hops (Hops second []) (Exists p) next is = ap taken_hops (sym (only-if (is_key (wanted second []) p.at.service p.at.top) (Whole second [] p) next is).1)
+part-hops (Hops second (joint ∷ joints)) (Exists p) next is =
+    ap taken_hops (sym (only-if (is_key (wanted second (joint ∷ joints)) p.at.service p.at.top) (Whole second (joint ∷ joints) p) next is).1)
+part-hops (Hops second []) (Precedes p) next is = cc
+part-hops (Hops second (joint ∷ joints)) (Precedes p) next is = cc
+part-hops (Hops second []) (Absent p) next is = cc
+part-hops (Hops second (joint ∷ joints)) (Absent p) next is = cc
+part-hops (Whole second joints first) part next is = cc
+
+module _ (P : Proof → Type 0) where
+  -- the link is of the thread
+  pub record LinkFits (t : Thread) (l : LinkProof) : Type 0 where
+    pub part : P (Linked l)
+    pub from : t.from ≡ l.service
+    pub step : t.step ≡ l.step
+    pub auth : t.auth ≡ l.auth
+
+  -- the thread's proof is of the archive of this service and step, and the link of the thread
+  pub record JointFits (key : Key) (joint : Joint) : Type 0 where
+    pub part : P (Archived joint.thread)
+    pub service : key.from ≡ joint.thread.at.service
+    pub step : key.step ≡ joint.thread.at.step
+    pub link : IfSome joint.link (LinkFits joint.thread.entry.thread)
+
+  -- each of at most 64 follows on the one before
+  abbrev pub JointsFit : ExistenceProof → List Joint → Type 0
+  JointsFit second [] = Unit {0}
+  JointsFit second (joint ∷ joints) = JointFits (wanted second joints) joint × (length joints < MOST_HOPS) × JointsFit second joints
+
+  pub record WholeFits (second : ExistenceProof) (joints : List Joint) (first : ExistenceProof) : Type 0 where
+    pub second_part : P (Exists second)
+    pub joints_fit : JointsFit second joints
+    pub first_part : P (Exists first)
+    pub service : (wanted second joints).from ≡ first.at.service
+    pub top : (wanted second joints).step ≡ first.at.top
+
+  abbrev TakenFits : Taken → Type 0
+  TakenFits Nothing = Unit {0}
+  TakenFits (Hops second joints) = P (Exists second) × JointsFit second joints
+  TakenFits (Whole second joints first) = WholeFits second joints first
+
+  -- ---- one part more
+
+  with-thread : (second : ExistenceProof) (joints : List Joint) (t : ThreadProof) (next : Taken) → TakenFits (Hops second joints) → P (Archived t)
+      → with_part (Hops second joints) (Archived t) ≡ Some next → TakenFits next
+  with-thread second joints t next fits part is =
+      let few = nat_lt (length joints) MOST_HOPS in
+      let key = is_key (wanted second joints) t.at.service t.at.step in
+      let had = only-if (few && key) (Hops second (record { thread = t; link = None } ∷ joints)) next is in
+      let both = and_parts few key had.0 in
+      let same = key-parts (wanted second joints) t.at.service t.at.step both.1 in
+      subst TakenFits had.1
+      (fits.0, (record { part = part; service = same.0; step = same.1; link = tt }, ltb-true (length joints) MOST_HOPS both.0, fits.1))
+
+  with-link : (second : ExistenceProof) (joint : Joint) (joints : List Joint) (l : LinkProof) (next : Taken) → TakenFits (Hops second (joint ∷ joints))
+      → P (Linked l) → with_part (Hops second (joint ∷ joints)) (Linked l) ≡ Some next → TakenFits next
+  with-link second joint joints l next fits part is =
+      let t : Thread = joint.thread.entry.thread in
+      let had = only-if (is_none joint.link && is_link_of t l) (Hops second (record { thread = joint.thread; link = Some l } ∷ joints)) next is in
+      let both = and_parts (is_none joint.link) (is_link_of t l) had.0 in
+      let tests = and_parts (bytes_eq t.from l.service) (t.step == l.step && bytes_eq t.auth l.auth) both.1 in
+      let more = and_parts (t.step == l.step) (bytes_eq t.auth l.auth) tests.1 in
+      let of_thread : LinkFits t l = record {
+        part = part;
+        from = same-bytes t.from l.service tests.0;
+        step = eqb-true t.step l.step more.0;
+        auth = same-bytes t.auth l.auth more.1;
+      } in
+      let last = fits.1.0 in
+      subst TakenFits had.1
+      (fits.0, (record { part = last.part; service = last.service; step = last.step; link = of_thread }, fits.1.1, fits.1.2))
+
+  with-first : (second : ExistenceProof) (joints : List Joint) (first : ExistenceProof) (next : Taken) → TakenFits (Hops second joints) → P (Exists first)
+      → only_if (is_key (wanted second joints) first.at.service first.at.top) (Whole second joints first) ≡ Some next → TakenFits next
+  with-first second joints first next fits part is =
+      let had = only-if (is_key (wanted second joints) first.at.service first.at.top) (Whole second joints first) next is in
+      let same = key-parts (wanted second joints) first.at.service first.at.top had.0 in
+      subst TakenFits had.1 (record { second_part = fits.0; joints_fit = fits.1; first_part = part; service = same.0; top = same.1 })
+
+  with-part : (taken : Taken) (part : Proof) (next : Taken) → TakenFits taken → P part → with_part taken part ≡ Some next → TakenFits next
+  with-part Nothing (Exists p) next fits has is = subst TakenFits (let same : Hops p [] ≡ next = cc in same) (has, tt)
+  with-part Nothing (Precedes p) next fits has is = cc
+  with-part Nothing (Archived p) next fits has is = cc
+  with-part Nothing (Absent p) next fits has is = cc
+  with-part Nothing (Linked p) next fits has is = cc
+  with-part (Hops second joints) (Archived t) next fits has is = with-thread second joints t next fits has is
+  with-part (Hops second (joint ∷ joints)) (Linked l) next fits has is = with-link second joint joints l next fits has is
+  with-part (Hops second []) (Linked l) next fits has is = cc
+  with-part (Hops second []) (Exists p) next fits has is = with-first second [] p next fits has is
+  with-part (Hops second (joint ∷ joints)) (Exists p) next fits has is = with-first second (joint ∷ joints) p next fits has is
+  with-part (Hops second []) (Precedes p) next fits has is = cc
+  with-part (Hops second (joint ∷ joints)) (Precedes p) next fits has is = cc
+  with-part (Hops second []) (Absent p) next fits has is = cc
+  with-part (Hops second (joint ∷ joints)) (Absent p) next fits has is = cc
+  with-part (Whole second joints first) part next fits has is = cc
+
+  -- ---- all parts
+
+  -- a second event's, those of hops, and a first event's, each of which fits
+  pub record JoinedFits (taken : Taken) (parts : List Proof) (p : PrecedenceProof) : Type 0 where
+    pub second : ExistenceProof
+    pub joints : List Joint
+    pub first : ExistenceProof
+    pub fits : WholeFits second joints first
+    pub shown : joint_hops joints ≡ reverse (shown_hops parts) ++ taken_hops taken
+    pub is : p ≡ joined_of second joints first
+
+  ended : (taken : Taken) (number : ℕ) (p : PrecedenceProof) → TakenFits taken → joined taken number [] ≡ Ok p → JoinedFits taken [] p
+  ended Nothing number p fits is = cc
+  ended (Hops second joints) number p fits is = cc
+  ended (Whole second joints first) number p fits is = record {
+    second = second;
+    joints = joints;
+    first = first;
+    fits = fits;
+    shown = refl;
+    is = sym (let same : joined_of second joints first ≡ p = cc in same);
+  }
+
+  with-one : (taken : Taken) (part : Proof) (parts : List Proof) (next : Taken) (p : PrecedenceProof) → with_part taken part ≡ Some next → JoinedFits next parts p
+      → JoinedFits taken (part ∷ parts) p
+  with-one taken part parts next p is rest = record {
+    second = rest.second;
+    joints = rest.joints;
+    first = rest.first;
+    fits = rest.fits;
+    shown = rest.shown ∙ ap (λ told. reverse (shown_hops parts) ++ told) (part-hops taken part next is)
+        ∙ sym (append_assoc (reverse (shown_hops parts)) (reverse (shown_hops (part ∷ []))) (taken_hops taken))
+        ∙ ap (λ told. told ++ taken_hops taken) (sym (shown-more part parts));
+    is = rest.is;
+  }
+
+  onward : (taken : Taken) (number : ℕ) (parts : List Proof) (p : PrecedenceProof) → TakenFits taken → Each P parts → joined taken number parts ≡ Ok p
+      → JoinedFits taken parts p
+  onward taken number [] p fits all is = ended taken number p fits is
+  onward taken number (part ∷ parts) p fits all is =
+      by (with_part taken part) refl is (λ next at now. onward next (number + 1) parts p (with-part taken part next fits all.0 at) all.1 now)
+    where
+      by : (o : Option Taken) → with_part taken part ≡ o → option_map_or (λ next. joined next (number + 1) parts) o (Err number) ≡ Ok p
+          → ((next : Taken) → with_part taken part ≡ Some next → joined next (number + 1) parts ≡ Ok p → JoinedFits next parts p)
+          → JoinedFits taken (part ∷ parts) p
+      by None at now rest = cc
+      by (Some next) at now rest = with-one taken part parts next p at (rest next at now)
+
+  pub joined-fits : (parts : List Proof) (p : PrecedenceProof) → Each P parts → joined Nothing 1 parts ≡ Ok p → JoinedFits Nothing parts p
+  joined-fits parts p all is = onward Nothing 1 parts p tt all is

@@ -1,0 +1,29 @@
+// The laws of joining: what joined proofs are, and where they are accepted.
+
+ghost use Rattle.std.specs.Prelude.{◌≡◌, ℕ, List, reverse, Ok};
+ghost use Rattle.tw_base.specs.Formats.{Spells};
+ghost use Rattle.tw_base.specs.Lists.{Each};
+ghost use Rattle.tw_chain.specs.declared.proof.PrecedenceProof.{PrecedenceProof};
+ghost use Rattle.tw_chain.specs.declared.proof.Proof.{Proof};
+ghost use Rattle.tw_chain.specs.declared.proof.Proof.TheVariants.{Precedes};
+ghost use Rattle.tw_chain.specs.Accepting.{report_of};
+ghost use Rattle.tw_chain.specs.Joining.{joined, shown_hops};
+ghost use Rattle.tw_chain.specs.Joining.Taken.{Nothing};
+ghost use Rattle.tw_chain.specs.OwnParts.{JoinedIsAccepted};
+ghost use Rattle.tw_chain.specs.Proofs.{proof_bytes, proof_layout};
+
+use tw_base::Hasher;
+
+/// What parts join to: a proof that has a spelling where they have, that tells the hops that they show,
+/// and that is accepted where services made them.
+pub fn joining_laws<H: Hasher>()
+    // Parts that services of sound histories made, for hops that stand there, and that fit, join to a proof that is accepted
+    // wherever the anchors of the tops that it names are held, and are those of the histories.
+    ensures joined { JoinedIsAccepted H.dig }
+    // What parts join to, each of which has a spelling, has a spelling itself: what is written of it.
+    ensures joined_spelled { (parts : List Proof) (p : PrecedenceProof) →
+        Each (λ part. (bytes : List ℕ) × Spells proof_layout bytes part) parts → joined Nothing 1 parts ≡ Ok p → Spells proof_layout (proof_bytes (Precedes p)) (Precedes p) }
+    // The hops of its report are those that the parts show, from the first event to the second.
+    ensures joined_hops { (parts : List Proof) (p : PrecedenceProof) →
+        joined Nothing 1 parts ≡ Ok p → (report_of (Precedes p)).hops ≡ reverse (shown_hops parts) }
+{}
