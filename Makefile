@@ -17,7 +17,8 @@ build:
 	cd crates/timeweave && rt run -- verify data/p a 1 $(AUTH)
 
 # Builds the program, and shows a proof accepted, the same proof rejected under another authenticator, two services that keep
-# their histories on disk, and proofs from a history that recorded threads of other services.
+# their histories on disk, proofs from a history that recorded threads of other services, and one that an event of a service precedes
+# an event of another.
 demo: build
 	@echo; echo '$$ timeweave verify p a 1 $(AUTH)'
 	@$(PROGRAM) verify $(PROOF) a 1 $(AUTH)
@@ -25,6 +26,7 @@ demo: build
 	@$(PROGRAM) verify $(PROOF) a 1 $(OTHER); test $$? -eq 1
 	@echo; examples/two_services.sh $(PROGRAM)
 	@echo; examples/archived_threads.sh $(PROGRAM)
+	@echo; examples/event_chain.sh $(PROGRAM)
 
 # The gate: every proof, wrong body, test and program, and then the acceptance run.
 test:

@@ -2,7 +2,7 @@
 # `source tools/completion.bash` is enough to try it.
 #
 # The forms of the commands that are built, a line each: a word in small letters stands for itself, DIR for a folder, FILE for a
-# file, and whatever else is in capitals is typed by hand.
+# file, whatever else is in capitals is typed by hand, and .. is for more of the part before it.
 _timeweave_forms=(
     "init DIR NAME"
     "append DIR FILE"
@@ -11,6 +11,7 @@ _timeweave_forms=(
     "verify FILE FILE"
     "verify FILE NAME POS HEX"
     "strict FILE FILE"
+    "join FILE FILE .."
 )
 
 # Whether the words before the one that is completed are those of the form that is given part by part.
@@ -28,6 +29,10 @@ _timeweave() {
     COMPREPLY=()
     for form in "${_timeweave_forms[@]}"; do
         read -ra parts <<< "$form"
+        if [[ ${parts[-1]} == .. ]]; then
+            unset 'parts[-1]'
+            while ((${#parts[@]} < COMP_CWORD)); do parts+=("${parts[-1]}"); done
+        fi
         _timeweave_goes_on "${parts[@]}" || continue
         part=${parts[COMP_CWORD - 1]}
         [[ $tried == *" $part "* ]] && continue

@@ -13,7 +13,9 @@ from pathlib import Path
 TOP = Path(__file__).resolve().parent.parent
 sys.path.insert(0, str(TOP / "tests/acceptance"))
 
+import chains  # noqa: E402
 import reference  # noqa: E402
+import tree_pages  # noqa: E402
 import trees  # noqa: E402
 from stores import PAGE, Store  # noqa: E402
 
@@ -162,6 +164,26 @@ def absence():
     ]
 
 
+def chain():
+    """The proof that an event of alpha precedes one of beta, byte by byte, part by part."""
+    data = chains.least_way().bytes()
+    lines, at = dumped(data, [
+        (4, "TWP1"), (1, "kind 2"), (1, "one hop"), (16, "head, part 0: service beta"), (8, "step 2"), (8, "top 2; the path from 2 to 2 has no bytes"),
+        (32, "opening of step 2: event root"), (32, "archive label"), (4, "count of events"), (32, "authenticator of step 1"),
+        (32, "label of the link of level 1"), (4, "event part: index 0"), (4, "size 0; no bytes of the event, and no path"),
+        (32, "opening of step 1, of part 0 too: event root, of no events"), (32, "archive label, of one entry"), (4, "count of events, 0"),
+        (32, "authenticator of step 0"),
+        (16, "hop, part 1: thread of the service alpha"), (8, "at step 1"), (32, "its authenticator there"), (8, "archived at step 1"),
+        (1, "tree proof of the entry: no node above"), (32, "label of its left side, the empty tree"), (32, "label of its right side, the empty tree"),
+        (8, "bind 0: the thread is carried; no path, and no opening, as no hop follows"),
+        (8, "tail, part 2: step 1 of alpha; the path from 1 to 1 has no bytes"), (32, "opening of step 1: event root"),
+        (32, "archive label, of the empty archive"), (4, "count of events"), (32, "authenticator of step 0"), (4, "event part: index 0"), (4, "size 2"),
+        (2, "the event, hi; no path"),
+    ])
+    assert at == len(data)
+    return lines
+
+
 def pages():
     """The event page and the step page of a step 2, byte by byte."""
     store = Store("shop", [[b"first"], [b"bread", b"milk"]])
@@ -183,7 +205,63 @@ def pages():
     return lines + more
 
 
-PICTURES = {"heights": heights, "step": step, "links": links, "tree": tree, "proof": proof, "absence": absence, "pages": pages}
+def rising_versions(count):
+    """The versions of an archive that received so many threads of a service alpha, those of its steps 1, 2, .. in order."""
+    tree = tree_pages.PagedTree()
+    for step in range(1, count + 1):
+        tree.insert(reference.Entry("alpha", step, bytes([step]) * 32, step))
+    return tree
+
+
+def half():
+    """The left one of the pages that a full page became: its tree and its bytes."""
+    tree = rising_versions(tree_pages.MOST_KEYS + 1)
+    page = tree.pages[-3]
+    root = page.slots(page.shape)
+    slots = [f"slot {number}, {'red' if red else 'black'}, {sides_of(left, right)}: alpha {number}" for number, (red, left, right) in enumerate(root, 1)]
+    lines, at = dumped(page.bytes(), [
+        (1, "3, a tree page"), (1, "level 0, a leaf page"), (1, "twelve keys"), (1, "root slot 7"), *[(67, slot) for slot in slots],
+        (13 * 40, "thirteen children: page 0, and the label of the empty tree"), (PAGE - 4 - 12 * 67 - 13 * 40, "zeros"),
+    ])
+    assert at == PAGE
+    return [
+        "                   7",
+        "           /               \\",
+        "           4               10",
+        "       /       \\       /       \\",
+        "       2       6       9       12",
+        "     /   \\    /       /        /",
+        "     1   3   5       8       11               1, 3, 5, 8 and 11 are red, the others black",
+        "",
+        *lines,
+    ]
+
+
+def sides_of(left, right):
+    """The slots of both sides, as they are told."""
+    if left and right:
+        return f"over {left} and {right}"
+    return f"over {left or right}" if left or right else "over none"
+
+
+def versions():
+    """Two versions of a tree that share a page."""
+    tree = rising_versions(tree_pages.MOST_KEYS + 2)
+    first = tree_pages.FIRST + len(tree.pages) - 5
+    left, right, root, more, above = range(first, first + 5)
+    return [
+        f"25 threads, root page {root}                   26 threads, root page {above}",
+        "",
+        f"    page {root}: 13                                page {above}: 13          level 1",
+        "    /        \\                                 /       \\",
+        f"page {left}     page {right}                          |      page {more}        level 0",
+        " 1..12      14..25                          |       14..26",
+        "   ^                                        |",
+        "   +----------------------------------------+                       both have this page",
+    ]
+
+
+PICTURES = {"heights": heights, "step": step, "links": links, "tree": tree, "proof": proof, "absence": absence, "chain": chain, "pages": pages, "half": half, "versions": versions}
 
 
 def drawn(text):

@@ -1,15 +1,12 @@
 """Acceptance cases of proofs over archives and of links: good ones from histories with trees of any shape, each change and cut of one of
 each kind, each set of faults, tree proofs that show something else, ways at the limits and in large archives, and the strict form.
 
-What the program is to say is what proofs.verdict says. The cases of kinds that the program doesn't judge yet, and those of the strict
-form where it has none, are left out.
+What the program is to say is what chains.verdict says.
 """
 
-import json
 import random
 from functools import cache
 from itertools import combinations
-from pathlib import Path
 
 import large
 import proofs
@@ -23,8 +20,6 @@ from reference import (
 from trees import (
     MOST_ABOVE_ENTRY, MOST_ABOVE_GAP, Ask, Question, TreeProof, absent, checked, from_list, present, proof_over, shaped,
 )
-
-UNBUILT = json.loads((Path(__file__).resolve().parent / "cases/unbuilt.json").read_text())
 
 
 def accepted(name, data, line, top, text):
@@ -137,11 +132,6 @@ def sample_proofs():
     yield LINK, line, lambda top: link_proof(line, STEP, top)
 
 
-def built_samples():
-    """Those of the kinds that the program judges."""
-    return (sample for sample in sample_proofs() if sample[0] in proofs.BUILT_KINDS)
-
-
 def archive_samples():
     """Those of threads, absent ones and links; the changes of proofs of events stand in generated.py."""
     return (sample for sample in sample_proofs() if sample[0] != EXISTS)
@@ -170,7 +160,7 @@ def faulty(kind, line, make, faults):
 
 def sets_of_faults():
     """Each set of the faults that a kind of proof can have."""
-    for kind, line, make in built_samples():
+    for kind, line, make in sample_proofs():
         possible = [fault for fault in FAULTS if fault < 5 or fault == LAST_BYTE.get(kind)]
         for count in range(1, len(possible) + 1):
             for faults in combinations(possible, count):
@@ -379,7 +369,7 @@ def from_file(case, form):
 
 def good_and_faulty():
     """Of each kind that is built a good proof, and one of each fault."""
-    for kind, line, make in built_samples():
+    for kind, line, make in sample_proofs():
         yield judged(f"kind {kind}", make(TOP), line.name, TOP, line.auths[TOP])
     yield from (case for case in sets_of_faults() if "," not in case["name"].partition(", ")[2])
 
@@ -429,13 +419,9 @@ def answers(program):
 
 
 def groups():
-    """The groups of cases of what is built."""
-    yield sets_of_faults
-    if {THREAD, ABSENT, LINK} <= set(proofs.BUILT_KINDS):
-        yield from (good_proofs, first_threads, each_change, other_anchors, numbers_in_fields, archived_steps, wrong_threads)
-        yield from (absences_that_are_none, wrong_absences, other_archives, other_links, longest_ways, large_archives, anchors_files)
-    if not any(case["words"][0] == "strict" for case in UNBUILT):
-        yield strict_form
+    """The groups of cases."""
+    yield from (sets_of_faults, good_proofs, first_threads, each_change, other_anchors, numbers_in_fields, archived_steps, wrong_threads)
+    yield from (absences_that_are_none, wrong_absences, other_archives, other_links, longest_ways, large_archives, anchors_files, strict_form)
 
 
 def cases():

@@ -1,13 +1,14 @@
 """Acceptance cases that are counted off: proofs made by reference.py, and each way to change one of them.
 
-What the program is to say of a changed proof is what proofs.verdict says.
+What the program is to say of a changed proof is what chains.verdict says.
 """
 
 import random
 
-import proofs
 import reference
+from chains import verdict
 from histories import event_text, reshaping, timed, woven
+from proofs import KINDS
 from reference import Timeline
 
 
@@ -18,7 +19,7 @@ def counted_timeline(name, counts):
 
 def judged(name, data, service, pos, auth):
     """The case of these bytes under an anchor, as the reference judges them."""
-    text, status = proofs.verdict(data, {service: (pos, auth)})
+    text, status = verdict(data, {service: (pos, auth)})
     return {
         "name": name,
         "files": {"p": data},
@@ -103,7 +104,7 @@ def other_kinds():
     """The least proof with another kind, and a kind with nothing behind it."""
     line = Timeline("a", [[b""]])
     data = reference.proof_bytes(line, 1, 0, 1)
-    for kind in (0, *proofs.KINDS, 6, 9, 255):
+    for kind in (0, *KINDS, 6, 9, 255):
         yield judged(f"kind {kind}", data[:4] + bytes([kind]) + data[5:], "a", 1, line.auths[1])
         yield judged(f"kind {kind}, and nothing else", data[:4] + bytes([kind]), "a", 1, line.auths[1])
 

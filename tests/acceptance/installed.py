@@ -64,6 +64,7 @@ def completion(program):
         (Path(folder) / "folder").mkdir()
         expected = {before: words for before, words in wanted().items()}
         expected |= {("append",): {"folder"}, ("append", "x"): {"file", "folder"}, ("verify",): {"file", "folder"}, ("frob",): set()}
+        expected |= {("join", *"xxxx"[:count]): {"file", "folder"} for count in range(5)} | {("verify", "x", "x", "1", "x"): set()}
         for before, words in expected.items():
             found, errors = offered(TOP / "tools/completion.bash", before, folder)
             if (found, errors) != (words, ""):

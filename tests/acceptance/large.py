@@ -7,8 +7,8 @@
 import sys
 from pathlib import Path
 
-from proofs import ABSENT, NODE_SIZE, THREAD, absent_bytes, absent_text, blocks, part_sizes, thread_bytes, thread_text
-from reference import EMPTY, Entry, Node, Tree, be, deep_part, dig
+from proofs import ABSENT, NODE_SIZE, PRECEDES, THREAD, absent_bytes, absent_text, blocks, part_sizes, thread_bytes, thread_text
+from reference import EMPTY, DeepStep, Entry, Node, Tree, be, deep_part, dig, event_bytes, padded
 from trees import absent, goes_left, present, proof_over
 
 SERVICE = "large"
@@ -44,7 +44,7 @@ def tree_around(ask, percent, low=0, high=ENTRIES):
     left = goes_left(ask, entry_at(pivot).key)
     lower = tree_around(ask, percent, low, pivot) if left else made_up(low, pivot)
     upper = tree_around(ask, percent, pivot + 1, high) if left is False else made_up(pivot + 1, high)
-    return Node(lower, entry_at(pivot), upper)
+    return Node(lower, ask.entry if left is None else entry_at(pivot), upper)
 
 
 class LargeProof:
@@ -68,6 +68,29 @@ class LargeProof:
         """The sizes of the texts that checking it hashes, each once: those of its tree proof begin with the entry's node, or with the
         empty tree."""
         return part_sizes(STEP, TOP) + [self.own] + [NODE_SIZE] * self.ancestors
+
+
+def deep_way(hops, percent):
+    """The proof that an event of one service precedes one of another, by so many hops over archives of a million entries each, and its
+    anchors. Each hop is of a service of its own; that of the first event's service is carried, the others are bound."""
+    places = [ENTRIES // hops * number for number in range(hops)]
+    first = DeepStep(1, entry_at(places[0]).step, EMPTY.label, [b"first"], b"first")
+    tail = be(1, 8) + first.path + first.opening + event_bytes([b"first"], 0)
+    pieces, anchors, shown = [], {}, first
+    for number, place in enumerate(places):
+        entry = entry_at(place)._replace(auth=shown.auth if number else shown.reached, archived=1)
+        # (the first event's service binds nothing, and its step isn't opened once more)
+        behind = be(TOP, 8) + shown.path + (shown.opening if number else b"") if number else be(0, 8)
+        tree = tree_around(present(entry), percent)
+        pieces.append(entry.bytes() + proof_over(tree, present(entry)).bytes() + behind)
+        if number:
+            anchors[entry.service] = TOP, shown.reached
+        following = entry_at(places[number + 1]).step if number + 1 < hops else STEP
+        shown = DeepStep(following, TOP, tree.label, [], be(number, 2))
+    second = DeepStep(STEP + 1, TOP, EMPTY.label, [b"second"], b"second", shown.auth)
+    anchors[SERVICE] = TOP, second.reached
+    head = b"TWP1" + be(PRECEDES, 1) + be(hops, 1) + padded(SERVICE) + be(STEP + 1, 8) + be(TOP, 8) + second.path + second.opening
+    return head + event_bytes([b"second"], 0) + shown.opening + b"".join(reversed(pieces)) + tail, anchors
 
 
 def write_measured(folder):

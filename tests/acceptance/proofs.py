@@ -1,4 +1,4 @@
-"""Proofs over one history in Python over hashlib: how they are made, read, judged and reported.
+"""Proofs over one history in Python over hashlib: how they are made, read and reported, and what stands against them; chains.py has those over several.
 
     EXISTS  an event stands in a step                      head, path, opening, event part
     THREAD  an archive has a thread                        head, path, opening, entry, tree proof of its presence
@@ -16,10 +16,6 @@ from reference import (
 from trees import absent, checked, present, proof_over, read_entry, read_tree_proof
 
 EXISTS, PRECEDES, THREAD, ABSENT, LINK = KINDS = range(1, 6)
-
-# The kinds that the program judges; of the others it says that they aren't built.
-BUILT_KINDS = (EXISTS, THREAD, ABSENT, LINK)
-
 
 # The sizes of hashed texts: of a link, of the datum of a step without a time, of a node of an archive's tree.
 LINK_SIZE, DATUM_SIZE, NODE_SIZE = 74, 69, 129
@@ -109,6 +105,29 @@ class Opening:
         return authenticator(step, [link_label(step, 0, own, self.prev), *self.others])
 
 
+def read_path(read, top, step):
+    """The path that stands next, from the top to the step: for each link the datum of the step that it leaves and that step's other labels."""
+    return [(read.bytes(32), read.digests(top_level(start))) for start in greedy_steps(top, step)[:-1]]
+
+
+# A reason that stands against a proof: its number and name, and the part or the service and step that it tells besides.
+BAD_ORDER = ("2 BadOrder", None)
+
+
+def unbound(anchors, service, top, step, path, auth, part):
+    """What stands against a path from an anchor's step down to this step's authenticator."""
+    held, held_auth = anchors.get(service, (None, None))
+    if held != top:
+        yield "3 NotHeld", f"{service} {top}"
+    elif climbed(path, top, step, auth) != held_auth:
+        yield "4 BadPath", part
+
+
+def answers(root, ask, shown):
+    """Whether a tree proof answers the question as is claimed, under this root."""
+    return checked(root, ask, shown).answer == ask.question.value
+
+
 class Claim:
     """What a proof claims beside its head: it reads its fields, behind the opening where there is one."""
 
@@ -119,9 +138,9 @@ class Claim:
         """Whether its own steps are in order with the proof's."""
         return True
 
-    def reason(self, opening):
-        """The reason that stands against it under an opening, or None."""
-        return None
+    def is_shown(self, opening):
+        """Whether it is so under an opening."""
+        return True
 
     def report(self, proof):
         """What is written where nothing stands against it."""
@@ -131,14 +150,15 @@ class Claim:
 class EventClaim(Claim):
     """An event, its index and its audit path."""
 
+    fault = "6 BadEvent"
+
     def __init__(self, read, opening):
         self.index = read.number(4, 0, opening.count - 1)
         self.event = read.bytes(read.number(4, 0, 1024))
         self.path = read.digests(path_length(opening.count, self.index))
 
-    def reason(self, opening):
-        root = root_from_path(opening.count, self.index, dig(b"\x00" + self.event), self.path)
-        return None if root == opening.event_root else "6 BadEvent 0"
+    def is_shown(self, opening):
+        return root_from_path(opening.count, self.index, dig(b"\x00" + self.event), self.path) == opening.event_root
 
     def report(self, proof):
         return accepted_text(proof.service, proof.step, self.index, self.event, proof.opening.time)
@@ -147,9 +167,10 @@ class EventClaim(Claim):
 class TreeClaim(Claim):
     """A claim about the archive: its answer to the question `ask` is that of this name."""
 
-    def reason(self, opening):
-        shown = checked(opening.archive, self.ask, self.shown).answer
-        return None if shown == self.ask.question.value else "7 BadTree 0"
+    fault = "7 BadTree"
+
+    def is_shown(self, opening):
+        return answers(opening.archive, self.ask, self.shown)
 
 
 class ThreadClaim(TreeClaim):
@@ -199,7 +220,7 @@ class Proof:
         self.step = read.number(8, 0 if kind == LINK else 1, LAST_STEP)
         self.top = read.number(8, 1, LAST_STEP)
         self.auth = read.bytes(32) if kind == LINK else None
-        self.path = [(read.bytes(32), read.digests(top_level(start))) for start in greedy_steps(self.top, self.step)[:-1]]
+        self.path = read_path(read, self.top, self.step)
         self.opening = None if kind == LINK else Opening(read, self.step, 1 if kind == EXISTS else 0)
         self.claim = CLAIMS[kind](read, self.opening)
         read.end()
@@ -207,25 +228,17 @@ class Proof:
             self.auth = self.opening.authenticator(self.step)
 
     def reasons(self, anchors):
-        """The reasons that stand against it, by their numbers, under anchors: the step and the authenticator held of each service."""
+        """The reasons that stand against it under anchors, which are the step and the authenticator held of each service."""
         if self.step > self.top or not self.claim.is_in_order(self.step):
-            yield "2 BadOrder"
-        held, auth = anchors.get(self.service, (None, None))
-        if held != self.top:
-            yield f"3 NotHeld {self.service} {self.top}"
-        if climbed(self.path, self.top, self.step, self.auth) != auth:
-            yield "4 BadPath 0"
-        if reason := self.claim.reason(self.opening):
-            yield reason
+            yield BAD_ORDER
+        yield from unbound(anchors, self.service, self.top, self.step, self.path, self.auth, 0)
+        if not self.claim.is_shown(self.opening):
+            yield self.claim.fault, 0
 
+    def carried(self):
+        """The threads that it carries: none."""
+        return []
 
-def verdict(data, anchors):
-    """What the program writes of the bytes of a proof under these anchors, and its status."""
-    if data[:4] == b"TWP1" and len(data) > 4 and data[4] in set(KINDS) - set(BUILT_KINDS):
-        return "rejected 9 Unbuilt\n", 1
-    try:
-        proof = Proof(data)
-    except Malformed as bad:
-        return f"rejected 1 Malformed {bad.place}\n", 1
-    reason = next(proof.reasons(anchors), None)
-    return (f"rejected {reason}\n", 1) if reason else (proof.claim.report(proof), 0)
+    def report(self):
+        """What is written where nothing stands against it."""
+        return self.claim.report(self)

@@ -4,6 +4,7 @@
     python3 tests/acceptance/run.py --texts        documents and sources alone, but for the tutorial; it needs no built program
 
 The cases stand in cases/*.json, those that are counted off in generated.py, those of proofs over archives and of links in archives.py,
+those of proofs that an event precedes another and of joining in precedence.py,
 those of services in steps.py, pages.py and failing.py, those of the program's edge to the system in edges.py, of programs at one time in
 beside.py, and of lost power and failing system calls in power.py and faults.py; documents.py and cited.py check the documents,
 installed.py what `make install` copies, shown.py the examples to copy, and sources.py the sources.
@@ -46,6 +47,7 @@ import generated
 import installed
 import pages
 import power
+import precedence
 import reference
 import seen
 import shown
@@ -154,6 +156,7 @@ def all_cases():
             yield {**case, "name": f"{path.stem}: {case['name']}"}
     yield from generated.cases()
     yield from archives.cases()
+    yield from precedence.cases()
     yield from steps.cases()
     yield from pages.cases()
     yield from failing.cases()

@@ -78,15 +78,27 @@ def manual_examples(room):
         raise Wrong("\n".join([*wrong, done.stderr]))
 
 
-def archived_threads(room):
-    """the proofs of what a history recorded of other services are judged as the demo shows them"""
+def verdicts(room, name, wanted):
+    """Runs a script of examples/ that shows what it runs; its verdicts have to be these."""
     linked(room)
-    status, shown = script(room, "archived_threads.sh", room.program)
-    wanted = ["accepted thread", "accepted absent", "accepted link", "rejected 7 BadTree 0"]
+    status, shown = script(room, name, room.program)
     found = [line for line in shown.splitlines() if line.startswith(("accepted ", "rejected "))]
     if (status, found) != (0, wanted):
-        raise Wrong(f"  archived_threads.sh\n  wanted {wanted}\n  got    {status} {shown!r}")
+        raise Wrong(f"  {name}\n  wanted {wanted}\n  got    {status} {shown!r}")
+
+
+def archived_threads(room):
+    """the proofs of what a history recorded of other services are judged as the demo shows them"""
+    verdicts(room, "archived_threads.sh", ["accepted thread", "accepted absent", "accepted link", "rejected 7 BadTree 0"])
+
+
+def event_chain(room):
+    """the proof that an event of one service precedes one of another is joined and judged as the demo shows it"""
+    precedes = ["accepted precedes"]
+    carried = [*precedes, "rejected 8 Carried 1"]
+    refused = ["rejected Gap 2", "rejected 6 BadEvent 2", "rejected 3 NotHeld bank 3"]
+    verdicts(room, "event_chain.sh", [*precedes, *precedes, *carried, *refused])
 
 
 def cases():
-    return [case(work, "shown") for work in (log_of_digests, archived_threads, manual_examples)]
+    return [case(work, "shown") for work in (log_of_digests, archived_threads, event_chain, manual_examples)]

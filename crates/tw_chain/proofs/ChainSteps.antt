@@ -1,5 +1,5 @@
 -- A chain with a hop more.
-use Rattle.std.proofs.Common.{◌≡◌, ℕ, suc, zero, ◌+◌, List, [], ◌∷◌, ◌++◌, length, refl, sym, ap, ◌∙◌, append_assoc, arith}
+use Rattle.std.proofs.Common.{◌≡◌, ℕ, suc, ◌+◌, List, [], ◌∷◌, ◌++◌, length, refl, sym, ap, ◌∙◌, append_assoc, arith}
 use Rattle.std.specs.Prelude.{Option, Some, None, reverse, if◌then◌else◌}
 use Rattle.std.specs.List.{flat_map}
 use Rattle.std.proofs.lemmas.List.{append-nil, reverse-append}
@@ -13,7 +13,7 @@ use Rattle.tw_chain.specs.declared.chain.Chain.{Chain}
 use Rattle.tw_chain.specs.declared.judgement.Judgement.{Judgement}
 use Rattle.tw_chain.specs.declared.proof.HopPart.{HopPart}
 use Rattle.tw_chain.specs.declared.proof.Tail.{Tail}
-use Rattle.tw_chain.specs.Accepting.{hops_to, seen_at}
+use Rattle.tw_chain.specs.Accepting.{hops_to}
 use Rattle.tw_chain.specs.Chaining.{behind_checks, closed, found_with, with_hop}
 use Rattle.tw_chain.specs.Checks.{Check, hop_checks, hops_checks, last_thread, root_of, tail_checks}
 use Rattle.tw_chain.specs.Judgements.{found_in, lower_of, passes}

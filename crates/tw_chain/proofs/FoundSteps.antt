@@ -1,6 +1,6 @@
 -- What is found of checks, one after another.
 use Rattle.std.proofs.Common.{◌≡◌, ℕ, List, [], ◌∷◌, ◌++◌, refl, sym, ap, ◌∙◌, subst}
-use Rattle.std.specs.Prelude.{Bool, true, false, Option, Some, None, IfSome, if◌then◌else◌}
+use Rattle.std.specs.Prelude.{Bool, true, Option, Some, None, IfSome, if◌then◌else◌}
 use Rattle.std.specs.Bool.{Decides}
 use Rattle.std.specs.Option.{option_map}
 use Rattle.std.proofs.lemmas.Bool.Decides.{same_from_decides}
@@ -8,13 +8,9 @@ use Rattle.tw_base.specs.declared.report.Reason.{Reason}
 use Rattle.tw_base.specs.declared.report.Reason.TheVariants.{NotHeld}
 use Rattle.tw_base.specs.declared.thread.Key.{Key}
 use Rattle.tw_base.specs.declared.thread.Thread.{Thread}
-use Rattle.tw_skipproof.specs.declared.existence.Part.{Part}
-use Rattle.tw_skipproof.specs.Acceptance.{Reaches}
-use Rattle.tw_skipproof.specs.Paths.{Climbs}
-use Rattle.tw_chain.specs.declared.proof.LinkProof.{LinkProof}
 use Rattle.tw_chain.specs.Chaining.{found_with}
-use Rattle.tw_chain.specs.Checks.{Check, link_top, top_of}
-use Rattle.tw_chain.specs.Checks.Check.{LinkOf, NeedsAnchor, PathOf}
+use Rattle.tw_chain.specs.Checks.{Check}
+use Rattle.tw_chain.specs.Checks.Check.{NeedsAnchor}
 use Rattle.tw_chain.specs.Checks.Upper.{AtAnchor}
 use Rattle.tw_chain.specs.Judgements.{found_in, lower_of, passes}
 use Rattle.tw_chain.specs.Passing.{Passes, anchor_at, reason_of, upper_auth}
@@ -75,3 +71,9 @@ module _ (dig : List ℕ → List ℕ) (anchors : List Thread) where
       → found_with dig anchors two (c ∷ []) ≡ found_with dig anchors found (a ∷ b ∷ c ∷ [])
   found-three found one two a b c first second =
       found-onto found two (a ∷ b ∷ []) (c ∷ []) (second ∙ found-onto found one (a ∷ []) (b ∷ []) first)
+
+  -- two checks, and those behind them in two parts
+  pub found-four : (found one two three : Option Reason) (a b : Check) (cs ds : List Check) → one ≡ found_with dig anchors found (a ∷ []) → two ≡ found_with dig anchors one (b ∷ [])
+      → three ≡ found_with dig anchors two cs → found_with dig anchors three ds ≡ found_with dig anchors found (a ∷ b ∷ (cs ++ ds))
+  found-four found one two three a b cs ds first second third =
+      found-onto two three cs ds third ∙ found-onto one two (b ∷ []) (cs ++ ds) second ∙ found-onto found one (a ∷ []) (b ∷ (cs ++ ds)) first

@@ -1,5 +1,5 @@
 -- No tree proof gives an answer under a root that has no bytes.
-use Rattle.std.proofs.Common.{◌≡◌, ℕ, List, [], ◌∷◌, length, refl, sym, ap, ◌∙◌, arith}
+use Rattle.std.proofs.Common.{◌≡◌, ℕ, List, [], ◌∷◌, length, sym, ap, ◌∙◌, arith}
 use Rattle.tw_base.specs.declared.thread.Entry.{Entry}
 use Rattle.std.specs.Prelude.{Bool}
 use Rattle.tw_base.specs.declared.tree_proof.Ancestor.{Ancestor}

@@ -1,4 +1,4 @@
-use Rattle.std.proofs.Common.{List, ℕ, sym, ◌∙◌}
+use Rattle.std.proofs.Common.{sym, ◌∙◌}
 use Rattle.std.specs.Prelude.{None}
 use Rattle.tw_skipproof.specs.Acceptance.{Reaches}
 use Rattle.tw_chain.specs.Checks.{Check, top_of}

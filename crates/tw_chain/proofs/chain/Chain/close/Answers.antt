@@ -1,4 +1,3 @@
-use Rattle.std.proofs.Common.{◌∙◌, refl}
 use Rattle.tw_chain.proofs.ChainSteps.{closed-ended}
 use Rattle.tw_chain.proofs.chain.Chain.close.Goals as goal
 

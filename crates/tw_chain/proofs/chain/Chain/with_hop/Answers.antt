@@ -1,8 +1,5 @@
-use Rattle.std.proofs.Common.{◌≡◌, List, [], ◌∷◌, ◌++◌, refl, add-one}
+use Rattle.std.proofs.Common.{◌≡◌, [], ◌∷◌, ◌++◌, refl, add-one}
 use Rattle.std.specs.List.{flat_map}
-use Rattle.std.specs.Prelude.{OnOk}
-use Rattle.tw_base.specs.declared.report.Hop.{Hop}
-use Rattle.tw_base.specs.declared.thread.Thread.{Thread}
 use Rattle.tw_chain.specs.Accepting.{hop_from}
 use Rattle.tw_chain.specs.Checks.{hop_checks, root_of}
 use Rattle.tw_chain.specs.Passing.{carried_by}
