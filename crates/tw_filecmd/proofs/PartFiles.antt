@@ -41,9 +41,9 @@ module _ (told : Option Files) where
   -- one that is the first to hold none
   pub bad-snoc : (files : List (List ℕ)) (parts : List Proof) (file : List ℕ) (place : ℕ)
       → AreProofsOf told files parts → IsNoProof told file place → HasBadPart told (files ++ file ∷ []) file place
-  bad-snoc [] parts file place are no = inl (refl, no, tt)
-  bad-snoc (first ∷ files) [] file place are no = absurd are
-  bad-snoc (first ∷ files) (p ∷ parts) file place are no = inr ((p, are.0), bad-snoc files parts file place are.1 no)
+  bad-snoc [] parts file place are none = inl (refl, none, tt)
+  bad-snoc (first ∷ files) [] file place are none = absurd are
+  bad-snoc (first ∷ files) (p ∷ parts) file place are none = inr ((p, are.0), bad-snoc files parts file place are.1 none)
 
   -- one behind it
   pub bad-more : (files : List (List ℕ)) (file named : List ℕ) (place : ℕ)

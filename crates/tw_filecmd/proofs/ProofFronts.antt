@@ -43,7 +43,7 @@ module _ (front more : List ℕ) (broken : IsFront proof_layout front → ⊥) w
   pub place_behind : (place : ℕ) → IsPlace proof_layout front place → IsPlace proof_layout (front ++ more) place
   place_behind place is = record {
     within = omega (arith, is.within, length-append front more);
-    good = subst (IsFront proof_layout) (sym (take-append-le front more is.within)) is.good;
+    good = subst (IsFront proof_layout) (sym (take-append-le place front more is.within)) is.good;
     longest = λ n within of_n. elim (cases_lt (length front) n) [
       | inl above ↦
           let k : ℕ = n - length front in
@@ -51,7 +51,7 @@ module _ (front more : List ℕ) (broken : IsFront proof_layout front → ⊥) w
           let split : take n (front ++ more) ≡ front ++ take k more =
           ap (λ m. take m (front ++ more)) size ∙ take-append-add front more k in
           absurd (longer (take k more) (subst (IsFront proof_layout) split of_n))
-      | inr below ↦ is.longest n below (subst (IsFront proof_layout) (take-append-le front more below) of_n)
+      | inr below ↦ is.longest n below (subst (IsFront proof_layout) (take-append-le n front more below) of_n)
     ];
   }
 
