@@ -1,20 +1,24 @@
 -- What is known of each command's work.
-use Rattle.std.proofs.Common.{◌≡◌, ◌∙◌, ℕ, List, [], ◌∷◌, refl, ap, sym, subst, arith, inl, inr, ◌⊎◌}
+use Rattle.std.proofs.Common.{◌≡◌, ◌∙◌, ℕ, Bool, true, false, List, [], ◌∷◌, refl, ap, sym, subst, arith, inl, inr, ◌⊎◌}
 use Rattle.std.specs.Prelude.{Option, Some, MatchOption, Result, Ok, Err}
 use Rattle.tw_base.specs.declared.thread.Thread.{Thread}
 use Rattle.tw_base.specs.Faults.{Rose}
 use Rattle.tw_base.specs.History.{History}
 use Rattle.tw_disk.specs.Disk.{DiskView}
 use Rattle.tw_disk.specs.Image.{Image}
+use Rattle.tw_outside.specs.Asked.{Asked}
 use Rattle.tw_outside.specs.Files.{Files}
 use Rattle.tw_text.specs.CommandLine.{command_of}
 use Rattle.tw_text.specs.declared.command.Command.{Command}
-use Rattle.tw_text.specs.declared.command.Command.TheVariants.{Append, Init, ProveEvent, Show, VerifyFile, VerifyOne, Strict}
+use Rattle.tw_text.specs.declared.command.Command.TheVariants.{Append, Init, Join, ProveEvent, Show, VerifyFile, VerifyOne, Strict}
 use Rattle.tw_text.specs.declared.fault.CommandFault.{CommandFault}
 use Rattle.tw_text.specs.declared.fault.CommandFault.TheVariants.{InputFault, DiskFault, NoMemory, Unserved}
 use Rattle.tw_text.specs.declared.refusal.StoreCause.{StoreCause}
 use Rattle.tw_text.specs.Faults.{fault_status}
 use Rattle.tw_chain.specs.declared.verdict.Verdict.{Verdict}
+use Rattle.tw_filecmd.specs.declared.joining.Joined.{Joined as JoinedProofs}
+use Rattle.tw_filecmd.specs.declared.joining.Joined.TheVariants.{Unfit}
+use Rattle.tw_filecmd.specs.Joining.{JoinComes}
 use Rattle.tw_filecmd.specs.Showing.{ShowComes}
 use Rattle.tw_filecmd.specs.Verifying.{HasAnchors, IsJudged, VerifyFileComes, VerifyOneComes}
 use Rattle.tw_diskcmd.specs.Disks.{IsLeft, Keeps, ReadLeaves, ReadsAs}
@@ -22,12 +26,12 @@ use Rattle.tw_diskcmd.specs.WorkSteps.{WritesNothing}
 use Rattle.tw_diskcmd.proofs.AtRest.{left_keeps, untouched_left}
 use Rattle.tw_diskcmd.proofs.CommandLaws.{HasCauses, IsSafe, append_causes, append_is_safe, init_causes, init_is_safe, prove_causes, reading_is_safe}
 use Rattle.tw_app.specs.declared.outcome.Outcome.{Outcome}
-use Rattle.tw_app.specs.declared.outcome.Outcome.TheVariants.{Judged, Proof, Made, BadWords, Undone}
+use Rattle.tw_app.specs.declared.outcome.Outcome.TheVariants.{Judged, Proof, Joined, Made, BadWords, Undone}
 use Rattle.tw_app.specs.Around.{Outside, found_of}
-use Rattle.tw_app.specs.Commands.{NamesFile}
+use Rattle.tw_app.specs.Commands.{IsSomeFile, NamesFile}
 use Rattle.tw_app.specs.Outcomes.{TakesMemory, outcome_by, status_of, text_of}
 use Rattle.tw_app.specs.Running.{IsDoneBy, IsOutcomeOf, IsUnbuilt, IsUntouched, Work, by_results, over_files, reading, unbuilt, work, writing}
-use Rattle.tw_app.specs.Statuses.{AreOf, GivesAnchors, IsBuilt, IsVerify, proof_file}
+use Rattle.tw_app.specs.Statuses.{AreOf, GivesAnchors, IsBuilt, IsVerify, is_strict, proof_file}
 
 pub of_option : (P : Command → Type 0) (words : List (List ℕ)) (c : Command) → command_of words ≡ Some c → P c → AreOf P words
 of_option P words c is holds = subst (λ o. MatchOption o ⊥ P) (sym is) holds
@@ -44,8 +48,15 @@ unbuilt_status _ is zeroth = is
 same_fault : (f g : CommandFault) → Undone f ≡ Undone g → g ≡ f
 same_fault f g is = cc
 
+not_joined : (j : JoinedProofs) (f : CommandFault) → Joined j ≡ Undone f → ⊥
+not_joined j f is = cc
+
 not_judged : (v : Verdict) (f : CommandFault) → Judged v ≡ Undone f → ⊥
 not_judged v f is = cc
+
+some_file : (files : List (List ℕ)) → (files ≡ [] → ⊥) → IsSomeFile files
+some_file [] some = absurd (some refl)
+some_file (file ∷ files) some = tt
 
 -- ---- how results are told
 
@@ -54,14 +65,18 @@ record Tells {X : Type 0} (of : X → Outcome) : Type 0 where
   value : (x : X) (f : CommandFault) → Undone f ≡ of x → ⊥
   words : (x : X) (n : ℕ) → BadWords n ≡ of x → ⊥
 
--- and never as a verdict; its status is 0, and its text takes no memory
+-- and never as a verdict, nor as what was joined; its status is 0, and its text takes no memory
 record TellsOfDisk {X : Type 0} (of : X → Outcome) : Type 0 where
   unjudged : (x : X) (v : Verdict) → Judged v ≡ of x → ⊥
+  unjoined : (x : X) (j : JoinedProofs) → Joined j ≡ of x → ⊥
   takes : (x : X) → TakesMemory (of x) → ⊥
   status : (x : X) → status_of (of x) ≡ 0
 
 made_tells : Tells Made
 made_tells = record { value = λ x f is. cc; words = λ x n is. cc }
+
+joined_tells : Tells Joined
+joined_tells = record { value = λ x f is. cc; words = λ x n is. cc }
 
 proof_tells : Tells Proof
 proof_tells = record { value = λ x f is. cc; words = λ x n is. cc }
@@ -70,10 +85,10 @@ judged_tells : Tells Judged
 judged_tells = record { value = λ x f is. cc; words = λ x n is. cc }
 
 made_of_disk : TellsOfDisk Made
-made_of_disk = record { unjudged = λ x v is. cc; takes = λ x taken. taken; status = λ x. refl }
+made_of_disk = record { unjudged = λ x v is. cc; unjoined = λ x j is. cc; takes = λ x taken. taken; status = λ x. refl }
 
 proof_of_disk : TellsOfDisk Proof
-proof_of_disk = record { unjudged = λ x v is. cc; takes = λ x taken. taken; status = λ x. refl }
+proof_of_disk = record { unjudged = λ x v is. cc; unjoined = λ x j is. cc; takes = λ x taken. taken; status = λ x. refl }
 
 -- where its text takes memory, or its status is neither 0 nor 5, nothing was written
 module _ {X : Type 0} (of : X → Outcome) (of_disk : TellsOfDisk of) where
@@ -115,7 +130,13 @@ pub record Judges (told : Option Files) (c : Command) (verdict : Verdict) : Type
   pub anchors : List Thread
   pub asked : proof_file c ≡ Some file
   pub given : GivesAnchors told c anchors
-  pub judged : IsJudged told file anchors verdict
+  pub judged : IsJudged told file anchors (is_strict c) verdict
+
+-- the command asks for the proofs of files to be joined, and this part of them doesn't fit
+pub record LeavesGap (a : Asked) (c : Command) (place : ℕ) : Type 0 where
+  pub files : List (List ℕ)
+  pub is_command : c ≡ Join files
+  pub comes : JoinComes a files (Ok (Unfit place))
 
 module _ {D : Type 0} (view : D → DiskView)
     (only_now : (d : D) (image : Image) → (view d).left_since (view d).moment image → (view d).may_leave image)
@@ -130,7 +151,7 @@ module _ {D : Type 0} (view : D → DiskView)
   same_safe is = (is, left_keeps view o.disk.before o.disk.after (same_left is))
 
   -- that it is done, or why it isn't, by its outcome; each fault has its cause, a disk that reads as a history serves it, want of memory is
-  -- free, also for its text; a run of which nothing was made and no disk failed wrote nothing; and a verdict is one that it asks for
+  -- free, also for its text; a run of which nothing was made and no disk failed wrote nothing; and a verdict is one that it asks for, as is a part that doesn't fit
   pub record Row (c : Command) (w : Work) : Type 0 where
     pub built : IsBuilt view c ⊎ ((outcome : Outcome) → w.does outcome → status_of outcome ≡ 0 → ⊥)
     pub usage : (n : ℕ) → w.does (BadWords n) → n ≡ 0
@@ -144,6 +165,7 @@ module _ {D : Type 0} (view : D → DiskView)
     pub idle : (outcome : Outcome) → (status_of outcome ≡ 0 → ⊥) → (status_of outcome ≡ 5 → ⊥) → w.does outcome → Left
     pub safe : (outcome : Outcome) → w.does outcome → w.safe
     pub judging : (v : Verdict) → w.does (Judged v) → Judges o.inputs.told c v
+    pub joining : (place : ℕ) → w.does (Joined (Unfit place)) → LeavesGap o.inputs c place
 
   unbuilt_row : (c : Command) → Row c (unbuilt view o)
   unbuilt_row c = record {
@@ -159,6 +181,7 @@ module _ {D : Type 0} (view : D → DiskView)
     idle = λ outcome zeroth fifth came. same_left came.1;
     safe = λ outcome came. same_safe came.1;
     judging = λ v came. absurd came.0;
+    joining = λ place came. absurd came.0;
   }
 
   module _ {X : Type 0} (c : Command) (of : X → Outcome) (tells : Tells of) (Comes Leaves : Result X CommandFault → Type 0) (Safe UsesDisk : Type 0)
@@ -171,8 +194,9 @@ module _ {D : Type 0} (view : D → DiskView)
         → ((r : Result X CommandFault) → (status_of (outcome_by of r) ≡ 0 → ⊥) → (status_of (outcome_by of r) ≡ 5 → ⊥) → Leaves r → Left)
         → ((r : Result X CommandFault) → Leaves r → Safe)
         → ((x : X) (v : Verdict) → Judged v ≡ of x → Comes (Ok x) → Judges o.inputs.told c v)
+        → ((x : X) (place : ℕ) → Joined (Unfit place) ≡ of x → Comes (Ok x) → LeavesGap o.inputs c place)
         → Row c (by_results of (λ r. Comes r × Leaves r) Safe UsesDisk)
-    row memory untouched idle safe judging = record {
+    row memory untouched idle safe judging joining = record {
       built = inl built;
       usage = λ n came. absurd (no_usage of tells n came.0 came.2);
       done = λ outcome came zeroth. done_of of tells May outcome came zeroth;
@@ -185,6 +209,7 @@ module _ {D : Type 0} (view : D → DiskView)
       idle = λ outcome zeroth fifth came. idle came.0 (λ is. zeroth (ap status_of came.2 ∙ is)) (λ is. fifth (ap status_of came.2 ∙ is)) came.1.1;
       safe = λ outcome came. safe came.0 came.1.1;
       judging = λ v came. judged_by v came.0 came.1 came.2;
+      joining = λ place came. joined_by place came.0 came.1 came.2;
     }
       where
         no_memory : Leaves (Err NoMemory) → IsOutcomeOf of May (Undone NoMemory)
@@ -194,17 +219,22 @@ module _ {D : Type 0} (view : D → DiskView)
         judged_by v (Ok x) may is = judging x v is may.0
         judged_by v (Err f) may is = absurd (not_judged v f is)
 
+        joined_by : (place : ℕ) (r : Result X CommandFault) → May r → Joined (Unfit place) ≡ outcome_by of r → LeavesGap o.inputs c place
+        joined_by place (Ok x) may is = joining x place is may.0
+        joined_by place (Err f) may is = absurd (not_joined (Unfit place) f is)
+
     disk_row : TellsOfDisk of → IsSafe view o.disk.before o.disk.after Leaves Safe → Row c (by_results of (λ r. Comes r × Leaves r) Safe UsesDisk)
     disk_row of_disk is_safe =
         row (λ r takes left. is_safe.no_memory (is_safe.idle r left (quiet_text of of_disk r takes))) (λ is. is_safe.no_memory (same_left is))
-        (λ r zeroth fifth left. is_safe.idle r left (quiet_status of of_disk r zeroth fifth)) is_safe.safe (λ x v is comes. absurd (of_disk.unjudged x v is))
+        (λ r zeroth fifth left. is_safe.idle r left (quiet_status of of_disk r zeroth fifth)) is_safe.safe (λ x v is comes. absurd (of_disk.unjudged x v is)) (λ x place is comes. absurd (of_disk.unjoined x (Unfit place) is))
 
   files_row : {X : Type 0} (c : Command) (of : X → Outcome) → Tells of → (Comes : Result X CommandFault → Type 0)
       → HasCauses o.inputs (found_of view o) (NamesFile c) ⊥ Comes → IsBuilt view c
-      → ((x : X) (v : Verdict) → Judged v ≡ of x → Comes (Ok x) → Judges o.inputs.told c v) → Row c (over_files view o of Comes)
-  files_row c of tells Comes causes built judging =
+      → ((x : X) (v : Verdict) → Judged v ≡ of x → Comes (Ok x) → Judges o.inputs.told c v)
+      → ((x : X) (place : ℕ) → Joined (Unfit place) ≡ of x → Comes (Ok x) → LeavesGap o.inputs c place) → Row c (over_files view o of Comes)
+  files_row c of tells Comes causes built judging joining =
       row c of tells Comes (λ r. IsUntouched view o) (IsUntouched view o × Keeps view o.disk.before o.disk.after) ⊥ causes built
-      (λ r takes same. same) (λ is. is) (λ r zeroth fifth same. same_left same) (λ r same. same_safe same) judging
+      (λ r takes same. same) (λ is. is) (λ r zeroth fifth same. same_left same) (λ r same. same_safe same) judging joining
 
   -- one that makes a service or a step, and one that reads a proof from a disk
   made_row : {Comes Leaves : Result Thread CommandFault → Type 0} {Safe : Type 0} → (c : Command) → IsBuilt view c
@@ -222,29 +252,42 @@ module _ {D : Type 0} (view : D → DiskView)
       files_row (Show history step index) Proof proof_tells (ShowComes o.inputs history step index)
       (record { input = λ rose. (tt, rose); disk = λ came. absurd came; serves = λ h reads why came. came; memory = tt })
       (λ p n came. no_usage Proof proof_tells n came.0 came.2) (λ x v is comes. absurd (proof_of_disk.unjudged x v is))
+      (λ x place is comes. absurd (proof_of_disk.unjoined x (Unfit place) is))
+
+  join_row : (files : List (List ℕ)) → Row (Join files) (work view o (Join files))
+  join_row files =
+      files_row (Join files) Joined joined_tells (JoinComes o.inputs files)
+      (record { input = λ failed. (some_file files failed.0, failed.1); disk = λ came. absurd came; serves = λ h reads why came. came; memory = tt })
+      (λ p n came. no_usage Joined joined_tells n came.0 came.2) (λ x v is comes. cc) joining
+    where
+      joining : (x : JoinedProofs) (place : ℕ) → Joined (Unfit place) ≡ Joined x → JoinComes o.inputs files (Ok x) → LeavesGap o.inputs (Join files) place
+      joining x place is comes =
+          let same : x ≡ Unfit place = cc in
+          record { files = files; is_command = refl; comes = subst (λ (j : JoinedProofs). JoinComes o.inputs files (Ok j)) same comes }
 
   -- one that judges a proof under the anchors of a file
   anchors_row : (c : Command) (proof anchors : List ℕ) → IsBuilt view c → NamesFile c → proof_file c ≡ Some proof
-      → ((held : List Thread) → HasAnchors o.inputs.told anchors held → GivesAnchors o.inputs.told c held) → Row c (over_files view o Judged (VerifyFileComes o.inputs proof anchors))
+      → ((held : List Thread) → HasAnchors o.inputs.told anchors held → GivesAnchors o.inputs.told c held)
+      → Row c (over_files view o Judged (VerifyFileComes o.inputs proof anchors (is_strict c)))
   anchors_row c proof anchors built names asked given =
-      files_row c Judged judged_tells (VerifyFileComes o.inputs proof anchors)
-      (record { input = λ rose. (names, rose); disk = λ came. absurd came; serves = λ h reads why came. came; memory = tt }) built judging
+      files_row c Judged judged_tells (VerifyFileComes o.inputs proof anchors (is_strict c))
+      (record { input = λ rose. (names, rose); disk = λ came. absurd came; serves = λ h reads why came. came; memory = tt }) built judging (λ x place is comes. cc)
     where
-      judging : (w v : Verdict) → Judged v ≡ Judged w → VerifyFileComes o.inputs proof anchors (Ok w) → Judges o.inputs.told c v
+      judging : (w v : Verdict) → Judged v ≡ Judged w → VerifyFileComes o.inputs proof anchors (is_strict c) (Ok w) → Judges o.inputs.told c v
       judging w v is comes =
           let same : w ≡ v = cc in
-          record { file = proof; anchors = comes.0; asked = asked; given = given comes.0 comes.1; judged = subst (IsJudged o.inputs.told proof comes.0) same comes.2 }
+          record { file = proof; anchors = comes.0; asked = asked; given = given comes.0 comes.1; judged = subst (IsJudged o.inputs.told proof comes.0 (is_strict c)) same comes.2 }
 
   verify_one_row : (proof : List ℕ) (anchor : Thread) → Row (VerifyOne proof anchor) (work view o (VerifyOne proof anchor))
   verify_one_row proof anchor =
       files_row (VerifyOne proof anchor) Judged judged_tells (VerifyOneComes o.inputs proof anchor)
       (record { input = λ rose. (tt, rose); disk = λ came. absurd came; serves = λ h reads why came. came; memory = tt })
-      (λ p n came. no_usage Judged judged_tells n came.0 came.2) judging
+      (λ p n came. no_usage Judged judged_tells n came.0 came.2) judging (λ x place is comes. cc)
     where
       judging : (w v : Verdict) → Judged v ≡ Judged w → VerifyOneComes o.inputs proof anchor (Ok w) → Judges o.inputs.told (VerifyOne proof anchor) v
       judging w v is comes =
           let same : w ≡ v = cc in
-          record { file = proof; anchors = anchor ∷ []; asked = refl; given = refl; judged = subst (IsJudged o.inputs.told proof (anchor ∷ [])) same comes }
+          record { file = proof; anchors = anchor ∷ []; asked = refl; given = refl; judged = subst (IsJudged o.inputs.told proof (anchor ∷ []) false) same comes }
 
   -- each command, by what is known of its results
   pub rows : (c : Command) → Row c (work view o c)
@@ -257,6 +300,7 @@ module _ {D : Type 0} (view : D → DiskView)
   rows (ProveEvent step index top) =
       proof_row (ProveEvent step index top) (λ p n came. no_usage Proof proof_tells n came.0 came.2) (prove_causes o.inputs (found_of view o) step index top)
   rows (Show history step index) = show_row history step index
+  rows (Join files) = join_row files
   rows (VerifyFile proof anchors) =
       anchors_row (VerifyFile proof anchors) proof anchors (λ p n came. no_usage Judged judged_tells n came.0 came.2) tt refl (λ held has. has)
   rows (Strict proof anchors) =

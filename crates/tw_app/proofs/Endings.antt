@@ -1,12 +1,12 @@
 -- What a run's status says by itself.
-use Rattle.std.proofs.Common.{◌≡◌, ℕ, ◌<◌, ◌≤◌, List, ◌++◌, ap, sym, ◌∙◌, subst, arith, inl, inr, ◌⊎◌, ⊎_elim, refl}
+use Rattle.std.proofs.Common.{◌≡◌, ℕ, ◌<◌, ◌≤◌, List, [], ◌++◌, ap, sym, ◌∙◌, subst, arith, inl, inr, ◌⊎◌, ⊎_elim, refl}
 use Rattle.std.proofs.lemmas.Bool.{cases_eq}
 use Rattle.std.specs.Prelude.{Option, Some, None, MatchOption}
 use Rattle.sha2.specs.Sha256.{sha256}
-use Rattle.tw_base.specs.declared.report.Claim.{Claim}
 use Rattle.tw_base.specs.declared.report.Report.{Report}
 use Rattle.tw_base.specs.Clash.{OrClash}
-use Rattle.tw_base.specs.Family.{Facts, family_texts}
+use Rattle.tw_base.specs.Facts.{Facts, TimesRise}
+use Rattle.tw_base.specs.Family.{family_texts}
 use Rattle.tw_base.specs.Faults.{Rose}
 use Rattle.tw_base.specs.History.{History}
 use Rattle.tw_base.proofs.FormatLaws.{one_value}
@@ -23,20 +23,23 @@ use Rattle.tw_text.specs.declared.refusal.Refusal.{Refusal}
 use Rattle.tw_text.specs.declared.refusal.StoreCause.{StoreCause}
 use Rattle.tw_text.specs.Reports.{report_text}
 use Rattle.tw_text.specs.declared.command.Command.{Command}
+use Rattle.tw_chain.specs.declared.proof.Proof.{Proof as ProofValue}
 use Rattle.tw_chain.specs.Proofs.{proof_layout}
 use Rattle.tw_chain.specs.declared.verdict.Verdict.{Verdict}
 use Rattle.tw_chain.specs.declared.verdict.Verdict.TheVariants.{Yes, No}
-use Rattle.tw_chain.specs.Accepting.{Accepts, claim_of, proof_texts}
+use Rattle.tw_chain.specs.Accepting.{Accepts, carried, proof_texts, report_of}
+use Rattle.tw_filecmd.specs.declared.joining.Joined.{Joined as JoinedProofs}
+use Rattle.tw_filecmd.specs.declared.joining.Joined.TheVariants.{Whole, Unfit}
 use Rattle.tw_diskcmd.specs.Disks.{IsLeft, ReadsAs}
 use Rattle.tw_app.specs.declared.outcome.Outcome.{Outcome}
-use Rattle.tw_app.specs.declared.outcome.Outcome.TheVariants.{Judged, Proof, Made, BadWords, Undone}
+use Rattle.tw_app.specs.declared.outcome.Outcome.TheVariants.{Judged, Proof, Joined, Made, BadWords, Undone}
 use Rattle.tw_app.specs.Around.{Around, Writes}
 use Rattle.tw_app.specs.Commands.{NamesFile}
 use Rattle.tw_app.specs.Outcomes.{TakesMemory, status_of, text_of}
 use Rattle.tw_app.specs.Running.{Ends, EndsWith, HasOutcome, HaveNoForm, IsUntouched, Work, work}
-use Rattle.tw_app.specs.Statuses.{AreOf, DiskFailed, IsAcceptedRun, IsBuilt, IsDiskFaultRun, IsDoneRun, IsIdle, IsInputFaultRun, IsRejectedRun, IsStatus, IsUndoneRun, IsUsageRun, IsVerify, IsWork}
+use Rattle.tw_app.specs.Statuses.{AreOf, DiskFailed, IsAcceptedRun, IsBuilt, IsDiskFaultRun, IsDoneRun, IsGapRun, IsIdle, IsInputFaultRun, IsRejectedRun, IsStatus, IsUndoneRun, IsUsageRun, IsVerify, IsWork}
 use Rattle.tw_app.proofs.Words.{no_text_outcome}
-use Rattle.tw_app.proofs.Commands.{Judges, Row, fault_not_zero, of_option, rows, same_left, verdict_or_fault}
+use Rattle.tw_app.proofs.Commands.{Judges, LeavesGap, Row, fault_not_zero, of_option, rows, same_left, verdict_or_fault}
 
 pub zero_not_four : (n : ℕ) → n ≡ 0 → n ≡ 4 → ⊥
 zero_not_four n zeroth fourth = omega (arith, zeroth, fourth)
@@ -44,6 +47,10 @@ zero_not_four n zeroth fourth = omega (arith, zeroth, fourth)
 not_verdict : (verdict : Verdict) (n : ℕ) → (n ≡ 0 → ⊥) → (n ≡ 1 → ⊥) → n ≡ status_of (Judged verdict) → ⊥
 not_verdict (Yes report) n zeroth first told = zeroth told
 not_verdict (No reason) n zeroth first told = first told
+
+not_joined : (joined : JoinedProofs) (n : ℕ) → (n ≡ 0 → ⊥) → (n ≡ 1 → ⊥) → n ≡ status_of (Joined joined) → ⊥
+not_joined (Whole proof) n zeroth first told = zeroth told
+not_joined (Unfit place) n zeroth first told = first told
 
 not_fault : (f : CommandFault) (n : ℕ) → n ≡ fault_status f → n < 3 → ⊥
 not_fault InputFault n same low = omega (arith, same, low)
@@ -56,6 +63,7 @@ no_form_status words _ is zeroth = is
 
 is_disk_fault : (o : Outcome) → status_of o ≡ 5 → o ≡ Undone DiskFault
 is_disk_fault (Judged verdict) fifth = absurd (not_verdict verdict 5 (λ k. omega arith) (λ k. omega arith) (sym fifth))
+is_disk_fault (Joined joined) fifth = absurd (not_joined joined 5 (λ k. omega arith) (λ k. omega arith) (sym fifth))
 is_disk_fault (Undone f) fifth = ap (λ (g : CommandFault). Undone g) (by f fifth)
   where
     by : (f : CommandFault) → fault_status f ≡ 5 → f ≡ DiskFault
@@ -159,14 +167,17 @@ module _ {D : Type 0} (view : D → DiskView)
       given = judges.given;
       there = judges.judged.there;
       accepted = λ bytes tells.
-          let is = judges.judged.is_verdict bytes tells in (is.0, subst (λ r. Appends a.taken.before a.taken.after (report_text r)) is.1 ended.1);
+          let is = judges.judged.is_verdict bytes tells in (is.0, subst (λ r. Appends a.taken.before a.taken.after (report_text r)) is.2 ended.1);
+      bare = λ bytes tells p spelled strict.
+          let is = judges.judged.is_verdict bytes tells in
+          subst (λ (q : ProofValue). carried q ≡ []) (one_value proof_layout bytes is.0.0 p is.0.1 spelled) (is.1 strict);
       binds = λ bytes tells p spelled family sound has.
           let is = judges.judged.is_verdict bytes tells in
-          let accepts : Accepts sha256 judges.anchors bytes = is.0 in
-          let same : accepts.0 ≡ p = one_value proof_layout bytes accepts.0 p accepts.1 spelled in
-          let claim : report.claim ≡ claim_of p = ap (λ (r : Report). r.claim) is.1 ∙ ap claim_of same in
-          let Claims : Claim → Type 0 = λ c. OrClash sha256 (family_texts sha256 family ++ proof_texts sha256 p) (Facts sha256 family c) in
-          subst Claims claim (judges.judged.binds bytes tells p spelled family sound has);
+          let same : is.0.0 ≡ p = one_value proof_layout bytes is.0.0 p is.0.1 spelled in
+          let told : report ≡ report_of p = is.2 ∙ ap report_of same in
+          let Holds : Report → Type 0 = λ r. OrClash sha256 (family_texts sha256 family ++ proof_texts sha256 p)
+          (Facts sha256 family r.hops r.claim × TimesRise r.hops r.claim) in
+          subst Holds told (judges.judged.binds bytes tells p spelled family sound has);
     }
     accepted_by zeroth c (No reason) is judges ended = absurd (omega (arith, zeroth, ended.0))
 
@@ -206,14 +217,30 @@ module _ {D : Type 0} (view : D → DiskView)
     by_status : {Q : Type 0} (n : ℕ) → status ≡ n → (n ≡ 4 → ⊥) → ((o : Outcome) → Has o → n ≡ status_of o → Writes a (text_of o) → Q) → Q
     by_status n is other then = let ended = told (λ four. other (sym is ∙ four)) in then outcome run.1.has (sym is ∙ ended.0) ended.1
 
-    pub rejected : status ≡ 1 → IsRejectedRun a
+    gap_by : (c : Command) (place : ℕ) → command_of a.words ≡ Some c → LeavesGap a.outside.inputs c place → Writes a (text_of (Joined (Unfit place))) → IsGapRun a
+    gap_by c place is leaves written = record {
+      files = leaves.files;
+      parts = leaves.comes.0;
+      place = place;
+      is_command = is ∙ ap (λ (d : Command). Some d) leaves.is_command;
+      hold = leaves.comes.1;
+      gap = leaves.comes.2;
+      written = written;
+    }
+
+    pub rejected : status ≡ 1 → IsRejectedRun a ⊎ IsGapRun a
     rejected is = by_status 1 is (λ k. omega arith) by
       where
-        by : (o : Outcome) → Has o → 1 ≡ status_of o → Writes a (text_of o) → IsRejectedRun a
+        by : (o : Outcome) → Has o → 1 ≡ status_of o → Writes a (text_of o) → IsRejectedRun a ⊎ IsGapRun a
         by (Judged verdict) has first written =
-            by_words (Judged verdict) has (λ none. absurd none.0) (λ c of does. rejected_by is c verdict of ((known c).judging verdict does) (is ∙ first, written))
+            inl (by_words (Judged verdict) has (λ none. absurd none.0) (λ c of does. rejected_by is c verdict of ((known c).judging verdict does) (is ∙ first, written)))
+        by (Joined (Unfit place)) has first written =
+            inr (by_words (Joined (Unfit place)) has (λ none. absurd none.0) (λ c of does. gap_by c place of ((known c).joining place does) written))
+        by (Joined (Whole proof)) has first written = absurd (omega (arith, first))
         by (Undone f) has first written = absurd (not_fault f 1 first (omega arith))
-        by _ has first written = absurd (omega (arith, first))
+        by (Proof proof) has first written = absurd (omega (arith, first))
+        by (Made thread) has first written = absurd (omega (arith, first))
+        by (BadWords n) has first written = absurd (omega (arith, first))
 
     pub usage : status ≡ 2 → IsUsageRun view a
     usage is = by_status 2 is (λ k. omega arith) by
@@ -226,6 +253,7 @@ module _ {D : Type 0} (view : D → DiskView)
         by : (o : Outcome) → Has o → 2 ≡ status_of o → Writes a (text_of o) → IsUsageRun view a
         by (BadWords n) has second written = (n, number_is n (command_of a.words) has, written)
         by (Judged verdict) has second written = absurd (not_verdict verdict 2 (λ k. omega arith) (λ k. omega arith) second)
+        by (Joined joined) has second written = absurd (not_joined joined 2 (λ k. omega arith) (λ k. omega arith) second)
         by (Undone f) has second written = absurd (not_fault f 2 second (omega arith))
         by _ has second written = absurd (omega (arith, second))
 
@@ -236,6 +264,7 @@ module _ {D : Type 0} (view : D → DiskView)
         by : (o : Outcome) → Has o → n ≡ status_of o → Writes a (text_of o) → Q
         by (Undone f) has same written = then f same has written
         by (Judged verdict) has same written = absurd (not_verdict verdict n (λ k. omega (arith, k, high)) (λ k. omega (arith, k, high)) same)
+        by (Joined joined) has same written = absurd (not_joined joined n (λ k. omega (arith, k, high)) (λ k. omega (arith, k, high)) same)
         by _ has same written = absurd (omega (arith, same, high))
 
     -- the command that isn't done for it
@@ -267,6 +296,7 @@ module _ {D : Type 0} (view : D → DiskView)
 
         never : (o : Outcome) → status_of o ≡ 4 → ⊥
         never (Judged v) fourth = never_verdict v fourth
+        never (Joined joined) fourth = not_joined joined 4 (λ k. omega arith) (λ k. omega arith) (sym fourth)
         never (Undone f) fourth = never_fault f fourth
         never _ fourth = omega (arith, fourth)
 
@@ -337,6 +367,8 @@ module _ {D : Type 0} (view : D → DiskView)
     is_status (Judged (Yes report)) = inl refl
     is_status (Judged (No reason)) = inr (inl refl)
     is_status (Proof proof) = inl refl
+    is_status (Joined (Whole proof)) = inl refl
+    is_status (Joined (Unfit place)) = inr (inl refl)
     is_status (Made thread) = inl refl
     is_status (BadWords n) = inr (inr (inl refl))
     is_status (Undone f) = fault_is_status f

@@ -2,12 +2,13 @@
 use Rattle.std.specs.Prelude.{ℕ, List, Result, Ok, Err}
 use Rattle.tw_text.specs.Faults.{fault_status, fault_text}
 use Rattle.tw_text.specs.Lines.{anchor_text, usage_text}
-use Rattle.tw_text.specs.Reports.{rejected_text, report_text}
+use Rattle.tw_text.specs.Reports.{gap_text, rejected_text, report_text}
 use Rattle.tw_text.specs.declared.fault.CommandFault.{CommandFault}
 use Rattle.tw_text.specs.declared.fault.CommandFault.TheVariants as fault
 use Rattle.tw_chain.specs.declared.verdict.Verdict.TheVariants.{Yes, No}
+use Rattle.tw_filecmd.specs.declared.joining.Joined.TheVariants.{Whole, Unfit}
 use Rattle.tw_app.specs.declared.outcome.Outcome.{Outcome}
-use Rattle.tw_app.specs.declared.outcome.Outcome.TheVariants.{Judged, Proof, Made, BadWords, Undone}
+use Rattle.tw_app.specs.declared.outcome.Outcome.TheVariants.{Judged, Proof, Joined, Made, BadWords, Undone}
 
 -- the outcome of a result: a fault is told as it is
 abbrev pub outcome_by : {X : Type 0} → (of : X → Outcome) → Result X CommandFault → Outcome
@@ -18,6 +19,8 @@ abbrev pub status_of : Outcome → ℕ
 status_of (Judged (Yes report)) = 0
 status_of (Judged (No reason)) = 1
 status_of (Proof proof) = 0
+status_of (Joined (Whole proof)) = 0
+status_of (Joined (Unfit place)) = 1
 status_of (Made thread) = 0
 status_of (BadWords number) = 2
 status_of (Undone fault) = fault_status fault
@@ -27,6 +30,8 @@ abbrev pub text_of : Outcome → List ℕ
 text_of (Judged (Yes report)) = report_text report
 text_of (Judged (No reason)) = rejected_text reason
 text_of (Proof proof) = proof
+text_of (Joined (Whole proof)) = proof
+text_of (Joined (Unfit place)) = gap_text place
 text_of (Made thread) = anchor_text thread
 text_of (BadWords number) = usage_text number
 text_of (Undone fault) = fault_text fault
@@ -35,6 +40,7 @@ text_of (Undone fault) = fault_text fault
 -- became of the disk, a step that was made or a fault, take none
 abbrev pub TakesMemory : Outcome → Type 0
 TakesMemory (Proof proof) = ⊥
+TakesMemory (Joined (Whole proof)) = ⊥
 TakesMemory (Made thread) = ⊥
 TakesMemory (Undone fault.InputFault) = ⊥
 TakesMemory (Undone fault.DiskFault) = ⊥

@@ -1,5 +1,5 @@
 -- What each command does, what a run of the program comes to, and how it ends.
-use Rattle.std.specs.Prelude.{◌≡◌, ◌⊎◌, ℕ, List, Option, Result, Ok, Err, MatchOption}
+use Rattle.std.specs.Prelude.{◌≡◌, ◌⊎◌, ℕ, List, true, false, Option, Result, Ok, Err, MatchOption}
 use Rattle.tw_base.specs.Faults.{Rose}
 use Rattle.tw_disk.specs.Disk.{DiskView}
 use Rattle.tw_outside.specs.TakenBytes.{Appends, AppendsPart}
@@ -7,7 +7,8 @@ use Rattle.tw_text.specs.CommandLine.{IsFirstBad, command_of}
 use Rattle.tw_text.specs.declared.command.Command.{Command}
 use Rattle.tw_text.specs.declared.fault.CommandFault.{CommandFault}
 use Rattle.tw_text.specs.declared.fault.CommandFault.TheVariants.{NoMemory}
-use Rattle.tw_text.specs.declared.command.Command.TheVariants.{Init, Append, ProveEvent, Show, VerifyFile, VerifyOne, Strict}
+use Rattle.tw_text.specs.declared.command.Command.TheVariants.{Init, Append, ProveEvent, Show, Join, VerifyFile, VerifyOne, Strict}
+use Rattle.tw_filecmd.specs.Joining.{JoinComes}
 use Rattle.tw_filecmd.specs.Showing.{ShowComes}
 use Rattle.tw_filecmd.specs.Verifying.{VerifyFileComes, VerifyOneComes}
 use Rattle.tw_diskcmd.specs.Appending.{AppendComes, AppendLeaves, AppendSafe}
@@ -15,7 +16,7 @@ use Rattle.tw_diskcmd.specs.Disks.{IsLeft, Keeps, ReadLeaves}
 use Rattle.tw_diskcmd.specs.Making.{InitComes, InitLeaves, InitSafe}
 use Rattle.tw_diskcmd.specs.Proving.{ProveComes}
 use Rattle.tw_app.specs.declared.outcome.Outcome.{Outcome}
-use Rattle.tw_app.specs.declared.outcome.Outcome.TheVariants.{Judged, Proof, Made, BadWords, Undone}
+use Rattle.tw_app.specs.declared.outcome.Outcome.TheVariants.{Judged, Proof, Joined, Made, BadWords, Undone}
 use Rattle.tw_app.specs.Around.{Around, Outside, Span, found_of}
 use Rattle.tw_app.specs.Outcomes.{outcome_by, status_of, text_of}
 
@@ -95,10 +96,10 @@ module _ {D : Type 0} (view : D → DiskView) (o : Outside D) where
       (AppendSafe view o.disk.before o.disk.after o.inputs.told file)
   work (ProveEvent step index top) = reading Proof (ProveComes (found_of view o) step index top)
   work (Show history step index) = over_files Proof (ShowComes o.inputs history step index)
-  work (VerifyFile proof anchors) = over_files Judged (VerifyFileComes o.inputs proof anchors)
+  work (Join files) = over_files Joined (JoinComes o.inputs files)
+  work (VerifyFile proof anchors) = over_files Judged (VerifyFileComes o.inputs proof anchors false)
   work (VerifyOne proof anchor) = over_files Judged (VerifyOneComes o.inputs proof anchor)
-  -- no thread is carried in a proof of the kinds that are verified, so none has to be refused
-  work (Strict proof anchors) = over_files Judged (VerifyFileComes o.inputs proof anchors)
+  work (Strict proof anchors) = over_files Judged (VerifyFileComes o.inputs proof anchors true)
   work _ = unbuilt
 
 -- ---- what words come to

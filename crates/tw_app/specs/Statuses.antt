@@ -1,10 +1,11 @@
 -- What a run's status says by itself.
-use Rattle.std.specs.Prelude.{◌≡◌, ℕ, List, [], ◌∷◌, ◌++◌, Option, Some, None, MatchOption}
+use Rattle.std.specs.Prelude.{◌≡◌, ◌≢◌, ◌⊎◌, ℕ, List, [], ◌∷◌, ◌++◌, Bool, true, false, Option, Some, None, Err, MatchOption}
 use Rattle.sha2.specs.Sha256.{sha256}
 use Rattle.tw_base.specs.declared.thread.Thread.{Thread}
 use Rattle.tw_base.specs.declared.report.Reason.{Reason}
 use Rattle.tw_base.specs.Clash.{OrClash}
-use Rattle.tw_base.specs.Family.{AllSound, Facts, HasThreads, family_texts}
+use Rattle.tw_base.specs.Facts.{Facts, TimesRise}
+use Rattle.tw_base.specs.Family.{AllSound, HasThreads, family_texts}
 use Rattle.tw_base.specs.Faults.{Rose}
 use Rattle.tw_base.specs.Formats.{Spells}
 use Rattle.tw_base.specs.History.{History}
@@ -14,16 +15,19 @@ use Rattle.tw_outside.specs.Files.{Files, IsThere, Tells}
 use Rattle.tw_outside.specs.TakenBytes.{Appends}
 use Rattle.tw_text.specs.CommandLine.{IsFirstBad, command_of}
 use Rattle.tw_text.specs.Lines.{usage_text}
-use Rattle.tw_text.specs.Reports.{rejected_text, report_text}
+use Rattle.tw_text.specs.Reports.{gap_text, rejected_text, report_text}
 use Rattle.tw_text.specs.declared.command.Command.{Command}
-use Rattle.tw_text.specs.declared.command.Command.TheVariants.{VerifyFile, VerifyOne, Strict}
+use Rattle.tw_text.specs.declared.command.Command.TheVariants.{Join, VerifyFile, VerifyOne, Strict}
 use Rattle.tw_text.specs.Faults.{fault_text}
 use Rattle.tw_text.specs.declared.fault.CommandFault.{CommandFault}
 use Rattle.tw_text.specs.declared.fault.CommandFault.TheVariants.{InputFault, DiskFault}
+use Rattle.tw_chain.specs.declared.joining.JoinFault.TheVariants.{Gap}
 use Rattle.tw_chain.specs.declared.proof.Proof.{Proof}
 use Rattle.tw_chain.specs.Proofs.{proof_layout}
-use Rattle.tw_chain.specs.Accepting.{Accepts, claim_of, held, proof_texts, report_of}
+use Rattle.tw_chain.specs.Accepting.{Accepts, carried, held, proof_texts, report_of}
+use Rattle.tw_chain.specs.Joining.{Joins}
 use Rattle.tw_chain.specs.Reasons.{IsLowest}
+use Rattle.tw_filecmd.specs.Joining.{AreProofsOf}
 use Rattle.tw_filecmd.specs.Verifying.{HasAnchors}
 use Rattle.tw_app.specs.declared.outcome.Outcome.TheVariants.{BadWords}
 use Rattle.tw_app.specs.Around.{Around, Outside, Writes}
@@ -71,9 +75,15 @@ GivesAnchors told (VerifyOne proof anchor) anchors = anchors ≡ anchor ∷ []
 GivesAnchors told (Strict proof file) anchors = HasAnchors told file anchors
 GivesAnchors told _ anchors = ⊥
 
+-- the command is of the form that allows no carried thread
+abbrev pub is_strict : Command → Bool
+is_strict (Strict proof anchors) = true
+is_strict _ = false
+
 -- status 0 of words that ask for a verdict: the proof file is there. Where the inputs tell its bytes, they spell a proof that
--- is accepted under the command's anchors, and its report was written whole; and in every family of sound histories that has
--- the held threads the claim holds, or two different texts of the histories and of the proof have one SHA-256 digest
+-- is accepted under the command's anchors, and its report was written whole; of `strict` the proof carries no thread; and in every
+-- family of sound histories that has the held threads the report's claim holds, by the report's own hops, and where it has no hops
+-- the times rise, or two different texts of the histories and of the proof have one SHA-256 digest
 pub record IsAcceptedRun (told : Option Files) (words : List (List ℕ)) (taken_before taken_after : Option (List ℕ)) : Type 0 where
   pub command : Command
   pub file : List ℕ
@@ -84,12 +94,15 @@ pub record IsAcceptedRun (told : Option Files) (words : List (List ℕ)) (taken_
   pub there : IsThere told file
   pub accepted : (bytes : List ℕ) → Tells told file bytes →
       (accepts : Accepts sha256 anchors bytes) × Appends taken_before taken_after (report_text (report_of accepts.0))
+  pub bare : (bytes : List ℕ) → Tells told file bytes → (p : Proof) → Spells proof_layout bytes p → is_strict command ≡ true → carried p ≡ []
   pub binds : (bytes : List ℕ) → Tells told file bytes → (p : Proof) → Spells proof_layout bytes p
       → (family : List History) → AllSound family → HasThreads sha256 family (held anchors p)
-      → OrClash sha256 (family_texts sha256 family ++ proof_texts sha256 p) (Facts sha256 family (claim_of p))
+      → OrClash sha256 (family_texts sha256 family ++ proof_texts sha256 p)
+      (Facts sha256 family (report_of p).hops (report_of p).claim × TimesRise (report_of p).hops (report_of p).claim)
 
--- status 1: the words ask for a verdict, and the proof file is there; the bytes told spell no proof that is accepted under the
--- command's anchors, and the line of the lowest reason that stands against them was written whole
+-- status 1 of words that ask for a verdict: the proof file is there; the bytes told spell no proof that is accepted under the
+-- command's anchors, or, of `strict`, one that carries threads; and the line of the lowest reason that stands against them was
+-- written whole
 pub record IsRejectedRun {D : Type 0} (around : Around D) : Type 0 where
   pub command : Command
   pub file : List ℕ
@@ -101,7 +114,19 @@ pub record IsRejectedRun {D : Type 0} (around : Around D) : Type 0 where
   pub there : IsThere around.outside.inputs.told file
   pub written : Writes around (rejected_text reason)
   pub refused : (bytes : List ℕ) → Tells around.outside.inputs.told file bytes →
-      (Accepts sha256 anchors bytes → ⊥) × IsLowest sha256 anchors bytes reason
+      ((accepts : Accepts sha256 anchors bytes) → (is_strict command ≡ true) × (carried accepts.0 ≢ []))
+      × IsLowest sha256 anchors (is_strict command) bytes reason
+
+-- status 1 of words that ask for proofs to be joined: each of the files holds one, and the line with the number of the first that
+-- doesn't fit, or is missing behind all, was written whole
+pub record IsGapRun {D : Type 0} (around : Around D) : Type 0 where
+  pub files : List (List ℕ)
+  pub parts : List Proof
+  pub place : ℕ
+  pub is_command : command_of around.words ≡ Some (Join files)
+  pub hold : AreProofsOf around.outside.inputs.told files parts
+  pub gap : Joins parts (Err (Gap place))
+  pub written : Writes around (gap_text place)
 
 module _ {D : Type 0} (view : D → DiskView) where
   -- the words are of a command, and this holds of what it does

@@ -23,6 +23,7 @@ use std::alloc::Global;
 use tw_base::{NoMemory, Thread};
 use tw_chain::Verdict;
 use tw_disk::Disk;
+use tw_filecmd::Joined;
 use tw_outside::{Inputs, Sink, write_all};
 use tw_text::{CommandFault, anchor_line, fault_disk, fault_input, fault_status, no_memory};
 
@@ -55,8 +56,12 @@ fn status_of(outcome: &Outcome) -> u8
     ensures { result ≡ status_of_outcome outcome.now }
 {
     match outcome {
-        Outcome::Judged(Verdict::Yes(_)) | Outcome::Proof(_) | Outcome::Made(_) => 0,
+        Outcome::Judged(Verdict::Yes(_))
+        | Outcome::Proof(_)
+        | Outcome::Joined(Joined::Whole(_))
+        | Outcome::Made(_) => 0,
         Outcome::Judged(Verdict::No(_)) => 1,
+        Outcome::Joined(Joined::Unfit { .. }) => 1,
         Outcome::BadWords { .. } => 2,
         Outcome::Undone(fault) => fault_status(fault),
     }
@@ -75,6 +80,7 @@ fn conclude<S: Sink>(alloc: Global, outcome: &Outcome, out: &mut S) -> u8
         Outcome::Undone(CommandFault::NoMemory) => tell(out, status, no_memory()),
         Outcome::Made(thread) => tell_thread(out, status, thread),
         Outcome::Proof(proof) => tell(out, status, proof.as_slice()),
+        Outcome::Joined(Joined::Whole(proof)) => tell(out, status, proof.as_slice()),
         _ => match print(alloc, outcome) {
             Ok(text) => tell(out, status, text.as_slice()),
             Err(NoMemory) => tell(out, fault_status(&CommandFault::NoMemory), no_memory()),
@@ -111,8 +117,9 @@ fn run_to_the_end<D: Disk, I: Inputs, S: Sink>(
 /// status with the disk; whatever it has to say is written to the sink.
 ///
 /// - 0: the command's output was written whole: the report of an accepted proof, the proof that was
-///   made, or the anchor line of the service or step that was made.
-/// - 1: the proof isn't accepted; `rejected`, the lowest reason that stands and its fields.
+///   made or joined, or the anchor line of the service or step that was made.
+/// - 1: the proof isn't accepted, or the proofs don't join; `rejected`, the lowest reason that stands
+///   and its fields, or `Gap` and the number of the part.
 /// - 2: the words have no form; `usage` and the number of the first word at which none goes on, or 0
 ///   where the words have a form whose work isn't built yet.
 /// - 3: the inputs failed; `fault input`.
@@ -124,8 +131,9 @@ fn run_to_the_end<D: Disk, I: Inputs, S: Sink>(
 /// - 8: the disk has no service that can serve the command; `store`, why, and the slot or the page.
 /// - 9: a file isn't what the command reads; `unreadable` or `unsound`, the file and where.
 ///
-/// The words are judged first; then all files are read, anchors before a proof; then what the files
-/// hold is judged, that of a proof last; then comes the disk. A command that works on no
+/// The words are judged first; then all files are read, anchors before a proof, and of a proof no piece
+/// of 4,096 bytes behind its first bad byte; then what the files hold is judged, that of a proof last;
+/// then comes the disk. A command that works on no
 /// directory hands the disk back as it is.
 pub fn run<D: Disk, I: Inputs, S: Sink>(
     alloc: Global,
@@ -144,11 +152,13 @@ pub fn run<D: Disk, I: Inputs, S: Sink>(
         (span (S.taken out.old) (S.taken out.new)) (span (S.faults out.old) (S.faults out.new))) result.status }
 
     // Status 0 of `verify` and `strict`: the proof file is there, and its bytes spell a proof that is accepted under the command's
-    // anchors. These are the one of its words, or those of the anchors file, which is there and has no bad line. The
-    // claim's report was written whole. And in every list of sound histories in which the proof's service has, at the
-    // proof's top, the authenticator that is held of it there, the event stands at the place that the report names, and
-    // its step has the time that the report tells, or none where it tells none; or two texts of these histories and of
-    // the proof clash.
+    // anchors. These are the one of its words, or those of the anchors file, which is there and has no bad line. Of `strict`
+    // the proof carries no thread. The report was written whole. And in every list of sound histories that has the
+    // anchors that are held of the services and steps that the proof names, and the threads that it carries, what the report
+    // claims is so: an event stands at the place that is named, with the time of its step that is told, or none where none
+    // is; of an event before another both stand so, and the report's own hops lead from the first one's step to the step
+    // before the second one's; and where there are no hops, and both steps have a time, the first one's isn't above the
+    // second one's. Or two different texts of these histories and of the proof have one SHA-256 digest.
     ensures accepted { result.status ≡ 0 → AreOf IsVerify (map string_bytes words.now)
         → IsAcceptedRun (I.told inputs.old) (map string_bytes words.now) (S.taken out.old) (S.taken out.new) }
     // There are no other statuses than 0 to 9.

@@ -10,12 +10,12 @@ ghost use Rattle.tw_app.specs.Outcomes.{outcome_by};
 ghost use Rattle.tw_app.specs.declared.outcome.Outcome.TheVariants.{Made as OfThread, Proof as OfProof};
 ghost use Rattle.tw_app.specs.Running.{HasOutcome, work};
 
-use crate::outcome::{Outcome, judged, made, proved};
+use crate::outcome::{Outcome, joined, judged, made, proved};
 use std::alloc::Global;
 use tw_base::{Bytes, Thread};
 use tw_disk::Disk;
 use tw_diskcmd::{Worked, append, make, prove};
-use tw_filecmd::{show, verify_file, verify_one};
+use tw_filecmd::{join_files, show, verify_file, verify_one};
 use tw_outside::Inputs;
 use tw_text::{Command, CommandFault, WordFault, read_words};
 
@@ -74,12 +74,16 @@ fn follow<D: Disk, I: Inputs>(
             outcome: proved(show(alloc, inputs, history.as_str(), *step, *index)),
             disk,
         },
+        Command::Join { files } => Followed {
+            outcome: joined(join_files(alloc, inputs, files.as_slice())),
+            disk,
+        },
         Command::VerifyFile { proof, anchors } => Followed {
-            outcome: judged(verify_file(alloc, inputs, proof.as_str(), anchors.as_str())),
+            outcome: judged(verify_file(alloc, inputs, proof.as_str(), anchors.as_str(), false)),
             disk,
         },
         Command::Strict { proof, anchors } => Followed {
-            outcome: judged(verify_file(alloc, inputs, proof.as_str(), anchors.as_str())),
+            outcome: judged(verify_file(alloc, inputs, proof.as_str(), anchors.as_str(), true)),
             disk,
         },
         Command::VerifyOne { proof, anchor } => Followed {

@@ -11,7 +11,7 @@ ghost use Rattle.tw_text.specs.declared.refusal.Refusal.{Refusal};
 ghost use Rattle.tw_text.specs.declared.refusal.StoreCause.{StoreCause};
 ghost use Rattle.tw_app.specs.Around.{Around, Writes};
 ghost use Rattle.tw_app.specs.Running.{Ends};
-ghost use Rattle.tw_app.specs.Statuses.{AreOf, DiskFailed, IsBuilt, IsDiskFaultRun, IsDoneRun, IsInputFaultRun, IsRejectedRun, IsUndoneRun, IsUsageRun, IsWork};
+ghost use Rattle.tw_app.specs.Statuses.{AreOf, DiskFailed, IsBuilt, IsDiskFaultRun, IsDoneRun, IsGapRun, IsInputFaultRun, IsRejectedRun, IsUndoneRun, IsUsageRun, IsWork};
 
 use tw_disk::Disk;
 
@@ -23,6 +23,8 @@ pub fn status_laws<D: Disk>()
     // Status 0 of `show`: the history file is there and is that of a sound history. The bytes written are the proof
     // that this history has of that event, with its last step as the top, and are accepted under any anchors of which
     // that of the history's name and last step has the history's authenticator.
+    // Status 0 of `join`: each file is there and holds a proof, and the bytes written spell the proof from event to event
+    // that these join to.
     // Status 0 of `prove`: what the disk read as opens as a service's store. Step, top and its last step are in their
     // order, and the bytes written are the proof of the event of that index that is found in its pages, whatever these
     // keep. And where the disk read as a history, with writes pending or not, they are the proof that this history has of
@@ -38,8 +40,10 @@ pub fn status_laws<D: Disk>()
     ensures done { (a : Around D) → Ends D.view a 0 → IsDoneRun D.view a }
 
     // Status 1: the words are `verify` or `strict`, the proof file is there, its bytes spell no proof that is accepted under the
-    // command's anchors, and the line written names the lowest reason that stands against them.
-    ensures rejected { (a : Around D) → Ends D.view a 1 → IsRejectedRun a }
+    // command's anchors, or, of `strict`, one that carries threads, and the line written names the lowest reason that stands
+    // against them. Or the words are `join`, each file is there and holds a proof, and the line written has the number of
+    // the first that doesn't fit, or that is missing behind all.
+    ensures rejected { (a : Around D) → Ends D.view a 1 → IsRejectedRun a ⊎ IsGapRun a }
     // Status 2: the words have no form, and the number written is that of the first word at which none goes on; or they
     // have one that isn't built, and it is 0.
     ensures usage { (a : Around D) → Ends D.view a 2 → IsUsageRun D.view a }
@@ -74,8 +78,9 @@ pub fn status_laws<D: Disk>()
     ensures complete { (a : Around D) → Ends D.view a 8 → (h : History) → ReadsAs (D.view a.outside.disk.before).content h → ⊥ }
     // Status 9 of `append`: the events file is there, and the line tells the byte of the limit, where the file is
     // longer, else the first byte at which no events file goes on. Status 9 of `verify` and `strict`: proof and anchors file are
-    // there, and the line written tells the first line of the anchors file that can't follow those before it. Status 9
-    // of `show`: the history file is there, and the line tells the byte of the limit, where the file is longer; else
+    // there, and the line written tells the first line of the anchors file that can't follow those before it. Status 9 of
+    // `join`: all files are there, and the line tells the first that holds no proof, with its first byte at which none
+    // goes on. Status 9 of `show`: the history file is there, and the line tells the byte of the limit, where the file is longer; else
     // the first byte at which no history file goes on; else the first step that breaks a rule of sound histories, and
     // its first broken rule.
     ensures unreadable { (a : Around D) → Ends D.view a 9 → (bad : BadInput) × IsUndoneRun D.view a (Unreadable bad) }

@@ -2,10 +2,11 @@
 
 ghost use Rattle.std.specs.Prelude.{◌≡◌};
 ghost use Rattle.tw_app.specs.Outcomes.{outcome_by};
-ghost use Rattle.tw_app.specs.declared.outcome.Outcome.TheVariants.{Judged as OfVerdict, Made as OfThread, Proof as OfProof};
+ghost use Rattle.tw_app.specs.declared.outcome.Outcome.TheVariants.{Joined as OfJoined, Judged as OfVerdict, Made as OfThread, Proof as OfProof};
 
 use tw_base::{Bytes, Thread};
 use tw_chain::Verdict;
+use tw_filecmd::Joined;
 use tw_text::CommandFault;
 
 /// What a run comes to, apart from whether its text could be written.
@@ -15,6 +16,8 @@ pub enum Outcome {
     Judged(Verdict),
     /// An event was shown or proved: the bytes of its proof.
     Proof(Bytes),
+    /// The proofs of files were joined, or don't fit.
+    Joined(Joined),
     /// A service or a step was made: the thread of its last step.
     Made(Thread),
     /// The words have no form, and this is the number of the first word, from 1, at which none goes
@@ -40,6 +43,16 @@ pub(crate) fn proved(came: Result<Bytes, CommandFault>) -> Outcome
 {
     match came {
         Ok(proof) => Outcome::Proof(proof),
+        Err(fault) => Outcome::Undone(fault),
+    }
+}
+
+/// The outcome of proofs that were to be joined.
+pub(crate) fn joined(came: Result<Joined, CommandFault>) -> Outcome
+    ensures { result ≡ outcome_by OfJoined came }
+{
+    match came {
+        Ok(joined) => Outcome::Joined(joined),
         Err(fault) => Outcome::Undone(fault),
     }
 }

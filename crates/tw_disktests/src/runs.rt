@@ -134,3 +134,42 @@ fn strict_judges_under_a_file_of_anchors(rt: HostRuntime) {
         b"accepted exists\nevent a 1 0 -\n",
     );
 }
+
+#[test]
+fn nothing_is_read_behind_the_first_bad_byte(rt: HostRuntime) {
+    let alloc = rt.alloc();
+    let mut inputs = MemInputs::new(alloc);
+    inputs.put("p", b"TWPx").expect(&rt, "memory");
+    inputs.fail(2).expect(&rt, "memory");
+    expect_over(
+        &rt,
+        alloc,
+        &mut inputs,
+        &["verify", "p", "a", "1", HEX],
+        1,
+        b"rejected 1 Malformed 3\n",
+    );
+}
+
+#[test]
+fn parts_that_do_not_join(rt: HostRuntime) {
+    let alloc = rt.alloc();
+    let mut inputs = inputs(&rt, alloc);
+    inputs.put("k", b"TWPx").expect(&rt, "memory");
+    expect_over(
+        &rt,
+        alloc,
+        &mut inputs,
+        &["join", "p", "p"],
+        1,
+        b"rejected Gap 2\n",
+    );
+    expect_over(
+        &rt,
+        alloc,
+        &mut inputs,
+        &["join", "p", "p", "k"],
+        9,
+        b"unreadable k byte 3\n",
+    );
+}

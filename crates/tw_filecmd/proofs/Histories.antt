@@ -26,6 +26,7 @@ use Rattle.tw_text.specs.declared.refusal.Refusal.TheVariants.{NoStep, NoEvent}
 use Rattle.tw_outside.specs.Asked.{Asked}
 use Rattle.tw_text.specs.declared.fault.CommandFault.{CommandFault}
 use Rattle.tw_filecmd.specs.Faults.{fault_of_history, fault_of_show}
+use Rattle.tw_filecmd.proofs.ProofFronts.{whole_below}
 use Rattle.tw_filecmd.specs.Showing.{OfHistory, ProvesEvent, RefusesToShow, ShowComes}
 
 -- ---- what was read of the file
@@ -36,12 +37,7 @@ history_read = 67108865
 
 -- a file of which no more than the limit was read has no more
 is_whole : (all bytes : List ℕ) → all ≡ take history_read bytes → length all ≤ MOST_HISTORY_BYTES → all ≡ bytes
-is_whole all bytes is short = elim (cases_lt history_read (length bytes)) [
-  | inl longer ↦
-      let size : length (take history_read bytes) ≡ history_read = length-take-le history_read bytes (omega arith) in
-      absurd (omega (arith, ap length is, size, short))
-  | inr fits ↦ is ∙ take_all history_read bytes fits
-]
+is_whole all bytes is short = whole_below history_read all bytes is (omega (arith, short))
 
 is_longer : (all bytes : List ℕ) → all ≡ take history_read bytes → MOST_HISTORY_BYTES < length all → MOST_HISTORY_BYTES < length bytes
 is_longer all bytes is longer = omega (arith, ap length is, length-take history_read bytes, longer)

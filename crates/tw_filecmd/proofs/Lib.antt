@@ -1,3 +1,6 @@
 pub mod AnchorFronts
+pub mod ProofFronts
+pub mod FedPieces
 pub mod Judging
+pub mod PartFiles
 pub mod Histories

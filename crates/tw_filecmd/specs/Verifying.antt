@@ -1,5 +1,5 @@
--- `verify`: under which anchors a proof file is judged, what the verdict then says, and what the command comes to.
-use Rattle.std.specs.Prelude.{◌≡◌, ℕ, List, [], ◌∷◌, map, Option, Result, Ok, Err}
+-- `verify` and `strict`: under which anchors a proof file is judged, what the verdict then says, and what the command comes to.
+use Rattle.std.specs.Prelude.{◌≡◌, ℕ, List, [], ◌∷◌, map, Bool, false, Option, Result, Ok, Err}
 use Rattle.sha2.specs.Sha256.{sha256}
 use Rattle.tw_base.specs.declared.thread.Thread.{Thread}
 use Rattle.tw_base.specs.Faults.{Rose}
@@ -19,10 +19,10 @@ pub record HasAnchors (told : Option Files) (file : List ℕ) (anchors : List Th
   pub good : (bytes : List ℕ) → Tells told file bytes → AllGood (lines bytes)
   pub same : (bytes : List ℕ) → Tells told file bytes → anchors ≡ map anchor (lines bytes)
 
--- the verdict on what the proof file holds, under these anchors, with its theorem
-pub record IsJudged (told : Option Files) (file : List ℕ) (anchors : List Thread) (verdict : Verdict) : Type 0 where
+-- the verdict on all that the proof file holds, under these anchors and in this form, with its theorem
+pub record IsJudged (told : Option Files) (file : List ℕ) (anchors : List Thread) (strict : Bool) (verdict : Verdict) : Type 0 where
   pub there : IsThere told file
-  pub is_verdict : (bytes : List ℕ) → Tells told file bytes → IsVerdict sha256 anchors bytes verdict
+  pub is_verdict : (bytes : List ℕ) → Tells told file bytes → IsVerdict sha256 anchors strict bytes verdict
   pub binds : (bytes : List ℕ) → Tells told file bytes → BindsHistories sha256 anchors bytes verdict
 
 -- both files are there, and this is the number of the first bad line of the anchors file
@@ -31,17 +31,22 @@ pub record HasBadLine (told : Option Files) (proof file : List ℕ) (number : �
   pub there : IsThere told file
   pub bad : (bytes : List ℕ) → Tells told file bytes → IsFirstBadLine (lines bytes) number
 
--- what judging a proof under the anchors of a file comes to; want of memory is free
-abbrev pub VerifyFileComes : Asked → (proof file : List ℕ) → Result Verdict CommandFault → Type 0
-VerifyFileComes a proof file (Ok verdict) = (anchors : List Thread) × HasAnchors a.told file anchors × IsJudged a.told proof anchors verdict
-VerifyFileComes a proof file (Err (Unreadable (BadLine named number))) = (named ≡ file) × HasBadLine a.told proof file number
-VerifyFileComes a proof file (Err InputFault) = Rose a.before a.after
-VerifyFileComes a proof file (Err NoMemory) = Unit {0}
-VerifyFileComes a proof file _ = ⊥
+-- what judging a proof under these anchors comes to; want of memory is free
+abbrev pub JudgingComes : Asked → (proof : List ℕ) → (anchors : List Thread) → (strict : Bool) → Result Verdict CommandFault → Type 0
+JudgingComes a proof anchors strict (Ok verdict) = IsJudged a.told proof anchors strict verdict
+JudgingComes a proof anchors strict (Err InputFault) = Rose a.before a.after
+JudgingComes a proof anchors strict (Err NoMemory) = Unit {0}
+JudgingComes a proof anchors strict _ = ⊥
 
--- the same under one anchor
+-- the same under one anchor, in the form that allows carried threads
 abbrev pub VerifyOneComes : Asked → (proof : List ℕ) → (anchor : Thread) → Result Verdict CommandFault → Type 0
-VerifyOneComes a proof anchor (Ok verdict) = IsJudged a.told proof (anchor ∷ []) verdict
-VerifyOneComes a proof anchor (Err InputFault) = Rose a.before a.after
-VerifyOneComes a proof anchor (Err NoMemory) = Unit {0}
-VerifyOneComes a proof anchor _ = ⊥
+VerifyOneComes a proof anchor result = JudgingComes a proof (anchor ∷ []) false result
+
+-- the same under the anchors of a file; a bad line of it is told once both files are read
+abbrev pub VerifyFileComes : Asked → (proof file : List ℕ) → (strict : Bool) → Result Verdict CommandFault → Type 0
+VerifyFileComes a proof file strict (Ok verdict) =
+    (anchors : List Thread) × HasAnchors a.told file anchors × IsJudged a.told proof anchors strict verdict
+VerifyFileComes a proof file strict (Err (Unreadable (BadLine named number))) = (named ≡ file) × HasBadLine a.told proof file number
+VerifyFileComes a proof file strict (Err InputFault) = Rose a.before a.after
+VerifyFileComes a proof file strict (Err NoMemory) = Unit {0}
+VerifyFileComes a proof file strict _ = ⊥

@@ -3,7 +3,7 @@
 ghost use Rattle.std.specs.Prelude.{◌≡◌, IfOk};
 ghost use Rattle.tw_filecmd.specs.Faults.{fault_of_history, fault_of_show as fault_of_showing};
 ghost use Rattle.tw_text.specs.declared.fault.CommandFault.TheVariants.{Unreadable};
-ghost use Rattle.tw_text.specs.declared.refusal.BadInput.TheVariants.{BadLine};
+ghost use Rattle.tw_text.specs.declared.refusal.BadInput.TheVariants.{BadByte, BadLine};
 
 use std::alloc::Global;
 use tw_base::limits::MOST_HISTORY_BYTES;
@@ -17,6 +17,14 @@ pub(crate) fn bad_line(alloc: Global, file: &str, line: u64) -> Result<CommandFa
 {
     let file = Bytes::from_slice(alloc, file.as_bytes())?;
     Ok(CommandFault::Unreadable(BadInput::BadLine { file, line }))
+}
+
+/// What is told of a file that is no proof from this byte on.
+pub(crate) fn bad_byte(alloc: Global, file: &str, place: u64) -> Result<BadInput, NoMemory>
+    ensures { IfOk result (λ bad. bad ≡ BadByte file.now place) }
+{
+    let file = Bytes::from_slice(alloc, file.as_bytes())?;
+    Ok(BadInput::BadByte { file, place })
 }
 
 /// The fault of a history file. One that is too long is refused at the byte of the limit.

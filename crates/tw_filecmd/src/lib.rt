@@ -1,11 +1,14 @@
-// The commands over files alone: judging a proof, and showing an event of a history.
+// The commands over files alone: judging a proof, showing an event of a history, and joining proofs.
 #![tactic(auto)]
 
 mod faults;
+mod feeding;
+mod joining;
 mod limits;
-mod pair;
+mod parts;
 mod showing;
 mod verifying;
 
+pub use joining::{Joined, join_files};
 pub use showing::show;
 pub use verifying::{verify_file, verify_one};

@@ -3,5 +3,5 @@
 /// Of a history file so many bytes are read: one more than it may have.
 pub(crate) const HISTORY_READ: usize = 67_108_865;
 
-/// Of a proof file so many bytes are read: more than any proof has.
-pub(crate) const PROOF_READ: usize = 5_242_880;
+/// Of an anchors file, and of a part that is to be joined, so many bytes are read: more than any has.
+pub(crate) const FILE_READ: usize = 5_242_880;

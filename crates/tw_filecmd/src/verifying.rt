@@ -1,19 +1,20 @@
-// The command that judges a proof.
+// The commands that judge a proof.
 
 ghost use Rattle.tw_outside.specs.Asked.{asked};
-ghost use Rattle.tw_filecmd.specs.Verifying.{VerifyFileComes, VerifyOneComes};
+ghost use Rattle.tw_filecmd.specs.Verifying.{JudgingComes, VerifyFileComes, VerifyOneComes};
 
 use crate::faults::bad_line;
-use crate::limits::PROOF_READ;
-use crate::pair::read_pair;
+use crate::feeding::feed_file;
+use crate::limits::FILE_READ;
 use std::alloc::Global;
-use tw_base::{Sha, Thread};
-use tw_chain::{Verdict, verify};
+use tw_base::Thread;
+use tw_chain::Verdict;
 use tw_msg::{AnchorFault, read_anchors};
 use tw_outside::{Inputs, read_all};
 use tw_text::CommandFault;
 
-/// Judges the named proof under one anchor.
+/// Judges the named proof under one anchor. Threads that it carries are allowed. Of the proof one piece
+/// is held at a time.
 pub fn verify_one<I: Inputs>(
     alloc: Global,
     inputs: &mut I,
@@ -25,29 +26,47 @@ pub fn verify_one<I: Inputs>(
     // verdict on the file's bytes, or a fault with its cause.
     ensures { VerifyOneComes (asked (I.told inputs.old) (I.faults inputs.old) (I.faults inputs.new)) proof.now anchor result }
 {
-    let bytes = read_all(alloc, inputs, proof, PROOF_READ)?;
-    Ok(verify::<Sha>(alloc, bytes.as_slice(), &[anchor])?)
+    judge(alloc, inputs, proof, &[anchor], false)
 }
 
-/// Judges the named proof under the anchors of a file. The anchors are read before the proof, and
-/// their lines are judged once both are read.
+/// Judges the named proof under the anchors of a file; the strict form allows no carried thread. The
+/// anchors are read before the proof, and their lines are judged once both are read: so a bad line is
+/// told where the proof could be read, as far as it would be for a verdict.
 pub fn verify_file<I: Inputs>(
     alloc: Global,
     inputs: &mut I,
     proof: &str,
     anchors: &str,
+    strict: bool,
 ) -> Result<Verdict, CommandFault>
     requires proof { I.may_ask inputs.old proof.now }
     requires anchors { I.may_ask inputs.old anchors.now }
-    // What `verify` comes to under an anchors file is what both files and the count of faults allow: the verdict on the
-    // proof's bytes under the file's anchors, or a fault with its cause.
-    ensures { VerifyFileComes (asked (I.told inputs.old) (I.faults inputs.old) (I.faults inputs.new)) proof.now anchors.now result }
+    // What `verify` and `strict` come to under an anchors file is what both files and the count of faults allow: the
+    // verdict in that form on the proof's bytes under the file's anchors, or a fault with its cause.
+    ensures { VerifyFileComes (asked (I.told inputs.old) (I.faults inputs.old) (I.faults inputs.new)) proof.now anchors.now strict result }
 {
-    let pair = read_pair(alloc, inputs, anchors, proof, PROOF_READ)?;
-    let held = match read_anchors(alloc, pair.first.as_slice()) {
-        Ok(held) => held,
-        Err(AnchorFault::BadLine { line }) => return Err(bad_line(alloc, anchors, line)?),
-        Err(AnchorFault::NoMemory) => return Err(CommandFault::NoMemory),
-    };
-    Ok(verify::<Sha>(alloc, pair.second.as_slice(), held.as_slice())?)
+    let lines = read_all(alloc, inputs, anchors, FILE_READ)?;
+    match read_anchors(alloc, lines.as_slice()) {
+        Ok(held) => judge(alloc, inputs, proof, held.as_slice(), strict),
+        Err(AnchorFault::BadLine { line }) => {
+            feed_file(alloc, inputs, proof, &[], strict)?;
+            Err(bad_line(alloc, anchors, line)?)
+        }
+        Err(AnchorFault::NoMemory) => Err(CommandFault::NoMemory),
+    }
+}
+
+/// Judges the named proof under these anchors.
+fn judge<I: Inputs>(
+    alloc: Global,
+    inputs: &mut I,
+    proof: &str,
+    anchors: &[Thread],
+    strict: bool,
+) -> Result<Verdict, CommandFault>
+    requires { I.may_ask inputs.old proof.now }
+    ensures { JudgingComes (asked (I.told inputs.old) (I.faults inputs.old) (I.faults inputs.new)) proof.now anchors.now strict result }
+{
+    let verifier = feed_file(alloc, inputs, proof, anchors, strict)?;
+    Ok(verifier.finish()?)
 }

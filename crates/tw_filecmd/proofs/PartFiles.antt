@@ -1,0 +1,111 @@
+-- What was read of the files of parts, file after file.
+use Rattle.std.proofs.Common.{◌≡◌, ℕ, ◌<◌, List, [], ◌∷◌, ◌++◌, length, take, drop, ap, ◌∙◌, refl, sym, subst, arith, inl, inr}
+use Rattle.std.specs.Prelude.{Option, Some, Ok, Err}
+use Rattle.std.proofs.lemmas.Bool.{cases_lt}
+use Rattle.std.proofs.lemmas.List.{length-take-le, take-append-drop, take_all}
+use Rattle.tw_base.specs.Faults.{Rose}
+use Rattle.tw_base.specs.Formats.{IsFront, IsPlace, Spells, SpellsNothing}
+use Rattle.tw_base.specs.Lists.{Each}
+use Rattle.tw_base.proofs.ListLemmas.{Each-append}
+use Rattle.tw_outside.specs.Asked.{Asked}
+use Rattle.tw_outside.specs.Files.{Files, IsReadTo, IsThere}
+use Rattle.tw_outside.specs.declared.reading.InputFault.{InputFault as ReadingFault}
+use Rattle.tw_outside.specs.declared.reading.InputFault.TheVariants.{Failed, NoMemory}
+use Rattle.tw_text.specs.Faults.{fault_of_input}
+use Rattle.tw_text.specs.declared.fault.CommandFault.{CommandFault}
+use Rattle.tw_text.specs.declared.fault.CommandFault.TheVariants.{Unreadable}
+use Rattle.tw_text.specs.declared.refusal.BadInput.{BadInput}
+use Rattle.tw_text.specs.declared.refusal.BadInput.TheVariants.{BadByte, BadLine, Unsound}
+use Rattle.tw_chain.specs.declared.proof.Proof.{Proof}
+use Rattle.tw_chain.specs.declared.proof.Proof.TheVariants.{Precedes}
+use Rattle.tw_chain.specs.Joining.{Joins, joined}
+use Rattle.tw_chain.specs.Joining.Taken.{Nothing}
+use Rattle.tw_chain.specs.Proofs.{proof_bytes, proof_layout}
+use Rattle.tw_chain.proofs.JoinedSpelling.{joined-spelled}
+use Rattle.tw_chain.proofs.ProofSizes.{proof-size}
+use Rattle.tw_filecmd.specs.Joining.{AreProofsOf, HasBadPart, IsNoProof, IsProofOf, JoinComes}
+use Rattle.tw_filecmd.specs.Parts.{AreRead, PartsCome}
+use Rattle.tw_filecmd.specs.declared.joining.Joined.TheVariants.{Whole}
+use Rattle.tw_filecmd.proofs.AnchorFronts.{file_limit}
+use Rattle.tw_filecmd.proofs.ProofFronts.{front-size, nothing_behind, place_behind, whole_below}
+
+module _ (told : Option Files) where
+  -- one file more, which holds a proof
+  pub proofs-snoc : (files : List (List ℕ)) (parts : List Proof) (file : List ℕ) (p : Proof)
+      → AreProofsOf told files parts → IsProofOf told file p → AreProofsOf told (files ++ file ∷ []) (parts ++ p ∷ [])
+  proofs-snoc [] [] file p are is = (is, tt)
+  proofs-snoc [] (q ∷ parts) file p are is = absurd are
+  proofs-snoc (first ∷ files) [] file p are is = absurd are
+  proofs-snoc (first ∷ files) (q ∷ parts) file p are is = (are.0, proofs-snoc files parts file p are.1 is)
+
+  -- one that is the first to hold none
+  pub bad-snoc : (files : List (List ℕ)) (parts : List Proof) (file : List ℕ) (place : ℕ)
+      → AreProofsOf told files parts → IsNoProof told file place → HasBadPart told (files ++ file ∷ []) file place
+  bad-snoc [] parts file place are none = inl (refl, none, tt)
+  bad-snoc (first ∷ files) [] file place are none = absurd are
+  bad-snoc (first ∷ files) (p ∷ parts) file place are none = inr ((p, are.0), bad-snoc files parts file place are.1 none)
+
+  -- one behind it
+  pub bad-more : (files : List (List ℕ)) (file named : List ℕ) (place : ℕ)
+      → HasBadPart told files named place → IsThere told file → HasBadPart told (files ++ file ∷ []) named place
+  bad-more [] file named place bad there = absurd bad
+  bad-more (first ∷ files) file named place (inl here) there = inl (here.0, here.1, Each-append (IsThere told) files (file ∷ []) here.2 (there, tt))
+  bad-more (first ∷ files) file named place (inr later) there = inr (later.0, bad-more files file named place later.1 there)
+
+  module _ (file all : List ℕ) (there : IsThere told file) (read : IsReadTo told file file_limit all) where
+    -- what was read is a proof, and so all of the file
+    pub is_proof : (p : Proof) → Spells proof_layout all p → IsProofOf told file p
+    is_proof p spelled = record {
+      there = there;
+      bytes = all;
+      spelled = spelled;
+      same = λ others tells. sym (whole_below file_limit all others (read others tells) (let size = proof-size all p spelled in omega (arith, size)));
+    }
+
+    -- what was read is none, and so the file is none
+    pub is_no_proof : (place : ℕ) → SpellsNothing proof_layout all → IsPlace proof_layout all place → IsNoProof told file place
+    is_no_proof place nothing is = record {
+      there = there;
+      nothing = λ bytes tells. elim (cases_lt file_limit (length bytes)) [
+        | inl longer ↦
+            let size : length all ≡ file_limit = ap length (read bytes tells) ∙ length-take-le file_limit bytes (omega (arith, longer)) in
+            let broken : IsFront proof_layout all → ⊥ = λ front. let few = front-size all front in omega (arith, few, size) in
+            let more : List ℕ = drop file_limit bytes in
+            let split : all ++ more ≡ bytes = ap (λ first. first ++ more) (read bytes tells) ∙ take-append-drop file_limit bytes in
+            subst (λ b. SpellsNothing proof_layout b × IsPlace proof_layout b place) split (nothing_behind all more broken, place_behind all more broken place is)
+        | inr fits ↦
+            subst (λ b. SpellsNothing proof_layout b × IsPlace proof_layout b place) (read bytes tells ∙ take_all file_limit bytes fits) (nothing, is)
+      ];
+    }
+
+-- ---- from the files to what joining them comes to
+
+module _ (a : Asked) where
+  -- a fault of reading one of them
+  pub refuses_input : (files : List (List ℕ)) (fault : ReadingFault) (came : CommandFault) → (files ≡ [] → ⊥)
+      → (fault ≡ Failed → Rose a.before a.after) → came ≡ fault_of_input fault → PartsCome a files (Err came)
+  refuses_input files Failed came some rose is = subst (λ (f : CommandFault). PartsCome a files (Err f)) (sym is) (some, rose refl)
+  refuses_input files NoMemory came some rose is = subst (λ (f : CommandFault). PartsCome a files (Err f)) (sym is) tt
+
+  -- one that holds no proof
+  pub refuses_part : (files : List (List ℕ)) (parts : List Proof) (bad : BadInput) → AreRead a.told files parts (Some bad)
+      → PartsCome a files (Err (Unreadable bad))
+  refuses_part files parts (BadByte named place) read = read
+  refuses_part files parts (BadLine named number) read = absurd read
+  refuses_part files parts (Unsound named step rule) read = absurd read
+
+  spelled_parts : (files : List (List ℕ)) (parts : List Proof) → AreProofsOf a.told files parts
+      → Each (λ part. (bytes : List ℕ) × Spells proof_layout bytes part) parts
+  spelled_parts [] [] are = tt
+  spelled_parts [] (p ∷ parts) are = absurd are
+  spelled_parts (file ∷ files) [] are = absurd are
+  spelled_parts (file ∷ files) (p ∷ parts) are = ((are.0.bytes, are.0.spelled), spelled_parts files parts are.1)
+
+  -- the bytes of the proof that they join to
+  pub joins_parts : (files : List (List ℕ)) (parts : List Proof) (p : Proof) (bytes : List ℕ) → AreProofsOf a.told files parts
+      → Joins parts (Ok p) → bytes ≡ proof_bytes p → JoinComes a files (Ok (Whole bytes))
+  joins_parts files parts p bytes are joins written =
+      let whole : Spells proof_layout (proof_bytes (Precedes joins.0)) (Precedes joins.0) =
+      joined-spelled parts joins.0 (spelled_parts files parts are) joins.1 in
+      let of_p : Spells proof_layout (proof_bytes p) p = subst (λ q. Spells proof_layout (proof_bytes q) q) (sym joins.2) whole in
+      (parts, are, (p, joins, subst (λ b. Spells proof_layout b p) (sym written) of_p))
