@@ -6,7 +6,3 @@ pub mod Claiming
 pub mod OwnProofs
 pub mod Reasons
 pub mod Binding
-pub mod Judgements
-pub mod Chaining
-pub mod Stages
-pub mod Verifying

@@ -31,9 +31,11 @@ fn take_thread_body(alloc: Global, bytes: &[u8], at: &mut u64) -> Result<ThreadP
     })
 }
 
-/// Takes a key.
-pub(crate) fn take_key(bytes: &[u8], at: &mut u64) -> Result<Key, ReadFault>
+/// Takes a key, a service's name and a step from 1 on, at the place, and sets the place behind it. Malformed at the first
+/// byte at which no key goes on.
+pub fn take_key(bytes: &[u8], at: &mut u64) -> Result<Key, ReadFault>
     requires { at.old ≤ length bytes.now }
+    // A key is taken exactly where its codec's word stands at the place.
     ensures { Takes key_codec (λ k. k) bytes.now at.old at.new result }
 {
     let from = take_name(bytes, at)?;
@@ -96,10 +98,12 @@ fn take_of_kind(alloc: Global, bytes: &[u8], at: &mut u64, kind: u64) -> Result<
     Ok(Proof::Linked(take_link_body(alloc, bytes, at)?))
 }
 
-/// Takes the kind of a proof.
+/// Takes the kind of a proof, which is 1 to 5, in the one byte at the place, and sets the place behind it. Malformed
+/// exactly where no proof goes on so.
 #[tactic(auto)]
-pub(crate) fn take_kind(bytes: &[u8], at: &mut u64) -> Result<u64, ReadFault>
+pub fn take_kind(bytes: &[u8], at: &mut u64) -> Result<u64, ReadFault>
     requires { at.old ≤ length bytes.now }
+    // The kind is taken exactly where its byte stands at the place.
     ensures { Takes kind_codec (λ kind. kind) bytes.now at.old at.new result }
 {
     take_number(bytes, at, 1, 1, 5)

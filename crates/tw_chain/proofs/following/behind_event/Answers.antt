@@ -1,4 +1,0 @@
-use Rattle.tw_chain.proofs.following.behind_event.Goals as goal
-
-pub returns-in-First : goal.returns-in-First
-returns-in-First g c = rw c.in-First.is (c.closed.ensures c.args.anchors.now)

@@ -1,6 +1,0 @@
-use Rattle.std.proofs.Common.{ap}
-use Rattle.tw_base.specs.Formats.Format.{Done}
-use Rattle.tw_chain.proofs.following.closed.Goals as goal
-
-pub returns : goal.returns
-returns g c = λ anchors. ap Done (c.close.ensures anchors)

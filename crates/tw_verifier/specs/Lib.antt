@@ -1,0 +1,4 @@
+pub mod Judgements
+pub mod Chaining
+pub mod Stages
+pub mod Verifying

@@ -1,0 +1,17 @@
+//! Verifying proofs, whole or in pieces that are cut anywhere: whether each check passes, the lowest reason, and what was
+//! taken of a proof.
+#![tactic(auto)]
+
+mod attempts;
+mod chain;
+mod finding;
+mod following;
+mod heads;
+mod judgement;
+mod judging;
+mod passing;
+mod stage;
+mod tree_attempts;
+mod verifier;
+
+pub use verifier::{Verifier, verify};
