@@ -11,7 +11,8 @@ use tw_outside::MemInputs;
 const LINE: &str = "beta 2 e55e9170cea4556efe4224ce81bea5148a5268e56ad3402f55b98587bfefe80b\n";
 
 /// What is reported of it.
-const REPORT: &str = "accepted precedes\nevent alpha 1 0 6869\nevent beta 2 0 -\nhop alpha 1 beta 1\ncarried alpha 1 770e004ce1ce29dbbb24abfe387108536604796e1179405c56ae855f8d223d10\n";
+const REPORT: &str =
+    "accepted precedes\nevent alpha 1 0 6869\nevent beta 2 0 -\nhop alpha 1 beta 1\ncarried alpha 1 770e004ce1ce29dbbb24abfe387108536604796e1179405c56ae855f8d223d10\n";
 
 /// The steps 1 and 2.
 const STEPS: [u8; 16] = [0, 0, 0, 0, 0, 0, 0, 1, 0, 0, 0, 0, 0, 0, 0, 2];
@@ -43,7 +44,13 @@ fn inputs<R: Abort>(rt: &R, alloc: Global) -> MemInputs {
     let thread = [b"TWP1\x03", beta, &STEPS, &DATUM, label, &whole[178..407]];
     put(rt, alloc, &mut inputs, "t", &thread);
     let (alpha, step) = (&whole[278..294], &whole[415..423]);
-    put(rt, alloc, &mut inputs, "a", &[b"TWP1\x01", alpha, step, &whole[415..]]);
+    put(
+        rt,
+        alloc,
+        &mut inputs,
+        "a",
+        &[b"TWP1\x01", alpha, step, &whole[415..]],
+    );
     inputs
 }
 
@@ -64,7 +71,13 @@ fn its_parts_are_joined(rt: HostRuntime) {
 fn it_is_judged_in_both_forms(rt: HostRuntime) {
     let alloc = rt.alloc();
     expect(&rt, alloc, &["verify", "p", "k"], 0, REPORT.as_bytes());
-    expect(&rt, alloc, &["strict", "p", "k"], 1, b"rejected 8 Carried 1\n");
+    expect(
+        &rt,
+        alloc,
+        &["strict", "p", "k"],
+        1,
+        b"rejected 8 Carried 1\n",
+    );
 }
 
 /// Judges a proof file of these first bytes and zeros behind them, 5,000 in all, of which no second

@@ -5,10 +5,11 @@ use std::alloc::Global;
 use std::process::Abort;
 use std::test::Fail;
 use tw_base::{Bytes, EventList, Name, NoMemory, Sha, Thread};
-use tw_chain::{Verdict, verify};
+use tw_chain::Verdict;
 use tw_disk::MemDisk;
 use tw_pages::StoreFault;
 use tw_service::{Refusal, Service};
+use tw_verifier::verify;
 
 // The name of the tests' service.
 fn alpha(rt: &impl Abort) -> Name {

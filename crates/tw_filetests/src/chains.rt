@@ -2,11 +2,11 @@
 
 use std::alloc::Global;
 use std::test::Fail;
-use tw_base::{Claim, Digest, Name, NoMemory, Reason, Sha, Thread};
+use tw_base::{Claim, Digest, Name, NoMemory, Sha, Thread};
 use tw_chain::{
-    LEAST_PRECEDENCE, LEAST_PRECEDENCE_AUTHENTICATOR, Verdict, Verifier, read_first, verify,
-    write_proof,
+    LEAST_PRECEDENCE, LEAST_PRECEDENCE_AUTHENTICATOR, Verdict, read_first, write_proof,
 };
+use tw_verifier::{Verifier, verify};
 
 /// The anchor under which it is accepted, step 2 of the service `beta`; none if that is no name.
 fn anchor() -> Option<Thread> {
@@ -23,25 +23,26 @@ fn verifier(alloc: Global) -> Result<Verifier<Sha>, NoMemory> {
     Verifier::new(alloc, &[anchor], false)
 }
 
-/// The reason against the pieces that it was fed, or none.
-fn reason_of(verifier: Verifier<Sha>) -> Result<Option<Reason>, NoMemory> {
-    match verifier.finish()? {
-        Verdict::Yes(_) => Ok(None),
-        Verdict::No(reason) => Ok(Some(reason)),
+/// The number and the place of the reason against a proof, or none.
+fn against(verdict: &Verdict) -> Option<(u64, u64)> {
+    match verdict {
+        Verdict::Yes(_) => None,
+        Verdict::No(reason) => Some((reason.number(), reason.place())),
     }
 }
 
-/// The reason against two pieces, or none.
-fn of_two(alloc: Global, front: &[u8], rest: &[u8]) -> Result<Option<Reason>, NoMemory> {
+/// What stands against two pieces.
+fn against_two(alloc: Global, front: &[u8], rest: &[u8]) -> Result<Option<(u64, u64)>, NoMemory> {
     let mut verifier = verifier(alloc)?;
     verifier.feed(front)?;
     verifier.feed(rest)?;
-    reason_of(verifier)
+    let verdict = verifier.finish()?;
+    Ok(against(&verdict))
 }
 
-/// The reason against bytes that come one by one, or none, and the place of the byte behind which no
-/// proof went on.
-fn of_each(alloc: Global, bytes: &[u8]) -> Result<(Option<Reason>, Option<usize>), NoMemory> {
+/// A verifier that was fed these bytes one by one, and the place of the byte behind which no proof went
+/// on, if one did.
+fn fed_each(alloc: Global, bytes: &[u8]) -> Result<(Verifier<Sha>, Option<usize>), NoMemory> {
     let mut verifier = verifier(alloc)?;
     let mut broken = None;
     for (place, byte) in bytes.iter().enumerate() {
@@ -50,7 +51,7 @@ fn of_each(alloc: Global, bytes: &[u8]) -> Result<(Option<Reason>, Option<usize>
             broken = Some(place);
         }
     }
-    Ok((reason_of(verifier)?, broken))
+    Ok((verifier, broken))
 }
 
 /// The proof with a byte behind it.
@@ -77,37 +78,42 @@ fn the_least_chain(rt: HostRuntime) -> Result<(), Fail> {
 #[test]
 fn what_is_carried_is_refused_in_the_strict_form(rt: HostRuntime) -> Result<(), Fail> {
     let anchor = anchor().ok_or("no name")?;
-    match verify::<Sha>(rt.alloc(), &LEAST_PRECEDENCE, &[anchor], true)? {
-        Verdict::Yes(_) => assert!(rt; false, "it is accepted"),
-        Verdict::No(reason) => assert_eq!(rt; reason, Reason::Carried { count: 1 }),
-    }
+    let verdict = verify::<Sha>(rt.alloc(), &LEAST_PRECEDENCE, &[anchor], true)?;
+    assert!(rt; against(&verdict) == Some((8, 1)));
     Ok(())
 }
 
 #[test]
 fn each_cut_has_one_verdict(rt: HostRuntime) {
     let longer = with_byte();
-    let malformed = Reason::Malformed { place: 533 };
     for at in 0..534 {
         let (front, rest) = LEAST_PRECEDENCE.split_at(at);
-        assert!(rt; of_two(rt.alloc(), front, rest) == Ok(None));
+        assert!(rt; against_two(rt.alloc(), front, rest) == Ok(None));
         let (front, rest) = longer.split_at(at);
-        assert!(rt; of_two(rt.alloc(), front, rest) == Ok(Some(malformed)));
+        assert!(rt; against_two(rt.alloc(), front, rest) == Ok(Some((1, 533))));
     }
 }
 
 #[test]
-fn a_byte_behind_the_last_breaks_it(rt: HostRuntime) {
-    let malformed = Reason::Malformed { place: 533 };
-    assert!(rt; of_each(rt.alloc(), &LEAST_PRECEDENCE) == Ok((None, None)));
-    assert!(rt; of_each(rt.alloc(), &with_byte()) == Ok((Some(malformed), Some(533))));
+fn byte_by_byte(rt: HostRuntime) -> Result<(), Fail> {
+    let (verifier, broken) = fed_each(rt.alloc(), &LEAST_PRECEDENCE)?;
+    assert!(rt; broken.is_none());
+    assert!(rt; against(&verifier.finish()?).is_none());
+    Ok(())
+}
+
+#[test]
+fn a_byte_behind_the_last_breaks_it(rt: HostRuntime) -> Result<(), Fail> {
+    let (verifier, broken) = fed_each(rt.alloc(), &with_byte())?;
+    assert!(rt; broken == Some(533));
+    assert!(rt; against(&verifier.finish()?) == Some((1, 533)));
+    Ok(())
 }
 
 #[test]
 fn pieces_behind_a_bad_byte_change_nothing(rt: HostRuntime) {
-    let malformed = Reason::Malformed { place: 3 };
-    let reason = of_two(rt.alloc(), b"TWPx", &LEAST_PRECEDENCE);
-    assert!(rt; reason == Ok(Some(malformed)));
+    let found = against_two(rt.alloc(), b"TWPx", &LEAST_PRECEDENCE);
+    assert!(rt; found == Ok(Some((1, 3))));
 }
 
 #[test]

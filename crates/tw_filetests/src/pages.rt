@@ -2,11 +2,12 @@
 
 ghost use Rattle.std.specs.Prelude.{◌≡◌};
 ghost use Rattle.tw_base.specs.Limits.{IsEntryInRange, IsStep};
+ghost use Rattle.tw_rbnode.specs.Children.{IsChildAt};
 ghost use Rattle.tw_rbnode.specs.Page.{TreePage};
 ghost use Rattle.tw_rbnode.specs.declared.node.Added.TheVariants.{One};
 
 use std::process::Abort;
-use tw_base::{Digest, Entry, Name, Sha, Thread, Weak, empty_tree, entry_key, tree_node};
+use tw_base::{Digest, Entry, Hasher, Name, Sha, Thread, Weak, empty_tree, entry_key, tree_node};
 use tw_rbnode::{
     Added, Child, Found, RbNode, add, below, find, keys, label, read_node, single, top, write_node,
 };
@@ -16,6 +17,16 @@ use tw_rbnode::{
 struct Leaf {
     page: RbNode,
     ghost level: { page.level ≡ 0 },
+}
+
+/// What stands at an empty place of a leaf page.
+fn nothing<H: Hasher>() -> Child
+    ensures { IsChildAt H.dig 0 result }
+{
+    Child {
+        page: 0,
+        label: empty_tree::<H>(),
+    }
 }
 
 /// The entry of a step of the service `a`, received at step 1.
@@ -37,11 +48,7 @@ fn entry(rt: &impl Abort, step: u64) -> Entry
 fn one(rt: &impl Abort, step: u64) -> Leaf
     requires { IsStep step }
 {
-    let nothing = Child {
-        page: 0,
-        label: empty_tree::<Sha>(),
-    };
-    let page = single::<Sha>(0, entry(rt, step), nothing, nothing);
+    let page = single::<Sha>(0, entry(rt, step), nothing::<Sha>(), nothing::<Sha>());
     Leaf { page }
 }
 
@@ -51,13 +58,15 @@ fn with(rt: &impl Abort, leaf: &Leaf, step: u64) -> Added
     ensures { (page : TreePage) → result ≡ One page → page.level ≡ 0 }
 {
     let entry = entry(rt, step);
-    let nothing = Child {
-        page: 0,
-        label: empty_tree::<Sha>(),
-    };
     match find(&leaf.page, &entry_key(&entry)) {
         Found::At(_) => panic!(rt; "a key twice"),
-        Found::Between(place) => add::<Sha>(&leaf.page, place, entry, nothing, nothing),
+        Found::Between(place) => add::<Sha>(
+            &leaf.page,
+            place,
+            entry,
+            nothing::<Sha>(),
+            nothing::<Sha>(),
+        ),
     }
 }
 
@@ -95,9 +104,9 @@ fn three_keys_have_the_middle_one_on_top(rt: HostRuntime) {
     assert_eq!(rt; top(&in_order.page), 2);
     let turned = more(&rt, &more(&rt, &first, 3), 2);
     assert_eq!(rt; top(&turned.page), 2);
-    let nothing = empty_tree::<Sha>();
-    let left = tree_node::<Sha>(&nothing, &entry(&rt, 1), &nothing);
-    let right = tree_node::<Sha>(&nothing, &entry(&rt, 3), &nothing);
+    let none = empty_tree::<Sha>();
+    let left = tree_node::<Sha>(&none, &entry(&rt, 1), &none);
+    let right = tree_node::<Sha>(&none, &entry(&rt, 3), &none);
     let tree = tree_node::<Sha>(&left, &entry(&rt, 2), &right);
     assert_eq!(rt; label::<Sha>(&in_order.page), tree);
     assert_eq!(rt; label::<Sha>(&turned.page), tree);

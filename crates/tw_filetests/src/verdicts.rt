@@ -4,10 +4,11 @@ use std::alloc::Global;
 use std::process::Abort;
 use std::test::Fail;
 use tw_base::{Claim, Digest, Hasher, Labels, Name, Reason, Sha, Thread, Weak};
-use tw_chain::{Verdict, verify};
+use tw_chain::Verdict;
 use tw_skipproof::{
     LEAST_AUTHENTICATOR, LEAST_EXISTENCE, Opening, read_existence, write_existence,
 };
+use tw_verifier::verify;
 
 /// A thread of step 1 of a service.
 fn first_step(rt: &impl Abort, service: &[u8], auth: [u8; 32]) -> Thread {
