@@ -18,4 +18,5 @@ pub use making::{ProveFault, prove};
 pub use reading::{take_entry, take_gap, take_present};
 pub use shown::Shown;
 pub use tw_base::{Ancestor, AncestorList, Ask, TreeProof};
+pub use way::{goes_left, meets};
 pub use writing::{put_entry, put_tree_proof};
