@@ -2,7 +2,9 @@
 use Rattle.std.specs.Prelude.{◌≡◌, ℕ, suc, zero, ◌+◌, ◌==◌, List, [], ◌∷◌, length, slice_index_or, map, Option, Some, None, if◌then◌else◌}
 use Rattle.tw_base.specs.declared.root.Root.{Root}
 use Rattle.tw_base.specs.declared.thread.Entry.{Entry}
+use Rattle.tw_base.specs.declared.thread.Key.{Key}
 use Rattle.tw_base.specs.declared.tree_proof.Ask.{Ask}
+use Rattle.tw_base.specs.declared.tree_proof.Ask.TheVariants.{Absent, Above, Below}
 use Rattle.tw_disk.specs.Found.{Found, ◌>>=◌}
 use Rattle.tw_disk.specs.Found.Found.{Is}
 use Rattle.tw_rbnode.specs.declared.child.Child.{Child}
@@ -58,6 +60,20 @@ module _ (at : Reading) (ask : Ask) where
   unfoldable pub way : Root → Found (List Stop)
   way root = if root.page == 0 then Is [] else (root_in at root.page >>= (λ p. way_from p.level None None p))
 
-  -- where the way from the root down ends
+  -- where the way from a page down ends, and where the way from the root does
+  unfoldable pub end_from : (level : ℕ) → (low high : Option Entry) → TreePage → Found Sought
+  end_from level low high p = way_from level low high p >>= (λ stops. Is (end_of nowhere stops))
+
   unfoldable pub way_end : Root → Found Sought
   way_end root = way root >>= (λ stops. Is (end_of nowhere stops))
+
+-- ---- what is found of a key: its entry where the way to it ends, and the nearest entries on the left and on the right of the ways beside it
+module _ (at : Reading) (root : Root) (key : Key) where
+  unfoldable pub found_with : Found (Option Entry)
+  found_with = way_end at (Absent key) root >>= (λ end. Is end.met)
+
+  unfoldable pub found_before : Found (Option Entry)
+  found_before = way_end at (Below key) root >>= (λ end. Is end.low)
+
+  unfoldable pub found_after : Found (Option Entry)
+  found_after = way_end at (Above key) root >>= (λ end. Is end.high)

@@ -1,17 +1,11 @@
 // What a tree in pages has of a key, and next to it.
 
-ghost use Rattle.std.specs.Prelude.{◌≡◌, ℕ, List, None, Option, Some};
-ghost use Rattle.tw_base.specs.declared.tree_proof.Ask.TheVariants.{Absent, Above, Below};
-ghost use Rattle.tw_base.specs.Asking.{entry_with, first_above, last_below};
-ghost use Rattle.tw_base.specs.Tree.{Tree, entries};
+ghost use Rattle.std.specs.Prelude.{◌≡◌, ℕ, ◌-◌, None, Option, Some};
 ghost use Rattle.tw_disk.specs.Image.{Image};
 ghost use Rattle.tw_disk.specs.Pages.{OnlyReads};
-ghost use Rattle.tw_disk.specs.Found.{◌>>=◌};
-ghost use Rattle.tw_disk.specs.Found.Found.{Is};
 ghost use Rattle.tw_rbtree.specs.Answers.{NotFaultOnWay, WalkAnswersAs, WalkFaultsRise};
 ghost use Rattle.tw_rbtree.specs.Reading.{IsReading, Reading};
-ghost use Rattle.tw_rbtree.specs.Standing.{StandsFor};
-ghost use Rattle.tw_rbtree.specs.Ways.{end_of, nowhere as before_any, way_end, way_from};
+ghost use Rattle.tw_rbtree.specs.Ways.{end_from, found_after, found_before, found_with, way_end};
 
 use crate::fault::WalkFault;
 use crate::reading::{read_child, read_root};
@@ -29,7 +23,7 @@ fn end_below<P: Pages, H: Hasher>(
     high: &Option<Entry>,
 ) -> Result<Sought, WalkFault>
     ensures answer { (ps : Image) → P.list pages.old ≡ Some ps → (at : Reading) → IsReading H.dig ps at →
-        WalkAnswersAs (λ s. s) result (way_from at ask.now node.now.level low.now high.now node.now >>= (λ stops. Is (end_of before_any stops))) }
+        WalkAnswersAs (λ s. s) result (end_from at ask.now node.now.level low.now high.now node.now) }
     ensures kept { OnlyReads P.used_count P.list P.same P.unbroken pages.old pages.new (NotFaultOnWay result) }
     ensures faults { WalkFaultsRise (P.faults pages.old) (P.faults pages.new) result }
 {
@@ -73,7 +67,7 @@ pub fn get<P: Pages, H: Hasher>(
     // Over told pages the answer is what is found in them, whatever they keep, a disk fault excepted: the entry of the key at the
     // end of the way down, or `BadPage` with the first page met that doesn't fit the way.
     ensures answer { (ps : Image) → P.list pages.old ≡ Some ps → (at : Reading) → IsReading H.dig ps at →
-        WalkAnswersAs (λ e. e) result (way_end at (Absent key.now) root.now >>= (λ end. Is end.met)) }
+        WalkAnswersAs (λ e. e) result (found_with at root.now key.now) }
     // Reading changes nothing of what the pages tell.
     ensures kept { OnlyReads P.used_count P.list P.same P.unbroken pages.old pages.new (NotFaultOnWay result) }
     // `DiskFault` comes only where the count of faults rose.
@@ -93,7 +87,7 @@ pub fn before<P: Pages, H: Hasher>(
     // Over told pages the answer is what is found in them, whatever they keep, a disk fault excepted: the nearest entry on the
     // left of the way down, or `BadPage` with the first page met that doesn't fit the way.
     ensures answer { (ps : Image) → P.list pages.old ≡ Some ps → (at : Reading) → IsReading H.dig ps at →
-        WalkAnswersAs (λ e. e) result (way_end at (Below key.now) root.now >>= (λ end. Is end.low)) }
+        WalkAnswersAs (λ e. e) result (found_before at root.now key.now) }
     // Reading changes nothing of what the pages tell.
     ensures kept { OnlyReads P.used_count P.list P.same P.unbroken pages.old pages.new (NotFaultOnWay result) }
     // `DiskFault` comes only where the count of faults rose.
@@ -113,7 +107,7 @@ pub fn after<P: Pages, H: Hasher>(
     // Over told pages the answer is what is found in them, whatever they keep, a disk fault excepted: the nearest entry on the
     // right of the way down, or `BadPage` with the first page met that doesn't fit the way.
     ensures answer { (ps : Image) → P.list pages.old ≡ Some ps → (at : Reading) → IsReading H.dig ps at →
-        WalkAnswersAs (λ e. e) result (way_end at (Above key.now) root.now >>= (λ end. Is end.high)) }
+        WalkAnswersAs (λ e. e) result (found_after at root.now key.now) }
     // Reading changes nothing of what the pages tell.
     ensures kept { OnlyReads P.used_count P.list P.same P.unbroken pages.old pages.new (NotFaultOnWay result) }
     // `DiskFault` comes only where the count of faults rose.

@@ -4,15 +4,13 @@ ghost use Rattle.std.specs.Prelude.{◌≡◌, ℕ, ◌+◌, ◌-◌, ◌*◌, �
 ghost use Rattle.tw_base.specs.declared.root.Root.{Root};
 ghost use Rattle.tw_base.specs.declared.thread.Key.{Key};
 ghost use Rattle.tw_base.specs.declared.tree_proof.Ask.{Ask};
-ghost use Rattle.tw_base.specs.declared.tree_proof.Ask.TheVariants.{Absent, Above, Below};
 ghost use Rattle.tw_base.specs.Asking.{entry_with, first_above, last_below};
 ghost use Rattle.tw_base.specs.Tree.{Tree, entries};
-ghost use Rattle.tw_disk.specs.Found.{◌>>=◌};
 ghost use Rattle.tw_disk.specs.Found.Found.{Is};
 ghost use Rattle.tw_disk.specs.Image.{Image};
 ghost use Rattle.tw_rbtree.specs.Reading.{IsReading, Reading};
 ghost use Rattle.tw_rbtree.specs.Standing.{StandsFor};
-ghost use Rattle.tw_rbtree.specs.Ways.{Stop, end_of, nowhere, way, way_end};
+ghost use Rattle.tw_rbtree.specs.Ways.{Stop, end_of, found_after, found_before, found_with, nowhere, way};
 ghost use Rattle.tw_rbtree.specs.Paths.{proof_of_way};
 ghost use Rattle.tw_rbtree.specs.Answers.{IsSoAt};
 ghost use Rattle.tw_treeproof.specs.Answers.{ancestors_of};
@@ -26,13 +24,13 @@ pub fn standing_laws<H: Hasher>()
     ensures reading { (ps : Image) → (at : Reading) × IsReading H.dig ps at }
     // The entry of a key that is found is the tree's, and none where it has none.
     ensures get { (ps : Image) (at : Reading) (root : Root) (t : Tree) (key : Key) → IsReading H.dig ps at → StandsFor H.dig ps root t →
-        (way_end at (Absent key) root >>= (λ end. Is end.met)) ≡ Is (entry_with (entries t) key) }
+        found_with at root key ≡ Is (entry_with (entries t) key) }
     // The entry before a key that is found is the last one below it of the tree's list.
     ensures before { (ps : Image) (at : Reading) (root : Root) (t : Tree) (key : Key) → IsReading H.dig ps at → StandsFor H.dig ps root t →
-        (way_end at (Below key) root >>= (λ end. Is end.low)) ≡ Is (last_below (entries t) key) }
+        found_before at root key ≡ Is (last_below (entries t) key) }
     // The entry after a key that is found is the first one above it of the tree's list.
     ensures after { (ps : Image) (at : Reading) (root : Root) (t : Tree) (key : Key) → IsReading H.dig ps at → StandsFor H.dig ps root t →
-        (way_end at (Above key) root >>= (λ end. Is end.high)) ≡ Is (first_above (entries t) key) }
+        found_after at root key ≡ Is (first_above (entries t) key) }
     // What is asked is so at the end of the way where it is so of the tree's entries, and the proof that the way shows is the
     // tree's own.
     ensures path { (ps : Image) (at : Reading) (root : Root) (t : Tree) (ask : Ask) → IsReading H.dig ps at → StandsFor H.dig ps root t →
