@@ -5,4 +5,5 @@ pub mod KeptCallLaws
 pub mod LooseLaws
 pub mod Unwinding
 pub mod ReadingLaws
+pub mod FoundLaws
 pub mod PageLaws

@@ -1,6 +1,6 @@
 // Reading the pages of a tree.
 
-ghost use Rattle.std.specs.Prelude.{◌≡◌, ℕ, ◌↔◌, Some, Option, IfOk, IsTrue, MatchOption};
+ghost use Rattle.std.specs.Prelude.{◌≡◌, ℕ, ◌&&◌, Some, Option, IfOk, IsTrue, MatchOption};
 ghost use Rattle.tw_disk.specs.Image.{Image};
 ghost use Rattle.tw_disk.specs.Pages.{OnlyReads};
 ghost use Rattle.tw_rbnode.specs.Page.{TreePage};
@@ -53,15 +53,31 @@ fn lies_below(high: &Option<Entry>, entry: &Entry) -> bool
     }
 }
 
+/// Whether the entry lies between these two.
+fn is_between(low: &Option<Entry>, high: &Option<Entry>, entry: &Entry) -> bool
+    ensures { result ≡ (is_above low.now entry.now && is_below high.now entry.now) }
+{
+    lies_above(low, entry) && lies_below(high, entry)
+}
+
+/// Whether the page's keys lie between those of these two entries.
+fn lies_between(node: &RbNode, low: &Option<Entry>, high: &Option<Entry>) -> bool
+    ensures { result ≡ lie_between low.now high.now node.now.entries }
+{
+    for place in 0..keys(node) {
+        let entry = entry_at(node, place + 1);
+        if !is_between(low, high, &entry) {
+            return false;
+        }
+    }
+    true
+}
+
 /// Whether the page fits the way to it.
 fn fits(node: &RbNode, wanted: u8, low: &Option<Entry>, high: &Option<Entry>) -> bool
     ensures { result ≡ fits_there wanted low.now high.now node.now }
 {
-    let count = keys(node);
-    level(node) == wanted
-        && count as u64 >= LEAST_KEYS
-        && lies_above(low, &entry_at(node, 1))
-        && lies_below(high, &entry_at(node, count))
+    level(node) == wanted && keys(node) as u64 >= LEAST_KEYS && lies_between(node, low, high)
 }
 
 /// Reads the tree page of this number, of this level and between these two entries.
