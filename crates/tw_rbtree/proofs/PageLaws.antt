@@ -10,6 +10,7 @@ use Rattle.tw_disk.specs.Image.{Image}
 use Rattle.tw_disk.proofs.FoundLaws.{same_found}
 use Rattle.tw_rbnode.specs.Page.{TreePage}
 use Rattle.tw_rbnode.proofs.PageOnce.{once}
+use Rattle.tw_rbnode.specs.declared.node.Found.{Found as Spot}
 use Rattle.tw_rbnode.specs.declared.node.Found.TheVariants.{At, Between}
 use Rattle.tw_treeproof.specs.Ways.{has_asked_key, is_left}
 use Rattle.tw_rbtree.specs.declared.seeking.Sought.{Sought}
@@ -114,3 +115,26 @@ module _ (ask : Ask) (low high : Option Entry) (es : List Entry) (i : ℕ) (e : 
 pub seek-ends : (ask : Ask) (low high : Option Entry) (es : List Entry) (i : ℕ) → length es ≤ i → seek ask i low high (drop i es) ≡ record { at = Between i; low = low; met = None; high = high }
 unfolding seek
 seek-ends ask low high es i past = ap (seek ask i low high) (drop-past es i past)
+
+-- the place and the slot to which a question leads are there
+abbrev pub IsSpotOf : (base count : ℕ) → Spot → Type 0
+IsSpotOf base count (At slot) = (base < slot) × (slot ≤ base + count)
+IsSpotOf base count (Between place) = (base ≤ place) × (place ≤ base + count)
+
+spot-on : (base count : ℕ) (spot : Spot) → IsSpotOf (base + 1) count spot → IsSpotOf base (suc count) spot
+spot-on base count (At slot) h = (omega (arith, h.0), omega (arith, h.1))
+spot-on base count (Between place) h = (omega (arith, h.0), omega (arith, h.1))
+
+pub seek-there : (ask : Ask) (base : ℕ) (low high : Option Entry) (es : List Entry) → IsSpotOf base (length es) (seek ask base low high es).at
+unfolding seek
+seek-there ask base low high [] = (omega arith, omega arith)
+seek-there ask base low high (e ∷ es) = by (seek-there ask (base + 1) (Some e) high es) (has_asked_key ask e) (is_left ask e)
+  where
+    rest : Sought
+    rest = seek ask (base + 1) (Some e) high es
+
+    by : IsSpotOf (base + 1) (length es) rest.at → (meets left : Bool) → IsSpotOf base (suc (length es))
+        (if meets then record { at = At (base + 1); low = low; met = Some e; high = high } else (if left then record { at = Between base; low = low; met = None; high = Some e } else rest)).at
+    by below true left = (omega arith, omega arith)
+    by below false true = (omega arith, omega arith)
+    by below false false = spot-on base (length es) rest.at below

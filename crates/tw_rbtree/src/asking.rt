@@ -28,14 +28,15 @@ fn end_below<P: Pages, H: Hasher>(
     ensures faults { WalkFaultsRise (P.faults pages.old) (P.faults pages.new) result }
 {
     let here = seek(node, ask, low, high);
-    match here.at {
-        Found::Between(place) if level(node) > 0 => {
-            let page = child_at(node, place).page;
-            let child = read_child::<P, H>(pages, page, level(node) - 1, &here.low, &here.high)?;
-            end_below::<P, H>(pages, ask, &child, &here.low, &here.high)
-        }
-        _ => Ok(here),
+    let Found::Between(place) = here.at else {
+        return Ok(here);
+    };
+    if level(node) == 0 {
+        return Ok(here);
     }
+    let page = child_at(node, place).page;
+    let child = read_child::<P, H>(pages, page, level(node) - 1, &here.low, &here.high)?;
+    end_below::<P, H>(pages, ask, &child, &here.low, &here.high)
 }
 
 /// Where the way from the root down ends.
