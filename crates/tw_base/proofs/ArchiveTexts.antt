@@ -13,7 +13,7 @@ use Rattle.tw_base.proofs.Clashes.{Among-left, Among-right}
 use Rattle.tw_base.proofs.ListLemmas.{Each-append, Each-get_or}
 use Rattle.tw_base.proofs.Auths.{has-empty_text, has-node_text}
 
-joined_within : (xs ys texts : List (List ℕ)) → Within xs texts → Within ys texts → Within (xs ++ ys) texts
+pub joined_within : (xs ys texts : List (List ℕ)) → Within xs texts → Within ys texts → Within (xs ++ ys) texts
 joined_within [] ys texts p q text a = q text a
 joined_within (x ∷ xs) ys texts p q text (inl e) = p text (inl e)
 joined_within (x ∷ xs) ys texts p q text (inr a) = joined_within xs ys texts (λ t b. p t (inr b)) q text a

@@ -318,8 +318,8 @@ pub lawful-labels : (n : ℕ) → Lawful (labels_codec n)
 unfolding labels_codec
 lawful-labels n = lawful-many (bytes_codec 32) (lawful-bytes 32) n
 
--- ---- a value for each of these
-module _ {A X : Type 0} (write : X → List ℕ) (f : A → Codec X) (h : (a : A) → Lawful (f a)) (same : (a : A) (x : X) → (f a).write x ≡ write x) where
+-- ---- a value for each of these; the function writes those that fit
+module _ {A X : Type 0} (write : X → List ℕ) (f : A → Codec X) (h : (a : A) → Lawful (f a)) (same : (a : A) (x : X) → (f a).Fits x → (f a).write x ≡ write x) where
   each-goes : (params : List A) → GoesOn (each_format write f params)
   each-goes [] = tt
   each-goes (a ∷ rest) = goes_on-then (f a).format _ (h a).goes (λ x. goes_on-then (each_format write f rest) _ (each-goes rest) (λ xs. tt))
@@ -331,7 +331,7 @@ module _ {A X : Type 0} (write : X → List ℕ) (f : A → Codec X) (h : (a : A
       all_words-then (each_format write f rest) _ _ (λ other xs t.
       let first = (h a).words one x s in
       let last = each-words rest other xs t in
-      let word : one ++ (other ++ []) ≡ write x ++ flat_map write xs = (λ k. (first.0 ∙ same a x) k ++ (append-nil other ∙ last.0) k) in
+      let word : one ++ (other ++ []) ≡ write x ++ flat_map write xs = (λ k. (first.0 ∙ same a x first.1) k ++ (append-nil other ∙ last.0) k) in
       all_words-done (x ∷ xs) _ (word, (first.1, last.1))))
 
   each-spell : (params : List A) (xs : List X) → EachFits write f params xs → Spells (each_format write f params) (flat_map write xs) xs
@@ -340,7 +340,7 @@ module _ {A X : Type 0} (write : X → List ℕ) (f : A → Codec X) (h : (a : A
   each-spell (a ∷ rest) (x ∷ xs) fits =
       let P : List ℕ → Type 0 = λ w. Spells (then_by (each_format write f rest) (λ ys. Done (x ∷ ys))) w (x ∷ xs) in
       let Q : List ℕ → Type 0 = λ w. Spells (each_format write f (a ∷ rest)) (w ++ flat_map write xs) (x ∷ xs) in
-      subst Q (same a x)
+      subst Q (same a x fits.0)
       (spells_then (f a).format _ ((f a).write x) _ x (x ∷ xs) ((h a).spells x fits.0)
       (subst P (append-nil (flat_map write xs)) (spells_then (each_format write f rest) _ (flat_map write xs) [] xs (x ∷ xs) (each-spell rest xs fits.1) refl)))
 

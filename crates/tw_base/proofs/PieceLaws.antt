@@ -7,7 +7,7 @@ use Rattle.std.proofs.lemmas.List.{append-nil, take_more, length-append, length-
 use Rattle.std.proofs.Math.Seq.{take-add, take-append-add}
 use Rattle.tw_base.specs.declared.failure.ReadFault.{ReadFault}
 use Rattle.tw_base.specs.declared.failure.ReadFault.TheVariants.{Malformed, NoMemory}
-use Rattle.tw_base.specs.declared.resuming.Resumed.{Resumed}
+use Rattle.tw_base.specs.declared.resumed.Resumed.{Resumed}
 use Rattle.tw_base.specs.Bytes.{AreBytes}
 use Rattle.tw_base.specs.Formats.{Format, GoesOn, IsFront, IsPlace, ReadsAs, Spells, SpellsNothing, then_by}
 use Rattle.tw_base.specs.Formats.Format.{Done, Byte}
@@ -108,33 +108,46 @@ module _ {X : Type 0} (f : Format X) where
           },
         )
 
+  -- what broke is no word
+  pub broken-spells_nothing : (bytes : List ℕ) (place : ℕ) → IsPlace f bytes place → place < length bytes → SpellsNothing f bytes
+  broken-spells_nothing bytes place is broken = let P : List ℕ → Type 0 = SpellsNothing f in subst P (append-nil bytes) (broken-more bytes [] place is broken).0
+
 -- ---- a chain of segments
 
 module _ {S X : Type 0} (rest : S → Format X) (whole : Format X) where
+  -- what was taken and is held, put together
+  so_far-of : (r : Resumed S) (pieces taken held : List ℕ) → pieces ≡ taken ++ held → (state : S) → r.state ≡ state → r.held ≡ held → r.taken ≡ length taken → StandsBehind whole taken (rest state)
+      → (until : ℕ) → r.until ≡ until → StaysFront (rest state) held until → IsSoFar rest whole r pieces
+  so_far-of r pieces taken held are state is holds count behind until never stays =
+      let P : S → Type 0 = λ s. StandsBehind whole taken (rest s) in
+      let Q : S → Type 0 = λ s. StaysFront (rest s) r.held r.until in
+      let R : List ℕ → Type 0 = λ w. StaysFront (rest state) w r.until in
+      let T : ℕ → Type 0 = λ n. StaysFront (rest state) held n in
+      record {
+        taken = taken;
+        are = are ∙ ap (λ w. taken ++ w) (sym holds);
+        count = count;
+        behind = subst P (sym is) behind;
+        stays = subst Q (sym is) (subst R (sym holds) (subst T (sym never) stays));
+      }
+
   -- no bytes yet
   pub so_far-begins : (state : S) (r : Resumed S) → StaysFront (rest state) [] 0 → StandsBehind whole [] (rest state) → r.state ≡ state → r.held ≡ [] → r.taken ≡ 0 → r.until ≡ 0
       → IsSoFar rest whole r []
-  so_far-begins state r stays behind is none zero never =
-      let P : S → Type 0 = λ s. StandsBehind whole [] (rest s) in
-      let Q : S → Type 0 = λ s. StaysFront (rest s) r.held r.until in
-      let R : List ℕ → Type 0 = λ held. StaysFront (rest state) held r.until in
-      let T : ℕ → Type 0 = λ until. StaysFront (rest state) [] until in
-      record { taken = []; are = sym none; count = zero; behind = subst P (sym is) behind; stays = subst Q (sym is) (subst R (sym none) (subst T (sym never) stays)) }
+  so_far-begins state r stays behind is none zero never = so_far-of r [] [] [] refl state is none zero behind 0 never stays
 
-  so_far-front : (r : Resumed S) (pieces : List ℕ) → IsSoFar rest whole r pieces → IsFront whole pieces
+  -- the pieces are a front
+  pub so_far-front : (r : Resumed S) (pieces : List ℕ) → IsSoFar rest whole r pieces → IsFront whole pieces
   so_far-front r pieces s =
       let P : List ℕ → Type 0 = IsFront whole in
       let Q : List ℕ → Type 0 = IsFront (rest r.state) in
       subst P (sym s.are) (behind-front whole (rest r.state) s.taken s.behind r.held (subst Q (append-nil r.held) (s.stays [] tt (λ more. absurd (omega (arith, more)))).0))
 
   -- a piece after which the segment can neither end nor break
-  pub so_far-waits : (r : Resumed S) (pieces piece : List ℕ) → AreBytes piece → length (r.held ++ piece) < r.until → IsSoFar rest whole r pieces
-      → Goes rest whole (pieces ++ piece) (Ok (record { state = r.state; held = r.held ++ piece; taken = r.taken; until = r.until }))
-  so_far-waits r pieces piece are few s = (all, so_far-front next (pieces ++ piece) all)
+  pub so_far-waits : (r next : Resumed S) (pieces piece : List ℕ) → next.state ≡ r.state → next.held ≡ r.held ++ piece → next.taken ≡ r.taken → next.until ≡ r.until
+      → AreBytes piece → length (r.held ++ piece) < r.until → IsSoFar rest whole r pieces → Goes rest whole (pieces ++ piece) (Ok next)
+  so_far-waits r next pieces piece state held taken until are few s = (all, so_far-front next (pieces ++ piece) all)
     where
-      next : Resumed S
-      next = record { state = r.state; held = r.held ++ piece; taken = r.taken; until = r.until }
-
       stays : StaysFront (rest r.state) (r.held ++ piece) r.until
       stays more bytes less =
           let same : (r.held ++ piece) ++ more ≡ r.held ++ (piece ++ more) = append_assoc r.held piece more in
@@ -147,7 +160,7 @@ module _ {S X : Type 0} (rest : S → Format X) (whole : Format X) where
           subst P (sym same) (s.stays (piece ++ more) (AreBytes-append piece more are bytes) (λ _. short))
 
       all : IsSoFar rest whole next (pieces ++ piece)
-      all = record { taken = s.taken; are = ap (λ w. w ++ piece) s.are ∙ append_assoc s.taken r.held piece; count = s.count; behind = s.behind; stays = stays }
+      all = so_far-of next (pieces ++ piece) s.taken (r.held ++ piece) (ap (λ w. w ++ piece) s.are ∙ append_assoc s.taken r.held piece) r.state state held (taken ∙ s.count) s.behind r.until until stays
 
   -- what goes on from what was taken and held goes on from the pieces
   pub goes-again : (r : Resumed S) (pieces piece : List ℕ) (result : Result (Resumed S) ReadFault) (s : IsSoFar rest whole r pieces)
@@ -168,25 +181,14 @@ module _ {S X : Type 0} (rest : S → Format X) (whole : Format X) where
     mid-size = omega (arith, counts, length-append before (take at held), length-take-le at held within)
 
     -- the segment at hand has a front
-    pub settles-front : (same : S) (left slice : List ℕ) (until place : ℕ) → place ≡ count + at → slice ≡ drop at held → left ≡ drop at held → (same ≡ state) × StaysFront (rest state) slice until
-        → Goes rest whole (before ++ held) (Ok (record { state = same; held = left; taken = place; until = until }))
-    settles-front same left slice until place stands is rest_is found = (all, so_far-front next (before ++ held) all)
+    pub settles-front : (next : Resumed S) (slice : List ℕ) → next.taken ≡ count + at → slice ≡ drop at held → next.held ≡ drop at held
+        → (next.state ≡ state) × StaysFront (rest state) slice next.until → Goes rest whole (before ++ held) (Ok next)
+    settles-front next slice stands is rest_is found = (all, so_far-front next (before ++ held) all)
       where
-        next : Resumed S
-        next = record { state = same; held = left; taken = place; until = until }
-
         all : IsSoFar rest whole next (before ++ held)
         all =
-            let P : S → Type 0 = λ s. StandsBehind whole (before ++ take at held) (rest s) in
-            let Q : S → Type 0 = λ s. StaysFront (rest s) left until in
-            let R : List ℕ → Type 0 = λ w. StaysFront (rest state) w until in
-            record {
-              taken = before ++ take at held;
-              are = joined_again ∙ ap (λ w. (before ++ take at held) ++ w) (sym rest_is);
-              count = stands ∙ mid-size;
-              behind = subst P (sym found.0) mid;
-              stays = subst Q (sym found.0) (subst R (is ∙ sym rest_is) found.1);
-            }
+            let P : List ℕ → Type 0 = λ w. StaysFront (rest state) w next.until in
+            so_far-of next (before ++ held) (before ++ take at held) (drop at held) joined_again state found.0 rest_is (stands ∙ mid-size) mid next.until refl (subst P is found.1)
 
     -- it breaks
     pub settles-broken : (slice : List ℕ) (place bad : ℕ) → bad ≡ count + (at + place) → slice ≡ drop at held → (place < length slice) × IsPlace (rest state) slice place

@@ -21,6 +21,8 @@ pub mod Levels
 pub mod Auth
 pub mod HistoryTexts
 pub mod Family
+pub mod Chains
+pub mod Facts
 pub mod Reasons
 pub mod Formats
 pub mod Fields
@@ -29,5 +31,8 @@ pub mod Faults
 pub mod PlannedFailures
 pub mod Codecs
 pub mod Taking
+pub mod PageBytes
 pub mod HistoryCodec
+pub mod EntryCodec
 pub mod Resuming
+pub mod Feeding

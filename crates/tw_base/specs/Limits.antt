@@ -1,8 +1,9 @@
--- What a step may record: the limits of events, of a received thread and of a time.
+-- What a step may record: the limits of events, of a received thread and of a time; and the limits of the steps of an entry.
 use Rattle.std.specs.Prelude.{◌≡◌, ℕ, ◌<◌, ◌≤◌, List, length, sum_by, Option, IfSome}
 use Rattle.tw_base.specs.declared.content.Content.{Content}
 use Rattle.tw_base.specs.declared.content.Content.TheVariants.{Events, Received}
 use Rattle.tw_base.specs.declared.limits.TheConstants.{LAST_STEP, LAST_TIME, MOST_EVENTS, MOST_EVENT_BYTES, MOST_STEP_BYTES}
+use Rattle.tw_base.specs.declared.thread.Entry.{Entry}
 use Rattle.tw_base.specs.declared.thread.Thread.{Thread}
 use Rattle.tw_base.specs.Bytes.{AreBytes}
 use Rattle.tw_base.specs.Lists.{Each}
@@ -35,3 +36,11 @@ IsWithinLimits (Received t) = IsThread t
 -- the limit of a step's time, where it has one
 abbrev pub IsTimeWithinLimits : Option ℕ → Type 0
 IsTimeWithinLimits time = IfSome time (λ t. t ≤ LAST_TIME)
+
+-- a step from 1 on that a service may have
+abbrev pub IsStep : ℕ → Type 0
+IsStep step = (0 < step) × (step ≤ LAST_STEP)
+
+-- the step of the entry's thread, and the one that archived it, are such steps
+abbrev pub IsEntryInRange : Entry → Type 0
+IsEntryInRange e = IsStep e.thread.step × IsStep e.archived

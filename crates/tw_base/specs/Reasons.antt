@@ -1,7 +1,7 @@
 -- The order of the reasons against a proof: by number, and of one number by place, part or count.
 use Rattle.std.specs.Prelude.{◌≡◌, ◌⊎◌, ℕ, ◌<◌, ◌≤◌}
 use Rattle.tw_base.specs.declared.report.Reason.{Reason}
-use Rattle.tw_base.specs.declared.report.Reason.TheVariants.{Malformed, BadOrder, NotHeld, BadPath, BadOpening, BadEvent, BadTree, Carried, Unbuilt}
+use Rattle.tw_base.specs.declared.report.Reason.TheVariants.{Malformed, BadOrder, NotHeld, BadPath, BadOpening, BadEvent, BadTree, Carried}
 
 abbrev pub reason_number : Reason → ℕ
 reason_number (Malformed _) = 1
@@ -12,7 +12,6 @@ reason_number (BadOpening _) = 5
 reason_number (BadEvent _) = 6
 reason_number (BadTree _) = 7
 reason_number (Carried _) = 8
-reason_number Unbuilt = 9
 
 -- what orders the reasons of one number; of the reasons without a place, a part or a count one at most stands
 abbrev pub reason_place : Reason → ℕ
@@ -24,7 +23,6 @@ reason_place (BadOpening part) = part
 reason_place (BadEvent part) = part
 reason_place (BadTree part) = part
 reason_place (Carried count) = count
-reason_place Unbuilt = 0
 
 -- the first reason isn't above the second
 abbrev pub IsNoHigher : Reason → Reason → Type 0

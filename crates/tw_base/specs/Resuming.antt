@@ -6,7 +6,7 @@ use Rattle.tw_base.specs.declared.failure.ReadFault.{ReadFault}
 use Rattle.tw_base.specs.declared.failure.ReadFault.TheVariants.{Malformed, NoMemory}
 use Rattle.tw_base.specs.declared.resuming.Attempt.{Attempt}
 use Rattle.tw_base.specs.declared.resuming.Attempt.TheVariants.{Ended, Front, Broken}
-use Rattle.tw_base.specs.declared.resuming.Resumed.{Resumed}
+use Rattle.tw_base.specs.declared.resumed.Resumed.{Resumed}
 use Rattle.tw_base.specs.Bytes.{AreBytes}
 use Rattle.tw_base.specs.Formats.{Format, IsFront, IsPlace, Spells, SpellsNothing}
 

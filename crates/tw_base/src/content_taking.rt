@@ -1,7 +1,7 @@
 // Reading what a step records.
 #![tactic(auto, unfolding(crate::specs::Codecs::variant, crate::specs::Codecs::pair, crate::specs::Codecs::seen, crate::specs::HistoryCodec::content_codec, crate::specs::HistoryCodec::thread_codec))]
 
-ghost use Rattle.std.specs.Prelude.{◌≡◌, ◌≤◌, length};
+ghost use Rattle.std.specs.Prelude.{◌≡◌, ◌≢◌, ◌≤◌, length, IfErr};
 ghost use Rattle.tw_base.specs.HistoryCodec.{is_of_events as is_kind_of_events, is_timed as is_timed_kind};
 ghost use Rattle.tw_base.specs.HistoryCodec.{content_codec, of_kind, recorded_codec, thread_codec};
 ghost use Rattle.tw_base.specs.Taking.{Takes};
@@ -21,7 +21,9 @@ use std::alloc::Global;
 pub fn take_thread(bytes: &[u8], at: &mut u64) -> Result<Thread, ReadFault>
     requires { at.old ≤ length bytes.now }
     // A thread is taken at a place exactly as its codec reads it; else the place of the first bad byte is told.
-    ensures { Takes thread_codec (λ t. t) bytes.now at.old at.new result }
+    ensures takes { Takes thread_codec (λ t. t) bytes.now at.old at.new result }
+    // `NoMemory` is never answered.
+    ensures memory { IfErr result (λ fault. fault ≢ ReadFault.NoMemory) }
 {
     let from = take_name(bytes, at)?;
     let step = take_number(bytes, at, 8, 1, LAST_STEP)?;

@@ -2,6 +2,7 @@
 #![tactic(auto)]
 
 mod anchor;
+mod archive_entry;
 mod content;
 mod content_taking;
 mod digest;
@@ -11,6 +12,7 @@ mod event_taking;
 mod event_tree;
 mod failing;
 mod failure;
+mod feeding;
 mod fields;
 mod fixed_list;
 mod flag;
@@ -22,9 +24,11 @@ mod labels;
 pub mod limits;
 mod link_level;
 mod name;
+mod page_bytes;
 mod path_sides;
 mod received_thread;
 mod report;
+mod resumed;
 mod resuming;
 mod root;
 mod sequence;
@@ -37,6 +41,7 @@ mod tree_proof;
 mod writers;
 
 pub use anchor::find_anchor;
+pub use archive_entry::{put_entry, take_entry};
 pub use content::Content;
 pub use content_taking::{take_recorded, take_thread};
 pub use digest::{Digest, is_same_digest};
@@ -46,6 +51,7 @@ pub use event_taking::{take_events, take_events_within};
 pub use event_tree::{audit_path_laws, event_root_laws};
 pub use failing::FailingCalls;
 pub use failure::{Failed, NoMemory, ReadFault};
+pub use feeding::Fed;
 pub use fields::read_name;
 pub use fixed_list::put;
 pub use flag::take_flag;
@@ -59,10 +65,12 @@ pub use labels::{
 };
 pub use link_level::{power_of_two, top_level};
 pub use name::{Name, is_name_byte};
+pub use page_bytes::{Page, PageFront, page_to};
 pub use path_sides::{path_length, sides_of};
 pub use received_thread::ReceivedThread;
-pub use report::{Claim, Hop, Reason, Report, Seen};
-pub use resuming::{Attempt, Resumed, Segments, missed, read_pieces};
+pub use report::{Claim, Hop, HopList, Reason, Report, Seen};
+pub use resumed::Resumed;
+pub use resuming::{Attempt, Segments, missed, read_pieces};
 pub use root::Root;
 pub use sequence::{Bytes, EventList, Sequence};
 pub use side::Side;
@@ -70,7 +78,7 @@ pub use step_events::StepEvents;
 pub use taking::{
     take_bytes, take_digest, take_labels, take_name, take_number, take_sized, take_slice, take_text,
 };
-pub use thread::{Entries, Entry, Key, Place, Thread, Threads, compare_keys, entry_key};
+pub use thread::{Entries, Entry, Key, Place, Thread, Threads, compare_keys, entry_key, is_below};
 pub use time::{put_time, take_time};
 pub use tree_proof::{Ancestor, AncestorList, Ask, TreeProof};
 pub use writers::{put_bytes, put_digest, put_labels, put_name, put_number, put_sized, put_text};

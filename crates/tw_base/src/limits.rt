@@ -1,4 +1,4 @@
-// The limits of names, steps and histories, and what they mean.
+// The limits of names, steps and histories, and the size of a page, and what they mean.
 
 /// The greatest number of a step: 2^40 - 1. Steps are numbered from 1; where a step field may be 0, it speaks of the
 /// time before the first step.
@@ -21,3 +21,9 @@ pub const MOST_HISTORY_BYTES: u64 = 67_108_864;
 
 /// The most anchors that a verifier holds.
 pub const MOST_ANCHORS: u64 = 64;
+
+/// The most hops of a proof from event to event.
+pub const MOST_HOPS: u64 = 64;
+
+/// The size of a page in bytes.
+pub const PAGE_SIZE: usize = 4096;

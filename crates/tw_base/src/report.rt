@@ -2,8 +2,8 @@
 
 use crate::digest::Digest;
 use crate::name::Name;
-use crate::sequence::Bytes;
-use crate::thread::{Entry, Key, Place};
+use crate::sequence::{Bytes, Sequence};
+use crate::thread::{Entry, Key, Place, Threads};
 
 /// A hop of a chain from service to service: step `archived` of service `by` received the
 /// thread of service `from` at step `step`.
@@ -14,6 +14,9 @@ pub struct Hop {
     pub by: Name,
     pub archived: u64,
 }
+
+/// The hops of a chain.
+pub type HopList = Sequence<Hop>;
 
 /// An event that a proof shows at its place, and the time in seconds that the step's maker claims
 /// for it, where it claims one. Nothing shows that a claimed time is true.
@@ -29,6 +32,13 @@ pub struct Seen {
 pub enum Claim {
     /// The event stands at its place in the history of its service.
     Exists(Seen),
+    /// Both events stand at their places, and the report's hops lead from the first one's step to the
+    /// step before the second one's; without hops, both are of one service, and the first one's step
+    /// is the lower one.
+    Precedes {
+        first: Seen,
+        second: Seen,
+    },
     /// The entry's thread was received at its archived step of the service's history, which is at
     /// most this step.
     Archived {
@@ -51,28 +61,40 @@ pub enum Claim {
     },
 }
 
-/// What is reported of an accepted proof.
+/// What is reported of an accepted proof: its claim, the hops between the events that it claims, and
+/// the threads of these hops that the proof binds to no anchor, which are carried. Both lists stand in
+/// the order from the first event to the second, and are empty where the claim is of another kind.
 #[derive(Drop, Debug)]
 pub struct Report {
     pub claim: Claim,
+    pub hops: HopList,
+    pub carried: Threads,
 }
 
 /// Why a proof isn't accepted. Of several reasons that stand the one with the lowest number is
-/// answered, and of its parts or places the lowest. Part 0 is the head of a proof from event to
-/// event, and the whole of a proof of another kind.
+/// answered, and of its parts or places the lowest.
+///
+/// A proof from event to event over h hops has the parts 0 to h + 1, in the order of its bytes. Part 0
+/// is the head: the second event with its path and opening, and the opening of the step before it.
+/// Part t, from 1 to h, is the t-th hop, which is the t-th from the second event backwards: its tree
+/// proof, the path of its bind, and the opening behind it. Part h + 1 is the first event with its path
+/// and opening. A proof of another kind is part 0 as a whole.
 #[derive(Clone, Copy, PartialEq, Eq, Debug, Drop)]
 pub enum Reason {
     /// 1: the bytes are no proof. The place is that of the first byte, counted from 0, at which no
     /// proof goes on, and the number of bytes where they end too early.
     Malformed { place: u64 },
-    /// 2: a step above the top that it is proved under, or an archived step above the step whose
-    /// archive shows it.
+    /// 2: a step above the one that it is proved under, an archived step above the step whose archive
+    /// shows it, or an opening of step 0.
     BadOrder,
-    /// 3: no anchor of this service and step is held.
+    /// 3: no anchor of this service and step is held. Of several that aren't held it is the first in
+    /// the order of the bytes.
     NotHeld { service: Name, step: u64 },
-    /// 4: a path doesn't climb from its bottom to its known upper end.
+    /// 4: a path doesn't climb from its bottom to its known upper end. Where the bottom is what an
+    /// opening computes, since the proof doesn't hold the authenticator of its step before, a false
+    /// opening counts here.
     BadPath { part: u8 },
-    /// 5: an opening computes another authenticator than the proof holds for it.
+    /// 5: an opening computes another authenticator than the proof already holds for its step.
     BadOpening { part: u8 },
     /// 6: an event doesn't compute the event root of its opening.
     BadEvent { part: u8 },
@@ -80,6 +102,4 @@ pub enum Reason {
     BadTree { part: u8 },
     /// 8: so many threads are carried, and none may be.
     Carried { count: u8 },
-    /// 9: a kind of proof that isn't verified yet.
-    Unbuilt,
 }

@@ -3,9 +3,10 @@
 
 ghost use Rattle.std.specs.Prelude.{◌≡◌, ℕ, ◌+◌, ◌<◌, ◌≤◌, ◌^◌, List, [], ◌++◌, length, drop, IfOk};
 ghost use Rattle.tw_base.specs.Formats.{Format, ReadsAs};
-ghost use Rattle.tw_base.specs.Resuming.{Attempts, EndsAs, all_of, Goes, IsSoFar, Misses, StandsBehind, StaysFront};
+ghost use Rattle.tw_base.specs.Resuming.{Attempts, EndsAs, all_of, Goes, Misses, StandsBehind, StaysFront};
 
 use crate::failure::{NoMemory, ReadFault};
+use crate::resumed::Resumed;
 use crate::sequence::Bytes;
 use std::alloc::Global;
 
@@ -36,72 +37,6 @@ pub trait Segments: Drop + Sized {
         ensures { EndsAs (rest self) result };
 }
 
-/// A word that came in pieces so far: what was taken of it, the bytes of the segment at hand, and how
-/// many were taken before.
-#[derive(Drop)]
-pub struct Resumed<S> {
-    pub(crate) state: S,
-    pub(crate) held: Bytes,
-    pub(crate) taken: u64,
-    pub(crate) until: usize,
-}
-
-impl<S: Segments> Resumed<S> {
-    /// No bytes yet.
-    pub fn begin(alloc: Global, state: S) -> Self
-        ensures { StaysFront (S.rest state) [] 0 → IsSoFar S.rest (S.rest state) result [] }
-    {
-        Resumed {
-            state,
-            held: Bytes::new(alloc),
-            taken: 0,
-            until: 0,
-        }
-    }
-
-    /// A piece more. Malformed exactly where the pieces so far are no front of a word, with the place
-    /// of the first byte at which none goes on. The bytes held of a segment are looked at again only
-    /// where it may end or break with the piece.
-    pub fn feed(self, alloc: Global, piece: &[u8]) -> Result<Self, ReadFault>
-        requires { self.taken + (length self.held + length piece.now) < 2 ^ 64 }
-        // A piece is refused exactly where all that came so far is no front of a word, with the place.
-        ensures { (whole : Format S.Whole) (pieces : List ℕ) → IsSoFar S.rest whole self pieces → Goes S.rest whole (pieces ++ piece.now) result }
-    {
-        let Resumed {
-            state,
-            mut held,
-            taken,
-            until,
-        } = self;
-        held.extend_from_slice(piece)?;
-        if held.len() < until {
-            return Ok(Resumed {
-                state,
-                held,
-                taken,
-                until,
-            });
-        }
-        settle(alloc, state, held, taken)
-    }
-
-    /// The value of the word, now that no piece more comes. Malformed where the pieces are no word.
-    pub fn finish(self) -> Result<S::Whole, ReadFault>
-        requires { self.taken + length self.held < 2 ^ 64 }
-        // At the end the answer is that of reading all pieces as one.
-        ensures { (whole : Format S.Whole) (pieces : List ℕ) → IsSoFar S.rest whole self pieces → ReadsAs (λ x. x) whole pieces result }
-    {
-        let place = self.taken + self.held.len() as u64;
-        if self.held.len() > 0 {
-            return Err(ReadFault::Malformed { place });
-        }
-        match self.state.whole() {
-            Some(value) => Ok(value),
-            None => Err(ReadFault::Malformed { place }),
-        }
-    }
-}
-
 /// The value that the pieces spell, one after another. Malformed exactly where they spell none, with
 /// the place of the first byte at which no word goes on; no piece behind it is looked at. So the
 /// answer is that of reading all the bytes at once, wherever they are cut.
@@ -110,8 +45,7 @@ pub fn read_pieces<S: Segments>(
     state: S,
     pieces: &[&[u8]],
 ) -> Result<S::Whole, ReadFault>
-    requires few { length (all_of pieces.now) < 2 ^ 64 }
-    requires starts { StaysFront (S.rest state) [] 0 }
+    requires { StaysFront (S.rest state) [] 0 }
     // Bytes that come in pieces are read as all of them at once would be, wherever they are cut.
     ensures { ReadsAs (λ x. x) (S.rest state) (all_of pieces.now) result }
 {
@@ -147,7 +81,7 @@ fn from_place(alloc: Global, held: Bytes, at: usize) -> Result<Bytes, NoMemory>
 }
 
 /// Takes segment after segment of what is held.
-fn settle<S: Segments>(
+pub(crate) fn settle<S: Segments>(
     alloc: Global,
     state: S,
     held: Bytes,

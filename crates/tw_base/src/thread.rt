@@ -1,6 +1,7 @@
 // Threads, and what an archive keeps of them.
 
 ghost use Rattle.std.specs.Prelude.{◌≡◌};
+ghost use Rattle.std.specs.Ordering.{is_lt};
 ghost use Rattle.tw_base.specs.Entries.{key_cmp, key_of};
 
 use crate::digest::Digest;
@@ -51,6 +52,14 @@ pub fn compare_keys(a: &Key, b: &Key) -> Ordering
     ensures { result ≡ key_cmp a.now b.now }
 {
     a.cmp(b)
+}
+
+/// Whether the first key is below the second.
+pub fn is_below(a: &Key, b: &Key) -> bool
+    // The first key is below the second where it comes before it, by name and then step.
+    ensures { result ≡ is_lt (key_cmp a.now b.now) }
+{
+    compare_keys(a, b) == Ordering::Less
 }
 
 /// The key of an entry.

@@ -7,7 +7,8 @@ ghost use Rattle.tw_cache.specs.Keeping.{AreOf};
 use lru::LruCache;
 use std::alloc::Global;
 use std::num::NonZeroUsize;
-use tw_disk::{NoMemory, Page, Pages};
+use tw_base::{NoMemory, Page};
+use tw_disk::Pages;
 
 // How many pages are kept at most.
 const MOST_KEPT: usize = 64;

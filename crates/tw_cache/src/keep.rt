@@ -3,7 +3,7 @@ ghost use Rattle.std.specs.Prelude.{◌≡◌};
 ghost use Rattle.tw_cache.specs.Keeping.{AddsAtMost};
 
 use lru::LruCache;
-use tw_disk::Page;
+use tw_base::Page;
 
 // Keeps a copy of a page under its number; in a full cache the page that was used longest ago goes. Where there is no memory, nothing changes.
 pub(crate) fn keep(kept: &mut LruCache<u64, Box<Page>>, number: u64, page: &Page)

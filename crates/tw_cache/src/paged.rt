@@ -8,7 +8,8 @@ ghost use Rattle.tw_cache.specs.Cached.{Keeps, inner_of};
 
 use crate::Cached;
 use crate::keep::keep;
-use tw_disk::{Failed, NoMemory, Page, Pages};
+use tw_base::{Failed, NoMemory, Page};
+use tw_disk::Pages;
 
 /// The inner pages: their list, number, faults, `same` and `unbroken`.
 impl<P: Pages> Pages for Cached<P> {

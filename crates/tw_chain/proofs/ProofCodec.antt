@@ -1,39 +1,26 @@
 -- The codec of proofs is lawful, and the bytes of a proof of kind 1 are those of its existence proof.
-use Rattle.std.proofs.Common.{◌≡◌, ℕ, suc, zero, List, [], ◌∷◌, refl, ap, sym, ◌∙◌, subst, arith, lit≤, inl, inr}
-use Rattle.std.specs.Prelude.{IfOk, Result, Ok, Err, take, true, ◌==◌, ◌&&◌, nat_le}
-use Rattle.std.proofs.lemmas.Bool.{and_parts, eqb-true, leb-true, or_cases}
-use Rattle.tw_base.specs.declared.failure.ReadFault.{ReadFault}
-use Rattle.tw_base.specs.Codecs.{behind, by_kind, number_codec, seen, pair, variant}
-use Rattle.tw_base.specs.Formats.{ReadsFrontAs, Spells}
-use Rattle.tw_base.specs.Formats.Format.{Byte, Done}
-use Rattle.tw_base.proofs.CodecLaws.{Lawful, lawful, lawful-by_kind, lawful-choose, lawful-pair, lawful-seen, lawful-variant, spelled-fits, written-as}
-use Rattle.tw_base.proofs.FormatLaws.{AllWords}
+use Rattle.std.proofs.Common.{◌≡◌, ℕ, suc, zero, ◌-◌, List, [], ◌∷◌, ◌++◌, length, refl, ap, sym, ◌∙◌, subst, arith, lit≤}
+use Rattle.std.specs.Prelude.{Bool, true, false, Option, Some, None, MatchOption, ◌==◌, nat_lt}
+use Rattle.std.specs.Option.{option_map_or}
+use Rattle.tw_base.specs.declared.limits.TheConstants.{LAST_STEP, MOST_HOPS}
+use Rattle.tw_base.specs.Codecs.{Codec, EachFits, behind, by_kind, each, labels_codec, many, nothing, number_codec, optional, pair, present, seen, variant}
+use Rattle.tw_base.specs.EntryCodec.{entry_codec}
+use Rattle.tw_base.specs.Fields.{number_bytes}
+use Rattle.tw_base.specs.Formats.{Spells}
+use Rattle.tw_base.proofs.EntryCodecLaws.{entry-lawful}
+use Rattle.tw_base.proofs.CodecLaws.{Lawful, lawful, lawful-by_kind, lawful-choose, lawful-each, lawful-optional, lawful-pair, lawful-seen, lawful-variant, spelled-fits, written-as}
 use Rattle.tw_skipproof.specs.declared.existence.ExistenceProof.{ExistenceProof}
-use Rattle.tw_skipproof.specs.Codecs.{existence_body, existence_codec, part_codec}
+use Rattle.tw_skipproof.specs.declared.opening.Opening.{Opening}
+use Rattle.tw_skipproof.specs.Codecs.{event_codec, existence_body, existence_codec, opening_bytes, opening_codec, part_codec, path_bytes, path_codec, step_codec}
 use Rattle.tw_skipproof.specs.Existence.{existence_layout}
-use Rattle.tw_skipproof.proofs.LawfulCodecs.{body-lawful, existence-lawful, part-lawful, path-lawful}
-use Rattle.tw_skipproof.proofs.Shapes.{existence-shape, part-shape}
-use Rattle.tw_treeproof.specs.Codecs.{entry_codec, gap_codec, present_codec}
-use Rattle.tw_treeproof.proofs.LawfulCodecs.{entry-lawful, gap-lawful, present-lawful}
+use Rattle.tw_skipproof.proofs.LawfulCodecs.{body-lawful, event-lawful, existence-lawful, opening-few, opening-lawful, part-counts, part-lawful, path-lawful}
+use Rattle.tw_treeproof.specs.Codecs.{gap_codec, present_codec}
+use Rattle.tw_treeproof.proofs.LawfulCodecs.{gap-lawful, present-lawful}
+use Rattle.tw_chain.specs.declared.proof.HopPart.{HopPart}
+use Rattle.tw_chain.specs.declared.proof.PrecedenceProof.{PrecedenceProof}
 use Rattle.tw_chain.specs.declared.proof.Proof.{Proof}
-use Rattle.tw_chain.specs.declared.proof.Proof.TheVariants.{Exists, Archived, Absent, Linked}
-use Rattle.tw_chain.specs.Proofs.{IsInRange, absence_body, absence_of, body_of_kind, existence_of, is_kind, key_codec, kind_codec, kind_of, kinds_codec, link_body, link_of, proof_codec, proof_layout, thread_body, thread_of}
-
--- ---- the kind
-
-kind-words : AllWords (Byte is_kind (λ kind. Done kind)) (λ word kind. (word ≡ kind ∷ []) × (is_kind kind ≡ true))
-kind-words [] kind s = absurd s
-kind-words (b ∷ []) kind s = (ap (λ c. c ∷ []) s.1, subst (λ c. is_kind c ≡ true) s.1 s.0)
-kind-words (b ∷ c ∷ bs) kind s = absurd s.1
-
-pub kind-lawful : Lawful kind_codec
-unfolding kind_codec
-kind-lawful = record {
-  goes = ((1, refl), λ b passes. tt);
-  reads = λ whole at. refl;
-  words = kind-words;
-  spells = λ kind f. (f, refl);
-}
+use Rattle.tw_chain.specs.declared.proof.Proof.TheVariants.{Exists, Precedes, Archived, Absent, Linked}
+use Rattle.tw_chain.specs.Proofs.{absence_body, absence_of, behind_codec, body_of_kind, existence_of, following, hop_bytes, hop_codec, hops_codec, key_codec, kind_codec, kind_of, kinds_codec, last_step, link_body, link_of, precedence_body, precedence_of, proof_codec, proof_layout, tail_codec, thread_body, thread_of}
 
 -- ---- what stands behind it
 
@@ -57,93 +44,112 @@ pub link-lawful : Lawful link_body
 unfolding link_body
 link-lawful = search (lawful, path-lawful) depth 20
 
+-- ---- kind 2
+
+hop-lawful : (more : ℕ) → Lawful (hop_codec more)
+unfolding hop_codec
+hop-lawful more =
+    lawful-seen _ _ _ (λ t. refl) (λ p. refl) (lawful-pair entry_codec _ entry-lawful (λ entry _. lawful-pair present_codec _ present-lawful (λ shown _.
+    lawful-pair (number_codec 8 0 LAST_STEP) _ (search lawful) (λ bind _. lawful-pair (path_codec bind entry.thread.step) _ (path-lawful bind entry.thread.step) (λ links _.
+    lawful-optional (opening_codec 0 entry.thread.step) (opening-lawful 0 entry.thread.step (lit≤ tt)) (nat_lt 0 more))))))
+
+-- an opening that is there or not, as the number that follow says, has its bytes or none
+opening-written : (is : Bool) (step : ℕ) (o : Option Opening) → (optional is (opening_codec 0 step)).Fits o → (optional is (opening_codec 0 step)).write o ≡ option_map_or opening_bytes o []
+unfolding present nothing opening_bytes opening_codec seen pair labels_codec many
+opening-written true step None fits = absurd fits
+opening-written true step (Some o) fits = refl
+opening-written false step None fits = refl
+opening-written false step (Some o) fits = cc
+
+hop-written : (more : ℕ) (p : HopPart) → (hop_codec more).Fits p → (hop_codec more).write p ≡ hop_bytes p
+unfolding hop_codec hop_bytes path_bytes path_codec each number_codec seen pair
+hop-written more p fits =
+    ap (λ w. entry_codec.write p.entry ++ (present_codec.write p.shown ++ (number_bytes 8 p.bind ++ (path_bytes p.link.links ++ w))))
+    (opening-written (nat_lt 0 more) p.entry.thread.step p.opening fits.1.1.1.1)
+
+pub tail-lawful : (upper : ℕ) → Lawful (tail_codec upper)
+unfolding tail_codec
+tail-lawful upper =
+    lawful-seen _ _ _ (λ t. refl) (λ p. refl) (lawful-pair step_codec _ (search lawful) (λ step _. lawful-pair (path_codec upper step) _ (path-lawful upper step) (λ links _.
+    lawful-pair (opening_codec 1 step) _ (opening-lawful 1 step (lit≤ tt)) (λ opening fits. event-lawful opening.count (opening-few 1 step opening fits)))))
+
+behind-lawful : (count step : ℕ) → Lawful (behind_codec count step)
+unfolding behind_codec
+behind-lawful count step =
+    lawful-pair (optional (nat_lt 0 count) (opening_codec 0 (step - 1))) _ (lawful-optional (opening_codec 0 (step - 1)) (opening-lawful 0 (step - 1) (lit≤ tt)) (nat_lt 0 count)) (λ before _.
+    lawful-pair (each hop_bytes hop_codec (following count)) _ (lawful-each hop_bytes hop_codec hop-lawful hop-written (following count)) (λ hops _. tail-lawful (last_step (step - 1) hops)))
+
+hops-lawful : (count : ℕ) → Lawful (hops_codec count)
+unfolding hops_codec
+hops-lawful count =
+    lawful-seen _ _ _ (λ t. refl) (λ p. refl) (lawful-pair (part_codec 1) _ (part-lawful 1 (lit≤ tt)) (λ head fits.
+    lawful-pair (event_codec head.opening.count) _ (event-lawful head.opening.count (part-counts 1 head fits).1) (λ event _. behind-lawful count head.step)))
+
+-- there are as many hops as there are numbers of those that follow
+length-following : (count : ℕ) (hops : List HopPart) → EachFits hop_bytes hop_codec (following count) hops → length hops ≡ count
+length-following zero [] fits = refl
+length-following zero (hop ∷ hops) fits = cc
+length-following (suc count) [] fits = absurd fits
+length-following (suc count) (hop ∷ hops) fits = ap suc (length-following count hops fits.1)
+
+pub hops-count : (count : ℕ) (p : PrecedenceProof) → (hops_codec count).Fits p → length p.hops ≡ count
+unfolding hops_codec behind_codec seen pair each
+hops-count count p fits = length-following count p.hops fits.1.1.1.0
+
+pub precedence-lawful : Lawful precedence_body
+unfolding precedence_body
+precedence-lawful =
+    lawful-by_kind (λ p. length p.hops) (number_codec 1 0 MOST_HOPS) hops_codec (search lawful) (λ count _. hops-lawful count) (λ count p _ fits. hops-count count p fits)
+
+-- ---- all kinds
+
 bodies-lawful : (kind : ℕ) → Lawful (body_of_kind kind)
 bodies-lawful kind =
     lawful-choose (kind == 1) _ _ (lawful-variant Exists existence_of existence_body (λ p. refl) body-lawful)
+    (lawful-choose (kind == 2) _ _ (lawful-variant Precedes precedence_of precedence_body (λ p. refl) precedence-lawful)
     (lawful-choose (kind == 3) _ _ (lawful-variant Archived thread_of thread_body (λ p. refl) thread-lawful)
     (lawful-choose (kind == 4) _ _ (lawful-variant Absent absence_of absence_body (λ p. refl) absence-lawful)
-    (lawful-variant Linked link_of link_body (λ p. refl) link-lawful)))
+    (lawful-variant Linked link_of link_body (λ p. refl) link-lawful))))
+
+module _ {X : Type 0} (make : X → Proof) (fields : Proof → Option X) (c : Codec X) where
+  -- a value of a variant is what the variant makes of its fields
+  made : (p : Proof) → (variant make fields c).Fits p → (x : X) × (make x ≡ p)
+  unfolding variant
+  made p fits = by (fields p) fits
+    where
+      by : (o : Option X) → MatchOption o ⊥ (λ x. (make x ≡ p) × c.Fits x) → (x : X) × (make x ≡ p)
+      by None f = absurd f
+      by (Some x) f = (x, f.0)
 
 -- a proof of a kind has that kind
-is_existence : (p : Proof) → (variant Exists existence_of existence_body).Fits p → kind_of p ≡ 1
-unfolding variant
-is_existence (Exists p) f = refl
-is_existence (Archived p) f = absurd f
-is_existence (Absent p) f = absurd f
-is_existence (Linked p) f = absurd f
-
-is_thread : (p : Proof) → (variant Archived thread_of thread_body).Fits p → kind_of p ≡ 3
-unfolding variant
-is_thread (Exists p) f = absurd f
-is_thread (Archived p) f = refl
-is_thread (Absent p) f = absurd f
-is_thread (Linked p) f = absurd f
-
-is_absence : (p : Proof) → (variant Absent absence_of absence_body).Fits p → kind_of p ≡ 4
-unfolding variant
-is_absence (Exists p) f = absurd f
-is_absence (Archived p) f = absurd f
-is_absence (Absent p) f = refl
-is_absence (Linked p) f = absurd f
-
-is_link : (p : Proof) → (variant Linked link_of link_body).Fits p → kind_of p ≡ 5
-unfolding variant
-is_link (Exists p) f = absurd f
-is_link (Archived p) f = absurd f
-is_link (Absent p) f = absurd f
-is_link (Linked p) f = refl
-
-above_5 : (n : ℕ) → is_kind (suc (suc (suc (suc (suc (suc n)))))) ≡ true → ⊥
-above_5 n is =
-    let kind : ℕ = suc (suc (suc (suc (suc (suc n))))) in
-    elim (or_cases (kind == 1) (nat_le 3 kind && nat_le kind 5) is) [
-      | inl one ↦ (let e = eqb-true kind 1 one in omega (arith, e))
-      | inr later ↦ (let l = leb-true kind 5 (and_parts (nat_le 3 kind) (nat_le kind 5) later).1 in omega (arith, l))
-    ]
-
 pub kinds : (kind : ℕ) (p : Proof) → kind_codec.Fits kind → (body_of_kind kind).Fits p → kind_of p ≡ kind
-unfolding kind_codec
-kinds zero p fits is = cc
-kinds (suc zero) p fits is = is_existence p is
-kinds (suc (suc zero)) p fits is = cc
-kinds (suc (suc (suc zero))) p fits is = is_thread p is
-kinds (suc (suc (suc (suc zero)))) p fits is = is_absence p is
-kinds (suc (suc (suc (suc (suc zero))))) p fits is = is_link p is
-kinds (suc (suc (suc (suc (suc (suc n)))))) p fits is = absurd (above_5 n fits)
+unfolding number_codec
+kinds zero p fits is = absurd (omega (arith, fits.0))
+kinds (suc zero) p fits is = sym (ap kind_of (made Exists existence_of existence_body p is).1)
+kinds (suc (suc zero)) p fits is = sym (ap kind_of (made Precedes precedence_of precedence_body p is).1)
+kinds (suc (suc (suc zero))) p fits is = sym (ap kind_of (made Archived thread_of thread_body p is).1)
+kinds (suc (suc (suc (suc zero)))) p fits is = sym (ap kind_of (made Absent absence_of absence_body p is).1)
+kinds (suc (suc (suc (suc (suc zero))))) p fits is = sym (ap kind_of (made Linked link_of link_body p is).1)
+kinds (suc (suc (suc (suc (suc (suc n)))))) p fits is = absurd (omega (arith, fits.1))
 
 pub proof-lawful : Lawful proof_codec
 unfolding proof_codec kinds_codec
 proof-lawful =
-    let each = lawful-by_kind kind_of kind_codec body_of_kind kind-lawful (λ kind _. bodies-lawful kind) kinds in
+    let each = lawful-by_kind kind_of kind_codec body_of_kind (search lawful) (λ kind _. bodies-lawful kind) kinds in
     search (lawful, each)
 
 -- ---- a proof of kind 1
 
 pub same_bytes : (p : ExistenceProof) → proof_codec.write (Exists p) ≡ existence_codec.write p
-unfolding proof_codec kinds_codec existence_codec behind by_kind kind_codec variant
+unfolding proof_codec kinds_codec existence_codec behind by_kind variant number_codec number_bytes
 same_bytes p = refl
 
 pub to_fits : (p : ExistenceProof) → existence_codec.Fits p → proof_codec.Fits (Exists p)
-unfolding proof_codec kinds_codec existence_codec behind by_kind kind_codec variant
-to_fits p fits = (refl, (refl, fits))
+unfolding proof_codec kinds_codec existence_codec behind by_kind variant number_codec
+to_fits p fits = ((lit≤ tt, lit≤ tt), (refl, fits))
 
 pub from_existence : (bytes : List ℕ) (p : ExistenceProof) → Spells existence_layout bytes p → Spells proof_layout bytes (Exists p)
 from_existence bytes p s =
     let P : List ℕ → Type 0 = λ w. Spells proof_layout w (Exists p) in
     subst P (same_bytes p ∙ sym (written-as existence_codec existence-lawful bytes p s))
     (proof-lawful.spells (Exists p) (to_fits p (spelled-fits existence_codec existence-lawful bytes p s)))
-
--- ---- what fits
-
--- the numbers of a proof that fits are in their ranges
-pub proof-range : (q : Proof) → proof_codec.Fits q → IsInRange q
-unfolding proof_codec kinds_codec behind by_kind variant existence_codec thread_body absence_body link_body seen pair number_codec
-proof-range (Exists p) fits = (existence-shape p fits.1.1).1
-proof-range (Archived p) fits = (part-shape 0 p.at fits.1.1.0).1
-proof-range (Absent p) fits = (part-shape 0 p.at fits.1.1.0).1
-proof-range (Linked p) fits = fits.1.1.1.1.0.1
-
--- so are those of a proof that was read from the front
-pub first-range : (bytes : List ℕ) (r : Result (Proof × ℕ) ReadFault) → ReadsFrontAs (λ p. p) proof_layout bytes r → IfOk r (λ read. IsInRange read.0)
-first-range bytes (Ok read) is = proof-range read.0 (spelled-fits proof_codec proof-lawful (take read.1 bytes) read.0 is.1)
-first-range bytes (Err fault) is = tt

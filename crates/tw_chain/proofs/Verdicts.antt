@@ -1,40 +1,27 @@
--- The verdict on bytes, from what was read of them and what stands against it.
-use Rattle.std.proofs.Common.{◌≡◌, ℕ, ◌≤◌, List, [], ◌∷◌, ◌++◌, take, refl, sym, ap, ◌∙◌, subst, arith, inl, inr}
+-- The verdict on bytes, from the judgement of the proof that they spell, or the place where they spell none.
+use Rattle.std.proofs.Common.{◌≡◌, ◌≢◌, ◌⊎◌, ℕ, ◌<◌, ◌≤◌, List, [], ◌∷◌, length, refl, sym, ap, ◌∙◌, subst, arith, inl, inr}
+use Rattle.std.specs.Prelude.{Bool, true, false, Option, Some, None, ◌&&◌, nat_lt, reverse, if◌then◌else◌}
+use Rattle.std.specs.Option.{option_map_or}
+use Rattle.std.proofs.lemmas.Bool.{and_parts, ltb-false, ltb-true}
+use Rattle.std.proofs.lemmas.List.{length-reverse}
 use Rattle.tw_base.specs.declared.thread.Thread.{Thread}
 use Rattle.tw_base.specs.declared.report.Reason.{Reason}
-use Rattle.tw_base.specs.declared.report.Reason.TheVariants.{Malformed, Unbuilt}
+use Rattle.tw_base.specs.declared.report.Reason.TheVariants.{Malformed, BadOrder, NotHeld, BadPath, BadOpening, BadEvent, BadTree, Carried}
 use Rattle.tw_base.specs.declared.report.Report.{Report}
-use Rattle.tw_base.specs.Formats.{Format, Spells, SpellsNothing, IsPlace}
-use Rattle.tw_base.specs.Clash.{OrClash}
-use Rattle.tw_base.specs.Family.{AllSound, Facts, HasThreads, family_texts}
-use Rattle.tw_base.specs.History.{History}
-use Rattle.tw_base.proofs.FormatLaws.{one_value}
-use Rattle.tw_base.proofs.CodecLaws.{written-as}
+use Rattle.tw_base.specs.Formats.{Format, IsPlace, Spells, SpellsNothing}
 use Rattle.tw_base.specs.Reasons.{IsNoHigher}
-use Rattle.tw_base.specs.Codecs.{behind, by_kind}
+use Rattle.tw_base.proofs.FormatLaws.{one_value}
 use Rattle.tw_chain.specs.declared.proof.Proof.{Proof}
-use Rattle.tw_chain.specs.declared.proof.Proof.TheVariants.{Exists, Archived, Absent, Linked}
-use Rattle.tw_chain.specs.Proofs.{kind_codec, kind_of, kinds_codec, proof_codec, proof_layout}
-use Rattle.tw_chain.proofs.ProofCodec.{proof-lawful}
+use Rattle.tw_chain.specs.declared.verdict.Verdict.{Verdict}
 use Rattle.tw_chain.specs.declared.verdict.Verdict.TheVariants.{Yes, No}
-use Rattle.tw_chain.specs.Accepting.{IsAccepted, claim_of, held, proof_texts, report_of}
-use Rattle.tw_chain.specs.Binding.{BindsHistories}
-use Rattle.tw_chain.specs.Reasons.{IsLowestAgainst, IsOfUnbuiltKind, IsVerdict, Stands, StandsAgainst}
-
--- bytes that spell a proof begin with the magic and its kind
-begins : (bytes : List ℕ) (q : Proof) → Spells proof_layout bytes q → take 5 bytes ≡ 0x54 ∷ 0x57 ∷ 0x50 ∷ 0x31 ∷ kind_of q ∷ []
-unfolding proof_codec kinds_codec behind by_kind kind_codec
-begins bytes q s = ap (take 5) (written-as proof_codec proof-lawful bytes q s)
-
-not_kind_2 : (q : Proof) → kind_of q ≡ 2 → ⊥
-not_kind_2 (Exists p) same = omega (arith, same)
-not_kind_2 (Archived p) same = omega (arith, same)
-not_kind_2 (Absent p) same = omega (arith, same)
-not_kind_2 (Linked p) same = omega (arith, same)
-
--- no reason is below Malformed at this place, where none but Malformed at that place stands
-malformed_least : (place : ℕ) (other : Reason) → (other ≡ Malformed place) → IsNoHigher (Malformed place) other
-malformed_least place other is = subst (IsNoHigher (Malformed place)) (sym is) (inr (refl, omega arith))
+use Rattle.tw_chain.specs.Accepting.{IsAccepted, carried, report_of}
+use Rattle.tw_chain.specs.Checks.{Check, checks}
+use Rattle.tw_chain.specs.Checks.Check.{InOrder, NeedsAnchor, CarriesThread, PathOf, LinkOf, OpeningOf, EventOf, AnswerOf}
+use Rattle.tw_chain.specs.Judgements.{found_in, judgement_of, unfound, verdict_of}
+use Rattle.tw_chain.specs.Passing.{Passes, reason_of}
+use Rattle.tw_chain.specs.Proofs.{proof_layout}
+use Rattle.tw_chain.specs.Reasons.{Fails, IsLowest, IsVerdict, Stands, StandsAgainst}
+use Rattle.tw_chain.proofs.Lowest.{IsLeast, first-fails, found-lowest, found-none, no_higher-self, passing-fails}
 
 one_place : (f : Format Proof) (bytes : List ℕ) (one other : ℕ) → IsPlace f bytes one → IsPlace f bytes other → one ≡ other
 one_place f bytes one other first second =
@@ -42,63 +29,163 @@ one_place f bytes one other first second =
     let above : one ≤ other = second.longest one first.within first.good in
     omega (arith, below, above)
 
--- and so are of no later kind
-not_later : (bytes : List ℕ) (p : Proof) → Spells proof_layout bytes p → IsOfUnbuiltKind bytes → ⊥
-not_later bytes p s later =
-    let one : 0x54 ∷ 0x57 ∷ 0x50 ∷ 0x31 ∷ kind_of p ∷ [] ≡ 0x54 ∷ 0x57 ∷ 0x50 ∷ 0x31 ∷ 2 ∷ [] = sym (begins bytes p s) ∙ later in
-    not_kind_2 p (let kind : kind_of p ≡ 2 = cc in kind)
+module _ (dig : List ℕ → List ℕ) (anchors : List Thread) (strict : Bool) where
+  -- ---- reasons against checks
 
-module _ (dig : List ℕ → List ℕ) (anchors : List Thread) (bytes : List ℕ) where
-  -- a kind that isn't verified yet
-  pub later_kind : IsOfUnbuiltKind bytes → IsVerdict dig anchors bytes (No Unbuilt)
-  later_kind later = (
-    λ accepts. not_later bytes accepts.0 accepts.1 later,
-    record { stands = inl (later, refl); lowest = least },
-  )
+  -- no check doesn't pass since it is no proof, or since a thread is carried
+  malformed-fails : (cs : List Check) (place : ℕ) → Fails dig anchors strict cs (Malformed place) → ⊥
+  malformed-fails [] place fails = fails
+  malformed-fails (c ∷ cs) place (inr there) = malformed-fails cs place there
+  malformed-fails (c ∷ cs) place (inl here) = another c here.0
     where
-      least : (other : Reason) → Stands dig anchors bytes other → IsNoHigher Unbuilt other
-      least other (inl is) = subst (IsNoHigher Unbuilt) (sym is.1) (inr (refl, omega arith))
-      least other (inr (inl is)) = absurd (is.0 later)
-      least other (inr (inr is)) = absurd (not_later bytes is.0 is.1 later)
+      another : (c : Check) → Malformed place ≡ reason_of c → ⊥
+      another (InOrder lower upper) is = cc
+      another (NeedsAnchor key) is = cc
+      another (CarriesThread t) is = cc
+      another (PathOf part at upper) is = cc
+      another (LinkOf part l) is = cc
+      another (OpeningOf part t o) is = cc
+      another (EventOf part o e) is = cc
+      another (AnswerOf part root ask proof) is = cc
 
-  -- no proof at all
-  pub malformed_bytes : (place : ℕ) → (IsOfUnbuiltKind bytes → ⊥) → SpellsNothing proof_layout bytes → IsPlace proof_layout bytes place
-      → IsVerdict dig anchors bytes (No (Malformed place))
-  malformed_bytes place not_later nothing is = (
-    λ accepts. nothing accepts.0 accepts.1,
-    record { stands = inr (inl (not_later, nothing, (place, is, refl))); lowest = least },
-  )
+  carried-fails : (cs : List Check) (count : ℕ) → Fails dig anchors strict cs (Carried count) → ⊥
+  carried-fails [] count fails = fails
+  carried-fails (c ∷ cs) count (inr there) = carried-fails cs count there
+  carried-fails (c ∷ cs) count (inl here) = another c here.1 here.0
     where
-      least : (other : Reason) → Stands dig anchors bytes other → IsNoHigher (Malformed place) other
-      least other (inl later) = absurd (not_later later.0)
-      least other (inr (inl none)) =
-          malformed_least place other (none.2.2 ∙ ap (λ (n : ℕ). Malformed n) (one_place proof_layout bytes none.2.0 place none.2.1 is))
-      least other (inr (inr proof)) = absurd (nothing proof.0 proof.1)
+      another : (c : Check) → (Passes dig anchors c → ⊥) → Carried count ≡ reason_of c → ⊥
+      another (InOrder lower upper) not is = cc
+      another (NeedsAnchor key) not is = cc
+      another (CarriesThread t) not is = not tt
+      another (PathOf part at upper) not is = cc
+      another (LinkOf part l) not is = cc
+      another (OpeningOf part t o) not is = cc
+      another (EventOf part o e) not is = cc
+      another (AnswerOf part root ask proof) not is = cc
 
-  -- a proof that a reason stands against
-  pub refused_proof : (p : Proof) (reason : Reason) → Spells proof_layout bytes p → IsLowestAgainst dig anchors p reason
-      → IsVerdict dig anchors bytes (No reason)
-  refused_proof p reason spelled against = (
-    λ accepts. against.refused (subst (IsAccepted dig anchors) (one_value proof_layout bytes accepts.0 p accepts.1 spelled) accepts.2),
-    record { stands = inr (inr (p, spelled, against.stands)); lowest = least },
-  )
-    where
-      least : (other : Reason) → Stands dig anchors bytes other → IsNoHigher reason other
-      least other (inl is) = absurd (not_later bytes p spelled is.0)
-      least other (inr (inl is)) = absurd (is.1 p spelled)
-      least other (inr (inr is)) =
-          against.lowest other (subst (λ q. StandsAgainst dig anchors q other) (one_value proof_layout bytes is.0 p is.1 spelled) is.2)
+  -- ---- reasons against a proof
 
-  -- a proof that is accepted
-  pub accepted_proof : (p : Proof) (report : Report) → Spells proof_layout bytes p → IsAccepted dig anchors p → report ≡ report_of p
-      → IsVerdict dig anchors bytes (Yes report)
-  accepted_proof p report spelled accepted is = ((p, spelled, accepted), is)
+  module _ (p : Proof) where
+    -- a reason that stands is that threads are carried, in the strict form, or a check doesn't pass for it
+    against-fails : (reason : Reason) → StandsAgainst dig anchors strict p reason
+        → ((count : ℕ) × (reason ≡ Carried count) × (strict ≡ true) × (0 < count) × (count ≡ length (carried p))) ⊎ Fails dig anchors strict (checks p) reason
+    against-fails (Malformed place) is = absurd is
+    against-fails (NotHeld service step) is = inr (first-fails dig anchors strict (checks p) (record { from = service; step = step }) is)
+    against-fails (Carried count) is = inl (count, refl, is.0, is.1, is.2)
+    against-fails BadOrder is = inr is
+    against-fails (BadPath part) is = inr is
+    against-fails (BadOpening part) is = inr is
+    against-fails (BadEvent part) is = inr is
+    against-fails (BadTree part) is = inr is
 
-  pub accepted_binds : (p : Proof) (report : Report) → Spells proof_layout bytes p → report ≡ report_of p
-      → ((family : List History) → AllSound family → HasThreads dig family (held anchors p) → OrClash dig (family_texts dig family ++ proof_texts dig p) (Facts dig family (claim_of p)))
-      → BindsHistories dig anchors bytes (Yes report)
-  accepted_binds p report spelled is binds q spelled_q family sound has =
-      let same : p ≡ q = one_value proof_layout bytes p q spelled spelled_q in
-      let P : Proof → Type 0 = λ x. (family : List History) → AllSound family → HasThreads dig family (held anchors x) → OrClash dig (family_texts dig family ++ proof_texts dig x) (Facts dig family report.claim) in
-      let own : P p = λ fam s h. subst (λ r. OrClash dig (family_texts dig fam ++ proof_texts dig p) (Facts dig fam r.claim)) (sym is) (binds fam s h) in
-      subst P same own family sound has
+    -- what is least of the checks stands
+    least-stands : (reason : Reason) → IsLeast dig anchors strict (checks p) reason → StandsAgainst dig anchors strict p reason
+    least-stands (Malformed place) is = malformed-fails (checks p) place is.fails
+    least-stands (NotHeld service step) is = is.first (record { from = service; step = step }) refl
+    least-stands (Carried count) is = absurd (carried-fails (checks p) count is.fails)
+    least-stands BadOrder is = is.fails
+    least-stands (BadPath part) is = is.fails
+    least-stands (BadOpening part) is = is.fails
+    least-stands (BadEvent part) is = is.fails
+    least-stands (BadTree part) is = is.fails
+
+    -- and is below that threads are carried
+    least-carried : (reason : Reason) (count : ℕ) → IsLeast dig anchors strict (checks p) reason → IsNoHigher reason (Carried count)
+    least-carried (Malformed place) count is = inl (omega arith)
+    least-carried (NotHeld service step) count is = inl (omega arith)
+    least-carried (Carried other) count is = absurd (carried-fails (checks p) other is.fails)
+    least-carried BadOrder count is = inl (omega arith)
+    least-carried (BadPath part) count is = inl (omega arith)
+    least-carried (BadOpening part) count is = inl (omega arith)
+    least-carried (BadEvent part) count is = inl (omega arith)
+    least-carried (BadTree part) count is = inl (omega arith)
+
+    least-lowest : (reason other : Reason) → IsLeast dig anchors strict (checks p) reason → StandsAgainst dig anchors strict p other → IsNoHigher reason other
+    least-lowest reason other is against =
+        elim (against-fails other against) [
+          | inl some ↦ subst (IsNoHigher reason) (sym some.1) (least-carried reason some.0 is)
+          | inr fails ↦ is.least other fails
+        ]
+
+    carried-lowest : (count : ℕ) (other : Reason) → IsAccepted dig anchors p → count ≡ length (carried p) → StandsAgainst dig anchors strict p other → IsNoHigher (Carried count) other
+    carried-lowest count other accepted is against =
+        elim (against-fails other against) [
+          | inl some ↦ subst (IsNoHigher (Carried count)) (sym (some.1 ∙ ap (λ (n : ℕ). Carried n) (some.4 ∙ sym is))) (no_higher-self (Carried count))
+          | inr fails ↦ absurd (passing-fails dig anchors strict (checks p) other accepted fails)
+        ]
+
+  -- ---- the verdict
+
+  module _ (bytes : List ℕ) where
+    -- bytes that are no proof
+    pub malformed_bytes : (place : ℕ) → SpellsNothing proof_layout bytes → IsPlace proof_layout bytes place → IsVerdict dig anchors strict bytes (No (Malformed place))
+    malformed_bytes place nothing is = (
+      λ accepts. absurd (nothing accepts.0 accepts.1),
+      record {
+        stands = inl (nothing, (place, is, refl));
+        lowest = λ other. elim [
+          | inl none ↦ subst (IsNoHigher (Malformed place)) (sym (none.1.2 ∙ ap (λ (n : ℕ). Malformed n) (one_place proof_layout bytes none.1.0 place none.1.1 is))) (no_higher-self (Malformed place))
+          | inr proof ↦ absurd (nothing proof.0 proof.1)
+        ];
+      },
+    )
+
+    module _ (p : Proof) (spelled : Spells proof_layout bytes p) where
+      same : (q : Proof) → Spells proof_layout bytes q → q ≡ p
+      same q also = one_value proof_layout bytes q p also spelled
+
+      lowest_of : (reason : Reason) → StandsAgainst dig anchors strict p reason
+          → ((other : Reason) → StandsAgainst dig anchors strict p other → IsNoHigher reason other) → IsLowest dig anchors strict bytes reason
+      lowest_of reason stands lowest = record {
+        stands = inr (p, spelled, stands);
+        lowest = λ other. elim [
+          | inl none ↦ absurd (none.0 p spelled)
+          | inr proof ↦ lowest other (subst (λ q. StandsAgainst dig anchors strict q other) (same proof.0 proof.1) proof.2)
+        ];
+      }
+
+      -- a proof of which a check doesn't pass
+      found_some : (reason : Reason) → found_in dig anchors (checks p) ≡ Some reason → IsVerdict dig anchors strict bytes (No reason)
+      found_some reason some =
+          let is : IsLeast dig anchors strict (checks p) reason = found-lowest dig anchors strict (checks p) reason some in (
+            λ accepts. absurd (passing-fails dig anchors strict (checks p) reason (subst (IsAccepted dig anchors) (same accepts.0 accepts.1) accepts.2) is.fails),
+            lowest_of reason (least-stands p reason is) (λ other. least-lowest p reason other is),
+          )
+
+      -- a proof of which each check passes
+      accepted_carries : IsAccepted dig anchors p → strict ≡ true → 0 < length (carried p) → IsVerdict dig anchors strict bytes (No (Carried (length (carried p))))
+      accepted_carries accepted is some = (
+        λ accepts. (is, λ none. (let zero : length (carried p) ≡ 0 = ap (λ (q : Proof). length (carried q)) (sym (same accepts.0 accepts.1)) ∙ ap length none in omega (arith, zero, some))),
+        lowest_of (Carried (length (carried p))) (is, some, refl) (λ other. carried-lowest p (length (carried p)) other accepted refl),
+      )
+
+      accepted_yes : IsAccepted dig anchors p → (strict ≡ true → carried p ≡ []) → IsVerdict dig anchors strict bytes (Yes (report_of p))
+      accepted_yes accepted none = ((p, spelled, accepted), none, refl)
+
+      nil : (ts : List Thread) → nat_lt 0 (length ts) ≡ false → ts ≡ []
+      nil [] is = refl
+      nil (t ∷ ts) is = let none = ltb-false 0 (length (t ∷ ts)) is in absurd (omega (arith, none))
+
+      found_nothing : IsAccepted dig anchors p → IsVerdict dig anchors strict bytes (unfound strict (report_of p))
+      found_nothing accepted =
+          let size : length (reverse (carried p)) ≡ length (carried p) = length-reverse (carried p) in
+          let cases : (b : Bool) → (strict && nat_lt 0 (length (reverse (carried p)))) ≡ b
+          → IsVerdict dig anchors strict bytes (if b then No (Carried (length (reverse (carried p)))) else Yes (report_of p)) =
+          elim [
+            | true ↦ λ is. (
+                let both = and_parts strict (nat_lt 0 (length (reverse (carried p)))) is in
+                let some = ltb-true 0 (length (reverse (carried p))) both.1 in
+                subst (λ n. IsVerdict dig anchors strict bytes (No (Carried n))) (sym size) (accepted_carries accepted both.0 (omega (arith, some, size))))
+            | false ↦ λ is. accepted_yes accepted (λ form. nil (carried p) (ap (nat_lt 0) (sym size) ∙ subst (λ b. (b && nat_lt 0 (length (reverse (carried p)))) ≡ false) form is))
+          ]
+          in cases (strict && nat_lt 0 (length (reverse (carried p)))) refl
+
+      -- the verdict of the proof's judgement is that on the bytes
+      pub judgement-verdict : IsVerdict dig anchors strict bytes (verdict_of strict (judgement_of dig anchors p))
+      judgement-verdict =
+          let cases : (found : Option Reason) → found_in dig anchors (checks p) ≡ found → IsVerdict dig anchors strict bytes (option_map_or No found (unfound strict (report_of p))) =
+          elim [
+            | None ↦ λ none. found_nothing (found-none dig anchors strict (checks p) none)
+            | Some reason ↦ λ some. found_some reason some
+          ]
+          in cases (found_in dig anchors (checks p)) refl

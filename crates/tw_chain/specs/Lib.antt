@@ -1,6 +1,14 @@
 pub mod Proofs
+pub mod Checks
+pub mod Passing
 pub mod Accepting
 pub mod Claiming
 pub mod OwnProofs
 pub mod Reasons
 pub mod Binding
+pub mod Judgements
+pub mod Joining
+pub mod Chaining
+pub mod OwnParts
+pub mod Stages
+pub mod Verifying

@@ -13,7 +13,7 @@ use Rattle.tw_treeproof.specs.Making.{proof_of}
 use Rattle.tw_chain.specs.declared.proof.AbsenceProof.{AbsenceProof}
 use Rattle.tw_chain.specs.declared.proof.LinkProof.{LinkProof}
 use Rattle.tw_chain.specs.declared.proof.Proof.{Proof}
-use Rattle.tw_chain.specs.declared.proof.Proof.TheVariants.{Exists, Archived, Absent, Linked}
+use Rattle.tw_chain.specs.declared.proof.Proof.TheVariants.{Exists, Precedes, Archived, Absent, Linked}
 use Rattle.tw_chain.specs.declared.proof.ThreadProof.{ThreadProof}
 
 module _ (dig : List ℕ → List ℕ) (h : History) (step top : ℕ) where
@@ -42,9 +42,10 @@ module _ (dig : List ℕ → List ℕ) (h : History) (step top : ℕ) where
     pub given : p.auth ≡ auth dig h step
     pub path : IsPathOf dig h p.path.links top step
 
-  -- one of these, or the proof of an event
+  -- one of these, or the proof of an event; a proof from event to event is joined of such proofs
   abbrev pub IsOwnProof : Proof → Type 0
   IsOwnProof (Exists p) = (index : ℕ) × IsExistenceOf dig h step index top p
+  IsOwnProof (Precedes p) = ⊥
   IsOwnProof (Archived p) = IsThreadProofOf p
   IsOwnProof (Absent p) = IsAbsenceProofOf p
   IsOwnProof (Linked p) = IsLinkProofOf p

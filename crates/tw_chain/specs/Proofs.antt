@@ -1,41 +1,95 @@
 -- The bytes of proofs, by their kinds.
-use Rattle.std.specs.Prelude.{◌≡◌, ℕ, ◌≤◌, List, [], ◌∷◌, ◌++◌, Bool, true, false, Option, Some, None, ◌==◌, ◌||◌, ◌&&◌, nat_le}
-use Rattle.tw_base.specs.declared.limits.TheConstants.{LAST_STEP}
+use Rattle.std.specs.Prelude.{◌≡◌, ℕ, suc, zero, ◌-◌, ◌≤◌, List, [], ◌∷◌, ◌++◌, length, true, false, Option, Some, None, ◌==◌, nat_lt}
+use Rattle.std.specs.Option.{option_map_or}
+use Rattle.tw_base.specs.declared.limits.TheConstants.{LAST_STEP, MOST_HOPS}
 use Rattle.tw_base.specs.declared.thread.Key.{Key}
-use Rattle.tw_base.specs.Codecs.{Codec, behind, by_kind, choose, digest_codec, name_codec, number_codec, pair, seen, variant}
-use Rattle.tw_base.specs.Formats.{Format, read_at}
-use Rattle.tw_base.specs.Formats.Format.{Byte, Done}
+use Rattle.tw_base.specs.Codecs.{Codec, behind, by_kind, choose, digest_codec, each, name_codec, number_codec, optional, pair, seen, variant}
+use Rattle.tw_base.specs.Fields.{number_bytes}
+use Rattle.tw_base.specs.Formats.{Format}
+use Rattle.tw_base.specs.Lists.{Each}
+use Rattle.tw_base.specs.EntryCodec.{entry_codec}
+use Rattle.tw_base.specs.Limits.{IsEntryInRange, IsStep}
 use Rattle.tw_skipproof.specs.declared.existence.ExistenceProof.{ExistenceProof}
-use Rattle.tw_skipproof.specs.Codecs.{existence_body, part_codec, path_codec, proof_magic, step_codec}
+use Rattle.tw_skipproof.specs.declared.opening.Opening.{Opening}
+use Rattle.tw_skipproof.specs.Codecs.{event_codec, existence_body, opening_bytes, opening_codec, part_codec, path_bytes, path_codec, proof_magic, step_codec}
 use Rattle.tw_skipproof.specs.Existence.{IsExistenceInRange, IsPartInRange, IsPartShaped, IsShaped}
 use Rattle.tw_skipproof.specs.Paths.{HasShape}
 use Rattle.tw_treeproof.specs.Answers.{is_of_entry}
-use Rattle.tw_treeproof.specs.Limits.{IsEntryInRange, IsProofInRange, IsStep}
-use Rattle.tw_treeproof.specs.Codecs.{entry_codec, gap_codec, present_codec}
+use Rattle.tw_treeproof.specs.Limits.{IsProofInRange}
+use Rattle.tw_treeproof.specs.Codecs.{gap_codec, present_codec}
 use Rattle.tw_chain.specs.declared.proof.AbsenceProof.{AbsenceProof}
+use Rattle.tw_chain.specs.declared.proof.HopPart.{HopPart}
 use Rattle.tw_chain.specs.declared.proof.LinkProof.{LinkProof}
+use Rattle.tw_chain.specs.declared.proof.PrecedenceProof.{PrecedenceProof}
 use Rattle.tw_chain.specs.declared.proof.Proof.{Proof}
-use Rattle.tw_chain.specs.declared.proof.Proof.TheVariants.{Exists, Archived, Absent, Linked}
+use Rattle.tw_chain.specs.declared.proof.Proof.TheVariants.{Exists, Precedes, Archived, Absent, Linked}
+use Rattle.tw_chain.specs.declared.proof.Tail.{Tail}
 use Rattle.tw_chain.specs.declared.proof.ThreadProof.{ThreadProof}
 
 abbrev pub kind_of : Proof → ℕ
 kind_of (Exists p) = 1
+kind_of (Precedes p) = 2
 kind_of (Archived p) = 3
 kind_of (Absent p) = 4
 kind_of (Linked p) = 5
 
--- one of these kinds
-abbrev pub is_kind : ℕ → Bool
-is_kind kind = kind == 1 || (nat_le 3 kind && nat_le kind 5)
-
 -- the kind in one byte
-unfoldable pub kind_codec : Codec ℕ
-kind_codec = record {
-  format = Byte is_kind (λ kind. Done kind);
-  Fits = λ kind. is_kind kind ≡ true;
-  write = λ kind. kind ∷ [];
-  read = read_at (Byte is_kind (λ kind. Done kind));
-}
+abbrev pub kind_codec : Codec ℕ
+kind_codec = number_codec 1 1 5
+
+-- ---- kind 2
+
+-- the step that the hops come to, from this one on: that of the last hop's thread
+abbrev pub last_step : (step : ℕ) → List HopPart → ℕ
+last_step step [] = step
+last_step step (hop ∷ hops) = last_step hop.entry.thread.step hops
+
+-- a hop behind which so many follow: the entry, its tree proof, the bind, the path from the bind down to the thread's step (no
+-- bytes where the bind is 0), and the opening of that step where another hop follows
+unfoldable pub hop_codec : (more : ℕ) → Codec HopPart
+hop_codec more =
+    seen (λ t. record { entry = t.0; shown = t.1.0; bind = t.1.1.0; link = record { links = t.1.1.1.0 }; opening = t.1.1.1.1 })
+    (λ p. (p.entry, (p.shown, (p.bind, (p.link.links, p.opening)))))
+    (pair entry_codec (λ entry. pair present_codec (λ shown. pair (number_codec 8 0 LAST_STEP) (λ bind.
+    pair (path_codec bind entry.thread.step) (λ links. optional (nat_lt 0 more) (opening_codec 0 entry.thread.step))))))
+
+-- its bytes, which are the same however many follow
+unfoldable pub hop_bytes : HopPart → List ℕ
+hop_bytes p = entry_codec.write p.entry ++ (present_codec.write p.shown ++ (number_bytes 8 p.bind ++ (path_bytes p.link.links ++ option_map_or opening_bytes p.opening [])))
+
+-- how many follow each of so many hops
+abbrev pub following : ℕ → List ℕ
+following zero = []
+following (suc more) = more ∷ following more
+
+-- the first event under this step: its step, the path down to it, its opening, and the event
+unfoldable pub tail_codec : (upper : ℕ) → Codec Tail
+tail_codec upper =
+    seen (λ t. record { step = t.0; path = record { links = t.1.0 }; opening = t.1.1.0; event = t.1.1.1 })
+    (λ p. (p.step, (p.path.links, (p.opening, p.event))))
+    (pair step_codec (λ step. pair (path_codec upper step) (λ links. pair (opening_codec 1 step) (λ opening. event_codec opening.count))))
+
+-- behind the second event: the opening of the step before it where there is a hop, the hops, and the first event
+abbrev pub Behind : Type 0
+Behind = Option Opening × (List HopPart × Tail)
+
+unfoldable pub behind_codec : (count step : ℕ) → Codec Behind
+behind_codec count step =
+    pair (optional (nat_lt 0 count) (opening_codec 0 (step - 1))) (λ before.
+    pair (each hop_bytes hop_codec (following count)) (λ hops. tail_codec (last_step (step - 1) hops)))
+
+-- with so many hops: the second event's step under a top, that event, and what stands behind it
+unfoldable pub hops_codec : (count : ℕ) → Codec PrecedenceProof
+hops_codec count =
+    seen (λ t. record { head = t.0; event = t.1.0; before = t.1.1.0; hops = t.1.1.1.0; tail = t.1.1.1.1 })
+    (λ p. (p.head, (p.event, (p.before, (p.hops, p.tail)))))
+    (pair (part_codec 1) (λ head. pair (event_codec head.opening.count) (λ event. behind_codec count head.step)))
+
+-- kind 2: the number of the hops, and the rest
+unfoldable pub precedence_body : Codec PrecedenceProof
+precedence_body = by_kind (λ p. length p.hops) (number_codec 1 0 MOST_HOPS) hops_codec
+
+-- ---- kinds 3 to 5
 
 -- kind 3: a step under a top, an entry of its archive, and the tree proof of that entry
 unfoldable pub thread_body : Codec ThreadProof
@@ -65,6 +119,10 @@ abbrev pub existence_of : Proof → Option ExistenceProof
 existence_of (Exists p) = Some p
 existence_of _ = None
 
+abbrev pub precedence_of : Proof → Option PrecedenceProof
+precedence_of (Precedes p) = Some p
+precedence_of _ = None
+
 abbrev pub thread_of : Proof → Option ThreadProof
 thread_of (Archived p) = Some p
 thread_of _ = None
@@ -81,8 +139,9 @@ link_of _ = None
 abbrev pub body_of_kind : (kind : ℕ) → Codec Proof
 body_of_kind kind =
     choose (kind == 1) (variant Exists existence_of existence_body)
+    (choose (kind == 2) (variant Precedes precedence_of precedence_body)
     (choose (kind == 3) (variant Archived thread_of thread_body)
-    (choose (kind == 4) (variant Absent absence_of absence_body) (variant Linked link_of link_body)))
+    (choose (kind == 4) (variant Absent absence_of absence_body) (variant Linked link_of link_body))))
 
 -- the kind in one byte, and what the kind has
 unfoldable pub kinds_codec : Codec Proof
@@ -105,6 +164,7 @@ kind_bytes kind = proof_magic ++ kind ∷ []
 -- the tree proof of a proof of kind 3 is of an entry, that of one of kind 4 of an empty place
 abbrev pub HasTreeOfKind : Proof → Type 0
 HasTreeOfKind (Exists p) = Unit {0}
+HasTreeOfKind (Precedes p) = Each (λ hop. is_of_entry hop.shown ≡ true) p.hops
 HasTreeOfKind (Archived p) = is_of_entry p.shown ≡ true
 HasTreeOfKind (Absent p) = is_of_entry p.shown ≡ false
 HasTreeOfKind (Linked p) = Unit {0}
@@ -113,15 +173,9 @@ HasTreeOfKind (Linked p) = Unit {0}
 -- that its steps give them, and its tree proof is of its kind
 abbrev pub IsSpellable : Proof → Type 0
 IsSpellable (Exists p) = IsExistenceInRange p × IsShaped p
+IsSpellable (Precedes p) = precedence_body.Fits p
 IsSpellable (Archived p) =
     IsPartInRange p.at × IsPartShaped p.at × IsEntryInRange p.entry × IsProofInRange p.shown × (is_of_entry p.shown ≡ true)
 IsSpellable (Absent p) =
     IsPartInRange p.at × IsPartShaped p.at × IsStep p.key.step × IsProofInRange p.shown × (is_of_entry p.shown ≡ false)
 IsSpellable (Linked p) = (p.step ≤ LAST_STEP) × IsStep p.top × HasShape p.path.links p.top p.step
-
--- the bounds that checking needs: those of the steps, and of an event its ranges in the format, which a proof that was read has
-abbrev pub IsInRange : Proof → Type 0
-IsInRange (Exists p) = IsExistenceInRange p
-IsInRange (Archived p) = IsPartInRange p.at
-IsInRange (Absent p) = IsPartInRange p.at
-IsInRange (Linked p) = p.top ≤ LAST_STEP

@@ -1,71 +1,15 @@
-// The laws of the proofs that a history has.
+// The laws of proofs: their spelling, and what an accepted one says of histories.
 
-ghost use Rattle.std.specs.Prelude.{◌≡◌, ℕ, ◌<◌, ◌≤◌, List, length, Some, slice_get};
+ghost use Rattle.std.specs.Prelude.{ℕ, List};
 ghost use Rattle.tw_base.specs.declared.thread.Thread.{Thread};
-ghost use Rattle.tw_base.specs.Anchors.{anchor_of};
-ghost use Rattle.tw_base.specs.Auth.{auth};
 ghost use Rattle.tw_base.specs.Codecs.{IsUnambiguous};
 ghost use Rattle.tw_base.specs.Formats.{Spells};
-ghost use Rattle.tw_base.specs.History.{History, events_at};
-ghost use Rattle.tw_base.specs.Sound.{IsSound};
-ghost use Rattle.tw_base.specs.Tree.{tree};
-ghost use Rattle.tw_skipproof.specs.declared.existence.ExistenceProof.{ExistenceProof};
-ghost use Rattle.tw_skipproof.specs.HistoryProofs.{IsExistenceOf, MakesExistence};
-ghost use Rattle.tw_skipproof.specs.Existence.{existence_bytes};
-ghost use Rattle.tw_treeproof.specs.declared.limits.TheConstants.{MOST_ABOVE_PLACE};
-ghost use Rattle.tw_treeproof.specs.Making.{height};
 ghost use Rattle.tw_chain.specs.declared.proof.Proof.{Proof};
-ghost use Rattle.tw_chain.specs.declared.proof.Proof.TheVariants.{Exists};
-ghost use Rattle.tw_chain.specs.Accepting.{Accepts, IsAccepted, claim_of};
-ghost use Rattle.tw_chain.specs.Claiming.{ClaimsOf, claim_at};
-ghost use Rattle.tw_chain.specs.OwnProofs.{IsOwnProof};
-ghost use Rattle.tw_chain.specs.Proofs.{proof_bytes, proof_codec, proof_layout};
+ghost use Rattle.tw_chain.specs.Accepting.{IsAccepted, report_of};
+ghost use Rattle.tw_chain.specs.Binding.{BindsReport};
+ghost use Rattle.tw_chain.specs.Proofs.{proof_codec, proof_layout};
 
 use tw_base::Hasher;
-
-/// The proof that a history has of one of its events, under a top that isn't below the event's
-/// step, is accepted wherever the anchor held of that service and top has the history's
-/// authenticator of the top. It claims that this event stands at this index of the step, with the
-/// step's time or none. Where the history is sound and has the top, the proof is spelled, by what
-/// `write_existence` writes of it, and these bytes are accepted there.
-///
-/// A sound history's proofs of a thread that was received, of a key of which none was, and of a step's
-/// authenticator are accepted in the same way, claim what they are of, and are spelled where no way
-/// down the archive's tree has more than 128 nodes.
-pub fn completeness_laws<H: Hasher>()
-    // The proof that a history has of one of its events, under a top that isn't below its step, is accepted wherever
-    // the anchor that is held of the service and top has the history's authenticator of the top.
-    ensures accepted { (h : History) (step index top : ℕ) (p : ExistenceProof) (anchors : List Thread) (anchor : Thread) →
-        step ≤ top → IsExistenceOf H.dig h step index top p → anchor_of anchors h.name top ≡ Some anchor → anchor.auth ≡ auth H.dig h top →
-        IsAccepted H.dig anchors (Exists p) }
-    // So are the bytes that spell such a proof accepted, wherever that anchor is held.
-    ensures accepts { (h : History) (step index top : ℕ) (bytes : List ℕ) (anchors : List Thread) (anchor : Thread) →
-        step ≤ top → MakesExistence H.dig h step index top bytes → anchor_of anchors h.name top ≡ Some anchor → anchor.auth ≡ auth H.dig h top →
-        Accepts H.dig anchors bytes }
-    // The proof that a history has of an event claims that event at that place, with the time of its step, or with none
-    // where the step has none.
-    ensures claim { (h : History) (step index top : ℕ) (p : ExistenceProof) (event : List ℕ) →
-        IsExistenceOf H.dig h step index top p → slice_get (events_at h step) index ≡ Some event → claim_of (Exists p) ≡ claim_at h step index event }
-    // Where the history is sound and has the top, and that anchor is held, the bytes that are written of the proof
-    // spell it, and are accepted.
-    ensures spelled { (h : History) (step index top : ℕ) (p : ExistenceProof) (anchors : List Thread) (anchor : Thread) →
-        IsSound h → step ≤ top → top ≤ length h.steps → IsExistenceOf H.dig h step index top p →
-        anchor_of anchors h.name top ≡ Some anchor → anchor.auth ≡ auth H.dig h top →
-        Spells proof_layout (existence_bytes p) (Exists p) × Accepts H.dig anchors (existence_bytes p) }
-    // The proof that a sound history has of a step under a top that it has and that isn't below the step, be it of an
-    // event, of a thread that was received up to the step, of a key of which none was, or of the step's authenticator, is
-    // accepted wherever the anchor that is held of the service and top has the history's authenticator of the top.
-    ensures own { (h : History) (step top : ℕ) (p : Proof) (anchors : List Thread) (anchor : Thread) →
-        IsSound h → step ≤ top → top ≤ length h.steps → IsOwnProof H.dig h step top p → anchor_of anchors h.name top ≡ Some anchor → anchor.auth ≡ auth H.dig h top →
-        IsAccepted H.dig anchors p }
-    // It claims that thread, that there is none of that key, or that authenticator, at the history's step.
-    ensures own_claims { (h : History) (step top : ℕ) (p : Proof) → IsOwnProof H.dig h step top p → ClaimsOf H.dig h step top p }
-    // Where the history has the top, and no way down the tree of the step's archive has more than 128 nodes, the bytes
-    // that are written of such a proof spell it.
-    ensures own_spelled { (h : History) (step top : ℕ) (p : Proof) →
-        IsSound h → step ≤ top → 0 < top → top ≤ length h.steps → height (tree h step) ≤ MOST_ABOVE_PLACE → IsOwnProof H.dig h step top p →
-        Spells proof_layout (proof_bytes p) p }
-{}
 
 /// The words of proofs: each has one value, a value has one spelling, and no word is the front of a
 /// longer one.
@@ -73,4 +17,12 @@ pub fn proof_laws()
     // Proofs have one spelling each: the words of the format are what is written of those that fit, and none is the
     // front of a longer one.
     ensures { IsUnambiguous proof_codec }
+{}
+
+/// What an accepted proof says of histories, whatever its kind.
+pub fn chain_laws<H: Hasher>()
+    // What the report of an accepted proof claims is so in every family of sound histories that has the threads held of
+    // the proof, or two different texts of the histories and of the proof have one digest.
+    ensures headline { (bytes : List ℕ) (p : Proof) (anchors : List Thread) →
+        Spells proof_layout bytes p → IsAccepted H.dig anchors p → BindsReport H.dig anchors p (report_of p) }
 {}

@@ -1,18 +1,24 @@
 // Proofs and their verdicts.
 #![tactic(auto)]
 
-mod judging;
-mod kinds;
+mod chain;
+mod chain_reading;
+mod joining;
+mod judgement;
 mod laws;
 mod proof;
-mod reaching;
 mod reading;
-mod showing;
+mod stage;
 mod verdict;
+mod verifier;
 mod writing;
 
-pub use laws::{completeness_laws, proof_laws};
-pub use proof::{AbsenceProof, LinkProof, Proof, ThreadProof};
+pub use joining::{JoinFault, join};
+pub use laws::{chain_laws, proof_laws};
+pub use proof::{
+    AbsenceProof, HopPart, HopParts, LinkProof, PrecedenceProof, Proof, Tail, ThreadProof,
+};
 pub use reading::{read_first, read_proof};
 pub use verdict::{Verdict, verify};
+pub use verifier::Verifier;
 pub use writing::write_proof;

@@ -4,14 +4,17 @@
 ghost use Rattle.std.specs.Prelude.{◌≡◌, ◌≤◌, length, IfOk};
 ghost use Rattle.tw_base.specs.Formats.{ReadsAs, ReadsFrontAs};
 ghost use Rattle.tw_base.specs.Taking.{Takes};
-ghost use Rattle.tw_chain.specs.Proofs.{IsInRange, absence_body, body_of_kind, is_kind as is_kind_of_proof, key_codec, kind_codec, kinds_codec, link_body, proof_codec, proof_layout, thread_body};
+ghost use Rattle.tw_chain.specs.Proofs.{absence_body, body_of_kind, key_codec, kind_codec, kinds_codec, link_body, proof_codec, proof_layout, thread_body};
 
+use crate::chain_reading::take_precedence_body;
 use crate::proof::{AbsenceProof, LinkProof, Proof, ThreadProof};
 use std::alloc::Global;
 use tw_base::limits::LAST_STEP;
-use tw_base::{Key, ReadFault, front_to, take_digest, take_name, take_number, take_text, whole_to};
+use tw_base::{
+    Key, ReadFault, front_to, take_digest, take_entry, take_name, take_number, take_text, whole_to,
+};
 use tw_skipproof::{PROOF_MAGIC, take_existence_body, take_part, take_path};
-use tw_treeproof::{take_entry, take_gap, take_present};
+use tw_treeproof::{take_gap, take_present};
 
 /// Takes a proof that an archive has an entry, behind its kind.
 fn take_thread_body(alloc: Global, bytes: &[u8], at: &mut u64) -> Result<ThreadProof, ReadFault>
@@ -81,6 +84,9 @@ fn take_of_kind(alloc: Global, bytes: &[u8], at: &mut u64, kind: u64) -> Result<
     if kind == 1 {
         return Ok(Proof::Exists(take_existence_body(alloc, bytes, at)?));
     }
+    if kind == 2 {
+        return Ok(Proof::Precedes(take_precedence_body(alloc, bytes, at)?));
+    }
     if kind == 3 {
         return Ok(Proof::Archived(take_thread_body(alloc, bytes, at)?));
     }
@@ -90,30 +96,13 @@ fn take_of_kind(alloc: Global, bytes: &[u8], at: &mut u64, kind: u64) -> Result<
     Ok(Proof::Linked(take_link_body(alloc, bytes, at)?))
 }
 
-/// Whether there are proofs of this kind.
-#[tactic(auto)]
-fn is_kind(kind: u8) -> bool
-    ensures { result ≡ is_kind_of_proof kind }
-{
-    kind == 1 || (3 <= kind && kind <= 5)
-}
-
 /// Takes the kind of a proof.
 #[tactic(auto)]
 fn take_kind(bytes: &[u8], at: &mut u64) -> Result<u64, ReadFault>
     requires { at.old ≤ length bytes.now }
     ensures { Takes kind_codec (λ kind. kind) bytes.now at.old at.new result }
 {
-    let place = *at;
-    if place == bytes.len() as u64 {
-        return Err(ReadFault::Malformed { place });
-    }
-    let kind = bytes[place as usize];
-    if !is_kind(kind) {
-        return Err(ReadFault::Malformed { place });
-    }
-    *at += 1;
-    Ok(kind as u64)
+    take_number(bytes, at, 1, 1, 5)
 }
 
 /// Takes the kind and what a proof of it has.
@@ -144,7 +133,6 @@ pub fn read_proof(alloc: Global, bytes: &[u8]) -> Result<Proof, ReadFault>
     // Bytes are read as a proof exactly where they spell one, with that proof; else the length of the longest front
     // that some proof begins with is told.
     ensures read { ReadsAs (λ p. p) proof_layout bytes.now result }
-    ensures range { IfOk result IsInRange }
 {
     let mut at = 0;
     let read = take_proof(alloc, bytes, &mut at);
@@ -159,7 +147,6 @@ pub fn read_first(alloc: Global, bytes: &[u8]) -> Result<(Proof, u64), ReadFault
     // A proof is read from the front of bytes exactly where a front of them spells one, with that proof and its number
     // of bytes; else the length of the longest front that some proof begins with is told.
     ensures read { ReadsFrontAs (λ p. p) proof_layout bytes.now result }
-    ensures range { IfOk result (λ read. IsInRange read.0) }
 {
     let mut at = 0;
     let read = take_proof(alloc, bytes, &mut at);

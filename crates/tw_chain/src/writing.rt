@@ -3,17 +3,18 @@
 ghost use Rattle.std.specs.Prelude.{◌≡◌, [], ◌∷◌, ◌++◌, IfOk, OnOk, true, false};
 ghost use Rattle.tw_skipproof.specs.Codecs.{part_bytes, path_bytes};
 ghost use Rattle.tw_base.specs.Formats.{Spells};
-ghost use Rattle.tw_treeproof.specs.Limits.{IsStep};
+ghost use Rattle.tw_base.specs.EntryCodec.{entry_codec};
+ghost use Rattle.tw_base.specs.Limits.{IsStep};
 ghost use Rattle.tw_treeproof.specs.Answers.{is_of_entry};
-ghost use Rattle.tw_treeproof.specs.Codecs.{entry_codec, tree_proof_bytes};
-ghost use Rattle.tw_chain.specs.declared.proof.Proof.TheVariants.{Absent, Archived, Linked};
-ghost use Rattle.tw_chain.specs.Proofs.{HasTreeOfKind, IsInRange, IsSpellable, absence_body, key_codec, kind_bytes, link_body, proof_bytes, proof_layout, thread_body};
+ghost use Rattle.tw_treeproof.specs.Codecs.{tree_proof_bytes};
+ghost use Rattle.tw_chain.specs.declared.proof.Proof.TheVariants.{Absent, Archived, Linked, Precedes};
+ghost use Rattle.tw_chain.specs.Proofs.{HasTreeOfKind, IsSpellable, absence_body, key_codec, kind_bytes, link_body, proof_bytes, proof_layout, thread_body};
 
-use crate::proof::{AbsenceProof, LinkProof, Proof, ThreadProof};
+use crate::proof::{AbsenceProof, LinkProof, PrecedenceProof, Proof, ThreadProof};
 use std::alloc::Global;
-use tw_base::{Bytes, Key, NoMemory, put_digest, put_name, put_number, put_text};
+use tw_base::{Bytes, Key, NoMemory, put_digest, put_entry, put_name, put_number, put_text};
 use tw_skipproof::{PROOF_MAGIC, put_part, put_path, write_existence};
-use tw_treeproof::{put_entry, put_tree_proof};
+use tw_treeproof::put_tree_proof;
 
 /// Appends the magic and the kind, which is a byte.
 #[tactic(auto, unfolding(tw_base::specs::Codecs::number_codec, tw_base::specs::Codecs::text_codec, tw_base::specs::Fields::number_bytes))]
@@ -105,11 +106,18 @@ fn write_link(alloc: Global, proof: &LinkProof) -> Result<Bytes, NoMemory>
     Ok(bytes)
 }
 
+/// The bytes of a proof from event to event.
+fn write_precedence(alloc: Global, proof: &PrecedenceProof) -> Result<Bytes, NoMemory>
+    ensures spelled { IfOk result (λ bytes. IsSpellable (Precedes proof.now) → Spells proof_layout bytes (Precedes proof.now)) }
+    ensures bytes { IfOk result (λ bytes. HasTreeOfKind (Precedes proof.now) → bytes ≡ proof_bytes (Precedes proof.now)) }
+{
+    Err(NoMemory)
+}
+
 /// The bytes of the proof: the four bytes `TWP1`, its kind, and what the kind has. They spell it where
 /// its numbers are in the ranges of the format, and its paths, openings and tree proof are those of
 /// its kind and steps.
 pub fn write_proof(alloc: Global, proof: &Proof) -> Result<Bytes, NoMemory>
-    requires { IsInRange proof.now }
     // What is written of a proof is its bytes in the format, where its tree proof is of its kind: of an entry in a proof
     // that a thread was received, of an empty place in one that none was.
     ensures bytes { IfOk result (λ bytes. HasTreeOfKind proof.now → bytes ≡ proof_bytes proof.now) }
@@ -119,6 +127,7 @@ pub fn write_proof(alloc: Global, proof: &Proof) -> Result<Bytes, NoMemory>
 {
     match proof {
         Proof::Exists(existence) => write_existence(alloc, existence),
+        Proof::Precedes(precedence) => write_precedence(alloc, precedence),
         Proof::Archived(thread) => write_thread(alloc, thread),
         Proof::Absent(absence) => write_absence(alloc, absence),
         Proof::Linked(link) => write_link(alloc, link),

@@ -1,7 +1,6 @@
 pub mod Image
 pub mod Found
 pub mod PutSteps
-pub mod PageBytes
 pub mod Disk
 pub mod DiskSteps
 pub mod Model

@@ -1,6 +1,6 @@
 // The calls that a disk in memory keeps.
 
-use crate::Page;
+use tw_base::Page;
 
 /// A write that took effect, or a good barrier, with what undoes it.
 #[derive(Drop)]

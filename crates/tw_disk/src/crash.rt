@@ -4,9 +4,9 @@ ghost use Rattle.tw_disk.specs.Model.{spoilt, outcome};
 ghost use Rattle.tw_disk.specs.KeptCalls.{written_of, AllFit};
 ghost use Rattle.tw_disk.specs.LooseSteps.{loose_of, AllBelow};
 
-use crate::Page;
 use crate::call::Call;
-use crate::limits::PAGE_SIZE;
+use tw_base::Page;
+use tw_base::limits::PAGE_SIZE;
 
 // Takes back the writes since the last good barrier, the last one first.
 fn unwind(pages: &mut Vec<Page>, calls: &mut Vec<Call>)

@@ -5,8 +5,7 @@ ghost use Rattle.tw_disk.specs.Image.{Image, Torn, put, page_at};
 ghost use Rattle.tw_base.specs.Faults.{HasCause};
 ghost use Rattle.tw_disk.specs.Disk.{grown, KeepsRoom, Follows, Only, DiskView, IsSameDisk, TimeGoesOn};
 
-use crate::Page;
-use tw_base::Failed;
+use tw_base::{Failed, Page};
 
 /// A block device with pages of 4,096 bytes, numbered from 0.
 ///

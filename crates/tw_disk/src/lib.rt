@@ -1,8 +1,7 @@
 //! Disks by pages of 4,096 bytes, what a crash may leave of one, and the pages that a store shows to the crates above it.
 //!
 //! [`Disk`] is the device with the disk model: what a write, a barrier and a crash may do. [`Pages`] is a list of pages that only grows.
-//! [`MemDisk`] and [`MemPages`] are both in memory, with calls that fail where a test plans it. [`PageFront`]
-//! is a page that is filled from its front, and [`page_to`] ends the reading of one.
+//! [`MemDisk`] and [`MemPages`] are both in memory, with calls that fail where a test plans it.
 #![tactic(auto)]
 
 mod call;
@@ -11,12 +10,9 @@ mod disk;
 pub mod limits;
 mod memory_disk;
 mod memory_pages;
-mod page_bytes;
 mod pages;
 
 pub use disk::Disk;
 pub use memory_disk::MemDisk;
 pub use memory_pages::MemPages;
-pub use page_bytes::{Page, PageFront, page_to};
 pub use pages::Pages;
-pub use tw_base::{Failed, NoMemory};

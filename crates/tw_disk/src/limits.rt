@@ -1,7 +1,4 @@
-// The sizes of pages, and of the numbers that count them.
-
-/// The size of a page in bytes.
-pub const PAGE_SIZE: usize = 4096;
+// The numbers of pages: the first of a list, and those that none reaches.
 
 /// The number of the first page of a list of pages. The four pages below it are the store's own.
 pub const FIRST_PAGE: u64 = 4;

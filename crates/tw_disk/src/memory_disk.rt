@@ -9,9 +9,9 @@ ghost use Rattle.tw_disk.specs.MemDiskSteps.{all_fit-prop};
 
 use crate::call::Call;
 use crate::crash::leave;
-use crate::{Disk, Page};
+use crate::disk::Disk;
 use std::alloc::Global;
-use tw_base::{Failed, FailingCalls, NoMemory};
+use tw_base::{Failed, FailingCalls, NoMemory, Page};
 
 /// A disk in memory, which tells its content and keeps all its writes and barriers since it was made or crashed.
 ///

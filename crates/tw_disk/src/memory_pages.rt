@@ -1,12 +1,14 @@
 // A list of pages in memory.
 ghost use Rattle.std.specs.Prelude.{◌≡◌, ◌↔◌, ◌<◌, ◌≤◌, ◌+◌, ◌-◌, ◌^◌, ◌++◌, ◌∷◌, [], ℕ, min, length, drop, replicate, Some, IfOk, OnOk, OnErr, IsOk, IsErr, IsTrue};
 ghost use Rattle.tw_base.specs.PlannedFailures.{fails_next, after_call};
-ghost use Rattle.tw_disk.specs.declared.limits.TheConstants.{FIRST_PAGE, NUMBER_LIMIT, PAGE_SIZE};
+ghost use Rattle.tw_base.specs.declared.limits.TheConstants.{PAGE_SIZE};
+ghost use Rattle.tw_disk.specs.declared.limits.TheConstants.{FIRST_PAGE, NUMBER_LIMIT};
 
-use crate::limits::{FIRST_PAGE, PAGE_SIZE};
-use crate::{Page, Pages};
+use crate::limits::FIRST_PAGE;
+use crate::pages::Pages;
 use std::alloc::Global;
-use tw_base::{Failed, FailingCalls, NoMemory};
+use tw_base::limits::PAGE_SIZE;
+use tw_base::{Failed, FailingCalls, NoMemory, Page};
 
 /// Pages in memory, which tell their list and count their reads.
 #[derive(Drop)]

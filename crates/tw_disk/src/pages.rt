@@ -6,8 +6,7 @@ ghost use Rattle.tw_base.specs.Faults.{HasCause};
 ghost use Rattle.tw_disk.specs.Pages.{OnlyReads};
 ghost use Rattle.tw_disk.specs.declared.limits.TheConstants.{FIRST_PAGE, NUMBER_LIMIT};
 
-use crate::Page;
-use tw_base::{Failed, NoMemory};
+use tw_base::{Failed, NoMemory, Page};
 
 /// Numbered pages of 4,096 bytes, of which those from number 4 on can be read. Pages are only added, at the end.
 ///

@@ -2,8 +2,9 @@
 
 use std::alloc::Global;
 use std::test::Fail;
+use tw_base::{Failed, NoMemory};
 use tw_cache::Cached;
-use tw_disk::{Failed, MemPages, NoMemory, Pages};
+use tw_disk::{MemPages, Pages};
 
 // Stages a page full of this byte.
 fn stage_byte<P: Pages>(pages: &mut P, byte: u8) -> Result<u64, NoMemory> {

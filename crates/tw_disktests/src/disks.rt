@@ -1,7 +1,8 @@
 // Disks and pages in memory: what a crash leaves, and calls that fail.
 
 use std::test::Fail;
-use tw_disk::{Disk, Failed, MemDisk, MemPages, NoMemory, Pages};
+use tw_base::{Failed, NoMemory};
+use tw_disk::{Disk, MemDisk, MemPages, Pages};
 
 // Writes a page full of this byte, and tells whether that went well.
 fn put(disk: &mut MemDisk, page: u64, byte: u8) -> Result<(), Failed> {

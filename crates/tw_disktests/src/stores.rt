@@ -2,7 +2,8 @@
 
 use std::alloc::Global;
 use std::test::Fail;
-use tw_disk::{Failed, MemDisk, NoMemory, Pages};
+use tw_base::{Failed, NoMemory};
+use tw_disk::{MemDisk, Pages};
 use tw_pages::{CommitFault, Store, StoreFault};
 
 // Stages a page full of this byte.

@@ -7,11 +7,13 @@ ghost use Rattle.tw_tree.specs.TreeMeaning.{tree_of};
 use std::alloc::Global;
 use std::process::Abort;
 use std::test::Fail;
-use tw_base::{Bytes, Digest, Entry, Name, ReadFault, Sha, Thread, Weak, entry_key, put_digest};
+use tw_base::{
+    Bytes, Digest, Entry, Name, ReadFault, Sha, Thread, Weak, entry_key, put_digest, put_entry,
+    take_entry,
+};
 use tw_tree::{Tree, insert_plain, label, list};
 use tw_treeproof::{
-    Ask, ProveFault, Shown, TreeProof, check, prove, put_entry, put_tree_proof, take_entry,
-    take_gap, take_present,
+    Ask, ProveFault, Shown, TreeProof, check, prove, put_tree_proof, take_gap, take_present,
 };
 
 /// A digest of the weak hasher.

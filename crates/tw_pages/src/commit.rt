@@ -10,7 +10,8 @@ ghost use Rattle.tw_pages.specs.declared.limits.TheConstants.{MOST_ROOT_BYTES};
 
 use crate::phases::{close_spare_gate, open_spare_gate, write_spare_body};
 use crate::staged::write_staged;
-use tw_disk::{Disk, Failed, Page};
+use tw_base::{Failed, Page};
+use tw_disk::Disk;
 
 // Closes the spare gate where it reads open.
 pub fn see_spare_gate_closed<D: Disk>(disk: &mut D, spare: u64, is_open: bool) -> Result<(), Failed>

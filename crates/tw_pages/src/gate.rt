@@ -7,8 +7,9 @@ ghost use Rattle.tw_disk.specs.Disk.{LeavesOnly};
 ghost use Rattle.tw_pages.specs.Slots.{IsOpen};
 ghost use Rattle.tw_disk.specs.declared.limits.TheConstants.{FIRST_PAGE};
 
-use tw_disk::limits::PAGE_SIZE;
-use tw_disk::{Disk, Failed};
+use tw_base::Failed;
+use tw_base::limits::PAGE_SIZE;
+use tw_disk::Disk;
 
 // Whether the gate of a slot reads open.
 pub fn is_gate_open<D: Disk>(disk: &mut D, slot: u64) -> Result<bool, Failed>

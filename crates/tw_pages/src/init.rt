@@ -16,8 +16,9 @@ use crate::gate::is_gate_open;
 use crate::layout::{body, closed_gate, open_gate};
 use crate::limits::FIRST_BODY;
 use crate::open::{StoreFault, settle};
+use tw_base::Failed;
+use tw_disk::Disk;
 use tw_disk::limits::FIRST_PAGE;
-use tw_disk::{Disk, Failed};
 
 // Writes both gates closed, for good.
 pub fn write_closed_gates<D: Disk>(disk: &mut D) -> Result<(), Failed>

@@ -12,8 +12,10 @@ ghost use Rattle.tw_disk.specs.declared.limits.TheConstants.{FIRST_PAGE};
 use crate::body::{Body, read_body};
 use crate::gate::is_gate_open;
 use crate::limits::FIRST_BODY;
-use tw_disk::limits::{FIRST_PAGE, PAGE_SIZE};
-use tw_disk::{Disk, Failed};
+use tw_base::Failed;
+use tw_base::limits::PAGE_SIZE;
+use tw_disk::Disk;
+use tw_disk::limits::FIRST_PAGE;
 
 // What was read of a slot.
 #[derive(Drop)]

@@ -4,14 +4,15 @@ use Rattle.std.specs.Prelude.{map, MatchOption}
 use Rattle.std.proofs.lemmas.Option.{same_Some, none-some}
 use Rattle.tw_base.specs.declared.thread.Entry.{Entry}
 use Rattle.tw_base.specs.Lists.{Each}
+use Rattle.tw_base.proofs.EntryCodecLaws.{entry-range}
 use Rattle.tw_base.proofs.ListLemmas.{Each-map}
 use Rattle.tw_base.specs.Codecs.{behind, by_kind, many, number_codec, pair, seen}
-use Rattle.tw_base.specs.HistoryCodec.{thread_codec}
+use Rattle.tw_base.specs.Limits.{IsEntryInRange}
 use Rattle.tw_rbnode.specs.declared.child.Child.{Child}
 use Rattle.tw_rbnode.specs.declared.links.Link.{Link}
 use Rattle.tw_rbnode.specs.declared.slot.Slot.{Slot}
-use Rattle.tw_rbnode.specs.NodeBytes.{Held, entry_codec, held_of, links_of, node_codec, slot_codec, slots_with}
-use Rattle.tw_rbnode.specs.Page.{IsInRange, IsNode, TreePage}
+use Rattle.tw_rbnode.specs.NodeBytes.{Held, held_of, links_of, node_codec, slot_codec, slots_with}
+use Rattle.tw_rbnode.specs.Page.{IsNode, TreePage}
 use Rattle.tw_rbnode.specs.Shape.{Shape, size}
 use Rattle.tw_rbnode.specs.Slots.{IsTree, link, slot_of}
 use Rattle.tw_rbnode.proofs.LinkLists.{links-at, links-read, links-size, same_lists, slots-size}
@@ -84,9 +85,9 @@ holds links slots entries t top tree sized reads is =
 
 -- ---- what fits
 
-slot-range : (s : Slot) → slot_codec.Fits s → IsInRange s.entry
-unfolding slot_codec entry_codec thread_codec seen pair number_codec
-slot-range s fits = record { step = (omega (arith, fits.1.1.1.0.1.0.0), fits.1.1.1.0.1.0.1); archived = (omega (arith, fits.1.1.1.1.0), fits.1.1.1.1.1) }
+slot-range : (s : Slot) → slot_codec.Fits s → IsEntryInRange s.entry
+unfolding slot_codec seen pair
+slot-range s fits = entry-range s.entry fits.1.1.1
 
 pub record Fitting (level : ℕ) (h : Held) : Type 0 where
   pub low : level ≤ 10
@@ -94,7 +95,7 @@ pub record Fitting (level : ℕ) (h : Held) : Type 0 where
   pub few : length h.1.0 ≤ 24
   pub top : h.0 ≤ length h.1.0
   pub places : length h.1.1 ≡ length h.1.0 + 1
-  pub ranges : Each (λ (s : Slot). IsInRange s.entry) h.1.0
+  pub ranges : Each (λ (s : Slot). IsEntryInRange s.entry) h.1.0
 
 pub node-fitting : (level : ℕ) (h : Held) → node_codec.Fits (level, h) → Fitting level h
 unfolding node_codec behind pair by_kind number_codec many
@@ -104,7 +105,7 @@ node-fitting level h fits = record {
   few = fits.1.0.1;
   top = fits.1.1.0.1;
   places = omega (arith, fits.1.1.1.1.0);
-  ranges = Each-map _ (λ (s : Slot). IsInRange s.entry) h.1.0 (λ s f. slot-range s f) fits.1.1.1.0.1;
+  ranges = Each-map _ (λ (s : Slot). IsEntryInRange s.entry) h.1.0 (λ s f. slot-range s f) fits.1.1.1.0.1;
 }
 
 pub match_map : {X A B : Type 0} {P Q : X → Type 0} (r : Option X) → MatchOption r A P → (A → B) → ((x : X) → P x → Q x) → MatchOption r B Q

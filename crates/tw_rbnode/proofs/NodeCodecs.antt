@@ -3,8 +3,8 @@ use Rattle.std.proofs.Common.{◌≡◌, ℕ, suc, zero, ◌≤◌, Bool, length
 use Rattle.std.specs.Prelude.{◌==◌, if◌then◌else◌}
 use Rattle.tw_base.specs.Codecs.{many, nothing, number_codec, pair}
 use Rattle.tw_base.proofs.CodecLaws.{Lawful, lawful, lawful-by_kind, lawful-many, lawful-nothing, lawful-number, lawful-pair}
-use Rattle.tw_base.proofs.HistoryCodecLaws.{thread-lawful}
-use Rattle.tw_rbnode.specs.NodeBytes.{Held, child_codec, colour_codec, counted_codec, entry_codec, held_codec, node_codec, slot_codec}
+use Rattle.tw_base.proofs.EntryCodecLaws.{entry-lawful}
+use Rattle.tw_rbnode.specs.NodeBytes.{Held, child_codec, colour_codec, counted_codec, held_codec, node_codec, slot_codec}
 
 colour-kind : (n : ℕ) (red : Bool) → n ≤ 1 → (n == 1) ≡ red → (if red then 1 else 0) ≡ n
 colour-kind zero red few is = grind arith
@@ -14,10 +14,6 @@ colour-kind (suc (suc n)) red few is = absurd (omega arith)
 pub colour-lawful : Lawful colour_codec
 unfolding colour_codec number_codec nothing
 colour-lawful = lawful-by_kind (λ (red : Bool). if red then 1 else 0) (number_codec 1 0 1) (λ n. nothing (n == 1)) (search lawful) (λ n _. lawful-nothing (n == 1)) (λ n red fits is. colour-kind n red fits.1 is)
-
-pub entry-lawful : Lawful entry_codec
-unfolding entry_codec
-entry-lawful = search (lawful, thread-lawful) depth 20
 
 pub slot-lawful : Lawful slot_codec
 unfolding slot_codec

@@ -7,10 +7,11 @@ use Rattle.tw_base.specs.declared.thread.Entry.{Entry}
 use Rattle.tw_base.specs.Entries.{key_of}
 use Rattle.tw_base.specs.Lists.{Each}
 use Rattle.tw_base.specs.Tree.{IsRising}
+use Rattle.tw_base.specs.Limits.{IsEntryInRange}
 use Rattle.tw_rbnode.specs.declared.child.Child.{Child}
 use Rattle.tw_rbnode.specs.Shape.{Shape, Empty, Node, size, IsEven, IsRedBlack, insert}
 use Rattle.tw_rbnode.specs.Slots.{slot_of, At, IsTree}
-use Rattle.tw_rbnode.specs.Page.{TreePage, IsBetween, IsInRange, IsNode, tree_of}
+use Rattle.tw_rbnode.specs.Page.{TreePage, IsBetween, IsNode, tree_of}
 use Rattle.tw_rbnode.specs.Answers.{more_children, more_entries}
 use Rattle.tw_rbnode.proofs.Rising.{Each-with, Rising-with}
 use Rattle.tw_rbnode.proofs.RedBlack.{size_insert, insert_lawful}
@@ -36,7 +37,7 @@ abbrev pub page_of : ℕ → (ℕ → Option Link) → ℕ → List Entry → Li
 page_of level f top entries children = record { level = level; shape = tree_of 25 f top; entries = entries; children = children }
 
 pub whole_node : (f : ℕ → Option Link) (t : Shape) (top level : ℕ) (entries : List Entry) (children : List Child) → IsTree f 0 t top → size t ≡ length entries →
-    length children ≡ length entries + 1 → 0 < length entries → length entries ≤ 24 → IsRedBlack t → level ≤ 10 → IsRising entries → Each IsInRange entries →
+    length children ≡ length entries + 1 → 0 < length entries → length entries ≤ 24 → IsRedBlack t → level ≤ 10 → IsRising entries → Each IsEntryInRange entries →
     IsTree f 0 (tree_of 25 f top) top × IsNode (page_of level f top entries children)
 whole_node f t top level entries children tree sized places some most law low rising ranges =
     let same : tree_of 25 f top ≡ t = tree_of_tree f t top tree (omega arith) in
@@ -80,13 +81,13 @@ with_size_children cs new place h = omega (arith, length-append (take place cs +
 pub more_rising : (kept es all : List Entry) (place : ℕ) (e : Entry) → kept ≡ es → all ≡ more_entries es place e → IsRising kept → IsBetween es place (key_of e) → IsRising all
 more_rising kept es all place e same is rising between = subst IsRising (sym is) (Rising-with es place e (subst IsRising same rising) between.above between.below)
 
-pub more_ranges : (kept es all : List Entry) (place : ℕ) (e : Entry) → kept ≡ es → all ≡ more_entries es place e → Each IsInRange kept → IsInRange e → Each IsInRange all
+pub more_ranges : (kept es all : List Entry) (place : ℕ) (e : Entry) → kept ≡ es → all ≡ more_entries es place e → Each IsEntryInRange kept → IsEntryInRange e → Each IsEntryInRange all
 more_ranges kept es all place e same is ranges range =
-    subst (Each IsInRange) (sym is) (Each-with IsInRange es place (e ∷ []) (subst (Each IsInRange) same ranges) (range, tt))
+    subst (Each IsEntryInRange) (sym is) (Each-with IsEntryInRange es place (e ∷ []) (subst (Each IsEntryInRange) same ranges) (range, tt))
 
 -- the page with one more entry
 pub one_more : (f g : ℕ → Option Link) (top new_top level : ℕ) (entries more : List Entry) (children sides : List Child) (place : ℕ) (entry : Entry) (left right : Child) →
-    IsNode (page_of level f top entries children) → IsInRange entry → IsBetween entries place (key_of entry) → length entries < 24 →
+    IsNode (page_of level f top entries children) → IsEntryInRange entry → IsBetween entries place (key_of entry) → length entries < 24 →
     IsTree g 0 (insert place (tree_of 25 f top)) new_top →
     more ≡ more_entries entries place entry → sides ≡ more_children children place left right →
     IsTree g 0 (tree_of 25 g new_top) new_top × IsNode (page_of level g new_top more sides)
@@ -101,7 +102,7 @@ one_more f g top new_top level entries more children sides place entry left righ
     whole_node g (insert place (tree_of 25 f top)) new_top level more sides tree (omega (arith, size_insert place (tree_of 25 f top))) (omega arith) (omega arith) (omega arith)
     (insert_lawful place (tree_of 25 f top) node.lawful) node.level
     (subst IsRising (sym em) (Rising-with entries place entry node.rising stands.above stands.below))
-    (subst (Each IsInRange) (sym em) (Each-with IsInRange entries place (entry ∷ []) node.ranges (range, tt)))
+    (subst (Each IsEntryInRange) (sym em) (Each-with IsEntryInRange entries place (entry ∷ []) node.ranges (range, tt)))
 
 pub rest_taken : {X : Type 0} (xs : List X) (n : ℕ) → take (length xs - n) (drop n xs) ≡ drop n xs
 rest_taken xs n = take_all (length xs - n) (drop n xs) (omega (arith, length-drop n xs))

@@ -1,12 +1,9 @@
 -- Lists with an entry more, and entries that rise.
-use Rattle.std.proofs.Common.{◌≡◌, ℕ, suc, zero, ◌<◌, ◌≤◌, List, [], ◌∷◌, ◌++◌, take, drop, length, get_or, Some, arith, slice_get, true, refl, subst, sym, ap}
+use Rattle.std.proofs.Common.{◌≡◌, ℕ, suc, zero, ◌<◌, ◌≤◌, List, [], ◌∷◌, ◌++◌, take, drop, length, get_or, Some, arith, slice_get, refl, subst, sym, ap}
 use Rattle.std.proofs.lemmas.Option.{none-some, same_Some}
 use Rattle.tw_base.specs.declared.thread.Entry.{Entry}
 use Rattle.tw_base.specs.declared.thread.Key.{Key}
-use Rattle.std.specs.Ordering.{is_lt}
-use Rattle.std.specs.declared.cmp.Ordering.{Ordering}
-use Rattle.std.specs.declared.cmp.Ordering.TheVariants.{Less, Equal, Greater}
-use Rattle.tw_base.specs.Entries.{KeyBelow, key_cmp, key_of}
+use Rattle.tw_base.specs.Entries.{KeyBelow, key_of}
 use Rattle.tw_base.specs.Lists.{Each}
 use Rattle.tw_base.specs.Tree.{IsRising}
 use Rattle.tw_base.proofs.Keys.{KeyBelow-trans}
@@ -109,11 +106,3 @@ pub rising-next : (es : List Entry) (i : ℕ) (a b : Entry) → IsRising es → 
 rising-next [] i a b h ea eb = absurd (none-some a ea)
 rising-next (x ∷ es) zero a b h ea eb = subst (λ (z : Entry). KeyBelow (key_of z) (key_of b)) (same_Some _ _ ea) (Each-at (λ f. KeyBelow (key_of x) (key_of f)) es 0 b h.0 eb)
 rising-next (x ∷ es) (suc i) a b h ea eb = rising-next es i a b h.1 ea eb
-
-pub lt-below : (a b : Key) → is_lt (key_cmp a b) ≡ true → KeyBelow a b
-lt-below a b sure = by (key_cmp a b) refl sure
-  where
-    by : (o : Ordering) → key_cmp a b ≡ o → is_lt o ≡ true → key_cmp a b ≡ Less
-    by Less is test = is
-    by Equal is test = cc
-    by Greater is test = cc

@@ -1,9 +1,8 @@
 -- The bytes of a tree page.
 use Rattle.std.specs.Prelude.{ℕ, suc, zero, ◌+◌, ◌-◌, ◌==◌, ◌^◌, ◌<◌, List, [], ◌∷◌, ◌++◌, length, Bool, if◌then◌else◌}
-use Rattle.tw_base.specs.declared.limits.TheConstants.{LAST_STEP}
 use Rattle.tw_base.specs.declared.thread.Entry.{Entry}
 use Rattle.tw_base.specs.Codecs.{Codec, behind, by_kind, digest_codec, many, nothing, number_codec, pair, seen}
-use Rattle.tw_base.specs.HistoryCodec.{thread_codec}
+use Rattle.tw_base.specs.EntryCodec.{entry_codec}
 use Rattle.tw_base.specs.Lists.{Each}
 use Rattle.tw_rbnode.specs.declared.child.Child.{Child}
 use Rattle.tw_rbnode.specs.declared.limits.TheConstants.{MOST_KEYS, TOP_LEVEL}
@@ -17,12 +16,6 @@ use Rattle.tw_rbnode.specs.Slots.{link, slot_of}
 -- the colour of a node: 1 is red, 0 is black
 unfoldable pub colour_codec : Codec Bool
 colour_codec = by_kind (λ red. if red then 1 else 0) (number_codec 1 0 1) (λ n. nothing (n == 1))
-
--- an entry, 64 bytes: a thread of a step from 1 on, and the step from 1 on that archived it
-unfoldable pub entry_codec : Codec Entry
-entry_codec =
-    seen (λ t. record { thread = t.0; archived = t.1 }) (λ e. (e.thread, e.archived))
-    (pair thread_codec (λ thread. number_codec 8 1 LAST_STEP))
 
 -- a slot, 67 bytes: its colour, its left slot, its right slot and its entry
 unfoldable pub slot_codec : Codec Slot

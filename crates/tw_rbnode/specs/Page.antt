@@ -2,10 +2,10 @@
 use Rattle.std.specs.Prelude.{◌≡◌, ℕ, suc, zero, ◌+◌, ◌≤◌, ◌<◌, Bool, cond, List, [], ◌∷◌, length, take, drop, Option, Some, None, refl, nat_eq}
 use Rattle.std.specs.Coded.{Coded, code_by, coded_list, coded_option, coded_bool}
 use Rattle.std.proofs.Common.{ap, ◌∙◌}
-use Rattle.tw_base.specs.declared.limits.TheConstants.{LAST_STEP}
 use Rattle.tw_base.specs.declared.thread.Entry.{Entry}
 use Rattle.tw_base.specs.declared.thread.Key.{Key}
 use Rattle.tw_base.specs.Entries.{KeyBelow, key_of}
+use Rattle.tw_base.specs.Limits.{IsEntryInRange}
 use Rattle.tw_base.specs.Lists.{Each}
 use Rattle.tw_base.specs.Tree.{IsRising}
 use Rattle.tw_rbnode.specs.declared.limits.TheConstants.{MOST_KEYS, TOP_LEVEL}
@@ -55,11 +55,6 @@ tree_of (suc depth) f slot = cond (nat_eq slot 0) Empty (elim (f slot) [ None �
 
 -- ---- what a page is
 
--- the steps of the entry's thread and of its archiving are steps that a service may have, from 1 on
-pub record IsInRange (e : Entry) : Type 0 where
-  pub step : (0 < e.thread.step) × (e.thread.step ≤ LAST_STEP)
-  pub archived : (0 < e.archived) × (e.archived ≤ LAST_STEP)
-
 -- 1 to 24 entries whose keys rise, at the nodes of a red-black tree, and a child at each of its empty places
 pub record IsNode (p : TreePage) : Type 0 where
   pub level : p.level ≤ TOP_LEVEL
@@ -69,7 +64,7 @@ pub record IsNode (p : TreePage) : Type 0 where
   pub places : length p.children ≡ length p.entries + 1
   pub lawful : IsRedBlack p.shape
   pub rising : IsRising p.entries
-  pub ranges : Each IsInRange p.entries
+  pub ranges : Each IsEntryInRange p.entries
 
 -- the key lies above those of the entries before the place, and below those of the entries behind it
 pub record IsBetween (es : List Entry) (place : ℕ) (key : Key) : Type 0 where

@@ -5,9 +5,10 @@ ghost use Rattle.arrayvec.specs.ArrayVec.{array_vec_len};
 ghost use Rattle.tw_base.specs.Entries.{key_of};
 ghost use Rattle.tw_base.specs.Lists.{Each};
 ghost use Rattle.tw_base.specs.Tree.{IsRising};
+ghost use Rattle.tw_base.specs.Limits.{IsEntryInRange};
 ghost use Rattle.tw_rbnode.specs.Answers.{IsAdded, more_entries as with_entry, more_children as with_sides};
 ghost use Rattle.tw_rbnode.specs.Children.{AddedHasChildren, HasChildren, IsChildAt};
-ghost use Rattle.tw_rbnode.specs.Page.{IsBetween, IsInRange, IsNode};
+ghost use Rattle.tw_rbnode.specs.Page.{IsBetween, IsNode};
 ghost use Rattle.tw_rbnode.specs.declared.limits.TheConstants.{TOP_LEVEL};
 
 use crate::child::Child;
@@ -147,7 +148,7 @@ fn balanced(level: u8, entries: &[Kept], children: &[Child]) -> RbNode
     requires count { length entries.now ≡ 12 }
     requires places { length children.now ≡ 13 }
     requires rising { IsRising entries.now }
-    requires ranges { Each IsInRange entries.now }
+    requires ranges { Each IsEntryInRange entries.now }
     ensures level { result.level ≡ level }
     ensures entries { result.entries ≡ entries.now }
     ensures children { result.children ≡ children.now }
@@ -168,7 +169,7 @@ fn balanced(level: u8, entries: &[Kept], children: &[Child]) -> RbNode
 /// The page of this one key, at a level from 0 to 10. Both children are the empty tree at level 0, and pages at every other level.
 pub fn single<H: Hasher>(level: u8, entry: Entry, left: Child, right: Child) -> RbNode
     requires level { level ≤ TOP_LEVEL }
-    requires range { IsInRange entry }
+    requires range { IsEntryInRange entry }
     requires left { IsChildAt H.dig level left }
     requires right { IsChildAt H.dig level right }
     ensures level { result.level ≡ level }
@@ -227,7 +228,7 @@ pub fn put_child(node: &RbNode, place: u8, child: Child) -> RbNode
 /// the place; the two children stand there in place of one. Where the page is full, it becomes two pages and the entry between
 /// them. Both children are the empty tree at level 0, and pages at every other level.
 pub fn add<H: Hasher>(node: &RbNode, place: u8, entry: Entry, left: Child, right: Child) -> Added
-    requires range { IsInRange entry }
+    requires range { IsEntryInRange entry }
     requires between { IsBetween node.now.entries place (key_of entry) }
     requires left { IsChildAt H.dig node.now.level left }
     requires right { IsChildAt H.dig node.now.level right }
@@ -246,7 +247,7 @@ pub fn add<H: Hasher>(node: &RbNode, place: u8, entry: Entry, left: Child, right
 
 /// The page with one more entry, where it isn't full.
 fn with_one_more(node: &RbNode, place: u8, entry: Entry, left: Child, right: Child) -> RbNode
-    requires range { IsInRange entry }
+    requires range { IsEntryInRange entry }
     requires between { IsBetween node.now.entries place (key_of entry) }
     requires room { length node.now.entries < 24 }
     ensures level { result.level ≡ node.now.level }
@@ -268,7 +269,7 @@ fn with_one_more(node: &RbNode, place: u8, entry: Entry, left: Child, right: Chi
 
 /// The two pages and the entry between them, where the page is full.
 fn split(node: &RbNode, place: u8, entry: Entry, left: Child, right: Child) -> Added
-    requires range { IsInRange entry }
+    requires range { IsEntryInRange entry }
     requires between { IsBetween node.now.entries place (key_of entry) }
     requires full { length node.now.entries ≡ 24 }
     ensures { IsAdded node.now place entry left right result }

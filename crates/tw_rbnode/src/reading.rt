@@ -1,18 +1,17 @@
 // Reading a page.
-#![tactic(auto, unfolding(crate::specs::NodeBytes::child_codec, crate::specs::NodeBytes::colour_codec, crate::specs::NodeBytes::entry_codec, crate::specs::NodeBytes::node_codec, crate::specs::NodeBytes::slot_codec, tw_base::specs::Codecs::behind, tw_base::specs::Codecs::by_kind, tw_base::specs::Codecs::nothing, tw_base::specs::Codecs::pair, tw_base::specs::Codecs::seen, tw_base::specs::HistoryCodec::thread_codec))]
+#![tactic(auto, unfolding(crate::specs::NodeBytes::child_codec, crate::specs::NodeBytes::colour_codec, crate::specs::NodeBytes::node_codec, crate::specs::NodeBytes::slot_codec, tw_base::specs::Codecs::behind, tw_base::specs::Codecs::by_kind, tw_base::specs::Codecs::nothing, tw_base::specs::Codecs::pair, tw_base::specs::Codecs::seen, tw_base::specs::HistoryCodec::thread_codec))]
 
 ghost use Rattle.std.specs.Prelude.{◌≡◌, ◌≢◌, ◌↔◌, ◌+◌, ◌≤◌, ◌<◌, ℕ, suc, length, map, false, IfErr, IsTrue, MatchOption, slice_get, Some};
-ghost use Rattle.std.specs.Ordering.{is_lt};
-ghost use Rattle.tw_base.specs.Entries.{key_cmp, key_of};
 ghost use Rattle.tw_base.specs.Lists.{Each};
 ghost use Rattle.tw_base.specs.Codecs.{many};
 ghost use Rattle.tw_base.specs.Taking.{Takes};
 ghost use Rattle.tw_base.specs.Texts.{empty_tree_text};
 ghost use Rattle.tw_base.specs.Tree.{IsRising};
-ghost use Rattle.tw_disk.specs.PageBytes.{IsPageOf};
+ghost use Rattle.tw_base.specs.PageBytes.{IsPageOf};
+ghost use Rattle.tw_base.specs.Limits.{IsEntryInRange};
 ghost use Rattle.tw_rbnode.specs.Children.{IsChildAt};
-ghost use Rattle.tw_rbnode.specs.NodeBytes.{LiesBelow, MayStand, child_codec, colour_codec, counted_codec, entry_codec, fields_of, held_codec, held_of, node_codec, slot_codec};
-ghost use Rattle.tw_rbnode.specs.Page.{IsInRange, IsNode, TreePage};
+ghost use Rattle.tw_rbnode.specs.NodeBytes.{LiesBelow, MayStand, child_codec, colour_codec, counted_codec, fields_of, held_codec, held_of, node_codec, slot_codec};
+ghost use Rattle.tw_rbnode.specs.Page.{IsNode, TreePage};
 ghost use Rattle.tw_rbnode.specs.declared.limits.TheConstants.{MOST_KEYS, TOP_LEVEL};
 
 use crate::child::Child;
@@ -22,12 +21,10 @@ use crate::links::{BLANK, Link, height_in, link_at, put};
 use crate::node::RbNode;
 use crate::slot::Slot;
 use arrayvec::ArrayVec;
-use tw_base::limits::LAST_STEP;
 use tw_base::{
-    Digest, Entry, Hasher, ReadFault, Thread, compare_keys, empty_tree, entry_key, is_same_digest,
-    take_digest, take_name, take_number, take_text,
+    Digest, Hasher, Page, ReadFault, empty_tree, entry_key, is_below, is_same_digest, page_to,
+    take_digest, take_entry, take_number, take_text,
 };
-use tw_disk::{Page, page_to};
 
 /// The root slot, the slots and the children of a page.
 #[derive(Drop)]
@@ -42,20 +39,6 @@ struct Held {
 struct PageFields {
     level: u8,
     held: Held,
-}
-
-/// Takes an entry.
-fn take_entry(bytes: &[u8], at: &mut u64) -> Result<Entry, ReadFault>
-    requires { at.old ≤ length bytes.now }
-    ensures takes { Takes entry_codec (λ e. e) bytes.now at.old at.new result }
-    ensures memory { IfErr result (λ fault. fault ≢ ReadFault.NoMemory) }
-{
-    let from = take_name(bytes, at)?;
-    let step = take_number(bytes, at, 8, 1, LAST_STEP)?;
-    let auth = take_digest(bytes, at)?;
-    let archived = take_number(bytes, at, 8, 1, LAST_STEP)?;
-    let thread = Thread { from, step, auth };
-    Ok(Entry { thread, archived })
 }
 
 /// Takes the colour of a node: whether it is red.
@@ -198,14 +181,6 @@ fn are_children<H: Hasher>(level: u8, page: u64, children: &[Child]) -> bool
     true
 }
 
-/// Whether the key of one entry lies below that of another.
-#[tactic(auto)]
-fn is_below(one: &Entry, other: &Entry) -> bool
-    ensures { result ≡ is_lt (key_cmp (key_of one.now) (key_of other.now)) }
-{
-    compare_keys(&entry_key(one), &entry_key(other)).is_lt()
-}
-
 /// Whether the keys rise.
 #[tactic(auto)]
 fn are_rising(entries: &[Kept]) -> bool
@@ -215,7 +190,7 @@ fn are_rising(entries: &[Kept]) -> bool
     for index in 1..entries.len() {
         let before = entry_of(entries, index - 1);
         let own = entry_of(entries, index);
-        if !is_below(&before, &own) {
+        if !is_below(&entry_key(&before), &entry_key(&own)) {
             return false;
         }
     }
@@ -257,7 +232,7 @@ fn node_of(level: u8, held: Held) -> Option<RbNode>
     requires few { length held.slots.items ≤ MOST_KEYS }
     requires top { held.top ≤ length held.slots.items }
     requires places { length held.children.items ≡ length held.slots.items + 1 }
-    requires ranges { Each (λ s. IsInRange s.entry) held.slots.items }
+    requires ranges { Each (λ s. IsEntryInRange s.entry) held.slots.items }
     ensures { MatchOption result ((p : TreePage) → IsNode p → held_of p ≡ (held.top, (held.slots.items, held.children.items)) → ⊥)
         (λ n. IsNode n × (n.level ≡ level) × (held_of n ≡ (held.top, (held.slots.items, held.children.items)))) }
 {

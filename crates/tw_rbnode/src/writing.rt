@@ -1,13 +1,14 @@
 // Writing a page.
-#![tactic(auto, unfolding(crate::specs::NodeBytes::child_codec, crate::specs::NodeBytes::colour_codec, crate::specs::NodeBytes::entry_codec, crate::specs::NodeBytes::node_codec, crate::specs::NodeBytes::slot_codec, tw_base::specs::Codecs::behind, tw_base::specs::Codecs::by_kind, tw_base::specs::Codecs::bytes_codec, tw_base::specs::Codecs::many, tw_base::specs::Codecs::name_codec, tw_base::specs::Codecs::nothing, tw_base::specs::Codecs::number_codec, tw_base::specs::Codecs::pair, tw_base::specs::Codecs::seen, tw_base::specs::HistoryCodec::thread_codec))]
+#![tactic(auto, unfolding(crate::specs::NodeBytes::child_codec, crate::specs::NodeBytes::colour_codec, crate::specs::NodeBytes::node_codec, crate::specs::NodeBytes::slot_codec, tw_base::specs::Codecs::behind, tw_base::specs::Codecs::by_kind, tw_base::specs::Codecs::bytes_codec, tw_base::specs::Codecs::many, tw_base::specs::Codecs::name_codec, tw_base::specs::Codecs::nothing, tw_base::specs::Codecs::number_codec, tw_base::specs::Codecs::pair, tw_base::specs::Codecs::seen, tw_base::specs::EntryCodec::entry_codec, tw_base::specs::HistoryCodec::thread_codec))]
 
 ghost use Rattle.std.specs.Prelude.{◌≡◌, ◌+◌, ◌*◌, ◌≤◌, ◌<◌, ◌++◌, ◌∷◌, [], length, drop, flat_map, take};
 ghost use Rattle.tw_base.specs.Bytes.{AreBytes};
 ghost use Rattle.tw_base.specs.Codecs.{HasBytes};
 ghost use Rattle.tw_base.specs.Lists.{Each};
-ghost use Rattle.tw_disk.specs.PageBytes.{IsPageOf};
-ghost use Rattle.tw_rbnode.specs.NodeBytes.{child_codec, entry_codec, fields_of, links_of, node_codec, slot_codec, slots_with};
-ghost use Rattle.tw_rbnode.specs.Page.{IsInRange};
+ghost use Rattle.tw_base.specs.PageBytes.{IsPageOf};
+ghost use Rattle.tw_base.specs.EntryCodec.{entry_codec};
+ghost use Rattle.tw_base.specs.Limits.{IsEntryInRange};
+ghost use Rattle.tw_rbnode.specs.NodeBytes.{child_codec, fields_of, links_of, node_codec, slot_codec, slots_with};
 
 use crate::child::Child;
 use crate::kept::Kept;
@@ -15,8 +16,7 @@ use crate::links::{Link, link_at};
 use crate::node::RbNode;
 use crate::slot::Slot;
 use arrayvec::ArrayVec;
-use tw_base::{Digest, Entry};
-use tw_disk::{Page, PageFront};
+use tw_base::{Digest, Entry, Page, PageFront};
 
 /// Tells that bytes are bytes.
 #[tactic(auto)]
@@ -41,7 +41,7 @@ fn put_digest(page: &mut PageFront, digest: &Digest)
 /// Puts an entry, 64 bytes.
 fn put_entry(page: &mut PageFront, entry: &Entry)
     requires room { length page.old + 64 ≤ 4096 }
-    requires range { IsInRange entry.now }
+    requires range { IsEntryInRange entry.now }
     ensures bytes { page.new ≡ page.old ++ entry_codec.write entry.now }
     ensures fits { entry_codec.Fits entry.now }
     ensures size { length page.new ≡ length page.old + 64 }
@@ -56,7 +56,7 @@ fn put_entry(page: &mut PageFront, entry: &Entry)
 #[tactic(auto, unfolding(crate::specs::NodeBytes::colour_codec, crate::specs::NodeBytes::slot_codec, tw_base::specs::Codecs::by_kind, tw_base::specs::Codecs::nothing, tw_base::specs::Codecs::number_codec, tw_base::specs::Codecs::pair, tw_base::specs::Codecs::seen))]
 fn put_slot(page: &mut PageFront, slot: &Slot)
     requires room { length page.old + 67 ≤ 4096 }
-    requires range { IsInRange slot.now.entry }
+    requires range { IsEntryInRange slot.now.entry }
     ensures bytes { page.new ≡ page.old ++ slot_codec.write slot.now }
     ensures fits { slot_codec.Fits slot.now }
     ensures size { length page.new ≡ length page.old + 67 }
@@ -71,7 +71,7 @@ fn put_slot(page: &mut PageFront, slot: &Slot)
 #[tactic(auto)]
 fn put_slots(page: &mut PageFront, slots: &[Slot])
     requires room { length page.old + 67 * length slots.now ≤ 4096 }
-    requires ranges { Each (λ s. IsInRange s.entry) slots.now }
+    requires ranges { Each (λ s. IsEntryInRange s.entry) slots.now }
     ensures bytes { page.new ≡ page.old ++ flat_map slot_codec.write slots.now }
     ensures fits { Each slot_codec.Fits slots.now }
     ensures size { length page.new ≡ length page.old + 67 * length slots.now }
@@ -109,7 +109,7 @@ fn put_children(page: &mut PageFront, children: &[Child])
 fn slots_of(node: &RbNode) -> ArrayVec<Slot, 24>
     ensures slots { result.items ≡ slots_with (links_of 0 node.now.shape) node.now.entries }
     ensures count { length result.items ≡ length node.now.entries }
-    ensures ranges { Each (λ s. IsInRange s.entry) result.items }
+    ensures ranges { Each (λ s. IsEntryInRange s.entry) result.items }
 {
     slots_in(&node.links, node.entries.as_slice())
 }

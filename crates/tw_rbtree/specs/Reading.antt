@@ -7,7 +7,7 @@ use Rattle.tw_disk.specs.declared.limits.TheConstants.{FIRST_PAGE}
 use Rattle.tw_disk.specs.Found.{Found, when}
 use Rattle.tw_disk.specs.Found.Found.{Is, Bad}
 use Rattle.tw_disk.specs.Image.{Image, page_at}
-use Rattle.tw_disk.specs.PageBytes.{IsPageOf}
+use Rattle.tw_base.specs.PageBytes.{IsPageOf}
 use Rattle.tw_rbnode.specs.NodeBytes.{MayStand, fields_of, node_codec}
 use Rattle.tw_rbnode.specs.Page.{TreePage}
 use Rattle.tw_rbtree.specs.declared.limits.TheConstants.{LEAST_KEYS}

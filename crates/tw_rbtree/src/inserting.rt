@@ -6,7 +6,7 @@ ghost use Rattle.tw_base.specs.Asking.{with_entry};
 ghost use Rattle.tw_base.specs.Entries.{key_of};
 ghost use Rattle.tw_base.specs.Tree.{Tree, entries};
 ghost use Rattle.tw_disk.specs.Image.{Image};
-ghost use Rattle.tw_rbnode.specs.Page.{IsInRange};
+ghost use Rattle.tw_base.specs.Limits.{IsEntryInRange};
 ghost use Rattle.tw_rbtree.specs.Answers.{AnswersInsert, FaultsRise, NeverUntrue, NotDiskFault};
 ghost use Rattle.tw_rbtree.specs.Reading.{IsReading, Reading};
 ghost use Rattle.tw_rbtree.specs.Standing.{StandsFor};
@@ -30,7 +30,7 @@ pub fn insert<P: Pages, H: Hasher>(
     entry: Entry,
 ) -> Result<Root, TreeFault>
     requires used { P.used_count pages.old < 2 ^ 47 }
-    requires range { IsInRange entry }
+    requires range { IsEntryInRange entry }
     // Over told pages the answer is what is found in them, whatever they keep, a disk fault and want of memory excepted: there is
     // a new root where the way down ends at an empty place, `Present` where it meets the key, and `BadPage` with the first page
     // met that doesn't fit the way, or with the root's page where all pages of eleven levels are full.

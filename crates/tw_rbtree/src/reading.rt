@@ -5,11 +5,11 @@ ghost use Rattle.tw_disk.specs.Image.{Image};
 ghost use Rattle.tw_disk.specs.Pages.{OnlyReads};
 ghost use Rattle.tw_rbnode.specs.Page.{TreePage};
 ghost use Rattle.tw_rbtree.specs.Answers.{NotFaultOnWay, WalkAnswersAs, WalkFaultsRise};
-ghost use Rattle.tw_rbtree.specs.Reading.{IsReading, Reading, child_in, fits as fits_there, is_above, is_below, lie_between, passing, root_in};
+ghost use Rattle.tw_rbtree.specs.Reading.{IsReading, Reading, child_in, fits as fits_there, is_above as is_above_of, is_below as is_below_of, lie_between, passing, root_in};
 
 use crate::fault::WalkFault;
 use crate::limits::LEAST_KEYS;
-use tw_base::{Entry, Hasher, compare_keys, entry_key};
+use tw_base::{Entry, Hasher, entry_key, is_below};
 use tw_disk::limits::FIRST_PAGE;
 use tw_disk::Pages;
 use tw_rbnode::{RbNode, entry_at, keys, level, read_node};
@@ -35,27 +35,27 @@ pub(crate) fn read_root<P: Pages, H: Hasher>(pages: &mut P, page: u64) -> Result
 
 /// Whether the entry lies above this one.
 fn lies_above(low: &Option<Entry>, entry: &Entry) -> bool
-    ensures { result ≡ is_above low.now entry.now }
+    ensures { result ≡ is_above_of low.now entry.now }
 {
     match low {
         None => true,
-        Some(low) => compare_keys(&entry_key(low), &entry_key(entry)).is_lt(),
+        Some(low) => is_below(&entry_key(low), &entry_key(entry)),
     }
 }
 
 /// Whether the entry lies below this one.
 fn lies_below(high: &Option<Entry>, entry: &Entry) -> bool
-    ensures { result ≡ is_below high.now entry.now }
+    ensures { result ≡ is_below_of high.now entry.now }
 {
     match high {
         None => true,
-        Some(high) => compare_keys(&entry_key(entry), &entry_key(high)).is_lt(),
+        Some(high) => is_below(&entry_key(entry), &entry_key(high)),
     }
 }
 
 /// Whether the entry lies between these two.
 fn is_between(low: &Option<Entry>, high: &Option<Entry>, entry: &Entry) -> bool
-    ensures { result ≡ (is_above low.now entry.now && is_below high.now entry.now) }
+    ensures { result ≡ (is_above_of low.now entry.now && is_below_of high.now entry.now) }
 {
     lies_above(low, entry) && lies_below(high, entry)
 }

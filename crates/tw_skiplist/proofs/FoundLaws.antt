@@ -9,7 +9,7 @@ use Rattle.tw_base.specs.Formats.{Placed}
 use Rattle.tw_base.proofs.CodecLaws.{Lawful}
 use Rattle.tw_base.proofs.FormatLaws.{read_at-spells, read_at-word}
 use Rattle.tw_disk.specs.Image.{Image, page_at}
-use Rattle.tw_disk.specs.PageBytes.{IsPageOf}
+use Rattle.tw_base.specs.PageBytes.{IsPageOf}
 use Rattle.tw_skiplist.specs.declared.fault.ListFault.{ListFault}
 use Rattle.tw_skiplist.specs.declared.fault.ListFault.TheVariants.{BadPage}
 use Rattle.tw_skiplist.specs.declared.head.Head.{Head}

@@ -11,7 +11,7 @@ use Rattle.tw_base.specs.Lists.{Each}
 use Rattle.tw_base.proofs.ByteLemmas.{AreBytes-append, AreBytes-drop, AreBytes-take}
 use Rattle.tw_base.proofs.CodecLaws.{Lawful, lawful}
 use Rattle.tw_disk.specs.Image.{Image, page_at}
-use Rattle.tw_disk.specs.PageBytes.{IsPageOf}
+use Rattle.tw_base.specs.PageBytes.{IsPageOf}
 use Rattle.tw_skiplist.specs.declared.info.StepInfo.{StepInfo}
 use Rattle.tw_skiplist.specs.declared.limits.TheConstants.{MOST_PIECE_BYTES, MOST_STREAM_BYTES}
 use Rattle.tw_skiplist.specs.Events.{events_in, events_of_info, last_page, piece_count, piece_in, piece_size, pieces_below}

@@ -3,7 +3,7 @@ use Rattle.std.specs.Prelude.{ℕ, suc, zero, ◌-◌, ◌*◌, ◌^◌, List, [
 use Rattle.std.specs.Int.{to_be_bytes, w16, w32, w64}
 use Rattle.tw_base.specs.Codecs.{Codec, behind, bytes_codec, digest_codec, many, number_codec, pair, seen}
 use Rattle.tw_base.specs.Levels.{top_level}
-use Rattle.tw_disk.specs.PageBytes.{padded}
+use Rattle.tw_base.specs.PageBytes.{padded}
 use Rattle.tw_skiplist.specs.declared.head.StepRef.{StepRef}
 use Rattle.tw_skiplist.specs.declared.fields.StepFields.{StepFields}
 use Rattle.tw_skiplist.specs.declared.limits.TheConstants.{MOST_PIECE_BYTES, MOST_STREAM_BYTES}

@@ -14,8 +14,10 @@ use crate::fields::{StepFields, StreamRef};
 use crate::head::StepRef;
 use crate::limits::{MOST_LINKS, MOST_PIECE_BYTES, MOST_STREAM_BYTES};
 use arrayvec::ArrayVec;
-use tw_base::{ReadFault, Root, power_of_two, take_digest, take_number, take_text, top_level};
-use tw_disk::{Page, PageFront, page_to};
+use tw_base::{
+    Page, PageFront, ReadFault, Root, page_to, power_of_two, take_digest, take_number, take_text,
+    top_level,
+};
 
 // ---- writing
 

@@ -80,7 +80,7 @@ link-lawful step = search lawful depth 20
 
 pub path-lawful : (from to : ℕ) → Lawful (path_codec from to)
 unfolding path_codec link_bytes link_codec seen pair labels_codec many bytes_codec
-path-lawful from to = lawful-each link_bytes link_codec link-lawful (λ step l. refl) (greedy_steps from to)
+path-lawful from to = lawful-each link_bytes link_codec link-lawful (λ step l fits. refl) (greedy_steps from to)
 
 pub event-lawful : (count : ℕ) → count ≤ MOST_EVENTS → Lawful (event_codec count)
 unfolding event_codec

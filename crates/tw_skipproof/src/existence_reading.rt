@@ -30,7 +30,7 @@ pub(crate) const MAGIC: [u8; 5] = [
 ];
 
 /// Takes the event under an opening with this count of events.
-pub(crate) fn take_event(
+pub fn take_event(
     alloc: Global,
     bytes: &[u8],
     at: &mut u64,
@@ -39,6 +39,8 @@ pub(crate) fn take_event(
     requires within { at.old ≤ length bytes.now }
     requires some { 1 ≤ count }
     requires few { count ≤ MOST_EVENTS }
+    // An event under an opening is taken at a place exactly as its codec reads it; else the place of the first bad byte is
+    // told.
     ensures { Takes (event_codec count) (λ e. e) bytes.now at.old at.new result }
 {
     let index = take_number(bytes, at, 4, 0, count as u64 - 1)? as u32;

@@ -17,13 +17,17 @@ mod writing;
 
 pub use climbing::climb;
 pub use existence::{ExistenceProof, Part};
-pub use existence_reading::{PROOF_MAGIC, read_existence, take_existence_body, take_part};
+pub use existence_reading::{
+    PROOF_MAGIC, read_existence, take_event, take_existence_body, take_part,
+};
 pub use hop::next_hop;
 pub use laws::{making_laws, spelling_laws};
 pub use least::{LEAST_AUTHENTICATOR, LEAST_EXISTENCE};
 pub use opening::{Opening, check_opening};
 pub use path::{Link, LinkList, Path};
 pub use piece_reading::read_existence_pieces;
-pub use reading::{read_opening, read_path, take_path};
+pub use reading::{read_opening, read_path, take_opening, take_path};
 pub use so_far::{ExistenceSoFar, Middle};
-pub use writing::{put_part, put_path, write_existence, write_opening, write_path};
+pub use writing::{
+    put_event, put_opening, put_part, put_path, write_existence, write_opening, write_path,
+};

@@ -1,7 +1,7 @@
 // Reading existence proofs that come in pieces.
 #![tactic(auto, unfolding(crate::specs::Pieces::head_codec, crate::specs::Pieces::tail_codec, tw_base::specs::Codecs::behind, tw_base::specs::Codecs::pair))]
 
-ghost use Rattle.std.specs.Prelude.{◌≡◌, ◌<◌, ◌≤◌, [], ◌∷◌, ◌++◌, ◌^◌, length, IfOk, Ok};
+ghost use Rattle.std.specs.Prelude.{◌≡◌, ◌<◌, ◌≤◌, [], ◌∷◌, ◌++◌, length, IfOk, Ok};
 ghost use Rattle.tw_base.specs.declared.limits.TheConstants.{LAST_STEP};
 ghost use Rattle.tw_base.specs.Formats.{ReadsAs};
 ghost use Rattle.tw_base.specs.Resuming.{Attempts, all_of};
@@ -238,7 +238,6 @@ impl Segments for ExistenceSoFar {
 /// all their bytes, wherever they are cut. A segment's bytes are held until it ends, and no others.
 #[tactic(auto)]
 pub fn read_existence_pieces(alloc: Global, pieces: &[&[u8]]) -> Result<ExistenceProof, ReadFault>
-    requires { length (all_of pieces.now) < 2 ^ 64 }
     // An existence proof that comes in pieces is read as all its bytes at once would be, wherever they are cut.
     ensures { ReadsAs (λ p. p) existence_layout (all_of pieces.now) result }
 {

@@ -54,7 +54,7 @@ pub(crate) fn take_count(
 }
 
 /// Takes an opening of the step with a count of events of at least `least`.
-pub(crate) fn take_opening(
+pub fn take_opening(
     alloc: Global,
     bytes: &[u8],
     at: &mut u64,
@@ -64,6 +64,7 @@ pub(crate) fn take_opening(
     requires within { at.old ≤ length bytes.now }
     requires least { least ≤ MOST_EVENTS }
     requires step { step ≤ LAST_STEP }
+    // An opening of a step is taken at a place exactly as its codec reads it; else the place of the first bad byte is told.
     ensures takes { Takes (opening_codec least step) (λ o. o) bytes.now at.old at.new result }
     ensures count { IfOk result (λ o. (least ≤ o.count) × (o.count ≤ MOST_EVENTS)) }
 {

@@ -52,8 +52,11 @@ fn put_count(into: &mut Bytes, count: u32, time: Option<u64>) -> Result<(), NoMe
 }
 
 /// Appends the fields of the opening.
-fn put_opening(into: &mut Bytes, opening: &Opening) -> Result<(), NoMemory>
+pub fn put_opening(into: &mut Bytes, opening: &Opening) -> Result<(), NoMemory>
+    // What is put of an opening is its bytes in the format.
     ensures ok { OnOk result (into.new ≡ into.old ++ opening_bytes opening.now) }
+    // They spell it as the opening of each step whose number of labels it has, where its count and its time are in the
+    // format's ranges.
     ensures fits { OnOk result (FitsAsOpening opening.now) }
 {
     put_digest(into, &opening.event_root)?;
@@ -85,9 +88,12 @@ fn put_links(into: &mut Bytes, links: &[Link]) -> Result<(), NoMemory>
 }
 
 /// Appends the fields of the event.
-fn put_event(into: &mut Bytes, event: &EventPart) -> Result<(), NoMemory>
+pub fn put_event(into: &mut Bytes, event: &EventPart) -> Result<(), NoMemory>
     requires { length event.now.event < 2 ^ 32 }
+    // What is put of an event is its bytes in the format.
     ensures ok { OnOk result (into.new ≡ into.old ++ (event_codec 1).write event.now) }
+    // They spell it under each opening whose count of events is above its index, where it has at most 1,024 bytes and its
+    // path has the labels that the count and the index give it.
     ensures fits { OnOk result (FitsAsEvent event.now) }
 {
     put_number(into, event.index as u64, 4)?;

@@ -1,14 +1,17 @@
 -- What the program writes of a verdict.
 use Rattle.std.specs.Prelude.{ℕ, List, [], ◌∷◌, ◌++◌, codes}
+use Rattle.std.specs.List.{flat_map}
 use Rattle.std.specs.Option.{option_map_or}
 use Rattle.tw_base.specs.declared.report.Claim.{Claim}
-use Rattle.tw_base.specs.declared.report.Claim.TheVariants.{Exists, Archived, Absent, Linked}
+use Rattle.tw_base.specs.declared.report.Claim.TheVariants.{Exists, Precedes, Archived, Absent, Linked}
+use Rattle.tw_base.specs.declared.report.Hop.{Hop}
 use Rattle.tw_base.specs.declared.report.Seen.{Seen}
 use Rattle.tw_base.specs.declared.thread.Entry.{Entry}
 use Rattle.tw_base.specs.declared.thread.Key.{Key}
+use Rattle.tw_base.specs.declared.thread.Thread.{Thread}
 use Rattle.tw_base.specs.declared.report.Report.{Report}
 use Rattle.tw_base.specs.declared.report.Reason.{Reason}
-use Rattle.tw_base.specs.declared.report.Reason.TheVariants.{Malformed, BadOrder, NotHeld, BadPath, BadOpening, BadEvent, BadTree, Carried, Unbuilt}
+use Rattle.tw_base.specs.declared.report.Reason.TheVariants.{Malformed, BadOrder, NotHeld, BadPath, BadOpening, BadEvent, BadTree, Carried}
 use Rattle.tw_base.specs.Reasons.{reason_number}
 use Rattle.tw_text.specs.Lines.{line}
 use Rattle.tw_text.specs.declared.field.Field.{Field}
@@ -25,6 +28,18 @@ event_line seen =
 abbrev pub time_line : Seen → List ℕ
 time_line seen = option_map_or (λ time. line (codes "time") (Named seen.place.service ∷ Number seen.place.step ∷ Number time ∷ [])) seen.time []
 
+-- both lines of an event
+abbrev pub event_lines : Seen → List ℕ
+event_lines seen = event_line seen ++ time_line seen
+
+-- the step of a service whose thread another service received, and the step of that one which received it
+abbrev pub hop_line : Hop → List ℕ
+hop_line hop = line (codes "hop") (Named hop.from ∷ Number hop.step ∷ Named hop.by ∷ Number hop.archived ∷ [])
+
+-- a thread that the proof binds to no anchor
+abbrev pub carried_line : Thread → List ℕ
+carried_line t = line (codes "carried") (Named t.from ∷ Number t.step ∷ Hex t.auth ∷ [])
+
 -- a step of a service, the entry's thread, and the step that received it
 abbrev pub thread_line : (service : List ℕ) (step : ℕ) → Entry → List ℕ
 thread_line service step entry =
@@ -40,14 +55,15 @@ link_line service step top auth = line (codes "link") (Named service ∷ Number 
 
 -- the lines of a claim
 abbrev pub claim_text : Claim → List ℕ
-claim_text (Exists seen) = line (codes "accepted exists") [] ++ (event_line seen ++ time_line seen)
+claim_text (Exists seen) = line (codes "accepted exists") [] ++ event_lines seen
+claim_text (Precedes first second) = line (codes "accepted precedes") [] ++ (event_lines first ++ event_lines second)
 claim_text (Archived service step entry) = line (codes "accepted thread") [] ++ thread_line service step entry
 claim_text (Absent service step key) = line (codes "accepted absent") [] ++ absent_line service step key
 claim_text (Linked service step top auth) = line (codes "accepted link") [] ++ link_line service step top auth
 
--- the report of an accepted proof
+-- the report of an accepted proof: its claim, a line for each hop, and one for each carried thread
 abbrev pub report_text : Report → List ℕ
-report_text report = claim_text report.claim
+report_text report = claim_text report.claim ++ (flat_map hop_line report.hops ++ flat_map carried_line report.carried)
 
 -- ---- proofs that are not accepted
 
@@ -61,7 +77,6 @@ reason_name (BadOpening part) = codes "BadOpening"
 reason_name (BadEvent part) = codes "BadEvent"
 reason_name (BadTree part) = codes "BadTree"
 reason_name (Carried count) = codes "Carried"
-reason_name Unbuilt = codes "Unbuilt"
 
 -- what the reason tells besides
 abbrev pub reason_fields : Reason → List Field
@@ -73,7 +88,6 @@ reason_fields (BadOpening part) = Number part ∷ []
 reason_fields (BadEvent part) = Number part ∷ []
 reason_fields (BadTree part) = Number part ∷ []
 reason_fields (Carried count) = Number count ∷ []
-reason_fields Unbuilt = []
 
 -- why a proof is not accepted
 abbrev pub rejected_text : Reason → List ℕ

@@ -3,49 +3,28 @@
 ghost use Rattle.std.specs.Prelude.{◌≡◌, [], ◌∷◌, ◌++◌, OnOk, IfOk};
 ghost use Rattle.tw_text.specs.Lines.{fields_text};
 ghost use Rattle.tw_text.specs.declared.field.Field.TheVariants.{Hex, Named, Number};
-ghost use Rattle.tw_text.specs.Reports.{absent_line, event_line, link_line, reason_fields, report_text, rejected_text, thread_line, time_line};
+ghost use Rattle.std.specs.List.{flat_map};
+ghost use Rattle.tw_text.specs.Reports.{absent_line, carried_line, claim_text, event_line, event_lines, hop_line, link_line, reason_fields, report_text, rejected_text, thread_line, time_line};
 ghost use Rattle.tw_base.specs.Reasons.{reason_number as reason_number_of};
 ghost use Rattle.tw_text.specs.Reports.{reason_name as reason_name_of};
 
 use crate::line::{put_hex, put_name, put_number, put_word};
 use std::alloc::Global;
-use tw_base::{Bytes, Claim, Digest, Entry, Key, Name, NoMemory, Reason, Report, Seen, Thread};
+use tw_base::{
+    Bytes, Claim, Digest, Entry, Hop, HopList, Key, Name, NoMemory, Reason, Report, Seen, Thread,
+    Threads,
+};
 
-/// The report of an accepted proof: what it claims, one line each; behind the line of an event one
-/// of its step's time, where the step has one.
+/// The report of an accepted proof: what it claims, then one line for each hop and one for each
+/// carried thread. Behind the line of an event stands one of its step's time, where the step has one.
 pub fn print_report(alloc: Global, report: &Report) -> Result<Bytes, NoMemory>
     // The report of a claim is exactly the text of the definitions.
     ensures { IfOk result (λ text. text ≡ report_text report.now) }
 {
     let mut text = Bytes::new(alloc);
-    match &report.claim {
-        Claim::Exists(seen) => {
-            text.extend_from_slice(b"accepted exists\n")?;
-            put_event(alloc, &mut text, seen)?;
-            put_time(&mut text, seen)?;
-        }
-        Claim::Archived {
-            service,
-            step,
-            entry,
-        } => {
-            text.extend_from_slice(b"accepted thread\n")?;
-            put_thread(alloc, &mut text, service, *step, entry)?;
-        }
-        Claim::Absent { service, step, key } => {
-            text.extend_from_slice(b"accepted absent\n")?;
-            put_absent(&mut text, service, *step, key)?;
-        }
-        Claim::Linked {
-            service,
-            step,
-            top,
-            auth,
-        } => {
-            text.extend_from_slice(b"accepted link\n")?;
-            put_link(alloc, &mut text, service, *step, *top, auth)?;
-        }
-    }
+    put_claim(alloc, &mut text, &report.claim)?;
+    put_hops(&mut text, &report.hops)?;
+    put_carried(alloc, &mut text, &report.carried)?;
     Ok(text)
 }
 
@@ -62,6 +41,73 @@ pub fn print_rejected(alloc: Global, reason: &Reason) -> Result<Bytes, NoMemory>
     put_reason_fields(&mut text, reason)?;
     text.extend_from_slice(b"\n")?;
     Ok(text)
+}
+
+/// Puts what is claimed at the text's end.
+fn put_claim(alloc: Global, text: &mut Bytes, claim: &Claim) -> Result<(), NoMemory>
+    ensures { OnOk result (text.new ≡ text.old ++ claim_text claim.now) }
+{
+    match claim {
+        Claim::Exists(seen) => {
+            text.extend_from_slice(b"accepted exists\n")?;
+            put_seen(alloc, text, seen)?;
+        }
+        Claim::Precedes { first, second } => {
+            text.extend_from_slice(b"accepted precedes\n")?;
+            put_seen(alloc, text, first)?;
+            put_seen(alloc, text, second)?;
+        }
+        Claim::Archived {
+            service,
+            step,
+            entry,
+        } => {
+            text.extend_from_slice(b"accepted thread\n")?;
+            put_thread(alloc, text, service, *step, entry)?;
+        }
+        Claim::Absent { service, step, key } => {
+            text.extend_from_slice(b"accepted absent\n")?;
+            put_absent(text, service, *step, key)?;
+        }
+        Claim::Linked {
+            service,
+            step,
+            top,
+            auth,
+        } => {
+            text.extend_from_slice(b"accepted link\n")?;
+            put_link(alloc, text, service, *step, *top, auth)?;
+        }
+    }
+    Ok(())
+}
+
+/// Puts the line of each hop at the text's end.
+fn put_hops(text: &mut Bytes, hops: &HopList) -> Result<(), NoMemory>
+    ensures { OnOk result (text.new ≡ text.old ++ flat_map hop_line hops.now) }
+{
+    for hop in hops.as_slice() {
+        put_hop(text, hop)?;
+    }
+    Ok(())
+}
+
+/// Puts the line of each carried thread at the text's end.
+fn put_carried(alloc: Global, text: &mut Bytes, carried: &Threads) -> Result<(), NoMemory>
+    ensures { OnOk result (text.new ≡ text.old ++ flat_map carried_line carried.now) }
+{
+    for thread in carried.as_slice() {
+        put_carried_thread(alloc, text, thread)?;
+    }
+    Ok(())
+}
+
+/// Puts the lines of an event at the text's end.
+fn put_seen(alloc: Global, text: &mut Bytes, seen: &Seen) -> Result<(), NoMemory>
+    ensures { OnOk result (text.new ≡ text.old ++ event_lines seen.now) }
+{
+    put_event(alloc, text, seen)?;
+    put_time(text, seen)
 }
 
 /// Puts the line of an event at the text's end.
@@ -105,6 +151,27 @@ fn put_thread(
     put_number(text, step)?;
     put_thread_fields(alloc, text, &entry.thread)?;
     put_number(text, entry.archived)?;
+    text.extend_from_slice(b"\n")
+}
+
+/// Puts the line of a hop at the text's end.
+fn put_hop(text: &mut Bytes, hop: &Hop) -> Result<(), NoMemory>
+    ensures { OnOk result (text.new ≡ text.old ++ hop_line hop.now) }
+{
+    text.extend_from_slice(b"hop")?;
+    put_name(text, &hop.from)?;
+    put_number(text, hop.step)?;
+    put_name(text, &hop.by)?;
+    put_number(text, hop.archived)?;
+    text.extend_from_slice(b"\n")
+}
+
+/// Puts the line of a carried thread at the text's end.
+fn put_carried_thread(alloc: Global, text: &mut Bytes, thread: &Thread) -> Result<(), NoMemory>
+    ensures { OnOk result (text.new ≡ text.old ++ carried_line thread.now) }
+{
+    text.extend_from_slice(b"carried")?;
+    put_thread_fields(alloc, text, thread)?;
     text.extend_from_slice(b"\n")
 }
 
@@ -160,7 +227,6 @@ fn reason_number(reason: &Reason) -> u64
         Reason::BadEvent { .. } => 6,
         Reason::BadTree { .. } => 7,
         Reason::Carried { .. } => 8,
-        Reason::Unbuilt => 9,
     }
 }
 
@@ -176,7 +242,6 @@ fn reason_name(reason: &Reason) -> &'static str
         Reason::BadEvent { .. } => "BadEvent",
         Reason::BadTree { .. } => "BadTree",
         Reason::Carried { .. } => "Carried",
-        Reason::Unbuilt => "Unbuilt",
     }
 }
 
@@ -195,6 +260,6 @@ fn put_reason_fields(text: &mut Bytes, reason: &Reason) -> Result<(), NoMemory>
         | Reason::BadEvent { part }
         | Reason::BadTree { part } => put_number(text, *part as u64),
         Reason::Carried { count } => put_number(text, *count as u64),
-        Reason::BadOrder | Reason::Unbuilt => Ok(()),
+        Reason::BadOrder => Ok(()),
     }
 }

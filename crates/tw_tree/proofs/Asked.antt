@@ -13,7 +13,7 @@ use Rattle.tw_base.specs.Lists.{Each}
 use Rattle.tw_base.specs.Tree.{IsRising}
 use Rattle.tw_base.proofs.Keys.{KeyBelow-trans}
 use Rattle.tw_base.proofs.ListLemmas.{Each-map, Each-parts}
-use Rattle.tw_tree.proofs.KeyTests.{below-lt, below-other, eq-above, eq-below, lt-above, lt-below}
+use Rattle.tw_base.proofs.KeyTests.{below-lt, below-other, eq-above, eq-below, lt-above, lt-below}
 
 -- a rising list, cut at an entry
 pub record Cut (front : List Entry) (e : Entry) (back : List Entry) : Type 0 where

@@ -12,8 +12,8 @@ use Rattle.tw_base.proofs.Keys.{KeyBelow-trans}
 use Rattle.tw_base.proofs.ListLemmas.{Each-map}
 use Rattle.tw_tree.specs.Inserting.{HasLeaf, with_leaf}
 use Rattle.tw_tree.proofs.Asked.{cut}
-use Rattle.tw_tree.proofs.KeyTests.{NotBelow, below-lt, below-other, eq-above, lt-above, not_below}
-use Rattle.tw_tree.proofs.KeyTests.NotBelow.{One, Over}
+use Rattle.tw_base.proofs.KeyTests.{NotBelow, below-lt, below-other, eq-above, lt-above, not_below}
+use Rattle.tw_base.proofs.KeyTests.NotBelow.{One, Over}
 
 pub some_is : (o : Option Entry) → is_some o ≡ true → (f : Entry) × (o ≡ Some f)
 some_is None test = cc

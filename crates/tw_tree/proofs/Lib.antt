@@ -1,4 +1,3 @@
-pub mod KeyTests
 pub mod Asked
 pub mod Members
 mod Leaves

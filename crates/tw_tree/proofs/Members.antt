@@ -13,7 +13,7 @@ use Rattle.tw_base.specs.Entries.{KeyBelow, key_cmp, key_of}
 use Rattle.tw_base.specs.Lists.{Each, In}
 use Rattle.tw_base.specs.Tree.{IsRising}
 use Rattle.tw_base.proofs.ListLemmas.{Each-in}
-use Rattle.tw_tree.proofs.KeyTests.{eq-above, same_key}
+use Rattle.tw_base.proofs.KeyTests.{eq-above, same_key}
 
 equal-key : (a b : Key) → key_cmp a b ≡ Equal → a ≡ b
 equal-key a b is = by (slice_cmp nat_cmp a.from b.from) refl is

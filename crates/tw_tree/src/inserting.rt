@@ -6,10 +6,10 @@ ghost use Rattle.tw_base.specs.Tree.{IsRising, entries};
 ghost use Rattle.tw_tree.specs.Inserting.{Inserts, with_leaf};
 ghost use Rattle.tw_tree.specs.TreeMeaning.{tree_of};
 
-use crate::searching::{get, is_below};
+use crate::searching::get;
 use crate::tree::Tree;
 use std::alloc::Global;
-use tw_base::{Entry, NoMemory, entry_key};
+use tw_base::{Entry, NoMemory, entry_key, is_below};
 
 /// Why an entry isn't put into a tree.
 #[derive(Clone, Copy, PartialEq, Eq, Debug, Drop)]

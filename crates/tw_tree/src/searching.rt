@@ -1,22 +1,13 @@
 // What a tree has of a key, and next to it.
 
 ghost use Rattle.std.specs.Prelude.{◌≡◌};
-ghost use Rattle.std.specs.Ordering.{is_lt};
 ghost use Rattle.tw_base.specs.Asking.{entry_with, first_above, last_below};
-ghost use Rattle.tw_base.specs.Entries.{key_cmp};
 ghost use Rattle.tw_base.specs.Tree.{IsRising, entries};
 ghost use Rattle.tw_tree.specs.TreeMeaning.{tree_of};
 
 use crate::tree::Tree;
 use std::cmp::Ordering;
-use tw_base::{Entry, Key, compare_keys, entry_key};
-
-/// Whether the first key is below the second.
-pub(crate) fn is_below(a: &Key, b: &Key) -> bool
-    ensures { result ≡ is_lt (key_cmp a.now b.now) }
-{
-    compare_keys(a, b) == Ordering::Less
-}
+use tw_base::{Entry, Key, compare_keys, entry_key, is_below};
 
 /// The entry of the key, or none where the tree has no entry of it. The tree's keys rise. Goes down
 /// one way, and takes no memory.

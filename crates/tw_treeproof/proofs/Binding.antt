@@ -22,7 +22,7 @@ use Rattle.tw_base.specs.Tree.Tree.{Empty, Branch}
 use Rattle.tw_base.proofs.Clashes.{Among-left, Among-right, and_then, same_text}
 use Rattle.tw_base.proofs.ListLemmas.{Each-parts}
 use Rattle.tw_base.proofs.TextFields.{halves}
-use Rattle.tw_tree.proofs.KeyTests.{same_key}
+use Rattle.tw_base.proofs.KeyTests.{same_key}
 use Rattle.tw_treeproof.specs.declared.shown.Shown.{Shown}
 use Rattle.tw_treeproof.specs.declared.shown.Shown.TheVariants.{Present as IsThere, Absent as IsNotThere, Nearest, Wrong}
 use Rattle.tw_treeproof.specs.Answers.{Checks, IsAnswer, Shows, ancestors_of, answer_of, proof_texts}

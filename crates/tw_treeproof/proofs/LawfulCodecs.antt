@@ -1,21 +1,13 @@
--- The codecs of tree proofs are lawful; what fits them, and the greatest sizes of their words.
-use Rattle.std.proofs.Common.{◌≡◌, ℕ, suc, ◌+◌, ◌-◌, ◌≤◌, ◌<◌, List, length, refl, subst, arith}
-use Rattle.tw_base.specs.declared.limits.TheConstants.{LAST_STEP}
-use Rattle.tw_base.specs.declared.thread.Entry.{Entry}
+-- The codecs of tree proofs are lawful; the greatest sizes of their words.
+use Rattle.std.proofs.Common.{◌≡◌, ℕ, suc, ◌+◌, ◌-◌, ◌≤◌, List, length, refl, subst, arith}
 use Rattle.tw_base.specs.declared.tree_proof.TreeProof.TheVariants.{Present}
-use Rattle.tw_base.specs.Codecs.{Codec, bytes_codec, many, name_codec, number_codec, pair, seen}
-use Rattle.tw_base.specs.Limits.{IsThread}
+use Rattle.tw_base.specs.Codecs.{Codec, many, number_codec, pair}
 use Rattle.tw_base.proofs.CodecLaws.{Lawful, lawful, lawful-by_kind, lawful-variant}
-use Rattle.tw_base.proofs.CodecSizes.{AtMost, at_most-by_kind, at_most-bytes, at_most-variant, at_most-counted, at_most-many, at_most-name, at_most-number, at_most-pair, at_most-seen}
-use Rattle.tw_base.specs.HistoryCodec.{thread_codec}
-use Rattle.tw_base.proofs.HistoryCodecLaws.{thread-lawful}
+use Rattle.tw_base.proofs.CodecSizes.{AtMost, at_most-by_kind, at_most-bytes, at_most-variant, at_most-counted, at_most-many, at_most-number, at_most-pair, at_most-seen}
+use Rattle.tw_base.proofs.EntryCodecLaws.{entry-lawful, entry-most}
 use Rattle.tw_base.proofs.TakeLaws.{ManyTaken}
 use Rattle.tw_treeproof.specs.declared.limits.TheConstants.{MOST_ABOVE_ENTRY}
-use Rattle.tw_treeproof.specs.Codecs.{PresentParts, ancestor_codec, entry_codec, gap_codec, parts_codec, parts_of, present_codec}
-
-pub entry-lawful : Lawful entry_codec
-unfolding entry_codec
-entry-lawful = search (lawful, thread-lawful) depth 20
+use Rattle.tw_treeproof.specs.Codecs.{PresentParts, ancestor_codec, gap_codec, parts_codec, parts_of, present_codec}
 
 pub ancestor-lawful : Lawful ancestor_codec
 unfolding ancestor_codec
@@ -45,16 +37,6 @@ module _ {X : Type 0} where
 
 -- ---- sizes
 
-thread-most : AtMost thread_codec 56
-unfolding thread_codec
-thread-most =
-    at_most-seen _ _ _ 56 (at_most-pair _ _ 16 40 at_most-name (λ _ _.
-    at_most-pair _ _ 8 32 (at_most-number 8 1 LAST_STEP) (λ _ _. at_most-bytes 32)))
-
-entry-most : AtMost entry_codec 64
-unfolding entry_codec
-entry-most = at_most-seen _ _ _ 64 (at_most-pair _ _ 56 8 thread-most (λ _ _. at_most-number 8 1 LAST_STEP))
-
 ancestor-most : AtMost ancestor_codec 96
 unfolding ancestor_codec
 ancestor-most = at_most-seen _ _ _ 96 (at_most-pair _ _ 64 32 entry-most (λ _ _. at_most-bytes 32))
@@ -69,10 +51,3 @@ present-most =
 pub gap-most : AtMost gap_codec 12289
 unfolding gap_codec
 gap-most = at_most-variant _ _ _ 12289 (at_most-counted 1 0 128 ancestor_codec 96 ancestor-most)
-
--- ---- what fits
-
--- a thread, and a step that may have archived it
-pub entry-fits : (e : Entry) → IsThread e.thread → 0 < e.archived → e.archived ≤ LAST_STEP → entry_codec.Fits e
-unfolding entry_codec thread_codec seen pair name_codec number_codec bytes_codec
-entry-fits e thread low high = ((thread.0, ((omega (arith, thread.1), thread.2), (thread.3, thread.4))), (omega (arith, low), high))

@@ -4,4 +4,4 @@ pub mod LawfulCodecs
 pub mod Places
 pub mod Ways
 pub mod OwnProofs
-mod Binding
+pub mod Binding

@@ -14,9 +14,10 @@ use Rattle.tw_base.specs.Lists.{Each}
 use Rattle.tw_base.specs.Tree.{Tree, IsRising, entries}
 use Rattle.tw_base.specs.Tree.Tree.{Empty, Branch}
 use Rattle.tw_base.proofs.ListLemmas.{Each-append, Each-parts}
+use Rattle.tw_base.specs.EntryCodec.{entry_codec}
 use Rattle.tw_treeproof.specs.declared.limits.TheConstants.{MOST_ABOVE_PLACE}
 use Rattle.tw_treeproof.specs.Answers.{Checks, IsAnswer, ancestors_of, answer_of, asks_entry, is_of_entry, place_text}
-use Rattle.tw_treeproof.specs.Codecs.{ancestor_codec, entry_codec, gap_codec, present_codec, tree_proof_codec}
+use Rattle.tw_treeproof.specs.Codecs.{ancestor_codec, gap_codec, present_codec, tree_proof_codec}
 use Rattle.tw_treeproof.specs.Making.{IsSo, ancestor, height, place_of, proof_at, proof_of, way_up}
 use Rattle.tw_treeproof.specs.Ways.{IsNotAsked, climbed, has_asked_key, is_left}
 use Rattle.tw_treeproof.proofs.Places.{IsAt, at-place}

@@ -1,20 +1,12 @@
 -- The bytes of tree proofs.
 use Rattle.std.specs.Prelude.{ℕ, List, length, Bool, Option, Some, None}
-use Rattle.tw_base.specs.declared.limits.TheConstants.{LAST_STEP}
-use Rattle.tw_base.specs.declared.thread.Entry.{Entry}
 use Rattle.tw_base.specs.declared.tree_proof.Ancestor.{Ancestor}
 use Rattle.tw_base.specs.declared.tree_proof.TreeProof.{TreeProof}
 use Rattle.tw_base.specs.declared.tree_proof.TreeProof.TheVariants.{Present, Gap}
 use Rattle.tw_base.specs.Codecs.{Codec, by_kind, choose, counted, digest_codec, many, number_codec, pair, seen, variant}
-use Rattle.tw_base.specs.HistoryCodec.{thread_codec}
+use Rattle.tw_base.specs.EntryCodec.{entry_codec}
 use Rattle.tw_treeproof.specs.declared.limits.TheConstants.{MOST_ABOVE_ENTRY, MOST_ABOVE_PLACE}
 use Rattle.tw_treeproof.specs.Answers.{is_of_entry}
-
--- an entry, 64 bytes: a service, one of its steps from 1 on, its authenticator there, and the step from 1 on that archived it
-unfoldable pub entry_codec : Codec Entry
-entry_codec =
-    seen (λ t. record { thread = t.0; archived = t.1 }) (λ e. (e.thread, e.archived))
-    (pair thread_codec (λ thread. number_codec 8 1 LAST_STEP))
 
 -- a node above the asked place, 96 bytes: its entry, and the label of its other side
 unfoldable pub ancestor_codec : Codec Ancestor

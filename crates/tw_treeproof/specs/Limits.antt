@@ -1,20 +1,12 @@
 -- Which tree proofs are within the limits of their format.
-use Rattle.std.specs.Prelude.{ℕ, ◌<◌, ◌≤◌, length}
-use Rattle.tw_base.specs.declared.limits.TheConstants.{LAST_STEP}
-use Rattle.tw_base.specs.declared.thread.Entry.{Entry}
+use Rattle.std.specs.Prelude.{ℕ, ◌≤◌, length}
 use Rattle.tw_base.specs.declared.tree_proof.Ancestor.{Ancestor}
 use Rattle.tw_base.specs.declared.tree_proof.TreeProof.{TreeProof}
 use Rattle.tw_base.specs.declared.tree_proof.TreeProof.TheVariants.{Present, Gap}
+use Rattle.tw_base.specs.Limits.{IsEntryInRange}
 use Rattle.tw_base.specs.Lists.{Each}
 use Rattle.tw_treeproof.specs.declared.limits.TheConstants.{MOST_ABOVE_ENTRY, MOST_ABOVE_PLACE}
 use Rattle.tw_treeproof.specs.Answers.{ancestors_of}
-
--- a step from 1 on that a service may have
-abbrev pub IsStep : ℕ → Type 0
-IsStep step = (0 < step) × (step ≤ LAST_STEP)
-
-abbrev pub IsEntryInRange : Entry → Type 0
-IsEntryInRange e = IsStep e.thread.step × IsStep e.archived
 
 abbrev pub IsAncestorInRange : Ancestor → Type 0
 IsAncestorInRange a = IsEntryInRange a.entry

@@ -8,9 +8,10 @@ ghost use Rattle.tw_base.specs.Codecs.{IsUnambiguous};
 ghost use Rattle.tw_base.specs.Formats.{Spells};
 ghost use Rattle.tw_base.specs.Lists.{Each};
 ghost use Rattle.tw_base.specs.Tree.{IsRising, Tree, entries};
+ghost use Rattle.tw_base.specs.EntryCodec.{entry_codec};
 ghost use Rattle.tw_treeproof.specs.declared.limits.TheConstants.{MOST_ABOVE_PLACE};
 ghost use Rattle.tw_treeproof.specs.Answers.{Checks, IsAnswer, ancestors_of, answer_of, asks_entry};
-ghost use Rattle.tw_treeproof.specs.Codecs.{entry_codec, gap_codec, present_codec, tree_proof_codec};
+ghost use Rattle.tw_treeproof.specs.Codecs.{gap_codec, present_codec, tree_proof_codec};
 ghost use Rattle.tw_treeproof.specs.Making.{IsSo, height, proof_of};
 
 use tw_base::Hasher;

@@ -1,30 +1,17 @@
 // Reading tree proofs.
-#![tactic(auto, unfolding(crate::specs::Codecs::ancestor_codec, crate::specs::Codecs::entry_codec, tw_base::specs::Codecs::pair, tw_base::specs::Codecs::seen))]
+#![tactic(auto, unfolding(crate::specs::Codecs::ancestor_codec, tw_base::specs::Codecs::pair, tw_base::specs::Codecs::seen))]
 
 ghost use Rattle.std.specs.Prelude.{◌≤◌, length};
 ghost use Rattle.tw_base.specs.Codecs.{counted, many};
 ghost use Rattle.tw_base.specs.Taking.{Takes};
 ghost use Rattle.tw_treeproof.specs.declared.limits.TheConstants.{MOST_ABOVE_PLACE};
-ghost use Rattle.tw_treeproof.specs.Codecs.{ancestor_codec, counted_parts, entry_codec, gap_codec, parts_codec, present_codec};
+ghost use Rattle.tw_treeproof.specs.Codecs.{ancestor_codec, counted_parts, gap_codec, parts_codec, present_codec};
 
 use crate::limits::{MOST_ABOVE_ENTRY, MOST_ABOVE_PLACE};
 use std::alloc::Global;
-use tw_base::limits::LAST_STEP;
 use tw_base::{
-    Ancestor, AncestorList, Digest, Entry, ReadFault, TreeProof, take_digest, take_number,
-    take_thread,
+    Ancestor, AncestorList, Digest, ReadFault, TreeProof, take_digest, take_entry, take_number,
 };
-
-/// Takes an entry, 64 bytes. Takes no memory.
-pub fn take_entry(bytes: &[u8], at: &mut u64) -> Result<Entry, ReadFault>
-    requires { at.old ≤ length bytes.now }
-    // An entry is taken at a place exactly as its codec reads it; else the place of the first bad byte is told.
-    ensures { Takes entry_codec (λ e. e) bytes.now at.old at.new result }
-{
-    let thread = take_thread(bytes, at)?;
-    let archived = take_number(bytes, at, 8, 1, LAST_STEP)?;
-    Ok(Entry { thread, archived })
-}
 
 /// Takes a node above the asked place.
 fn take_ancestor(bytes: &[u8], at: &mut u64) -> Result<Ancestor, ReadFault>

@@ -1,19 +1,12 @@
 // The way down to an asked place.
 
 ghost use Rattle.std.specs.Prelude.{◌≡◌};
-ghost use Rattle.std.specs.Ordering.{is_eq, is_lt};
+ghost use Rattle.std.specs.Ordering.{is_eq};
 ghost use Rattle.tw_base.specs.Entries.{key_cmp};
 ghost use Rattle.tw_treeproof.specs.Ways.{has_asked_key, is_left};
 
 use std::cmp::Ordering;
-use tw_base::{Ask, Entry, Key, compare_keys, entry_key};
-
-/// Whether the first key is below the second.
-fn is_below(a: &Key, b: &Key) -> bool
-    ensures { result ≡ is_lt (key_cmp a.now b.now) }
-{
-    compare_keys(a, b) == Ordering::Less
-}
+use tw_base::{Ask, Entry, Key, compare_keys, entry_key, is_below};
 
 /// Whether the keys are one.
 fn is_same_key(a: &Key, b: &Key) -> bool

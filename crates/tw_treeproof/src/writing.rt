@@ -1,29 +1,16 @@
 // Writing tree proofs.
-#![tactic(auto, unfolding(crate::specs::Codecs::ancestor_codec, crate::specs::Codecs::entry_codec, tw_base::specs::Codecs::bytes_codec, tw_base::specs::Codecs::name_codec, tw_base::specs::Codecs::number_codec, tw_base::specs::Codecs::pair, tw_base::specs::Codecs::seen, tw_base::specs::HistoryCodec::thread_codec))]
+#![tactic(auto, unfolding(crate::specs::Codecs::ancestor_codec, tw_base::specs::Codecs::bytes_codec, tw_base::specs::Codecs::pair, tw_base::specs::Codecs::seen))]
 
 ghost use Rattle.std.specs.Prelude.{◌≡◌, ◌++◌, ◌%◌, flat_map, length, OnOk};
 ghost use Rattle.tw_base.specs.Fields.{number_bytes};
 ghost use Rattle.tw_base.specs.Lists.{Each};
-ghost use Rattle.tw_treeproof.specs.Codecs.{ancestor_codec, entry_codec, tree_proof_bytes, tree_proof_codec};
+ghost use Rattle.tw_treeproof.specs.Codecs.{ancestor_codec, tree_proof_bytes, tree_proof_codec};
 ghost use Rattle.tw_treeproof.specs.Answers.{is_of_entry};
-ghost use Rattle.tw_treeproof.specs.Limits.{IsAncestorInRange, IsEntryInRange, IsProofInRange};
+ghost use Rattle.tw_treeproof.specs.Limits.{IsAncestorInRange, IsProofInRange};
 
 use tw_base::{
-    Ancestor, AncestorList, Bytes, Entry, NoMemory, TreeProof, put_digest, put_name, put_number,
+    Ancestor, AncestorList, Bytes, NoMemory, TreeProof, put_digest, put_entry, put_number,
 };
-
-/// Appends the entry, 64 bytes. They spell it where its steps are within 1 to 2^40 - 1.
-pub fn put_entry(into: &mut Bytes, entry: &Entry) -> Result<(), NoMemory>
-    // What is appended of an entry is its bytes in the format.
-    ensures ok { OnOk result (into.new ≡ into.old ++ entry_codec.write entry.now) }
-    // An entry whose two steps are within their limits has that spelling.
-    ensures fits { OnOk result (IsEntryInRange entry.now → entry_codec.Fits entry.now) }
-{
-    put_name(into, &entry.thread.from)?;
-    put_number(into, entry.thread.step, 8)?;
-    put_digest(into, &entry.thread.auth)?;
-    put_number(into, entry.archived, 8)
-}
 
 /// Appends a node above the asked place.
 fn put_ancestor(into: &mut Bytes, ancestor: &Ancestor) -> Result<(), NoMemory>

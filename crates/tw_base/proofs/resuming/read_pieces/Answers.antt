@@ -1,28 +1,12 @@
-use Rattle.std.proofs.Common.{ℕ, List, [], ◌+◌, length, take, drop, get_or, sym, ap, arith}
+use Rattle.std.proofs.Common.{ℕ, List, [], ◌+◌, take, sym}
 use Rattle.std.specs.Borrow.{Bor}
-use Rattle.std.proofs.lemmas.List.{length-append}
 use Rattle.std.proofs.lemmas.Result.{err_from_is_err_and}
 use Rattle.tw_base.specs.Resuming.{all_of}
-use Rattle.tw_base.proofs.PieceLaws.{all_of-more, all_of-parts, breaks-all, so_far-size}
+use Rattle.tw_base.proofs.PieceLaws.{all_of-more, breaks-all}
 use Rattle.tw_base.proofs.resuming.read_pieces.Goals as goal
 
 abbrev none : Bor (List ℕ)
 none = record { ref_ptr = (0, 0); now = [] }
-
-pub feed-requires : goal.feed-requires
-feed-requires g c =
-    let i = c.loop-piece.piece-index in
-    let ps = c.args.pieces.now in
-    let more = all_of-more ps i none c.loop-piece-test.true in
-    omega (
-      arith,
-      c.requires.few,
-      so_far-size g.S.Segments.rest (g.S.Segments.rest c.args.state) c.loop-piece.reader (all_of (take i ps)) c.loop-piece.invariant,
-      ap length more,
-      length-append (all_of (take i ps)) (get_or ps i none).now,
-      ap length (all_of-parts ps (i + 1)),
-      length-append (all_of (take (i + 1) ps)) (all_of (drop (i + 1) ps)),
-    )
 
 pub returns-in_err-reader : goal.returns-in_err-reader
 returns-in_err-reader g c =

@@ -1,5 +1,5 @@
-use Rattle.std.proofs.Common.{◌≡◌, ℕ, ◌+◌, ◌-◌, List, [], ◌++◌, length, take, drop, refl, ap, ◌∙◌, subst, arith}
-use Rattle.std.specs.Prelude.{Ok, Err}
+use Rattle.std.proofs.Common.{◌≡◌, ℕ, ◌+◌, ◌-◌, List, [], ◌++◌, length, take, drop, refl, ap, sym, ◌∙◌, subst, arith}
+use Rattle.std.specs.Prelude.{Err}
 use Rattle.tw_base.specs.declared.failure.ReadFault.TheVariants.{Malformed}
 use Rattle.std.proofs.lemmas.List.{length-drop, take_rest}
 use Rattle.tw_base.specs.Resuming.{Goes}
@@ -24,10 +24,9 @@ pub returns-in-Front : goal.returns-in-Front
 returns-in-Front g c = λ whole before counts b.
     let i = c.loop-held.invariant in
     let found = rw c.in-Front.is at c.in_ok-next.ensures in
-    let P : List ℕ → Type 0 = λ held. Goes g.S.Segments.rest whole (before ++ held) (Ok (record { state = c.in-Front.same; held = c.in_ok-held-in-Front.held; taken = c.args.taken + c.loop-held.at; until = c.in-Front.until })) in
-    subst P i.same
+    rw (sym i.same)
     (settles-front g.S.Segments.rest whole (g.S.Segments.rest c.args.state) before c.loop-held.held c.loop-held.at c.args.taken c.loop-held.state counts b i.within i.taken
-    c.in-Front.same c.in_ok-held-in-Front.held _ c.in-Front.until (c.args.taken + c.loop-held.at) refl (slice_is _ c.loop-held.held c.loop-held.at c.as_slice.ensures) c.in_ok-held-in-Front.ensures found)
+    _ _ refl (slice_is _ c.loop-held.held c.loop-held.at c.as_slice.ensures) c.in_ok-held-in-Front.ensures found)
 
 pub overflow_add-result-in-Broken-2 : goal.overflow_add-result-in-Broken-2
 overflow_add-result-in-Broken-2 g c =

@@ -1,7 +1,7 @@
 use Rattle.std.proofs.Common.{◌≡◌, ◌++◌, length, refl, sym, ap, ◌∙◌, subst, arith}
 use Rattle.tw_base.specs.Lists.{Each}
 use Rattle.tw_base.specs.Tree.{IsRising}
-use Rattle.tw_rbnode.specs.Page.{IsInRange}
+use Rattle.tw_base.specs.Limits.{IsEntryInRange}
 use Rattle.tw_rbnode.proofs.Pages.{whole_node, twelve, twelve_lawful}
 use Rattle.tw_rbnode.proofs.adding.balanced.Goals as goal
 
@@ -22,4 +22,4 @@ invariant_of-result c =
       );
     })
     (sym count) (omega arith) (omega arith) (omega arith) twelve_lawful c.requires.level
-    (subst IsRising (sym kept) c.requires.rising) (subst (Each IsInRange) (sym kept) c.requires.ranges)
+    (subst IsRising (sym kept) c.requires.rising) (subst (Each IsEntryInRange) (sym kept) c.requires.ranges)

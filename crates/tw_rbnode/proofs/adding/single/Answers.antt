@@ -1,7 +1,7 @@
 use Rattle.std.proofs.Common.{◌≡◌, ◌++◌, ◌∷◌, [], length, refl, sym, ap, ◌∙◌, subst, arith, false}
 use Rattle.tw_base.specs.Lists.{Each}
 use Rattle.tw_base.specs.Tree.{IsRising}
-use Rattle.tw_rbnode.specs.Page.{IsInRange}
+use Rattle.tw_base.specs.Limits.{IsEntryInRange}
 use Rattle.tw_rbnode.specs.Shape.{Empty, Node}
 use Rattle.tw_rbnode.proofs.Pages.{whole_node}
 use Rattle.tw_rbnode.proofs.adding.single.Goals as goal
@@ -15,4 +15,4 @@ invariant_of-result g c =
     let places : length c.push-3.new.self.items ≡ 2 = ap length sides in
     whole_node _ (Node false Empty Empty) 1 c.args.level _ _ (record { blank = refl; top_is = refl; at = (refl, tt, tt) })
     (sym count) (omega arith) (omega arith) (omega arith) (refl, 1, (0, refl, refl, refl)) c.requires.level
-    (subst IsRising (sym kept) (tt, tt)) (subst (Each IsInRange) (sym kept) (c.requires.range, tt))
+    (subst IsRising (sym kept) (tt, tt)) (subst (Each IsEntryInRange) (sym kept) (c.requires.range, tt))

@@ -1,7 +1,8 @@
 use Rattle.std.proofs.Common.{◌≡◌, ◌++◌, ◌∷◌, [], length, sym, ap, ◌∙◌, arith, length-take, length-drop}
 use Rattle.tw_base.specs.declared.thread.Entry.{Entry}
 use Rattle.tw_rbnode.specs.Answers.{more_children, more_entries}
-use Rattle.tw_rbnode.specs.Page.{IsInRange, TreePage}
+use Rattle.tw_base.specs.Limits.{IsEntryInRange}
+use Rattle.tw_rbnode.specs.Page.{TreePage}
 use Rattle.tw_rbnode.proofs.Pages.{rest_taken, with_size, joined_children, joined_entries, more_rising, more_ranges}
 use Rattle.tw_rbnode.proofs.Rising.{Each-drop, Each-take, Rising-drop, Rising-take, get-read}
 use Rattle.tw_rbnode.proofs.adding.split.Goals as goal
@@ -28,7 +29,7 @@ balanced-requires-2-clause-ranges c =
     let entries : n.entries.items ≡ c.args.node.now.entries = ap (λ (p : TreePage). p.entries) c.node.view_is in
     let all = c.as_slice-all.ensures.value ∙ c.more_entries-entries.ensures ∙ ap (λ xs. more_entries xs c.args.place c.args.entry) (c.as_slice.ensures.value ∙ entries) in
     let node = c.node.invariant.1 in
-    Each-take IsInRange _ _ (Each-drop IsInRange 13 _ (more_ranges _ _ _ c.args.place c.args.entry entries all node.ranges c.requires.range))
+    Each-take IsEntryInRange _ _ (Each-drop IsEntryInRange 13 _ (more_ranges _ _ _ c.args.place c.args.entry entries all node.ranges c.requires.range))
 
 pub returns : goal.returns
 returns c =

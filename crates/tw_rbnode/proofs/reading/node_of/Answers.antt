@@ -2,8 +2,9 @@ use Rattle.std.proofs.Common.{◌≡◌, ◌+◌, length, refl, sym, ap, ◌∙�
 use Rattle.std.specs.Prelude.{map}
 use Rattle.tw_base.specs.Lists.{Each}
 use Rattle.tw_base.specs.Tree.{IsRising}
+use Rattle.tw_base.specs.Limits.{IsEntryInRange}
 use Rattle.tw_rbnode.specs.declared.slot.Slot.{Slot}
-use Rattle.tw_rbnode.specs.Page.{IsInRange, tree_of}
+use Rattle.tw_rbnode.specs.Page.{tree_of}
 use Rattle.tw_rbnode.specs.Shape.{is_red, size}
 use Rattle.tw_rbnode.proofs.HeldPages.{ReadsAs, held, holds, map-each, map-size}
 use Rattle.tw_rbnode.proofs.Pages.{whole_node}
@@ -49,7 +50,7 @@ invariant_of-result c =
     whole_node _ t c.args.held.top c.args.level _ _ found.1 (omega (arith, c.len-count.ensures.value)) (omega (arith, c.requires.places)) (omega (arith, c.requires.some)) (omega (arith, c.requires.few))
     (black, c.in-Some._height, found.3) c.requires.level
     (subst IsRising c.as_slice-else-link_at.ensures.value (c.are_rising.ensures.0 yes))
-    (subst (Each IsInRange) (sym entries) (map-each IsInRange c.args.held.slots.items c.requires.ranges))
+    (subst (Each IsEntryInRange) (sym entries) (map-each IsEntryInRange c.args.held.slots.items c.requires.ranges))
 
 pub returns : goal.returns
 returns c =

@@ -1,10 +1,11 @@
 use Rattle.std.proofs.Common.{◌≡◌, List, length, sym, ap, ◌∙◌, subst, arith, slice_get}
 use Rattle.tw_base.specs.declared.thread.Entry.{Entry}
 use Rattle.tw_base.specs.Lists.{Each}
+use Rattle.tw_base.specs.Limits.{IsEntryInRange}
 use Rattle.tw_rbnode.specs.declared.links.Link.{Link}
 use Rattle.tw_rbnode.specs.declared.slot.Slot.{Slot}
 use Rattle.tw_rbnode.specs.NodeBytes.{links_of, slots_with}
-use Rattle.tw_rbnode.specs.Page.{IsInRange, TreePage, tree_of}
+use Rattle.tw_rbnode.specs.Page.{TreePage, tree_of}
 use Rattle.tw_rbnode.specs.Shape.{size}
 use Rattle.tw_rbnode.proofs.LinkLists.{links-held, links-size, slots-each, slots-size}
 use Rattle.tw_rbnode.proofs.writing.slots_of.Goals as goal
@@ -31,6 +32,6 @@ returns-clause-count c =
 pub returns-clause-ranges : goal.returns-clause-ranges
 returns-clause-ranges c =
     let n = c.node.inside in
-    let ranges : Each IsInRange c.args.node.now.entries = subst (λ (p : TreePage). Each IsInRange p.entries) c.node.view_is c.node.invariant.1.ranges in
-    let P : List Slot → Type 0 = Each (λ s. IsInRange s.entry) in
-    subst P (sym (returns-clause-slots c)) (slots-each IsInRange (links_of 0 c.args.node.now.shape) c.args.node.now.entries ranges)
+    let ranges : Each IsEntryInRange c.args.node.now.entries = subst (λ (p : TreePage). Each IsEntryInRange p.entries) c.node.view_is c.node.invariant.1.ranges in
+    let P : List Slot → Type 0 = Each (λ s. IsEntryInRange s.entry) in
+    subst P (sym (returns-clause-slots c)) (slots-each IsEntryInRange (links_of 0 c.args.node.now.shape) c.args.node.now.entries ranges)

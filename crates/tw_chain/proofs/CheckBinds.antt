@@ -1,0 +1,190 @@
+-- What each sort of check binds, over texts that have those of the family and of the checks.
+use Rattle.std.proofs.Common.{◌≡◌, ℕ, suc, zero, ◌<◌, ◌≤◌, List, [], ◌∷◌, ◌++◌, length, refl, ap, sym, ◌∙◌, subst, arith, inl}
+use Rattle.std.specs.Prelude.{Option, Some, None, IsSome, IfSome, slice_get}
+use Rattle.std.specs.List.{flat_map}
+use Rattle.std.specs.Option.{option_map, option_to_list}
+use Rattle.tw_base.specs.declared.event_part.EventPart.{EventPart}
+use Rattle.tw_base.specs.declared.thread.Key.{Key}
+use Rattle.tw_base.specs.declared.thread.Thread.{Thread}
+use Rattle.tw_base.specs.declared.tree_proof.Ask.{Ask}
+use Rattle.tw_base.specs.declared.tree_proof.Ask.TheVariants as ask
+use Rattle.tw_base.specs.declared.tree_proof.TreeProof.{TreeProof}
+use Rattle.tw_base.specs.AuditPath.{audit_texts}
+use Rattle.tw_base.specs.Auth.{auth}
+use Rattle.tw_base.specs.Clash.{Among, OrClash, Within}
+use Rattle.tw_base.specs.Digests.{AllDigests}
+use Rattle.tw_base.specs.EventTree.{event_texts}
+use Rattle.tw_base.specs.Facts.{SeenStands}
+use Rattle.tw_base.specs.Family.{AllSound, HasHistory, HasThread, HasThreads, family_texts}
+use Rattle.tw_base.specs.History.{History, events_at}
+use Rattle.tw_base.specs.HistoryTexts.{history_texts, tree_texts}
+use Rattle.tw_base.specs.Lists.{Each}
+use Rattle.tw_base.specs.Sound.{IsSound}
+use Rattle.tw_base.specs.Tree.{entries, tree}
+use Rattle.tw_base.proofs.Anchoring.{anchor_of-is}
+use Rattle.tw_base.proofs.ArchiveTexts.{joined_within, tree_texts-within}
+use Rattle.tw_base.proofs.Auths.{has-event_text}
+use Rattle.tw_base.proofs.Clashes.{Among-left, Among-right, OrClash-wider, and_then}
+use Rattle.tw_base.proofs.Families.{sound_of, texts_within}
+use Rattle.tw_base.proofs.ListLemmas.{Each-parts}
+use Rattle.tw_base.proofs.Trees.{tree-rising}
+use Rattle.tw_events.proofs.Binding.{ChecksEvent-binds}
+use Rattle.tw_skipproof.specs.declared.existence.Part.{Part}
+use Rattle.tw_skipproof.specs.declared.opening.Opening.{Opening}
+use Rattle.tw_skipproof.specs.declared.path.Link.{Link}
+use Rattle.tw_skipproof.specs.Acceptance.{Reaches, part_texts}
+use Rattle.tw_skipproof.specs.Openings.{Binds, HasSizes as HasOpeningSizes, IsOpeningAt, opening_auth, opening_texts}
+use Rattle.tw_skipproof.specs.Paths.{Climbs, HasLinkSizes, path_texts}
+use Rattle.tw_skipproof.proofs.OpeningBinding.{opening-binds_sound}
+use Rattle.tw_skipproof.proofs.PathBinding.{climb-binds}
+use Rattle.tw_treeproof.specs.Answers.{Checks, IsAnswer, Shows, ancestors_of, answer_of, proof_texts as tree_proof_texts}
+use Rattle.tw_treeproof.specs.Sizes.{HasProofSizes}
+use Rattle.tw_treeproof.specs.declared.shown.Shown.{Shown}
+use Rattle.tw_treeproof.specs.declared.shown.Shown.TheVariants.{Wrong}
+use Rattle.tw_treeproof.proofs.Binding.{check-binds}
+use Rattle.tw_chain.specs.declared.proof.LinkProof.{LinkProof}
+use Rattle.tw_chain.specs.Accepting.{seen_at}
+use Rattle.tw_chain.specs.Checks.{Check, link_checks, link_top, top_of, under_anchor}
+use Rattle.tw_chain.specs.Checks.Check.{AnswerOf, EventOf, InOrder, LinkOf, NeedsAnchor, OpeningOf, PathOf}
+use Rattle.tw_chain.specs.Checks.Upper.{AtAnchor, Known}
+use Rattle.tw_chain.specs.Passing.{Passes, anchor_at, check_texts, held_by}
+use Rattle.tw_chain.proofs.PieceSizes.{PartSizes}
+
+shows-answer : (dig : List ℕ → List ℕ) (root : List ℕ) (asked : Ask) (proof : TreeProof) → Checks dig root asked proof → Shows dig root asked proof (answer_of asked (ancestors_of proof))
+shows-answer dig root (ask.Present e) proof checks = (checks, refl)
+shows-answer dig root (ask.Absent key) proof checks = (checks, refl)
+shows-answer dig root (ask.Below key) proof checks = (checks, refl)
+shows-answer dig root (ask.Above key) proof checks = (checks, refl)
+
+module _ (dig : List ℕ → List ℕ) (anchors : List Thread) (family : List History) (texts : List (List ℕ)) where
+  -- a check that passes; the family has the threads that are held for it, and its texts are among these
+  pub record Checked (c : Check) : Type 0 where
+    pub passes : Passes dig anchors c
+    pub has : HasThreads dig family (held_by anchors c)
+    pub within : Within (check_texts dig c) texts
+
+  pub each-checked : (cs : List Check) → Each (Passes dig anchors) cs → HasThreads dig family (flat_map (held_by anchors) cs)
+      → Within (flat_map (check_texts dig) cs) texts → Each Checked cs
+  each-checked [] pass has within = tt
+  each-checked (c ∷ cs) pass has within =
+      let threads = Each-parts (HasThread dig family) (held_by anchors c) (flat_map (held_by anchors) cs) has in
+      let own : List (List ℕ) = check_texts dig c in
+      let others : List (List ℕ) = flat_map (check_texts dig) cs in (
+        record { passes = pass.0; has = threads.0; within = λ t a. within t (Among-left t own others a) },
+        each-checked cs pass.1 threads.1 (λ t a. within t (Among-right t own others a)),
+      )
+
+  -- the family's history of the service has the step, of which the opening's fields are
+  pub record Opened (service : List ℕ) (step : ℕ) (o : Opening) : Type 0 where
+    pub history : History
+    pub has : HasHistory family service history
+    pub some : 0 < step
+    pub within : step ≤ length history.steps
+    pub binds : Binds dig history step o
+
+  -- ---- anchors
+
+  record Anchored (key : Key) : Type 0 where
+    anchor : Thread
+    is : anchor_at anchors key ≡ Some anchor
+    has : HasThread dig family (record { from = key.from; step = key.step; auth = anchor.auth })
+
+  anchored : (key : Key) → Checked (NeedsAnchor key) → Anchored key
+  anchored key held = by (anchor_at anchors key) refl held.passes held.has
+    where
+      by : (o : Option Thread) → anchor_at anchors key ≡ o → IsSome o → HasThreads dig family (option_to_list o) → Anchored key
+      by None is some has = cc
+      by (Some t) is some has =
+          let names = anchor_of-is anchors key.from key.step t is in
+          let P : List ℕ → ℕ → Type 0 = λ from step. HasThread dig family (record { from = from; step = step; auth = t.auth }) in
+          record { anchor = t; is = is; has = subst (λ from. P from key.step) names.0 (subst (P t.from) names.1 has.0) }
+
+  -- what passes with an anchor that may not be held, passes with the one that is
+  with_anchor : (P : List ℕ → Type 0) (o : Option Thread) (t : Thread) → o ≡ Some t → IfSome (option_map (λ (u : Thread). u.auth) o) P → P t.auth
+  with_anchor P o t is passes = subst (λ x. IfSome (option_map (λ (u : Thread). u.auth) x) P) is passes
+
+  module _ (size : (text : List ℕ) → length (dig text) ≡ 32) (sound : AllSound family) (ours : Within (family_texts dig family) texts) where
+    -- what holds unless texts of one history clash with some of these
+    of_history : (service : List ℕ) (h : History) (part own : List (List ℕ)) (P : Type 0) → HasHistory family service h → Within part (history_texts dig h) → Within own texts
+        → OrClash dig (part ++ own) P → OrClash dig texts P
+    of_history service h part own P has of_h within fact =
+        OrClash-wider dig (part ++ own) texts P
+        (joined_within part own texts (λ t a. ours t (texts_within dig family service h has t (of_h t a))) within) fact
+
+    -- ---- threads, and what they open
+
+    climbed-thread : (service : List ℕ) (links : List Link) (from to : ℕ) (bottom upper : List ℕ) → HasThread dig family (record { from = service; step = from; auth = upper })
+        → to ≤ from → HasLinkSizes links → Climbs dig links from to bottom upper → Within (path_texts dig links from to bottom) texts
+        → OrClash dig texts (HasThread dig family (record { from = service; step = to; auth = bottom }))
+    climbed-thread service links from to bottom upper thread order sizes climbs within =
+        let h : History = thread.0 in
+        and_then dig texts _ _
+        (of_history service h (history_texts dig h) (path_texts dig links from to bottom) (bottom ≡ auth dig h to) thread.1 (λ t a. a) within
+        (climb-binds dig size h links from to bottom sizes climbs.shape order thread.2 (climbs.reaches ∙ sym thread.3)))
+        (λ same. inl (h, thread.1, omega (arith, order, thread.2), sym same))
+
+    thread-opened : (t : Thread) (o : Opening) → HasOpeningSizes o → HasThread dig family t → IsOpeningAt t.step o → opening_auth dig t.step o ≡ t.auth
+        → Within (opening_texts dig t.step o) texts → OrClash dig texts (Opened t.from t.step o)
+    thread-opened t o sizes thread is computes within =
+        let h : History = thread.0 in
+        and_then dig texts _ _
+        (of_history t.from h (history_texts dig h) (opening_texts dig t.step o) (Binds dig h t.step o) thread.1 (λ text a. a) within
+        (opening-binds_sound dig size h t.step o sizes is (sound_of family t.from h sound thread.1) thread.2 (computes ∙ sym thread.3)))
+        (λ binds. inl (record { history = h; has = thread.1; some = is.0; within = thread.2; binds = binds }))
+
+    pub opening-step : (part : ℕ) (t : Thread) (o : Opening) → HasOpeningSizes o → HasThread dig family t → Checked (OpeningOf part t o) → OrClash dig texts (Opened t.from t.step o)
+    opening-step part t o sizes thread checked = thread-opened t o sizes thread checked.passes.0 checked.passes.1 checked.within
+
+    -- a step under one that the family has
+    pub part-step : (at : Part) (upper : List ℕ) → PartSizes at → HasThread dig family (record { from = at.service; step = at.top; auth = upper }) → at.step ≤ at.top
+        → Reaches dig at upper → Within (part_texts dig at) texts → OrClash dig texts (Opened at.service at.step at.opening)
+    unfolding part_texts
+    part-step at upper sizes thread order reaches within =
+        let bottom : List ℕ = opening_auth dig at.step at.opening in
+        let opened : List (List ℕ) = opening_texts dig at.step at.opening in
+        let climbed : List (List ℕ) = path_texts dig at.path.links at.top at.step bottom in
+        and_then dig texts _ _
+        (climbed-thread at.service at.path.links at.top at.step bottom upper thread order sizes.links reaches.path (λ t a. within t (Among-right t opened climbed a)))
+        (λ has. thread-opened (record { from = at.service; step = at.step; auth = bottom }) at.opening sizes.opening has reaches.opening refl (λ t a. within t (Among-left t opened climbed a)))
+
+    pub anchored-part : (part : ℕ) (at : Part) → PartSizes at → Each Checked (under_anchor part at) → OrClash dig texts (Opened at.service at.step at.opening)
+    anchored-part part at sizes checked =
+        let held : Anchored (top_of at) = anchored (top_of at) checked.1.0 in
+        let path : Checked (PathOf part at (AtAnchor (top_of at))) = checked.1.1.0 in
+        part-step at held.anchor.auth sizes held.has checked.0.passes (with_anchor (Reaches dig at) (anchor_at anchors (top_of at)) held.anchor held.is path.passes) path.within
+
+    pub link-step : (part : ℕ) (l : LinkProof) → HasLinkSizes l.path.links → Each Checked (link_checks part l)
+        → OrClash dig texts (HasThread dig family (record { from = l.service; step = l.step; auth = l.auth }))
+    link-step part l sizes checked =
+        let held : Anchored (link_top l) = anchored (link_top l) checked.1.0 in
+        let link : Checked (LinkOf part l) = checked.1.1.0 in
+        climbed-thread l.service l.path.links l.top l.step l.auth held.anchor.auth held.has checked.0.passes sizes
+        (with_anchor (Climbs dig l.path.links l.top l.step l.auth) (anchor_at anchors (link_top l)) held.anchor held.is link.passes) link.within
+
+    -- ---- what an opened step shows
+
+    events-within : (h : History) (step : ℕ) → 0 < step → step ≤ length h.steps → Within (event_texts dig (events_at h step)) (history_texts dig h)
+    events-within h zero some within = absurd (omega (arith, some))
+    events-within h (suc i) some within = λ t a. has-event_text dig h t i (omega (arith, within)) a
+
+    pub event-step : (part : ℕ) (at : Part) (e : EventPart) → AllDigests e.path → Opened at.service at.step at.opening → Checked (EventOf part at.opening e)
+        → OrClash dig texts (SeenStands family (seen_at at e))
+    event-step part at e sizes opened checked =
+        let h : History = opened.history in
+        let events : List (List ℕ) = events_at h at.step in
+        let o : Opening = at.opening in
+        and_then dig texts _ _
+        (of_history at.service h (event_texts dig events) (audit_texts dig o.count e.index e.event e.path) (slice_get events e.index ≡ Some e.event) opened.has
+        (events-within h at.step opened.some opened.within) checked.within
+        (ChecksEvent-binds dig size o.event_root o.count e.index e.event e.path sizes checked.passes events opened.binds.count opened.binds.event_root))
+        (λ stands. inl (record { history = h; has = opened.has; stands = stands; time = opened.binds.time }))
+
+    -- the answer is that of the archive at the step
+    pub answer-step : (part : ℕ) (service : List ℕ) (step : ℕ) (o : Opening) (asked : Ask) (proof : TreeProof) → HasProofSizes asked proof → (opened : Opened service step o)
+        → Checked (AnswerOf part o.archive_root asked proof)
+        → OrClash dig texts (IsAnswer (entries (tree opened.history step)) asked (answer_of asked (ancestors_of proof)))
+    answer-step part service step o asked proof sizes opened checked =
+        let h : History = opened.history in
+        of_history service h (tree_texts dig (tree h step)) (tree_proof_texts dig asked proof) _ opened.has (tree_texts-within dig h step opened.within) checked.within
+        (check-binds dig size o.archive_root asked proof (answer_of asked (ancestors_of proof)) (shows-answer dig o.archive_root asked proof checked.passes) (λ right. sizes)
+        (tree h step) (tree-rising h (sound_of family service h sound opened.has) step) opened.binds.archive_root)

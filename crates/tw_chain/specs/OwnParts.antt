@@ -1,0 +1,48 @@
+-- The parts of a proof from event to event as the services of a family make them.
+use Rattle.std.specs.Prelude.{◌≡◌, ℕ, ◌≤◌, List, length, Some, Ok}
+use Rattle.tw_base.specs.declared.thread.Thread.{Thread}
+use Rattle.tw_base.specs.Chains.{HopStands}
+use Rattle.tw_base.specs.Family.{AllSound, HasHistory, HasThread}
+use Rattle.tw_base.specs.History.{History}
+use Rattle.tw_base.specs.Lists.{Each}
+use Rattle.tw_chain.specs.declared.proof.PrecedenceProof.{PrecedenceProof}
+use Rattle.tw_chain.specs.declared.proof.Proof.{Proof}
+use Rattle.tw_chain.specs.declared.proof.Proof.TheVariants.{Precedes, Archived}
+use Rattle.tw_chain.specs.Accepting.{IsAccepted, named}
+use Rattle.tw_chain.specs.Joining.{joined}
+use Rattle.tw_chain.specs.Joining.Taken.{Nothing}
+use Rattle.tw_chain.specs.OwnProofs.{IsOwnProof}
+use Rattle.tw_chain.specs.Passing.{anchor_at}
+
+module _ (dig : List ℕ → List ℕ) (family : List History) where
+  -- a history of the family has this proof itself
+  pub record IsMade (part : Proof) : Type 0 where
+    pub history : History
+    pub has : HasHistory family history.name history
+    pub step : ℕ
+    pub top : ℕ
+    pub order : step ≤ top
+    pub within : top ≤ length history.steps
+    pub own : IsOwnProof dig history step top part
+
+  -- the hop that a proof of a thread shows stands in the family
+  abbrev pub HopOfPartStands : Proof → Type 0
+  HopOfPartStands (Archived p) = HopStands dig family (record {
+    from = p.entry.thread.from;
+    step = p.entry.thread.step;
+    by = p.at.service;
+    archived = p.entry.archived;
+  })
+  HopOfPartStands _ = Unit {0}
+
+  -- each anchor that the proof needs is held, and the family has it
+  abbrev pub IsAnchored : (anchors : List Thread) → Proof → Type 0
+  IsAnchored anchors p = Each (λ key. (anchor : Thread) × (anchor_at anchors key ≡ Some anchor) × HasThread dig family anchor) (named p)
+
+-- parts that services of a sound family made, for hops that stand there, and that fit, join to a proof that is accepted wherever
+-- the family's anchors of the tops that it names are held
+abbrev pub JoinedIsAccepted : (dig : List ℕ → List ℕ) → Type 0
+JoinedIsAccepted dig =
+    (family : List History) (parts : List Proof) (p : PrecedenceProof) (anchors : List Thread) → AllSound family
+    → Each (IsMade dig family) parts → Each (HopOfPartStands dig family) parts → joined Nothing 1 parts ≡ Ok p
+    → IsAnchored dig family anchors (Precedes p) → IsAccepted dig anchors (Precedes p)
