@@ -1,3 +1,6 @@
 pub mod FoundLaws
 pub mod PageLaws
 pub mod WayLaws
+pub mod Weaving
+pub mod PageWays
+pub mod Standings

@@ -30,7 +30,7 @@ module _ (dig : List ℕ → List ℕ) (pages : Image) where
     pub tree_is : t ≡ page_tree node trees
 
   -- the child of a page of this level is this tree: the empty one below level 0, else that of a page of the level one lower
-  pub IsTreeBelow : (level : ℕ) → Child → Tree → Type 0
+  unfoldable pub IsTreeBelow : (level : ℕ) → Child → Tree → Type 0
   IsTreeBelow zero c t = t ≡ Empty
   IsTreeBelow (suc level) c t = (c.label ≡ tree_label dig t) × IsTreePage (IsTreeBelow level) level LEAST_KEYS c.page t
 
