@@ -4,3 +4,5 @@ pub mod WayLaws
 pub mod Weaving
 pub mod PageWays
 pub mod Standings
+pub mod RootWays
+pub mod Readings
