@@ -5,4 +5,5 @@ pub mod Weaving
 pub mod PageWays
 pub mod Standings
 pub mod RootWays
+pub mod Keeping
 pub mod Readings

@@ -18,7 +18,7 @@ use Rattle.tw_rbtree.specs.Reading.{IsPageAt, IsReading, Reading, child_in, fits
 use Rattle.tw_rbtree.specs.Ways.{seek}
 
 module _ (dig : List ℕ → List ℕ) (ps : Image) where
-  one_page : (page : ℕ) (p q : TreePage) → IsPageAt dig ps page p → IsPageAt dig ps page q → p ≡ q
+  pub one_page : (page : ℕ) (p q : TreePage) → IsPageAt dig ps page p → IsPageAt dig ps page q → p ≡ q
   one_page page p q is other = once _ p q is.may_stand.node other.may_stand.node is.bytes other.bytes
 
   told : (page : ℕ) (p : TreePage) (o : Option TreePage) → MatchOption o ((q : TreePage) → IsPageAt dig ps page q → ⊥) (λ q. IsPageAt dig ps page q) → IsPageAt dig ps page p → o ≡ Some p
