@@ -5,3 +5,4 @@ pub mod Paths
 pub mod Standing
 pub mod Listing
 pub mod Answers
+pub mod Growing

@@ -1,9 +1,9 @@
 // Reading the pages of a tree.
 
-ghost use Rattle.std.specs.Prelude.{◌≡◌, ℕ, ◌&&◌, Some, Option, IfOk, IsTrue, MatchOption};
+ghost use Rattle.std.specs.Prelude.{◌≡◌, ℕ, ◌<◌, true, ◌&&◌, Some, Option, IfOk, IsTrue, MatchOption};
 ghost use Rattle.tw_disk.specs.Image.{Image};
 ghost use Rattle.tw_disk.specs.Pages.{OnlyReads};
-ghost use Rattle.tw_rbnode.specs.Page.{TreePage};
+ghost use Rattle.tw_rbnode.specs.Children.{HasChildren};
 ghost use Rattle.tw_rbtree.specs.Answers.{NotFaultOnWay, WalkAnswersAs, WalkFaultsRise};
 ghost use Rattle.tw_rbtree.specs.Reading.{IsReading, Reading, child_in, fits as fits_there, is_above as is_above_of, is_below as is_below_of, lie_between, passing, root_in};
 
@@ -17,6 +17,8 @@ use tw_rbnode::{RbNode, entry_at, keys, level, read_node};
 /// Reads the tree page of this number; any may be a root page.
 pub(crate) fn read_root<P: Pages, H: Hasher>(pages: &mut P, page: u64) -> Result<RbNode, WalkFault>
     ensures answer { (ps : Image) → P.list pages.old ≡ Some ps → (at : Reading) → IsReading H.dig ps at → WalkAnswersAs (λ n. n) result (root_in at page) }
+    ensures kinds { IfOk result (λ n. HasChildren H.dig n) }
+    ensures some { IfOk result (λ n. 0 < P.used_count pages.old) }
     ensures kept { OnlyReads P.used_count P.list P.same P.unbroken pages.old pages.new (NotFaultOnWay result) }
     ensures faults { WalkFaultsRise (P.faults pages.old) (P.faults pages.new) result }
 {
@@ -90,6 +92,9 @@ pub(crate) fn read_child<P: Pages, H: Hasher>(
 ) -> Result<RbNode, WalkFault>
     ensures answer { (ps : Image) → P.list pages.old ≡ Some ps → (at : Reading) → IsReading H.dig ps at → WalkAnswersAs (λ n. n) result (child_in at wanted low.now high.now page) }
     ensures level { IfOk result (λ n. n.level ≡ wanted) }
+    ensures lie { IfOk result (λ n. lie_between low.now high.now n.entries ≡ true) }
+    ensures kinds { IfOk result (λ n. HasChildren H.dig n) }
+    ensures some { IfOk result (λ n. 0 < P.used_count pages.old) }
     ensures kept { OnlyReads P.used_count P.list P.same P.unbroken pages.old pages.new (NotFaultOnWay result) }
     ensures faults { WalkFaultsRise (P.faults pages.old) (P.faults pages.new) result }
 {
