@@ -40,7 +40,7 @@ module _ (dig : List ℕ → List ℕ) (ps more : Image) where
         bytes = subst (λ (b : List ℕ). IsPageOf node_codec b (fields_of p)) (sym same) is.bytes;
       }
 
-  tree_page-kept : (R S : Child → Tree → Type 0) → ((c : Child) (t : Tree) → R c t → S c t) → (level least page : ℕ) (t : Tree) → IsTreePage dig ps R level least page t → IsTreePage dig (ps ++ more) S level least page t
+  pub tree_page-kept : (R S : Child → Tree → Type 0) → ((c : Child) (t : Tree) → R c t → S c t) → (level least page : ℕ) (t : Tree) → IsTreePage dig ps R level least page t → IsTreePage dig (ps ++ more) S level least page t
   tree_page-kept R S f level least page t is = record {
     node = is.node;
     at = page-kept page is.node is.at;

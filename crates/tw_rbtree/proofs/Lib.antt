@@ -6,4 +6,7 @@ pub mod PageWays
 pub mod Standings
 pub mod RootWays
 pub mod Keeping
+pub mod Staging
+pub mod Adding
+pub mod Replacing
 pub mod Readings

@@ -83,10 +83,10 @@ leaf-labels dig zero z (c ∷ cs) (t ∷ ts) all are = λ i. (all.0.1 ∙ ap (tr
 leaf-labels dig (suc level) z cs ts all are = absurd (omega (arith, z))
 
 module _ (dig : List ℕ → List ℕ) (ps : Image) where
-  pub page-labels : (level page : ℕ) (p : TreePage) (ts : List Tree) → IsPageAt dig ps page p → p.level ≡ level → AreTrees (IsTreeBelow dig ps level) p.children ts → labels_of p.children ≡ map (tree_label dig) ts
+  pub over-labels : (level : ℕ) (p : TreePage) (ts : List Tree) → HasChildren dig p → p.level ≡ level → AreTrees (IsTreeBelow dig ps level) p.children ts → labels_of p.children ≡ map (tree_label dig) ts
   unfolding IsTreeBelow
-  page-labels zero page p ts at is are = leaf-labels dig p.level is p.children ts at.may_stand.children are
-  page-labels (suc level) page p ts at is are = labels-same dig (IsTreeBelow dig ps (suc level)) (λ c t below. below.0) p.children ts are
+  over-labels zero p ts kinds is are = leaf-labels dig p.level is p.children ts kinds are
+  over-labels (suc level) p ts kinds is are = labels-same dig (IsTreeBelow dig ps (suc level)) (λ c t below. below.0) p.children ts are
 
 -- a question that leads to a place has met nothing
 met-none : (ask : Ask) (base : ℕ) (low high : Option Entry) (es : List Entry) (place : ℕ) → (seek ask base low high es).at ≡ Between place → (seek ask base low high es).met ≡ None
@@ -161,7 +161,7 @@ module _ (dig : List ℕ → List ℕ) (ps : Image) (at : Reading) (reads : IsRe
     own_between = between-all low high p.entries (woven-own (LiesBetween low high) (map entries ts) p.entries lists_count lies)
 
     labels : labels_of p.children ≡ map (tree_label dig) ts
-    labels = page-labels dig ps level page p ts there level_is are
+    labels = over-labels dig ps level p ts there.may_stand.children level_is are
 
     spot_there : IsSpotOf 0 (length p.entries) (seek ask 0 low high p.entries).at
     spot_there = seek-there ask 0 low high p.entries

@@ -226,11 +226,11 @@ place_in : Spot → ℕ
 place_in (At slot) = 0
 place_in (Between place) = place
 
-same_place : (a b : ℕ) → ◌≡◌ {A = Spot} (Between a) (Between b) → a ≡ b
+pub same_place : (a b : ℕ) → ◌≡◌ {A = Spot} (Between a) (Between b) → a ≡ b
 unfolding place_in
 same_place a b e = ap place_in e
 
-no_slot : {A : Type 0} (slot place : ℕ) → ◌≡◌ {A = Spot} (At slot) (Between place) → A
+pub no_slot : {A : Type 0} (slot place : ℕ) → ◌≡◌ {A = Spot} (At slot) (Between place) → A
 no_slot slot place e = absurd (let e2 : ◌≡◌ {A = Spot} (At slot) (Between place) = e in cc)
 
 zero_place : {X : Type 0} (c : X) (cs : List X) (d : X) (k : ℕ) → k ≡ 0 → c ≡ slice_index_or (c ∷ cs) k d

@@ -1,5 +1,5 @@
 -- What a part of a tree has become by an entry more: one child in its place, or two with an entry between them.
-use Rattle.std.specs.Prelude.{◌≡◌, ℕ, suc, ◌+◌, ◌<◌, ◌≤◌, List, [], ◌∷◌, ◌++◌, length, map, take, drop, Bool, true, Option, Some, None, Result, Ok, Err}
+use Rattle.std.specs.Prelude.{◌≡◌, ◌≢◌, ℕ, suc, ◌+◌, ◌<◌, ◌≤◌, List, [], ◌∷◌, ◌++◌, length, map, take, drop, Bool, true, Option, Some, None, Result, Ok, Err}
 use Rattle.tw_base.specs.declared.thread.Entry.{Entry}
 use Rattle.tw_base.specs.Auth.{tree_label}
 use Rattle.tw_base.specs.Entries.{key_of}
@@ -17,7 +17,7 @@ use Rattle.tw_rbnode.specs.declared.node.Added.TheVariants.{One as OnePage, Two 
 use Rattle.tw_rbnode.specs.Answers.{IsAdded}
 use Rattle.tw_rbnode.specs.Children.{IsChildAt}
 use Rattle.tw_rbnode.specs.NodeBytes.{fields_of, node_codec}
-use Rattle.tw_rbnode.specs.Page.{IsBetween, TreePage}
+use Rattle.tw_rbnode.specs.Page.{IsBetween, IsNode, TreePage}
 use Rattle.tw_rbnode.specs.Trees.{page_label, woven}
 use Rattle.tw_rbtree.specs.declared.fault.TreeFault.{TreeFault}
 use Rattle.tw_rbtree.specs.declared.fault.TreeFault.TheVariants.{Present}
@@ -53,7 +53,7 @@ IsGrownIn low high (Two left middle right) =
 
 -- it may stand at the place of a page
 abbrev pub MayGoInto : (dig : List ℕ → List ℕ) → TreePage → (place : ℕ) → Grown → Type 0
-MayGoInto dig p place (One c) = (0 < c.page) × (0 < p.level)
+MayGoInto dig p place (One c) = (0 < c.page) × (p.level ≢ 0) × (place ≤ length p.entries)
 MayGoInto dig p place (Two left middle right) =
     IsEntryInRange middle × IsBetween p.entries place (key_of middle) × IsChildAt dig p.level left × IsChildAt dig p.level right
 
@@ -68,6 +68,10 @@ IsWith p place (Two left middle right) added = IsAdded p place middle left right
 pub record IsStaged (dig : List ℕ → List ℕ) (page : ℕ) (p : TreePage) (c : Child) : Type 0 where
   pub page_is : c.page ≡ page
   pub label_is : c.label ≡ page_label dig p
+
+abbrev pub AddedAreNodes : Added → Type 0
+AddedAreNodes (OnePage p) = IsNode p
+AddedAreNodes (TwoPages first middle second) = IsNode first × IsNode second
 
 -- what is added is staged so, from this number on
 abbrev pub IsStagedAs : (dig : List ℕ → List ℕ) → (page : ℕ) → Added → Grown → Type 0

@@ -12,9 +12,10 @@ ghost use Rattle.tw_disk.specs.Image.{Image};
 ghost use Rattle.tw_disk.specs.Pages.{OnlyAdds};
 ghost use Rattle.tw_rbnode.specs.Children.{AddedHasChildren, HasChildren, IsChildAt};
 ghost use Rattle.tw_rbnode.specs.NodeBytes.{fields_of, node_codec};
+ghost use Rattle.tw_rbnode.specs.Page.{IsNode};
 ghost use Rattle.tw_rbnode.specs.Trees.{woven};
 ghost use Rattle.tw_rbtree.specs.Answers.{AnswersInsert, FaultsRise, NeverUntrue, NotDiskFault};
-ghost use Rattle.tw_rbtree.specs.Growing.{AddedLists, AnswersGrown, GrownLists, IsGrownIn, IsLast, IsStaged, IsStagedAs, IsWith, MayGoInto};
+ghost use Rattle.tw_rbtree.specs.Growing.{AddedAreNodes, AddedLists, AnswersGrown, GrownLists, IsGrownIn, IsLast, IsStaged, IsStagedAs, IsWith, MayGoInto};
 ghost use Rattle.tw_rbtree.specs.Reading.{IsReading, Reading, is_above, is_below, lie_between};
 ghost use Rattle.tw_rbtree.specs.Standing.{AreTrees, IsTreeBelow, StandsFor};
 ghost use Rattle.tw_rbtree.specs.Ways.{way, way_from};
@@ -28,7 +29,7 @@ use tw_base::{Ask, Entry, Hasher, NoMemory, Root, empty_tree, entry_key};
 use tw_disk::Pages;
 use tw_rbnode::limits::TOP_LEVEL;
 use tw_rbnode::{
-    Added, Child, Found, RbNode, add, child_at, label, level, put_child, single, write_node,
+    Added, Child, Found, RbNode, add, child_at, keys, label, level, put_child, single, write_node,
 };
 
 /// What a part of the tree has become: one child in its place, or two with an entry between them.
@@ -42,9 +43,30 @@ pub(crate) enum Grown {
     },
 }
 
+/// Tells that a page is a page.
+fn see_node(node: &RbNode)
+    ensures { IsNode node.now }
+{
+    let _count = keys(node);
+}
+
+/// Tells that pages are pages.
+fn see_added(added: &Added)
+    ensures { AddedAreNodes added.now }
+{
+    match added {
+        Added::One(node) => see_node(node),
+        Added::Two { left, right, .. } => {
+            see_node(left);
+            see_node(right);
+        }
+    }
+}
+
 /// Stages the page, and answers the child that it is.
 fn stage_node<P: Pages, H: Hasher>(pages: &mut P, node: &RbNode) -> Result<Child, NoMemory>
     requires { P.used_count pages.old < 2 ^ 48 - 4 }
+    ensures node { IsNode node.now }
     ensures staged { IfOk result (λ c. IsStaged H.dig (P.used_count pages.old) node.now c) }
     ensures put { IfOk result (λ c. (bytes : List ℕ) × IsPageOf node_codec bytes (fields_of node.now)
         × (P.list pages.new ≡ option_map (λ ps. ps ++ bytes ∷ []) (P.list pages.old))) }
@@ -53,6 +75,7 @@ fn stage_node<P: Pages, H: Hasher>(pages: &mut P, node: &RbNode) -> Result<Child
     ensures kept { OnlyAdds P.used_count P.list P.same P.unbroken pages.old pages.new (Unit {0}) }
     ensures faults { P.faults pages.new ≡ P.faults pages.old }
 {
+    see_node(node);
     let page = pages.stage(&write_node(node))?;
     let label = label::<H>(node);
     Ok(Child { page, label })
@@ -142,13 +165,20 @@ fn grow_below<P: Pages, H: Hasher>(
             page: 0,
             label: empty_tree::<H>(),
         };
-        let added = add::<H>(node, place, *entry, empty, empty);
+        let leaf = Grown::Two {
+            left: empty,
+            middle: *entry,
+            right: empty,
+        };
+        let added = with_grown::<H>(node, place, &leaf);
+        see_added(&added);
         return Ok(stage_added::<P, H>(pages, added)?);
     }
     let page = child_at(node, place).page;
     let child = read_child::<P, H>(pages, page, level(node) - 1, &here.low, &here.high)?;
     let grown = grow_below::<P, H>(pages, &child, &here.low, &here.high, entry)?;
     let added = with_grown::<H>(node, place, &grown);
+    see_added(&added);
     Ok(stage_added::<P, H>(pages, added)?)
 }
 
