@@ -9,4 +9,5 @@ pub mod Keeping
 pub mod Staging
 pub mod Adding
 pub mod Replacing
+pub mod GrowLaws
 pub mod Readings

@@ -89,7 +89,7 @@ module _ (dig : List ℕ → List ℕ) (ps : Image) where
   over-labels (suc level) p ts kinds is are = labels-same dig (IsTreeBelow dig ps (suc level)) (λ c t below. below.0) p.children ts are
 
 -- a question that leads to a place has met nothing
-met-none : (ask : Ask) (base : ℕ) (low high : Option Entry) (es : List Entry) (place : ℕ) → (seek ask base low high es).at ≡ Between place → (seek ask base low high es).met ≡ None
+pub met-none : (ask : Ask) (base : ℕ) (low high : Option Entry) (es : List Entry) (place : ℕ) → (seek ask base low high es).at ≡ Between place → (seek ask base low high es).met ≡ None
 met-none ask base low high [] place at = ap (λ (s : Sought). s.met) (seek-nil ask base low high)
 met-none ask base low high (e ∷ es) place at =
     ap (λ (s : Sought). s.met) (seek-cons ask base low high e es)

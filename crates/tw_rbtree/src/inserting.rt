@@ -156,6 +156,7 @@ fn grow_below<P: Pages, H: Hasher>(
     ensures kept { OnlyAdds P.used_count P.list P.same P.unbroken pages.old pages.new (NotDiskFault result) }
     ensures faults { FaultsRise (P.faults pages.old) (P.faults pages.new) result }
 {
+    see_node(node);
     let here = seek(node, &Ask::Absent(entry_key(entry)), low, high);
     let Found::Between(place) = here.at else {
         return Err(TreeFault::Present);
