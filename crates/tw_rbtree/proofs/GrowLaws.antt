@@ -186,7 +186,7 @@ child-same at level low high page q r told found = by (fits level low high q) (a
     by false e = cc
 
 -- a page of a tree with fewer keys asked for
-less-keys : (dig : List ℕ → List ℕ) (ps : Image) (level least : ℕ) (c : Child) (t : Tree) → 12 ≤ least → IsChildTree dig ps level least c t → IsTreeBelow dig ps (suc level) c t
+pub less-keys : (dig : List ℕ → List ℕ) (ps : Image) (level least : ℕ) (c : Child) (t : Tree) → 12 ≤ least → IsChildTree dig ps level least c t → IsTreeBelow dig ps (suc level) c t
 unfolding IsTreeBelow
 less-keys dig ps level least c t enough is = (is.0, record {
   node = is.1.node;

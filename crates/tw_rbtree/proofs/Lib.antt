@@ -10,4 +10,5 @@ pub mod Staging
 pub mod Adding
 pub mod Replacing
 pub mod GrowLaws
+pub mod RootGrowing
 pub mod Readings

@@ -31,7 +31,7 @@ use Rattle.tw_rbtree.proofs.Standings.{WayIn, way-in}
 use Rattle.tw_rbtree.proofs.WayLaws.{way-empty, way-root}
 use Rattle.tw_rbtree.proofs.Weaving.{LiesBetween, Tells}
 
-all_between : (es : List Entry) → Each (LiesBetween None None) es
+pub all_between : (es : List Entry) → Each (LiesBetween None None) es
 all_between [] = tt
 all_between (e ∷ es) = ((refl, refl), all_between es)
 
