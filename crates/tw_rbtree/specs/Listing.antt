@@ -42,8 +42,8 @@ module _ (at : Reading) (since : ℕ) where
   listed_from zero low high page p nodes = listed_at (λ low high place nodes. Is (record { nodes = nodes; side = NoTree })) p.entries page low high 0 p.shape nodes
   listed_from (suc level) low high page p nodes =
       listed_at (λ low high place nodes.
-        if nat_lt (child_page p place) since then Is (record { nodes = nodes; side = Old (child_page p place) })
-        else (child_in at level low high (child_page p place) >>= (λ q. listed_from level low high (child_page p place) q nodes)))
+      if nat_lt (child_page p place) since then Is (record { nodes = nodes; side = Old (child_page p place) })
+      else (child_in at level low high (child_page p place) >>= (λ q. listed_from level low high (child_page p place) q nodes)))
       p.entries page low high 0 p.shape nodes
 
   -- the nodes of the tree's pages whose numbers are at least this one; older pages are named and not read

@@ -8,7 +8,7 @@ use Rattle.tw_base.specs.Codecs.{Codec}
 use Rattle.tw_base.specs.Formats.{Placed}
 use Rattle.tw_base.proofs.CodecLaws.{Lawful}
 use Rattle.tw_base.proofs.FormatLaws.{read_at-spells, read_at-word}
-use Rattle.tw_disk.proofs.FoundLaws.{in_turn, is_on, same_found}
+use Rattle.tw_disk.proofs.FoundLaws.{same_found}
 use Rattle.tw_disk.specs.Image.{Image, page_at}
 use Rattle.tw_base.specs.PageBytes.{IsPageOf}
 use Rattle.tw_skiplist.specs.declared.fault.ListFault.{ListFault}

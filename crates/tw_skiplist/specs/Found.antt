@@ -4,7 +4,7 @@ use Rattle.tw_base.specs.Codecs.{Codec}
 use Rattle.tw_base.specs.Formats.{Placed}
 use Rattle.tw_disk.specs.declared.limits.TheConstants.{FIRST_PAGE}
 use Rattle.tw_disk.specs.Found.{Found, when}
-use Rattle.tw_disk.specs.Found.Found.{Is, Bad}
+use Rattle.tw_disk.specs.Found.Found.{Bad}
 use Rattle.tw_disk.specs.Image.{Image, page_at}
 
 -- so many zeros, and nothing else
