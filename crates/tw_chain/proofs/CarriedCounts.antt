@@ -1,6 +1,6 @@
 -- A proof carries no more threads than it has hops.
-use Rattle.std.proofs.Common.{◌≡◌, ℕ, suc, ◌<◌, ◌≤◌, ◌^◌, List, [], ◌∷◌, ◌++◌, length, refl, sym, ap, ◌∙◌, subst, arith, length-append}
-use Rattle.std.specs.Prelude.{Bool, true, false, Option, ◌==◌, if◌then◌else◌}
+use Rattle.std.proofs.Common.{◌≡◌, ℕ, suc, ◌≤◌, List, [], ◌∷◌, ◌++◌, length, ap, ◌∙◌, arith, length-append}
+use Rattle.std.specs.Prelude.{Bool, true, false, ◌==◌, if◌then◌else◌}
 use Rattle.std.specs.List.{flat_map}
 use Rattle.std.proofs.lemmas.Grind.{flat_map-append}
 use Rattle.std.proofs.lemmas.List.{append-nil}
@@ -46,8 +46,13 @@ carried-hops part step root [] = omega arith
 carried-hops part step root (hop ∷ hops) =
     let here : List Check = hop_checks part step root hop in
     let behind : List Check = hops_checks (suc part) hop.entry.thread.step (root_of hop.opening) hops in
-    omega (arith, carried-hop part step root hop, carried-hops (suc part) hop.entry.thread.step (root_of hop.opening) hops,
-      ap length (flat_map-append carried_by here behind), length-append (carried_of here) (carried_of behind))
+    omega (
+      arith,
+      carried-hop part step root hop,
+      carried-hops (suc part) hop.entry.thread.step (root_of hop.opening) hops,
+      ap length (flat_map-append carried_by here behind),
+      length-append (carried_of here) (carried_of behind),
+    )
 
 carried-chain : (p : PrecedenceProof) → length (carried (Precedes p)) ≤ length p.hops
 carried-chain p =

@@ -1,5 +1,5 @@
 -- The bytes of a proof from event to event, as they are written.
-use Rattle.std.proofs.Common.{◌≡◌, ℕ, ◌-◌, List, ◌++◌, length, flat_map, refl, ap, sym, ◌∙◌, subst, append_assoc}
+use Rattle.std.proofs.Common.{◌≡◌, ℕ, ◌-◌, List, ◌++◌, length, flat_map, refl, ap, sym, ◌∙◌, append_assoc}
 use Rattle.std.specs.Prelude.{Bool, true, false, Option, Some, None, nat_lt}
 use Rattle.tw_base.specs.Codecs.{by_kind, each, labels_codec, many, nothing, number_codec, optional, pair, present, seen, written}
 use Rattle.tw_base.specs.Fields.{number_bytes}

@@ -54,6 +54,20 @@ pub from_1_of_entry : (h : History) (k : ℕ) (e : Entry) → entry_at h k ≡ S
 from_1_of_entry h zero e at = let no : None ≡ Some e = at in cc
 from_1_of_entry h (suc i) e at = omega arith
 
+module _ (dig : List ℕ → List ℕ) (h : History) (step top : ℕ) (sound : IsSound h) where
+  -- the tree's own proof checks under the opening's archive root
+  own_checks : (p : Part) (asked : Ask) (shown : TreeProof) → IsPartOf dig h step top p → IsSo (entries (tree h step)) asked → shown ≡ proof_of dig (tree h step) asked
+      → Checks dig p.opening.archive_root asked shown
+  own_checks p asked shown is so e =
+      subst (Checks dig p.opening.archive_root asked) (sym e)
+      (subst (λ root. Checks dig root asked (proof_of dig (tree h step) asked)) is.opening.binds.archive_root (own-checks dig (tree h step) asked (tree-rises h sound step) so))
+
+  -- so does that of an entry that was received, which is no later than the step
+  pub entry-shown : step ≤ length h.steps → (p : ThreadProof) → IsThreadProofOf dig h step top p
+      → (p.entry.archived ≤ p.at.step) × Checks dig p.at.opening.archive_root (ask.Present p.entry) p.shown
+  entry-shown has p is =
+      (omega (arith, is.before, is.at.at_step), own_checks p.at (ask.Present p.entry) p.shown is.at (received-is_so h step sound has p.entry is.received is.before) is.shown)
+
 module _ (dig : List ℕ → List ℕ) (h : History) (step top : ℕ) (order : step ≤ top) (anchors : List Thread) (anchor : Thread)
     (held : anchor_of anchors h.name top ≡ Some anchor) (reached : anchor.auth ≡ auth dig h top) where
   -- a part of the history has the anchor's service and top
@@ -63,13 +77,6 @@ module _ (dig : List ℕ → List ℕ) (h : History) (step top : ℕ) (order : s
   -- and reaches the anchor
   part_reaches : (p : Part) → IsPartOf dig h step top p → 0 < step → Reaches dig p anchor.auth
   part_reaches p is from_1 = subst (Reaches dig p) (sym reached) (reaches-made dig h step top p is from_1 order)
-
-  -- the tree's own proof checks under the opening's archive root
-  own_checks : (p : Part) (asked : Ask) (shown : TreeProof) → IsPartOf dig h step top p → IsSound h → IsSo (entries (tree h step)) asked → shown ≡ proof_of dig (tree h step) asked
-      → Checks dig p.opening.archive_root asked shown
-  own_checks p asked shown is sound so e =
-      subst (Checks dig p.opening.archive_root asked) (sym e)
-      (subst (λ root. Checks dig root asked (proof_of dig (tree h step) asked)) is.opening.binds.archive_root (own-checks dig (tree h step) asked (tree-rises h sound step) so))
 
   -- the check of the anchor passes, and so does one of a path that reaches the anchor's authenticator
   held-passes : (key : Key) → anchor_of anchors key.from key.step ≡ Some anchor → Passes dig anchors (NeedsAnchor key)
@@ -96,17 +103,15 @@ module _ (dig : List ℕ → List ℕ) (h : History) (step top : ℕ) (order : s
   thread-accepted : IsSound h → top ≤ length h.steps → (p : ThreadProof) → IsThreadProofOf dig h step top p → IsAccepted dig anchors (Archived p)
   thread-accepted sound has p is =
       let onward : List Check = InOrder p.entry.archived p.at.step ∷ AnswerOf 0 p.at.opening.archive_root (ask.Present p.entry) p.shown ∷ [] in
-      let shown : Each (Passes dig anchors) onward = (
-        omega (arith, is.before, is.at.at_step),
-        (own_checks p.at (ask.Present p.entry) p.shown is.at sound (received-is_so h step sound (omega (arith, order, has)) p.entry is.received is.before) is.shown, tt),
-      ) in
+      let own = entry-shown dig h step top sound (omega (arith, order, has)) p is in
+      let shown : Each (Passes dig anchors) onward = (own.0, (own.1, tt)) in
       Each-append (Passes dig anchors) (under_anchor 0 p.at) onward
       (under-passes p.at is.at (omega (arith, from_1_of_entry h p.entry.archived p.entry is.received, is.before))) shown
 
   absence-accepted : IsSound h → (p : AbsenceProof) → IsAbsenceProofOf dig h step top p → IsAccepted dig anchors (Absent p)
   absence-accepted sound p is =
       let onward : List Check = AnswerOf 0 p.at.opening.archive_root (ask.Absent p.key) p.shown ∷ [] in
-      let shown : Each (Passes dig anchors) onward = (own_checks p.at (ask.Absent p.key) p.shown is.at sound (lacks-is_so h step p.key is.none) is.shown, tt) in
+      let shown : Each (Passes dig anchors) onward = (own_checks dig h step top sound p.at (ask.Absent p.key) p.shown is.at (lacks-is_so h step p.key is.none) is.shown, tt) in
       Each-append (Passes dig anchors) (under_anchor 0 p.at) onward (under-passes p.at is.at is.from_1) shown
 
   link-climbs : (p : LinkProof) → IsLinkProofOf dig h step top p → Climbs dig p.path.links p.top p.step p.auth anchor.auth

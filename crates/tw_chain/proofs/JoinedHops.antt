@@ -1,5 +1,5 @@
 -- The hops of a proof that parts join to, and the steps that they come to.
-use Rattle.std.proofs.Common.{◌≡◌, ℕ, ◌+◌, ◌-◌, ◌≤◌, List, [], ◌∷◌, ◌++◌, length, refl, sym, ap, ◌∙◌, arith}
+use Rattle.std.proofs.Common.{◌≡◌, ℕ, ◌+◌, ◌≤◌, List, [], ◌∷◌, ◌++◌, length, refl, sym, ap, ◌∙◌, arith}
 use Rattle.std.specs.Prelude.{reverse, Option, Some, None, Ok}
 use Rattle.std.proofs.lemmas.List.{append-nil, append_assoc}
 use Rattle.tw_base.specs.declared.limits.TheConstants.{MOST_HOPS}
@@ -13,7 +13,7 @@ use Rattle.tw_chain.specs.declared.proof.Proof.{Proof}
 use Rattle.tw_chain.specs.declared.proof.Proof.TheVariants.{Precedes}
 use Rattle.tw_chain.specs.Accepting.{hop_from, hops_of, hops_to, report_of}
 use Rattle.tw_chain.specs.Checks.{last_thread}
-use Rattle.tw_chain.specs.Joining.{Joint, hop_of, hops_before, joined, joined_of, shown_hop, shown_hops, wanted}
+use Rattle.tw_chain.specs.Joining.{Joint, hop_of, hops_before, joined, shown_hops, wanted}
 use Rattle.tw_chain.specs.Joining.Taken.{Nothing}
 use Rattle.tw_chain.specs.Proofs.{last_step}
 use Rattle.tw_chain.proofs.JoinedParts.{JointsFit, joined-fits, joint_hops}

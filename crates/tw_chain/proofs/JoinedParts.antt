@@ -1,6 +1,6 @@
 -- Parts that join, taken apart: what each of them is, where each has some property.
 use Rattle.std.proofs.Common.{◌≡◌, ℕ, ◌+◌, ◌<◌, List, [], ◌∷◌, ◌++◌, length, refl, sym, ap, ◌∙◌, subst}
-use Rattle.std.specs.Prelude.{reverse, Bool, true, false, Option, Some, None, Result, Ok, Err, IfSome, nat_lt, is_none, ◌==◌, ◌&&◌}
+use Rattle.std.specs.Prelude.{reverse, Bool, true, false, Option, Some, None, Ok, Err, IfSome, nat_lt, is_none, ◌==◌, ◌&&◌}
 use Rattle.std.specs.Option.{option_map_or}
 use Rattle.std.specs.Str.{bytes_eq}
 use Rattle.std.proofs.lemmas.Bool.{and_parts, eqb-true, ltb-true}

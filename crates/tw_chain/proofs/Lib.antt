@@ -24,3 +24,5 @@ pub mod OwnSpelling
 pub mod ChainBytes
 pub mod JoinedParts
 pub mod JoinedHops
+pub mod JoinedSpelling
+pub mod JoinedAccepted

@@ -1,11 +1,10 @@
 -- Whether a check passes, as a truth value, and what its passing is.
-use Rattle.std.proofs.Common.{◌≡◌, ℕ, ◌≤◌, List, [], ◌∷◌, length, refl, arith}
+use Rattle.std.proofs.Common.{◌≡◌, ℕ, ◌≤◌, List, [], ◌∷◌, length, refl}
 use Rattle.std.specs.Prelude.{Bool, true, false, Option, Some, None, ◌&&◌, ◌==◌, not, nat_le, nat_lt, IfSome}
 use Rattle.std.specs.Bool.{Decides}
-use Rattle.std.specs.Option.{option_map_or}
 use Rattle.std.specs.Str.{bytes_eq}
 use Rattle.std.proofs.lemmas.Bool.{leb-true, le-leb, not-true, not_from_false}
-use Rattle.std.proofs.lemmas.Bool.Decides.{Decides-and, Decides-eqb, Decides-like, Decides-ltb}
+use Rattle.std.proofs.lemmas.Bool.Decides.{Decides-and, Decides-eqb, Decides-ltb}
 use Rattle.std.proofs.lemmas.Slice.Eq.{bytes_eq-Decides}
 use Rattle.tw_base.specs.declared.event_part.EventPart.{EventPart}
 use Rattle.tw_base.specs.declared.thread.Thread.{Thread}
@@ -28,7 +27,7 @@ use Rattle.tw_chain.specs.Checks.{Check, link_top}
 use Rattle.tw_chain.specs.Checks.Check.{InOrder, NeedsAnchor, CarriesThread, PathOf, LinkOf, OpeningOf, EventOf, AnswerOf}
 use Rattle.tw_chain.specs.Checks.Upper.{AtAnchor}
 use Rattle.tw_chain.specs.Judgements.{answers, climbs, has_shape, is_free, is_opening_at, is_same_kind, opens, passes, reaches, shows}
-use Rattle.tw_chain.specs.Passing.{Passes, anchor_at, upper_auth}
+use Rattle.tw_chain.specs.Passing.{Passes, upper_auth}
 
 Decides-three : {P Q R : Type 0} (x y z : Bool) → Decides x P → Decides y Q → Decides z R → Decides (x && (y && z)) (P × Q × R)
 Decides-three x y z p q r =

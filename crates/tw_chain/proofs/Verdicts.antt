@@ -1,5 +1,5 @@
 -- The verdict on bytes, from the judgement of the proof that they spell, or the place where they spell none.
-use Rattle.std.proofs.Common.{◌≡◌, ◌≢◌, ◌⊎◌, ℕ, ◌<◌, ◌≤◌, ◌^◌, List, [], ◌∷◌, length, refl, sym, ap, ◌∙◌, subst, arith, inl, inr}
+use Rattle.std.proofs.Common.{◌≡◌, ◌⊎◌, ℕ, ◌<◌, ◌≤◌, ◌^◌, List, [], ◌∷◌, length, refl, sym, ap, ◌∙◌, subst, arith, inl, inr}
 use Rattle.std.specs.Prelude.{Bool, true, false, Option, Some, None, ◌&&◌, nat_lt, reverse, if◌then◌else◌}
 use Rattle.std.specs.Option.{option_map_or}
 use Rattle.std.proofs.lemmas.Bool.{and_parts, ltb-false, ltb-true}
@@ -7,7 +7,6 @@ use Rattle.std.proofs.lemmas.List.{length-reverse}
 use Rattle.tw_base.specs.declared.thread.Thread.{Thread}
 use Rattle.tw_base.specs.declared.report.Reason.{Reason}
 use Rattle.tw_base.specs.declared.report.Reason.TheVariants.{Malformed, BadOrder, NotHeld, BadPath, BadOpening, BadEvent, BadTree, Carried}
-use Rattle.tw_base.specs.declared.report.Report.{Report}
 use Rattle.tw_base.specs.Formats.{Format, IsPlace, Spells, SpellsNothing}
 use Rattle.tw_base.specs.Reasons.{IsNoHigher}
 use Rattle.tw_base.proofs.FormatLaws.{one_value}
@@ -21,7 +20,7 @@ use Rattle.tw_chain.specs.Checks.Check.{InOrder, NeedsAnchor, CarriesThread, Pat
 use Rattle.tw_chain.specs.Judgements.{found_in, judged_layout, judgement_of, unfound, verdict_of}
 use Rattle.tw_chain.specs.Passing.{Passes, reason_of}
 use Rattle.tw_chain.specs.Proofs.{proof_layout}
-use Rattle.tw_chain.specs.Reasons.{Fails, IsLowest, IsVerdict, Stands, StandsAgainst}
+use Rattle.tw_chain.specs.Reasons.{Fails, IsLowest, IsVerdict, StandsAgainst}
 use Rattle.tw_chain.proofs.CarriedCounts.{few-carried}
 use Rattle.tw_chain.proofs.JudgedFronts.{judged-word}
 use Rattle.tw_chain.proofs.Lowest.{IsLeast, first-fails, found-lowest, found-none, no_higher-self, passing-fails}

@@ -1,5 +1,5 @@
 -- When a proof is accepted, what it then claims, and what checking it hashes.
-use Rattle.std.specs.Prelude.{◌≡◌, ℕ, List, [], ◌∷◌, ◌++◌, reverse}
+use Rattle.std.specs.Prelude.{ℕ, List, [], ◌∷◌, ◌++◌, reverse}
 use Rattle.std.specs.List.{flat_map}
 use Rattle.tw_base.specs.declared.event_part.EventPart.{EventPart}
 use Rattle.tw_base.specs.declared.report.Claim.{Claim}

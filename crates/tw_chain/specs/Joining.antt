@@ -9,7 +9,6 @@ use Rattle.tw_base.specs.declared.thread.Key.{Key}
 use Rattle.tw_base.specs.declared.thread.Thread.{Thread}
 use Rattle.tw_base.specs.Entries.{key_of}
 use Rattle.tw_skipproof.specs.declared.existence.ExistenceProof.{ExistenceProof}
-use Rattle.tw_skipproof.specs.declared.existence.Part.{Part}
 use Rattle.tw_skipproof.specs.declared.opening.Opening.{Opening}
 use Rattle.tw_chain.specs.declared.joining.JoinFault.{JoinFault}
 use Rattle.tw_chain.specs.declared.joining.JoinFault.TheVariants.{Gap, NoMemory}

@@ -1,21 +1,15 @@
 -- The bytes of proofs, by their kinds.
-use Rattle.std.specs.Prelude.{◌≡◌, ℕ, suc, zero, ◌-◌, ◌≤◌, List, [], ◌∷◌, ◌++◌, length, true, false, Option, Some, None, ◌==◌, nat_lt}
+use Rattle.std.specs.Prelude.{ℕ, suc, zero, ◌-◌, List, [], ◌∷◌, ◌++◌, length, Option, Some, None, ◌==◌, nat_lt}
 use Rattle.std.specs.Option.{option_map_or}
 use Rattle.tw_base.specs.declared.limits.TheConstants.{LAST_STEP, MOST_HOPS}
 use Rattle.tw_base.specs.declared.thread.Key.{Key}
 use Rattle.tw_base.specs.Codecs.{Codec, behind, by_kind, choose, digest_codec, each, name_codec, number_codec, optional, pair, seen, variant}
 use Rattle.tw_base.specs.Fields.{number_bytes}
 use Rattle.tw_base.specs.Formats.{Format}
-use Rattle.tw_base.specs.Lists.{Each}
 use Rattle.tw_base.specs.EntryCodec.{entry_codec}
-use Rattle.tw_base.specs.Limits.{IsEntryInRange, IsStep}
 use Rattle.tw_skipproof.specs.declared.existence.ExistenceProof.{ExistenceProof}
 use Rattle.tw_skipproof.specs.declared.opening.Opening.{Opening}
 use Rattle.tw_skipproof.specs.Codecs.{event_codec, existence_body, opening_bytes, opening_codec, part_codec, path_bytes, path_codec, proof_magic, step_codec}
-use Rattle.tw_skipproof.specs.Existence.{IsExistenceInRange, IsPartInRange, IsPartShaped, IsShaped}
-use Rattle.tw_skipproof.specs.Paths.{HasShape}
-use Rattle.tw_treeproof.specs.Answers.{is_of_entry}
-use Rattle.tw_treeproof.specs.Limits.{IsProofInRange}
 use Rattle.tw_treeproof.specs.Codecs.{gap_codec, present_codec}
 use Rattle.tw_chain.specs.declared.proof.AbsenceProof.{AbsenceProof}
 use Rattle.tw_chain.specs.declared.proof.HopPart.{HopPart}

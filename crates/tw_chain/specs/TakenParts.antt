@@ -1,5 +1,5 @@
 -- The parts that code holds by reference, in the order of the bytes, as the definition of joining has them.
-use Rattle.std.specs.Prelude.{List, map, reverse, Option}
+use Rattle.std.specs.Prelude.{List, map, reverse}
 use Rattle.std.specs.Option.{option_map}
 use Rattle.tw_chain.specs.declared.joining.Joint.{Joint as HeldJoint}
 use Rattle.tw_chain.specs.declared.joining.Taken.{Taken as HeldParts}

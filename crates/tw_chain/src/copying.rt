@@ -89,8 +89,5 @@ pub fn copy_tree_proof(alloc: Global, proof: &TreeProof) -> Result<TreeProof, No
 fn copy_ancestors(alloc: Global, ancestors: &AncestorList) -> Result<AncestorList, NoMemory>
     ensures { IfOk result (λ copy. copy ≡ ancestors.now) }
 {
-    Ok(AncestorList::from_vec(Vec::from_slice(
-        alloc,
-        ancestors.as_slice(),
-    )?))
+    Ok(AncestorList::from_vec(Vec::from_slice(alloc, ancestors.as_slice())?))
 }

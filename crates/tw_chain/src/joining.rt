@@ -51,7 +51,7 @@ pub(crate) enum Taken<'a> {
 
 /// The service and step whose archive shows the next hop, and which is the first event's top where
 /// none follows.
-fn wanted<'a>(second: &ExistenceProof, joints: &[Joint<'a>]) -> Key
+fn wanted(second: &ExistenceProof, joints: &[Joint<'_>]) -> Key
     ensures { result ≡ wanted_of second.now (joints_of joints.now) }
 {
     match joints.last() {
@@ -112,7 +112,8 @@ fn with_part<'a>(
         }
         (Taken::Hops(second, mut joints), Proof::Archived(thread)) => {
             let key = wanted(second, joints.as_slice());
-            if joints.len() as u64 >= MOST_HOPS || !is_key(&key, &thread.at.service, thread.at.step)
+            if joints.len() as u64 >= MOST_HOPS
+                || !is_key(&key, &thread.at.service, thread.at.step)
             {
                 return Ok(None);
             }
@@ -134,11 +135,7 @@ fn with_part<'a>(
 }
 
 /// The hop of these parts, and the opening behind it.
-fn hop_of<'a>(
-    alloc: Global,
-    joint: &Joint<'a>,
-    behind: Option<Opening>,
-) -> Result<HopPart, NoMemory>
+fn hop_of(alloc: Global, joint: &Joint<'_>, behind: Option<Opening>) -> Result<HopPart, NoMemory>
     ensures { IfOk result (λ hop. hop ≡ hop_of_joint (joint_of joint.now) behind) }
 {
     let (bind, link) = match joint.link {
@@ -161,9 +158,9 @@ fn hop_of<'a>(
 
 /// The opening before the hops of these parts, and the hops; each opening is that of the next thread's
 /// proof.
-fn hops_of<'a>(
+fn hops_of(
     alloc: Global,
-    mut joints: Vec<Joint<'a>>,
+    mut joints: Vec<Joint<'_>>,
 ) -> Result<(Option<Opening>, HopParts), NoMemory>
     ensures { IfOk result (λ all. (all.0, all.1) ≡ hops_before (joints_of joints.entry.items) None []) }
 {
@@ -178,10 +175,10 @@ fn hops_of<'a>(
 }
 
 /// The proof of all parts.
-fn whole<'a>(
+fn whole(
     alloc: Global,
     second: &ExistenceProof,
-    joints: Vec<Joint<'a>>,
+    joints: Vec<Joint<'_>>,
     first: &ExistenceProof,
 ) -> Result<PrecedenceProof, NoMemory>
     ensures { IfOk result (λ p. p ≡ joined_of second.now (joints_of joints.entry.items) first.now) }

@@ -18,7 +18,8 @@ impl<H: Hasher> Segments for Judging<H> {
     }
 
     fn whole(self) -> Option<Judgement> {
-        match self.stage {
+        let Judging { stage, .. } = self;
+        match stage {
             Stage::Done(judgement) => Some(judgement),
             _ => None,
         }

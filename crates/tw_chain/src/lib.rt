@@ -7,6 +7,7 @@ mod chain_writing;
 mod copying;
 mod finding;
 mod joined_laws;
+mod following;
 mod joining;
 mod judgement;
 mod judging;

@@ -20,11 +20,13 @@ pub enum Verdict {
 }
 
 impl Verdict {
-    /// The verdict that a judgement comes to.
+    /// The verdict that a judgement comes to: No with the lowest reason that was found; where none was,
+    /// in the strict form No where threads are carried; else Yes.
     pub(crate) fn of(judgement: Judgement, strict: bool) -> Verdict
         ensures { length judgement.report.carried < 2 ^ 8 → result ≡ verdict_of strict judgement }
     {
         let Judgement { found, report } = judgement;
+        // A proof carries no more threads than it has hops, of which there are at most 64.
         let count = u8::try_from(report.carried.len()).unwrap_or(u8::MAX);
         match found {
             Some(reason) => Verdict::No(reason),

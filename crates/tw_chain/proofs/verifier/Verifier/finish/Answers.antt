@@ -1,4 +1,4 @@
-use Rattle.std.proofs.Common.{◌≡◌, ℕ, List, ◌∙◌, subst, ap, sym}
+use Rattle.std.proofs.Common.{ℕ, ◌∙◌, subst, ap, sym}
 use Rattle.std.specs.Prelude.{Bool, Err}
 use Rattle.tw_base.specs.declared.failure.ReadFault.{ReadFault}
 use Rattle.tw_base.specs.declared.failure.ReadFault.TheVariants.{Malformed}
