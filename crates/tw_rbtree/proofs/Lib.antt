@@ -11,4 +11,5 @@ pub mod Adding
 pub mod Replacing
 pub mod GrowLaws
 pub mod RootGrowing
+pub mod ShowLaws
 pub mod Readings
