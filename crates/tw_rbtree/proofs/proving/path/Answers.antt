@@ -26,7 +26,7 @@ returns-in_err-first-clause-answer g c = λ ps told at reads.
     let fault = c.in_err-first.field-0.0 in
     let root = c.args.root.now in
     let ask = c.args.ask.now in
-    path-passed dig ask c.from_residual.result (tree_fault fault) (way at ask root) c.from_residual-in_err-first.ensures.1
+    path-passed dig ask c.from_residual.result (tree_fault fault) (way at ask root) c.from_residual.ensures.1
     (walk-path dig ask fault _ (path-bad dig ask at root c.if-root-eq0.false (tree_fault fault) (as_tree_fault fault _ (c.in_err-first.ensures.answer ps told at reads))))
 
 pub returns-in_err-shown-clause-answer : goal.returns-in_err-shown-clause-answer
