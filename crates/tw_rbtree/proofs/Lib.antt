@@ -12,4 +12,5 @@ pub mod Replacing
 pub mod GrowLaws
 pub mod RootGrowing
 pub mod ShowLaws
+pub mod ListLaws
 pub mod Readings

@@ -1,6 +1,6 @@
 // The nodes of a tree that are new since a page.
 
-ghost use Rattle.std.specs.Prelude.{◌≡◌, ℕ, ◌-◌, ◌<◌, ◌≤◌, List, Some, length, slice_get};
+ghost use Rattle.std.specs.Prelude.{◌≡◌, ℕ, ◌-◌, ◌<◌, ◌≤◌, ◌==◌, ◌||◌, List, Some, length, nat_lt, slice_get};
 ghost use Rattle.tw_disk.specs.Image.{Image};
 ghost use Rattle.tw_disk.specs.Pages.{OnlyReads};
 ghost use Rattle.tw_rbnode.specs.Shape.{Shape};
@@ -101,6 +101,13 @@ fn list_part<P: Pages, H: Hasher>(
     Ok(Side::New(nodes.len() as u64))
 }
 
+/// Whether the root has no page, or one below this number.
+fn is_older(root: &Root, since: u64) -> bool
+    ensures { result ≡ ((root.now.page == 0) || nat_lt root.now.page since) }
+{
+    root.page == 0 || root.page < since
+}
+
 /// The nodes of those pages of the tree under the root whose numbers are at least `since`, each behind those of its sides. Reads
 /// these pages alone.
 pub fn fresh<P: Pages, H: Hasher>(
@@ -122,7 +129,7 @@ pub fn fresh<P: Pages, H: Hasher>(
     ensures faults { FaultsRise (P.faults pages.old) (P.faults pages.new) result }
 {
     let mut nodes = NewNodes::new(alloc);
-    if root.page == 0 || root.page < since {
+    if is_older(root, since) {
         return Ok(nodes);
     }
     let first = read_root::<P, H>(pages, root.page)?;
