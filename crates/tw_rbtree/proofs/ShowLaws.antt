@@ -95,10 +95,14 @@ module _ (dig : List ℕ → List ℕ) (ask : Ask) where
 
       pub shown-up : (old new : Shown) → AnswersShown dig ask (Ok old) (on q) → new.ancestors ≡ old.ancestors ++ nodes_above dig p (seek ask 0 low high p.entries).at → new.sides ≡ old.sides
           → AnswersShown dig ask (Ok new) (way_from at ask level low high p)
-      shown-up old new shown ancestors sides =
-          (here at ask low high p, shown.0 ∷ shown.1, goes_on ∙ is_on (on q) (λ stops. Is (here at ask low high p ∷ stops)) (shown.0 ∷ shown.1) shown.2, shown.3,
-            ancestors ∙ ap (λ (xs : List Ancestor). xs ++ nodes_above dig p (seek ask 0 low high p.entries).at) shown.4 ∙ sym (more-nodes (here at ask low high p) shown.0 shown.1),
-            λ up. ap (λ (o : Option _). shown_proof o up) sides ∙ shown.5 up ∙ sym (more-proof (here at ask low high p) shown.0 shown.1 up))
+      shown-up old new shown ancestors sides = (
+        here at ask low high p,
+        shown.0 ∷ shown.1,
+        goes_on ∙ is_on (on q) (λ stops. Is (here at ask low high p ∷ stops)) (shown.0 ∷ shown.1) shown.2,
+        shown.3,
+        ancestors ∙ ap (λ (xs : List Ancestor). xs ++ nodes_above dig p (seek ask 0 low high p.entries).at) shown.4 ∙ sym (more-nodes (here at ask low high p) shown.0 shown.1),
+        λ up. ap (λ (o : Option _). shown_proof o up) sides ∙ shown.5 up ∙ sym (more-proof (here at ask low high p) shown.0 shown.1 up),
+      )
 
   pub shown-passed : (r : Result Shown TreeFault) (f : TreeFault) (found : Found (List Stop)) → IsErrAnd r (λ e. e ≡ f) → AnswersShown dig ask (Err f) found → AnswersShown dig ask r found
   shown-passed (Ok g) f found is has = absurd is

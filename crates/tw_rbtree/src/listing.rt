@@ -133,6 +133,15 @@ pub fn fresh<P: Pages, H: Hasher>(
         return Ok(nodes);
     }
     let first = read_root::<P, H>(pages, root.page)?;
-    list_part::<P, H>(pages, &mut nodes, since, root.page, &first, whole(&first), &None, &None)?;
+    list_part::<P, H>(
+        pages,
+        &mut nodes,
+        since,
+        root.page,
+        &first,
+        whole(&first),
+        &None,
+        &None,
+    )?;
     Ok(nodes)
 }

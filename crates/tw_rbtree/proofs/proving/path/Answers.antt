@@ -7,18 +7,23 @@ use Rattle.tw_rbtree.proofs.WayLaws.{way-empty}
 use Rattle.tw_rbtree.proofs.proving.path.Goals as goal
 
 pub returns-then-not-is_so-clause-answer : goal.returns-then-not-is_so-clause-answer
-returns-then-not-is_so-clause-answer g c = λ ps told at reads.
-    ([], way-empty at c.args.ask.now c.args.root.now c.if-root-eq0.true, λ so.
-    let yes = c.is_so.ensures.1 so in
-    let test = c.if-not-is_so.ensures in
-    let wrong = c.if-not-is_so.true in
-    grind arith)
+returns-then-not-is_so-clause-answer g c = λ ps told at reads. (
+  [],
+  way-empty at c.args.ask.now c.args.root.now c.if-root-eq0.true,
+  λ so.
+      let yes = c.is_so.ensures.1 so in
+      let test = c.if-not-is_so.ensures in
+      let wrong = c.if-not-is_so.true in
+      grind arith,
+)
 
 pub returns-then-root-eq0-clause-answer : goal.returns-then-root-eq0-clause-answer
-returns-then-root-eq0-clause-answer g c = λ ps told at reads.
-    ([], way-empty at c.args.ask.now c.args.root.now c.if-root-eq0.true,
-      c.is_so.ensures.0 (let test = c.if-not-is_so.ensures in let right = c.if-not-is_so.false in grind arith),
-      empty-proof g.H.Hasher.dig c.args.ask.now _ c.new.result c.new.ensures refl)
+returns-then-root-eq0-clause-answer g c = λ ps told at reads. (
+  [],
+  way-empty at c.args.ask.now c.args.root.now c.if-root-eq0.true,
+  c.is_so.ensures.0 (let test = c.if-not-is_so.ensures in let right = c.if-not-is_so.false in grind arith),
+  empty-proof g.H.Hasher.dig c.args.ask.now _ c.new.result c.new.ensures refl,
+)
 
 pub returns-in_err-first-clause-answer : goal.returns-in_err-first-clause-answer
 returns-in_err-first-clause-answer g c = λ ps told at reads.
