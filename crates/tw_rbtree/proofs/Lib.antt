@@ -3,6 +3,7 @@ pub mod PageLaws
 pub mod WayLaws
 pub mod Weaving
 pub mod PageWays
+pub mod SizeLaws
 pub mod Standings
 pub mod RootWays
 pub mod Keeping
