@@ -21,11 +21,11 @@ use Rattle.tw_text.specs.declared.command.Command.TheVariants.{Join, VerifyFile,
 use Rattle.tw_text.specs.Faults.{fault_text}
 use Rattle.tw_text.specs.declared.fault.CommandFault.{CommandFault}
 use Rattle.tw_text.specs.declared.fault.CommandFault.TheVariants.{InputFault, DiskFault}
-use Rattle.tw_chain.specs.declared.joining.JoinFault.TheVariants.{Gap}
+use Rattle.tw_join.specs.declared.joining.JoinFault.TheVariants.{Gap}
 use Rattle.tw_chain.specs.declared.proof.Proof.{Proof}
 use Rattle.tw_chain.specs.Proofs.{proof_layout}
 use Rattle.tw_chain.specs.Accepting.{Accepts, carried, held, proof_texts, report_of}
-use Rattle.tw_chain.specs.Joining.{Joins}
+use Rattle.tw_join.specs.Joining.{Joins}
 use Rattle.tw_chain.specs.Reasons.{IsLowest}
 use Rattle.tw_filecmd.specs.Joining.{AreProofsOf}
 use Rattle.tw_filecmd.specs.Verifying.{HasAnchors}

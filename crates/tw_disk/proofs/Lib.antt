@@ -5,3 +5,4 @@ pub mod KeptCallLaws
 pub mod LooseLaws
 pub mod Unwinding
 pub mod ReadingLaws
+pub mod FoundLaws

@@ -1,8 +1,8 @@
 -- Calls over a list of pages that only read, one after another.
-use Rattle.std.specs.Prelude.{ℕ, Option}
-use Rattle.std.proofs.Common.{◌∙◌, refl}
+use Rattle.std.specs.Prelude.{ℕ, Option, Some}
+use Rattle.std.proofs.Common.{◌≡◌, ◌≤◌, [], ◌++◌, ◌∙◌, refl, ap, sym, arith, append-nil, append_assoc}
 use Rattle.tw_disk.specs.Image.{Image}
-use Rattle.tw_disk.specs.Pages.{OnlyReads}
+use Rattle.tw_disk.specs.Pages.{OnlyAdds, OnlyReads}
 
 module _ {P : Type 0} (used : P → ℕ) (list : P → Option Image) (same : P → P → Type 0) (unbroken : P → Type 0) where
   -- no call
@@ -15,6 +15,28 @@ module _ {P : Type 0} (used : P → ℕ) (list : P → Option Image) (same : P �
   only_reads_on a b c first second both same_on to_first to_second one two = record {
     used_kept = two.used_kept ∙ one.used_kept;
     list_kept = two.list_kept ∙ one.list_kept;
+    same_kept = same_on a b c one.same_kept two.same_kept;
+    unbroken_kept = λ good is. two.unbroken_kept (to_second good) (one.unbroken_kept (to_first good) is);
+  }
+
+  -- a call that only reads adds none
+  pub adds_none : (a b : P) (good : Type 0) → OnlyReads used list same unbroken a b good → OnlyAdds used list same unbroken a b good
+  adds_none a b good reads = record {
+    used_grows = omega (arith, reads.used_kept);
+    list_grows = λ ps told. ([], reads.list_kept ∙ told ∙ ap (λ (xs : Image). Some xs) (sym (append-nil ps)));
+    same_kept = reads.same_kept;
+    unbroken_kept = reads.unbroken_kept;
+  }
+
+  -- one call that adds after another
+  pub only_adds_on : (a b c : P) (first second both : Type 0) → ((x y z : P) → same x y → same y z → same x z) → (both → first) → (both → second)
+      → OnlyAdds used list same unbroken a b first → OnlyAdds used list same unbroken b c second → OnlyAdds used list same unbroken a c both
+  only_adds_on a b c first second both same_on to_first to_second one two = record {
+    used_grows = omega (arith, one.used_grows, two.used_grows);
+    list_grows = λ ps told.
+        let more = one.list_grows ps told in
+        let rest = two.list_grows (ps ++ more.0) more.1 in
+        (more.0 ++ rest.0, rest.1 ∙ ap (λ (xs : Image). Some xs) (append_assoc ps more.0 rest.0));
     same_kept = same_on a b c one.same_kept two.same_kept;
     unbroken_kept = λ good is. two.unbroken_kept (to_second good) (one.unbroken_kept (to_first good) is);
   }

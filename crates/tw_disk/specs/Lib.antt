@@ -1,4 +1,5 @@
 pub mod Image
+pub mod Found
 pub mod PutSteps
 pub mod Disk
 pub mod DiskSteps

@@ -10,9 +10,9 @@ use Rattle.tw_base.specs.Feeding.{IsSpent}
 use Rattle.tw_base.specs.Formats.{IsFront}
 use Rattle.tw_outside.specs.Files.{Came, Files, Tells}
 use Rattle.tw_outside.proofs.Fronts.{front_grows}
-use Rattle.tw_chain.specs.declared.verifier.Verifier.{Verifier}
+use Rattle.tw_verifier.specs.declared.verifier.Verifier.{Verifier}
 use Rattle.tw_chain.specs.Proofs.{proof_layout}
-use Rattle.tw_chain.specs.Verifying.{IsFed}
+use Rattle.tw_verifier.specs.Verifying.{IsFed}
 use Rattle.tw_filecmd.specs.Feeding.{IsFedFar, IsFedFront}
 use Rattle.tw_filecmd.proofs.ProofFronts.{front-size}
 

@@ -8,7 +8,7 @@ use Rattle.tw_base.specs.declared.thread.Thread.{Thread}
 use Rattle.tw_outside.specs.Files.{Files, IsReadTo, IsThere}
 use Rattle.tw_msg.specs.AnchorsFile.{AllGood, IsFirstBadLine, anchor, lines}
 use Rattle.tw_chain.specs.declared.verdict.Verdict.{Verdict}
-use Rattle.tw_chain.specs.declared.verifier.Verifier.{Verifier}
+use Rattle.tw_verifier.specs.declared.verifier.Verifier.{Verifier}
 use Rattle.tw_chain.specs.Binding.{BindsHistories}
 use Rattle.tw_chain.specs.Reasons.{IsVerdict}
 use Rattle.tw_outside.specs.Asked.{Asked}

@@ -18,10 +18,10 @@ use Rattle.tw_text.specs.declared.refusal.BadInput.{BadInput}
 use Rattle.tw_text.specs.declared.refusal.BadInput.TheVariants.{BadByte, BadLine, Unsound}
 use Rattle.tw_chain.specs.declared.proof.Proof.{Proof}
 use Rattle.tw_chain.specs.declared.proof.Proof.TheVariants.{Precedes}
-use Rattle.tw_chain.specs.Joining.{Joins, joined}
-use Rattle.tw_chain.specs.Joining.Taken.{Nothing}
+use Rattle.tw_join.specs.Joining.{Joins, joined}
+use Rattle.tw_join.specs.Joining.Taken.{Nothing}
 use Rattle.tw_chain.specs.Proofs.{proof_bytes, proof_layout}
-use Rattle.tw_chain.proofs.JoinedSpelling.{joined-spelled}
+use Rattle.tw_join.proofs.JoinedSpelling.{joined-spelled}
 use Rattle.tw_chain.proofs.ProofSizes.{proof-size}
 use Rattle.tw_filecmd.specs.Joining.{AreProofsOf, HasBadPart, IsNoProof, IsProofOf, JoinComes}
 use Rattle.tw_filecmd.specs.Parts.{AreRead, PartsCome}

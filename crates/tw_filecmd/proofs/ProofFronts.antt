@@ -13,7 +13,7 @@ use Rattle.tw_chain.specs.Binding.{BindsHistories}
 use Rattle.tw_chain.specs.Proofs.{proof_layout}
 use Rattle.tw_chain.specs.Reasons.{IsVerdict, Stands}
 use Rattle.tw_chain.proofs.ProofSizes.{proof-size}
-use Rattle.tw_chain.proofs.Verdicts.{malformed_bytes}
+use Rattle.tw_verifier.proofs.Verdicts.{malformed_bytes}
 
 -- of a file more than what was read up to a limit isn't there, where that is less than the limit
 pub whole_below : (limit : ℕ) (all bytes : List ℕ) → all ≡ take limit bytes → length all < limit → all ≡ bytes

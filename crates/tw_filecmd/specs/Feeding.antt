@@ -6,9 +6,9 @@ use Rattle.tw_base.specs.declared.thread.Thread.{Thread}
 use Rattle.tw_base.specs.Feeding.{IsSpent}
 use Rattle.tw_base.specs.Formats.{IsFront}
 use Rattle.tw_outside.specs.Files.{Files, IsFrontOfFile, Tells}
-use Rattle.tw_chain.specs.declared.verifier.Verifier.{Verifier}
+use Rattle.tw_verifier.specs.declared.verifier.Verifier.{Verifier}
 use Rattle.tw_chain.specs.Proofs.{proof_layout}
-use Rattle.tw_chain.specs.Verifying.{IsFed}
+use Rattle.tw_verifier.specs.Verifying.{IsFed}
 
 module _ (told : Option Files) (file : List ℕ) (anchors : List Thread) (strict : Bool) where
   -- the verifier was fed so many bytes of the file, its first ones, and memory was left for each piece

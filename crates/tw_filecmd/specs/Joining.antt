@@ -8,9 +8,9 @@ use Rattle.tw_outside.specs.Files.{Files, IsThere, Tells}
 use Rattle.tw_text.specs.declared.refusal.BadInput.TheVariants.{BadByte}
 use Rattle.tw_text.specs.declared.fault.CommandFault.{CommandFault}
 use Rattle.tw_text.specs.declared.fault.CommandFault.TheVariants.{Unreadable, InputFault, NoMemory}
-use Rattle.tw_chain.specs.declared.joining.JoinFault.TheVariants.{Gap}
+use Rattle.tw_join.specs.declared.joining.JoinFault.TheVariants.{Gap}
 use Rattle.tw_chain.specs.declared.proof.Proof.{Proof}
-use Rattle.tw_chain.specs.Joining.{Joins}
+use Rattle.tw_join.specs.Joining.{Joins}
 use Rattle.tw_chain.specs.Proofs.{proof_layout}
 use Rattle.tw_filecmd.specs.declared.joining.Joined.{Joined}
 use Rattle.tw_filecmd.specs.declared.joining.Joined.TheVariants.{Whole, Unfit}

@@ -8,7 +8,7 @@ ghost use Rattle.tw_filecmd.specs.Feeding.{IsFedFar, IsFedFront};
 
 use std::alloc::Global;
 use tw_base::{NoMemory, Sha, Thread};
-use tw_chain::Verifier;
+use tw_verifier::Verifier;
 use tw_outside::{InputFault, Inputs, PIECE};
 
 /// A verifier under these anchors that was fed the named file: all of it, or a front at which no proof

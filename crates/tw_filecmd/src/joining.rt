@@ -7,7 +7,8 @@ ghost use Rattle.tw_filecmd.specs.Joining.{JoinComes};
 use crate::parts::read_parts;
 use std::alloc::Global;
 use tw_base::Bytes;
-use tw_chain::{JoinFault, join, write_proof};
+use tw_chain::write_proof;
+use tw_join::{JoinFault, join};
 use tw_outside::Inputs;
 use tw_text::{CommandFault, FilePath};
 

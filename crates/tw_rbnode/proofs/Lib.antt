@@ -14,3 +14,5 @@ pub mod HeldPages
 pub mod TreeLabels
 pub mod PageOnce
 pub mod TreeLists
+pub mod Deciding
+pub mod Told

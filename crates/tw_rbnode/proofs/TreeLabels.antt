@@ -22,7 +22,7 @@ module _ (dig : List ℕ → List ℕ) where
   over-branch None left right = refl
   over-branch (Some e) left right = refl
 
-  label-tree : (es : List Entry) (trees : List Tree) (base : ℕ) (t : Shape) → label_at dig es (map (tree_label dig) trees) base t ≡ tree_label dig (tree_at es trees base t)
+  pub label-tree : (es : List Entry) (trees : List Tree) (base : ℕ) (t : Shape) → label_at dig es (map (tree_label dig) trees) base t ≡ tree_label dig (tree_at es trees base t)
   unfolding label_at tree_at
   label-tree es trees base Empty = label_of-tree trees base
   label-tree es trees base (Node red l r) =

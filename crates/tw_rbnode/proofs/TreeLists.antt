@@ -23,7 +23,7 @@ module _ (es : List Entry) (trees : List Tree) where
   unfolding window
   window-zero base = refl
 
-  get-some : (xs : List Entry) (i : ℕ) → i < length xs → (e : Entry) × (slice_get xs i ≡ Some e)
+  pub get-some : (xs : List Entry) (i : ℕ) → i < length xs → (e : Entry) × (slice_get xs i ≡ Some e)
   get-some [] i l = absurd (omega arith)
   get-some (x ∷ xs) zero l = (x, refl)
   get-some (x ∷ xs) (suc i) l = get-some xs i (omega arith)

@@ -27,7 +27,7 @@ module _ (e : Entry) where
   abbrev IsUnder : Entry → Bool
   IsUnder f = is_lt (key_cmp (key_of e) (key_of f))
 
-  with-left : (front : List Entry) (f : Entry) (back : List Entry) → IsUnder f ≡ true → with_entry (front ++ f ∷ back) e ≡ with_entry front e ++ f ∷ back
+  pub with-left : (front : List Entry) (f : Entry) (back : List Entry) → IsUnder f ≡ true → with_entry (front ++ f ∷ back) e ≡ with_entry front e ++ f ∷ back
   with-left [] f back sure = ap (λ b. if b then e ∷ f ∷ back else f ∷ with_entry back e) sure
   with-left (g ∷ front) f back sure = by (with-left front f back sure) (IsUnder g) refl
     where
@@ -40,7 +40,7 @@ module _ (e : Entry) where
           ∙ ap (λ xs. g ∷ xs) rest
           ∙ sym (ap (λ b. (if b then e ∷ g ∷ front else g ∷ with_entry front e) ++ f ∷ back) is)
 
-  with-right : (front : List Entry) (f : Entry) (back : List Entry) → Each (λ g. KeyBelow (key_of g) (key_of f)) front → IsUnder f ≡ false → with_entry (front ++ f ∷ back) e ≡ front ++ f ∷ with_entry back e
+  pub with-right : (front : List Entry) (f : Entry) (back : List Entry) → Each (λ g. KeyBelow (key_of g) (key_of f)) front → IsUnder f ≡ false → with_entry (front ++ f ∷ back) e ≡ front ++ f ∷ with_entry back e
   with-right [] f back lower never = ap (λ b. if b then e ∷ f ∷ back else f ∷ with_entry back e) never
   with-right (g ∷ front) f back lower never =
       let here = lt-above (key_of e) (key_of g) (below-other (key_of g) (key_of f) (key_of e) lower.0 never) in

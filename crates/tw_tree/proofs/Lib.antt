@@ -1,4 +1,4 @@
 pub mod Asked
 pub mod Members
-mod Leaves
+pub mod Leaves
 mod Steps

@@ -18,4 +18,5 @@ pub use making::{ProveFault, prove};
 pub use reading::{take_ancestor, take_gap, take_present};
 pub use shown::Shown;
 pub use tw_base::{Ancestor, AncestorList, Ask, TreeProof};
+pub use way::{goes_left, meets};
 pub use writing::{put_gap, put_present, put_tree_proof};

@@ -16,7 +16,7 @@ fn is_same_key(a: &Key, b: &Key) -> bool
 }
 
 /// Whether the way down goes left at the entry.
-pub(crate) fn goes_left(ask: &Ask, entry: &Entry) -> bool
+pub fn goes_left(ask: &Ask, entry: &Entry) -> bool
     ensures { result ≡ is_left ask.now entry.now }
 {
     let here = entry_key(entry);
@@ -29,7 +29,7 @@ pub(crate) fn goes_left(ask: &Ask, entry: &Entry) -> bool
 }
 
 /// Whether the entry has the asked key, in a question for one key.
-pub(crate) fn meets(ask: &Ask, entry: &Entry) -> bool
+pub fn meets(ask: &Ask, entry: &Entry) -> bool
     ensures { result ≡ has_asked_key ask.now entry.now }
 {
     let here = entry_key(entry);

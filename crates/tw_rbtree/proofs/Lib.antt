@@ -1,0 +1,14 @@
+pub mod FoundLaws
+pub mod PageLaws
+pub mod WayLaws
+pub mod Weaving
+pub mod PageWays
+pub mod Standings
+pub mod RootWays
+pub mod Keeping
+pub mod Staging
+pub mod Adding
+pub mod Replacing
+pub mod GrowLaws
+pub mod RootGrowing
+pub mod Readings

@@ -1,0 +1,113 @@
+-- What is found under a root for whose tree the pages stand.
+use Rattle.std.proofs.Common.{◌≡◌, ℕ, ◌+◌, ◌≤◌, List, [], ◌∷◌, refl, ap, sym, ◌∙◌, subst, arith, ◌⊎◌, inl, inr}
+use Rattle.std.specs.Prelude.{Option, Some, None}
+use Rattle.std.specs.Option.{option_or}
+use Rattle.tw_base.specs.declared.root.Root.{Root}
+use Rattle.tw_base.specs.declared.thread.Entry.{Entry}
+use Rattle.tw_base.specs.declared.thread.Key.{Key}
+use Rattle.tw_base.specs.declared.tree_proof.Ancestor.{Ancestor}
+use Rattle.tw_base.specs.declared.tree_proof.Ask.{Ask}
+use Rattle.tw_base.specs.declared.tree_proof.Ask.TheVariants.{Present, Absent, Below, Above}
+use Rattle.tw_base.specs.Asking.{entry_with, first_above, last_below}
+use Rattle.tw_base.specs.Lists.{Each}
+use Rattle.tw_base.specs.Tree.{Tree, IsRising, entries}
+use Rattle.tw_base.specs.Tree.Tree.{Empty as NoEntry}
+use Rattle.tw_disk.specs.Found.{Found, ◌>>=◌}
+use Rattle.tw_disk.specs.Found.Found.{Is}
+use Rattle.tw_disk.specs.Image.{Image}
+use Rattle.tw_disk.proofs.FoundLaws.{is_on}
+use Rattle.tw_rbnode.specs.Page.{TreePage}
+use Rattle.tw_rbnode.specs.Trees.{page_tree}
+use Rattle.tw_tree.proofs.Asked.{or-none}
+use Rattle.tw_treeproof.specs.Making.{IsSo, place_of, proof_at, proof_of, way_up}
+use Rattle.tw_rbtree.specs.declared.seeking.Sought.{Sought}
+use Rattle.tw_rbtree.specs.Answers.{IsSoAt}
+use Rattle.tw_rbtree.specs.Paths.{proof_of_way, way_nodes, way_proof}
+use Rattle.tw_rbtree.specs.Reading.{IsReading, Reading, root_in}
+use Rattle.tw_rbtree.specs.Standing.{IsRootTree, IsTreeBelow, IsTreePage, StandsFor}
+use Rattle.tw_rbtree.specs.Ways.{Stop, end_of, found_after, found_before, found_with, nowhere, way, way_end, way_from}
+use Rattle.tw_rbtree.proofs.PageLaws.{root-is}
+use Rattle.tw_rbtree.proofs.Standings.{WayIn, way-in}
+use Rattle.tw_rbtree.proofs.WayLaws.{way-empty, way-root}
+use Rattle.tw_rbtree.proofs.Weaving.{LiesBetween, Tells}
+
+pub all_between : (es : List Entry) → Each (LiesBetween None None) es
+all_between [] = tt
+all_between (e ∷ es) = ((refl, refl), all_between es)
+
+module _ (dig : List ℕ → List ℕ) (ps : Image) (at : Reading) (reads : IsReading dig ps at) (ask : Ask) (root : Root) where
+  -- the way from the root down
+  pub record RootWay (t : Tree) : Type 0 where
+    pub stops : List Stop
+    pub found : way at ask root ≡ Is stops
+    pub tells : Tells ask (entries t) None None (end_of nowhere stops)
+    pub proof : proof_of_way dig stops ≡ proof_of dig t ask
+
+  nothing_tells : (a : Ask) → Tells a [] None None nowhere
+  nothing_tells (Present e) = refl
+  nothing_tells (Absent key) = refl
+  nothing_tells (Below key) = refl
+  nothing_tells (Above key) = refl
+
+  empty_way : root.page ≡ 0 → RootWay NoEntry
+  unfolding way_nodes way_proof way_up place_of
+  empty_way none = record { stops = []; found = way-empty at ask root none; tells = nothing_tells ask; proof = refl }
+
+  page_way : (t : Tree) → IsRising (entries t) → (level : ℕ) → IsTreePage dig ps (IsTreeBelow dig ps level) level 1 root.page t → RootWay t
+  page_way t rising level is =
+      let p = is.node in
+      let rises : IsRising (entries (page_tree p is.trees)) = subst (λ (x : Tree). IsRising (entries x)) is.tree_is rising in
+      let w : WayIn dig ps at reads ask level None None p (page_tree p is.trees) =
+      way-in dig ps at reads ask level None None root.page p is.trees is.at is.level_is is.are_trees rises (all_between (entries (page_tree p is.trees))) in
+      let on : way at ask root ≡ Is (w.first ∷ w.rest) =
+      way-root at ask root (λ (e : root.page ≡ 0). omega (arith, e, is.at.low))
+      ∙ is_on (root_in at root.page) (λ q. way_from at ask q.level None None q) p (root-is dig ps at reads root.page p is.at)
+      ∙ ap (λ (n : ℕ). way_from at ask n None None p) is.level_is ∙ w.found in
+      subst RootWay (sym is.tree_is) (record {
+        stops = w.first ∷ w.rest;
+        found = on;
+        tells = w.tells;
+        proof = w.proof (way_nodes dig (w.first ∷ w.rest)) ∙ ap (λ (up : List Ancestor). proof_at dig (place_of ask (page_tree p is.trees)) up) w.up;
+      })
+
+  pub root-way : (t : Tree) → StandsFor dig ps root t → RootWay t
+  root-way t stands = by stands.tree
+    where
+      by : IsRootTree dig ps root.page t → RootWay t
+      by (inl none) = subst RootWay (sym none.1) (empty_way none.0)
+      by (inr (level, is)) = page_way t stands.rising level is
+
+module _ (dig : List ℕ → List ℕ) (ps : Image) (at : Reading) (root : Root) (t : Tree) where
+  abbrev Last : List Stop → Found Sought
+  Last stops = Is (end_of nowhere stops)
+
+  end-is : (ask : Ask) (stops : List Stop) → way at ask root ≡ Is stops → way_end at ask root ≡ Is (end_of nowhere stops)
+  unfolding way_end
+  end-is ask stops found = is_on (way at ask root) Last stops found
+
+  module _ (key : Key) (reads : IsReading dig ps at) (stands : StandsFor dig ps root t) where
+    pub with-found : found_with at root key ≡ Is (entry_with (entries t) key)
+    unfolding found_with
+    with-found =
+        let w = root-way dig ps at reads (Absent key) root t stands in
+        is_on (way_end at (Absent key) root) (λ end. Is end.met) (end_of nowhere w.stops) (end-is (Absent key) w.stops w.found) ∙ ap (λ (o : Option Entry). Is o) (sym w.tells)
+
+    pub before-found : found_before at root key ≡ Is (last_below (entries t) key)
+    unfolding found_before
+    before-found =
+        let w = root-way dig ps at reads (Below key) root t stands in
+        is_on (way_end at (Below key) root) (λ end. Is end.low) (end_of nowhere w.stops) (end-is (Below key) w.stops w.found)
+        ∙ ap (λ (o : Option Entry). Is o) (sym w.tells ∙ or-none (last_below (entries t) key))
+
+    pub after-found : found_after at root key ≡ Is (first_above (entries t) key)
+    unfolding found_after
+    after-found =
+        let w = root-way dig ps at reads (Above key) root t stands in
+        is_on (way_end at (Above key) root) (λ end. Is end.high) (end_of nowhere w.stops) (end-is (Above key) w.stops w.found)
+        ∙ ap (λ (o : Option Entry). Is o) (sym w.tells ∙ or-none (first_above (entries t) key))
+
+  pub so-found : (ask : Ask) (end : Sought) → Tells ask (entries t) None None end → (IsSo (entries t) ask → IsSoAt ask end.met) × (IsSoAt ask end.met → IsSo (entries t) ask)
+  so-found (Present e) end tells = (λ so. sym tells ∙ so, λ so. tells ∙ so)
+  so-found (Absent key) end tells = (λ so. sym tells ∙ so, λ so. tells ∙ so)
+  so-found (Below key) end tells = (λ so. tt, λ so. tt)
+  so-found (Above key) end tells = (λ so. tt, λ so. tt)

@@ -1,0 +1,118 @@
+-- The way down, page by page.
+use Rattle.std.proofs.Common.{◌≡◌, ℕ, suc, zero, ◌+◌, ◌<◌, List, [], ◌∷◌, length, refl, ap, sym, ◌∙◌, arith, slice_get}
+use Rattle.std.specs.Prelude.{◌==◌, Bool, true, false, Option, Some, None, map, slice_index_or, if◌then◌else◌}
+use Rattle.std.proofs.lemmas.Option.{none-some, same_Some}
+use Rattle.tw_base.specs.declared.root.Root.{Root}
+use Rattle.tw_base.specs.declared.thread.Entry.{Entry}
+use Rattle.tw_base.specs.declared.tree_proof.Ask.{Ask}
+use Rattle.tw_disk.specs.Found.{Found, ◌>>=◌}
+use Rattle.tw_disk.specs.Found.Found.{Is, Bad}
+use Rattle.tw_disk.proofs.FoundLaws.{in_turn, is_on}
+use Rattle.tw_rbnode.specs.declared.child.Child.{Child}
+use Rattle.tw_rbnode.specs.declared.node.Found.{Found as Spot}
+use Rattle.tw_rbnode.specs.declared.node.Found.TheVariants.{At, Between}
+use Rattle.tw_rbnode.specs.Page.{TreePage}
+use Rattle.tw_rbtree.specs.declared.seeking.Sought.{Sought}
+use Rattle.tw_rbtree.specs.Reading.{Reading, child_in, root_in}
+use Rattle.tw_rbtree.specs.Ways.{Stop, child_page, end_from, end_of, nowhere, seek, stop_in, way, way_end, way_from, way_on}
+
+module _ {X Y : Type 0} where
+  pub on_each : (one : Found X) (f g : X → Found Y) → ((x : X) → f x ≡ g x) → (one >>= f) ≡ (one >>= g)
+  on_each (Is x) f g same = same x
+  on_each (Bad page) f g same = refl
+
+children_page-get : (cs : List Child) (place : ℕ) (c : Child) → slice_get cs place ≡ Some c → slice_index_or (map (λ (c : Child). c.page) cs) place 0 ≡ c.page
+children_page-get [] place c e = absurd (none-some c e)
+children_page-get (x ∷ cs) zero c e = ap (λ (y : Child). y.page) (same_Some _ _ e)
+children_page-get (x ∷ cs) (suc place) c e = children_page-get cs place c e
+
+pub child_page-get : (p : TreePage) (place : ℕ) (c : Child) → slice_get p.children place ≡ Some c → child_page p place ≡ c.page
+child_page-get p place c e = children_page-get p.children place c e
+
+module _ (at : Reading) (ask : Ask) where
+  -- what goes on from a page at a place
+  abbrev pub into : (below : ℕ) → Sought → (page : ℕ) → Found (List Stop)
+  into below s page = child_in at below s.low s.high page >>= way_from at ask below s.low s.high
+
+  module _ (low high : Option Entry) (p : TreePage) where
+    abbrev pub sought : Sought
+    sought = seek ask 0 low high p.entries
+
+    abbrev pub here : Stop
+    here = stop_in at ask low high p
+
+    pub way-at : (level slot : ℕ) → sought.at ≡ At slot → way_from at ask level low high p ≡ Is (here ∷ [])
+    unfolding way_from
+    way-at zero slot e = refl
+    way-at (suc level) slot e = ap (way_on at ask here (into level)) e
+
+    pub way-leaf : (level : ℕ) → level ≡ 0 → way_from at ask level low high p ≡ Is (here ∷ [])
+    unfolding way_from
+    way-leaf zero e = refl
+    way-leaf (suc level) e = absurd (omega (arith, e))
+
+    pub way-goes : (level below place : ℕ) → level ≡ suc below → sought.at ≡ Between place
+        → way_from at ask level low high p ≡ (child_in at below sought.low sought.high (child_page p place) >>= (λ q. way_from at ask below sought.low sought.high q >>= (λ stops. Is (here ∷ stops))))
+    unfolding way_from
+    way-goes zero below place l e = absurd (omega (arith, l))
+    way-goes (suc n) below place l e =
+        let same : n ≡ below = omega (arith, l) in
+        ap (λ (m : ℕ). way_from at ask (suc m) low high p) same
+        ∙ ap (way_on at ask here (into below)) e
+        ∙ in_turn (child_in at below sought.low sought.high (child_page p place)) (way_from at ask below sought.low sought.high) (λ stops. Is (here ∷ stops))
+
+  -- a way has a first stop
+  module _ {Y : Type 0} (f g : List Stop → Found Y) (same : (s : Stop) (stops : List Stop) → f (s ∷ stops) ≡ g (s ∷ stops)) where
+    on_stop : (stop : Stop) (to : Sought → (page : ℕ) → Found (List Stop)) (spot : Spot) → (way_on at ask stop to spot >>= f) ≡ (way_on at ask stop to spot >>= g)
+    on_stop stop to (At slot) = same stop []
+    on_stop stop to (Between place) =
+        let first = to stop.sought (child_page stop.page place) in
+        in_turn first (λ stops. Is (stop ∷ stops)) f ∙ on_each first (λ stops. f (stop ∷ stops)) (λ stops. g (stop ∷ stops)) (same stop) ∙ sym (in_turn first (λ stops. Is (stop ∷ stops)) g)
+
+    pub on_way : (level : ℕ) (low high : Option Entry) (p : TreePage) → (way_from at ask level low high p >>= f) ≡ (way_from at ask level low high p >>= g)
+    unfolding way_from
+    on_way zero low high p = same (here low high p) []
+    on_way (suc level) low high p = on_stop (here low high p) (into level) (sought low high p).at
+
+  module _ (low high : Option Entry) (p : TreePage) where
+    abbrev last : List Stop → Found Sought
+    last stops = Is (end_of nowhere stops)
+
+    pub end-at : (level slot : ℕ) → (sought low high p).at ≡ At slot → end_from at ask level low high p ≡ Is (sought low high p)
+    unfolding end_from
+    end-at level slot e = is_on _ last (here low high p ∷ []) (way-at low high p level slot e)
+
+    pub end-leaf : (level : ℕ) → level ≡ 0 → end_from at ask level low high p ≡ Is (sought low high p)
+    unfolding end_from
+    end-leaf level e = is_on _ last (here low high p ∷ []) (way-leaf low high p level e)
+
+    pub end-goes : (level below place : ℕ) → level ≡ suc below → (sought low high p).at ≡ Between place
+        → end_from at ask level low high p ≡ (child_in at below (sought low high p).low (sought low high p).high (child_page p place) >>= end_from at ask below (sought low high p).low (sought low high p).high)
+    unfolding end_from
+    end-goes level below place l e =
+        let s = sought low high p in
+        let child = child_in at below s.low s.high (child_page p place) in
+        let rest : TreePage → Found (List Stop) = way_from at ask below s.low s.high in
+        ap (λ (found : Found (List Stop)). found >>= last) (way-goes low high p level below place l e)
+        ∙ in_turn child (λ q. rest q >>= (λ stops. Is (here low high p ∷ stops))) last
+        ∙ on_each child (λ q. (rest q >>= (λ stops. Is (here low high p ∷ stops))) >>= last) (λ q. rest q >>= last) (λ q.
+        in_turn (rest q) (λ stops. Is (here low high p ∷ stops)) last
+        ∙ on_way (λ stops. last (here low high p ∷ stops)) last (λ t stops. refl) below s.low s.high q)
+
+  pub way-empty : (root : Root) → root.page ≡ 0 → way at ask root ≡ Is []
+  unfolding way
+  way-empty root e = ap (λ (b : Bool). if b then Is [] else (root_in at root.page >>= (λ p. way_from at ask p.level None None p))) (let t : (root.page == 0) ≡ true = grind arith in t)
+
+  pub way-root : (root : Root) → (root.page ≡ 0 → ⊥) → way at ask root ≡ (root_in at root.page >>= (λ p. way_from at ask p.level None None p))
+  unfolding way
+  way-root root e = ap (λ (b : Bool). if b then Is [] else (root_in at root.page >>= (λ p. way_from at ask p.level None None p))) (let t : (root.page == 0) ≡ false = grind arith in t)
+
+  pub end-empty : (root : Root) → root.page ≡ 0 → way_end at ask root ≡ Is nowhere
+  unfolding way_end
+  end-empty root e = is_on (way at ask root) (λ stops. Is (end_of nowhere stops)) [] (way-empty root e)
+
+  pub end-root : (root : Root) → (root.page ≡ 0 → ⊥) → way_end at ask root ≡ (root_in at root.page >>= (λ p. end_from at ask p.level None None p))
+  unfolding way_end end_from
+  end-root root e =
+      ap (λ (found : Found (List Stop)). found >>= (λ stops. Is (end_of nowhere stops))) (way-root root e)
+      ∙ in_turn (root_in at root.page) (λ p. way_from at ask p.level None None p) (λ stops. Is (end_of nowhere stops))

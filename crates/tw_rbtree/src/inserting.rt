@@ -1,0 +1,278 @@
+// One entry more.
+
+ghost use Rattle.std.specs.Prelude.{◌≡◌, ℕ, ◌+◌, ◌*◌, ◌-◌, ◌<◌, ◌≤◌, ◌^◌, ◌++◌, ◌∷◌, [], List, true, IfOk, Some, length, map};
+ghost use Rattle.std.specs.Option.{option_map};
+ghost use Rattle.tw_base.specs.declared.tree_proof.Ask.TheVariants.{Absent};
+ghost use Rattle.tw_base.specs.Asking.{with_entry};
+ghost use Rattle.tw_base.specs.Entries.{key_of};
+ghost use Rattle.tw_base.specs.Limits.{IsEntryInRange};
+ghost use Rattle.tw_base.specs.PageBytes.{IsPageOf};
+ghost use Rattle.tw_base.specs.Tree.{Tree, IsRising, entries};
+ghost use Rattle.tw_disk.specs.Image.{Image};
+ghost use Rattle.tw_disk.specs.Pages.{OnlyAdds};
+ghost use Rattle.tw_rbnode.specs.Children.{AddedHasChildren, HasChildren, IsChildAt};
+ghost use Rattle.tw_rbnode.specs.NodeBytes.{fields_of, node_codec};
+ghost use Rattle.tw_rbnode.specs.Page.{IsNode};
+ghost use Rattle.tw_rbnode.specs.Trees.{woven};
+ghost use Rattle.tw_rbtree.specs.Answers.{AnswersInsert, FaultsRise, NeverUntrue, NotDiskFault};
+ghost use Rattle.tw_rbtree.specs.Growing.{AddedAreNodes, AddedLists, AnswersGrown, GrownLists, IsGrownIn, IsLast, IsStaged, IsStagedAs, IsWith, MayGoInto};
+ghost use Rattle.tw_rbtree.specs.Reading.{IsReading, Reading, is_above, is_below, lie_between};
+ghost use Rattle.tw_rbtree.specs.Standing.{AreTrees, IsTreeBelow, StandsFor};
+ghost use Rattle.tw_rbtree.specs.Ways.{way, way_from};
+ghost use Rattle.tw_rbtree.specs.declared.limits.TheConstants.{MOST_STAGED};
+
+use crate::fault::TreeFault;
+use crate::reading::{read_child, read_root};
+use crate::seeking::seek;
+use std::alloc::Global;
+use tw_base::{Ask, Entry, Hasher, NoMemory, Root, empty_tree, entry_key};
+use tw_disk::Pages;
+use tw_rbnode::limits::TOP_LEVEL;
+use tw_rbnode::{
+    Added, Child, Found, RbNode, add, child_at, keys, label, level, put_child, single, write_node,
+};
+
+/// What a part of the tree has become: one child in its place, or two with an entry between them.
+#[derive(Clone, Copy, Drop)]
+pub(crate) enum Grown {
+    One(Child),
+    Two {
+        left: Child,
+        middle: Entry,
+        right: Child,
+    },
+}
+
+/// Tells that a page is a page.
+fn see_node(node: &RbNode)
+    ensures { IsNode node.now }
+{
+    let _count = keys(node);
+}
+
+/// Tells that pages are pages.
+fn see_added(added: &Added)
+    ensures { AddedAreNodes added.now }
+{
+    match added {
+        Added::One(node) => see_node(node),
+        Added::Two { left, right, .. } => {
+            see_node(left);
+            see_node(right);
+        }
+    }
+}
+
+/// Stages the page, and answers the child that it is.
+fn stage_node<P: Pages, H: Hasher>(pages: &mut P, node: &RbNode) -> Result<Child, NoMemory>
+    requires { P.used_count pages.old < 2 ^ 48 - 4 }
+    ensures node { IsNode node.now }
+    ensures staged { IfOk result (λ c. IsStaged H.dig (P.used_count pages.old) node.now c) }
+    ensures put { IfOk result (λ c. (bytes : List ℕ) × IsPageOf node_codec bytes (fields_of node.now)
+        × (P.list pages.new ≡ option_map (λ ps. ps ++ bytes ∷ []) (P.list pages.old))) }
+    ensures used { IfOk result (λ c. P.used_count pages.new ≡ P.used_count pages.old + 1) }
+    ensures few { P.used_count pages.new ≤ P.used_count pages.old + 1 }
+    ensures kept { OnlyAdds P.used_count P.list P.same P.unbroken pages.old pages.new (Unit {0}) }
+    ensures faults { P.faults pages.new ≡ P.faults pages.old }
+{
+    see_node(node);
+    let page = pages.stage(&write_node(node))?;
+    let label = label::<H>(node);
+    Ok(Child { page, label })
+}
+
+/// Stages the one page, or the two from left to right.
+fn stage_added<P: Pages, H: Hasher>(pages: &mut P, added: Added) -> Result<Grown, NoMemory>
+    requires { P.used_count pages.old < 2 ^ 48 - 5 }
+    ensures lists { (ps : Image) → P.list pages.old ≡ Some ps → AddedHasChildren H.dig added →
+        (own least : ℕ) (es : List Entry) → AddedLists H.dig ps own least es added →
+        IfOk result (λ g. (now : Image) × (P.list pages.new ≡ Some now) × GrownLists H.dig now own least es g) }
+    ensures staged { IfOk result (λ g. IsStagedAs H.dig (P.used_count pages.old) added g) }
+    ensures last { IfOk result (λ g. IsLast (P.used_count pages.new) g) }
+    ensures few { P.used_count pages.new ≤ P.used_count pages.old + 2 }
+    ensures kept { OnlyAdds P.used_count P.list P.same P.unbroken pages.old pages.new (Unit {0}) }
+    ensures faults { P.faults pages.new ≡ P.faults pages.old }
+{
+    match added {
+        Added::One(node) => Ok(Grown::One(stage_node::<P, H>(pages, &node)?)),
+        Added::Two {
+            left,
+            middle,
+            right,
+        } => {
+            let left = stage_node::<P, H>(pages, &left)?;
+            let right = stage_node::<P, H>(pages, &right)?;
+            Ok(Grown::Two {
+                left,
+                middle,
+                right,
+            })
+        }
+    }
+}
+
+/// The page with what its child at the place has become.
+fn with_grown<H: Hasher>(node: &RbNode, place: u8, grown: &Grown) -> Added
+    requires { MayGoInto H.dig node.now place grown.now }
+    ensures with { IsWith node.now place grown.now result }
+    ensures kinds { HasChildren H.dig node.now → AddedHasChildren H.dig result }
+{
+    match *grown {
+        Grown::One(child) => Added::One(put_child(node, place, child)),
+        Grown::Two {
+            left,
+            middle,
+            right,
+        } => add::<H>(node, place, middle, left, right),
+    }
+}
+
+/// Puts the entry below this page, whose keys lie between these two entries as the entry does, and answers what the page has
+/// become. Calls itself once a level.
+fn grow_below<P: Pages, H: Hasher>(
+    pages: &mut P,
+    node: &RbNode,
+    low: &Option<Entry>,
+    high: &Option<Entry>,
+    entry: &Entry,
+) -> Result<Grown, TreeFault>
+    requires used { P.used_count pages.old < 2 ^ 47 }
+    requires some { 0 < P.used_count pages.old }
+    requires kinds { HasChildren H.dig node.now }
+    requires range { IsEntryInRange entry.now }
+    requires lie { lie_between low.now high.now node.now.entries ≡ true }
+    requires above { is_above low.now entry.now ≡ true }
+    requires below { is_below high.now entry.now ≡ true }
+    ensures answer { (ps : Image) → P.list pages.old ≡ Some ps → (at : Reading) → IsReading H.dig ps at →
+        AnswersGrown node.now.level result (way_from at (Absent (key_of entry.now)) node.now.level low.now high.now node.now) }
+    ensures lists { (ps : Image) → P.list pages.old ≡ Some ps → (ts : List Tree) → AreTrees (IsTreeBelow H.dig ps node.now.level) node.now.children ts →
+        IsRising (woven (map entries ts) node.now.entries) →
+        IfOk result (λ g. (now : Image) × (P.list pages.new ≡ Some now)
+        × GrownLists H.dig now node.now.level (length node.now.entries) (with_entry (woven (map entries ts) node.now.entries) entry.now) g) }
+    ensures grown { IfOk result (λ g. IsGrownIn low.now high.now g) }
+    ensures last { IfOk result (λ g. IsLast (P.used_count pages.new) g) }
+    ensures few { P.used_count pages.new ≤ P.used_count pages.old + 2 * (node.now.level + 1) }
+    ensures never { NeverUntrue result }
+    ensures kept { OnlyAdds P.used_count P.list P.same P.unbroken pages.old pages.new (NotDiskFault result) }
+    ensures faults { FaultsRise (P.faults pages.old) (P.faults pages.new) result }
+{
+    see_node(node);
+    let here = seek(node, &Ask::Absent(entry_key(entry)), low, high);
+    let Found::Between(place) = here.at else {
+        return Err(TreeFault::Present);
+    };
+    if level(node) == 0 {
+        let empty = Child {
+            page: 0,
+            label: empty_tree::<H>(),
+        };
+        let leaf = Grown::Two {
+            left: empty,
+            middle: *entry,
+            right: empty,
+        };
+        let added = with_grown::<H>(node, place, &leaf);
+        see_added(&added);
+        return Ok(stage_added::<P, H>(pages, added)?);
+    }
+    let page = child_at(node, place).page;
+    let child = read_child::<P, H>(pages, page, level(node) - 1, &here.low, &here.high)?;
+    let grown = grow_below::<P, H>(pages, &child, &here.low, &here.high, entry)?;
+    let added = with_grown::<H>(node, place, &grown);
+    see_added(&added);
+    Ok(stage_added::<P, H>(pages, added)?)
+}
+
+/// The root of a page that is staged.
+fn root_of(child: Child) -> Root
+    ensures page { result.page ≡ child.page }
+    ensures label { result.label ≡ child.label }
+{
+    Root {
+        page: child.page,
+        label: child.label,
+    }
+}
+
+/// Stages the page of one key between two children.
+fn stage_single<P: Pages, H: Hasher>(
+    pages: &mut P,
+    own: u8,
+    left: Child,
+    middle: Entry,
+    right: Child,
+) -> Result<Root, NoMemory>
+    requires used { P.used_count pages.old < 2 ^ 48 - 4 }
+    requires level { own ≤ 10 }
+    requires range { IsEntryInRange middle }
+    requires left { IsChildAt H.dig own left }
+    requires right { IsChildAt H.dig own right }
+    ensures lists { (ps : Image) → P.list pages.old ≡ Some ps → (ts : List Tree) → AreTrees (IsTreeBelow H.dig ps own) (left ∷ right ∷ []) ts →
+        IsRising (woven (map entries ts) (middle ∷ [])) →
+        IfOk result (λ new. (now : Image) × (t : Tree) × (P.list pages.new ≡ Some now) × StandsFor H.dig now new t × (entries t ≡ woven (map entries ts) (middle ∷ []))) }
+    ensures page { IfOk result (λ new. P.used_count pages.new ≡ new.page + 1) }
+    ensures few { P.used_count pages.new ≤ P.used_count pages.old + 1 }
+    ensures kept { OnlyAdds P.used_count P.list P.same P.unbroken pages.old pages.new (Unit {0}) }
+    ensures faults { P.faults pages.new ≡ P.faults pages.old }
+{
+    let node = single::<H>(own, middle, left, right);
+    Ok(root_of(stage_node::<P, H>(pages, &node)?))
+}
+
+/// Puts the entry into the tree under the root, and answers the new root. It reads the pages on the way down to the entry's place,
+/// each once, and stages as many, at most one more a level and a new root page; every earlier root keeps its tree. The pages
+/// take the memory, and there is no other use of it.
+///
+/// Conditions: fewer than 2^47 pages are used, and the entry's steps are within 1 to 2^40 - 1. `Present` exactly where the key is
+/// there. After a refusal pages of the call may stay staged, behind those that were there.
+pub fn insert<P: Pages, H: Hasher>(
+    _alloc: Global,
+    pages: &mut P,
+    root: &Root,
+    entry: Entry,
+) -> Result<Root, TreeFault>
+    requires used { P.used_count pages.old < 2 ^ 47 }
+    requires range { IsEntryInRange entry }
+    // Over told pages the answer is what is found in them, whatever they keep, a disk fault and want of memory excepted: there is
+    // a new root where the way down ends at an empty place, `Present` where it meets the key, and `BadPage` with the first page
+    // met that doesn't fit the way, or with the root's page where all pages of eleven levels are full.
+    ensures answer { (ps : Image) → P.list pages.old ≡ Some ps → (at : Reading) → IsReading H.dig ps at →
+        AnswersInsert root.now result (way at (Absent (key_of entry)) root.now) }
+    // Where the pages stand for a tree under the root, those told then stand under the new root for a tree that lists the same
+    // entries and the new one in its place.
+    ensures inserted { (ps : Image) → P.list pages.old ≡ Some ps → (t : Tree) → StandsFor H.dig ps root.now t →
+        IfOk result (λ new. (now : Image) × (grown : Tree) × (P.list pages.new ≡ Some now)
+        × StandsFor H.dig now new grown × (entries grown ≡ with_entry (entries t) entry)) }
+    // The new root's page is the last one.
+    ensures page { IfOk result (λ new. P.used_count pages.new ≡ new.page + 1) }
+    // At most 23 pages are staged.
+    ensures few { P.used_count pages.new ≤ P.used_count pages.old + MOST_STAGED }
+    // `Untrue` is never answered.
+    ensures never { NeverUntrue result }
+    // The pages that were told stay, whatever is answered; new ones may stand behind them.
+    ensures kept { OnlyAdds P.used_count P.list P.same P.unbroken pages.old pages.new (NotDiskFault result) }
+    // `DiskFault` comes only where the count of faults rose.
+    ensures faults { FaultsRise (P.faults pages.old) (P.faults pages.new) result }
+{
+    if root.page == 0 {
+        let empty = Child {
+            page: 0,
+            label: empty_tree::<H>(),
+        };
+        return Ok(stage_single::<P, H>(pages, 0, empty, entry, empty)?);
+    }
+    let first = read_root::<P, H>(pages, root.page)?;
+    match grow_below::<P, H>(pages, &first, &None, &None, &entry)? {
+        Grown::One(child) => Ok(root_of(child)),
+        Grown::Two {
+            left,
+            middle,
+            right,
+        } => {
+            if level(&first) == TOP_LEVEL {
+                return Err(TreeFault::BadPage { page: root.page });
+            }
+            Ok(stage_single::<P, H>(pages, level(&first) + 1, left, middle, right)?)
+        }
+    }
+}

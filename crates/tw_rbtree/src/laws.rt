@@ -1,0 +1,55 @@
+// What holds of pages that stand for trees, whatever the calls do.
+
+ghost use Rattle.std.specs.Prelude.{◌≡◌, ℕ, ◌+◌, ◌-◌, ◌*◌, ◌^◌, ◌<◌, ◌≤◌, ◌++◌, List, length};
+ghost use Rattle.tw_base.specs.declared.root.Root.{Root};
+ghost use Rattle.tw_base.specs.declared.thread.Key.{Key};
+ghost use Rattle.tw_base.specs.declared.tree_proof.Ask.{Ask};
+ghost use Rattle.tw_base.specs.Asking.{entry_with, first_above, last_below};
+ghost use Rattle.tw_base.specs.Tree.{Tree, entries};
+ghost use Rattle.tw_disk.specs.Found.Found.{Is};
+ghost use Rattle.tw_disk.specs.Image.{Image};
+ghost use Rattle.tw_rbtree.specs.Reading.{IsReading, Reading};
+ghost use Rattle.tw_rbtree.specs.Standing.{StandsFor};
+ghost use Rattle.tw_rbtree.specs.Ways.{Stop, end_of, found_after, found_before, found_with, nowhere, way};
+ghost use Rattle.tw_rbtree.specs.Paths.{proof_of_way};
+ghost use Rattle.tw_rbtree.specs.Answers.{IsSoAt};
+ghost use Rattle.tw_treeproof.specs.Answers.{ancestors_of};
+ghost use Rattle.tw_treeproof.specs.Making.{IsSo, proof_of};
+
+use tw_base::Hasher;
+
+/// What is found in pages that stand for a tree; its clauses are the theorem. The function itself does nothing.
+pub fn standing_laws<H: Hasher>()
+    // There is a reading of any pages.
+    ensures reading { (ps : Image) → (at : Reading) × IsReading H.dig ps at }
+    // The entry of a key that is found is the tree's, and none where it has none.
+    ensures get { (ps : Image) (at : Reading) (root : Root) (t : Tree) (key : Key) → IsReading H.dig ps at → StandsFor H.dig ps root t →
+        found_with at root key ≡ Is (entry_with (entries t) key) }
+    // The entry before a key that is found is the last one below it of the tree's list.
+    ensures before { (ps : Image) (at : Reading) (root : Root) (t : Tree) (key : Key) → IsReading H.dig ps at → StandsFor H.dig ps root t →
+        found_before at root key ≡ Is (last_below (entries t) key) }
+    // The entry after a key that is found is the first one above it of the tree's list.
+    ensures after { (ps : Image) (at : Reading) (root : Root) (t : Tree) (key : Key) → IsReading H.dig ps at → StandsFor H.dig ps root t →
+        found_after at root key ≡ Is (first_above (entries t) key) }
+    // What is asked is so at the end of the way where it is so of the tree's entries, and the proof that the way shows is the
+    // tree's own.
+    ensures path { (ps : Image) (at : Reading) (root : Root) (t : Tree) (ask : Ask) → IsReading H.dig ps at → StandsFor H.dig ps root t →
+        (stops : List Stop) × (way at ask root ≡ Is stops) × ((IsSo (entries t) ask → IsSoAt ask (end_of nowhere stops).met)
+        × (IsSoAt ask (end_of nowhere stops).met → IsSo (entries t) ask)) × (proof_of_way H.dig stops ≡ proof_of H.dig t ask) }
+{}
+
+/// What stands in pages stays as they grow; its clauses are the theorem. The function itself does nothing.
+pub fn keeping_laws<H: Hasher>()
+    // Pages that stand for a tree under a root still do with others behind them.
+    ensures kept { (ps more : Image) (root : Root) (t : Tree) → StandsFor H.dig ps root t → StandsFor H.dig (ps ++ more) root t }
+    // Pages stand for one tree under a root.
+    ensures once { (ps : Image) (root : Root) (s t : Tree) → StandsFor H.dig ps root s → StandsFor H.dig ps root t → s ≡ t }
+{}
+
+/// How long proofs of pages that stand for a tree are; its clauses are the theorem. The function itself does nothing.
+pub fn size_laws<H: Hasher>()
+    // The tree's own proof of an answer has at most 9 nodes a level of pages above its place, and a tree of some entries has
+    // so many levels of pages only where it has at least 2 * 13^(levels - 1) - 1 entries.
+    ensures size { (ps : Image) (root : Root) (t : Tree) (ask : Ask) → StandsFor H.dig ps root t →
+        (levels : ℕ) × (length (ancestors_of (proof_of H.dig t ask)) ≤ 9 * levels) × (0 < levels → 2 * 13 ^ (levels - 1) ≤ length (entries t) + 1) }
+{}

@@ -1,0 +1,23 @@
+//! The archive's tree over pages: red-black trees in pages that are trees of pages. One more entry copies the pages on one way
+//! down, so that every earlier root keeps its tree. The calls work over any pages, honest or not.
+#![tactic(auto)]
+
+mod asking;
+mod fault;
+mod inserting;
+mod laws;
+pub mod limits;
+mod listing;
+mod new_node;
+mod proving;
+mod reading;
+mod seeking;
+
+pub use asking::{after, before, get};
+pub use fault::{TreeFault, WalkFault};
+pub use inserting::insert;
+pub use laws::{keeping_laws, size_laws, standing_laws};
+pub use listing::fresh;
+pub use new_node::{NewNode, NewNodes, Side};
+pub use proving::path;
+pub use tw_base::{Ask, Entry, Hasher, Key, NoMemory, Root, TreeProof};
