@@ -268,6 +268,20 @@ def waiting_pipe(room):
     assert store.anchor(1)
 
 
+def open_pipe(room):
+    """of a proof no more is read than the piece in which none goes on: it is answered while its pipe stays open"""
+    room.put("k", f"a 1 {HEX}\n".encode())
+    for data, place in ((b"TWP2", 3), (b"TWP1\6", 4), (LEAST + b"\0", len(LEAST)), (LEAST + bytes(5000), len(LEAST))):
+        for words in (f"verify /dev/stdin a 1 {HEX}", "verify /dev/stdin k", "strict /dev/stdin k"):
+            reader, writer = os.pipe()
+            os.write(writer, data)
+            found = room.run(*words.split(), stdin=reader)
+            os.close(writer)
+            os.close(reader)
+            wanted = (1, f"rejected 1 Malformed {place}\n".encode(), b"")
+            expect(found, wanted, f"timeweave {words}, from a pipe that stays open behind {len(data)} bytes")
+
+
 # ---- interrupted calls
 
 
@@ -316,6 +330,6 @@ def interruptible(calls, folder):
 def cases():
     works = (
         no_devices, no_devices_closed_output, folder_synced, linked_store, only_read, read_only_mount, no_file_left, opened_once, pipes,
-        substituted, replaced, waiting_pipe, interrupted,
+        substituted, replaced, waiting_pipe, open_pipe, interrupted,
     )
     return [case(work, "edges") for work in works]

@@ -1,14 +1,14 @@
 -- Bytes that come in pieces: what stands behind what was taken, and a chain of segments.
-use Rattle.std.proofs.Common.{◌≡◌, ℕ, ◌+◌, ◌-◌, ◌<◌, ◌≤◌, List, [], ◌∷◌, ◌++◌, length, take, drop, get_or, ap, sym, ◌∙◌, subst, arith, append_assoc, inl, inr, refl}
+use Rattle.std.proofs.Common.{◌≡◌, ℕ, ◌+◌, ◌-◌, ◌<◌, ◌≤◌, List, [], ◌∷◌, ◌++◌, length, take, drop, ap, sym, ◌∙◌, subst, arith, append_assoc, inl, inr, refl}
 use Rattle.std.specs.Prelude.{Result, Ok, Err}
 use Rattle.std.proofs.lemmas.Bool.{cases_lt}
-use Rattle.std.proofs.lemmas.List.{append-nil, take_more, length-append, length-drop, length-take-le, take_all, take-append-drop, take-append-le}
+use Rattle.std.proofs.lemmas.List.{append-nil, length-append, length-drop, length-take-le, take_all, take-append-drop, take-append-le}
 use Rattle.std.proofs.Math.Seq.{take-add, take-append-add}
 use Rattle.tw_base.specs.declared.failure.ReadFault.{ReadFault}
-use Rattle.tw_base.specs.declared.failure.ReadFault.TheVariants.{Malformed, NoMemory}
+use Rattle.tw_base.specs.declared.failure.ReadFault.TheVariants.{Malformed}
 use Rattle.tw_base.specs.declared.resumed.Resumed.{Resumed}
 use Rattle.tw_base.specs.Bytes.{AreBytes}
-use Rattle.tw_base.specs.Formats.{Format, GoesOn, IsFront, IsPlace, ReadsAs, Spells, SpellsNothing, then_by}
+use Rattle.tw_base.specs.Formats.{Format, GoesOn, IsFront, IsPlace, Spells, SpellsNothing, then_by}
 use Rattle.tw_base.specs.Formats.Format.{Done, Byte}
 use Rattle.tw_base.specs.Resuming.{Goes, IsSoFar, StandsBehind, StaysFront}
 use Rattle.tw_base.proofs.ByteLemmas.{AreBytes-append}

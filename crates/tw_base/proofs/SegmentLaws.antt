@@ -1,6 +1,6 @@
 -- What a reader of one codec finds in the bytes that are held of a segment, and chains of fields as chains of segments.
 use Rattle.std.proofs.Common.{◌≡◌, ℕ, suc, zero, ◌+◌, ◌-◌, ◌*◌, ◌<◌, ◌≤◌, List, [], ◌∷◌, ◌++◌, length, replicate, take, drop, ap, sym, ◌∙◌, subst, append_assoc, arith, lit<, refl, inl, inr}
-use Rattle.std.specs.Prelude.{Bool, true, false, Option, Some, None, Result, Ok, Err}
+use Rattle.std.specs.Prelude.{true, false, Option, Some, None, Result, Ok, Err}
 use Rattle.std.proofs.lemmas.List.{append-nil, length-append, length-drop, length-replicate, length-take-le, take-append-drop, take_all, take_at}
 use Rattle.std.proofs.lemmas.Bool.{cases_lt}
 use Rattle.tw_base.specs.declared.failure.NoMemory.{NoMemory as WantOfMemory}

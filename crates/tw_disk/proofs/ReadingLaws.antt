@@ -1,6 +1,6 @@
 -- Calls over a list of pages that only read, one after another.
 use Rattle.std.specs.Prelude.{ℕ, Option, Some}
-use Rattle.std.proofs.Common.{◌≡◌, ◌≤◌, [], ◌++◌, ◌∙◌, refl, ap, sym, arith, append-nil, append_assoc}
+use Rattle.std.proofs.Common.{[], ◌++◌, ◌∙◌, refl, ap, sym, arith, append-nil, append_assoc}
 use Rattle.tw_disk.specs.Image.{Image}
 use Rattle.tw_disk.specs.Pages.{OnlyAdds, OnlyReads}
 

@@ -7,8 +7,8 @@ use Rattle.tw_base.specs.History.{History}
 use Rattle.tw_disk.specs.Image.{Image}
 use Rattle.tw_pages.specs.declared.open.StoreFault.{StoreFault}
 use Rattle.tw_pages.specs.declared.open.StoreFault.TheVariants as store
-use Rattle.tw_skiplist.specs.Found.{Found}
-use Rattle.tw_skiplist.specs.Found.Found.{Is}
+use Rattle.tw_disk.specs.Found.{Found}
+use Rattle.tw_disk.specs.Found.Found.{Is}
 use Rattle.tw_service.specs.Finds.{IsRefusalOf}
 use Rattle.tw_service.specs.Machine.{Answers, Call, Reply}
 use Rattle.tw_service.specs.Stands.{IsNotOpenedFor, Served}

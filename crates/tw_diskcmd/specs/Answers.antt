@@ -4,8 +4,8 @@ use Rattle.sha2.specs.Sha256.{sha256}
 use Rattle.tw_base.specs.Faults.{Rose}
 use Rattle.tw_base.specs.History.{History}
 use Rattle.tw_disk.specs.Image.{Image}
-use Rattle.tw_skiplist.specs.Found.{Found}
-use Rattle.tw_skiplist.specs.Found.Found.{Is, Bad}
+use Rattle.tw_disk.specs.Found.{Found}
+use Rattle.tw_disk.specs.Found.Found.{Is, Bad}
 use Rattle.tw_service.specs.Machine.{Call, IsStepOf}
 use Rattle.tw_service.specs.Machine.Reply.{Refused}
 use Rattle.tw_service.specs.Stands.{IsServed, OpensWith, Served}

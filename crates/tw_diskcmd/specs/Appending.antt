@@ -11,7 +11,7 @@ use Rattle.tw_msg.specs.EventsFile.{events_file}
 use Rattle.tw_outside.specs.Asked.{Asked}
 use Rattle.tw_outside.specs.Files.{Files, IsThere, Tells}
 use Rattle.tw_service.specs.declared.refusal.Refusal.{Refusal as ServiceRefusal}
-use Rattle.tw_skiplist.specs.Found.{Found}
+use Rattle.tw_disk.specs.Found.{Found}
 use Rattle.tw_service.specs.Finds.{found_thread}
 use Rattle.tw_service.specs.Limits.{append_refusal}
 use Rattle.tw_service.specs.Machine.{IsStepOf, NextOf, last_thread}

@@ -9,7 +9,7 @@ use Rattle.tw_chain.specs.Accepting.{Accepts}
 use Rattle.tw_skipproof.specs.HistoryProofs.{MakesExistence}
 use Rattle.tw_disk.specs.Image.{Image}
 use Rattle.tw_service.specs.declared.refusal.Refusal.{Refusal as ServiceRefusal}
-use Rattle.tw_skiplist.specs.Found.{Found}
+use Rattle.tw_disk.specs.Found.{Found}
 use Rattle.tw_service.specs.Finds.{found_event}
 use Rattle.tw_service.specs.Limits.{order_refusal}
 use Rattle.tw_service.specs.Machine.{IsStepOf}

@@ -136,34 +136,10 @@ fn strict_judges_under_a_file_of_anchors(rt: HostRuntime) {
 }
 
 #[test]
-fn nothing_is_read_behind_the_first_bad_byte(rt: HostRuntime) {
-    let alloc = rt.alloc();
-    let mut inputs = MemInputs::new(alloc);
-    inputs.put("p", b"TWPx").expect(&rt, "memory");
-    inputs.fail(2).expect(&rt, "memory");
-    expect_over(
-        &rt,
-        alloc,
-        &mut inputs,
-        &["verify", "p", "a", "1", HEX],
-        1,
-        b"rejected 1 Malformed 3\n",
-    );
-}
-
-#[test]
-fn parts_that_do_not_join(rt: HostRuntime) {
+fn a_file_that_holds_no_part_is_told_before_a_part_that_does_not_fit(rt: HostRuntime) {
     let alloc = rt.alloc();
     let mut inputs = inputs(&rt, alloc);
     inputs.put("k", b"TWPx").expect(&rt, "memory");
-    expect_over(
-        &rt,
-        alloc,
-        &mut inputs,
-        &["join", "p", "p"],
-        1,
-        b"rejected Gap 2\n",
-    );
     expect_over(
         &rt,
         alloc,

@@ -88,8 +88,7 @@ module _ (dig : List ℕ → List ℕ) (page : ℕ) (bytes : List ℕ) where
         let tree : IsTree (slice_get (link false 0 0 ∷ map (λ (s : Slot). s.link) f.1.1.0)) 0 shape f.1.0 = record { blank = refl; top_is = rules.0; at = rules.1.0 } in
         let entries_count : length (map (λ (s : Slot). s.entry) f.1.1.0) ≡ length f.1.1.0 = map-size (λ (s : Slot). s.entry) f.1.1.0 in
         let h = holds (link false 0 0 ∷ map (λ (s : Slot). s.link) f.1.1.0) f.1.1.0 (map (λ (s : Slot). s.entry) f.1.1.0) shape f.1.0 tree rules.1.1.0 reads_as refl in
-        let same : f ≡ fields_of candidate = (λ i. (f.0, (sym h.0 i, (sym h.1 i, f.1.1.1)))) in
-        (
+        let same : f ≡ fields_of candidate = (λ i. (f.0, (sym h.0 i, (sym h.1 i, f.1.1.1)))) in (
           record {
             node = record {
               level = fitting.low;
@@ -115,8 +114,7 @@ module _ (dig : List ℕ → List ℕ) (page : ℕ) (bytes : List ℕ) where
         let entries_are : p.entries ≡ map (λ (s : Slot). s.entry) f.1.1.0 = ap (λ (q : TreePage). q.entries) c.0 in
         let tree = subst (λ (t : Shape). IsTree (slice_get (link false 0 0 ∷ map (λ (s : Slot). s.link) f.1.1.0)) 0 t f.1.0) shapes c.1 in
         let level : p.level ≡ f.0 = ap (λ (g : ℕ × Held). g.0) e in
-        let children : p.children ≡ f.1.1.1 = ap (λ (g : ℕ × Held). g.1.1.1) e in
-        (
+        let children : p.children ≡ f.1.1.1 = ap (λ (g : ℕ × Held). g.1.1.1) e in (
           tree.top_is,
           (
             tree.at,
@@ -153,4 +151,3 @@ module _ (dig : List ℕ → List ℕ) (page : ℕ) (bytes : List ℕ) where
 
   pub told : Told
   told = by_read (node_codec.read bytes 0) refl
-

@@ -137,9 +137,13 @@ module _ (at : Reading) (entry : Entry) (low high : Option Entry) (p : TreePage)
       goes_on = goes ∙ is_on child (λ r. on r >>= (λ stops. Is (here at (Absent (key_of entry)) low high p ∷ stops))) q found
 
       pub fault-up : (f : TreeFault) → AnswersGrown below (Err f) (on q) → AnswersGrown level (Err f) (way_from at (Absent (key_of entry)) level low high p)
-      fault-up Present below_is =
-          (here at (Absent (key_of entry)) low high p, below_is.0 ∷ below_is.1, below_is.2,
-            goes_on ∙ is_on (on q) (λ stops. Is (here at (Absent (key_of entry)) low high p ∷ stops)) (below_is.0 ∷ below_is.1) below_is.3, below_is.4)
+      fault-up Present below_is = (
+        here at (Absent (key_of entry)) low high p,
+        below_is.0 ∷ below_is.1,
+        below_is.2,
+        goes_on ∙ is_on (on q) (λ stops. Is (here at (Absent (key_of entry)) low high p ∷ stops)) (below_is.0 ∷ below_is.1) below_is.3,
+        below_is.4,
+      )
       fault-up Untrue below_is = tt
       fault-up (BadPage page) below_is =
           subst (λ (w : Found (List Stop)). IsFaultOf (BadPage page) w) (sym goes_on) (bad_on (BadPage page) (on q) (λ stops. Is (here at (Absent (key_of entry)) low high p ∷ stops)) below_is)
@@ -148,11 +152,14 @@ module _ (at : Reading) (entry : Entry) (low high : Option Entry) (p : TreePage)
 
       pub grown-up : (dig : List ℕ → List ℕ) (number : ℕ) (gb grown : Grown) (added : Added) → AnswersGrown below (Ok gb) (on q) → IsWith p place gb added → IsStagedAs dig number added grown
           → AnswersGrown level (Ok grown) (way_from at (Absent (key_of entry)) level low high p)
-      grown-up dig number gb grown added below_is with_it staged =
-          (here at (Absent (key_of entry)) low high p, below_is.0 ∷ below_is.1,
-            goes_on ∙ is_on (on q) (λ stops. Is (here at (Absent (key_of entry)) low high p ∷ stops)) (below_is.0 ∷ below_is.1) below_is.2,
-            below_is.3, ap suc below_is.4 ∙ sym deeper,
-            full-on dig number place p (here at (Absent (key_of entry)) low high p) (below_is.0 ∷ below_is.1) gb grown added refl below_is.5 with_it staged)
+      grown-up dig number gb grown added below_is with_it staged = (
+        here at (Absent (key_of entry)) low high p,
+        below_is.0 ∷ below_is.1,
+        goes_on ∙ is_on (on q) (λ stops. Is (here at (Absent (key_of entry)) low high p ∷ stops)) (below_is.0 ∷ below_is.1) below_is.2,
+        below_is.3,
+        ap suc below_is.4 ∙ sym deeper,
+        full-on dig number place p (here at (Absent (key_of entry)) low high p) (below_is.0 ∷ below_is.1) gb grown added refl below_is.5 with_it staged,
+      )
 
 -- a fault that is passed on
 pub grown-passed : (level : ℕ) (r : Result Grown TreeFault) (f : TreeFault) (found : Found (List Stop)) → IsErrAnd r (λ e. e ≡ f) → AnswersGrown level (Err f) found → AnswersGrown level r found
@@ -188,15 +195,18 @@ child-same at level low high page q r told found = by (fits level low high q) (a
 -- a page of a tree with fewer keys asked for
 pub less-keys : (dig : List ℕ → List ℕ) (ps : Image) (level least : ℕ) (c : Child) (t : Tree) → 12 ≤ least → IsChildTree dig ps level least c t → IsTreeBelow dig ps (suc level) c t
 unfolding IsTreeBelow
-less-keys dig ps level least c t enough is = (is.0, record {
-  node = is.1.node;
-  at = is.1.at;
-  level_is = is.1.level_is;
-  least_keys = omega (arith, enough, is.1.least_keys);
-  trees = is.1.trees;
-  are_trees = is.1.are_trees;
-  tree_is = is.1.tree_is;
-})
+less-keys dig ps level least c t enough is = (
+  is.0,
+  record {
+    node = is.1.node;
+    at = is.1.at;
+    level_is = is.1.level_is;
+    least_keys = omega (arith, enough, is.1.least_keys);
+    trees = is.1.trees;
+    are_trees = is.1.are_trees;
+    tree_is = is.1.tree_is;
+  },
+)
 
 pub sides-of : (dig : List ℕ → List ℕ) (ps : Image) (level least : ℕ) (es : List Entry) (g : Grown) → 12 ≤ least → GrownLists dig ps level least es g → SidesList (IsTreeBelow dig ps (suc level)) es g
 sides-of dig ps level least es (One c) enough lists = (lists.0, less-keys dig ps level least c lists.0 enough lists.1, lists.2)
@@ -274,4 +284,3 @@ still-lies ask p low high place node lie spot (Two l m r) grown left right middl
     let goes = goes-between ask m 0 low high p.entries place node.rising (all-lie low high p.entries lie) (spot ∙ ap (λ (n : ℕ). Between n) (let s : place ≡ 0 + place = omega arith in s)) grown.3 grown.4 in
     let same : m ≡ middle = same_middle l r left right m middle is in
     subst (λ (x : Entry). IsEntryInRange x × LiesBetween low high x) same (grown.2, (goes.above, goes.below))
-

@@ -3,6 +3,7 @@ pub mod PageLaws
 pub mod WayLaws
 pub mod Weaving
 pub mod PageWays
+pub mod SizeLaws
 pub mod Standings
 pub mod RootWays
 pub mod Keeping
@@ -11,4 +12,6 @@ pub mod Adding
 pub mod Replacing
 pub mod GrowLaws
 pub mod RootGrowing
+pub mod ShowLaws
+pub mod ListLaws
 pub mod Readings

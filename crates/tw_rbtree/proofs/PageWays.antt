@@ -190,21 +190,19 @@ module _ (dig : List ℕ → List ℕ) (es : List Entry) (trees : List Tree) (as
           | inl near ↦
               let ways = guide.left (omega (arith, near)) in
               let down = way-left dig ask (tree_at es trees base l) e (tree_at es trees (base + size l + 1) r) ways.0 ways.1 in
-              let rest = leads-between base l from near (omega (arith, room)) in
-              (
+              let rest = leads-between base l from near (omega (arith, room)) in (
                 down.0 ∙ ap (λ (u : List Ancestor). u ++ ancestor dig e (tree_at es trees (base + size l + 1) r) ∷ []) rest.0
-                ∙ append_assoc (way_up dig ask below) (above_at dig es (map (tree_label dig) trees) (2 * place + 1) base l) (ancestor dig e (tree_at es trees (base + size l + 1) r) ∷ [])
-                ∙ ap (λ (u : List Ancestor). way_up dig ask below ++ u) (sym (above-left (2 * place + 1) base red l r e here.1 (omega (arith, near)))),
+                    ∙ append_assoc (way_up dig ask below) (above_at dig es (map (tree_label dig) trees) (2 * place + 1) base l) (ancestor dig e (tree_at es trees (base + size l + 1) r) ∷ [])
+                    ∙ ap (λ (u : List Ancestor). way_up dig ask below ++ u) (sym (above-left (2 * place + 1) base red l r e here.1 (omega (arith, near)))),
                 down.1 ∙ rest.1,
               )
           | inr far ↦
               let ways = guide.right (omega (arith, far)) in
               let down = way-right dig ask (tree_at es trees base l) e (tree_at es trees (base + size l + 1) r) ways.0 ways.1 in
-              let rest = leads-between (base + size l + 1) r (omega (arith, far)) (omega (arith, to)) (omega (arith, room)) in
-              (
+              let rest = leads-between (base + size l + 1) r (omega (arith, far)) (omega (arith, to)) (omega (arith, room)) in (
                 down.0 ∙ ap (λ (u : List Ancestor). u ++ ancestor dig e (tree_at es trees base l) ∷ []) rest.0
-                ∙ append_assoc (way_up dig ask below) (above_at dig es (map (tree_label dig) trees) (2 * place + 1) (base + size l + 1) r) (ancestor dig e (tree_at es trees base l) ∷ [])
-                ∙ ap (λ (u : List Ancestor). way_up dig ask below ++ u) (sym (above-right (2 * place + 1) base red l r e here.1 (omega (arith, far)))),
+                    ∙ append_assoc (way_up dig ask below) (above_at dig es (map (tree_label dig) trees) (2 * place + 1) (base + size l + 1) r) (ancestor dig e (tree_at es trees base l) ∷ [])
+                    ∙ ap (λ (u : List Ancestor). way_up dig ask below ++ u) (sym (above-right (2 * place + 1) base red l r e here.1 (omega (arith, far)))),
                 down.1 ∙ rest.1,
               )
         ])
@@ -236,8 +234,7 @@ module _ (dig : List ℕ → List ℕ) (es : List Entry) (trees : List Tree) (as
         (node-tree base red l r e here.1) (
         elim cases [
           | inl at ↦
-              let down = way-here dig ask left e right (guide.here (omega (arith, at))) in
-              (
+              let down = way-here dig ask left e right (guide.here (omega (arith, at))) in (
                 down.0 ∙ sym (above-at (2 * slot) base red l r e here.1 (omega (arith, at))),
                 λ above.
                     ap (λ (x : Tree). proof_at dig x above) down.1
@@ -249,8 +246,7 @@ module _ (dig : List ℕ → List ℕ) (es : List Entry) (trees : List Tree) (as
                 let ways = guide.left (omega (arith, near)) in
                 let down = way-left dig ask left e right ways.0 ways.1 in
                 let rest = leads-slot base l from (omega (arith, near)) (omega (arith, room)) in
-                let sides : the_sides base (Node red l r) ≡ the_sides base l = rw (other slot (base + size l + 1) (omega (arith, near))) (rw (before slot (base + size l + 1) near) refl) in
-                (
+                let sides : the_sides base (Node red l r) ≡ the_sides base l = rw (other slot (base + size l + 1) (omega (arith, near))) (rw (before slot (base + size l + 1) near) refl) in (
                   down.0 ∙ ap (λ (u : List Ancestor). u ++ ancestor dig e right ∷ []) rest.0 ∙ sym (above-left (2 * slot) base red l r e here.1 (omega (arith, near))),
                   λ above. ap (λ (x : Tree). proof_at dig x above) down.1 ∙ rest.1 above ∙ ap (λ (s : List ℕ × List ℕ). OfEntry s.0 s.1 above) (sym sides),
                 )
@@ -259,8 +255,7 @@ module _ (dig : List ℕ → List ℕ) (es : List Entry) (trees : List Tree) (as
                 let down = way-right dig ask left e right ways.0 ways.1 in
                 let rest = leads-slot (base + size l + 1) r far (omega (arith, to)) (omega (arith, room)) in
                 let sides : the_sides base (Node red l r) ≡ the_sides (base + size l + 1) r =
-                rw (other slot (base + size l + 1) (omega (arith, far))) (rw (not_before slot (base + size l + 1) (omega (arith, far))) refl) in
-                (
+                rw (other slot (base + size l + 1) (omega (arith, far))) (rw (not_before slot (base + size l + 1) (omega (arith, far))) refl) in (
                   down.0 ∙ ap (λ (u : List Ancestor). u ++ ancestor dig e left ∷ []) rest.0 ∙ sym (above-right (2 * slot) base red l r e here.1 (omega (arith, far))),
                   λ above. ap (λ (x : Tree). proof_at dig x above) down.1 ∙ rest.1 above ∙ ap (λ (s : List ℕ × List ℕ). OfEntry s.0 s.1 above) (sym sides),
                 )

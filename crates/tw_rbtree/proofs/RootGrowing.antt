@@ -131,13 +131,16 @@ pub root-stands : (dig : List ℕ → List ℕ) (now : Image) (level least : ℕ
 root-stands dig now level least c t new some is rising page label = record {
   rising = rising;
   label = label ∙ is.0;
-  tree = inr (level, subst (λ (n : ℕ). IsTreePage dig now (IsTreeBelow dig now level) level 1 n t) (sym page) (record {
-    node = is.1.node;
-    at = is.1.at;
-    level_is = is.1.level_is;
-    least_keys = omega (arith, some, is.1.least_keys);
-    trees = is.1.trees;
-    are_trees = is.1.are_trees;
-    tree_is = is.1.tree_is;
-  }));
+  tree = inr (
+    level,
+    subst (λ (n : ℕ). IsTreePage dig now (IsTreeBelow dig now level) level 1 n t) (sym page) (record {
+      node = is.1.node;
+      at = is.1.at;
+      level_is = is.1.level_is;
+      least_keys = omega (arith, some, is.1.least_keys);
+      trees = is.1.trees;
+      are_trees = is.1.are_trees;
+      tree_is = is.1.tree_is;
+    }),
+  );
 }

@@ -1,5 +1,5 @@
 -- What is found under a root for whose tree the pages stand.
-use Rattle.std.proofs.Common.{◌≡◌, ℕ, ◌+◌, ◌≤◌, List, [], ◌∷◌, refl, ap, sym, ◌∙◌, subst, arith, ◌⊎◌, inl, inr}
+use Rattle.std.proofs.Common.{◌≡◌, ℕ, ◌+◌, ◌-◌, ◌*◌, ◌^◌, ◌<◌, ◌≤◌, List, [], ◌∷◌, length, refl, ap, sym, ◌∙◌, subst, arith, ◌⊎◌, inl, inr}
 use Rattle.std.specs.Prelude.{Option, Some, None}
 use Rattle.std.specs.Option.{option_or}
 use Rattle.tw_base.specs.declared.root.Root.{Root}
@@ -27,6 +27,7 @@ use Rattle.tw_rbtree.specs.Reading.{IsReading, Reading, root_in}
 use Rattle.tw_rbtree.specs.Standing.{IsRootTree, IsTreeBelow, IsTreePage, StandsFor}
 use Rattle.tw_rbtree.specs.Ways.{Stop, end_of, found_after, found_before, found_with, nowhere, way, way_end, way_from}
 use Rattle.tw_rbtree.proofs.PageLaws.{root-is}
+use Rattle.tw_rbtree.proofs.SizeLaws.{root-count}
 use Rattle.tw_rbtree.proofs.Standings.{WayIn, way-in}
 use Rattle.tw_rbtree.proofs.WayLaws.{way-empty, way-root}
 use Rattle.tw_rbtree.proofs.Weaving.{LiesBetween, Tells}
@@ -42,6 +43,10 @@ module _ (dig : List ℕ → List ℕ) (ps : Image) (at : Reading) (reads : IsRe
     pub found : way at ask root ≡ Is stops
     pub tells : Tells ask (entries t) None None (end_of nowhere stops)
     pub proof : proof_of_way dig stops ≡ proof_of dig t ask
+    pub levels : ℕ
+    pub few : length (way_nodes dig stops) ≤ 9 * levels
+    pub many : 0 < levels → 2 * 13 ^ (levels - 1) ≤ length (entries t) + 1
+    pub up : way_nodes dig stops ≡ way_up dig ask t
 
   nothing_tells : (a : Ask) → Tells a [] None None nowhere
   nothing_tells (Present e) = refl
@@ -51,7 +56,7 @@ module _ (dig : List ℕ → List ℕ) (ps : Image) (at : Reading) (reads : IsRe
 
   empty_way : root.page ≡ 0 → RootWay NoEntry
   unfolding way_nodes way_proof way_up place_of
-  empty_way none = record { stops = []; found = way-empty at ask root none; tells = nothing_tells ask; proof = refl }
+  empty_way none = record { stops = []; found = way-empty at ask root none; tells = nothing_tells ask; proof = refl; levels = 0; few = omega arith; many = λ (h : 0 < 0). absurd (omega (arith, h)); up = refl }
 
   page_way : (t : Tree) → IsRising (entries t) → (level : ℕ) → IsTreePage dig ps (IsTreeBelow dig ps level) level 1 root.page t → RootWay t
   page_way t rising level is =
@@ -67,6 +72,13 @@ module _ (dig : List ℕ → List ℕ) (ps : Image) (at : Reading) (reads : IsRe
         stops = w.first ∷ w.rest;
         found = on;
         tells = w.tells;
+        levels = level + 1;
+        few = w.few;
+        many = λ _.
+            let count = root-count dig ps level root.page t is in
+            let same : level + 1 - 1 ≡ level = omega arith in
+            subst (λ (n : ℕ). 2 * 13 ^ n ≤ length (entries (page_tree p is.trees)) + 1) (sym same) (subst (λ (x : Tree). 2 * 13 ^ level ≤ length (entries x) + 1) is.tree_is count);
+        up = w.up;
         proof = w.proof (way_nodes dig (w.first ∷ w.rest)) ∙ ap (λ (up : List Ancestor). proof_at dig (place_of ask (page_tree p is.trees)) up) w.up;
       })
 

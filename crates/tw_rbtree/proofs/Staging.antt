@@ -61,18 +61,20 @@ module _ (dig : List ℕ → List ℕ) where
         below = omega (arith, own, length-append ps (bytes ∷ []));
         may_stand = record { node = node; children = kinds; below = lies_below ps c.page level p.level over.level_is own p.children over.trees over.are_trees };
         bytes = subst (λ (b : List ℕ). IsPageOf node_codec b (fields_of p)) (sym there) spelled;
-      } in
-      (
+      } in (
         page_tree p over.trees,
-        (staged.label_is ∙ page-label dig p over.trees (over-labels dig ps level p over.trees kinds over.level_is over.are_trees), record {
-          node = p;
-          at = stands;
-          level_is = over.level_is;
-          least_keys = over.least_keys;
-          trees = over.trees;
-          are_trees = trees-map (IsTreeBelow dig ps level) (IsTreeBelow dig (ps ++ bytes ∷ []) level) (below-kept dig ps (bytes ∷ []) level) p.children over.trees over.are_trees;
-          tree_is = refl;
-        }),
+        (
+          staged.label_is ∙ page-label dig p over.trees (over-labels dig ps level p over.trees kinds over.level_is over.are_trees),
+          record {
+            node = p;
+            at = stands;
+            level_is = over.level_is;
+            least_keys = over.least_keys;
+            trees = over.trees;
+            are_trees = trees-map (IsTreeBelow dig ps level) (IsTreeBelow dig (ps ++ bytes ∷ []) level) (below-kept dig ps (bytes ∷ []) level) p.children over.trees over.are_trees;
+            tree_is = refl;
+          },
+        ),
         page-list p over.trees node count ∙ over.lists,
       )
 

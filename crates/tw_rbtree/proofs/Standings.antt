@@ -1,5 +1,5 @@
 -- What is found in pages that stand for a tree.
-use Rattle.std.proofs.Common.{◌≡◌, ℕ, suc, zero, ◌+◌, ◌*◌, ◌<◌, ◌≤◌, List, [], ◌∷◌, ◌++◌, length, Bool, true, false, refl, ap, sym, ◌∙◌, subst, arith, ◌⊎◌, inl, inr, slice_get}
+use Rattle.std.proofs.Common.{◌≡◌, ℕ, suc, zero, ◌+◌, ◌*◌, ◌<◌, ◌≤◌, List, [], ◌∷◌, ◌++◌, length, Bool, true, false, refl, ap, sym, ◌∙◌, subst, arith, ◌⊎◌, inl, inr, slice_get, length-append}
 use Rattle.std.specs.Prelude.{◌==◌, ◌&&◌, nat_le, Option, Some, None, map, slice_index_or}
 use Rattle.std.proofs.lemmas.Bool.{le-leb}
 use Rattle.tw_base.specs.declared.root.Root.{Root}
@@ -35,6 +35,7 @@ use Rattle.tw_rbtree.specs.Standing.{AreTrees, IsTreeBelow, IsTreePage, StandsFo
 use Rattle.tw_rbtree.specs.Ways.{Stop, child_page, end_of, nowhere, seek, way, way_from}
 use Rattle.tw_rbtree.proofs.PageLaws.{IsSpotOf, child-is, root-is, seek-there}
 use Rattle.tw_rbtree.proofs.PageWays.{Guides, from_first, leads-between, leads-slot, seek-guides}
+use Rattle.tw_rbtree.proofs.SizeLaws.{page-short}
 use Rattle.tw_rbtree.proofs.WayLaws.{child_page-get, here, way-at, way-empty, way-goes, way-leaf, way-root}
 use Rattle.tw_rbtree.proofs.Weaving.{EndsPage, EndsAt, LiesBetween, Tells, between-all, left_here, met_here, pick, picked-at, picked-between, seek-cons, seek-nil, step_by, tells-page, woven-own}
 
@@ -125,6 +126,7 @@ module _ (dig : List ℕ → List ℕ) (ps : Image) (at : Reading) (reads : IsRe
     pub rest : List Stop
     pub found : way_from at ask level low high p ≡ Is (first ∷ rest)
     pub tells : Tells ask (entries t) low high (end_of first.sought rest)
+    pub few : length (way_nodes dig (first ∷ rest)) ≤ 9 * (level + 1)
     pub up : way_nodes dig (first ∷ rest) ≡ way_up dig ask t
     pub proof : (above : List Ancestor) → way_proof dig (first ∷ rest) above ≡ proof_at dig (place_of ask t) above
 
@@ -190,6 +192,7 @@ module _ (dig : List ℕ → List ℕ) (ps : Image) (at : Reading) (reads : IsRe
         rest = [];
         found = way-at at ask low high p level slot spot;
         tells = tells_of (seek ask 0 low high p.entries) (subst (λ (x : Spot). EndsAt x ask (seek ask 0 low high p.entries) (pick ask p.entries (map entries ts) []) (seek ask 0 low high p.entries)) (sym spot) refl);
+        few = omega (arith, page-short dig p (seek ask 0 low high p.entries).at node);
         up = ap (λ (x : Spot). nodes_above dig p x) spot ∙ sym meets.0;
         proof = λ above. ap (λ (x : Spot). proof_in dig p x above) spot ∙ sym (meets.1 above);
       }
@@ -236,6 +239,7 @@ module _ (dig : List ℕ → List ℕ) (ps : Image) (at : Reading) (reads : IsRe
         tells = tells_below (seek ask 0 low high p.entries)
             (subst (λ (b : Tree). Tells ask (entries b) (seek ask 0 low high p.entries).low (seek ask 0 low high p.entries).high (seek ask 0 low high p.entries)) (sym none)
             (tells-nothing ask (seek ask 0 low high p.entries) (met-none ask 0 low high p.entries place spot)));
+        few = omega (arith, page-short dig p (seek ask 0 low high p.entries).at node);
         up = ap (λ (x : Spot). nodes_above dig p x) spot ∙ sym (leads.0 ∙ ap (λ (b : Tree). way_up dig ask b ++ nodes_above dig p (Between place)) none);
         proof = λ above. ap (λ (x : Spot). proof_in dig p x above) spot ∙ sym (ap (λ (b : Tree). proof_at dig b above) (leads.1 ∙ ap (place_of ask) none));
       }
@@ -252,6 +256,9 @@ module _ (dig : List ℕ → List ℕ) (ps : Image) (at : Reading) (reads : IsRe
             (λ r. way_from at ask lower (seek ask 0 low high p.entries).low (seek ask 0 low high p.entries).high r >>= (λ stops. Is (here at ask low high p ∷ stops))) q child
             ∙ is_on (way_from at ask lower (seek ask 0 low high p.entries).low (seek ask 0 low high p.entries).high q) (λ stops. Is (here at ask low high p ∷ stops)) (on.first ∷ on.rest) on.found;
         tells = tells_below (end_of on.first.sought on.rest) on.tells;
+        few =
+            omega (arith, on.few, is, page-short dig p (seek ask 0 low high p.entries).at node,
+            length-append (way_nodes dig (on.first ∷ on.rest)) (nodes_above dig p (seek ask 0 low high p.entries).at));
         up = (λ i. on.up i ++ nodes_above dig p (spot i)) ∙ sym leads.0;
         proof = λ above. on.proof above ∙ ap (λ (b : Tree). proof_at dig b above) (sym leads.1);
       }

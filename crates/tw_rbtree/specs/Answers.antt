@@ -56,6 +56,13 @@ module _ {T : Type 0} where
   NeverUntrue (Err Untrue) = ⊥
   NeverUntrue _ = Unit {0}
 
+  -- `Untrue` where the fact doesn't hold; the answer is else a value, where it does, or want of memory
+  abbrev pub UntrueUnless : Result T TreeFault → Type 0 → Type 0
+  UntrueUnless (Err Untrue) P = P → ⊥
+  UntrueUnless (Err NoMemory) P = P
+  UntrueUnless (Err _) P = ⊥
+  UntrueUnless (Ok value) P = P
+
   -- the count of faults hasn't fallen, and rose where a failed read is answered
   pub record WalkFaultsRise (before now : ℕ) (result : Result T WalkFault) : Type 0 where
     pub later : before ≤ now

@@ -6,3 +6,4 @@ pub mod Standing
 pub mod Listing
 pub mod Answers
 pub mod Growing
+pub mod Showing

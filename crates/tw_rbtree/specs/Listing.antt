@@ -1,14 +1,17 @@
 -- The nodes of a tree in pages that aren't older than a page, in the order in which a history lists them.
-use Rattle.std.specs.Prelude.{ℕ, suc, zero, ◌+◌, ◌==◌, ◌||◌, List, [], ◌∷◌, ◌++◌, length, nat_lt, slice_get, Option, Some, None, if◌then◌else◌}
+use Rattle.std.specs.Prelude.{◌≡◌, ℕ, suc, zero, ◌+◌, ◌<◌, ◌≤◌, ◌==◌, ◌||◌, List, [], ◌∷◌, ◌++◌, length, nat_lt, slice_get, Option, Some, None, Result, Ok, Err, if◌then◌else◌}
 use Rattle.tw_base.specs.declared.root.Root.{Root}
 use Rattle.tw_base.specs.declared.thread.Entry.{Entry}
 use Rattle.tw_disk.specs.Found.{Found, ◌>>=◌}
 use Rattle.tw_disk.specs.Found.Found.{Is}
 use Rattle.tw_rbnode.specs.Page.{TreePage}
 use Rattle.tw_rbnode.specs.Shape.{Shape, Empty, Node, size}
+use Rattle.tw_rbnode.specs.Slots.{below_at, slot_of}
+use Rattle.tw_rbtree.specs.declared.fault.TreeFault.{TreeFault}
 use Rattle.tw_rbtree.specs.declared.new_node.NewNode.{NewNode}
 use Rattle.tw_rbtree.specs.declared.new_node.Side.{Side}
 use Rattle.tw_rbtree.specs.declared.new_node.Side.TheVariants.{Empty as NoTree, New, Old}
+use Rattle.tw_rbtree.specs.Answers.{IsFaultOf}
 use Rattle.tw_rbtree.specs.Reading.{Reading, child_in, root_in}
 use Rattle.tw_rbtree.specs.Ways.{child_page}
 
@@ -37,17 +40,31 @@ listed_at child es page low high base (Node red l r) nodes =
     >>= (λ right. Is (node_behind (slice_get es (base + size l)) page left.side right)))
 
 module _ (at : Reading) (since : ℕ) where
-  -- the nodes of a page of this level, which lies between these two entries, and of the pages below it
-  unfoldable pub listed_from : (level : ℕ) → (low high : Option Entry) → (page : ℕ) → TreePage → List NewNode → Found Listed
-  listed_from zero low high page p nodes = listed_at (λ low high place nodes. Is (record { nodes = nodes; side = NoTree })) p.entries page low high 0 p.shape nodes
-  listed_from (suc level) low high page p nodes =
-      listed_at (λ low high place nodes.
-        if nat_lt (child_page p place) since then Is (record { nodes = nodes; side = Old (child_page p place) })
-        else (child_in at level low high (child_page p place) >>= (λ q. listed_from level low high (child_page p place) q nodes)))
-      p.entries page low high 0 p.shape nodes
+  -- the nodes of what stands at a place of a page of this level, between these two entries; older pages are named and not read
+  unfoldable pub child_listed : (level : ℕ) → TreePage → ListsAt
+  child_listed zero p low high place nodes = Is (record { nodes = nodes; side = NoTree })
+  child_listed (suc level) p low high place nodes =
+      if nat_lt (child_page p place) since then Is (record { nodes = nodes; side = Old (child_page p place) })
+      else (child_in at level low high (child_page p place) >>= (λ q. listed_at (child_listed level q) q.entries (child_page p place) low high 0 q.shape nodes))
 
-  -- the nodes of the tree's pages whose numbers are at least this one; older pages are named and not read
+  -- the nodes of the tree's pages whose numbers are at least this one
   unfoldable pub listed : Root → Found (List NewNode)
   listed root =
       if (root.page == 0) || nat_lt root.page since then Is []
-      else (root_in at root.page >>= (λ p. listed_from p.level None None root.page p [] >>= (λ all. Is all.nodes)))
+      else (root_in at root.page >>= (λ p. listed_at (child_listed p.level p) p.entries root.page None None 0 p.shape [] >>= (λ all. Is all.nodes)))
+
+-- the tree behind base is a part of the page's tree
+abbrev pub IsPartOf : Shape → (base : ℕ) → Shape → Type 0
+IsPartOf whole base t = (slot : ℕ) → base < slot → slot ≤ base + size t → below_at slot 0 whole ≡ below_at slot base t
+
+-- the part of the page's tree in the slots above a base up to an end, with this root slot
+pub record IsPartAt (p : TreePage) (base end top : ℕ) (t : Shape) : Type 0 where
+  pub part : IsPartOf p.shape base t
+  pub top_is : top ≡ slot_of base t
+  pub end_is : end ≡ base + size t
+  pub room : end ≤ length p.entries
+
+-- the nodes that are there now, and the side, are what is found
+abbrev pub AnswersListed : Result Side TreeFault → (now : List NewNode) → Found Listed → Type 0
+AnswersListed (Ok side) now found = found ≡ Is (record { nodes = now; side = side })
+AnswersListed (Err fault) now found = IsFaultOf fault found

@@ -7,6 +7,7 @@ use Rattle.tw_rbnode.specs.declared.node.Found.{Found as Spot}
 use Rattle.tw_rbnode.specs.declared.node.Found.TheVariants.{At, Between}
 use Rattle.tw_rbnode.specs.Page.{TreePage}
 use Rattle.tw_rbnode.specs.Trees.{labels_of, nodes_above, sides_at}
+use Rattle.tw_rbtree.specs.declared.proving.Sides.{Sides}
 use Rattle.tw_rbtree.specs.Ways.{Stop}
 
 module _ (dig : List ℕ → List ℕ) where
@@ -28,3 +29,8 @@ module _ (dig : List ℕ → List ℕ) where
 
   abbrev pub proof_of_way : List Stop → TreeProof
   proof_of_way stops = way_proof stops (way_nodes stops)
+
+-- the proof of what was shown at the end of a way
+abbrev pub shown_proof : Option Sides → List Ancestor → TreeProof
+shown_proof None up = Gap up
+shown_proof (Some s) up = OfEntry s.left s.right up

@@ -10,8 +10,8 @@ ghost use Rattle.tw_rbtree.specs.Reading.{IsReading, Reading, child_in, fits as 
 use crate::fault::WalkFault;
 use crate::limits::LEAST_KEYS;
 use tw_base::{Entry, Hasher, entry_key, is_below};
-use tw_disk::limits::FIRST_PAGE;
 use tw_disk::Pages;
+use tw_disk::limits::FIRST_PAGE;
 use tw_rbnode::{RbNode, entry_at, keys, level, read_node};
 
 /// Reads the tree page of this number; any may be a root page.

@@ -21,12 +21,7 @@ pub(crate) struct Sought {
 }
 
 /// Where the question leads in the page, which lies between these two entries.
-pub(crate) fn seek(
-    node: &RbNode,
-    ask: &Ask,
-    low: &Option<Entry>,
-    high: &Option<Entry>,
-) -> Sought
+pub(crate) fn seek(node: &RbNode, ask: &Ask, low: &Option<Entry>, high: &Option<Entry>) -> Sought
     ensures { result ≡ seek_in ask.now 0 low.now high.now node.now.entries }
 {
     let mut sought = Sought {

@@ -4,8 +4,8 @@ use Rattle.std.specs.Prelude.{Result, Ok, Err, IsErrAnd}
 use Rattle.tw_skiplist.specs.declared.fault.ListFault.{ListFault}
 use Rattle.tw_skiplist.specs.declared.fault.ListFault.TheVariants as list
 use Rattle.tw_skiplist.specs.Answers.{IsFaultOf, NeverNoStep, NoStepUnless}
-use Rattle.tw_skiplist.specs.Found.{Found, ◌>>=◌}
-use Rattle.tw_skiplist.specs.Found.Found.{Is, Bad}
+use Rattle.tw_disk.specs.Found.{Found, ◌>>=◌}
+use Rattle.tw_disk.specs.Found.Found.{Is, Bad}
 use Rattle.tw_service.specs.Finds.{IsAnswer, IsRefusalOf}
 use Rattle.tw_service.specs.Refusals.{IsBadPage, IsFault, IsNoEvent, OfBadPage, refusal_of}
 use Rattle.tw_service.specs.declared.refusal.Refusal.{Refusal}

@@ -17,12 +17,12 @@ use Rattle.tw_skiplist.specs.declared.head.Head.{Head}
 use Rattle.tw_skiplist.specs.declared.info.StepProof.{StepProof}
 use Rattle.tw_skiplist.specs.Appended.{appended}
 use Rattle.tw_skiplist.specs.Events.{events_of_info}
-use Rattle.tw_skiplist.specs.Found.{Found, ◌>>=◌}
-use Rattle.tw_skiplist.specs.Found.Found.{Is}
+use Rattle.tw_disk.specs.Found.{Found, ◌>>=◌}
+use Rattle.tw_disk.specs.Found.Found.{Is}
 use Rattle.tw_skiplist.specs.Infos.{IsInfoOf}
 use Rattle.tw_skiplist.specs.Keeping.{Keeps, archive_at}
 use Rattle.tw_skiplist.specs.Readings.{found_proof}
-use Rattle.tw_skiplist.proofs.FoundLaws.{is_on, same_found}
+use Rattle.tw_disk.proofs.FoundLaws.{is_on, same_found}
 use Rattle.tw_skiplist.proofs.KeptAppended.{grown}
 use Rattle.tw_skiplist.proofs.KeptEvents.{events_are}
 use Rattle.tw_skiplist.proofs.KeptReadings.{proof_found}

@@ -20,10 +20,10 @@ use Rattle.tw_pages.specs.declared.store.Store.{Store}
 use Rattle.tw_pages.proofs.StillKept.{kept_opens, same_leaves as store_leaves, same_opens}
 use Rattle.tw_skiplist.specs.declared.head.Head.{Head}
 use Rattle.tw_skiplist.specs.Appended.{Next, appended}
-use Rattle.tw_skiplist.specs.Found.Found.{Is}
+use Rattle.tw_disk.specs.Found.Found.{Is}
 use Rattle.tw_skiplist.specs.Keeping.{Keeps, archive_at, event_step}
 use Rattle.tw_skiplist.proofs.EventHistories.{same_tree}
-use Rattle.tw_skiplist.proofs.FoundLaws.{same_found}
+use Rattle.tw_disk.proofs.FoundLaws.{same_found}
 use Rattle.tw_skiplist.proofs.Growing.{head_page}
 use Rattle.tw_skiplist.proofs.KeptAppended.{grown}
 use Rattle.tw_base.specs.Limits.{MayRecord}

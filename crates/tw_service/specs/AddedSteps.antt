@@ -2,8 +2,8 @@
 use Rattle.std.specs.Prelude.{◌≡◌, Result, Ok, Err}
 use Rattle.tw_disk.specs.Image.{Image}
 use Rattle.tw_skiplist.specs.Appended.{Next}
-use Rattle.tw_skiplist.specs.Found.{Found}
-use Rattle.tw_skiplist.specs.Found.Found.{Is, Bad}
+use Rattle.tw_disk.specs.Found.{Found}
+use Rattle.tw_disk.specs.Found.Found.{Is, Bad}
 use Rattle.tw_service.specs.declared.refusal.Refusal.{Refusal}
 use Rattle.tw_service.specs.declared.root.RootRecord.{RootRecord}
 use Rattle.tw_service.specs.Refusals.{OfBadPage}

@@ -10,7 +10,7 @@ ghost use Rattle.tw_pages.specs.declared.open.StoreFault.{StoreFault};
 ghost use Rattle.tw_skiplist.specs.declared.head.Head.{Head};
 ghost use Rattle.tw_service.specs.EventsOnly.{HasEventsOnly};
 ghost use Rattle.tw_skipproof.specs.HistoryProofs.{MakesExistence};
-ghost use Rattle.tw_skiplist.specs.Found.Found.{Is};
+ghost use Rattle.tw_disk.specs.Found.Found.{Is};
 ghost use Rattle.tw_skiplist.specs.Keeping.{Keeps, archive_at};
 ghost use Rattle.tw_service.specs.Finds.{event_proof, found_thread};
 ghost use Rattle.tw_service.specs.Limits.{append_refusal};

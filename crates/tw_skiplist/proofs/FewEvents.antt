@@ -7,14 +7,16 @@ use Rattle.tw_skiplist.specs.declared.head.Head.{Head}
 use Rattle.tw_skiplist.specs.declared.head.StepRef.{StepRef}
 use Rattle.tw_skiplist.specs.declared.info.StepInfo.{StepInfo}
 use Rattle.tw_skiplist.specs.declared.info.StepProof.{StepProof}
-use Rattle.tw_skiplist.specs.Found.{Found, bytes_in, spelled, when, ◌>>=◌}
-use Rattle.tw_skiplist.specs.Found.Found.{Is, Bad}
+use Rattle.tw_disk.specs.Found.{Found, when, ◌>>=◌}
+use Rattle.tw_skiplist.specs.Found.{bytes_in, spelled}
+use Rattle.tw_disk.specs.Found.Found.{Is, Bad}
 use Rattle.tw_skiplist.specs.Readings.{found_proof}
 use Rattle.tw_skiplist.specs.Records.{info_record}
 use Rattle.tw_skiplist.specs.StepBytes.{step_codec}
 use Rattle.tw_skiplist.specs.StepPages.{keeps_field_rules, keeps_link_rules, page_of_step, step_in}
 use Rattle.tw_skiplist.specs.Walks.{collected, head_ref, info_in, walk}
-use Rattle.tw_skiplist.proofs.FoundLaws.{is-spelled, same_found}
+use Rattle.tw_disk.proofs.FoundLaws.{same_found}
+use Rattle.tw_skiplist.proofs.FoundLaws.{is-spelled}
 use Rattle.tw_skiplist.proofs.StepCodecs.{events-few, step-lawful}
 
 -- where two readings one after another find something, the first does, and the second finds it

@@ -8,6 +8,7 @@ use Rattle.tw_base.specs.Codecs.{Codec}
 use Rattle.tw_base.specs.Formats.{Placed}
 use Rattle.tw_base.proofs.CodecLaws.{Lawful}
 use Rattle.tw_base.proofs.FormatLaws.{read_at-spells, read_at-word}
+use Rattle.tw_disk.proofs.FoundLaws.{same_found}
 use Rattle.tw_disk.specs.Image.{Image, page_at}
 use Rattle.tw_base.specs.PageBytes.{IsPageOf}
 use Rattle.tw_skiplist.specs.declared.fault.ListFault.{ListFault}
@@ -15,8 +16,9 @@ use Rattle.tw_skiplist.specs.declared.fault.ListFault.TheVariants.{BadPage}
 use Rattle.tw_skiplist.specs.declared.head.Head.{Head}
 use Rattle.tw_skiplist.specs.Appended.{Next}
 use Rattle.tw_skiplist.specs.Answers.{AnswersAs, AnswersNext, IsFaultOf}
-use Rattle.tw_skiplist.specs.Found.{Found, bytes_in, is_zeros, or_bad, spelled, when, ◌>>=◌}
-use Rattle.tw_skiplist.specs.Found.Found.{Is, Bad}
+use Rattle.tw_disk.specs.Found.{Found, when, ◌>>=◌}
+use Rattle.tw_skiplist.specs.Found.{bytes_in, is_zeros, or_bad, spelled}
+use Rattle.tw_disk.specs.Found.Found.{Is, Bad}
 use Rattle.tw_skiplist.specs.StepPages.{step_in, page_of_step}
 
 -- ---- one reading after another
@@ -30,10 +32,6 @@ module _ {X Y : Type 0} where
   pub bad_on : (fault : ListFault) (one : Found X) (next : X → Found Y) → IsFaultOf fault one → IsFaultOf fault (one >>= next)
   bad_on fault one next = fault_on fault one (one >>= next) (λ page is. ap (λ (f : Found X). f >>= next) is)
 
-  -- what is found is read on from
-  pub is_on : (one : Found X) (next : X → Found Y) (x : X) → one ≡ Is x → (one >>= next) ≡ next x
-  is_on one next x is = ap (λ (f : Found X). f >>= next) is
-
 module _ {Y : Type 0} where
   -- a fault that `?` passes on
   pub passed : {T : Type 0} (view : T → Y) (r : Result T ListFault) (fault : ListFault) (found : Found Y) → IsErrAnd r (λ e. e ≡ fault) → IsFaultOf fault found → AnswersAs view r found
@@ -44,20 +42,6 @@ module _ {Y : Type 0} where
 pub passed_next : (r : Result Head ListFault) (fault : ListFault) (now : Option Image) (found : Found Next) → IsErrAnd r (λ e. e ≡ fault) → IsFaultOf fault found → AnswersNext r now found
 passed_next (Ok _) fault now found is has = absurd is
 passed_next (Err e) fault now found is has = subst (λ (x : ListFault). IsFaultOf x found) (sym is) has
-
-module _ {X : Type 0} where
-  value_or : X → Found X → X
-  value_or d (Is x) = x
-  value_or d (Bad page) = d
-
-  pub same_found : (x y : X) → Is x ≡ Is y → x ≡ y
-  unfolding value_or
-  same_found x y e = ap (λ (f : Found X). value_or x f) e
-
-module _ {X Y Z : Type 0} where
-  pub in_turn : (one : Found X) (next : X → Found Y) (last : Y → Found Z) → ((one >>= next) >>= last) ≡ (one >>= (λ x. next x >>= last))
-  in_turn (Is x) next last = refl
-  in_turn (Bad page) next last = refl
 
 -- ---- the pages
 

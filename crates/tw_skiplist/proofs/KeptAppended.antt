@@ -23,15 +23,15 @@ use Rattle.tw_skiplist.specs.declared.head.StepRef.{StepRef}
 use Rattle.tw_skiplist.specs.declared.fields.StepFields.{StepFields}
 use Rattle.tw_skiplist.specs.Appended.{Next, appended, first_page, new_auth, new_fields, next_of}
 use Rattle.tw_skiplist.specs.Events.{piece_count}
-use Rattle.tw_skiplist.specs.Found.{◌>>=◌}
-use Rattle.tw_skiplist.specs.Found.Found.{Is}
+use Rattle.tw_disk.specs.Found.{◌>>=◌}
+use Rattle.tw_disk.specs.Found.Found.{Is}
 use Rattle.tw_skiplist.specs.Keeping.{Keeps, KeepsSteps, Place, archive_at, event_step, fields_at, link_to, links_at, links_to, place_of}
 use Rattle.tw_skiplist.specs.Records.{page_labels}
 use Rattle.tw_skiplist.specs.StepBytes.{event_pages, step_page_bytes, stream}
 use Rattle.tw_skiplist.specs.StepPages.{link_of, no_ref}
 use Rattle.tw_skiplist.specs.Walks.{link_in, links_up_to, next_links}
 use Rattle.tw_skiplist.proofs.EventHistories.{new_datum, new_events, same_tree}
-use Rattle.tw_skiplist.proofs.FoundLaws.{is_on}
+use Rattle.tw_disk.proofs.FoundLaws.{is_on}
 use Rattle.tw_skiplist.proofs.Growing.{below_head}
 use Rattle.tw_skiplist.proofs.Kept.{get_or-links_to, length-links_to, power-le}
 use Rattle.tw_skiplist.proofs.KeptReadings.{first_is, link_kept}

@@ -17,15 +17,15 @@ use Rattle.tw_skiplist.specs.declared.head.StepRef.{StepRef}
 use Rattle.tw_skiplist.specs.declared.info.StepInfo.{StepInfo}
 use Rattle.tw_skiplist.specs.declared.info.StepProof.{StepProof}
 use Rattle.tw_skiplist.specs.Events.{events_of_info}
-use Rattle.tw_skiplist.specs.Found.{◌>>=◌}
-use Rattle.tw_skiplist.specs.Found.Found.{Is}
+use Rattle.tw_disk.specs.Found.{◌>>=◌}
+use Rattle.tw_disk.specs.Found.Found.{Is}
 use Rattle.tw_skiplist.specs.Infos.{IsInfoOf}
 use Rattle.tw_skiplist.specs.Keeping.{Keeps, KeepsSteps, Place, fields_at, link_to, links_at, place_of}
 use Rattle.tw_skiplist.specs.Readings.{found_events, found_path, found_proof, found_step}
 use Rattle.tw_skiplist.specs.Records.{info_record, link_record}
 use Rattle.tw_skiplist.specs.StepPages.{link_of, no_ref, page_of_step}
 use Rattle.tw_skiplist.specs.Walks.{collected, head_ref, hop_in, info_in, link_before, link_in, walk}
-use Rattle.tw_skiplist.proofs.FoundLaws.{is_on}
+use Rattle.tw_disk.proofs.FoundLaws.{is_on}
 use Rattle.tw_skiplist.proofs.Kept.{get_or-links_to, kept_link_in, kept_page}
 use Rattle.tw_skiplist.proofs.KeptEvents.{events_are}
 use Rattle.tw_skiplist.proofs.Recording.{kept_info, kept_link}

@@ -18,7 +18,7 @@ use Rattle.tw_skiplist.specs.StepPages.{link_of, no_ref, page_of_step}
 use Rattle.tw_skiplist.proofs.EventHistories.{roots_none}
 use Rattle.tw_skiplist.proofs.Kept.{get_or-links_to, kept_page}
 use Rattle.tw_skiplist.proofs.EventWords.{found-events}
-use Rattle.tw_skiplist.proofs.FoundLaws.{same_found}
+use Rattle.tw_disk.proofs.FoundLaws.{same_found}
 use Rattle.tw_skiplist.proofs.Spelling.{piece_read, take_on}
 use Rattle.tw_skiplist.specs.declared.limits.TheConstants.{MOST_PIECE_BYTES}
 

@@ -4,8 +4,8 @@ use Rattle.tw_disk.specs.Image.{Image}
 use Rattle.tw_skiplist.specs.declared.info.StepInfo.{StepInfo}
 use Rattle.tw_skiplist.specs.declared.limits.TheConstants.{MOST_PIECE_BYTES}
 use Rattle.tw_skiplist.specs.Events.{piece_count, piece_in, pieces_below}
-use Rattle.tw_skiplist.specs.Found.{Found, ◌>>=◌}
-use Rattle.tw_skiplist.specs.Found.Found.{Is, Bad}
+use Rattle.tw_disk.specs.Found.{Found, ◌>>=◌}
+use Rattle.tw_disk.specs.Found.Found.{Is, Bad}
 
 pub count_more : (size number : ℕ) → MOST_PIECE_BYTES * number < size → number < piece_count size
 count_more size number l = omega arith

@@ -6,8 +6,8 @@ use Rattle.tw_skipproof.specs.Paths.{hop, hop_level}
 use Rattle.tw_skipproof.proofs.GreedySteps.{greedy_steps-more, greedy_steps-none}
 use Rattle.tw_skiplist.specs.declared.collecting.Collected.{Collected}
 use Rattle.tw_skiplist.specs.declared.head.StepRef.{StepRef}
-use Rattle.tw_skiplist.specs.Found.{Found, ◌>>=◌}
-use Rattle.tw_skiplist.specs.Found.Found.{Is, Bad}
+use Rattle.tw_disk.specs.Found.{Found, ◌>>=◌}
+use Rattle.tw_disk.specs.Found.Found.{Is, Bad}
 use Rattle.tw_skiplist.specs.StepPages.{link_of}
 use Rattle.tw_skiplist.specs.Walks.{collect_along, collected, hop_in, link_before, link_in, links_up_to, walk, walk_along}
 

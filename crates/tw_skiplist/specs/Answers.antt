@@ -6,8 +6,8 @@ use Rattle.tw_skiplist.specs.declared.fault.ListFault.{ListFault}
 use Rattle.tw_skiplist.specs.declared.fault.ListFault.TheVariants.{NoStep, BadPage, DiskFault}
 use Rattle.tw_skiplist.specs.declared.head.Head.{Head}
 use Rattle.tw_skiplist.specs.Appended.{Next}
-use Rattle.tw_skiplist.specs.Found.{Found}
-use Rattle.tw_skiplist.specs.Found.Found.{Is, Bad}
+use Rattle.tw_disk.specs.Found.{Found}
+use Rattle.tw_disk.specs.Found.Found.{Is, Bad}
 
 module _ {X : Type 0} where
   abbrev pub IsFaultOf : ListFault → Found X → Type 0

@@ -6,8 +6,9 @@ use Rattle.tw_base.specs.declared.limits.TheConstants.{PAGE_SIZE}
 use Rattle.tw_disk.specs.Image.{Image}
 use Rattle.tw_skiplist.specs.declared.info.StepInfo.{StepInfo}
 use Rattle.tw_skiplist.specs.declared.limits.TheConstants.{MOST_PIECE_BYTES, MOST_STREAM_BYTES}
-use Rattle.tw_skiplist.specs.Found.{Found, bytes_in, spelled, when, ◌>>=◌}
-use Rattle.tw_skiplist.specs.Found.Found.{Is, Bad}
+use Rattle.tw_disk.specs.Found.{Found, when, ◌>>=◌}
+use Rattle.tw_skiplist.specs.Found.{bytes_in, spelled}
+use Rattle.tw_disk.specs.Found.Found.{Is, Bad}
 use Rattle.tw_skiplist.specs.StepBytes.{piece_codec}
 
 -- how many event pages a stream of this size has

@@ -1,21 +1,11 @@
--- What a reading of pages, one after another, comes to.
+-- What the bytes of a page spell.
 use Rattle.std.specs.Prelude.{ℕ, suc, zero, ◌+◌, ◌-◌, ◌==◌, ◌&&◌, List, [], ◌∷◌, length, drop, nat_le, nat_lt, Bool, true, false, Result, Ok, Err}
 use Rattle.tw_base.specs.Codecs.{Codec}
 use Rattle.tw_base.specs.Formats.{Placed}
 use Rattle.tw_disk.specs.declared.limits.TheConstants.{FIRST_PAGE}
+use Rattle.tw_disk.specs.Found.{Found, when}
+use Rattle.tw_disk.specs.Found.Found.{Bad}
 use Rattle.tw_disk.specs.Image.{Image, page_at}
-
--- this value, or the number of the first page met that isn't of its kind
-pub data Found (X : Type 0) : Type 0 where
-  Is : X → Found X
-  Bad : (page : ℕ) → Found X
-
-module _ {X Y : Type 0} where
-  infixl 10 ◌>>=◌
-  -- one reading and then the next, which goes by what the first found
-  abbrev pub ◌>>=◌ : Found X → (X → Found Y) → Found Y
-  (Is x) >>= next = next x
-  (Bad page) >>= next = Bad page
 
 -- so many zeros, and nothing else
 abbrev pub is_zeros : (count : ℕ) → List ℕ → Bool
@@ -25,11 +15,6 @@ is_zeros (suc count) [] = false
 is_zeros (suc count) (b ∷ bytes) = (b == 0) && is_zeros count bytes
 
 module _ {X : Type 0} where
-  -- the value where the test is passed, and else this page
-  abbrev pub when : Bool → (page : ℕ) → X → Found X
-  when true page x = Is x
-  when false page x = Bad page
-
   -- the value that was read, where zeros follow it up to this size; else this page
   abbrev pub or_bad : (page size : ℕ) → List ℕ → Result (Placed X) ℕ → Found X
   or_bad page size bytes (Ok read) = when (is_zeros (size - read.after) (drop read.after bytes)) page read.value

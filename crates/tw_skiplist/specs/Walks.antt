@@ -9,8 +9,8 @@ use Rattle.tw_skiplist.specs.declared.head.StepRef.{StepRef}
 use Rattle.tw_skiplist.specs.declared.collecting.Collected.{Collected}
 use Rattle.tw_skiplist.specs.declared.collecting.Hop.{Hop}
 use Rattle.tw_skiplist.specs.declared.info.StepInfo.{StepInfo}
-use Rattle.tw_skiplist.specs.Found.{Found, ◌>>=◌}
-use Rattle.tw_skiplist.specs.Found.Found.{Is}
+use Rattle.tw_disk.specs.Found.{Found, ◌>>=◌}
+use Rattle.tw_disk.specs.Found.Found.{Is}
 use Rattle.tw_skiplist.specs.Records.{info_record, link_record}
 use Rattle.tw_skiplist.specs.StepPages.{link_of, page_of_step}
 

@@ -18,7 +18,7 @@ ghost use Rattle.tw_skiplist.specs.declared.info.StepProof.{StepProof};
 ghost use Rattle.tw_skipproof.specs.declared.path.Path.{Path};
 ghost use Rattle.tw_skiplist.specs.Appended.{appended};
 ghost use Rattle.tw_skiplist.specs.Events.{events_of_info};
-ghost use Rattle.tw_skiplist.specs.Found.Found.{Is};
+ghost use Rattle.tw_disk.specs.Found.Found.{Is};
 ghost use Rattle.tw_skiplist.specs.Infos.{IsInfoOf};
 ghost use Rattle.tw_skiplist.specs.Keeping.{Keeps, archive_at};
 ghost use Rattle.tw_skiplist.specs.Readings.{found_events, found_path, found_proof, found_step};

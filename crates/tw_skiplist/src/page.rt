@@ -8,7 +8,7 @@ ghost use Rattle.tw_base.specs.Lists.{Each};
 ghost use Rattle.tw_base.specs.Taking.{Takes};
 ghost use Rattle.tw_skiplist.specs.StepBytes.{event_page_bytes, fields_codec, ref_codec, step_codec, step_page_bytes};
 ghost use Rattle.tw_skiplist.specs.StepPages.{keeps_field_rules as field_rules, keeps_link_rules as link_rules, lies_below as is_below, step_in};
-ghost use Rattle.tw_skiplist.specs.Found.Found.{Is, Bad};
+ghost use Rattle.tw_disk.specs.Found.Found.{Is, Bad};
 
 use crate::fields::{StepFields, StreamRef};
 use crate::head::StepRef;

@@ -1,12 +1,12 @@
 -- Links, openings and events that come in pieces: how many bytes are waited for.
-use Rattle.std.proofs.Common.{◌≡◌, ℕ, ◌+◌, ◌-◌, ◌*◌, ◌<◌, ◌≤◌, List, [], ◌++◌, length, take, drop, ap, sym, ◌∙◌, subst, arith, refl}
+use Rattle.std.proofs.Common.{◌≡◌, ℕ, ◌+◌, ◌-◌, ◌*◌, ◌≤◌, List, [], ◌++◌, length, take, drop, ap, sym, ◌∙◌, subst, arith, refl}
 use Rattle.std.specs.Prelude.{Ok, Option}
 use Rattle.std.proofs.lemmas.List.{length-append, length-drop, length-take-le, take-append-drop}
 use Rattle.tw_base.specs.declared.event_part.EventPart.{EventPart}
 use Rattle.tw_base.specs.declared.limits.TheConstants.{MOST_EVENTS, MOST_EVENT_BYTES}
 use Rattle.tw_base.specs.AuditPath.{path_length}
 use Rattle.tw_base.specs.Bytes.{AreBytes}
-use Rattle.tw_base.specs.Codecs.{Codec, bytes_codec, digest_codec, labels_codec, many, number_codec, pair, seen, sized_codec}
+use Rattle.tw_base.specs.Codecs.{bytes_codec, digest_codec, labels_codec, many, number_codec, pair, seen, sized_codec}
 use Rattle.tw_base.specs.Fields.{byte_then, bytes, number}
 use Rattle.tw_base.specs.Formats.{Format, Spells, SpellsNothing, then_by}
 use Rattle.tw_base.specs.Formats.Format.{Done}

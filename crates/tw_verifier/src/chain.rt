@@ -19,12 +19,12 @@ use crate::finding::{
     without_answer,
 };
 use crate::judgement::{Judgement, seen};
-use tw_chain::{HopPart, Tail};
 use std::alloc::Global;
 use tw_base::{
     Ask, Claim, Digest, EventPart, Hasher, Hop, HopList, NoMemory, Reason, Report, Seen, Thread,
     Threads,
 };
+use tw_chain::{HopPart, Tail};
 use tw_skipproof::{Opening, Part};
 
 /// What the verifier holds of a proof from event to event between two of its hops: the thread that the

@@ -11,13 +11,13 @@ ghost use Rattle.tw_verifier.specs.Stages.{behind_before, behind_first, behind_e
 
 use crate::chain::Chain;
 use crate::judgement::Judgement;
-use tw_chain::{AbsenceProof, HopPart, LinkProof, Tail, ThreadProof};
 use crate::stage::{
     Asked, Climb, EventAt, Further, Goal, HopBind, HopCount, HopEntry, Linking, Onward, Opens,
     PathSoFar, Reached, Role, Seconded, Shower, Stage, Under, Way,
 };
 use std::alloc::Global;
 use tw_base::{EventPart, Hasher, NoMemory, Thread, TreeProof};
+use tw_chain::{AbsenceProof, HopPart, LinkProof, Tail, ThreadProof};
 use tw_skipproof::{ExistenceProof, LinkList, Opening, Part, Path};
 
 /// Behind a chain: a hop's entry, or the step of the first event.

@@ -8,10 +8,10 @@ ghost use Rattle.tw_verifier.specs.declared.stage.Under.{Under as AnyUnder};
 ghost use Rattle.tw_treeproof.specs.declared.limits.TheConstants.{MOST_ABOVE_ENTRY};
 ghost use Rattle.tw_verifier.specs.Stages.{kind_head, link_head, part_head, present_head};
 
-use tw_chain::take_kind;
 use crate::stage::{Linking, Under};
 use tw_base::limits::LAST_STEP;
 use tw_base::{Digest, ReadFault, take_digest, take_name, take_number, take_text};
+use tw_chain::take_kind;
 use tw_skipproof::PROOF_MAGIC;
 use tw_treeproof::MOST_ABOVE_ENTRY;
 

@@ -16,7 +16,6 @@ ghost use Rattle.tw_verifier.specs.Stages.{behind_entry, behind_first, behind_li
 use crate::following::{along_path, along_tree};
 use crate::heads::take_present_head;
 use crate::judgement::Judgement;
-use tw_chain::take_key;
 use crate::stage::{
     Asked, Climb, Goal, HopBind, HopEntry, Onward, Reached, Role, Shower, Stage, Under, Way,
 };
@@ -26,6 +25,7 @@ use tw_base::{
     Ancestor, AncestorList, Attempt, Digest, Entry, Hasher, NoMemory, Thread, TreeProof, missed,
     take_entry, take_number,
 };
+use tw_chain::take_key;
 use tw_skipproof::LinkList;
 use tw_treeproof::{MOST_ABOVE_PLACE, take_ancestor};
 

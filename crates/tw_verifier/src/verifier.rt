@@ -10,10 +10,10 @@ ghost use Rattle.tw_chain.specs.Reasons.{IsVerdict};
 ghost use Rattle.tw_verifier.specs.Verifying.{IsFed};
 
 use crate::stage::Stage;
-use tw_chain::Verdict;
 use std::alloc::Global;
 use std::marker::PhantomData;
 use tw_base::{Fed, Hasher, NoMemory, ReadFault, Reason, Thread, Threads};
+use tw_chain::Verdict;
 
 /// What was taken of a proof, and the anchors under which it is judged.
 #[derive(Drop)]

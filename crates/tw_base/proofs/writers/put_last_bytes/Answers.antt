@@ -1,4 +1,4 @@
-use Rattle.std.proofs.Common.{◌≡◌, ◌-◌, take, drop, ap, ◌∙◌, arith}
+use Rattle.std.proofs.Common.{◌≡◌, ◌-◌, take, drop, ap, ◌∙◌}
 use Rattle.tw_base.specs.Fields.{number_bytes}
 use Rattle.tw_base.proofs.NumberLaws.{number_bytes-last}
 use Rattle.tw_base.proofs.writers.put_last_bytes.Goals as goal

@@ -91,9 +91,14 @@ returns-then-level-eq0-clause-answer g t c = λ ps told at reads.
     let high = c.args.high.now in
     let same = sought_is entry c.entry_key.result low high p.entries c.seek-here.result c.entry_key.ensures c.seek-here.ensures in
     let spot = ap (λ (s : Sought). s.at) (sym same) ∙ c.in-Between.is in
-    let leaf : p.level ≡ 0 = omega (arith, c.if-level-eq0.true, c.level.ensures) in
-    (here at (Absent (key_of entry)) low high p, [], way-leaf at (Absent (key_of entry)) low high p p.level leaf, met-none (Absent (key_of entry)) 0 low high p.entries c.in-Between.place spot, sym leaf,
-      full-on g.H.Hasher.dig _ c.in-Between.place p (here at (Absent (key_of entry)) low high p) [] (Two (record { page = 0; label = c.empty_tree.result }) entry (record { page = 0; label = c.empty_tree.result })) c.in_ok-stage_added.field-0 c.with_grown-added.result refl tt c.with_grown-added.ensures.with c.in_ok-stage_added.ensures.staged)
+    let leaf : p.level ≡ 0 = omega (arith, c.if-level-eq0.true, c.level.ensures) in (
+      here at (Absent (key_of entry)) low high p,
+      [],
+      way-leaf at (Absent (key_of entry)) low high p p.level leaf,
+      met-none (Absent (key_of entry)) 0 low high p.entries c.in-Between.place spot,
+      sym leaf,
+      full-on g.H.Hasher.dig _ c.in-Between.place p (here at (Absent (key_of entry)) low high p) [] (Two (record { page = 0; label = c.empty_tree.result }) entry (record { page = 0; label = c.empty_tree.result })) c.in_ok-stage_added.field-0 c.with_grown-added.result refl tt c.with_grown-added.ensures.with c.in_ok-stage_added.ensures.staged,
+    )
 
 pub returns-then-level-eq0-clause-grown : goal.returns-then-level-eq0-clause-grown
 returns-then-level-eq0-clause-grown g t c =
@@ -160,8 +165,28 @@ grow_below-requires g t c κs within =
     let lies = entry-lies entry 0 low high p.entries c.in-Between.place c.requires.above c.requires.below spot in
     let used = c.in_ok-child.ensures.kept.used_kept in (
       omega (arith, c.decreases, c.in_ok-child.ensures.level, c.level-2.ensures, c.level.ensures, c.if-level-eq0.false),
-      (within.0, (within.1, (omega (arith, used, c.requires.used), (omega (arith, used, c.requires.some), (c.in_ok-child.ensures.kinds, (c.requires.range, (c.in_ok-child.ensures.lie,
-        (ap (λ (s : Sought). is_above s.low entry) same ∙ lies.0, ap (λ (s : Sought). is_below s.high entry) same ∙ lies.1)))))))),
+      (
+        within.0,
+        (
+          within.1,
+          (
+            omega (arith, used, c.requires.used),
+            (
+              omega (arith, used, c.requires.some),
+              (
+                c.in_ok-child.ensures.kinds,
+                (
+                  c.requires.range,
+                  (
+                    c.in_ok-child.ensures.lie,
+                    (ap (λ (s : Sought). is_above s.low entry) same ∙ lies.0, ap (λ (s : Sought). is_below s.high entry) same ∙ lies.1),
+                  ),
+                ),
+              ),
+            ),
+          ),
+        ),
+      ),
     )
 
 pub returns-in_err-grown-clause-answer : goal.returns-in_err-grown-clause-answer

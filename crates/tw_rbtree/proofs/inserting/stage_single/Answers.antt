@@ -25,6 +25,10 @@ returns-clause-lists g c = λ ps told ts are rising.
       lists = ap (woven (map entries ts)) node.ensures.entries;
     } in
     let tree = staged-tree dig ps put.0 (g.P.Pages.used_count c.args.pages.now) c.args.own 1 node.result ok.field-0 (woven (map entries ts) (c.args.middle ∷ [])) used
-    ok.ensures.staged put.1 ok.ensures.node node.ensures.kinds over in
-    (ps ++ put.0 ∷ [], tree.0, put_behind _ ps put.0 _ told put.2,
-      root-stands dig (ps ++ put.0 ∷ []) c.args.own 1 ok.field-0 tree.0 c.root_of.result (omega arith) tree.1 (subst IsRising (sym tree.2) rising) c.root_of.ensures.page c.root_of.ensures.label, tree.2)
+    ok.ensures.staged put.1 ok.ensures.node node.ensures.kinds over in (
+      ps ++ put.0 ∷ [],
+      tree.0,
+      put_behind _ ps put.0 _ told put.2,
+      root-stands dig (ps ++ put.0 ∷ []) c.args.own 1 ok.field-0 tree.0 c.root_of.result (omega arith) tree.1 (subst IsRising (sym tree.2) rising) c.root_of.ensures.page c.root_of.ensures.label,
+      tree.2,
+    )

@@ -4,10 +4,10 @@ use Rattle.tw_disk.specs.Image.{Image}
 use Rattle.tw_skiplist.specs.declared.info.StepProof.{StepProof}
 use Rattle.tw_skiplist.specs.declared.head.Head.{Head}
 use Rattle.tw_skiplist.specs.Events.{events_of_info}
-use Rattle.tw_skiplist.specs.Found.{Found, ◌>>=◌}
-use Rattle.tw_skiplist.specs.Found.Found.{Is}
+use Rattle.tw_disk.specs.Found.{Found, ◌>>=◌}
+use Rattle.tw_disk.specs.Found.Found.{Is}
 use Rattle.tw_skiplist.specs.Readings.{found_proof}
-use Rattle.tw_skiplist.proofs.FoundLaws.{is_on}
+use Rattle.tw_disk.proofs.FoundLaws.{is_on}
 use Rattle.tw_service.specs.declared.refusal.Refusal.{Refusal}
 use Rattle.tw_service.specs.Finds.{IsAnswer, event_proof, proof_bytes, unless}
 use Rattle.tw_service.specs.Limits.{event_refusal}

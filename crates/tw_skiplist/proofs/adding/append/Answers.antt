@@ -3,10 +3,11 @@ use Rattle.tw_base.specs.EventTree.{event_root}
 use Rattle.tw_base.specs.Texts.{authenticator_text, datum_text}
 use Rattle.tw_skiplist.specs.Appended.{appended, first_page, new_auth, next_of, with_step}
 use Rattle.tw_skiplist.specs.Events.{piece_count}
-use Rattle.tw_skiplist.specs.Found.Found.{Is}
+use Rattle.tw_disk.specs.Found.Found.{Is}
 use Rattle.tw_skiplist.specs.Records.{page_labels}
 use Rattle.tw_skiplist.specs.Walks.{next_links}
-use Rattle.tw_skiplist.proofs.FoundLaws.{bad_on, is_on, passed_next}
+use Rattle.tw_disk.proofs.FoundLaws.{is_on}
+use Rattle.tw_skiplist.proofs.FoundLaws.{bad_on, passed_next}
 use Rattle.tw_skiplist.proofs.adding.append.Goals as goal
 
 pub returns-in_err-links-clause-answer : goal.returns-in_err-links-clause-answer

@@ -5,13 +5,14 @@ use Rattle.tw_base.specs.Levels.{top_level as top_level_of}
 use Rattle.tw_skiplist.specs.declared.adding.Links.{Links}
 use Rattle.tw_skiplist.specs.declared.head.StepRef.{StepRef}
 use Rattle.tw_skiplist.specs.Answers.{IsFaultOf}
-use Rattle.tw_skiplist.specs.Found.{Found, ◌>>=◌}
-use Rattle.tw_skiplist.specs.Found.Found.{Is}
+use Rattle.tw_disk.specs.Found.{Found, ◌>>=◌}
+use Rattle.tw_disk.specs.Found.Found.{Is}
 use Rattle.tw_skiplist.specs.Records.{page_labels}
 use Rattle.tw_skiplist.specs.StepPages.{link_of}
 use Rattle.tw_skiplist.specs.Walks.{link_in, links_up_to}
 use Rattle.tw_skiplist.proofs.Appending.{labels_on, link_of-new, page_labels-first}
-use Rattle.tw_skiplist.proofs.FoundLaws.{bad_on, fault_on, is_on, passed}
+use Rattle.tw_disk.proofs.FoundLaws.{is_on}
+use Rattle.tw_skiplist.proofs.FoundLaws.{bad_on, fault_on, passed}
 use Rattle.tw_skiplist.proofs.Kept.{power-le}
 use Rattle.tw_skiplist.proofs.KeptAppended.{level_fits}
 use Rattle.tw_skiplist.proofs.WalkLaws.{links-bad, links-first, links-more}

@@ -1,7 +1,7 @@
 use Rattle.std.proofs.Common.{◌≡◌, ◌≤◌, Some}
 use Rattle.tw_disk.specs.Image.{Image}
 use Rattle.tw_disk.specs.Pages.{OnlyReads}
-use Rattle.tw_skiplist.specs.Found.{◌>>=◌}
+use Rattle.tw_disk.specs.Found.{◌>>=◌}
 use Rattle.tw_skiplist.specs.Walks.{collected}
 use Rattle.tw_skiplist.proofs.Shapes.{ShapesTo}
 use Rattle.tw_skiplist.proofs.WalkLaws.{ahead}

@@ -3,11 +3,12 @@ use Rattle.tw_base.specs.Levels.{top_level}
 use Rattle.tw_skipproof.specs.declared.path.Link.{Link}
 use Rattle.tw_skiplist.specs.declared.collecting.Hop.{Hop}
 use Rattle.tw_skiplist.specs.declared.head.StepRef.{StepRef}
-use Rattle.tw_skiplist.specs.Found.Found.{Is}
+use Rattle.tw_disk.specs.Found.Found.{Is}
 use Rattle.tw_skiplist.specs.Records.{link_record, page_datum}
 use Rattle.tw_skiplist.specs.StepPages.{link_of, page_of_step}
 use Rattle.tw_skiplist.specs.Walks.{hop_in}
-use Rattle.tw_skiplist.proofs.FoundLaws.{bad_on, is_on, passed}
+use Rattle.tw_disk.proofs.FoundLaws.{is_on}
+use Rattle.tw_skiplist.proofs.FoundLaws.{bad_on, passed}
 use Rattle.tw_skiplist.proofs.Recording.{length-other_labels}
 use Rattle.tw_skiplist.proofs.collecting.hop_at.Goals as goal
 

@@ -1,10 +1,11 @@
 use Rattle.std.proofs.Common.{ap, sym, ◌∙◌}
 use Rattle.tw_skiplist.specs.declared.info.StepInfo.{StepInfo}
-use Rattle.tw_skiplist.specs.Found.Found.{Is}
+use Rattle.tw_disk.specs.Found.Found.{Is}
 use Rattle.tw_skiplist.specs.Records.{info_record}
 use Rattle.tw_skiplist.specs.StepPages.{page_of_step}
 use Rattle.tw_skiplist.specs.Walks.{info_in}
-use Rattle.tw_skiplist.proofs.FoundLaws.{bad_on, is_on, passed}
+use Rattle.tw_disk.proofs.FoundLaws.{is_on}
+use Rattle.tw_skiplist.proofs.FoundLaws.{bad_on, passed}
 use Rattle.tw_skiplist.proofs.collecting.read_info.Goals as goal
 
 pub returns-in_err-page-clause-answer : goal.returns-in_err-page-clause-answer

@@ -1,8 +1,9 @@
 use Rattle.std.proofs.Common.{◌≡◌, false, IsTrue, ℕ, ◌+◌, ◌-◌, ◌++◌, List, ap, sym, ◌∙◌, arith, refl, inl, inr, take, drop}
 use Rattle.tw_disk.specs.Image.{page_at}
 use Rattle.tw_skiplist.specs.Events.{piece_size}
-use Rattle.tw_skiplist.specs.Found.{Found, spelled, ◌>>=◌}
-use Rattle.tw_skiplist.specs.Found.Found.{Bad}
+use Rattle.tw_disk.specs.Found.{Found, ◌>>=◌}
+use Rattle.tw_skiplist.specs.Found.{spelled}
+use Rattle.tw_disk.specs.Found.Found.{Bad}
 use Rattle.tw_skiplist.specs.StepBytes.{event_page_bytes, piece_codec}
 use Rattle.tw_skiplist.proofs.FoundLaws.{bytes_in-out, bytes_in-within, page-is, page-none}
 use Rattle.tw_skiplist.proofs.KeptEvents.{event_page_of, of_event_page, piece-lawful}

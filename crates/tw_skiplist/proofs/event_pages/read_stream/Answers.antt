@@ -3,9 +3,10 @@ use Rattle.tw_disk.proofs.ReadingLaws.{only_reads_itself, only_reads_on}
 use Rattle.tw_skiplist.specs.declared.event_pages.StreamRead.{StreamRead}
 use Rattle.tw_skiplist.specs.Answers.{IsFaultOf}
 use Rattle.tw_skiplist.specs.Events.{last_page, piece_count, piece_in, pieces_below}
-use Rattle.tw_skiplist.specs.Found.{Found, ◌>>=◌}
-use Rattle.tw_skiplist.specs.Found.Found.{Is}
-use Rattle.tw_skiplist.proofs.FoundLaws.{bad_on, fault_on, is_on, passed}
+use Rattle.tw_disk.specs.Found.{Found, ◌>>=◌}
+use Rattle.tw_disk.specs.Found.Found.{Is}
+use Rattle.tw_disk.proofs.FoundLaws.{is_on}
+use Rattle.tw_skiplist.proofs.FoundLaws.{bad_on, fault_on, passed}
 use Rattle.tw_skiplist.proofs.PieceCounts.{count_end, count_more, pieces-bad, pieces-more, pieces-none}
 use Rattle.tw_skiplist.proofs.event_pages.read_stream.Goals as goal
 

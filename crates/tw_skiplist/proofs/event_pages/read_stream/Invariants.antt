@@ -3,7 +3,7 @@ use Rattle.tw_disk.specs.Image.{Image}
 use Rattle.tw_disk.specs.Pages.{OnlyReads}
 use Rattle.tw_skiplist.specs.declared.limits.TheConstants.{MOST_PIECE_BYTES}
 use Rattle.tw_skiplist.specs.Events.{last_page, piece_count, pieces_below}
-use Rattle.tw_skiplist.specs.Found.Found.{Is}
+use Rattle.tw_disk.specs.Found.Found.{Is}
 use Rattle.tw_skiplist.proofs.event_pages.read_stream.Given as goal
 
 abbrev pub invariant-loop-number : goal.invariant-loop-number

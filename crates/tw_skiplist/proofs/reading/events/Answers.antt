@@ -1,9 +1,10 @@
 use Rattle.std.proofs.Common.{◌∙◌, ℕ, List, sym, subst}
 use Rattle.tw_skiplist.specs.Answers.{Answers}
 use Rattle.tw_skiplist.specs.Events.{events_of_info}
-use Rattle.tw_skiplist.specs.Found.{Found}
+use Rattle.tw_disk.specs.Found.{Found}
 use Rattle.tw_skiplist.specs.Readings.{found_events, found_step}
-use Rattle.tw_skiplist.proofs.FoundLaws.{bad_on, is_on, passed}
+use Rattle.tw_disk.proofs.FoundLaws.{is_on}
+use Rattle.tw_skiplist.proofs.FoundLaws.{bad_on, passed}
 use Rattle.tw_skiplist.proofs.reading.events.Goals as goal
 
 pub returns-in_err-info-clause-answer : goal.returns-in_err-info-clause-answer

@@ -6,9 +6,10 @@ use Rattle.tw_skiplist.specs.declared.info.StepInfo.{StepInfo}
 use Rattle.tw_skiplist.specs.declared.limits.TheConstants.{MOST_STREAM_BYTES}
 use Rattle.tw_skiplist.specs.Answers.{IsFaultOf}
 use Rattle.tw_skiplist.specs.Events.{events_in, events_of_info, last_page, piece_count, pieces_below}
-use Rattle.tw_skiplist.specs.Found.{Found, ◌>>=◌}
-use Rattle.tw_skiplist.specs.Found.Found.{Bad}
-use Rattle.tw_skiplist.proofs.FoundLaws.{bad_on, is_on, passed}
+use Rattle.tw_disk.specs.Found.{Found, ◌>>=◌}
+use Rattle.tw_disk.specs.Found.Found.{Bad}
+use Rattle.tw_disk.proofs.FoundLaws.{is_on}
+use Rattle.tw_skiplist.proofs.FoundLaws.{bad_on, passed}
 use Rattle.tw_skiplist.proofs.reading.events_of.Goals as goal
 
 match_none : (o : Option (List (List ℕ))) (P : Type 0) (Q : List (List ℕ) → Type 0) → o ≡ None → MatchOption o P Q → P

@@ -5,11 +5,12 @@ use Rattle.tw_skiplist.specs.declared.collecting.Collected.{Collected}
 use Rattle.tw_skiplist.specs.declared.head.StepRef.{StepRef}
 use Rattle.tw_skiplist.specs.declared.info.StepInfo.{StepInfo}
 use Rattle.tw_skiplist.specs.declared.info.StepProof.{StepProof}
-use Rattle.tw_skiplist.specs.Found.{Found, ◌>>=◌}
-use Rattle.tw_skiplist.specs.Found.Found.{Is}
+use Rattle.tw_disk.specs.Found.{Found, ◌>>=◌}
+use Rattle.tw_disk.specs.Found.Found.{Is}
 use Rattle.tw_skiplist.specs.Readings.{found_proof}
 use Rattle.tw_skiplist.specs.Walks.{collected, head_ref, info_in, walk}
-use Rattle.tw_skiplist.proofs.FoundLaws.{bad_on, is_on, passed}
+use Rattle.tw_disk.proofs.FoundLaws.{is_on}
+use Rattle.tw_skiplist.proofs.FoundLaws.{bad_on, passed}
 use Rattle.tw_skiplist.proofs.reading.prove.Goals as goal
 
 -- the proof of a way and what is told at its end

@@ -1,9 +1,10 @@
 use Rattle.std.proofs.Common.{List, ap, sym, ◌∙◌}
 use Rattle.tw_skiplist.specs.declared.head.StepRef.{StepRef}
-use Rattle.tw_skiplist.specs.Found.Found.{Is}
+use Rattle.tw_disk.specs.Found.Found.{Is}
 use Rattle.tw_skiplist.specs.StepPages.{link_of, page_of_step}
 use Rattle.tw_skiplist.specs.Walks.{link_in}
-use Rattle.tw_skiplist.proofs.FoundLaws.{bad_on, is_on, passed}
+use Rattle.tw_disk.proofs.FoundLaws.{is_on}
+use Rattle.tw_skiplist.proofs.FoundLaws.{bad_on, passed}
 use Rattle.tw_skiplist.proofs.walking.follow.Goals as goal
 
 pub returns-in_err-page-clause-answer : goal.returns-in_err-page-clause-answer

@@ -1,4 +1,4 @@
-use Rattle.std.proofs.Common.{ℕ, arith, sym, ap, ◌*◌, ◌+◌}
+use Rattle.std.proofs.Common.{ℕ, arith, ap, ◌*◌, ◌+◌}
 use Rattle.tw_base.proofs.ByteLemmas.{AreBytes-from}
 use Rattle.tw_skipproof.proofs.Waits.{event-waits}
 use Rattle.tw_skipproof.proofs.waiting.event_until.Goals as goal

@@ -15,9 +15,9 @@ use Rattle.tw_base.specs.declared.root.Root.{Root}
 use Rattle.tw_disk.specs.Image.{Image}
 use Rattle.tw_skiplist.specs.declared.head.Head.{Head}
 use Rattle.tw_skiplist.specs.Appended.{Next, appended}
-use Rattle.tw_skiplist.specs.Found.{Found, ◌>>=◌}
-use Rattle.tw_skiplist.specs.Found.Found.{Is}
-use Rattle.tw_skiplist.proofs.FoundLaws.{is_on}
+use Rattle.tw_disk.specs.Found.{Found, ◌>>=◌}
+use Rattle.tw_disk.specs.Found.Found.{Is}
+use Rattle.tw_disk.proofs.FoundLaws.{is_on}
 use Rattle.tw_service.specs.declared.refusal.Refusal.{Refusal}
 use Rattle.tw_service.specs.Finds.{IsRefusalOf, found_thread, thread_at, unless}
 use Rattle.tw_service.proofs.FoundAnswers.{fault_page, page_on, table_found}

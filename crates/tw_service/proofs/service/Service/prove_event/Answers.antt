@@ -10,7 +10,7 @@ use Rattle.tw_service.specs.Machine.Call.{ProveEvent}
 use Rattle.tw_service.specs.Machine.Reply.{OfProof}
 use Rattle.tw_service.proofs.Answering.{IsTold, NoFault, answers_fault, answers_refusal, is_disk_fault, no_event_told, of_some, order_no_fault, order_told, proof_disordered, proof_made, proof_without_event}
 use Rattle.tw_pages.specs.StoreValue.{opening_of}
-use Rattle.tw_skiplist.specs.Found.{Found}
+use Rattle.tw_disk.specs.Found.{Found}
 use Rattle.tw_service.specs.declared.refusal.Refusal.{Refusal}
 use Rattle.tw_service.specs.Finds.{IsRefusalOf, event_proof, found_event, unless}
 use Rattle.tw_service.proofs.FoundAnswers.{table_found}
