@@ -27,3 +27,5 @@ mod skip_lists;
 mod stores;
 #[cfg(test)]
 mod streams;
+#[cfg(test)]
+mod trees;
