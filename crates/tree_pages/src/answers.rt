@@ -13,11 +13,7 @@ use tw_rbnode::{level, read_node};
 use tw_rbtree::{TreeFault, get, path};
 
 /// Does what the command says, and answers the line that is to be printed, if one is.
-pub fn answer(
-    alloc: Global,
-    versions: &mut Versions,
-    command: Command,
-) -> Result<String, Stop> {
+pub fn answer(alloc: Global, versions: &mut Versions, command: Command) -> Result<String, Stop> {
     match command {
         Command::Insert(number) => versions.insert(alloc, number)?,
         Command::At(number) => versions.look_at(number)?,

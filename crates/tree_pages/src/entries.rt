@@ -25,7 +25,11 @@ pub fn entry(number: u64, archived: u64) -> Option<Entry>
     let Key { from, step } = key(number, number)?;
     let auth = Sha::digest(&number.to_be_bytes());
     Some(Entry {
-        thread: Thread { from, step: number, auth },
+        thread: Thread {
+            from,
+            step: number,
+            auth,
+        },
         archived,
     })
 }

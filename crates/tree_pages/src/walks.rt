@@ -41,11 +41,7 @@ pub fn from_greatest(alloc: Global, versions: &mut Versions) -> Result<Entries, 
 }
 
 /// Those that are found by the keys of these entries.
-pub fn by_key(
-    alloc: Global,
-    versions: &mut Versions,
-    entries: &[Entry],
-) -> Result<Entries, Stop> {
+pub fn by_key(alloc: Global, versions: &mut Versions, entries: &[Entry]) -> Result<Entries, Stop> {
     let mut found = Entries::new(alloc);
     for entry in entries {
         let key = entry_key(entry);

@@ -1,5 +1,5 @@
 -- What is known of each command's work.
-use Rattle.std.proofs.Common.{◌≡◌, ◌∙◌, ℕ, Bool, true, false, List, [], ◌∷◌, refl, ap, sym, subst, arith, inl, inr, ◌⊎◌}
+use Rattle.std.proofs.Common.{◌≡◌, ◌∙◌, ℕ, false, List, [], ◌∷◌, refl, ap, sym, subst, arith, inl, inr, ◌⊎◌}
 use Rattle.std.specs.Prelude.{Option, Some, MatchOption, Result, Ok, Err}
 use Rattle.tw_base.specs.declared.thread.Thread.{Thread}
 use Rattle.tw_base.specs.Faults.{Rose}
@@ -151,7 +151,8 @@ module _ {D : Type 0} (view : D → DiskView)
   same_safe is = (is, left_keeps view o.disk.before o.disk.after (same_left is))
 
   -- that it is done, or why it isn't, by its outcome; each fault has its cause, a disk that reads as a history serves it, want of memory is
-  -- free, also for its text; a run of which nothing was made and no disk failed wrote nothing; and a verdict is one that it asks for, as is a part that doesn't fit
+  -- free, also for its text; a run of which nothing was made and no disk failed wrote nothing; and a verdict is one that it asks for,
+  -- as is a part that doesn't fit
   pub record Row (c : Command) (w : Work) : Type 0 where
     pub built : IsBuilt view c ⊎ ((outcome : Outcome) → w.does outcome → status_of outcome ≡ 0 → ⊥)
     pub usage : (n : ℕ) → w.does (BadWords n) → n ≡ 0
@@ -226,7 +227,8 @@ module _ {D : Type 0} (view : D → DiskView)
     disk_row : TellsOfDisk of → IsSafe view o.disk.before o.disk.after Leaves Safe → Row c (by_results of (λ r. Comes r × Leaves r) Safe UsesDisk)
     disk_row of_disk is_safe =
         row (λ r takes left. is_safe.no_memory (is_safe.idle r left (quiet_text of of_disk r takes))) (λ is. is_safe.no_memory (same_left is))
-        (λ r zeroth fifth left. is_safe.idle r left (quiet_status of of_disk r zeroth fifth)) is_safe.safe (λ x v is comes. absurd (of_disk.unjudged x v is)) (λ x place is comes. absurd (of_disk.unjoined x (Unfit place) is))
+        (λ r zeroth fifth left. is_safe.idle r left (quiet_status of of_disk r zeroth fifth)) is_safe.safe
+        (λ x v is comes. absurd (of_disk.unjudged x v is)) (λ x place is comes. absurd (of_disk.unjoined x (Unfit place) is))
 
   files_row : {X : Type 0} (c : Command) (of : X → Outcome) → Tells of → (Comes : Result X CommandFault → Type 0)
       → HasCauses o.inputs (found_of view o) (NamesFile c) ⊥ Comes → IsBuilt view c

@@ -27,7 +27,7 @@ use Rattle.tw_chain.specs.declared.proof.Proof.{Proof as ProofValue}
 use Rattle.tw_chain.specs.Proofs.{proof_layout}
 use Rattle.tw_chain.specs.declared.verdict.Verdict.{Verdict}
 use Rattle.tw_chain.specs.declared.verdict.Verdict.TheVariants.{Yes, No}
-use Rattle.tw_chain.specs.Accepting.{Accepts, carried, proof_texts, report_of}
+use Rattle.tw_chain.specs.Accepting.{carried, proof_texts, report_of}
 use Rattle.tw_filecmd.specs.declared.joining.Joined.{Joined as JoinedProofs}
 use Rattle.tw_filecmd.specs.declared.joining.Joined.TheVariants.{Whole, Unfit}
 use Rattle.tw_diskcmd.specs.Disks.{IsLeft, ReadsAs}

@@ -131,10 +131,9 @@ fn run_to_the_end<D: Disk, I: Inputs, S: Sink>(
 /// - 8: the disk has no service that can serve the command; `store`, why, and the slot or the page.
 /// - 9: a file isn't what the command reads; `unreadable` or `unsound`, the file and where.
 ///
-/// The words are judged first; then all files are read, anchors before a proof, and of a proof no piece
-/// of 4,096 bytes behind its first bad byte; then what the files hold is judged, that of a proof last;
-/// then comes the disk. A command that works on no
-/// directory hands the disk back as it is.
+/// The words are judged first; then all files are read, anchors before a proof, and of a proof that is
+/// judged no piece of 4,096 bytes behind its first bad byte; then what the files hold is judged, that of
+/// a proof last; then comes the disk. A command that works on no directory hands the disk back as it is.
 pub fn run<D: Disk, I: Inputs, S: Sink>(
     alloc: Global,
     words: &[String],
@@ -151,14 +150,17 @@ pub fn run<D: Disk, I: Inputs, S: Sink>(
         (outside (asked (I.told inputs.old) (I.faults inputs.old) (I.faults inputs.new)) disk result.disk)
         (span (S.taken out.old) (S.taken out.new)) (span (S.faults out.old) (S.faults out.new))) result.status }
 
-    // Status 0 of `verify` and `strict`: the proof file is there, and its bytes spell a proof that is accepted under the command's
-    // anchors. These are the one of its words, or those of the anchors file, which is there and has no bad line. Of `strict`
-    // the proof carries no thread. The report was written whole. And in every list of sound histories that has the
-    // anchors that are held of the services and steps that the proof names, and the threads that it carries, what the report
-    // claims is so: an event stands at the place that is named, with the time of its step that is told, or none where none
-    // is; of an event before another both stand so, and the report's own hops lead from the first one's step to the step
-    // before the second one's; and where there are no hops, and both steps have a time, the first one's isn't above the
-    // second one's. Or two different texts of these histories and of the proof have one SHA-256 digest.
+    // Status 0 of `verify` and `strict`: the proof file is there, and its bytes spell a proof that is accepted under the
+    // command's anchors. These are the one of its words, or those of the anchors file, which is there and has no bad line.
+    // Of `strict` the proof carries no thread. The proof's report was written whole. And in every list of sound histories
+    // that has the anchors that are held of the services and steps that the proof names, and the threads that it carries,
+    // either two different texts of these histories and of the proof have one SHA-256 digest, or what the report claims
+    // is so. Of an event: it stands at the place that is named, and its step has the time that is told, or none where
+    // none is told. Of an event before another: both stand so, and the report's own hops lead from the first one's step
+    // to the step before the second one's; where there are no hops, and both steps have a time, the first one's isn't
+    // above the second one's. Of a thread in an archive: the service received it at the step that is told, which isn't
+    // above the one that is named. Of a thread in no archive: no step up to the one that is named received one of its
+    // service and step. Of a link: the service has the authenticator that is told at the step that is named.
     ensures accepted { result.status ≡ 0 → AreOf IsVerify (map string_bytes words.now)
         → IsAcceptedRun (I.told inputs.old) (map string_bytes words.now) (S.taken out.old) (S.taken out.new) }
     // There are no other statuses than 0 to 9.

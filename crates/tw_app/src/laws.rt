@@ -39,10 +39,10 @@ pub fn status_laws<D: Disk>()
     // the disk stands for the longer history, at rest.
     ensures done { (a : Around D) → Ends D.view a 0 → IsDoneRun D.view a }
 
-    // Status 1: the words are `verify` or `strict`, the proof file is there, its bytes spell no proof that is accepted under the
-    // command's anchors, or, of `strict`, one that carries threads, and the line written names the lowest reason that stands
-    // against them. Or the words are `join`, each file is there and holds a proof, and the line written has the number of
-    // the first that doesn't fit, or that is missing behind all.
+    // Status 1: the words are `verify` or `strict`, the proof file is there, its bytes spell no proof that is accepted
+    // under the command's anchors, or, of `strict`, one that carries threads, and the line written names the lowest
+    // reason that stands against them. Or the words are `join`, each file is there and holds a proof, and the line written
+    // has the number of the first that doesn't fit, or one more than there are, where the last is missing.
     ensures rejected { (a : Around D) → Ends D.view a 1 → IsRejectedRun a ⊎ IsGapRun a }
     // Status 2: the words have no form, and the number written is that of the first word at which none goes on; or they
     // have one that isn't built, and it is 0.
@@ -77,11 +77,11 @@ pub fn status_laws<D: Disk>()
     // Status 8 never comes where the disk read as a history.
     ensures complete { (a : Around D) → Ends D.view a 8 → (h : History) → ReadsAs (D.view a.outside.disk.before).content h → ⊥ }
     // Status 9 of `append`: the events file is there, and the line tells the byte of the limit, where the file is
-    // longer, else the first byte at which no events file goes on. Status 9 of `verify` and `strict`: proof and anchors file are
-    // there, and the line written tells the first line of the anchors file that can't follow those before it. Status 9 of
-    // `join`: all files are there, and the line tells the first that holds no proof, with its first byte at which none
-    // goes on. Status 9 of `show`: the history file is there, and the line tells the byte of the limit, where the file is longer; else
-    // the first byte at which no history file goes on; else the first step that breaks a rule of sound histories, and
-    // its first broken rule.
+    // longer, else the first byte at which no events file goes on. Status 9 of `verify` and `strict`: proof and anchors
+    // file are there, and the line written tells the first line of the anchors file that can't follow those before it.
+    // Status 9 of `join`: all files are there, and the line tells the first that holds no proof, and its first byte at
+    // which none goes on. Status 9 of `show`: the history file is there, and the line tells the byte of the limit, where
+    // the file is longer; else the first byte at which no history file goes on; else the first step that breaks a rule of
+    // sound histories, and its first broken rule.
     ensures unreadable { (a : Around D) → Ends D.view a 9 → (bad : BadInput) × IsUndoneRun D.view a (Unreadable bad) }
 {}

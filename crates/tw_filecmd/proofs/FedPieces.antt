@@ -16,6 +16,13 @@ use Rattle.tw_verifier.specs.Verifying.{IsFed}
 use Rattle.tw_filecmd.specs.Feeding.{IsFedFar, IsFedFront}
 use Rattle.tw_filecmd.proofs.ProofFronts.{front-size}
 
+-- the same of inputs that tell the same
+pub fed_told : (before after : Option Files) (file : List ℕ) (anchors : List Thread) (strict : Bool) (old new : Verifier Sha) (at count : ℕ)
+    → before ≡ after → (IsFedFront before file anchors strict old at → IsFedFront before file anchors strict new count)
+    → IsFedFront after file anchors strict old at → IsFedFront after file anchors strict new count
+fed_told before after file anchors strict old new at count same feeds =
+    subst (λ told. IsFedFront told file anchors strict old at → IsFedFront told file anchors strict new count) same feeds
+
 module _ (told : Option Files) (file : List ℕ) (anchors : List Thread) (strict : Bool) where
   -- no piece yet
   pub fed_nothing : (v : Verifier Sha) → IsFed sha256 anchors strict v [] × (IsSpent v.fed → ⊥) → IsFedFront told file anchors strict v 0
@@ -49,12 +56,23 @@ module _ (told : Option Files) (file : List ℕ) (anchors : List Thread) (strict
     }
 
     -- no proof goes on
-    pub fed_broken : (IsFront proof_layout front.front → ⊥) → IsFedFar told file anchors strict v
-    fed_broken broken = record { front = front.front; fed = front.fed; of_file = front.of_file; far = λ bytes tells. inr broken }
+    pub fed_broken : ((pieces : List ℕ) → IsFed sha256 anchors strict v pieces → (IsSpent v.fed → ⊥) → IsFront proof_layout pieces → ⊥)
+        → IsFedFar told file anchors strict v
+    fed_broken broken = record {
+      front = front.front;
+      fed = front.fed;
+      of_file = front.of_file;
+      far = λ bytes tells. inr (broken front.front front.fed front.unspent);
+    }
 
     -- a proof goes on, and so there are few bytes
-    pub fed_few : ((IsFront proof_layout front.front → ⊥) → ⊥) → count ≤ 4430818
+    pub fed_few : ((pieces : List ℕ) → IsFed sha256 anchors strict v pieces → (IsSpent v.fed → ⊥) → (IsFront proof_layout pieces → ⊥) → ⊥)
+        → count ≤ 4430818
     fed_few unbroken = elim (cases_lt 4430818 count) [
-      | inl more ↦ absurd (unbroken (λ is. let few = front-size front.front is in omega (arith, few, front.size, more)))
+      | inl more ↦
+          absurd (
+            unbroken front.front front.fed front.unspent
+            (λ is. let few = front-size front.front is in omega (arith, few, front.size, more))
+          )
       | inr few ↦ few
     ]

@@ -1,5 +1,5 @@
 -- From what was read to what the judging of a proof comes to.
-use Rattle.std.proofs.Common.{◌≡◌, ℕ, List, ◌++◌, length, take, drop, map, Bool, ap, ◌∙◌, sym, subst, refl, inl, inr}
+use Rattle.std.proofs.Common.{◌≡◌, ℕ, ◌≤◌, List, ◌++◌, length, take, drop, map, Bool, ap, ◌∙◌, sym, subst, refl, inl, inr}
 use Rattle.std.specs.Prelude.{Option, Result, Ok, Err}
 use Rattle.std.proofs.lemmas.List.{take-append-drop}
 use Rattle.sha2.specs.Sha256.{sha256}
@@ -11,7 +11,8 @@ use Rattle.tw_chain.specs.declared.verdict.Verdict.{Verdict}
 use Rattle.tw_verifier.specs.declared.verifier.Verifier.{Verifier}
 use Rattle.tw_chain.specs.Binding.{BindsHistories}
 use Rattle.tw_chain.specs.Reasons.{IsVerdict}
-use Rattle.tw_outside.specs.Asked.{Asked}
+use Rattle.tw_outside.specs.Asked.{Asked, asked}
+use Rattle.tw_outside.proofs.Counting.{Rose-earlier}
 use Rattle.tw_text.specs.declared.refusal.BadInput.TheVariants.{BadLine}
 use Rattle.tw_text.specs.declared.fault.CommandFault.{CommandFault}
 use Rattle.tw_text.specs.declared.fault.CommandFault.TheVariants.{DiskFault, InputFault, NoMemory, Refused, Unreadable, Unserved}
@@ -45,13 +46,30 @@ module _ (told : Option Files) (file : List ℕ) (anchors : List Thread) (strict
   }
 
 -- the anchors of what was read of their file are the anchors of the file
-has_anchors : (told : Option Files) (file : List ℕ) (anchors : List Thread) (all : List ℕ) → IsThere told file → IsReadTo told file file_limit all
+pub has_anchors : (told : Option Files) (file : List ℕ) (anchors : List Thread) (all : List ℕ) → IsThere told file → IsReadTo told file file_limit all
     → anchors ≡ map anchor (lines all) → AllGood (lines all) → HasAnchors told file anchors
 has_anchors told file anchors all there read are good = record {
   there = there;
   good = λ bytes tells. subst (λ b. AllGood (lines b)) (good_is_whole all bytes (read bytes tells) good) good;
   same = λ bytes tells. subst (λ b. anchors ≡ map anchor (lines b)) (good_is_whole all bytes (read bytes tells) good) are;
 }
+
+-- what judging comes to since an earlier moment, of inputs that tell the same
+pub judging_since : (told now : Option Files) (before begun after : ℕ) (proof : List ℕ) (anchors : List Thread) (strict : Bool)
+    (result : Result Verdict CommandFault) → now ≡ told → before ≤ begun
+    → JudgingComes (asked now begun after) proof anchors strict result → JudgingComes (asked told before after) proof anchors strict result
+judging_since told now before begun after proof anchors strict result same le comes =
+    by result (subst (λ t. JudgingComes (asked t begun after) proof anchors strict result) same comes)
+  where
+    by : (r : Result Verdict CommandFault) → JudgingComes (asked told begun after) proof anchors strict r
+        → JudgingComes (asked told before after) proof anchors strict r
+    by (Ok verdict) comes = comes
+    by (Err InputFault) comes = Rose-earlier before begun after le comes
+    by (Err NoMemory) comes = tt
+    by (Err DiskFault) comes = absurd comes
+    by (Err (Refused refusal)) comes = absurd comes
+    by (Err (Unserved cause)) comes = absurd comes
+    by (Err (Unreadable bad)) comes = absurd comes
 
 -- what judging under these anchors comes to, judging under those of the file does
 pub judges_file : (a : Asked) (proof file : List ℕ) (anchors : List Thread) (strict : Bool) (result : Result Verdict CommandFault)

@@ -49,7 +49,7 @@ pub fn verify_file<I: Inputs>(
     match read_anchors(alloc, lines.as_slice()) {
         Ok(held) => judge(alloc, inputs, proof, held.as_slice(), strict),
         Err(AnchorFault::BadLine { line }) => {
-            feed_file(alloc, inputs, proof, &[], strict)?;
+            drop(feed_file(alloc, inputs, proof, &[], strict)?);
             Err(bad_line(alloc, anchors, line)?)
         }
         Err(AnchorFault::NoMemory) => Err(CommandFault::NoMemory),

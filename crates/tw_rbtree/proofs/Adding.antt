@@ -1,23 +1,20 @@
 -- A page with an entry more below it: where the entry goes, and what the page then lists.
-use Rattle.std.proofs.Common.{◌≡◌, ℕ, suc, zero, ◌+◌, ◌<◌, ◌≤◌, List, [], ◌∷◌, ◌++◌, length, take, drop, Bool, true, false, refl, ap, sym, ◌∙◌, subst, arith, ◌⊎◌, inl, inr, append_assoc, length-append}
-use Rattle.std.specs.Prelude.{◌&&◌, Option, Some, None, map, slice_index_or, if◌then◌else◌}
+use Rattle.std.proofs.Common.{◌≡◌, ℕ, suc, zero, ◌+◌, ◌≤◌, List, [], ◌∷◌, ◌++◌, length, take, drop, Bool, true, false, refl, ap, sym, ◌∙◌, subst, arith, append_assoc}
+use Rattle.std.specs.Prelude.{◌&&◌, Option, Some, None, slice_index_or}
 use Rattle.std.proofs.lemmas.Bool.{and_parts}
 use Rattle.std.specs.Ordering.{is_eq, is_lt}
 use Rattle.tw_base.specs.declared.thread.Entry.{Entry}
-use Rattle.tw_base.specs.declared.thread.Key.{Key}
 use Rattle.tw_base.specs.declared.tree_proof.Ask.{Ask}
 use Rattle.tw_base.specs.declared.tree_proof.Ask.TheVariants.{Absent}
 use Rattle.tw_base.specs.Asking.{with_entry}
 use Rattle.tw_base.specs.Entries.{KeyBelow, key_cmp, key_of}
 use Rattle.tw_base.specs.Lists.{Each}
-use Rattle.tw_base.specs.Tree.{Tree, IsRising, entries}
+use Rattle.tw_base.specs.Tree.{IsRising}
 use Rattle.tw_base.proofs.Keys.{KeyBelow-trans}
 use Rattle.tw_base.proofs.KeyTests.{NotBelow, below-lt, lt-above, lt-below, not_below}
 use Rattle.tw_base.proofs.KeyTests.NotBelow.{One, Over}
-use Rattle.tw_base.proofs.ListLemmas.{Each-map, Each-parts}
-use Rattle.tw_rbnode.specs.declared.node.Found.{Found as Spot}
-use Rattle.tw_rbnode.specs.declared.node.Found.TheVariants.{At, Between}
-use Rattle.tw_rbnode.specs.Page.{IsBetween}
+use Rattle.tw_base.proofs.ListLemmas.{Each-map}
+use Rattle.tw_rbnode.specs.declared.node.Found.TheVariants.{Between}
 use Rattle.tw_rbnode.specs.Trees.{woven}
 use Rattle.tw_tree.proofs.Asked.{cut}
 use Rattle.tw_tree.proofs.Leaves.{with-left, with-right}

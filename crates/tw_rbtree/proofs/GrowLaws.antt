@@ -1,11 +1,10 @@
 -- What becomes of the pages on a way by an entry more.
-use Rattle.std.proofs.Common.{◌≡◌, ◌≢◌, ℕ, suc, zero, ◌+◌, ◌-◌, ◌<◌, ◌≤◌, List, [], ◌∷◌, ◌++◌, length, take, drop, Bool, true, false, refl, ap, sym, ◌∙◌, subst, arith, ◌⊎◌, inl, inr, slice_get, Result, Ok, Err}
-use Rattle.std.specs.Prelude.{Option, Some, None, map, slice_index_or}
+use Rattle.std.proofs.Common.{◌≡◌, ◌≢◌, ℕ, suc, zero, ◌+◌, ◌<◌, ◌≤◌, List, [], ◌∷◌, ◌++◌, length, Bool, true, false, refl, ap, sym, ◌∙◌, subst, arith, slice_get, Result, Ok, Err}
+use Rattle.std.specs.Prelude.{Option, Some, map, slice_index_or}
 use Rattle.std.specs.Result.{IsErrAnd}
 use Rattle.tw_base.specs.declared.thread.Entry.{Entry}
 use Rattle.tw_base.specs.declared.tree_proof.Ask.{Ask}
 use Rattle.tw_base.specs.declared.tree_proof.Ask.TheVariants.{Absent}
-use Rattle.tw_base.specs.Asking.{with_entry}
 use Rattle.tw_base.specs.Entries.{key_of}
 use Rattle.tw_base.specs.Limits.{IsEntryInRange}
 use Rattle.tw_base.specs.Lists.{Each}
@@ -13,7 +12,7 @@ use Rattle.tw_base.specs.Tree.{Tree, IsRising, entries}
 use Rattle.tw_base.specs.Tree.Tree.{Empty}
 use Rattle.tw_base.proofs.ListLemmas.{Each-parts}
 use Rattle.tw_disk.specs.Found.{Found, ◌>>=◌, when}
-use Rattle.tw_disk.specs.Found.Found.{Is, Bad}
+use Rattle.tw_disk.specs.Found.Found.{Is}
 use Rattle.tw_disk.specs.Image.{Image}
 use Rattle.tw_disk.proofs.FoundLaws.{is_on, same_found}
 use Rattle.tw_rbnode.specs.declared.child.Child.{Child}
@@ -21,10 +20,9 @@ use Rattle.tw_rbnode.specs.declared.node.Added.{Added}
 use Rattle.tw_rbnode.specs.declared.node.Added.TheVariants.{One as OnePage, Two as TwoPages}
 use Rattle.tw_rbnode.specs.declared.node.Found.{Found as Spot}
 use Rattle.tw_rbnode.specs.declared.node.Found.TheVariants.{At, Between}
-use Rattle.tw_rbnode.specs.Answers.{IsAdded, more_entries}
 use Rattle.tw_rbnode.specs.Children.{IsChildAt}
-use Rattle.tw_rbnode.specs.Page.{IsBetween, IsNode, TreePage}
-use Rattle.tw_rbnode.specs.Trees.{page_tree, woven}
+use Rattle.tw_rbnode.specs.Page.{IsNode, TreePage}
+use Rattle.tw_rbnode.specs.Trees.{woven}
 use Rattle.tw_rbnode.proofs.Rising.{Each-with}
 use Rattle.tw_rbnode.proofs.TreeLists.{page-list}
 use Rattle.tw_tree.proofs.Asked.{cut}
@@ -38,16 +36,16 @@ use Rattle.tw_rbtree.specs.declared.inserting.Grown.{Grown}
 use Rattle.tw_rbtree.specs.declared.inserting.Grown.TheVariants.{One, Two}
 use Rattle.tw_rbtree.specs.declared.seeking.Sought.{Sought}
 use Rattle.tw_rbtree.specs.Answers.{IsFaultOf}
-use Rattle.tw_rbtree.specs.Growing.{AnswersGrown, GrownLists, IsChildTree, IsFull, IsGrownIn, IsStagedAs, IsTwoIfFull, IsWith, MayGoInto}
-use Rattle.tw_rbtree.specs.Reading.{IsReading, Reading, child_in, fits, is_above, is_below, lie_between, passing}
+use Rattle.tw_rbtree.specs.Growing.{AnswersGrown, GrownLists, IsChildTree, IsGrownIn, IsStagedAs, IsTwoIfFull, IsWith, MayGoInto}
+use Rattle.tw_rbtree.specs.Reading.{Reading, child_in, fits, lie_between, passing}
 use Rattle.tw_rbtree.specs.Standing.{AreTrees, IsTreeBelow, IsTreePage}
-use Rattle.tw_rbtree.specs.Ways.{Stop, child_page, end_of, seek, way_from}
-use Rattle.tw_rbtree.proofs.Adding.{Goes, all-lie, entry-lies, goes-between}
+use Rattle.tw_rbtree.specs.Ways.{Stop, child_page, seek, way_from}
+use Rattle.tw_rbtree.proofs.Adding.{all-lie, goes-between}
 use Rattle.tw_rbtree.proofs.FoundLaws.{bad_on}
-use Rattle.tw_rbtree.proofs.PageLaws.{IsSpotOf, reading-is, seek-there}
+use Rattle.tw_rbtree.proofs.PageLaws.{IsSpotOf, seek-there}
 use Rattle.tw_rbtree.proofs.Replacing.{SidesList}
-use Rattle.tw_rbtree.proofs.Standings.{IsTreeAt, list-at, tree-at, trees-count}
-use Rattle.tw_rbtree.proofs.WayLaws.{child_page-get, here, way-at, way-goes, way-leaf}
+use Rattle.tw_rbtree.proofs.Standings.{list-at, tree-at, trees-count}
+use Rattle.tw_rbtree.proofs.WayLaws.{here, way-at, way-goes}
 use Rattle.tw_rbtree.proofs.Weaving.{LiesBetween, left_here, met_here, seek-cons, seek-nil, step_by}
 
 -- a question that leads to a slot has met its entry

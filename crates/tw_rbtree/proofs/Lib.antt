@@ -14,4 +14,5 @@ pub mod GrowLaws
 pub mod RootGrowing
 pub mod ShowLaws
 pub mod ListLaws
+pub mod Plantings
 pub mod Readings

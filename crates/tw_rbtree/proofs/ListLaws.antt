@@ -1,13 +1,12 @@
 -- Listing the nodes of a page, part by part.
-use Rattle.std.proofs.Common.{◌≡◌, ◌≢◌, ℕ, suc, zero, ◌+◌, ◌-◌, ◌<◌, ◌≤◌, List, [], ◌∷◌, ◌++◌, length, Bool, true, false, refl, ap, sym, ◌∙◌, subst, arith, slice_get, Result, Ok, Err}
+use Rattle.std.proofs.Common.{◌≡◌, ◌≢◌, ℕ, suc, zero, ◌+◌, ◌-◌, ◌<◌, ◌≤◌, List, [], Bool, true, false, refl, ap, sym, ◌∙◌, subst, arith, slice_get, Result, Ok, Err}
 use Rattle.std.specs.Prelude.{◌==◌, ◌||◌, nat_lt, Option, Some, None, if◌then◌else◌}
 use Rattle.std.specs.Result.{IsErrAnd}
 use Rattle.std.proofs.lemmas.Bool.{le-ltb, lt-ltb}
 use Rattle.tw_base.specs.declared.root.Root.{Root}
 use Rattle.tw_base.specs.declared.thread.Entry.{Entry}
 use Rattle.tw_disk.specs.Found.{Found, ◌>>=◌}
-use Rattle.tw_disk.specs.Found.Found.{Is, Bad}
-use Rattle.tw_disk.proofs.FoundLaws.{is_on}
+use Rattle.tw_disk.specs.Found.Found.{Is}
 use Rattle.tw_rbnode.specs.Page.{TreePage}
 use Rattle.tw_rbnode.specs.Shape.{Shape, Empty, Node, size}
 use Rattle.tw_rbnode.specs.Slots.{below_at, slot_of}
@@ -15,12 +14,11 @@ use Rattle.tw_rbnode.proofs.Descents.{before, not_before, other, same}
 use Rattle.tw_rbtree.specs.declared.fault.TreeFault.{TreeFault}
 use Rattle.tw_rbtree.specs.declared.new_node.NewNode.{NewNode}
 use Rattle.tw_rbtree.specs.declared.new_node.Side.{Side}
-use Rattle.tw_rbtree.specs.declared.new_node.Side.TheVariants.{Empty as NoTree, New, Old}
+use Rattle.tw_rbtree.specs.declared.new_node.Side.TheVariants.{Empty as NoTree, Old}
 use Rattle.tw_rbtree.specs.Answers.{IsFaultOf}
-use Rattle.tw_rbtree.specs.Listing.{AnswersListed, IsPartAt, IsPartOf, Listed, ListsAt, child_listed, listed, listed_at, node_behind}
+use Rattle.tw_rbtree.specs.Listing.{AnswersListed, IsPartAt, Listed, ListsAt, child_listed, listed, listed_at, node_behind}
 use Rattle.tw_rbtree.specs.Reading.{Reading, child_in, root_in}
 use Rattle.tw_rbtree.specs.Ways.{child_page}
-use Rattle.tw_rbtree.proofs.FoundLaws.{bad_on}
 
 -- ---- parts of a page's tree
 

@@ -1,6 +1,6 @@
 -- A question's way through the tree of one page.
 use Rattle.std.proofs.Common.{◌≡◌, ℕ, suc, zero, ◌+◌, ◌*◌, ◌<◌, ◌≤◌, List, [], ◌∷◌, ◌++◌, length, Bool, true, false, refl, ap, sym, ◌∙◌, subst, arith, ◌⊎◌, inl, inr, slice_get, append_assoc, append-nil}
-use Rattle.std.specs.Prelude.{◌==◌, nat_lt, Option, Some, None, not, map, slice_index_or, if◌then◌else◌}
+use Rattle.std.specs.Prelude.{Option, Some, not, map, slice_index_or}
 use Rattle.std.proofs.lemmas.Option.{none-some, same_Some}
 use Rattle.std.specs.declared.cmp.Ordering.{Ordering}
 use Rattle.std.specs.declared.cmp.Ordering.TheVariants.{Less, Equal, Greater}
@@ -10,8 +10,7 @@ use Rattle.tw_base.specs.declared.thread.Key.{Key}
 use Rattle.tw_base.specs.declared.tree_proof.Ancestor.{Ancestor}
 use Rattle.tw_base.specs.declared.tree_proof.Ask.{Ask}
 use Rattle.tw_base.specs.declared.tree_proof.Ask.TheVariants.{Present, Absent, Below, Above}
-use Rattle.tw_base.specs.declared.tree_proof.TreeProof.{TreeProof}
-use Rattle.tw_base.specs.declared.tree_proof.TreeProof.TheVariants.{Present as OfEntry, Gap}
+use Rattle.tw_base.specs.declared.tree_proof.TreeProof.TheVariants.{Present as OfEntry}
 use Rattle.tw_base.specs.Auth.{tree_label}
 use Rattle.tw_base.specs.Entries.{KeyBelow, key_cmp, key_of}
 use Rattle.tw_base.specs.Lists.{Each}
@@ -33,7 +32,7 @@ use Rattle.tw_treeproof.proofs.Ways.{way-here, way-left, way-right}
 use Rattle.tw_rbtree.specs.declared.seeking.Sought.{Sought}
 use Rattle.tw_rbtree.specs.Ways.{seek}
 use Rattle.tw_rbtree.proofs.PageLaws.{IsSpotOf, seek-there}
-use Rattle.tw_rbtree.proofs.Weaving.{seek-cons, seek-nil, step_by, met_here, left_here}
+use Rattle.tw_rbtree.proofs.Weaving.{seek-cons, step_by, met_here, left_here}
 
 -- ---- the mark of a question among rising entries
 

@@ -1,5 +1,5 @@
 -- There is a reading of any pages.
-use Rattle.std.proofs.Common.{◌≡◌, ℕ, ◌+◌, ◌-◌, ◌<◌, ◌≤◌, List, length, inl, inr}
+use Rattle.std.proofs.Common.{ℕ, ◌+◌, ◌-◌, ◌<◌, ◌≤◌, List, length, inl, inr}
 use Rattle.std.specs.Prelude.{Option, Some, None, MatchOption}
 use Rattle.tw_disk.specs.Image.{Image, page_at}
 use Rattle.tw_rbnode.specs.Page.{TreePage}

@@ -1,17 +1,16 @@
 -- A root with an entry more below it.
-use Rattle.std.proofs.Common.{◌≡◌, ◌≢◌, ℕ, suc, zero, ◌+◌, ◌<◌, ◌≤◌, List, [], ◌∷◌, ◌++◌, length, true, refl, ap, sym, ◌∙◌, subst, arith, ◌⊎◌, inl, inr, Result, Ok, Err}
-use Rattle.std.specs.Prelude.{Option, Some, None, map}
+use Rattle.std.proofs.Common.{◌≡◌, ◌≢◌, ℕ, ◌≤◌, List, [], ◌∷◌, length, true, refl, ap, sym, ◌∙◌, subst, arith, inl, inr, Result, Ok, Err}
+use Rattle.std.specs.Prelude.{None, map}
 use Rattle.std.specs.Result.{IsErrAnd}
 use Rattle.tw_base.specs.declared.root.Root.{Root}
 use Rattle.tw_base.specs.declared.thread.Entry.{Entry}
 use Rattle.tw_base.specs.declared.tree_proof.Ask.TheVariants.{Absent}
 use Rattle.tw_base.specs.Asking.{entry_with, with_entry}
 use Rattle.tw_base.specs.Entries.{key_of}
-use Rattle.tw_base.specs.Lists.{Each}
 use Rattle.tw_base.specs.Tree.{Tree, IsRising, entries}
 use Rattle.tw_base.specs.Tree.Tree.{Empty}
-use Rattle.tw_disk.specs.Found.{Found, ◌>>=◌}
-use Rattle.tw_disk.specs.Found.Found.{Is, Bad}
+use Rattle.tw_disk.specs.Found.{Found}
+use Rattle.tw_disk.specs.Found.Found.{Is}
 use Rattle.tw_disk.specs.Image.{Image}
 use Rattle.tw_disk.proofs.FoundLaws.{is_on, same_found}
 use Rattle.tw_rbnode.specs.declared.child.Child.{Child}
@@ -22,9 +21,8 @@ use Rattle.tw_tree.specs.Inserting.{with_leaf}
 use Rattle.tw_tree.proofs.Leaves.{has-leaf}
 use Rattle.tw_rbtree.specs.declared.fault.TreeFault.{TreeFault}
 use Rattle.tw_rbtree.specs.declared.fault.TreeFault.TheVariants.{BadPage, DiskFault, NoMemory, Present, Untrue}
-use Rattle.tw_rbtree.specs.declared.inserting.Grown.{Grown}
 use Rattle.tw_rbtree.specs.declared.inserting.Grown.TheVariants.{One, Two}
-use Rattle.tw_rbtree.specs.Answers.{AnswersInsert, IsFaultOf, Overflows}
+use Rattle.tw_rbtree.specs.Answers.{AnswersInsert, IsFaultOf}
 use Rattle.tw_rbtree.specs.Growing.{AnswersGrown, IsChildTree}
 use Rattle.tw_rbtree.specs.Reading.{IsReading, Reading, lie_between, root_in}
 use Rattle.tw_rbtree.specs.Standing.{AreTrees, IsRootTree, IsTreeBelow, IsTreePage, StandsFor}

@@ -1,6 +1,6 @@
 -- What is shown on the ways down.
-use Rattle.std.proofs.Common.{◌≡◌, ◌≢◌, ℕ, suc, zero, ◌+◌, ◌<◌, ◌≤◌, List, [], ◌∷◌, ◌++◌, length, refl, ap, sym, ◌∙◌, subst, arith, Result, Ok, Err}
-use Rattle.std.specs.Prelude.{Option, Some, None, IfOk}
+use Rattle.std.proofs.Common.{◌≡◌, ◌≢◌, ℕ, suc, List, [], ◌∷◌, ◌++◌, length, refl, ap, sym, ◌∙◌, subst, arith, Result, Ok, Err}
+use Rattle.std.specs.Prelude.{Option, None, IfOk}
 use Rattle.std.specs.Result.{IsErrAnd}
 use Rattle.tw_base.specs.declared.root.Root.{Root}
 use Rattle.tw_base.specs.declared.thread.Entry.{Entry}
@@ -8,7 +8,7 @@ use Rattle.tw_base.specs.declared.tree_proof.Ancestor.{Ancestor}
 use Rattle.tw_base.specs.declared.tree_proof.Ask.{Ask}
 use Rattle.tw_base.specs.declared.tree_proof.TreeProof.{TreeProof}
 use Rattle.tw_disk.specs.Found.{Found, ◌>>=◌}
-use Rattle.tw_disk.specs.Found.Found.{Is, Bad}
+use Rattle.tw_disk.specs.Found.Found.{Is}
 use Rattle.tw_disk.proofs.FoundLaws.{is_on}
 use Rattle.tw_rbnode.specs.declared.node.Found.{Found as Spot}
 use Rattle.tw_rbnode.specs.declared.node.Found.TheVariants.{At, Between}
@@ -26,7 +26,7 @@ use Rattle.tw_rbtree.specs.FaultWords.{tree_fault}
 use Rattle.tw_rbtree.specs.Paths.{proof_in, proof_of_way, shown_proof, way_nodes, way_proof}
 use Rattle.tw_rbtree.specs.Reading.{Reading, child_in, root_in}
 use Rattle.tw_rbtree.specs.Showing.{AnswersShown}
-use Rattle.tw_rbtree.specs.Ways.{Stop, child_page, end_of, seek, way, way_from}
+use Rattle.tw_rbtree.specs.Ways.{Stop, child_page, seek, way, way_from}
 use Rattle.tw_rbtree.proofs.FoundLaws.{bad_on}
 use Rattle.tw_rbtree.proofs.PageLaws.{IsSpotOf, seek-there}
 use Rattle.tw_rbtree.proofs.WayLaws.{here, way-goes, way-root}

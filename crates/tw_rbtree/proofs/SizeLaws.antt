@@ -1,18 +1,17 @@
 -- How many nodes a way has, and how many entries a tree of so many levels.
-use Rattle.std.proofs.Common.{◌≡◌, ℕ, suc, zero, ◌+◌, ◌-◌, ◌*◌, ◌^◌, ◌<◌, ◌≤◌, List, [], ◌∷◌, ◌++◌, length, Bool, true, false, refl, ap, sym, ◌∙◌, subst, arith, ◌⊎◌, inl, inr, slice_get, length-append}
+use Rattle.std.proofs.Common.{◌≡◌, ℕ, suc, zero, ◌+◌, ◌*◌, ◌^◌, ◌≤◌, List, [], ◌∷◌, ◌++◌, length, Bool, true, false, refl, ap, sym, ◌∙◌, arith, slice_get, length-append}
 use Rattle.std.specs.Prelude.{◌==◌, nat_lt, max, map, Option, Some, None, if◌then◌else◌}
 use Rattle.std.proofs.Math.Nat.{le-max_left, le-max_right, mul-le-mul_right, suc-mul}
 use Rattle.tw_base.specs.declared.thread.Entry.{Entry}
 use Rattle.tw_base.specs.declared.tree_proof.Ancestor.{Ancestor}
 use Rattle.tw_base.specs.Lists.{Each}
 use Rattle.tw_base.specs.Tree.{Tree, entries}
-use Rattle.tw_base.specs.Tree.Tree.{Empty as NoEntry}
 use Rattle.tw_disk.specs.Image.{Image}
 use Rattle.tw_rbnode.specs.declared.child.Child.{Child}
 use Rattle.tw_rbnode.specs.declared.node.Found.{Found as Spot}
 use Rattle.tw_rbnode.specs.Page.{IsNode, TreePage}
 use Rattle.tw_rbnode.specs.Shape.{Shape, Empty, Node, depth, size}
-use Rattle.tw_rbnode.specs.Trees.{above_at, label_at, labels_of, mark_of, node_above, nodes_above, page_tree, woven}
+use Rattle.tw_rbnode.specs.Trees.{above_at, label_at, labels_of, mark_of, node_above, nodes_above, woven}
 use Rattle.tw_rbnode.proofs.RedBlack.{depth_at_most}
 use Rattle.tw_rbnode.proofs.TreeLists.{page-list}
 use Rattle.tw_rbtree.specs.Standing.{AreTrees, IsTreeBelow, IsTreePage}
@@ -38,11 +37,21 @@ module _ (dig : List ℕ → List ℕ) where
           → length (if here then [] else (if left then one else two)) ≤ suc (max (depth l) (depth r))
       by true left a b = omega arith
       by false true a b =
-          omega (arith, a, length-append (above_at dig es ls mark base l) (node_above dig (slice_get es (base + size l)) (label_at dig es ls (base + size l + 1) r)),
-          one_above (slice_get es (base + size l)) (label_at dig es ls (base + size l + 1) r), le-max_left (depth l) (depth r))
+          omega (
+            arith,
+            a,
+            length-append (above_at dig es ls mark base l) (node_above dig (slice_get es (base + size l)) (label_at dig es ls (base + size l + 1) r)),
+            one_above (slice_get es (base + size l)) (label_at dig es ls (base + size l + 1) r),
+            le-max_left (depth l) (depth r),
+          )
       by false false a b =
-          omega (arith, b, length-append (above_at dig es ls mark (base + size l + 1) r) (node_above dig (slice_get es (base + size l)) (label_at dig es ls base l)),
-          one_above (slice_get es (base + size l)) (label_at dig es ls base l), le-max_right (depth l) (depth r))
+          omega (
+            arith,
+            b,
+            length-append (above_at dig es ls mark (base + size l + 1) r) (node_above dig (slice_get es (base + size l)) (label_at dig es ls base l)),
+            one_above (slice_get es (base + size l)) (label_at dig es ls base l),
+            le-max_right (depth l) (depth r),
+          )
 
   -- a page has at most 9 nodes on a way down
   pub page-short : (p : TreePage) (at : Spot) → IsNode p → length (nodes_above dig p at) ≤ 9

@@ -1,26 +1,24 @@
 -- Pages that are staged over children that are trees.
-use Rattle.std.proofs.Common.{◌≡◌, ℕ, suc, zero, ◌+◌, ◌-◌, ◌<◌, ◌≤◌, List, [], ◌∷◌, ◌++◌, length, refl, ap, sym, ◌∙◌, subst, arith, length-append, append_assoc}
-use Rattle.std.specs.Prelude.{map, Option, Some, None, Result, Ok, Err}
+use Rattle.std.proofs.Common.{◌≡◌, ℕ, suc, zero, ◌+◌, ◌-◌, List, [], ◌∷◌, ◌++◌, length, refl, ap, sym, ◌∙◌, subst, arith, length-append}
+use Rattle.std.specs.Prelude.{Option, Some}
 use Rattle.std.specs.Option.{option_map}
 use Rattle.std.proofs.Math.Seq.{get_or-append_seam}
 use Rattle.tw_base.specs.declared.thread.Entry.{Entry}
-use Rattle.tw_base.specs.Auth.{tree_label}
 use Rattle.tw_base.specs.Lists.{Each}
 use Rattle.tw_base.specs.PageBytes.{IsPageOf}
 use Rattle.tw_base.specs.Tree.{Tree, entries}
-use Rattle.tw_base.specs.Tree.Tree.{Empty}
 use Rattle.tw_disk.specs.Image.{Image, page_at}
 use Rattle.tw_rbnode.specs.declared.child.Child.{Child}
 use Rattle.tw_rbnode.specs.Children.{HasChildren}
 use Rattle.tw_rbnode.specs.NodeBytes.{LiesBelow, fields_of, node_codec}
 use Rattle.tw_rbnode.specs.Page.{IsNode, TreePage}
-use Rattle.tw_rbnode.specs.Trees.{page_label, page_tree, woven}
+use Rattle.tw_rbnode.specs.Trees.{page_tree}
 use Rattle.tw_rbnode.proofs.TreeLabels.{page-label}
 use Rattle.tw_rbnode.proofs.TreeLists.{page-list}
 use Rattle.tw_rbtree.specs.Growing.{IsChildTree, IsOver, IsStaged}
 use Rattle.tw_rbtree.specs.Reading.{IsPageAt}
-use Rattle.tw_rbtree.specs.Standing.{AreTrees, IsTreeBelow, IsTreePage}
-use Rattle.tw_rbtree.proofs.Keeping.{below-kept, page-kept, tree_page-kept, trees-map}
+use Rattle.tw_rbtree.specs.Standing.{AreTrees, IsTreeBelow}
+use Rattle.tw_rbtree.proofs.Keeping.{below-kept, tree_page-kept, trees-map}
 use Rattle.tw_rbtree.proofs.Standings.{over-labels, trees-count}
 
 module _ (dig : List ℕ → List ℕ) where

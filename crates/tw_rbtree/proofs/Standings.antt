@@ -1,21 +1,17 @@
 -- What is found in pages that stand for a tree.
-use Rattle.std.proofs.Common.{◌≡◌, ℕ, suc, zero, ◌+◌, ◌*◌, ◌<◌, ◌≤◌, List, [], ◌∷◌, ◌++◌, length, Bool, true, false, refl, ap, sym, ◌∙◌, subst, arith, ◌⊎◌, inl, inr, slice_get, length-append}
+use Rattle.std.proofs.Common.{◌≡◌, ℕ, suc, zero, ◌+◌, ◌*◌, ◌<◌, ◌≤◌, List, [], ◌∷◌, ◌++◌, length, Bool, true, false, refl, ap, sym, ◌∙◌, subst, arith, slice_get, length-append}
 use Rattle.std.specs.Prelude.{◌==◌, ◌&&◌, nat_le, Option, Some, None, map, slice_index_or}
 use Rattle.std.proofs.lemmas.Bool.{le-leb}
-use Rattle.tw_base.specs.declared.root.Root.{Root}
 use Rattle.tw_base.specs.declared.thread.Entry.{Entry}
-use Rattle.tw_base.specs.declared.thread.Key.{Key}
 use Rattle.tw_base.specs.declared.tree_proof.Ancestor.{Ancestor}
 use Rattle.tw_base.specs.declared.tree_proof.Ask.{Ask}
 use Rattle.tw_base.specs.declared.tree_proof.Ask.TheVariants.{Present, Absent, Below, Above}
-use Rattle.tw_base.specs.declared.tree_proof.TreeProof.{TreeProof}
-use Rattle.tw_base.specs.declared.tree_proof.TreeProof.TheVariants.{Present as OfEntry, Gap}
+use Rattle.tw_base.specs.declared.tree_proof.TreeProof.TheVariants.{Present as OfEntry}
 use Rattle.tw_base.specs.Auth.{tree_label}
 use Rattle.tw_base.specs.Lists.{Each}
-use Rattle.tw_base.specs.Texts.{empty_tree_text}
 use Rattle.tw_base.specs.Tree.{Tree, IsRising, entries}
-use Rattle.tw_base.specs.Tree.Tree.{Empty as NoEntry, Branch}
-use Rattle.tw_disk.specs.Found.{Found, ◌>>=◌}
+use Rattle.tw_base.specs.Tree.Tree.{Empty as NoEntry}
+use Rattle.tw_disk.specs.Found.{◌>>=◌}
 use Rattle.tw_disk.specs.Found.Found.{Is}
 use Rattle.tw_disk.specs.Image.{Image}
 use Rattle.tw_disk.proofs.FoundLaws.{is_on}
@@ -24,19 +20,19 @@ use Rattle.tw_rbnode.specs.declared.node.Found.{Found as Spot}
 use Rattle.tw_rbnode.specs.declared.node.Found.TheVariants.{At, Between}
 use Rattle.tw_rbnode.specs.Children.{HasChildren, IsChildAt}
 use Rattle.tw_rbnode.specs.Page.{IsNode, TreePage}
-use Rattle.tw_rbnode.specs.Trees.{above_at, labels_of, mark_of, nodes_above, page_tree, sides_at, tree_at, woven}
+use Rattle.tw_rbnode.specs.Trees.{above_at, labels_of, mark_of, nodes_above, page_tree, sides_at, woven}
 use Rattle.tw_rbnode.proofs.TreeLists.{page-list}
 use Rattle.tw_treeproof.specs.Making.{place_of, proof_at, way_up}
 use Rattle.tw_treeproof.specs.Ways.{has_asked_key, is_left}
 use Rattle.tw_rbtree.specs.declared.seeking.Sought.{Sought}
-use Rattle.tw_rbtree.specs.Paths.{proof_in, proof_of_way, way_nodes, way_proof}
-use Rattle.tw_rbtree.specs.Reading.{IsPageAt, IsReading, Reading, child_in, fits, lie_between, root_in}
-use Rattle.tw_rbtree.specs.Standing.{AreTrees, IsTreeBelow, IsTreePage, StandsFor}
-use Rattle.tw_rbtree.specs.Ways.{Stop, child_page, end_of, nowhere, seek, way, way_from}
-use Rattle.tw_rbtree.proofs.PageLaws.{IsSpotOf, child-is, root-is, seek-there}
+use Rattle.tw_rbtree.specs.Paths.{proof_in, way_nodes, way_proof}
+use Rattle.tw_rbtree.specs.Reading.{IsPageAt, IsReading, Reading, child_in, fits, lie_between}
+use Rattle.tw_rbtree.specs.Standing.{AreTrees, IsTreeBelow}
+use Rattle.tw_rbtree.specs.Ways.{Stop, child_page, end_of, seek, way_from}
+use Rattle.tw_rbtree.proofs.PageLaws.{IsSpotOf, child-is, seek-there}
 use Rattle.tw_rbtree.proofs.PageWays.{Guides, from_first, leads-between, leads-slot, seek-guides}
 use Rattle.tw_rbtree.proofs.SizeLaws.{page-short}
-use Rattle.tw_rbtree.proofs.WayLaws.{child_page-get, here, way-at, way-empty, way-goes, way-leaf, way-root}
+use Rattle.tw_rbtree.proofs.WayLaws.{child_page-get, here, way-at, way-goes, way-leaf}
 use Rattle.tw_rbtree.proofs.Weaving.{EndsPage, EndsAt, LiesBetween, Tells, between-all, left_here, met_here, pick, picked-at, picked-between, seek-cons, seek-nil, step_by, tells-page, woven-own}
 
 -- ---- children and their trees
@@ -257,8 +253,13 @@ module _ (dig : List ℕ → List ℕ) (ps : Image) (at : Reading) (reads : IsRe
             ∙ is_on (way_from at ask lower (seek ask 0 low high p.entries).low (seek ask 0 low high p.entries).high q) (λ stops. Is (here at ask low high p ∷ stops)) (on.first ∷ on.rest) on.found;
         tells = tells_below (end_of on.first.sought on.rest) on.tells;
         few =
-            omega (arith, on.few, is, page-short dig p (seek ask 0 low high p.entries).at node,
-            length-append (way_nodes dig (on.first ∷ on.rest)) (nodes_above dig p (seek ask 0 low high p.entries).at));
+            omega (
+              arith,
+              on.few,
+              is,
+              page-short dig p (seek ask 0 low high p.entries).at node,
+              length-append (way_nodes dig (on.first ∷ on.rest)) (nodes_above dig p (seek ask 0 low high p.entries).at),
+            );
         up = (λ i. on.up i ++ nodes_above dig p (spot i)) ∙ sym leads.0;
         proof = λ above. on.proof above ∙ ap (λ (b : Tree). proof_at dig b above) (sym leads.1);
       }

@@ -1,5 +1,5 @@
 -- What the calls answer, and when which fault.
-use Rattle.std.specs.Prelude.{◌≡◌, ◌⊎◌, ℕ, ◌+◌, ◌≤◌, List, [], ◌∷◌, length, Option, Some, None, Result, Ok, Err}
+use Rattle.std.specs.Prelude.{◌≡◌, ◌⊎◌, ℕ, ◌+◌, ◌≤◌, List, length, Option, Some, None, Result, Ok, Err}
 use Rattle.tw_base.specs.declared.root.Root.{Root}
 use Rattle.tw_base.specs.declared.thread.Entry.{Entry}
 use Rattle.tw_base.specs.declared.tree_proof.Ask.{Ask}

@@ -1,11 +1,10 @@
 -- What a part of a tree has become by an entry more: one child in its place, or two with an entry between them.
-use Rattle.std.specs.Prelude.{◌≡◌, ◌≢◌, ℕ, suc, ◌+◌, ◌<◌, ◌≤◌, List, [], ◌∷◌, ◌++◌, length, map, take, drop, Bool, true, Option, Some, None, Result, Ok, Err}
+use Rattle.std.specs.Prelude.{◌≡◌, ◌≢◌, ℕ, ◌+◌, ◌<◌, ◌≤◌, List, [], ◌∷◌, ◌++◌, length, map, take, drop, true, Option, Some, None, Result, Ok, Err}
 use Rattle.tw_base.specs.declared.thread.Entry.{Entry}
 use Rattle.tw_base.specs.Auth.{tree_label}
 use Rattle.tw_base.specs.Entries.{key_of}
 use Rattle.tw_base.specs.Limits.{IsEntryInRange}
 use Rattle.tw_base.specs.Lists.{Each}
-use Rattle.tw_base.specs.PageBytes.{IsPageOf}
 use Rattle.tw_base.specs.Tree.{Tree, entries}
 use Rattle.tw_disk.specs.Found.{Found}
 use Rattle.tw_disk.specs.Found.Found.{Is}
@@ -16,7 +15,6 @@ use Rattle.tw_rbnode.specs.declared.node.Added.{Added}
 use Rattle.tw_rbnode.specs.declared.node.Added.TheVariants.{One as OnePage, Two as TwoPages}
 use Rattle.tw_rbnode.specs.Answers.{IsAdded}
 use Rattle.tw_rbnode.specs.Children.{IsChildAt}
-use Rattle.tw_rbnode.specs.NodeBytes.{fields_of, node_codec}
 use Rattle.tw_rbnode.specs.Page.{IsBetween, IsNode, TreePage}
 use Rattle.tw_rbnode.specs.Trees.{page_label, woven}
 use Rattle.tw_rbtree.specs.declared.fault.TreeFault.{TreeFault}

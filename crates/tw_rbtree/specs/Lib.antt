@@ -4,6 +4,7 @@ pub mod Ways
 pub mod Paths
 pub mod Standing
 pub mod Listing
+pub mod Planting
 pub mod Answers
 pub mod Growing
 pub mod Showing

@@ -1,5 +1,5 @@
 -- When pages stand for a tree.
-use Rattle.std.specs.Prelude.{◌≡◌, ◌⊎◌, ℕ, suc, zero, ◌<◌, ◌≤◌, List, [], ◌∷◌, length}
+use Rattle.std.specs.Prelude.{◌≡◌, ◌⊎◌, ℕ, suc, zero, ◌≤◌, List, [], ◌∷◌, length}
 use Rattle.tw_base.specs.declared.root.Root.{Root}
 use Rattle.tw_base.specs.Auth.{tree_label}
 use Rattle.tw_base.specs.Tree.{Tree, IsRising, entries}

@@ -1,5 +1,5 @@
 -- The way down that a question takes through the pages of a tree.
-use Rattle.std.specs.Prelude.{◌≡◌, ℕ, suc, zero, ◌+◌, ◌==◌, List, [], ◌∷◌, length, slice_index_or, map, Option, Some, None, if◌then◌else◌}
+use Rattle.std.specs.Prelude.{ℕ, suc, zero, ◌+◌, ◌==◌, List, [], ◌∷◌, slice_index_or, map, Option, Some, None, if◌then◌else◌}
 use Rattle.tw_base.specs.declared.root.Root.{Root}
 use Rattle.tw_base.specs.declared.thread.Entry.{Entry}
 use Rattle.tw_base.specs.declared.thread.Key.{Key}

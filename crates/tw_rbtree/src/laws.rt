@@ -1,6 +1,6 @@
 // What holds of pages that stand for trees, whatever the calls do.
 
-ghost use Rattle.std.specs.Prelude.{◌≡◌, ℕ, ◌+◌, ◌-◌, ◌*◌, ◌^◌, ◌<◌, ◌≤◌, ◌++◌, List, length};
+ghost use Rattle.std.specs.Prelude.{◌≡◌, ◌≢◌, [], Some, slice_get, ℕ, ◌+◌, ◌-◌, ◌*◌, ◌^◌, ◌<◌, ◌≤◌, ◌++◌, List, length};
 ghost use Rattle.tw_base.specs.declared.root.Root.{Root};
 ghost use Rattle.tw_base.specs.declared.thread.Key.{Key};
 ghost use Rattle.tw_base.specs.declared.tree_proof.Ask.{Ask};
@@ -8,6 +8,9 @@ ghost use Rattle.tw_base.specs.Asking.{entry_with, first_above, last_below};
 ghost use Rattle.tw_base.specs.Tree.{Tree, entries};
 ghost use Rattle.tw_disk.specs.Found.Found.{Is};
 ghost use Rattle.tw_disk.specs.Image.{Image};
+ghost use Rattle.tw_rbtree.specs.declared.new_node.NewNode.{NewNode};
+ghost use Rattle.tw_rbtree.specs.Listing.{listed};
+ghost use Rattle.tw_rbtree.specs.Planting.{AreNodeTrees};
 ghost use Rattle.tw_rbtree.specs.Reading.{IsReading, Reading};
 ghost use Rattle.tw_rbtree.specs.Standing.{StandsFor};
 ghost use Rattle.tw_rbtree.specs.Ways.{Stop, end_of, found_after, found_before, found_with, nowhere, way};
@@ -44,6 +47,15 @@ pub fn keeping_laws<H: Hasher>()
     ensures kept { (ps more : Image) (root : Root) (t : Tree) → StandsFor H.dig ps root t → StandsFor H.dig (ps ++ more) root t }
     // Pages stand for one tree under a root.
     ensures once { (ps : Image) (root : Root) (s t : Tree) → StandsFor H.dig ps root s → StandsFor H.dig ps root t → s ≡ t }
+{}
+
+/// What is listed of pages that stand for a tree; its clauses are the theorem. The function itself does nothing.
+pub fn listing_laws<H: Hasher>()
+    // Where the root isn't older than the number, there is a tree for each node listed: its entry over the trees of its sides,
+    // which are the empty one, those of nodes before it, and those of the older pages that are named. The last one is the tree.
+    ensures fresh { (ps : Image) (at : Reading) (root : Root) (t : Tree) (since : ℕ) → IsReading H.dig ps at → StandsFor H.dig ps root t → root.page ≢ 0 → since ≤ root.page →
+        (nodes : List NewNode) × (trees : List Tree) × (listed at since root ≡ Is nodes) × AreNodeTrees H.dig ps [] nodes trees
+        × (0 < length nodes) × (slice_get trees (length nodes - 1) ≡ Some t) }
 {}
 
 /// How long proofs of pages that stand for a tree are; its clauses are the theorem. The function itself does nothing.

@@ -16,7 +16,7 @@ mod seeking;
 pub use asking::{after, before, get};
 pub use fault::{TreeFault, WalkFault};
 pub use inserting::insert;
-pub use laws::{keeping_laws, size_laws, standing_laws};
+pub use laws::{keeping_laws, listing_laws, size_laws, standing_laws};
 pub use listing::fresh;
 pub use new_node::{NewNode, NewNodes, Side};
 pub use proving::path;

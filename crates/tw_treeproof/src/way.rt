@@ -17,6 +17,7 @@ fn is_same_key(a: &Key, b: &Key) -> bool
 
 /// Whether the way down goes left at the entry.
 pub fn goes_left(ask: &Ask, entry: &Entry) -> bool
+    // The way goes left at an entry as the definition of ways says.
     ensures { result ≡ is_left ask.now entry.now }
 {
     let here = entry_key(entry);
@@ -30,6 +31,7 @@ pub fn goes_left(ask: &Ask, entry: &Entry) -> bool
 
 /// Whether the entry has the asked key, in a question for one key.
 pub fn meets(ask: &Ask, entry: &Entry) -> bool
+    // An entry has the asked key as the definition of ways says: in a question for one key, where its key is that one.
     ensures { result ≡ has_asked_key ask.now entry.now }
 {
     let here = entry_key(entry);

@@ -1,20 +1,27 @@
-use Rattle.std.proofs.Common.{◌∙◌}
+use Rattle.std.proofs.Common.{◌∙◌, subst}
 use Rattle.tw_outside.specs.Asked.{asked}
-use Rattle.tw_filecmd.proofs.Judging.{judges_file, refuses_line}
+use Rattle.tw_outside.specs.Files.{IsThere}
+use Rattle.tw_filecmd.proofs.Judging.{has_anchors, judges_file, judging_since, refuses_line}
 use Rattle.tw_filecmd.proofs.verifying.verify_file.Goals as goal
+
+pub returns-in-Ok : goal.returns-in-Ok
+returns-in-Ok g c =
+    let told = g.I.Inputs.told c.args.inputs.now in
+    let before = g.I.Inputs.faults c.args.inputs.now in
+    let begun = g.I.Inputs.faults c.read_all.new.inputs in
+    let after = g.I.Inputs.faults c.judge.new.inputs in
+    judges_file (asked told before after) c.args.proof.now c.args.anchors.now c.as_slice-in-Ok.result.now c.args.strict c.judge.result
+    (has_anchors told c.args.anchors.now c.as_slice-in-Ok.result.now c.as_slice.result.now c.in_ok-lines.ensures.there
+        (λ bytes tells. c.as_slice.ensures.value ∙ c.in_ok-lines.ensures.read bytes tells)
+        (c.as_slice-in-Ok.ensures ∙ c.in-Ok.ensures.anchors) c.in-Ok.ensures.good)
+    (judging_since told (g.I.Inputs.told c.read_all.new.inputs) before begun after c.args.proof.now c.as_slice-in-Ok.result.now c.args.strict
+        c.judge.result c.in_ok-lines.ensures.kept c.in_ok-lines.ensures.later c.judge.ensures)
 
 pub returns-in-Err-BadLine : goal.returns-in-Err-BadLine
 returns-in-Err-BadLine g c =
-    refuses_line (asked (g.I.Inputs.told c.args.inputs.now) (g.I.Inputs.faults c.args.inputs.now) (g.I.Inputs.faults c.read_pair.new.inputs))
-    c.args.proof.now c.args.anchors.now c.in-Err-BadLine.line c.as_slice.result.now c.in_ok-bad_line-in-Err-BadLine.field-0
-    c.in_ok-pair.ensures.second_there c.in_ok-pair.ensures.first_there (λ bytes tells. c.as_slice.ensures.value ∙ c.in_ok-pair.ensures.first_read bytes tells)
+    let told = g.I.Inputs.told c.args.inputs.now in
+    refuses_line (asked told (g.I.Inputs.faults c.args.inputs.now) _) c.args.proof.now c.args.anchors.now c.args.strict c.in-Err-BadLine.line
+    c.as_slice.result.now c.in_ok-bad_line-in-Err-BadLine.field-0
+    (subst (λ t. IsThere t c.args.proof.now) c.in_ok-lines.ensures.kept c.in_ok-feed_file-in-Err-BadLine.ensures.there)
+    c.in_ok-lines.ensures.there (λ bytes tells. c.as_slice.ensures.value ∙ c.in_ok-lines.ensures.read bytes tells)
     (rw c.in-Err-BadLine.field-0-is at c.in-Err-BadLine.ensures.bad) c.in_ok-bad_line-in-Err-BadLine.ensures
-
-pub returns : goal.returns
-returns g c =
-    judges_file (asked (g.I.Inputs.told c.args.inputs.now) (g.I.Inputs.faults c.args.inputs.now) (g.I.Inputs.faults c.read_pair.new.inputs))
-    c.args.proof.now c.args.anchors.now c.as_slice-3.result.now c.in_ok-verify.field-0 c.as_slice-2.result.now c.as_slice.result.now
-    c.in_ok-pair.ensures.first_there (λ bytes tells. c.as_slice.ensures.value ∙ c.in_ok-pair.ensures.first_read bytes tells)
-    (c.as_slice-3.ensures ∙ c.in-Ok.ensures.anchors) c.in-Ok.ensures.good
-    c.in_ok-pair.ensures.second_there (λ bytes tells. c.as_slice-2.ensures.value ∙ c.in_ok-pair.ensures.second_read bytes tells)
-    c.in_ok-verify.ensures.verdict c.in_ok-verify.ensures.binds

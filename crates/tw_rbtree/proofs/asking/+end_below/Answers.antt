@@ -1,13 +1,12 @@
-use Rattle.std.proofs.Common.{◌≡◌, ℕ, suc, ◌+◌, ◌-◌, ◌≤◌, ap, sym, ◌∙◌, subst, arith, length}
+use Rattle.std.proofs.Common.{◌≡◌, ℕ, ◌-◌, ap, sym, ◌∙◌, subst, arith, length}
 use Rattle.tw_disk.specs.Found.{Found, ◌>>=◌}
 use Rattle.tw_disk.specs.Found.Found.{Is}
 use Rattle.tw_disk.proofs.FoundLaws.{is_on}
-use Rattle.tw_rbnode.specs.declared.node.Found.{Found as Spot}
-use Rattle.tw_rbnode.specs.declared.node.Found.TheVariants.{At, Between}
+use Rattle.tw_rbnode.specs.declared.node.Found.TheVariants.{Between}
 use Rattle.tw_rbnode.specs.Page.{TreePage}
 use Rattle.tw_rbtree.specs.declared.seeking.Sought.{Sought}
 use Rattle.tw_rbtree.specs.Answers.{IsWalkFaultOf, WalkAnswersAs}
-use Rattle.tw_rbtree.specs.Reading.{Reading, child_in}
+use Rattle.tw_rbtree.specs.Reading.{child_in}
 use Rattle.tw_rbtree.specs.Ways.{child_page, end_from, seek}
 use Rattle.tw_rbtree.proofs.FoundLaws.{walk_bad_on, walk_passed}
 use Rattle.tw_rbtree.proofs.PageLaws.{IsSpotOf, seek-there}

@@ -1,5 +1,5 @@
-use Rattle.std.proofs.Common.{◌≡◌, ◌≢◌, ℕ, suc, ◌+◌, ◌-◌, ◌<◌, ◌≤◌, List, [], ◌∷◌, ◌++◌, length, true, ap, refl, sym, ◌∙◌, subst, arith}
-use Rattle.std.specs.Prelude.{Err, Ok, Option, Some, map, slice_index_or}
+use Rattle.std.proofs.Common.{◌≡◌, ℕ, suc, ◌+◌, ◌-◌, ◌≤◌, List, [], ◌∷◌, ◌++◌, length, ap, refl, sym, ◌∙◌, subst, arith}
+use Rattle.std.specs.Prelude.{Err, Ok, Option, map, slice_index_or}
 use Rattle.std.proofs.lemmas.Option.{same_Some}
 use Rattle.tw_base.specs.declared.thread.Entry.{Entry}
 use Rattle.tw_base.specs.declared.thread.Key.{Key}
@@ -7,33 +7,27 @@ use Rattle.tw_base.specs.declared.tree_proof.Ask.TheVariants.{Absent}
 use Rattle.tw_base.specs.Asking.{with_entry}
 use Rattle.tw_base.specs.Entries.{key_of}
 use Rattle.tw_base.specs.Limits.{IsEntryInRange}
-use Rattle.tw_base.specs.Lists.{Each}
-use Rattle.tw_base.specs.Tree.{IsRising, Tree, entries}
+use Rattle.tw_base.specs.Tree.{IsRising, entries}
 use Rattle.tw_base.specs.Tree.Tree.{Empty}
 use Rattle.tw_disk.specs.Found.{Found}
-use Rattle.tw_disk.specs.Found.Found.{Is}
 use Rattle.tw_disk.specs.Image.{Image}
 use Rattle.tw_rbnode.specs.declared.child.Child.{Child}
 use Rattle.tw_rbnode.specs.declared.node.Found.{Found as Spot}
-use Rattle.tw_rbnode.specs.declared.node.Found.TheVariants.{At, Between}
+use Rattle.tw_rbnode.specs.declared.node.Found.TheVariants.{Between}
 use Rattle.tw_rbnode.specs.Children.{IsChildAt}
 use Rattle.tw_rbnode.specs.Page.{IsBetween, TreePage}
 use Rattle.tw_rbnode.specs.Trees.{woven}
-use Rattle.tw_rbtree.specs.declared.fault.TreeFault.{TreeFault}
-use Rattle.tw_rbtree.specs.declared.fault.TreeFault.TheVariants.{Present}
-use Rattle.tw_rbtree.specs.declared.fault.WalkFault.{WalkFault}
-use Rattle.tw_rbtree.specs.declared.inserting.Grown.{Grown}
-use Rattle.tw_rbtree.specs.declared.inserting.Grown.TheVariants.{One, Two}
+use Rattle.tw_rbtree.specs.declared.inserting.Grown.TheVariants.{Two}
 use Rattle.tw_rbtree.specs.declared.seeking.Sought.{Sought}
-use Rattle.tw_rbtree.specs.Answers.{IsFaultOf, IsWalkFaultOf}
+use Rattle.tw_rbtree.specs.Answers.{IsWalkFaultOf}
 use Rattle.tw_rbtree.specs.FaultWords.{tree_fault}
-use Rattle.tw_rbtree.specs.Growing.{AnswersGrown, IsGrownIn, MayGoInto}
-use Rattle.tw_rbtree.specs.Reading.{Reading, child_in, is_above, is_below}
+use Rattle.tw_rbtree.specs.Growing.{AnswersGrown, IsGrownIn}
+use Rattle.tw_rbtree.specs.Reading.{child_in, is_above, is_below}
 use Rattle.tw_rbtree.specs.Standing.{AreTrees, IsTreeBelow}
 use Rattle.tw_rbtree.specs.Ways.{child_page, seek, way_from}
-use Rattle.tw_rbtree.proofs.Adding.{Goes, all-lie, entry-lies, goes-between}
+use Rattle.tw_rbtree.proofs.Adding.{all-lie, entry-lies, goes-between}
 use Rattle.tw_rbtree.proofs.FoundLaws.{as_tree_fault}
-use Rattle.tw_rbtree.proofs.GrowLaws.{as_grown_fault, bad-child, below-at, child-above, child-same, fault-up, full-on, grown-in, grown-passed, grown-up, leaf-below, leaf-tree, may-go, never-present, present-here, same_middle, sides-of, still-lies}
+use Rattle.tw_rbtree.proofs.GrowLaws.{as_grown_fault, bad-child, below-at, child-same, fault-up, full-on, grown-in, grown-passed, grown-up, leaf-below, leaf-tree, may-go, never-present, present-here, same_middle, sides-of, still-lies}
 use Rattle.tw_rbtree.proofs.Keeping.{below-kept, trees-map}
 use Rattle.tw_rbtree.proofs.PageLaws.{IsSpotOf, reading-is, seek-there}
 use Rattle.tw_rbtree.proofs.Readings.{reading}

@@ -1,18 +1,16 @@
-use Rattle.std.proofs.Common.{◌≡◌, ◌≢◌, ℕ, suc, ◌+◌, ◌<◌, ◌≤◌, List, [], ◌∷◌, ◌++◌, length, ap, refl, sym, ◌∙◌, subst, arith}
-use Rattle.std.specs.Prelude.{Err, None, Ok, map}
+use Rattle.std.proofs.Common.{◌≡◌, ℕ, suc, ◌+◌, List, [], ◌∷◌, ◌++◌, length, ap, refl, sym, ◌∙◌, subst, arith}
+use Rattle.std.specs.Prelude.{None, Ok, map}
 use Rattle.tw_base.specs.declared.thread.Entry.{Entry}
 use Rattle.tw_base.specs.declared.tree_proof.Ask.TheVariants.{Absent}
 use Rattle.tw_base.specs.Asking.{with_entry}
 use Rattle.tw_base.specs.Entries.{key_of}
 use Rattle.tw_base.specs.Tree.{IsRising, Tree, entries}
 use Rattle.tw_base.specs.Tree.Tree.{Empty}
-use Rattle.tw_disk.specs.Image.{Image}
 use Rattle.tw_rbnode.specs.Trees.{woven}
-use Rattle.tw_rbtree.specs.declared.fault.TreeFault.{TreeFault}
 use Rattle.tw_rbtree.specs.FaultWords.{tree_fault}
 use Rattle.tw_rbtree.specs.declared.inserting.Grown.{Grown}
 use Rattle.tw_rbtree.specs.Growing.{AnswersGrown, GrownLists}
-use Rattle.tw_rbtree.specs.Standing.{AreTrees, IsTreeBelow}
+use Rattle.tw_rbtree.specs.Standing.{IsTreeBelow}
 use Rattle.tw_rbtree.specs.Ways.{way, way_from}
 use Rattle.tw_rbtree.proofs.FoundLaws.{as_tree_fault}
 use Rattle.tw_rbtree.proofs.GrowLaws.{leaf-below, less-keys, never-present}

@@ -1,5 +1,4 @@
-use Rattle.std.proofs.Common.{◌≡◌, ℕ, ◌+◌, List, [], ◌∷◌, ◌++◌, length, ap, sym, ◌∙◌, subst, arith, length-append}
-use Rattle.std.specs.Prelude.{Some}
+use Rattle.std.proofs.Common.{[], ◌∷◌, ◌++◌, ◌∙◌, subst}
 use Rattle.tw_disk.specs.Image.{Image}
 use Rattle.tw_rbnode.specs.Children.{AddedHasChildren}
 use Rattle.tw_rbtree.specs.Growing.{AddedLists}

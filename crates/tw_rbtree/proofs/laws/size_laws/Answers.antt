@@ -1,7 +1,6 @@
-use Rattle.std.proofs.Common.{◌≡◌, ◌*◌, ◌≤◌, ℕ, List, length, ap, sym, ◌∙◌, subst}
+use Rattle.std.proofs.Common.{◌*◌, ◌≤◌, List, length, sym, ◌∙◌, subst}
 use Rattle.tw_base.specs.declared.tree_proof.Ancestor.{Ancestor}
-use Rattle.tw_treeproof.specs.Answers.{ancestors_of}
-use Rattle.tw_treeproof.specs.Making.{place_of, proof_of, way_up}
+use Rattle.tw_treeproof.specs.Making.{place_of, way_up}
 use Rattle.tw_treeproof.proofs.OwnProofs.{at-ancestors}
 use Rattle.tw_rbtree.proofs.Readings.{reading}
 use Rattle.tw_rbtree.proofs.RootWays.{root-way}

@@ -1,9 +1,8 @@
-use Rattle.std.proofs.Common.{◌≡◌, ℕ, List, [], Bool, true, false, ap, refl, sym, ◌∙◌, subst, arith}
-use Rattle.std.specs.Prelude.{◌==◌, ◌||◌, None, nat_lt}
+use Rattle.std.proofs.Common.{◌≡◌, List, [], ap, sym, ◌∙◌, subst, arith}
+use Rattle.std.specs.Prelude.{None}
 use Rattle.tw_disk.specs.Found.{Found, ◌>>=◌}
 use Rattle.tw_disk.specs.Found.Found.{Is}
 use Rattle.tw_disk.proofs.FoundLaws.{is_on}
-use Rattle.tw_rbnode.specs.Page.{TreePage}
 use Rattle.tw_rbtree.specs.declared.new_node.NewNode.{NewNode}
 use Rattle.tw_rbtree.specs.Answers.{IsFaultOf}
 use Rattle.tw_rbtree.specs.FaultWords.{tree_fault}

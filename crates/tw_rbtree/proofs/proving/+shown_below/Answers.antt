@@ -1,10 +1,8 @@
-use Rattle.std.proofs.Common.{◌≡◌, ℕ, suc, ◌+◌, ◌-◌, ◌≤◌, List, [], ◌∷◌, ◌++◌, length, ap, sym, ◌∙◌, subst, arith}
+use Rattle.std.proofs.Common.{◌≡◌, ℕ, suc, ◌-◌, List, [], ◌∷◌, ◌++◌, ap, sym, ◌∙◌, subst, arith}
 use Rattle.std.specs.Prelude.{Err, Ok}
-use Rattle.tw_base.specs.declared.tree_proof.Ancestor.{Ancestor}
 use Rattle.tw_disk.specs.Found.{Found}
 use Rattle.tw_disk.specs.Found.Found.{Is}
-use Rattle.tw_rbnode.specs.declared.node.Found.{Found as Spot}
-use Rattle.tw_rbnode.specs.declared.node.Found.TheVariants.{At, Between}
+use Rattle.tw_rbnode.specs.declared.node.Found.TheVariants.{Between}
 use Rattle.tw_rbnode.specs.Answers.{IsThere}
 use Rattle.tw_rbnode.specs.Page.{TreePage}
 use Rattle.tw_rbnode.specs.Trees.{nodes_above}
@@ -13,7 +11,7 @@ use Rattle.tw_rbtree.specs.Answers.{IsWalkFaultOf}
 use Rattle.tw_rbtree.specs.FaultWords.{tree_fault}
 use Rattle.tw_rbtree.specs.Reading.{child_in}
 use Rattle.tw_rbtree.specs.Showing.{AnswersShown}
-use Rattle.tw_rbtree.specs.Ways.{Stop, child_page, seek, stop_in, way_from}
+use Rattle.tw_rbtree.specs.Ways.{Stop, child_page, seek, way_from}
 use Rattle.tw_rbtree.proofs.FoundLaws.{as_tree_fault}
 use Rattle.tw_rbtree.proofs.ShowLaws.{end-shown, shown-bad, shown-fault, shown-passed, shown-up, sought-there, walk-shown}
 use Rattle.tw_rbtree.proofs.WayLaws.{child_page-get, way-at, way-leaf}

@@ -1,4 +1,4 @@
-use Rattle.std.proofs.Common.{◌≡◌, ℕ, ◌+◌, ◌-◌, Bool, false, true, ap, sym, ◌∙◌, arith, slice_get, drop, refl}
+use Rattle.std.proofs.Common.{◌≡◌, ◌+◌, ◌-◌, false, true, ap, sym, ◌∙◌, arith, slice_get}
 use Rattle.std.specs.Prelude.{◌&&◌, Some}
 use Rattle.tw_rbtree.specs.Reading.{is_above, is_below, lie_between}
 use Rattle.tw_rbtree.proofs.PageLaws.{between-on, drop-past}

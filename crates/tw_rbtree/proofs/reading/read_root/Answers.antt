@@ -1,7 +1,4 @@
-use Rattle.std.proofs.Common.{◌≡◌, ℕ, ◌+◌, ◌-◌, ◌<◌, ◌≤◌, List, sym, ◌∙◌, arith, subst, length}
-use Rattle.tw_disk.specs.Image.{Image}
-use Rattle.tw_rbnode.specs.Page.{TreePage}
-use Rattle.tw_rbtree.specs.Reading.{IsPageAt}
+use Rattle.std.proofs.Common.{sym, ◌∙◌, arith}
 use Rattle.tw_rbtree.proofs.PageLaws.{root-is, root-none}
 use Rattle.tw_rbtree.proofs.reading.read_root.Goals as goal
 use Rattle.tw_rbtree.proofs.reading.read_root.Goals.{then-page-lt-FIRST_PAGE-via-then-page-lt-FIRST_PAGE, then-page-lt-FIRST_PAGE-via-else-page-lt-FIRST_PAGE+then-page-used}

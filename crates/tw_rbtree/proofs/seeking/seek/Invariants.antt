@@ -1,4 +1,4 @@
-use Rattle.std.proofs.Common.{◌≡◌, ℕ, drop}
+use Rattle.std.proofs.Common.{◌≡◌, drop}
 use Rattle.std.specs.Prelude.{None}
 use Rattle.tw_rbnode.specs.declared.node.Found.TheVariants.{Between}
 use Rattle.tw_rbtree.specs.Ways.{seek}
