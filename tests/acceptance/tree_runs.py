@@ -23,11 +23,8 @@ MULTIPLIER = 7919
 MIXED = {60: 61, 700: 701, 5000: 5003}
 SEQUENCES = [("rising", 60), ("falling", 60), ("mixed", 60), ("rising", 700), ("mixed", 700), ("mixed", 5000)]
 
-# After so many of them the pages are compared; those that a page holds, splits at and is left with are among them.
+# After so many of them the pages are compared: about where the first page is full and becomes two, among others.
 SHOWN_AFTER = (1, 2, 3, 5, 24, 25, 26, 49, 60, 300, 700, 1000, 5000)
-
-# Of entries drawn by chance: how many there are, up to which each version is compared, and how often one is from there on.
-DRAWN, EACH_UP_TO, ONE_IN = 20_000, 1_000, 1_000
 
 
 def order(kind, count):
@@ -46,9 +43,9 @@ def entry_of(number, archived):
 def expect(lines, wanted):
     """Raises where the program doesn't print these lines, one for each that asks for one."""
     if not os.access(PROGRAM, os.X_OK):
-        raise Skipped("crates/tree_pages/out/tree_pages, which `rt run` builds in crates/tree_pages")
+        raise Skipped("crates/tree_pages/out/tree_pages, which `make check` builds")
     text = "".join(f"{line}\n" for line in lines)
-    done = subprocess.run([PROGRAM], input=text, capture_output=True, text=True, timeout=60)
+    done = subprocess.run([PROGRAM], input=text, capture_output=True, text=True, timeout=300)
     if done.returncode or done.stderr:
         raise Wrong(f"  status {done.returncode}, stderr {done.stderr!r}")
     found = done.stdout.splitlines()
@@ -160,21 +157,29 @@ def sequence(kind, count):
 # ---- entries drawn by chance, beside a sorted list
 
 
-def versions_beside_a_list(_room):
-    """each version lists the sorted entries, and still does when later ones are made"""
-    drawn = random.Random("trees in pages").sample(range(1, 2**40), DRAWN)
-    entries, lines, wanted, seen = [], [], [], {}
-    for count, number in enumerate(drawn, 1):
-        insort(entries, entry_of(number, count))
+def beside_a_list(count, one_in):
+    """Raises where a version, one in so many, doesn't list the sorted entries, or not any more when all are made."""
+    drawn = random.Random("trees in pages").sample(range(1, 2**40), count)
+    entries, lines, seen = [], [], {}
+    for number in drawn:
+        insort(entries, entry_of(number, len(entries) + 1))
         lines.append(f"insert {number}")
-        if count <= EACH_UP_TO or count % ONE_IN == 0:
+        if len(entries) % one_in == 0:
             lines.append("list")
-            wanted.append(listed(entries))
-            seen[count] = wanted[-1]
-    for count in [*range(1, EACH_UP_TO, 97), *range(ONE_IN, DRAWN, ONE_IN)]:
-        lines += [f"at {count}", "list"]
-        wanted.append(seen[count])
-    expect(lines, wanted)
+            seen[len(entries)] = listed(entries)
+    old = list(seen)[:: max(1, len(seen) // 20)]
+    lines += [line for version in old for line in (f"at {version}", "list")]
+    expect(lines, [*seen.values(), *(seen[version] for version in old)])
+
+
+def each_version(_room):
+    """each version of 1,000 entries lists the sorted entries, and old ones still do"""
+    beside_a_list(1_000, 1)
+
+
+def large_versions(_room):
+    """each thousandth version of 20,000 entries lists the sorted entries, and still does when all are made"""
+    beside_a_list(20_000, 1_000)
 
 
 def versions_apart(_room):
@@ -192,5 +197,5 @@ def versions_apart(_room):
 def cases():
     return [
         *(sequence(kind, count) for kind, count in SEQUENCES),
-        *(case(work, "trees in pages") for work in (versions_beside_a_list, versions_apart)),
+        *(case(work, "trees in pages") for work in (each_version, large_versions, versions_apart)),
     ]

@@ -22,10 +22,7 @@ pub fn answer(alloc: Global, versions: &mut Versions, command: Command) -> Resul
         Command::List => return list(alloc, versions),
         Command::Get(number) => return got(alloc, versions, number),
         Command::Present(number) => return present(alloc, versions, number),
-        Command::Absent(step) => {
-            let asked = key(0, step).ok_or(Stop::BadLine)?;
-            return proof(alloc, versions, &Ask::Absent(asked));
-        }
+        Command::Absent(step) => return absent(alloc, versions, step),
     }
     Ok(String::new(alloc))
 }
@@ -91,6 +88,12 @@ fn got(alloc: Global, versions: &mut Versions, number: u64) -> Result<String, St
 fn present(alloc: Global, versions: &mut Versions, number: u64) -> Result<String, Stop> {
     let entry = entry_of(versions, number)?.ok_or(Stop::Tree(TreeFault::Untrue))?;
     proof(alloc, versions, &Ask::Present(entry))
+}
+
+/// The line of the proof that the first service has no entry of this step.
+fn absent(alloc: Global, versions: &mut Versions, step: u64) -> Result<String, Stop> {
+    let asked = key(0, step).ok_or(Stop::BadLine)?;
+    proof(alloc, versions, &Ask::Absent(asked))
 }
 
 /// The line of the proof of what is asked.
