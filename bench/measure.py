@@ -4,7 +4,7 @@
     python3 bench/measure.py PROGRAM --try FOLDER       a few runs on small stores, to try the script; writes into the folder
 
 Times are of whole commands, each the best of many runs that take turns in one go; only their ratio is worth anything on another
-machine. What isn't installed is left out, and the page says so: sqlite3, git, openssl, strace, valgrind and a C compiler.
+machine. What isn't installed is left out, and the page says so: sqlite3, git, openssl, strace, valgrind, a C compiler and Python's `lmdb`.
 """
 
 import os

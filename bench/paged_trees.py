@@ -85,6 +85,8 @@ def inserted(count, runs, folder):
     if lmdb:
         bytes_each = written_by_lmdb(numbers) / count
         text.append(f"LMDB writes {bytes_each:,.0f} bytes for each of the same keys in a transaction of its own, or {bytes_each / PAGE:.2f} pages.")
+    else:
+        text.append("LMDB wasn't measured: Python has no module `lmdb`.")
     if shutil.which("valgrind"):
         total, _, inside, blocks = counted([str(PROGRAM)], folder, inserts)
         text.append(f"Of {total:,} instructions {inside:,} are inside the compression function of SHA-256, for {blocks:,} blocks.")
