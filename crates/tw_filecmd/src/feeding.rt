@@ -8,8 +8,8 @@ ghost use Rattle.tw_filecmd.specs.Feeding.{IsFedFar, IsFedFront};
 
 use std::alloc::Global;
 use tw_base::{NoMemory, Sha, Thread};
-use tw_verifier::Verifier;
 use tw_outside::{InputFault, Inputs, PIECE};
+use tw_verifier::Verifier;
 
 /// A verifier under these anchors that was fed the named file: all of it, or a front at which no proof
 /// goes on. Nothing is read behind the piece of `PIECE` bytes in which the first bad byte stands.

@@ -17,9 +17,9 @@ loop-file-preserved g c =
     let more : take (c.loop-file.file-index + 1) c.args.files.now ≡ take c.loop-file.file-index c.args.files.now ++ file ∷ [] =
     grind (arith, common_steps, take_more) in
     let next : AreRead now (take c.loop-file.file-index c.args.files.now) c.loop-file.parts.proofs c.loop-file.parts.bad
-        → AreRead now (take (c.loop-file.file-index + 1) c.args.files.now) c.add.new.self.proofs c.add.new.self.bad =
+    → AreRead now (take (c.loop-file.file-index + 1) c.args.files.now) c.add.new.self.proofs c.add.new.self.bad =
     λ are. subst (λ fs. AreRead now fs c.add.new.self.proofs c.add.new.self.bad) (sym more)
-        (c.in_ok-add.ensures now (take c.loop-file.file-index c.args.files.now) there read are) in
+    (c.in_ok-add.ensures now (take c.loop-file.file-index c.args.files.now) there read are) in
     record {
       kept = c.in_ok-bytes.ensures.kept ∙ c.loop-file.invariant.kept;
       same_names = λ other. (
@@ -28,7 +28,7 @@ loop-file-preserved g c =
       );
       later = omega (arith, c.in_ok-bytes.ensures.later, c.loop-file.invariant.later);
       read =
-      subst (λ t. AreRead t (take c.loop-file.file-index c.args.files.now) c.loop-file.parts.proofs c.loop-file.parts.bad
+          subst (λ t. AreRead t (take c.loop-file.file-index c.args.files.now) c.loop-file.parts.proofs c.loop-file.parts.bad
           → AreRead t (take (c.loop-file.file-index + 1) c.args.files.now) c.add.new.self.proofs c.add.new.self.bad)
-      c.loop-file.invariant.kept next c.loop-file.invariant.read;
+          c.loop-file.invariant.kept next c.loop-file.invariant.read;
     }
