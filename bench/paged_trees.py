@@ -2,10 +2,10 @@
 beside what LMDB writes for the same keys, where Python has the module `lmdb`."""
 
 import random
+import resource
 import shutil
 import subprocess
 import tempfile
-import time
 from pathlib import Path
 
 from instructions import counted
@@ -30,12 +30,17 @@ def asked(command, numbers):
 
 
 def seconds(text, runs):
-    """The best time of runs on these lines."""
+    """The least processor time of runs on these lines."""
+
+    def spent():
+        usage = resource.getrusage(resource.RUSAGE_CHILDREN)
+        return usage.ru_utime + usage.ru_stime
+
     best = float("inf")
     for _ in range(runs):
-        begun = time.perf_counter()
+        before = spent()
         subprocess.run([PROGRAM], input=text, check=True, stdout=subprocess.DEVNULL)
-        best = min(best, time.perf_counter() - begun)
+        best = min(best, spent() - before)
     return best
 
 
@@ -80,17 +85,29 @@ def inserted(count, runs, folder):
     hashed = seconds(inserts + b"pages\n", runs) - took
     text = [
         f"{count:,} inserts into an archive's tree in pages in memory, of entries drawn by chance, stage {sum(staged):,} pages, {sum(staged) / count:.2f} each",
-        f"and at most {max(staged)}. They take {took / count * 1e6:.1f} microseconds each, and the SHA-256 of the bytes of these pages, by the same code, {hashed / count * 1e6:.1f}.",
+        f"and at most {max(staged)}. They take {took / count * 1e6:.1f} microseconds of processor time each. The SHA-256 of the bytes of these pages, by the same",
+        f"code, takes {hashed / count * 1e6:.1f} for each insert.",
     ]
     if lmdb:
         bytes_each = written_by_lmdb(numbers) / count
         text.append(f"LMDB writes {bytes_each:,.0f} bytes for each of the same keys in a transaction of its own, or {bytes_each / PAGE:.2f} pages.")
     else:
         text.append("LMDB wasn't measured: Python has no module `lmdb`.")
-    if shutil.which("valgrind"):
-        total, _, inside, blocks = counted([str(PROGRAM)], folder, inserts)
-        text.append(f"Of {total:,} instructions {inside:,} are inside the compression function of SHA-256, for {blocks:,} blocks.")
-    return text
+    return text + instruction_lines(inserts, PAGE // 64 * sum(staged), folder)
+
+
+def instruction_lines(inserts, page_blocks, folder):
+    """The table of their instructions, beside those that the SHA-256 of so many blocks takes."""
+    if not shutil.which("valgrind"):
+        return []
+    total, _, inside, blocks = counted([str(PROGRAM)], folder, inserts)
+    alone = inside * page_blocks // blocks
+    return [
+        "", "| these inserts | instructions | ratio to the hashes of the pages |", "|---|---|---|",
+        f"| SHA-256 of the pages' bytes alone, {page_blocks:,} blocks at what one takes below | {alone:,} | 1.00 |",
+        f"| inside the compression function of SHA-256, for the labels, {blocks:,} blocks | {inside:,} | {inside / alone:.2f} |",
+        f"| in all | {total:,} | {total / alone:.2f} |", "",
+    ]
 
 
 def found(count, runs):
@@ -98,11 +115,11 @@ def found(count, runs):
     numbers = drawn(count)
     inserts = asked("insert", numbers)
     took = seconds(inserts + asked("get", numbers), runs) - seconds(inserts, runs)
-    return f"A `get` in a tree of {count:,} entries takes {took / count * 1e6:.1f} microseconds and reads {pages_read(numbers):.2f} pages."
+    return f"A `get` in a tree of {count:,} entries takes {took / count * 1e6:.1f} microseconds of processor time and reads {pages_read(numbers):.2f} pages."
 
 
 def tree_lines(plan, folder):
     """What inserts and gets cost, where the program is built."""
     if not PROGRAM.exists():
         return ["", "Trees in pages weren't measured: `tree_pages` isn't built."]
-    return ["", *inserted(plan.inserts, plan.shows, folder), found(plan.found, min(plan.shows, 3))]
+    return ["", "**An archive's tree in pages**", "", *inserted(plan.inserts, plan.shows, folder), found(plan.found, min(plan.shows, 3))]
