@@ -1,6 +1,7 @@
 # What is done with Timeweave. It needs the command `rt` of the Rattle kit, Python 3 and make.
 
 PROGRAM = crates/timeweave/out/timeweave
+TREES = crates/tree_pages/out/tree_pages
 PREFIX ?= /usr/local
 
 # The least proof, the authenticator that it is accepted under, and another one.
@@ -32,12 +33,16 @@ demo: build
 test:
 	.ci/run
 
-# The acceptance run over the built program, which is built where it isn't there; after an edit, `make build` first.
-check: | $(PROGRAM)
+# The acceptance run over the built program and the one of trees in pages, which are built where they aren't there; after an edit,
+# `make build` first.
+check: | $(PROGRAM) $(TREES)
 	python3 tests/acceptance/run.py $(PROGRAM)
 
 $(PROGRAM):
 	$(MAKE) build
+
+$(TREES):
+	cd crates/tree_pages && rt run < stdin
 
 # Tries all that a loss of power may leave of a store on the built program, of which `make check` tries some.
 crash: | $(PROGRAM)
@@ -48,7 +53,7 @@ wrong-bodies:
 	python3 tools/wrong_bodies.py
 
 # Measures the built program beside other programs, prints what it found, and writes bench/RESULTS.md and its picture.
-bench: | $(PROGRAM)
+bench: | $(PROGRAM) $(TREES)
 	python3 bench/measure.py $(PROGRAM)
 
 # Copies the built program, its manual page and the completion of its words in bash.

@@ -9,21 +9,21 @@ COMPRESS = "sha2::block256::compress"
 HEADINGS = {"fn": "function", "ob": "object", "cfn": "called"}
 
 
-def profile(words, folder):
-    """The lines of callgrind's profile of a run."""
+def profile(words, folder, text):
+    """The lines of callgrind's profile of a run on this input."""
     out = f"{folder}/callgrind"
     command = ["valgrind", "--tool=callgrind", "--compress-strings=no", "--compress-pos=no", f"--callgrind-out-file={out}"]
-    subprocess.run([*command, *words], check=True, capture_output=True)
+    subprocess.run([*command, *words], input=text, check=True, capture_output=True)
     return Path(out).read_text().splitlines()
 
 
-def counted(words, folder):
-    """The instructions of a run: of all, of the program's own code without the loader and the C library, inside the
+def counted(words, folder, text=b""):
+    """The instructions of a run on this input: of all, of the program's own code without the loader and the C library, inside the
     compression function of SHA-256, and how often that was called."""
     total = own = inside = calls = 0
     at = dict.fromkeys(HEADINGS.values(), "")
     is_call_cost = False
-    for line in profile(words, folder):
+    for line in profile(words, folder, text):
         key, _, value = line.partition("=")
         if key in HEADINGS:
             at[HEADINGS[key]] = value

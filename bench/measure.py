@@ -4,7 +4,7 @@
     python3 bench/measure.py PROGRAM --try FOLDER       a few runs on small stores, to try the script; writes into the folder
 
 Times are of whole commands, each the best of many runs that take turns in one go; only their ratio is worth anything on another
-machine. What isn't installed is left out, and the page says so: sqlite3, git, openssl, strace, valgrind and a C compiler.
+machine. What isn't installed is left out, and the page says so: sqlite3, git, openssl, strace, valgrind, a C compiler and Python's `lmdb`.
 """
 
 import os
@@ -22,6 +22,7 @@ import calls  # noqa: E402
 import proofs  # noqa: E402
 import reference  # noqa: E402
 from instructions import counted  # noqa: E402
+from paged_trees import tree_lines  # noqa: E402
 from picture import drawn  # noqa: E402
 from rivals import all_rivals  # noqa: E402
 from stores import Store, events_file  # noqa: E402
@@ -44,6 +45,8 @@ class Plan:
         self.compared = 1_000 if is_trial else 10_000
         self.histories = (1,) if is_trial else (1, 4, 16, 64)
         self.counted = self.histories[-1] if is_trial else 16
+        self.inserts = 1_000 if is_trial else 10_000
+        self.found = 1_000 if is_trial else 100_000
 
 
 class Kept:
@@ -241,6 +244,7 @@ def main():
     with tempfile.TemporaryDirectory() as folder:
         bench = Bench(program, folder, plan)
         text = introduction(plan) + comparisons(bench) + store_tables(bench) + shown_tables(bench) + instruction_table(bench)
+        text += tree_lines(plan, folder)
     result = "\n".join(text) + "\n"
     (target / "RESULTS.md").write_text(result)
     (target / "RESULTS.svg").write_text(drawn(result))

@@ -1,5 +1,5 @@
 -- A verifier that is fed a file, piece by piece.
-use Rattle.std.proofs.Common.{◌≡◌, ℕ, ◌+◌, ◌<◌, ◌≤◌, List, [], ◌++◌, length, take, drop, Bool, ap, sym, ◌∙◌, subst, refl, arith, inl, inr}
+use Rattle.std.proofs.Common.{◌≡◌, ℕ, ◌+◌, ◌≤◌, List, [], ◌++◌, length, take, drop, Bool, ap, sym, ◌∙◌, subst, refl, arith, inl, inr}
 use Rattle.std.specs.Prelude.{Option}
 use Rattle.std.proofs.lemmas.Bool.{cases_lt}
 use Rattle.std.proofs.lemmas.List.{length-append, length-take-le, take_all}
@@ -71,8 +71,8 @@ module _ (told : Option Files) (file : List ℕ) (anchors : List Thread) (strict
     fed_few unbroken = elim (cases_lt 4430818 count) [
       | inl more ↦
           absurd (
-            unbroken front.front front.fed front.unspent
-            (λ is. let few = front-size front.front is in omega (arith, few, front.size, more))
+          unbroken front.front front.fed front.unspent
+          (λ is. let few = front-size front.front is in omega (arith, few, front.size, more))
           )
       | inr few ↦ few
     ]

@@ -1,6 +1,6 @@
 -- What was read of the files of parts, file after file.
-use Rattle.std.proofs.Common.{◌≡◌, ℕ, ◌<◌, List, [], ◌∷◌, ◌++◌, length, take, drop, ap, ◌∙◌, refl, sym, subst, arith, inl, inr}
-use Rattle.std.specs.Prelude.{Option, Some, Ok, Err}
+use Rattle.std.proofs.Common.{◌≡◌, ℕ, List, [], ◌∷◌, ◌++◌, length, drop, ap, ◌∙◌, refl, sym, subst, arith, inl, inr}
+use Rattle.std.specs.Prelude.{Option, Some, None, Ok, Err, true, false, is_some}
 use Rattle.std.proofs.lemmas.Bool.{cases_lt}
 use Rattle.std.proofs.lemmas.List.{length-take-le, take-append-drop, take_all}
 use Rattle.tw_base.specs.Faults.{Rose}
@@ -18,8 +18,7 @@ use Rattle.tw_text.specs.declared.refusal.BadInput.{BadInput}
 use Rattle.tw_text.specs.declared.refusal.BadInput.TheVariants.{BadByte, BadLine, Unsound}
 use Rattle.tw_chain.specs.declared.proof.Proof.{Proof}
 use Rattle.tw_chain.specs.declared.proof.Proof.TheVariants.{Precedes}
-use Rattle.tw_join.specs.Joining.{Joins, joined}
-use Rattle.tw_join.specs.Joining.Taken.{Nothing}
+use Rattle.tw_join.specs.Joining.{Joins}
 use Rattle.tw_chain.specs.Proofs.{proof_bytes, proof_layout}
 use Rattle.tw_join.proofs.JoinedSpelling.{joined-spelled}
 use Rattle.tw_chain.proofs.ProofSizes.{proof-size}
@@ -77,6 +76,28 @@ module _ (told : Option Files) where
             subst (λ b. SpellsNothing proof_layout b × IsPlace proof_layout b place) (read bytes tells ∙ take_all file_limit bytes fits) (nothing, is)
       ];
     }
+
+  -- one file more, behind one that holds no proof
+  pub read-told : (files : List (List ℕ)) (parts : List Proof) (bad : Option BadInput) (file : List ℕ) → is_some bad ≡ true → IsThere told file
+      → AreRead told files parts bad → AreRead told (files ++ file ∷ []) parts bad
+  read-told files parts None file is there are = cc
+  read-told files parts (Some (BadByte named place)) file is there are = bad-more files file named place are there
+  read-told files parts (Some (BadLine named number)) file is there are = absurd are
+  read-told files parts (Some (Unsound named step rule)) file is there are = absurd are
+
+  -- one that holds a proof, behind others that do
+  pub read-proof : (files : List (List ℕ)) (parts : List Proof) (bad : Option BadInput) (file : List ℕ) (p : Proof) → is_some bad ≡ false
+      → IsProofOf told file p → AreRead told files parts bad → AreRead told (files ++ file ∷ []) (parts ++ p ∷ []) bad
+  read-proof files parts None file p is holds are = proofs-snoc files parts file p are holds
+  read-proof files parts (Some bad) file p is holds are = cc
+
+  -- the first that holds none
+  pub read-none : (files : List (List ℕ)) (parts : List Proof) (bad : Option BadInput) (file : List ℕ) (place : ℕ) (came : BadInput)
+      → is_some bad ≡ false → IsNoProof told file place → came ≡ BadByte file place → AreRead told files parts bad
+      → AreRead told (files ++ file ∷ []) parts (Some came)
+  read-none files parts None file place came is none told_as are =
+      subst (λ (b : BadInput). AreRead told (files ++ file ∷ []) parts (Some b)) (sym told_as) (bad-snoc files parts file place are none)
+  read-none files parts (Some bad) file place came is none told_as are = cc
 
 -- ---- from the files to what joining them comes to
 

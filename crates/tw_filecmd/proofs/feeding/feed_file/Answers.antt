@@ -1,8 +1,6 @@
-use Rattle.std.proofs.Common.{◌≡◌, ◌∙◌, ◌+◌, ◌≤◌, ℕ, Ok, List, length, ap, subst, sym, arith}
-use Rattle.std.proofs.lemmas.Grind.{common_steps}
+use Rattle.std.proofs.Common.{◌∙◌, ◌+◌, ◌≤◌, ℕ, Ok, List, length, ap, subst, sym, arith}
 use Rattle.std.specs.Prelude.{IsTrue}
 use Rattle.tw_outside.specs.Files.{Tells}
-use Rattle.tw_filecmd.specs.Feeding.{IsFedFront}
 use Rattle.tw_filecmd.proofs.FedPieces.{fed_all, fed_broken, fed_few, fed_told}
 use Rattle.tw_filecmd.proofs.feeding.feed_file.Goals as goal
 use Rattle.tw_filecmd.proofs.feeding.feed_file.Goals.{then-came-eq0-via-then-came-eq0, then-came-eq0-via-else-came-eq0+then-broken}
@@ -18,9 +16,9 @@ returns-then-came-eq0-clause-fed g c =
       | then-came-eq0-via-then-came-eq0 w ↦
           let none : (bytes : List ℕ) → Tells told c.args.proof.now bytes → length bytes ≤ c.loop-verifier.at + c.in_ok-came.came =
           λ bytes tells.
-              let end = c.in_ok-came.ensures.end (ap Ok w.if-came-eq0.true) bytes
-              (subst (λ t. Tells t c.args.proof.now bytes) (sym c.loop-verifier.invariant.kept) tells) in
-              omega (arith, end) in
+          let end = c.in_ok-came.ensures.end (ap Ok w.if-came-eq0.true) bytes
+          (subst (λ t. Tells t c.args.proof.now bytes) (sym c.loop-verifier.invariant.kept) tells) in
+          omega (arith, end) in
           fed_all told c.args.proof.now c.args.anchors.now c.args.strict c.feed_piece.new.verifier _ front none
       | then-came-eq0-via-else-came-eq0+then-broken w ↦
           fed_broken told c.args.proof.now c.args.anchors.now c.args.strict c.feed_piece.new.verifier _ front
@@ -42,8 +40,8 @@ loop-verifier-preserved g c =
       );
       later = omega (arith, c.in_ok-came.ensures.later, c.loop-verifier.invariant.later);
       few =
-      fed_few told c.args.proof.now c.args.anchors.now c.args.strict c.feed_piece.new.verifier _ front
-      (λ pieces fed unspent isnt.
+          fed_few told c.args.proof.now c.args.anchors.now c.args.strict c.feed_piece.new.verifier _ front
+          (λ pieces fed unspent isnt.
           let is : IsTrue c.broken.result =
           (c.broken.ensures.exact c.args.anchors.now c.args.strict pieces fed unspent).1 isnt in
           cc);

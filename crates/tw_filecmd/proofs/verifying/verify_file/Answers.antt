@@ -12,10 +12,10 @@ returns-in-Ok g c =
     let after = g.I.Inputs.faults c.judge.new.inputs in
     judges_file (asked told before after) c.args.proof.now c.args.anchors.now c.as_slice-in-Ok.result.now c.args.strict c.judge.result
     (has_anchors told c.args.anchors.now c.as_slice-in-Ok.result.now c.as_slice.result.now c.in_ok-lines.ensures.there
-        (λ bytes tells. c.as_slice.ensures.value ∙ c.in_ok-lines.ensures.read bytes tells)
-        (c.as_slice-in-Ok.ensures ∙ c.in-Ok.ensures.anchors) c.in-Ok.ensures.good)
+    (λ bytes tells. c.as_slice.ensures.value ∙ c.in_ok-lines.ensures.read bytes tells)
+    (c.as_slice-in-Ok.ensures ∙ c.in-Ok.ensures.anchors) c.in-Ok.ensures.good)
     (judging_since told (g.I.Inputs.told c.read_all.new.inputs) before begun after c.args.proof.now c.as_slice-in-Ok.result.now c.args.strict
-        c.judge.result c.in_ok-lines.ensures.kept c.in_ok-lines.ensures.later c.judge.ensures)
+    c.judge.result c.in_ok-lines.ensures.kept c.in_ok-lines.ensures.later c.judge.ensures)
 
 pub returns-in-Err-BadLine : goal.returns-in-Err-BadLine
 returns-in-Err-BadLine g c =

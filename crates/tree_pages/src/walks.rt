@@ -1,0 +1,53 @@
+// The entries of a version as they are found.
+
+use crate::entries::{SERVICES, key};
+use crate::stop::Stop;
+use crate::versions::Versions;
+use std::alloc::Global;
+use tw_base::{Entries, Entry, Sha, entry_key};
+use tw_disk::MemPages;
+use tw_rbtree::{after, before, get};
+
+/// The entries from the least one up.
+pub fn from_least(alloc: Global, versions: &mut Versions) -> Result<Entries, Stop> {
+    let mut entries = Entries::new(alloc);
+    let mut last = key(0, 0).ok_or(Stop::BadLine)?;
+    for _ in 0..u64::MAX {
+        match after::<MemPages, Sha>(&mut versions.pages, &versions.now.root, &last)? {
+            None => break,
+            Some(entry) => {
+                entries.push(entry)?;
+                last = entry_key(&entry);
+            }
+        }
+    }
+    Ok(entries)
+}
+
+/// The entries from the greatest one down.
+pub fn from_greatest(alloc: Global, versions: &mut Versions) -> Result<Entries, Stop> {
+    let mut entries = Entries::new(alloc);
+    let mut last = key(SERVICES - 1, u64::MAX).ok_or(Stop::BadLine)?;
+    for _ in 0..u64::MAX {
+        match before::<MemPages, Sha>(&mut versions.pages, &versions.now.root, &last)? {
+            None => break,
+            Some(entry) => {
+                entries.push(entry)?;
+                last = entry_key(&entry);
+            }
+        }
+    }
+    Ok(entries)
+}
+
+/// Those that are found by the keys of these entries.
+pub fn by_key(alloc: Global, versions: &mut Versions, entries: &[Entry]) -> Result<Entries, Stop> {
+    let mut found = Entries::new(alloc);
+    for entry in entries {
+        let key = entry_key(entry);
+        if let Some(entry) = get::<MemPages, Sha>(&mut versions.pages, &versions.now.root, &key)? {
+            found.push(entry)?;
+        }
+    }
+    Ok(found)
+}
