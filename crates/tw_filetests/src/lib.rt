@@ -4,8 +4,6 @@
 #[cfg(test)]
 mod anchors;
 #[cfg(test)]
-mod chains;
-#[cfg(test)]
 mod event_files;
 #[cfg(test)]
 mod events;
@@ -29,8 +27,6 @@ mod reading;
 mod tree_proofs;
 #[cfg(test)]
 mod trees;
-#[cfg(test)]
-mod verdicts;
 #[cfg(test)]
 mod words;
 #[cfg(test)]
