@@ -5,9 +5,12 @@ parts that fit and that don't.
 What the program is to say is what chains.verdict and chains.joined say.
 """
 
+import os
 import random
+import subprocess
 from functools import cache
 from itertools import combinations, product
+from pathlib import Path
 
 import large
 from chains import MOST_HOPS, Way, joined, least_way, verdict
@@ -15,6 +18,9 @@ from histories import History, event_text, reshaping
 from large import deep_way
 from proofs import absent_proof, link_bytes, link_proof
 from reference import LAST_STEP, be, listed, path_bytes
+from steps import Wrong
+from steps import case as one_case
+from tracing import needs
 
 
 def flipped(data, place):
@@ -473,7 +479,25 @@ def groups():
     yield from (carried_by_a_bind_of_0, swapped_hops, most_hops, large_archives, good_parts, parts_that_do_not_fit, unreadable_parts)
 
 
+def in_pieces(room):
+    """the least proof, and with a byte more, read in pieces of each length from one byte on: one verdict"""
+    compiler, shim = needs("cc", "gcc"), str(room.folder / "short_count.so")
+    subprocess.run([compiler, "-shared", "-fPIC", "-O1", "-o", shim, Path(__file__).parent / "short_count.c"], check=True, timeout=60)
+    case = judged("", least_way().bytes(), least_way().anchors())
+    for name, data in (*case["files"].items(), ("q", case["files"]["p"] + b"\0")):
+        room.put(name, data)
+    whole = room.run("verify", "p", "k")[:2], room.run("verify", "q", "k")[:2]
+    if whole != ((0, case["stdout"].encode()), (1, b"rejected 1 Malformed 533\n")):
+        raise Wrong(f"  in one piece: {whole}")
+    for most in range(1, 535):
+        env = {**os.environ, "LD_PRELOAD": shim, "SHORT_MOST": str(most)}
+        found = tuple(room.run("verify", name, "k", env=env)[:2] for name in "pq")
+        if found != whole:
+            raise Wrong(f"  in pieces of {most} bytes: {found}")
+
+
 def cases():
+    yield one_case(in_pieces, "precedence")
     for group in groups():
         for case in group():
             yield {**case, "name": f"{group.__name__}: {case['name']}"}
