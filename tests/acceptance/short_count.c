@@ -1,5 +1,5 @@
 /* Preloaded, makes one call of the program a short one: the call named by SHORT_CALL, the SHORT_WHEN-th of that name, is
-   asked for half of its bytes. With SHORT_MOST each read at a place is asked for at most so many. */
+   asked for half of its bytes. With SHORT_MOST each read is asked for at most so many. */
 #define _GNU_SOURCE
 #include <dlfcn.h>
 #include <stdlib.h>
@@ -10,7 +10,7 @@ static size_t count_of(const char *name, size_t count)
 {
     static int made;
     const char *wanted = getenv("SHORT_CALL"), *when = getenv("SHORT_WHEN"), *most = getenv("SHORT_MOST");
-    if (most && !strncmp(name, "pread", 5) && count > (size_t)atoi(most))
+    if (most && strstr(name, "read") && count > (size_t)atoi(most))
         return atoi(most);
     if (!wanted || !when || strcmp(wanted, name) || ++made != atoi(when) || count < 2)
         return count;
