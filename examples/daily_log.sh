@@ -46,13 +46,14 @@ failed() {
     exit "$status"
 }
 
-# Makes a file anew of others, which may be itself: at each moment it is the old one or the new one, whole.
+# Makes a file anew of others, which may be itself: at each moment it is the old one or the new one, whole, after a loss of power too.
 renew() {
     file=$1
     shift
     cat "$@" > "$file.new"
     sync "$file.new"
     mv "$file.new" "$file"
+    sync "$service/.."
 }
 
 # Reads from the store the line of its last step into `last`: of pages 2 and 3 that of the one which has this step (docs/formats.md, "The
@@ -174,6 +175,9 @@ if [ -e "$service.pending" ]; then
     fi
 fi
 if ! cmp -s "$work/last" "$service.anchor"; then
+    if [ -n "$held" ] && [ "$last" -gt "$held" ]; then
+        echo "daily_log.sh: no run of this script added step $last; its entries aren't kept" >&2
+    fi
     check "$service.entries" "$work/last"
     grep -q "^$name $last " "$service.lines" || renew "$service.lines" "$service.lines" "$work/last"
     renew "$service.anchor" "$work/last"
