@@ -7,7 +7,7 @@ The cases stand in cases/*.json, those that are counted off in generated.py, tho
 those of proofs that an event precedes another and of joining in precedence.py,
 those of services in steps.py, pages.py and failing.py, those of an archive's tree in pages in tree_runs.py, which run a program of their
 own, those of the program's edge to the system in edges.py, of programs at one time in beside.py, and of lost power and failing system calls in power.py and faults.py; documents.py and cited.py check the documents,
-installed.py what `make install` copies, shown.py the examples to copy, and sources.py the sources.
+installed.py what `make install` copies, shown.py, entries.py and daily.py the examples to copy, and sources.py the sources.
 A case has
 
     name       what it shows
@@ -39,8 +39,10 @@ from pathlib import Path
 import archives
 import beside
 import cited
+import daily
 import documents
 import edges
+import entries
 import failing
 import faults
 import generated
@@ -170,6 +172,8 @@ def all_cases():
     yield from cited.cases()
     yield from installed.cases()
     yield from shown.cases()
+    yield from entries.cases()
+    yield from daily.cases()
     yield from sources.cases()
 
 
@@ -189,7 +193,7 @@ def main():
     if sys.argv[1:] == ["--texts"]:
         cases = [*documents.without_program(), *cited.cases(), *sources.cases()]
         return told(cases, [difference(None, case) for case in cases])
-    program = os.path.abspath(sys.argv[1] if len(sys.argv) > 1 else TOP / "crates/timeweave/out/timeweave")
+    program = os.path.abspath(sys.argv[1] if len(sys.argv) > 1 else TOP / "bin/timeweave")
     if not os.access(program, os.X_OK):
         print(f"{program} isn't there: `make build` builds it")
         print("0 passed, 1 failed")
