@@ -189,7 +189,7 @@ def main():
     if sys.argv[1:] == ["--texts"]:
         cases = [*documents.without_program(), *cited.cases(), *sources.cases()]
         return told(cases, [difference(None, case) for case in cases])
-    program = os.path.abspath(sys.argv[1] if len(sys.argv) > 1 else TOP / "crates/timeweave/out/timeweave")
+    program = os.path.abspath(sys.argv[1] if len(sys.argv) > 1 else TOP / "bin/timeweave")
     if not os.access(program, os.X_OK):
         print(f"{program} isn't there: `make build` builds it")
         print("0 passed, 1 failed")
