@@ -2,11 +2,11 @@
 -- needs, and of the proof that was judged no part but the opening that shows the next hop.
 use Rattle.std.specs.Prelude.{ℕ, List, length, Bool, ◌&&◌, nat_lt, if◌then◌else◌}
 use Rattle.std.specs.Option.{option_map_or}
-use Rattle.tw_base.specs.declared.report.Reason.TheVariants.{Carried}
-use Rattle.tw_base.specs.declared.report.Report.{Report}
-use Rattle.tw_base.specs.declared.thread.Thread.{Thread}
-use Rattle.tw_base.specs.Formats.{Format, then_by}
-use Rattle.tw_base.specs.Formats.Format.{Done}
+use Rattle.tw_base.specs.declared.history.report.Reason.TheVariants.{Carried}
+use Rattle.tw_base.specs.declared.history.report.Report.{Report}
+use Rattle.tw_base.specs.declared.history.thread.Thread.{Thread}
+use Rattle.tw_base.specs.format.Formats.{Format, then_by}
+use Rattle.tw_base.specs.format.Formats.Format.{Done}
 use Rattle.tw_verifier.specs.declared.judgement.Judgement.{Judgement}
 use Rattle.tw_chain.specs.declared.proof.Proof.{Proof}
 use Rattle.tw_chain.specs.declared.verdict.Verdict.{Verdict}
