@@ -1,8 +1,12 @@
 # What is done with Timeweave. It needs the command `rt` of the Rattle kit, Python 3 and make.
 
-PROGRAM = crates/timeweave/out/timeweave
-TREES = crates/tree_pages/out/tree_pages
+# The copies of the built programs, which the gate doesn't touch.
+PROGRAM = bin/timeweave
+TREES = bin/tree_pages
 PREFIX ?= /usr/local
+
+# Names of crates, for `make wrong-bodies`; none stands for all.
+NAMES ?=
 
 # The least proof, the authenticator that it is accepted under, and another one.
 PROOF = crates/timeweave/data/p
@@ -11,11 +15,11 @@ OTHER = 0f9cc8f6baef592ed6bf90b106ebe7b882f59a1cc9803a6d1eef6974da5f87ed
 
 .PHONY: build demo test check crash wrong-bodies bench install
 
-# Builds the program, and runs it once. Only a proved program is built: the first build on a machine proves every crate
-# below it first, which takes long; later ones prove what changed.
+# Builds the program. Only a proved program is built: the first build on a machine proves every crate below it first, which takes
+# long; later ones prove what changed, and what is proved serves the gate too.
 build:
 	@echo "building: only a proved program is built; the first build on a machine proves all below it, and takes long"
-	cd crates/timeweave && rt run -- verify data/p a 1 $(AUTH)
+	python3 tools/build.py timeweave
 
 # Builds the program, and shows a proof accepted, the same proof rejected under another authenticator, two services that keep
 # their histories on disk, proofs from a history that recorded threads of other services, and one that an event of a service precedes
@@ -42,15 +46,16 @@ $(PROGRAM):
 	$(MAKE) build
 
 $(TREES):
-	cd crates/tree_pages && rt run < stdin
+	python3 tools/build.py tree_pages
 
 # Tries all that a loss of power may leave of a store on the built program, of which `make check` tries some.
 crash: | $(PROGRAM)
 	python3 tests/acceptance/power.py $(PROGRAM)
 
-# The wrong bodies that the gate leaves out, which tries those that tell most; over a copy of this tree.
+# The wrong bodies that the gate leaves out, which tries those that tell most; over a copy of this tree. `make wrong-bodies
+# NAMES="tw_base tw_disk"` tries those of these crates alone.
 wrong-bodies:
-	python3 tools/wrong_bodies.py
+	python3 tools/wrong_bodies.py $(NAMES)
 
 # Measures the built program beside other programs, prints what it found, and writes bench/RESULTS.md and its picture.
 bench: | $(PROGRAM) $(TREES)

@@ -238,7 +238,7 @@ def introduction(plan):
 
 def main():
     is_trial = "--try" in sys.argv
-    program = os.path.realpath(sys.argv[1] if len(sys.argv) > 1 else TOP / "crates/timeweave/out/timeweave")
+    program = os.path.realpath(sys.argv[1] if len(sys.argv) > 1 else TOP / "bin/timeweave")
     target = Path(sys.argv[3]) if is_trial else HERE
     plan = Plan(is_trial)
     with tempfile.TemporaryDirectory() as folder:
