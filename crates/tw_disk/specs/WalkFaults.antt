@@ -1,5 +1,5 @@
 -- What the faults of a walk over pages say, and want of memory alone.
-use Rattle.tw_base.specs.declared.failure.NoMemory.{NoMemory}
+use Rattle.tw_base.specs.declared.kinds.failure.NoMemory.{NoMemory}
 use Rattle.tw_disk.specs.declared.walk_fault.WalkFault.{WalkFault}
 use Rattle.tw_disk.specs.declared.walk_fault.WalkFault.TheVariants.{BadPage, DiskFault}
 use Rattle.tw_disk.specs.Answers.{FaultSort}

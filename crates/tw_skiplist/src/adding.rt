@@ -1,9 +1,9 @@
 // One more step.
 
 ghost use Rattle.std.specs.Prelude.{◌≡◌, ℕ, suc, ◌+◌, ◌<◌, ◌≤◌, ◌^◌, ◌++◌, ◌∷◌, [], length, IfOk};
-ghost use Rattle.tw_base.specs.Limits.{MayRecord};
-ghost use Rattle.tw_base.specs.Levels.{top_level as top_level_of};
-ghost use Rattle.tw_base.specs.Texts.{link_text};
+ghost use Rattle.tw_base.specs.history.Limits.{MayRecord};
+ghost use Rattle.tw_base.specs.kinds.Levels.{top_level as top_level_of};
+ghost use Rattle.tw_base.specs.kinds.Texts.{link_text};
 ghost use Rattle.tw_disk.specs.Answers.{AddsPages, ReadsPages};
 ghost use Rattle.tw_disk.specs.Found.Found.{Is};
 ghost use Rattle.tw_disk.specs.WalkFaults.{memory_alone, walk_faults};

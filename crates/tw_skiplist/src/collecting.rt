@@ -1,7 +1,7 @@
 // Collecting what a proof needs, on the way down.
 
 ghost use Rattle.std.specs.Prelude.{◌≡◌, ◌<◌, ◌≤◌, ◌^◌, length, IfOk};
-ghost use Rattle.tw_base.specs.Levels.{top_level};
+ghost use Rattle.tw_base.specs.kinds.Levels.{top_level};
 ghost use Rattle.tw_skipproof.specs.Paths.{HasShape};
 ghost use Rattle.tw_disk.specs.Answers.{ReadsPages};
 ghost use Rattle.tw_skiplist.specs.ListFaults.{list_faults};

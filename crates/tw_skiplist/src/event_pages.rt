@@ -4,7 +4,7 @@ ghost use Rattle.std.specs.Prelude.{◌≡◌, ℕ, ◌+◌, ◌*◌, ◌<◌, �
 ghost use Rattle.std.specs.Int.{from_be_bytes, w32};
 ghost use Rattle.tw_disk.specs.Answers.{ReadsPages};
 ghost use Rattle.tw_skiplist.specs.ListFaults.{list_faults};
-ghost use Rattle.tw_base.specs.Limits.{MayRecord};
+ghost use Rattle.tw_base.specs.history.Limits.{MayRecord};
 ghost use Rattle.tw_skiplist.specs.ScanSteps.{HasEventAt, IsNoEventAt};
 ghost use Rattle.tw_disk.specs.Found.Found.{Is, Bad};
 ghost use Rattle.tw_skiplist.specs.Events.{events_in, last_page, piece_behind, piece_count, pieces_below};

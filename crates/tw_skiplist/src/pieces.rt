@@ -2,13 +2,13 @@
 
 ghost use Rattle.std.specs.Prelude.{◌≡◌, ℕ, ◌+◌, ◌*◌, ◌<◌, ◌≤◌, ◌^◌, ◌++◌, List, length, IfOk, OnOk};
 ghost use Rattle.std.specs.Int.{to_be_bytes, w32};
-ghost use Rattle.tw_base.specs.Lists.{Each};
+ghost use Rattle.tw_base.specs.kinds.Lists.{Each};
 ghost use Rattle.tw_disk.specs.Answers.{AddsPages};
 ghost use Rattle.tw_disk.specs.Found.Found.{Is};
 ghost use Rattle.tw_disk.specs.WalkFaults.{memory_alone};
 ghost use Rattle.tw_skiplist.specs.Appended.{with_pieces};
 ghost use Rattle.tw_skiplist.specs.Events.{piece_count};
-ghost use Rattle.tw_base.specs.Limits.{MayRecord};
+ghost use Rattle.tw_base.specs.history.Limits.{MayRecord};
 ghost use Rattle.tw_skiplist.specs.StepBytes.{event_page_bytes, piece, stream};
 
 use crate::limits::{MOST_EVENT_PAGES, MOST_PIECE_BYTES, MOST_STREAM_BYTES};

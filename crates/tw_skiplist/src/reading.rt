@@ -1,7 +1,7 @@
 // Reading steps.
 
 ghost use Rattle.std.specs.Prelude.{◌≡◌, ℕ, ◌*◌, ◌<◌, ◌≤◌, ◌^◌, length, IfOk};
-ghost use Rattle.tw_base.specs.Limits.{MayRecord};
+ghost use Rattle.tw_base.specs.history.Limits.{MayRecord};
 ghost use Rattle.tw_disk.specs.Answers.{ReadsPages, ReadsWhere};
 ghost use Rattle.tw_skiplist.specs.ListFaults.{NoStepUnless, list_faults};
 ghost use Rattle.tw_skiplist.specs.Events.{events_of_info};

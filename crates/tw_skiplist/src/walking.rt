@@ -1,7 +1,7 @@
 // Walking down the links.
 
 ghost use Rattle.std.specs.Prelude.{◌≡◌, suc, ◌<◌, ◌≤◌, ◌^◌, length, IfOk};
-ghost use Rattle.tw_base.specs.Levels.{top_level};
+ghost use Rattle.tw_base.specs.kinds.Levels.{top_level};
 ghost use Rattle.tw_disk.specs.Answers.{ReadsPages};
 ghost use Rattle.tw_disk.specs.WalkFaults.{walk_faults};
 ghost use Rattle.tw_skiplist.specs.StepPages.{page_of_step};

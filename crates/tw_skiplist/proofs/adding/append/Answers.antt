@@ -1,6 +1,6 @@
 use Rattle.std.proofs.Common.{◌≡◌, ◌+◌, ℕ, List, length, ap, sym, ◌∙◌, refl, arith}
-use Rattle.tw_base.specs.EventTree.{event_root}
-use Rattle.tw_base.specs.Texts.{datum_text}
+use Rattle.tw_base.specs.events.EventTree.{event_root}
+use Rattle.tw_base.specs.kinds.Texts.{datum_text}
 use Rattle.tw_disk.specs.Found.Found.{Is}
 use Rattle.tw_disk.proofs.FoundLaws.{is_on}
 use Rattle.tw_disk.proofs.ReadingLaws.{adds_none, only_adds_on}
