@@ -1,80 +1,16 @@
--- Readings of pages one after another, and what a page spells.
-use Rattle.std.proofs.Common.{◌≡◌, ℕ, suc, zero, ◌+◌, ◌-◌, ◌<◌, ◌≤◌, List, [], ◌∷◌, ◌++◌, length, replicate, drop, refl, ap, sym, ◌∙◌, arith, subst, Result, Ok, Err, Bool, true, false, ◌⊎◌, inl, inr, Option}
-use Rattle.std.specs.Prelude.{nat_lt, ◌==◌, ◌&&◌}
-use Rattle.std.specs.Result.{IsErrAnd}
-use Rattle.std.proofs.lemmas.Bool.{and_parts, eqb-true, le-leb, lt-leb, lt-ltb, le-ltb}
+-- What the bytes of a page spell.
+use Rattle.std.proofs.Common.{◌≡◌, ℕ, suc, zero, ◌+◌, ◌-◌, List, [], ◌∷◌, ◌++◌, length, replicate, drop, refl, ap, sym, ◌∙◌, arith, subst, Result, Ok, Err, Bool, true, false}
+use Rattle.std.specs.Prelude.{◌==◌}
+use Rattle.std.proofs.lemmas.Bool.{and_parts, eqb-true}
 use Rattle.std.proofs.lemmas.List.{drop_at}
 use Rattle.tw_base.specs.format.Codecs.{Codec}
 use Rattle.tw_base.specs.format.Formats.{Placed}
+use Rattle.tw_base.specs.format.PageBytes.{IsPageOf}
 use Rattle.tw_base.proofs.lemmas.format.CodecLaws.{Lawful}
 use Rattle.tw_base.proofs.lemmas.format.FormatLaws.{read_at-spells, read_at-word}
-use Rattle.tw_disk.proofs.FoundLaws.{same_found}
-use Rattle.tw_disk.specs.Image.{Image, page_at}
-use Rattle.tw_base.specs.format.PageBytes.{IsPageOf}
-use Rattle.tw_skiplist.specs.declared.fault.ListFault.{ListFault}
-use Rattle.tw_skiplist.specs.declared.fault.ListFault.TheVariants.{BadPage}
-use Rattle.tw_skiplist.specs.declared.head.Head.{Head}
-use Rattle.tw_skiplist.specs.Appended.{Next}
-use Rattle.tw_skiplist.specs.Answers.{AnswersAs, AnswersNext, IsFaultOf}
-use Rattle.tw_disk.specs.Found.{Found, when, ◌>>=◌}
-use Rattle.tw_skiplist.specs.Found.{bytes_in, is_zeros, or_bad, spelled}
+use Rattle.tw_disk.specs.Found.{Found, is_zeros, or_bad, spelled, when}
 use Rattle.tw_disk.specs.Found.Found.{Is, Bad}
-use Rattle.tw_skiplist.specs.StepPages.{step_in, page_of_step}
-
--- ---- one reading after another
-
-module _ {X Y : Type 0} where
-  pub fault_on : (fault : ListFault) (one : Found X) (other : Found Y) → ((page : ℕ) → one ≡ Bad page → other ≡ Bad page) → IsFaultOf fault one → IsFaultOf fault other
-  fault_on (BadPage page) one other on is = on page is
-  fault_on _ one other on is = tt
-
-  -- a bad page ends the reading
-  pub bad_on : (fault : ListFault) (one : Found X) (next : X → Found Y) → IsFaultOf fault one → IsFaultOf fault (one >>= next)
-  bad_on fault one next = fault_on fault one (one >>= next) (λ page is. ap (λ (f : Found X). f >>= next) is)
-
-module _ {Y : Type 0} where
-  -- a fault that `?` passes on
-  pub passed : {T : Type 0} (view : T → Y) (r : Result T ListFault) (fault : ListFault) (found : Found Y) → IsErrAnd r (λ e. e ≡ fault) → IsFaultOf fault found → AnswersAs view r found
-  passed view (Ok _) fault found is has = absurd is
-  passed view (Err e) fault found is has = subst (λ (x : ListFault). IsFaultOf x found) (sym is) has
-
--- the same of one more step
-pub passed_next : (r : Result Head ListFault) (fault : ListFault) (now : Option Image) (found : Found Next) → IsErrAnd r (λ e. e ≡ fault) → IsFaultOf fault found → AnswersNext r now found
-passed_next (Ok _) fault now found is has = absurd is
-passed_next (Err e) fault now found is has = subst (λ (x : ListFault). IsFaultOf x found) (sym is) has
-
--- ---- the pages
-
-pub bytes_in-within : (ps : Image) (page : ℕ) → 4 ≤ page → page < 4 + length ps → bytes_in ps page ≡ Is (page_at ps (page - 4))
-unfolding bytes_in
-bytes_in-within ps page low below =
-    ap (λ (b : Bool). when (b && nat_lt page (4 + length ps)) page (page_at ps (page - 4))) (le-leb 4 page low)
-    ∙ ap (λ (b : Bool). when b page (page_at ps (page - 4))) (lt-ltb page (4 + length ps) below)
-
-pub bytes_in-low : (ps : Image) (page : ℕ) → page < 4 → bytes_in ps page ≡ Bad page
-unfolding bytes_in
-bytes_in-low ps page low = ap (λ (b : Bool). when (b && nat_lt page (4 + length ps)) page (page_at ps (page - 4))) (lt-leb 4 page low)
-
-pub bytes_in-past : (ps : Image) (page : ℕ) → 4 ≤ page → 4 + length ps ≤ page → bytes_in ps page ≡ Bad page
-unfolding bytes_in
-bytes_in-past ps page low past =
-    ap (λ (b : Bool). when (b && nat_lt page (4 + length ps)) page (page_at ps (page - 4))) (le-leb 4 page low)
-    ∙ ap (λ (b : Bool). when b page (page_at ps (page - 4))) (le-ltb page (4 + length ps) past)
-
-pub bytes_in-out : (ps : Image) (page : ℕ) → (page < 4) ⊎ (4 + length ps ≤ page) → bytes_in ps page ≡ Bad page
-bytes_in-out ps page (inl low) = bytes_in-low ps page low
-bytes_in-out ps page (inr past) = bytes_in-past ps page (omega (arith, past)) past
-
--- the page of a step
-pub step_page-out : (ps : Image) (page step : ℕ) → (page < 4) ⊎ (4 + length ps ≤ page) → page_of_step ps page step ≡ Bad page
-unfolding page_of_step
-step_page-out ps page step out = ap (λ (f : Found (List ℕ)). f >>= step_in page step) (bytes_in-out ps page out)
-
-pub step_page-in : (ps : Image) (page step : ℕ) (bytes : List ℕ) → 4 ≤ page → page < 4 + length ps → bytes ≡ page_at ps (page - 4) → page_of_step ps page step ≡ step_in page step bytes
-unfolding page_of_step
-step_page-in ps page step bytes low below is = ap (λ (f : Found (List ℕ)). f >>= step_in page step) (bytes_in-within ps page low below) ∙ ap (step_in page step) (sym is)
-
--- ---- what bytes spell
+use Rattle.tw_disk.proofs.FoundLaws.{same_found}
 
 zeros-true : (count : ℕ) (bytes : List ℕ) → bytes ≡ replicate count 0 → is_zeros count bytes ≡ true
 zeros-true count bytes is = ap (is_zeros count) is ∙ own count
