@@ -31,10 +31,6 @@ def short(digest):
 # ---- the crates
 
 
-# No chain of crates is longer, neither of those that stand nor with those to come.
-GREATEST_HEIGHT = 8
-
-
 def lines_of(path):
     """Each line of a list of crates: a name, and what it stands on."""
     pairs = [line.split(":") for line in (TOP / path).read_text().splitlines() if not line.startswith("#")]
@@ -54,12 +50,6 @@ def crates_to_come():
     for name, uses in lines_of("docs/crates_to_come.txt"):
         known[name.lstrip("+")] = known.get(name.lstrip("+"), []) + uses
     return known
-
-
-def too_high():
-    """The crates that stand higher than a chain may, with those to come."""
-    known = crates_to_come()
-    return [f"{name} stands at {height(name, known)}, with the crates to come" for name in known if height(name, known) > GREATEST_HEIGHT]
 
 
 def height(name, known):
@@ -321,14 +311,14 @@ def drawn(text):
 
 
 def differing():
-    """The documents of which a picture isn't as it is drawn, the pictures that stand in none, and the crates that stand too high."""
+    """The documents of which a picture isn't as it is drawn, and the pictures that stand in none."""
     wrong, left = [], set(PICTURES)
     for path in sorted((TOP / "docs").glob("*.md")):
         text = path.read_text()
         left -= set(re.findall(r"<!-- picture (\w+),", text))
         if drawn(text) != text:
             wrong.append(f"docs/{path.name}")
-    return wrong + [f"no document has the picture {name}" for name in sorted(left)] + too_high()
+    return wrong + [f"no document has the picture {name}" for name in sorted(left)]
 
 
 def main():

@@ -6,7 +6,7 @@ import re
 from declared import TOP, crates
 
 DOCUMENTS = [TOP / "README.md", *sorted((TOP / "docs").glob("*.md")), *sorted((TOP / "bench").glob("*.md"))]
-SOURCES = ("crates/*/src/**/*.rt", "crates/*/specs/**/*.antt", "crates/*/proofs/**/*.antt", "tests/acceptance/*.py", "tools/*.*", "bench/*.py")
+SOURCES = ("crates/*/src/**/*.rt", "crates/*/specs/**/*.antt", "crates/*/proofs/**/*.antt", "tests/acceptance/*.py", "tools/*.*", "bench/*.py", "docs/*.txt")
 CRATE = re.compile(r"`(tw_\w+|timeweave)\b")
 NAMES = r"(?:`\w+`(?:,\s|\sand\s)?)+"
 PATH = re.compile(r"(?<![\w/.$])(?:crates|tests|tools|specs|docs|bench|examples|proofs|src|must-fail|cases|tw_\w+)/[\w.*/-]*\w")

@@ -10,7 +10,7 @@ from pathlib import Path
 TOP = Path(__file__).resolve().parent.parent.parent
 sys.path.insert(0, str(TOP / "tools"))
 
-from pictures import crates, height  # noqa: E402
+from pictures import crates, crates_to_come, height  # noqa: E402
 
 LONGEST = 40
 
@@ -97,8 +97,8 @@ def crate_sizes(program):
 
 
 def heights(program):
-    """The crates at the end of a chain that is too long."""
-    known = crates()
+    """The crates at the end of a chain that is too long, with the crates that are to come."""
+    known = crates_to_come()
     wrong = {name: height(name, known) for name in known if height(name, known) > MOST_HEIGHT}
     return "\n".join(f"  {name} stands at {at}, at most {MOST_HEIGHT} is allowed" for name, at in wrong.items()) or None
 
