@@ -7,6 +7,7 @@ pub mod SoundEvents
 pub mod Times
 pub mod Auths
 pub mod ArchiveTexts
+pub mod TextBytes
 pub mod Families
 pub mod Plus
 pub mod Leads
