@@ -1,6 +1,7 @@
 -- Lemmas about histories, archives, trees and authenticators.
 pub mod Keys
 pub mod KeyTests
+pub mod AskedLists
 pub mod Trees
 pub mod Archives
 pub mod SoundEvents
