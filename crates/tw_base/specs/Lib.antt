@@ -6,6 +6,7 @@ pub mod HasherSteps
 pub mod Digests
 pub mod Entries
 pub mod Asking
+pub mod WithLeaf
 pub mod Clash
 pub mod Lists
 pub mod EventTree

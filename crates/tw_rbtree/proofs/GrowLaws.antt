@@ -25,7 +25,7 @@ use Rattle.tw_rbnode.specs.Page.{IsNode, TreePage}
 use Rattle.tw_rbnode.specs.Trees.{woven}
 use Rattle.tw_rbnode.proofs.Rising.{Each-with}
 use Rattle.tw_rbnode.proofs.TreeLists.{page-list}
-use Rattle.tw_tree.proofs.Asked.{cut}
+use Rattle.tw_base.proofs.Asked.{cut}
 use Rattle.tw_treeproof.specs.Ways.{has_asked_key, is_left}
 use Rattle.tw_rbtree.specs.declared.fault.TreeFault.{TreeFault}
 use Rattle.tw_rbtree.specs.declared.fault.TreeFault.TheVariants.{BadPage, DiskFault, NoMemory, Present, Untrue}

@@ -20,7 +20,7 @@ use Rattle.tw_rbnode.specs.Page.{TreePage}
 use Rattle.tw_rbnode.specs.Shape.{Shape, Empty, Node, size}
 use Rattle.tw_rbnode.specs.Trees.{page_tree, tree_at}
 use Rattle.tw_rbnode.proofs.TreeLists.{get-some}
-use Rattle.tw_tree.proofs.Asked.{cut}
+use Rattle.tw_base.proofs.Asked.{cut}
 use Rattle.tw_rbtree.specs.declared.new_node.NewNode.{NewNode}
 use Rattle.tw_rbtree.specs.declared.new_node.Side.{Side}
 use Rattle.tw_rbtree.specs.declared.new_node.Side.TheVariants.{Empty as NoTree, New, Old}

@@ -17,8 +17,8 @@ use Rattle.tw_rbnode.specs.declared.child.Child.{Child}
 use Rattle.tw_rbnode.specs.Page.{TreePage}
 use Rattle.tw_rbnode.specs.Trees.{woven}
 use Rattle.tw_rbnode.proofs.TreeLists.{page-list}
-use Rattle.tw_tree.specs.Inserting.{with_leaf}
-use Rattle.tw_tree.proofs.Leaves.{has-leaf}
+use Rattle.tw_base.specs.WithLeaf.{with_leaf}
+use Rattle.tw_base.proofs.Leaves.{has-leaf}
 use Rattle.tw_rbtree.specs.declared.fault.TreeFault.{TreeFault}
 use Rattle.tw_rbtree.specs.declared.fault.TreeFault.TheVariants.{BadPage, DiskFault, NoMemory, Present, Untrue}
 use Rattle.tw_rbtree.specs.declared.inserting.Grown.TheVariants.{One, Two}

@@ -16,7 +16,7 @@ use Rattle.tw_disk.specs.Found.Found.{Is}
 use Rattle.tw_disk.specs.Image.{Image}
 use Rattle.tw_disk.proofs.FoundLaws.{is_on}
 use Rattle.tw_rbnode.specs.Trees.{page_tree}
-use Rattle.tw_tree.proofs.Asked.{or-none}
+use Rattle.tw_base.proofs.Asked.{or-none}
 use Rattle.tw_treeproof.specs.Making.{IsSo, place_of, proof_at, proof_of, way_up}
 use Rattle.tw_rbtree.specs.declared.seeking.Sought.{Sought}
 use Rattle.tw_rbtree.specs.Answers.{IsSoAt}

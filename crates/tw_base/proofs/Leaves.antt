@@ -10,8 +10,8 @@ use Rattle.tw_base.specs.Tree.{Tree, IsRising, entries}
 use Rattle.tw_base.specs.Tree.Tree.{Empty, Branch}
 use Rattle.tw_base.proofs.Keys.{KeyBelow-trans}
 use Rattle.tw_base.proofs.ListLemmas.{Each-map}
-use Rattle.tw_tree.specs.Inserting.{HasLeaf, with_leaf}
-use Rattle.tw_tree.proofs.Asked.{cut}
+use Rattle.tw_base.specs.WithLeaf.{HasLeaf, with_leaf}
+use Rattle.tw_base.proofs.Asked.{cut}
 use Rattle.tw_base.proofs.KeyTests.{NotBelow, below-lt, below-other, eq-above, lt-above, not_below}
 use Rattle.tw_base.proofs.KeyTests.NotBelow.{One, Over}
 
