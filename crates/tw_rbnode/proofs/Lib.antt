@@ -16,3 +16,4 @@ pub mod PageOnce
 pub mod TreeLists
 pub mod Deciding
 pub mod Told
+pub mod Tests
