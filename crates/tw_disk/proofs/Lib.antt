@@ -6,3 +6,4 @@ pub mod LooseLaws
 pub mod Unwinding
 pub mod ReadingLaws
 pub mod FoundLaws
+pub mod SpelledLaws
