@@ -1,5 +1,5 @@
 -- Whether the fields of bytes are a tree page's is decided by its test.
-use Rattle.std.proofs.Common.{◌≡◌, ℕ, suc, zero, ◌+◌, ◌<◌, ◌≤◌, List, [], ◌∷◌, length, Bool, true, false, refl, ap, sym, ◌∙◌, subst, arith, slice_get}
+use Rattle.std.proofs.Common.{◌≡◌, ℕ, suc, zero, ◌+◌, List, [], ◌∷◌, length, Bool, true, false, refl, ap, sym, ◌∙◌, subst, arith, slice_get}
 use Rattle.std.specs.Prelude.{Decides, ◌==◌, ◌&&◌, ◌||◌, bytes_eq, is_some, map, nat_lt, not, Option, Some, None, MatchOption, if◌then◌else◌}
 use Rattle.std.specs.Bool.{beq}
 use Rattle.std.specs.Cmp.Lexicographic.{pointwise}
@@ -19,12 +19,12 @@ use Rattle.tw_rbnode.specs.declared.child.Child.{Child}
 use Rattle.tw_rbnode.specs.declared.links.Link.{Link}
 use Rattle.tw_rbnode.specs.declared.slot.Slot.{Slot}
 use Rattle.tw_rbnode.specs.Children.{IsChildAt}
-use Rattle.tw_rbnode.specs.NodeBytes.{Held, LiesBelow, MayStand, fields_of, held_of, links_of, node_codec, slots_with}
-use Rattle.tw_rbnode.specs.Page.{IsNode, TreePage, tree_of}
+use Rattle.tw_rbnode.specs.NodeBytes.{Held, LiesBelow, MayStand, fields_of, links_of, node_codec, slots_with}
+use Rattle.tw_rbnode.specs.Page.{TreePage, tree_of}
 use Rattle.tw_rbnode.specs.Shape.{Shape, Empty, Node, IsEven, IsRedBlack, is_red, size}
 use Rattle.tw_rbnode.specs.Slots.{IsTree, link, slot_of}
 use Rattle.tw_rbnode.specs.Tests.{all_are, are_children, are_links_of, are_rising, height_in, height_over, is_child, is_link, is_red_black, may_stand, page_of}
-use Rattle.tw_rbnode.proofs.HeldPages.{Each-apart, Each-both, Fitting, map-each, map-size, node-fitting, slots-entries, slots-links, slots-whole}
+use Rattle.tw_rbnode.proofs.HeldPages.{Each-apart, Each-both, map-each, map-size, node-fitting, slots-entries, slots-links, slots-whole}
 use Rattle.tw_rbnode.proofs.Heights.{even_unique}
 use Rattle.tw_rbnode.proofs.LinkLists.{links-at, links-size}
 use Rattle.tw_rbnode.proofs.Pages.{tree_of_tree}
