@@ -3,11 +3,11 @@ use Rattle.std.proofs.Common.{◌≡◌, ℕ, suc, zero, ◌+◌, ◌-◌, List,
 use Rattle.std.specs.Prelude.{◌==◌}
 use Rattle.std.proofs.lemmas.Bool.{and_parts, eqb-true}
 use Rattle.std.proofs.lemmas.List.{drop_at}
-use Rattle.tw_base.specs.Codecs.{Codec}
-use Rattle.tw_base.specs.Formats.{Placed}
-use Rattle.tw_base.specs.PageBytes.{IsPageOf}
-use Rattle.tw_base.proofs.CodecLaws.{Lawful}
-use Rattle.tw_base.proofs.FormatLaws.{read_at-spells, read_at-word}
+use Rattle.tw_base.specs.format.Codecs.{Codec}
+use Rattle.tw_base.specs.format.Formats.{Placed}
+use Rattle.tw_base.specs.format.PageBytes.{IsPageOf}
+use Rattle.tw_base.proofs.lemmas.format.CodecLaws.{Lawful}
+use Rattle.tw_base.proofs.lemmas.format.FormatLaws.{read_at-spells, read_at-word}
 use Rattle.tw_disk.specs.Found.{Found, is_zeros, or_bad, spelled, when}
 use Rattle.tw_disk.specs.Found.Found.{Is, Bad}
 use Rattle.tw_disk.proofs.FoundLaws.{same_found}

@@ -1,6 +1,6 @@
 -- What calls answer that read pages or add some, for every type of faults.
 use Rattle.std.specs.Prelude.{◌≡◌, ℕ, ◌≤◌, Option, Some, Bool, true, false, Result, Ok, Err}
-use Rattle.tw_base.specs.Faults.{Rose}
+use Rattle.tw_base.specs.kinds.Faults.{Rose}
 use Rattle.tw_disk.specs.Found.{Found}
 use Rattle.tw_disk.specs.Found.Found.{Is, Bad}
 use Rattle.tw_disk.specs.Image.{Image}

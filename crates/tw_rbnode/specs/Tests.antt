@@ -3,9 +3,9 @@ use Rattle.std.specs.Prelude.{ℕ, suc, zero, ◌+◌, ◌==◌, ◌&&◌, ◌||
 use Rattle.std.specs.Bool.{beq}
 use Rattle.std.specs.Cmp.Lexicographic.{pointwise}
 use Rattle.std.specs.Ordering.{is_lt}
-use Rattle.tw_base.specs.declared.thread.Entry.{Entry}
-use Rattle.tw_base.specs.Entries.{key_cmp, key_of}
-use Rattle.tw_base.specs.Texts.{empty_tree_text}
+use Rattle.tw_base.specs.declared.history.thread.Entry.{Entry}
+use Rattle.tw_base.specs.history.Entries.{key_cmp, key_of}
+use Rattle.tw_base.specs.kinds.Texts.{empty_tree_text}
 use Rattle.tw_rbnode.specs.declared.child.Child.{Child}
 use Rattle.tw_rbnode.specs.declared.links.Link.{Link}
 use Rattle.tw_rbnode.specs.declared.slot.Slot.{Slot}

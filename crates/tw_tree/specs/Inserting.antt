@@ -1,10 +1,10 @@
 -- What putting an entry into a tree of the code gives.
 use Rattle.std.specs.Prelude.{◌≡◌, Some, Result, Ok, Err}
-use Rattle.tw_base.specs.declared.thread.Entry.{Entry}
-use Rattle.tw_base.specs.Asking.{entry_with}
-use Rattle.tw_base.specs.Entries.{key_of}
-use Rattle.tw_base.specs.Tree.{Tree as TreeOfEntries, entries}
-use Rattle.tw_base.specs.WithLeaf.{HasLeaf}
+use Rattle.tw_base.specs.declared.history.thread.Entry.{Entry}
+use Rattle.tw_base.specs.history.Asking.{entry_with}
+use Rattle.tw_base.specs.history.Entries.{key_of}
+use Rattle.tw_base.specs.history.Tree.{Tree as TreeOfEntries, entries}
+use Rattle.tw_base.specs.history.WithLeaf.{HasLeaf}
 use Rattle.tw_tree.specs.declared.inserting.InsertFault.{InsertFault}
 use Rattle.tw_tree.specs.declared.inserting.InsertFault.TheVariants.{Present, NoMemory}
 use Rattle.tw_tree.specs.declared.tree.Tree.{Tree}

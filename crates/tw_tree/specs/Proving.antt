@@ -1,8 +1,8 @@
 -- What making a proof over a tree of the code gives.
 use Rattle.std.specs.Prelude.{◌≡◌, List, Result, Ok, Err, ℕ}
-use Rattle.tw_base.specs.declared.tree_proof.Ask.{Ask}
-use Rattle.tw_base.specs.declared.tree_proof.TreeProof.{TreeProof}
-use Rattle.tw_base.specs.Tree.{Tree, entries}
+use Rattle.tw_base.specs.declared.history.tree_proof.Ask.{Ask}
+use Rattle.tw_base.specs.declared.history.tree_proof.TreeProof.{TreeProof}
+use Rattle.tw_base.specs.history.Tree.{Tree, entries}
 use Rattle.tw_tree.specs.declared.proving.ProveFault.{ProveFault}
 use Rattle.tw_tree.specs.declared.proving.ProveFault.TheVariants.{Untrue, NoMemory}
 use Rattle.tw_treeproof.specs.Making.{IsSo, proof_of}
