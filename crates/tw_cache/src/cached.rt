@@ -1,5 +1,5 @@
 // Pages of which some are kept in memory.
-ghost use Rattle.std.specs.Prelude.{◌≡◌, [], IfOk, IfErr};
+ghost use Rattle.std.specs.Prelude.{◌≡◌, [], ℕ, IfOk, IfErr};
 ghost use Rattle.std.specs.Borrow.{sem};
 ghost use Rattle.std.proofs.Props.{props};
 ghost use Rattle.tw_cache.specs.Keeping.{AreOf};
@@ -14,8 +14,8 @@ use tw_disk::Pages;
 // How many pages are kept at most.
 const MOST_KEPT: usize = 64;
 
-/// The memory in which pages are kept, with none of them yet: what of it may be wanting is taken when it is made, so that pages can be
-/// put over it at any time later.
+/// Room for pages that are kept, with none of them yet. What a `Cached` can't do without is taken when the room is made, so that one is
+/// made over it later whatever memory there is; each page that is kept then takes memory of its own, where there is some.
 #[derive(Drop)]
 pub struct Room {
     kept: LruCache<u64, Box<Page>>,
@@ -43,7 +43,7 @@ pub struct Cached<P: Pages> {
 }
 
 impl<P: Pages> Cached<P> {
-    ghost use Rattle.tw_cache.specs.Cached.{inner_of, LendsInner};
+    ghost use Rattle.tw_cache.specs.Cached.{inner_of, Keeps, LendsInner};
 
     /// Keeps none of the pages yet. `NoMemory`, with the pages, where there is none for what it keeps beside them.
     pub fn new(alloc: Global, pages: P) -> Result<Cached<P>, (P, NoMemory)>
@@ -61,7 +61,9 @@ impl<P: Pages> Cached<P> {
     /// Keeps none of the pages yet. It takes no memory.
     pub fn over(room: Room, pages: P) -> Cached<P>
         // The inner pages are those that were handed in.
-        ensures { inner_of result ≡ pages }
+        ensures inner { inner_of result ≡ pages }
+        // None of them is kept yet.
+        ensures none { (page : ℕ) → Keeps result page → ⊥ }
     {
         let Room { kept } = room;
         Cached { pages, kept }

@@ -7,3 +7,4 @@ pub mod Unwinding
 pub mod ReadingLaws
 pub mod FoundLaws
 pub mod SpelledLaws
+pub mod AnswerLaws

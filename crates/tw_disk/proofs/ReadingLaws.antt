@@ -9,6 +9,11 @@ module _ {P : Type 0} (view : P → PagesView) (same : P → P → Type 0) where
   pub only_reads_itself : (pages : P) (good : Type 0) → same pages pages → OnlyReads view same pages pages good
   only_reads_itself pages good same_itself = record { used_kept = refl; list_kept = refl; same_kept = same_itself; unbroken_kept = λ _ is. is }
 
+  -- the same of calls of which more is known
+  pub reads_weaker : (a b : P) (good better : Type 0) → (better → good) → OnlyReads view same a b good → OnlyReads view same a b better
+  reads_weaker a b good better to_good reads =
+      record { used_kept = reads.used_kept; list_kept = reads.list_kept; same_kept = reads.same_kept; unbroken_kept = λ good is. reads.unbroken_kept (to_good good) is }
+
   -- one call after another
   pub only_reads_on : (a b c : P) (first second both : Type 0) → ((x y z : P) → same x y → same y z → same x z) → (both → first) → (both → second)
       → OnlyReads view same a b first → OnlyReads view same b c second → OnlyReads view same a c both

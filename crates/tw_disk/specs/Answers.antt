@@ -22,7 +22,7 @@ abbrev pub IsShared : FaultSort → Type 0
 IsShared OfCall = ⊥
 IsShared _ = Unit {0}
 
--- what is found by a call that adds pages: all pages that there are then, and its value
+-- what is found by a call that adds pages: the pages from number 4 on that there are then, and its value
 pub record Next (X : Type 0) : Type 0 where
   pub pages : Image
   pub value : X
@@ -30,10 +30,9 @@ pub record Next (X : Type 0) : Type 0 where
 -- `sort` tells of each fault of the call's type what it says
 module _ {F : Type 0} (sort : F → FaultSort) where
   module _ {X : Type 0} where
-    -- a bad page is the one that is found, and no fault of the call's own comes; the others say nothing of the pages
+    -- a bad page is the one that is found; the other faults say nothing of what the pages have
     abbrev pub SaysOf : FaultSort → Found X → Type 0
     SaysOf (OfPage page) found = found ≡ Bad page
-    SaysOf OfCall found = ⊥
     SaysOf _ found = Unit {0}
 
     -- the same where a refusal of the call's own is what is found too
@@ -43,7 +42,7 @@ module _ {F : Type 0} (sort : F → FaultSort) where
     RefusesAs _ fault found = Unit {0}
 
   module _ {T : Type 0} where
-    -- a read failed
+    -- this answer tells of a failed read
     abbrev pub has_failed : Result T F → Bool
     has_failed (Ok x) = false
     has_failed (Err fault) = is_of_disk (sort fault)
@@ -54,7 +53,7 @@ module _ {F : Type 0} (sort : F → FaultSort) where
     NeverRefuses (Err fault) = IsShared (sort fault)
 
     module _ {X : Type 0} (value : T → X) where
-      -- the value, seen so, is what is found; and a bad page is the one that is
+      -- the value, seen so, is what is found; and a bad page is the one that is found
       abbrev pub AnswersAs : Result T F → Found X → Type 0
       AnswersAs (Ok x) found = found ≡ Is (value x)
       AnswersAs (Err fault) found = SaysOf (sort fault) found
@@ -97,6 +96,10 @@ module _ {F : Type 0} (sort : F → FaultSort) where
         abbrev pub ReadsPages : (Image → Found X) → Type 0
         ReadsPages found = ReadsBy result (NeverRefuses result) (AnswersAs value) found
 
+        -- a call that reads, and whose refusals its arguments alone tell, as this says
+        abbrev pub ReadsWhere : (Own : Type 0) → (Image → Found X) → Type 0
+        ReadsWhere Own found = ReadsBy result Own (AnswersAs value) found
+
         -- a call that reads, and whose refusals are found too
         abbrev pub ReadsOr : (Image → Found (Result X F)) → Type 0
         ReadsOr found = ReadsBy result (Unit {0}) (AnswersOr value) found
@@ -105,7 +108,7 @@ module _ {F : Type 0} (sort : F → FaultSort) where
         abbrev pub AddsPages : (Image → Found (Next X)) → Type 0
         AddsPages found = AddsBy result (NeverRefuses result) (AnswersNext value (view new).list) found
 
--- a loop that reads: what is found from its start is what is found from here, and no read has failed
+-- a loop that reads, up to now: what is found from its start is what is found from here, and nothing of what the pages tell has changed
 pub record ReadSoFar {P X : Type 0} (view : P → PagesView) (same : P → P → Type 0) (start here : P) (all rest : Image → Found X) : Type 0 where
   pub on : (ps : Image) → (view start).list ≡ Some ps → all ps ≡ rest ps
   pub kept : OnlyReads view same start here (Unit {0})

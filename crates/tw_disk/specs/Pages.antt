@@ -6,7 +6,7 @@ use Rattle.tw_disk.specs.Image.{Image}
 pub record PagesView : Type 1 where
   -- the pages from number 4 on, committed and staged, where told
   pub list : Option Image
-  -- the number of pages, committed and staged, the first four among them
+  -- the number of all pages, committed and staged, the first four among them
   pub used : ℕ
   -- how often a call has failed; the count doesn't fall, and stands still at 2^64 - 1
   pub faults : ℕ
