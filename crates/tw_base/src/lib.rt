@@ -27,7 +27,7 @@ pub use history::anchor::find_anchor;
 pub use history::archive_entry::{put_entry, take_entry};
 pub use history::content::Content;
 pub use history::content_taking::{take_recorded, take_thread};
-pub use history::history_laws::{archive_laws, clash_laws, plus_laws, time_laws};
+pub use history::history_laws::{archive_laws, clash_laws, plus_laws, text_laws, time_laws};
 pub use history::labels::{
     authenticator, datum, empty_tree, event_leaf, event_node, genesis, link_label, no_events,
     step_datum, timed_datum, tree_node,
@@ -40,7 +40,7 @@ pub use history::thread::{
     Entries, Entry, Key, Place, Thread, Threads, compare_keys, entry_key, is_below,
 };
 pub use history::tree_proof::{Ancestor, AncestorList, Ask, TreeProof};
-pub use kinds::digest::{Digest, is_same_digest};
+pub use kinds::digest::{Digest, is_same_digest, see_bytes, see_digest};
 pub use kinds::failing::FailingCalls;
 pub use kinds::failure::{Failed, InputFault, NoMemory, ReadFault};
 pub use kinds::fixed_list::put;

@@ -10,6 +10,7 @@ pub mod SoundEvents
 pub mod Times
 pub mod Auths
 pub mod ArchiveTexts
+pub mod TextBytes
 pub mod Families
 pub mod Plus
 pub mod Leads

@@ -2,7 +2,7 @@
 -- reader goes over the bytes field by field. The laws that join the four are in proofs/lemmas/format/CodecLaws.
 use Rattle.std.specs.Prelude.{◌≡◌, ℕ, ◌≤◌, List, [], ◌∷◌, ◌++◌, length, flat_map, Bool, true, false, Option, Some, None, MatchOption, Result, Ok, if◌then◌else◌}
 use Rattle.std.specs.Option.{option_map_or}
-use Rattle.tw_base.specs.kinds.Bytes.{AreBytes}
+pub use Rattle.tw_base.specs.kinds.Bytes.{HasBytes}
 use Rattle.tw_base.specs.format.Formats.{Format, OneSpelling, Placed, Spells, WrittenAs, then_by, read_at, ◌>>=◌}
 use Rattle.tw_base.specs.format.Formats.Format.{Done}
 use Rattle.tw_base.specs.format.Fields.{bytes, flag, name, number, number_bytes, repeated, text}
@@ -37,10 +37,6 @@ number_codec width least most = record {
   write = number_bytes width;
   read = read_at (number width least most);
 }
-
--- so many bytes
-abbrev pub HasBytes : ℕ → List ℕ → Type 0
-HasBytes n bs = (length bs ≡ n) × AreBytes bs
 
 unfoldable pub bytes_codec : ℕ → Codec (List ℕ)
 bytes_codec n = record {

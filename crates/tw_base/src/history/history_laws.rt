@@ -4,10 +4,12 @@ ghost use Rattle.std.specs.Prelude.{◌≡◌, ℕ, ◌≤◌, ◌↔◌, List, 
 ghost use Rattle.tw_base.specs.history.Auth.{auth};
 ghost use Rattle.tw_base.specs.kinds.Clash.{Clash, Pair, Within, clash_pair};
 ghost use Rattle.tw_base.specs.history.Entries.{KeyBelow};
+ghost use Rattle.tw_base.specs.history.Family.{AllSound, family_texts};
 ghost use Rattle.tw_base.specs.history.History.{History, Step, plus, received, time_at, times};
 ghost use Rattle.tw_base.specs.history.HistoryTexts.{history_texts, tree_texts};
 ghost use Rattle.tw_base.specs.history.Limits.{IsTimeWithinLimits};
-ghost use Rattle.tw_base.specs.kinds.Lists.{In};
+ghost use Rattle.tw_base.specs.kinds.Bytes.{AreBytes};
+ghost use Rattle.tw_base.specs.kinds.Lists.{Each, In};
 ghost use Rattle.tw_base.specs.history.Sound.{IsSound};
 ghost use Rattle.tw_base.specs.history.Tree.{IsRisingTree, Tree, entries, tree};
 ghost use Rattle.tw_base.specs.history.Tree.Tree.{Empty};
@@ -29,6 +31,14 @@ pub fn archive_laws<H: Hasher>()
     ensures texts { (h : History) (i : ℕ) → i ≤ length h.steps → Within (tree_texts H.dig (tree h i)) (history_texts H.dig h) }
     // Before the first step the archive is empty.
     ensures first { (h : History) → tree h 0 ≡ Empty }
+{}
+
+/// All that the authenticators of sound histories hash is bytes.
+pub fn text_laws<H: Hasher>()
+    // Each text of a sound history is bytes.
+    ensures history { (h : History) → IsSound h → Each AreBytes (history_texts H.dig h) }
+    // So is each text of a family of sound histories.
+    ensures family { (family : List History) → AllSound family → Each AreBytes (family_texts H.dig family) }
 {}
 
 /// One more step changes no tree, no time and no authenticator of an earlier step, of any history, sound or
@@ -53,12 +63,14 @@ pub fn time_laws()
         time_at h i ≡ Some earlier → time_at h j ≡ Some later → earlier ≤ later }
 {}
 
-/// The ordered pair of a list of texts is there exactly where two texts of the list clash, and is two
+/// The ordered pair of a list of texts, each of bytes, is there exactly where two texts of the list clash, and is two
 /// such texts.
 pub fn clash_laws<H: Hasher>()
-    // A pair that is picked of a list of texts clashes.
-    ensures some { (texts : List (List ℕ)) (p : Pair) → clash_pair H.dig texts ≡ Some p →
+    // A pair that is picked of a list of texts, each of bytes, clashes.
+    ensures some { (texts : List (List ℕ)) → Each AreBytes texts → (p : Pair) → clash_pair H.dig texts ≡ Some p →
         (c : Clash H.dig texts) × (c.one ≡ p.one) × (c.other ≡ p.other) }
+    // Texts that clash are bytes.
+    ensures bytes { (texts : List (List ℕ)) (c : Clash H.dig texts) → AreBytes c.one × AreBytes c.other }
     // Where none is picked, no two texts of the list clash.
     ensures none { (texts : List (List ℕ)) → clash_pair H.dig texts ≡ None → Clash H.dig texts → ⊥ }
 {}
