@@ -10,8 +10,8 @@ use Rattle.tw_base.specs.history.Tree.{Tree, IsRising, entries}
 use Rattle.tw_base.specs.history.Tree.Tree.{Empty, Branch}
 use Rattle.tw_base.proofs.lemmas.history.Keys.{KeyBelow-trans}
 use Rattle.tw_base.proofs.lemmas.kinds.ListLemmas.{Each-map}
-use Rattle.tw_tree.specs.Inserting.{HasLeaf, with_leaf}
-use Rattle.tw_tree.proofs.Asked.{cut}
+use Rattle.tw_base.specs.history.WithLeaf.{HasLeaf, with_leaf}
+use Rattle.tw_base.proofs.lemmas.history.Asked.{cut}
 use Rattle.tw_base.proofs.lemmas.history.KeyTests.{NotBelow, below-lt, below-other, eq-above, lt-above, not_below}
 use Rattle.tw_base.proofs.lemmas.history.KeyTests.NotBelow.{One, Over}
 

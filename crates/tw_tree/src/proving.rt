@@ -3,12 +3,14 @@
 ghost use Rattle.std.specs.Prelude.{◌≡◌, ◌↔◌, IfOk, IsTrue};
 ghost use Rattle.tw_base.specs.history.Tree.{IsRising, entries};
 ghost use Rattle.tw_tree.specs.TreeMeaning.{tree_of};
-ghost use Rattle.tw_treeproof.specs.Making.{IsSo, Proves, place_of, proof_at as proof_of_place, way_up};
+ghost use Rattle.tw_tree.specs.Proving.{Proves};
+ghost use Rattle.tw_treeproof.specs.Making.{IsSo, place_of, proof_at as proof_of_place, way_up};
 
-use crate::way::{goes_left, meets};
+use crate::searching::get;
+use crate::tree::{Tree, label};
 use std::alloc::Global;
 use tw_base::{Ancestor, AncestorList, Ask, Hasher, NoMemory, TreeProof, entry_key};
-use tw_tree::{Tree, get, label};
+use tw_treeproof::{goes_left, meets};
 
 /// Why no proof is made.
 #[derive(Clone, Copy, PartialEq, Eq, Debug, Drop)]
@@ -21,7 +23,7 @@ pub enum ProveFault {
 
 impl From<NoMemory> for ProveFault {
     ghost use Rattle.std.specs.Prelude.{◌≡◌};
-    ghost use Rattle.tw_treeproof.specs.declared.making.ProveFault.TheVariants.{NoMemory as WantedMemory};
+    ghost use Rattle.tw_tree.specs.declared.proving.ProveFault.TheVariants.{NoMemory as WantedMemory};
 
     ghost from_gives = { λ _ fault. fault ≡ WantedMemory };
 
@@ -31,7 +33,7 @@ impl From<NoMemory> for ProveFault {
 }
 
 /// The part of the tree at the asked place.
-#[tactic(auto, unfolding(crate::specs::Making::place_of))]
+#[tactic(auto, unfolding(tw_treeproof::specs::Making::place_of))]
 fn place<'a>(tree: &'a Tree, ask: &Ask) -> &'a Tree
     ensures { tree_of result.now ≡ place_of ask.now (tree_of tree.now) }
 {
@@ -46,7 +48,7 @@ fn place<'a>(tree: &'a Tree, ask: &Ask) -> &'a Tree
 }
 
 /// The nodes above the asked place, nearest first. Calls itself once for each of them.
-#[tactic(auto, unfolding(crate::specs::Making::way_up))]
+#[tactic(auto, unfolding(tw_treeproof::specs::Making::way_up))]
 fn nodes_above<H: Hasher>(alloc: Global, tree: &Tree, ask: &Ask) -> Result<AncestorList, NoMemory>
     ensures { IfOk result (λ up. up ≡ way_up H.dig ask.now (tree_of tree.now)) }
 {
