@@ -4,10 +4,10 @@
     python3 tests/acceptance/run.py --texts        documents and sources alone, but for the tutorial; it needs no built program
 
 The cases stand in cases/*.json, those that are counted off in generated.py, those of proofs over archives and of links in archives.py,
-those of proofs that an event precedes another and of joining in precedence.py,
+those of proofs that an event precedes another and of joining in precedence.py, those of the scripts that one copies in entries.py and daily.py,
 those of services in steps.py, pages.py and failing.py, those of an archive's tree in pages in tree_runs.py, which run a program of their
 own, those of the program's edge to the system in edges.py, of programs at one time in beside.py, and of lost power and failing system calls in power.py and faults.py; documents.py and cited.py check the documents,
-installed.py what `make install` copies, shown.py, entries.py and daily.py the examples to copy, and sources.py the sources.
+installed.py what `make install` copies, shown.py the examples to copy, and sources.py the sources.
 A case has
 
     name       what it shows
