@@ -2,8 +2,8 @@
 use Rattle.std.proofs.Common.{◌≡◌, ◌∙◌, ℕ, false, true, List, refl, ap, sym, subst, inl, inr, ◌⊎◌}
 use Rattle.std.specs.Prelude.{Bool, Option, Some, IsSome, MatchOption, Result, Ok, Err, map}
 use Rattle.sha2.specs.Sha256.{sha256}
-use Rattle.tw_base.specs.declared.thread.Thread.{Thread}
-use Rattle.tw_base.specs.Faults.{Rose}
+use Rattle.tw_base.specs.declared.history.thread.Thread.{Thread}
+use Rattle.tw_base.specs.kinds.Faults.{Rose}
 use Rattle.tw_disk.specs.Disk.{DiskView}
 use Rattle.tw_outside.specs.Files.{Files, IsThere, Tells, bytes_of}
 use Rattle.tw_outside.specs.Asked.{Asked}
