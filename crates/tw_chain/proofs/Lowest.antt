@@ -13,10 +13,10 @@ use Rattle.tw_base.specs.kinds.Lists.{Each}
 use Rattle.tw_base.specs.history.Reasons.{IsNoHigher, reason_number, reason_place}
 use Rattle.tw_chain.specs.Checks.{Check}
 use Rattle.tw_chain.specs.Checks.Check.{InOrder, NeedsAnchor, CarriesThread, PathOf, LinkOf, OpeningOf, EventOf, AnswerOf}
-use Rattle.tw_verifier.specs.Judgements.{found_in, is_lower, lower_of, passes}
+use Rattle.tw_chain.specs.Finding.{found_in, is_lower, lower_of, passes}
 use Rattle.tw_chain.specs.Passing.{Passes, anchor_at, needed_by, reason_of}
 use Rattle.tw_chain.specs.Reasons.{Fails, first_not_held}
-use Rattle.tw_verifier.proofs.PassesLaws.{passes-is}
+use Rattle.tw_chain.proofs.PassesLaws.{passes-is}
 
 -- ---- the order of reasons
 

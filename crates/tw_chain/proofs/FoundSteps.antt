@@ -8,21 +8,26 @@ use Rattle.tw_base.specs.declared.history.report.Reason.{Reason}
 use Rattle.tw_base.specs.declared.history.report.Reason.TheVariants.{NotHeld}
 use Rattle.tw_base.specs.declared.history.thread.Key.{Key}
 use Rattle.tw_base.specs.declared.history.thread.Thread.{Thread}
-use Rattle.tw_verifier.specs.Chaining.{found_with}
+use Rattle.tw_chain.specs.Finding.{found_in, found_with, lower_of, passes}
 use Rattle.tw_chain.specs.Checks.{Check}
 use Rattle.tw_chain.specs.Checks.Check.{NeedsAnchor}
 use Rattle.tw_chain.specs.Checks.Upper.{AtAnchor}
-use Rattle.tw_verifier.specs.Judgements.{found_in, lower_of, passes}
 use Rattle.tw_chain.specs.Passing.{Passes, anchor_at, reason_of, upper_auth}
-use Rattle.tw_verifier.proofs.ChainSteps.{found-append}
-use Rattle.tw_verifier.proofs.LowerSteps.{lower-assoc}
-use Rattle.tw_verifier.proofs.PassesLaws.{passes-is}
+use Rattle.tw_chain.proofs.LowerSteps.{lower-assoc}
+use Rattle.tw_chain.proofs.PassesLaws.{passes-is}
 
 pub lower-none : (found : Option Reason) → lower_of found None ≡ found
 lower-none None = refl
 lower-none (Some reason) = refl
 
 module _ (dig : List ℕ → List ℕ) (anchors : List Thread) where
+  -- checks behind others
+  pub found-append : (xs ys : List Check) → found_in dig anchors (xs ++ ys) ≡ lower_of (found_in dig anchors xs) (found_in dig anchors ys)
+  found-append [] ys = refl
+  found-append (c ∷ xs) ys =
+      let own : Option Reason = if passes dig anchors c then None else Some (reason_of c) in
+      ap (lower_of own) (found-append xs ys) ∙ sym (lower-assoc own (found_in dig anchors xs) (found_in dig anchors ys))
+
   -- one check more
   pub found-one : (found : Option Reason) (c : Check) (b : Bool) → Decides b (Passes dig anchors c)
       → lower_of found (if b then None else Some (reason_of c)) ≡ found_with dig anchors found (c ∷ [])
@@ -37,7 +42,7 @@ module _ (dig : List ℕ → List ℕ) (anchors : List Thread) where
   found-onto found before cs ds is =
       ap (λ r. found_with dig anchors r ds) is
       ∙ lower-assoc found (found_in dig anchors cs) (found_in dig anchors ds)
-      ∙ ap (lower_of found) (sym (found-append dig anchors cs ds))
+      ∙ ap (lower_of found) (sym (found-append cs ds))
 
   -- an order, an anchor and a path that climbs to it, where it does so as this says of the anchor's authenticator
   module _ (found before : Option Reason) (order : Check) (key : Key) (path : Check) (holds : List ℕ → Type 0)

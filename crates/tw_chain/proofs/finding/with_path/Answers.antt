@@ -1,8 +1,8 @@
 use Rattle.std.proofs.Common.{◌∙◌}
 use Rattle.tw_chain.specs.Checks.Check.{PathOf}
 use Rattle.tw_chain.specs.Checks.Upper.{Known}
-use Rattle.tw_verifier.proofs.FoundSteps.{found-one}
-use Rattle.tw_verifier.proofs.finding.with_path.Goals as goal
+use Rattle.tw_chain.proofs.FoundSteps.{found-one}
+use Rattle.tw_chain.proofs.finding.with_path.Goals as goal
 
 pub returns : goal.returns
 returns g c = λ anchors.

@@ -13,14 +13,9 @@ use tw_skipproof::{Opening, Part, Path, check_opening, climb};
 use tw_treeproof::{Shown, check};
 
 /// Whether the path climbs from this authenticator of the lower step to that one of the upper step.
-pub(crate) fn climbs<H: Hasher>(
-    path: &Path,
-    from: u64,
-    to: u64,
-    bottom: &Digest,
-    upper: &Digest,
-) -> bool
+pub fn climbs<H: Hasher>(path: &Path, from: u64, to: u64, bottom: &Digest, upper: &Digest) -> bool
     requires { from ≤ LAST_STEP }
+    // Yes exactly where the path climbs from the lower authenticator to the upper one.
     ensures { IsTrue result ↔ Climbs H.dig path.now.links from to bottom.now upper.now }
 {
     match climb::<H>(path, from, to, bottom) {
@@ -31,9 +26,10 @@ pub(crate) fn climbs<H: Hasher>(
 
 /// Whether the path of the part climbs from what its opening computes to this authenticator of the
 /// top.
-pub(crate) fn reaches<H: Hasher>(at: &Part, upper: &Digest) -> bool
+pub fn reaches<H: Hasher>(at: &Part, upper: &Digest) -> bool
     requires step { at.now.step ≤ LAST_STEP }
     requires top { at.now.top ≤ LAST_STEP }
+    // Yes exactly where the path of the part climbs from what its opening computes to the authenticator.
     ensures { IsTrue result ↔ Reaches H.dig at.now upper.now }
 {
     match check_opening::<H>(&at.opening, at.step) {
@@ -43,8 +39,9 @@ pub(crate) fn reaches<H: Hasher>(at: &Part, upper: &Digest) -> bool
 }
 
 /// Whether the opening computes the thread's authenticator.
-pub(crate) fn opens<H: Hasher>(thread: &Thread, opening: &Opening) -> bool
+pub fn opens<H: Hasher>(thread: &Thread, opening: &Opening) -> bool
     requires { thread.now.step ≤ LAST_STEP }
+    // Yes exactly where the opening is one of the thread's step, and computes its authenticator.
     ensures { IsTrue result ↔ (IsOpeningAt thread.now.step opening.now × (opening_auth H.dig thread.now.step opening.now ≡ thread.now.auth)) }
 {
     match check_opening::<H>(opening, thread.step) {
@@ -54,9 +51,10 @@ pub(crate) fn opens<H: Hasher>(thread: &Thread, opening: &Opening) -> bool
 }
 
 /// Whether the event computes the event root of the opening.
-pub(crate) fn shows<H: Hasher>(opening: &Opening, event: &EventPart) -> bool
+pub fn shows<H: Hasher>(opening: &Opening, event: &EventPart) -> bool
     requires few { opening.now.count ≤ MOST_EVENTS }
     requires small { length event.now.event ≤ MOST_EVENT_BYTES }
+    // Yes exactly where the event computes the event root of the opening.
     ensures { IsTrue result ↔ ShowsEvent H.dig opening.now event.now }
 {
     check_event::<H>(
@@ -69,7 +67,8 @@ pub(crate) fn shows<H: Hasher>(opening: &Opening, event: &EventPart) -> bool
 }
 
 /// Whether the tree proof gives the answer to the question under this root.
-pub(crate) fn answers<H: Hasher>(root: &Digest, ask: &Ask, shown: &TreeProof) -> bool
+pub fn answers<H: Hasher>(root: &Digest, ask: &Ask, shown: &TreeProof) -> bool
+    // Yes exactly where the tree proof gives the answer to the question under the root.
     ensures { IsTrue result ↔ Checks H.dig root.now ask.now shown.now }
 {
     match check::<H>(root, ask, shown) {

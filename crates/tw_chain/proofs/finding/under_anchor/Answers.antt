@@ -4,9 +4,9 @@ use Rattle.tw_skipproof.specs.Acceptance.{Reaches}
 use Rattle.tw_chain.specs.Checks.{Check, top_of}
 use Rattle.tw_chain.specs.Checks.Check.{InOrder, PathOf}
 use Rattle.tw_chain.specs.Checks.Upper.{AtAnchor}
-use Rattle.tw_verifier.proofs.FoundSteps.{found-held, found-not_held}
-use Rattle.tw_verifier.proofs.PassesLaws.{passes-is}
-use Rattle.tw_verifier.proofs.finding.under_anchor.Goals as goal
+use Rattle.tw_chain.proofs.FoundSteps.{found-held, found-not_held}
+use Rattle.tw_chain.proofs.PassesLaws.{passes-is}
+use Rattle.tw_chain.proofs.finding.under_anchor.Goals as goal
 
 pub returns-in-None : goal.returns-in-None
 returns-in-None g c =

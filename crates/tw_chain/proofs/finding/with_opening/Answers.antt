@@ -1,8 +1,8 @@
 use Rattle.std.proofs.Common.{[], ◌∷◌, ◌∙◌}
 use Rattle.tw_chain.specs.Checks.{Check}
 use Rattle.tw_chain.specs.Checks.Check.{InOrder, OpeningOf}
-use Rattle.tw_verifier.proofs.FoundSteps.{found-one, found-onto}
-use Rattle.tw_verifier.proofs.finding.with_opening.Goals as goal
+use Rattle.tw_chain.proofs.FoundSteps.{found-one, found-onto}
+use Rattle.tw_chain.proofs.finding.with_opening.Goals as goal
 
 pub returns-in-Some : goal.returns-in-Some
 returns-in-Some g c = λ anchors.

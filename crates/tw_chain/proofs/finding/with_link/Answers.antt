@@ -3,9 +3,9 @@ use Rattle.tw_skipproof.specs.Paths.{Climbs}
 use Rattle.tw_chain.specs.declared.proof.LinkProof.{LinkProof}
 use Rattle.tw_chain.specs.Checks.{Check, link_top}
 use Rattle.tw_chain.specs.Checks.Check.{InOrder, LinkOf}
-use Rattle.tw_verifier.proofs.FoundSteps.{found-held, found-not_held}
-use Rattle.tw_verifier.proofs.PassesLaws.{passes-is}
-use Rattle.tw_verifier.proofs.finding.with_link.Goals as goal
+use Rattle.tw_chain.proofs.FoundSteps.{found-held, found-not_held}
+use Rattle.tw_chain.proofs.PassesLaws.{passes-is}
+use Rattle.tw_chain.proofs.finding.with_link.Goals as goal
 
 pub returns-in-None : goal.returns-in-None
 returns-in-None g c =

@@ -26,7 +26,7 @@ use Rattle.tw_treeproof.specs.Ways.{IsNotAsked, climbed as tree_climbed, has_ask
 use Rattle.tw_chain.specs.Checks.{Check, link_top}
 use Rattle.tw_chain.specs.Checks.Check.{InOrder, NeedsAnchor, CarriesThread, PathOf, LinkOf, OpeningOf, EventOf, AnswerOf}
 use Rattle.tw_chain.specs.Checks.Upper.{AtAnchor}
-use Rattle.tw_verifier.specs.Judgements.{answers, climbs, has_shape, is_free, is_opening_at, is_same_kind, opens, passes, reaches, shows}
+use Rattle.tw_chain.specs.Finding.{answers, climbs, has_shape, is_free, is_opening_at, is_same_kind, opens, passes, reaches, shows}
 use Rattle.tw_chain.specs.Passing.{Passes, upper_auth}
 
 Decides-three : {P Q R : Type 0} (x y z : Bool) → Decides x P → Decides y Q → Decides z R → Decides (x && (y && z)) (P × Q × R)

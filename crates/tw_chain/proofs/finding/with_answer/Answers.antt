@@ -1,7 +1,7 @@
 use Rattle.std.proofs.Common.{◌∙◌}
 use Rattle.tw_chain.specs.Checks.Check.{AnswerOf}
-use Rattle.tw_verifier.proofs.FoundSteps.{found-one}
-use Rattle.tw_verifier.proofs.finding.with_answer.Goals as goal
+use Rattle.tw_chain.proofs.FoundSteps.{found-one}
+use Rattle.tw_chain.proofs.finding.with_answer.Goals as goal
 
 pub returns : goal.returns
 returns g c = λ anchors.

@@ -3,7 +3,7 @@ use Rattle.std.proofs.Common.{◌≡◌, ℕ, ◌<◌, refl, sym, ap, ◌∙◌,
 use Rattle.std.specs.Prelude.{Option, Some, None, Bool, true, false, nat_lt, ◌==◌, ◌&&◌, if◌then◌else◌}
 use Rattle.tw_base.specs.declared.history.report.Reason.{Reason}
 use Rattle.tw_base.specs.history.Reasons.{reason_number, reason_place}
-use Rattle.tw_verifier.specs.Judgements.{is_lower, lower_of}
+use Rattle.tw_chain.specs.Finding.{is_lower, lower_of}
 
 abbrev below : (n p m q : ℕ) → Bool
 below n p m q = if nat_lt n m then true else (n == m && nat_lt p q)
