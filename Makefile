@@ -66,3 +66,32 @@ install: | $(PROGRAM)
 	install -D -m 755 $(PROGRAM) $(DESTDIR)$(PREFIX)/bin/timeweave
 	install -D -m 644 docs/timeweave.1 $(DESTDIR)$(PREFIX)/share/man/man1/timeweave.1
 	install -D -m 644 tools/completion.bash $(DESTDIR)$(PREFIX)/share/bash-completion/completions/timeweave
+
+# ---- the library for C and Python
+
+LIBRARY = lib/libtimeweave.a
+HAS_C := $(shell command -v cc)
+
+.PHONY: lib install-lib
+
+# Builds the library, as `build` does the program: lib/libtimeweave.a and lib/libtimeweave.so.
+lib:
+	python3 tools/build_library.py
+
+$(LIBRARY):
+	$(MAKE) lib
+
+# Where there is a C compiler, the acceptance run tries the library too, and it is installed.
+check: | $(if $(HAS_C),$(LIBRARY))
+
+install: $(if $(HAS_C),install-lib)
+
+# Copies the library, its headers, what pkg-config reads, and the module for Python.
+install-lib: | $(LIBRARY)
+	install -D -m 644 $(LIBRARY) $(DESTDIR)$(PREFIX)/lib/libtimeweave.a
+	install -D -m 755 lib/libtimeweave.so $(DESTDIR)$(PREFIX)/lib/libtimeweave.so
+	install -D -m 644 include/timeweave.h $(DESTDIR)$(PREFIX)/include/timeweave.h
+	install -D -m 644 include/timeweave_collect.h $(DESTDIR)$(PREFIX)/include/timeweave_collect.h
+	install -D -m 644 bindings/python/timeweave.py $(DESTDIR)$(PREFIX)/share/timeweave/timeweave.py
+	install -d $(DESTDIR)$(PREFIX)/lib/pkgconfig
+	sed 's|@PREFIX@|$(PREFIX)|; s|@VERSION@|$(shell cat VERSION)|' include/timeweave.pc.in > $(DESTDIR)$(PREFIX)/lib/pkgconfig/timeweave.pc
