@@ -80,6 +80,8 @@ def taken_apart(status, text):
         return " ".join(["rejected", str(reason.number), reason.name, *reason.fields]) + "\n"
     except timeweave.BadAnchors as bad:
         return f"unreadable anchors line {bad.line}\n"
+    except ValueError as wrong:
+        return str(wrong)
 
 
 def difference(words, files, status, output):
@@ -175,28 +177,30 @@ def installed(room):
         raise Wrong(f"  version {version!r}\n  many_proofs.c: {told!r}\n  verify.py: {said!r}")
 
 
+def raised(proof, anchors):
+    """What the module for Python raises for a proof, or the report."""
+    try:
+        return timeweave.verify(proof, anchors)
+    except (timeweave.Rejected, timeweave.BadAnchors) as reason:
+        return type(reason).__name__, vars(reason)
+
+
 def module(room):
-    """the module for Python raises what it says, and gives the version"""
+    """the module for Python gives the report, raises the reason, and gives the version"""
     built_library()
     line = reference.Timeline("a", [[b"milk"]])
     proof, anchors = reference.proof_bytes(line, 1, 0, 1), f"a 1 {line.auths[1].hex()}\n"
-    report = timeweave.verify(proof, anchors)
-    found = [report.kind, report.events, timeweave.strict(bytearray(proof), anchors.encode()).events, timeweave.version()]
     event = timeweave.Event("a", 1, 0, b"milk")
-    if found != ["exists", [event], [event], wanted_version()]:
-        raise Wrong(f"  got {found}")
-    try:
-        timeweave.verify(proof.replace(b"milk", b"beer"), anchors)
-        raise Wrong("  a forged proof is accepted")
-    except timeweave.Rejected as reason:
-        if (reason.number, reason.name, reason.fields) != (6, "BadEvent", ["0"]):
-            raise Wrong(f"  got {reason}") from None
-    try:
-        timeweave.verify(proof, anchors + "a 1")
-        raise Wrong("  a bad line of anchors is taken")
-    except timeweave.BadAnchors as bad:
-        if bad.line != 2:
-            raise Wrong(f"  got {bad}") from None
+    for given, wanted in (
+        ((proof, anchors), timeweave.Report("exists", f"accepted exists\nevent a 1 0 {b'milk'.hex()}\n", [event])),
+        ((bytearray(proof), anchors.encode()), timeweave.Report("exists", f"accepted exists\nevent a 1 0 {b'milk'.hex()}\n", [event])),
+        ((proof.replace(b"milk", b"beer"), anchors), ("Rejected", {"number": 6, "name": "BadEvent", "fields": ["0"]})),
+        ((proof, anchors + "a 1"), ("BadAnchors", {"line": 2})),
+    ):
+        if raised(*given) != wanted:
+            raise Wrong(f"  wanted {wanted}\n  got    {raised(*given)}")
+    if timeweave.version() != wanted_version():
+        raise Wrong(f"  the version is {timeweave.version()}")
 
 
 def each_proof(room):
