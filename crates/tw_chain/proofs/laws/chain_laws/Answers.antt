@@ -2,4 +2,4 @@ use Rattle.tw_chain.proofs.Headline.{headline}
 use Rattle.tw_chain.proofs.laws.chain_laws.Goals as goal
 
 pub returns : goal.returns
-returns g c = record { headline = λ bytes p anchors. headline g.H.Hasher.dig g.met.H.Hasher.size anchors bytes p }
+returns g c = record { headline = λ bytes p anchors. headline g.H.Hasher.dig g.met.H.Hasher.size g.met.H.Hasher.bytes anchors bytes p }
