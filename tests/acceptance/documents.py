@@ -70,7 +70,7 @@ def tables(program):
     """The crates that the table or the picture of docs/architecture.md leaves out, or has beyond crates.txt."""
     known = set(re.findall(r"^(\w+)[\w ]*:", (TOP / "crates.txt").read_text(), re.M))
     picture, table = (TOP / "docs/architecture.md").read_text().split("\n## The crates\n")[1].split("\n## ")[0].split("\n| crate |")
-    found = {"the table": set(re.findall(r"^\| `(\w+)` \|", table, re.M)), "the picture": set(re.findall(r"\btw_\w+|\btimeweave\b|\btree_pages\b", picture))}
+    found = {"the table": set(re.findall(r"^\| `(\w+)` \|", table, re.M)), "the picture": set(re.findall(r"\btw_\w+|\btimeweave(?:_c)?\b|\btree_pages\b", picture))}
     wrong = [f"  {place} differs in {', '.join(sorted(names ^ known))}" for place, names in found.items() if names != known]
     return "\n".join(wrong) or None
 

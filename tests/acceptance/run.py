@@ -7,7 +7,7 @@ The cases stand in cases/*.json, those that are counted off in generated.py, tho
 those of proofs that an event precedes another and of joining in precedence.py, those of the scripts that one copies in entries.py and daily.py,
 those of services in steps.py, pages.py and failing.py, those of an archive's tree in pages in tree_runs.py, which run a program of their
 own, those of the program's edge to the system in edges.py, of programs at one time in beside.py, and of lost power and failing system calls in power.py and faults.py; documents.py and cited.py check the documents,
-installed.py what `make install` copies, shown.py the examples to copy, and sources.py the sources.
+installed.py what `make install` copies, library.py the library for C and Python over the proofs of all of them, shown.py the examples to copy, and sources.py the sources.
 A case has
 
     name       what it shows
@@ -47,6 +47,7 @@ import failing
 import faults
 import generated
 import installed
+import library
 import pages
 import power
 import precedence
@@ -134,8 +135,8 @@ def difference(program, case):
     if "check" in case:
         return case["check"](program)
     with tempfile.TemporaryDirectory() as room:
-        for name, recipe in case.get("files", {}).items():
-            data = made(recipe)
+        contents = {name: made(recipe) for name, recipe in case.get("files", {}).items()}
+        for name, data in contents.items():
             if data is None:
                 (Path(room) / name).mkdir()
             else:
@@ -146,10 +147,11 @@ def difference(program, case):
         except subprocess.TimeoutExpired:
             return "  it ran for longer than a minute"
     seen.note(status, out)
+    by_library = library.difference(words, contents, status, out)
     wanted = made(case["bytes"]) if "bytes" in case else case.get("stdout", "").encode()
-    if (status, out, err) == (case["status"], wanted, b""):
-        return None
     command = " ".join(shlex.quote(word) for word in ["timeweave", *words])
+    if (status, out, err) == (case["status"], wanted, b""):
+        return by_library and f"  {command}\n{by_library}"
     return f"  {command}\n  wanted {case['status']} {wanted!r}\n  got    {status} {out!r}" + (f"\n  stderr {err!r}" if err else "")
 
 
@@ -205,6 +207,9 @@ def main():
     cases = list(all_cases())
     with ThreadPoolExecutor(os.cpu_count()) as pool:
         found = list(pool.map(lambda case: difference(program, case), cases))
+    later = list(library.later_cases())
+    found += [difference(program, case) for case in later]
+    cases += later
     cases.append({"name": "each status and text that the manual page names is among the answers"})
     found.append("\n".join(seen.missing()) or None)
     return told(cases, found)

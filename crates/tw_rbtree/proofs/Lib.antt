@@ -15,4 +15,3 @@ pub mod RootGrowing
 pub mod ShowLaws
 pub mod ListLaws
 pub mod Plantings
-pub mod Readings

@@ -20,14 +20,14 @@ use Rattle.tw_rbnode.specs.Page.{TreePage}
 use Rattle.tw_rbnode.specs.Shape.{Shape, Empty, Node, size}
 use Rattle.tw_rbnode.specs.Trees.{page_tree, tree_at}
 use Rattle.tw_rbnode.proofs.TreeLists.{get-some}
-use Rattle.tw_tree.proofs.Asked.{cut}
+use Rattle.tw_base.proofs.lemmas.history.Asked.{cut}
 use Rattle.tw_rbtree.specs.declared.new_node.NewNode.{NewNode}
 use Rattle.tw_rbtree.specs.declared.new_node.Side.{Side}
 use Rattle.tw_rbtree.specs.declared.new_node.Side.TheVariants.{Empty as NoTree, New, Old}
 use Rattle.tw_rbtree.specs.Listing.{Listed, ListsAt, child_listed, listed, listed_at, node_behind}
 use Rattle.tw_rbtree.specs.Planting.{AreNodeTrees, IsSideTree}
-use Rattle.tw_rbtree.specs.Reading.{IsPageAt, IsReading, Reading, child_in, root_in}
-use Rattle.tw_rbtree.specs.Standing.{AreTrees, IsRootTree, IsTreeBelow, IsTreePage, StandsFor}
+use Rattle.tw_rbtree.specs.Reading.{IsPageAt, child_in, node_in}
+use Rattle.tw_rbtree.specs.Standing.{AreTrees, IsRootTree, IsTreeBelow, IsTreePage, StandsFor, any_page}
 use Rattle.tw_rbtree.specs.Ways.{child_page}
 use Rattle.tw_rbtree.proofs.ListLaws.{below_found, listed-empty, listed-leaf, listed-node, listed-old, listed-on, listed-root}
 use Rattle.tw_rbtree.proofs.PageLaws.{child-is, root-is}
@@ -129,7 +129,7 @@ module _ (dig : List ℕ → List ℕ) (ps : Image) where
   other low high e [] lie over = tt
   other low high e (x ∷ xs) lie over = ((lt-below (key_of e) (key_of x) over.0, lie.0.1), other low high e xs lie.1 over.1)
 
-  module _ (at : Reading) (child : ListsAt) (es : List Entry) (us : List Tree) (plants : PlantsAt child es us) where
+  module _ (child : ListsAt) (es : List Entry) (us : List Tree) (plants : PlantsAt child es us) where
     pub shape-plants : (page : ℕ) (low high : Option Entry) (base : ℕ) (s : Shape) (nodes : List NewNode) (ts : List Tree) → base + size s ≤ length es → AreNodeTrees dig ps [] nodes ts
         → IsRising (entries (tree_at es us base s)) → Each (LiesBetween low high) (entries (tree_at es us base s)) → Plants ts (listed_at child es page low high base s nodes) (tree_at es us base s)
     unfolding tree_at
@@ -154,14 +154,14 @@ module _ (dig : List ℕ → List ℕ) (ps : Image) where
 
   -- ---- level by level
 
-  module _ (at : Reading) (reads : IsReading dig ps at) (since : ℕ) where
-    pub level-plants : (level page : ℕ) (p : TreePage) (us : List Tree) → IsPageAt dig ps page p → p.level ≡ level → AreTrees (IsTreeBelow dig ps level) p.children us → PlantsAt (child_listed at since level p) p.entries us
+  module _ (since : ℕ) where
+    pub level-plants : (level page : ℕ) (p : TreePage) (us : List Tree) → IsPageAt dig ps page p → p.level ≡ level → AreTrees (IsTreeBelow dig any_page ps level) p.children us → PlantsAt (child_listed dig ps since level p) p.entries us
     unfolding IsTreeBelow
     level-plants zero page p us there is are = λ low high place nodes ts room planted rising lie.
-        let c = tree-at (IsTreeBelow dig ps zero) p.children us are place (omega (arith, room, there.may_stand.node.places)) in
-        same-found ts _ _ (slice_index_or us place NoEntry) (listed-leaf at since p low high place nodes zero refl) (none-more ts nodes NoTree (slice_index_or us place NoEntry) planted c.is)
+        let c = tree-at (IsTreeBelow dig any_page ps zero) p.children us are place (omega (arith, room, there.may_stand.node.places)) in
+        same-found ts _ _ (slice_index_or us place NoEntry) (listed-leaf dig ps since p low high place nodes zero refl) (none-more ts nodes NoTree (slice_index_or us place NoEntry) planted c.is)
     level-plants (suc level) page p us there is are = λ low high place nodes ts room planted rising lie.
-        let c = tree-at (IsTreeBelow dig ps (suc level)) p.children us are place (omega (arith, room, there.may_stand.node.places)) in
+        let c = tree-at (IsTreeBelow dig any_page ps (suc level)) p.children us are place (omega (arith, room, there.may_stand.node.places)) in
         let b = c.is.1 in
         let q = b.node in
         let number : child_page p place ≡ c.child.page = child_page-get p place c.child c.there in
@@ -170,17 +170,17 @@ module _ (dig : List ℕ → List ℕ) (ps : Image) where
         let lies = subst (λ (t : Tree). Each (LiesBetween low high) (entries t)) b.tree_is lie in
         elim cases [
           | inl old ↦
-              same-found ts _ _ (slice_index_or us place NoEntry) (listed-old at since p low high place nodes (suc level) level refl old)
+              same-found ts _ _ (slice_index_or us place NoEntry) (listed-old dig ps since p low high place nodes (suc level) level refl old)
               (none-more ts nodes (Old (child_page p place)) (slice_index_or us place NoEntry) planted
-              (level, 12, subst (λ (n : ℕ). IsTreePage dig ps (IsTreeBelow dig ps level) level 12 n (slice_index_or us place NoEntry)) (sym number) b))
+              (level, 12, subst (λ (n : ℕ). IsTreePage dig any_page ps (IsTreeBelow dig any_page ps level) level 12 n (slice_index_or us place NoEntry)) (sym number) b))
           | inr new ↦
-              let fit = fits-true level low high q b.level_is b.least_keys (own_between dig ps at reads any_ask level low high c.child.page q b.trees b.at b.level_is b.are_trees rises lies) in
-              let found : child_in at level low high (child_page p place) ≡ Is q = ap (child_in at level low high) number ∙ child-is dig ps at reads level low high c.child.page q b.at fit in
-              let inner = shape-plants at (child_listed at since level q) q.entries b.trees (level-plants level c.child.page q b.trees b.at b.level_is b.are_trees) (child_page p place) low high 0 q.shape nodes ts
+              let fit = fits-true level low high q b.level_is b.least_keys (own_between dig ps any_ask level low high c.child.page q b.trees b.at b.level_is b.are_trees rises lies) in
+              let found : child_in dig ps level low high (child_page p place) ≡ Is q = ap (child_in dig ps level low high) number ∙ child-is dig ps level low high c.child.page q b.at fit in
+              let inner = shape-plants (child_listed dig ps since level q) q.entries b.trees (level-plants level c.child.page q b.trees b.at b.level_is b.are_trees) (child_page p place) low high 0 q.shape nodes ts
               (omega (arith, b.at.may_stand.node.sized)) planted rises lies in
-              subst (Plants ts (child_listed at since (suc level) p low high place nodes)) (sym b.tree_is)
+              subst (Plants ts (child_listed dig ps since (suc level) p low high place nodes)) (sym b.tree_is)
               (same-found ts _ _ (page_tree q b.trees)
-              (listed-on at since p low high place nodes (suc level) level refl new ∙ is_on (child_in at level low high (child_page p place)) (below_found at since p low high place nodes level) q found) inner)
+              (listed-on dig ps since p low high place nodes (suc level) level refl new ∙ is_on (child_in dig ps level low high (child_page p place)) (below_found dig ps since p low high place nodes level) q found) inner)
         ]
 
 -- the node of a page's root is the last one
@@ -215,28 +215,28 @@ pub record RootPlants (dig : List ℕ → List ℕ) (ps : Image) (found : Found 
   pub are : AreNodeTrees dig ps [] nodes trees
   pub last : (0 < length nodes) × (slice_get trees (length nodes - 1) ≡ Some t)
 
-pub root-plants : (dig : List ℕ → List ℕ) (ps : Image) (at : Reading) (root : Root) (t : Tree) (since : ℕ) → IsReading dig ps at → StandsFor dig ps root t → root.page ≢ 0 → since ≤ root.page
-    → RootPlants dig ps (listed at since root) t
-root-plants dig ps at root t since reads stands some new = by stands.tree
+pub root-plants : (dig : List ℕ → List ℕ) (ps : Image) (root : Root) (t : Tree) (since : ℕ) → StandsFor dig ps root t → root.page ≢ 0 → since ≤ root.page
+    → RootPlants dig ps (listed dig ps since root) t
+root-plants dig ps root t since stands some new = by stands.tree
   where
     older : ((root.page == 0) || nat_lt root.page since) ≡ false
     older = grind arith
 
-    by : IsRootTree dig ps root.page t → RootPlants dig ps (listed at since root) t
+    by : IsRootTree dig any_page ps root.page t → RootPlants dig ps (listed dig ps since root) t
     by (inl none) = absurd (some none.0)
     by (inr (level, is)) =
         let p = is.node in
         let node = is.at.may_stand.node in
         let rises = subst (λ (x : Tree). IsRising (entries x)) is.tree_is stands.rising in
-        let found : root_in at root.page ≡ Is p = root-is dig ps at reads root.page p is.at in
-        let plants = shape-plants dig ps at (child_listed at since level p) p.entries is.trees (level-plants dig ps at reads since level root.page p is.trees is.at is.level_is is.are_trees)
+        let found : node_in dig ps root.page ≡ Is p = root-is dig ps root.page p is.at in
+        let plants = shape-plants dig ps (child_listed dig ps since level p) p.entries is.trees (level-plants dig ps since level root.page p is.trees is.at is.level_is is.are_trees)
         root.page None None 0 p.shape [] [] (omega (arith, node.sized)) tt rises (all_between (entries (page_tree p is.trees))) in
-        let on : listed at since root ≡ Is plants.all.nodes =
-        listed-root at since root older
-        ∙ is_on (root_in at root.page) (λ p. listed_at (child_listed at since p.level p) p.entries root.page None None 0 p.shape [] >>= (λ (all : Listed). Is all.nodes)) p found
-        ∙ ap (λ (n : ℕ). listed_at (child_listed at since n p) p.entries root.page None None 0 p.shape [] >>= (λ (all : Listed). Is all.nodes)) is.level_is
-        ∙ is_on (listed_at (child_listed at since level p) p.entries root.page None None 0 p.shape []) (λ (all : Listed). Is all.nodes) plants.all plants.found_is in
-        let end = root-last (child_listed at since level p) p.entries root.page None None p.shape plants.all (omega (arith, node.sized, node.some)) (omega (arith, node.sized)) plants.found_is in
+        let on : listed dig ps since root ≡ Is plants.all.nodes =
+        listed-root dig ps since root older
+        ∙ is_on (node_in dig ps root.page) (λ p. listed_at (child_listed dig ps since p.level p) p.entries root.page None None 0 p.shape [] >>= (λ (all : Listed). Is all.nodes)) p found
+        ∙ ap (λ (n : ℕ). listed_at (child_listed dig ps since n p) p.entries root.page None None 0 p.shape [] >>= (λ (all : Listed). Is all.nodes)) is.level_is
+        ∙ is_on (listed_at (child_listed dig ps since level p) p.entries root.page None None 0 p.shape []) (λ (all : Listed). Is all.nodes) plants.all plants.found_is in
+        let end = root-last (child_listed dig ps since level p) p.entries root.page None None p.shape plants.all (omega (arith, node.sized, node.some)) (omega (arith, node.sized)) plants.found_is in
         record {
           nodes = plants.all.nodes;
           trees = plants.more;

@@ -11,7 +11,8 @@ ghost use Rattle.tw_disk.specs.Image.{Image};
 ghost use Rattle.tw_rbtree.specs.declared.new_node.NewNode.{NewNode};
 ghost use Rattle.tw_rbtree.specs.Listing.{listed};
 ghost use Rattle.tw_rbtree.specs.Planting.{AreNodeTrees};
-ghost use Rattle.tw_rbtree.specs.Reading.{IsReading, Reading};
+ghost use Rattle.tw_rbnode.specs.Page.{TreePage};
+ghost use Rattle.tw_rbtree.specs.Reading.{IsPageAt, node_in};
 ghost use Rattle.tw_rbtree.specs.Standing.{StandsFor};
 ghost use Rattle.tw_rbtree.specs.Ways.{Stop, end_of, found_after, found_before, found_with, nowhere, way};
 ghost use Rattle.tw_rbtree.specs.Paths.{proof_of_way};
@@ -23,21 +24,22 @@ use tw_base::Hasher;
 
 /// What is found in pages that stand for a tree; its clauses are the theorem. The function itself does nothing.
 pub fn standing_laws<H: Hasher>()
-    // There is a reading of any pages.
-    ensures reading { (ps : Image) → (at : Reading) × IsReading H.dig ps at }
+    // The tree page of a number that is found is one whose bytes stand there, and that may stand there; and each such page is found.
+    ensures page { (ps : Image) (page : ℕ) (p : TreePage) →
+        (node_in H.dig ps page ≡ Is p → IsPageAt H.dig ps page p) × (IsPageAt H.dig ps page p → node_in H.dig ps page ≡ Is p) }
     // The entry of a key that is found is the tree's, and none where it has none.
-    ensures get { (ps : Image) (at : Reading) (root : Root) (t : Tree) (key : Key) → IsReading H.dig ps at → StandsFor H.dig ps root t →
-        found_with at root key ≡ Is (entry_with (entries t) key) }
+    ensures get { (ps : Image) (root : Root) (t : Tree) (key : Key) → StandsFor H.dig ps root t →
+        found_with H.dig ps root key ≡ Is (entry_with (entries t) key) }
     // The entry before a key that is found is the last one below it of the tree's list.
-    ensures before { (ps : Image) (at : Reading) (root : Root) (t : Tree) (key : Key) → IsReading H.dig ps at → StandsFor H.dig ps root t →
-        found_before at root key ≡ Is (last_below (entries t) key) }
+    ensures before { (ps : Image) (root : Root) (t : Tree) (key : Key) → StandsFor H.dig ps root t →
+        found_before H.dig ps root key ≡ Is (last_below (entries t) key) }
     // The entry after a key that is found is the first one above it of the tree's list.
-    ensures after { (ps : Image) (at : Reading) (root : Root) (t : Tree) (key : Key) → IsReading H.dig ps at → StandsFor H.dig ps root t →
-        found_after at root key ≡ Is (first_above (entries t) key) }
+    ensures after { (ps : Image) (root : Root) (t : Tree) (key : Key) → StandsFor H.dig ps root t →
+        found_after H.dig ps root key ≡ Is (first_above (entries t) key) }
     // What is asked is so at the end of the way where it is so of the tree's entries, and the proof that the way shows is the
     // tree's own.
-    ensures path { (ps : Image) (at : Reading) (root : Root) (t : Tree) (ask : Ask) → IsReading H.dig ps at → StandsFor H.dig ps root t →
-        (stops : List Stop) × (way at ask root ≡ Is stops) × ((IsSo (entries t) ask → IsSoAt ask (end_of nowhere stops).met)
+    ensures path { (ps : Image) (root : Root) (t : Tree) (ask : Ask) → StandsFor H.dig ps root t →
+        (stops : List Stop) × (way H.dig ps ask root ≡ Is stops) × ((IsSo (entries t) ask → IsSoAt ask (end_of nowhere stops).met)
         × (IsSoAt ask (end_of nowhere stops).met → IsSo (entries t) ask)) × (proof_of_way H.dig stops ≡ proof_of H.dig t ask) }
 {}
 
@@ -53,8 +55,8 @@ pub fn keeping_laws<H: Hasher>()
 pub fn listing_laws<H: Hasher>()
     // Where the root isn't older than the number, there is a tree for each node listed: its entry over the trees of its sides,
     // which are the empty one, those of nodes before it, and those of the older pages that are named. The last one is the tree.
-    ensures fresh { (ps : Image) (at : Reading) (root : Root) (t : Tree) (since : ℕ) → IsReading H.dig ps at → StandsFor H.dig ps root t → root.page ≢ 0 → since ≤ root.page →
-        (nodes : List NewNode) × (trees : List Tree) × (listed at since root ≡ Is nodes) × AreNodeTrees H.dig ps [] nodes trees
+    ensures fresh { (ps : Image) (root : Root) (t : Tree) (since : ℕ) → StandsFor H.dig ps root t → root.page ≢ 0 → since ≤ root.page →
+        (nodes : List NewNode) × (trees : List Tree) × (listed H.dig ps since root ≡ Is nodes) × AreNodeTrees H.dig ps [] nodes trees
         × (0 < length nodes) × (slice_get trees (length nodes - 1) ≡ Some t) }
 {}
 

@@ -1,6 +1,9 @@
 -- Lemmas about histories, archives, trees and authenticators.
 pub mod Keys
 pub mod KeyTests
+pub mod Asked
+pub mod Members
+pub mod Leaves
 pub mod AskedLists
 pub mod Trees
 pub mod Archives
