@@ -8,6 +8,7 @@
 # whoever has the one line than to whoever has the other; 2 where this proof doesn't tell. It needs timeweave on the path, and xxd or perl.
 set -eu
 
+[ $# -eq 3 ] || { echo "same_history.sh PROOF OLDER NEWER" >&2; exit 2; }
 read -r name step held < "$2"
 read -r newer top _ < "$3"
 work=$(mktemp -d)

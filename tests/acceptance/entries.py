@@ -102,7 +102,7 @@ def without_the_program(room):
     """proofs are judged without the program as the program judges them"""
     write_example(room.folder)
     files = [(name, "anchors") for name in ("thread", "absent", "link")]
-    for number, way in enumerate(precedence.ways()[::8]):
+    for number, way in enumerate(precedence.ways()[::16]):
         lines = "".join(f"{name} {step} {auth.hex()}\n" for name, (step, auth) in way.anchors().items())
         loose = precedence.with_carried(way, {0}).bytes()
         for name, data in (("whole", way.bytes()), ("loose", loose), ("event", next(way.parts())), ("changed", precedence.flipped(loose, 99))):
