@@ -9,6 +9,8 @@ import subprocess
 import sys
 from pathlib import Path
 
+import chains
+import precedence
 import reference
 from steps import Skipped, Wrong, case
 from tracing import needs
@@ -155,6 +157,16 @@ def symbols(room):
         raise Wrong(f"  calls beyond the allocator: {sorted(beyond)}\n  shown {sorted(shown)}\n  declared {sorted(declared)}")
 
 
+def loose(room, environment):
+    """The example for Python takes no chain with a thread that no anchor binds."""
+    _, way = chains.example()
+    room.put("p", precedence.with_carried(way, {0}).bytes())
+    room.put("k", "".join(f"{name} {step} {auth.hex()}\n" for name, (step, auth) in way.anchors().items()).encode())
+    done = subprocess.run([sys.executable, TOP / "examples/verify.py", "p", "k"], cwd=room.folder, env=environment, capture_output=True, text=True, timeout=60)
+    if (done.returncode, done.stdout[:22]) != (1, "rejected for reason 8,"):
+        raise Wrong(f"  of a chain with a carried thread verify.py says {done}")
+
+
 def installed(room):
     """what is installed serves a program in C and a script in Python"""
     built_library()
@@ -173,6 +185,7 @@ def installed(room):
     told = checked([program, "p", "k", "1000"], cwd=room.folder, env=environment)
     environment["TIMEWEAVE_LIBRARY"] = str(prefix / "lib/libtimeweave.so")
     said = checked([sys.executable, TOP / "examples/verify.py", "p", "k"], cwd=room.folder, env=environment)
+    loose(room, environment)
     if version.strip() != wanted_version() or not told.startswith("1000 of 1000 accepted") or said != "service a recorded b'milk' at step 1\n":
         raise Wrong(f"  version {version!r}\n  many_proofs.c: {told!r}\n  verify.py: {said!r}")
 
