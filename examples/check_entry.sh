@@ -8,6 +8,8 @@
 # that the line is of, and the file is as it was logged; 1 where that isn't so; 2 where the proof shows something else than an entry.
 set -eu
 
+[ $# -eq 2 ] || [ $# -eq 3 ] || { echo "check_entry.sh PROOF ANCHOR [FILE]" >&2; exit 2; }
+
 # Ends the check: the proof is a good one, of something else.
 other() {
     printf 'no entry: the proof shows %s\n%s\n' "$1" "$report" >&2

@@ -18,6 +18,7 @@ set -eu
 # (so that lengths are those in bytes, and the order is the same everywhere)
 export LC_ALL=C
 
+[ $# -eq 3 ] || { echo "daily_log.sh FOLDER SERVICE NAME" >&2; exit 2; }
 folder=$1 service=${2%/} name=$3
 store=$service/timeline.tw
 work=$(mktemp -d)

@@ -6,7 +6,7 @@
 A claim is written once, in the source: as a plain comment right above the clause, in the contract of a public function. The tables stand
 between the lines `<!-- claims, by tools/claims.py -->` and `<!-- end of claims -->`; what is above them is written by hand.
 
-The first page has the crates that the commands stand on; the second one the others, and the objects for tests. A claim that begins a sentence
+The first page has the crates that the commands and the library for C stand on; the second one the others, and the objects for tests. A claim that begins a sentence
 with `Status N of` has a row for each such sentence and what follows it. One that stands word for word above several clauses has one row, which
 names the others.
 """
@@ -25,6 +25,7 @@ import pictures  # noqa: E402
 
 PAGES = {False: TOP / "docs/claims.md", True: TOP / "docs/claims-rest.md"}
 MARKED = re.compile(r"(<!-- claims, by tools/claims.py -->\n).*?(<!-- end of claims -->)", re.S)
+USED = {"timeweave", "timeweave_c"}
 FOR_TESTS = re.compile(r"(Mem[A-Z]\w*|Weak)::")
 STATUS = re.compile(r"(?<=[.:]) (?=Status \d of )")
 
@@ -72,7 +73,7 @@ def table(rows):
 def claims(is_rest):
     """The claims of a page with their crates, from above down."""
     known = pictures.crates()
-    reached = {"timeweave"} | pictures.below_all("timeweave", known)
+    reached = {name for user in USED & known.keys() for name in {user} | pictures.below_all(user, known)}
     for name in sorted(known, key=lambda name: (-pictures.height(name, known), name)):
         for claim in declared.crates()[name].claims:
             if is_rest == (name not in reached or bool(FOR_TESTS.match(claim.function))):

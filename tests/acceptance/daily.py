@@ -2,6 +2,7 @@
 of one file."""
 
 import os
+import re
 import shutil
 import signal
 import subprocess
@@ -73,8 +74,8 @@ def stopping(text, place, passage):
 
 
 def places(text):
-    """The lines that have a command."""
-    return [place for place, line in enumerate(text.splitlines()) if line.strip() and not line.startswith("#") and place]
+    """The lines that have a command: none of them is a comment, or the begin or end of others alone."""
+    return [place for place, line in enumerate(text.splitlines()) if not re.fullmatch(r" *(#.*|\w+\(\) \{|\}|fi|done|esac|;;|else)?", line)]
 
 
 def stops_from(room, begun, passages):

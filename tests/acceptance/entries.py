@@ -96,13 +96,19 @@ def same_history(room):
     expect_same(room, proof, anchor(line, 3), anchor(line, 8), 2, "rejected 3 NotHeld s 9")
     expect_same(room, proof, anchor(line, 3), anchor(fork, 9), 2, "rejected 4 BadPath 0")
     expect_same(room, proof, anchor(line, 3).replace("s", "t"), anchor(line, 9), 2, "isn't of an event of t")
+    expect_same(room, proof, anchor(line, 3).strip(), f"a 1 {'0' * 64}\n{anchor(line, 9)}b 1 {'0' * 64}", 0, "one history")
+    # What goes wrong isn't told as two histories.
+    expect_same(room, proof, "", anchor(line, 9), 2, "no line")
+    expect_same(room, proof, f"s 3 {'0' * 62}\n", anchor(line, 9), 2, "rejected 1 Malformed")
+    expect_same(room, proof, anchor(line, 3), "", 2, "rejected 3 NotHeld")
+    expect_same(room, b"", anchor(line, 3), anchor(line, 9), 2, "rejected 1 Malformed 0")
 
 
 def without_the_program(room):
     """proofs are judged without the program as the program judges them"""
     write_example(room.folder)
     files = [(name, "anchors") for name in ("thread", "absent", "link")]
-    for number, way in enumerate(precedence.ways()[::8]):
+    for number, way in enumerate(precedence.ways()[::16]):
         lines = "".join(f"{name} {step} {auth.hex()}\n" for name, (step, auth) in way.anchors().items())
         loose = precedence.with_carried(way, {0}).bytes()
         for name, data in (("whole", way.bytes()), ("loose", loose), ("event", next(way.parts())), ("changed", precedence.flipped(loose, 99))):
