@@ -9,6 +9,8 @@ import subprocess
 import sys
 from pathlib import Path
 
+import chains
+import precedence
 import reference
 from steps import Skipped, Wrong, case
 from tracing import needs
@@ -80,6 +82,8 @@ def taken_apart(status, text):
         return " ".join(["rejected", str(reason.number), reason.name, *reason.fields]) + "\n"
     except timeweave.BadAnchors as bad:
         return f"unreadable anchors line {bad.line}\n"
+    except ValueError as wrong:
+        return str(wrong)
 
 
 def difference(words, files, status, output):
@@ -153,6 +157,16 @@ def symbols(room):
         raise Wrong(f"  calls beyond the allocator: {sorted(beyond)}\n  shown {sorted(shown)}\n  declared {sorted(declared)}")
 
 
+def loose(room, environment):
+    """The example for Python takes no chain with a thread that no anchor binds."""
+    _, way = chains.example()
+    room.put("p", precedence.with_carried(way, {0}).bytes())
+    room.put("k", "".join(f"{name} {step} {auth.hex()}\n" for name, (step, auth) in way.anchors().items()).encode())
+    done = subprocess.run([sys.executable, TOP / "examples/verify.py", "p", "k"], cwd=room.folder, env=environment, capture_output=True, text=True, timeout=60)
+    if (done.returncode, done.stdout[:22]) != (1, "rejected for reason 8,"):
+        raise Wrong(f"  of a chain with a carried thread verify.py says {done}")
+
+
 def installed(room):
     """what is installed serves a program in C and a script in Python"""
     built_library()
@@ -171,32 +185,35 @@ def installed(room):
     told = checked([program, "p", "k", "1000"], cwd=room.folder, env=environment)
     environment["TIMEWEAVE_LIBRARY"] = str(prefix / "lib/libtimeweave.so")
     said = checked([sys.executable, TOP / "examples/verify.py", "p", "k"], cwd=room.folder, env=environment)
+    loose(room, environment)
     if version.strip() != wanted_version() or not told.startswith("1000 of 1000 accepted") or said != "service a recorded b'milk' at step 1\n":
         raise Wrong(f"  version {version!r}\n  many_proofs.c: {told!r}\n  verify.py: {said!r}")
 
 
+def raised(proof, anchors):
+    """What the module for Python raises for a proof, or the report."""
+    try:
+        return timeweave.verify(proof, anchors)
+    except (timeweave.Rejected, timeweave.BadAnchors) as reason:
+        return type(reason).__name__, vars(reason)
+
+
 def module(room):
-    """the module for Python raises what it says, and gives the version"""
+    """the module for Python gives the report, raises the reason, and gives the version"""
     built_library()
     line = reference.Timeline("a", [[b"milk"]])
     proof, anchors = reference.proof_bytes(line, 1, 0, 1), f"a 1 {line.auths[1].hex()}\n"
-    report = timeweave.verify(proof, anchors)
-    found = [report.kind, report.events, timeweave.strict(bytearray(proof), anchors.encode()).events, timeweave.version()]
     event = timeweave.Event("a", 1, 0, b"milk")
-    if found != ["exists", [event], [event], wanted_version()]:
-        raise Wrong(f"  got {found}")
-    try:
-        timeweave.verify(proof.replace(b"milk", b"beer"), anchors)
-        raise Wrong("  a forged proof is accepted")
-    except timeweave.Rejected as reason:
-        if (reason.number, reason.name, reason.fields) != (6, "BadEvent", ["0"]):
-            raise Wrong(f"  got {reason}") from None
-    try:
-        timeweave.verify(proof, anchors + "a 1")
-        raise Wrong("  a bad line of anchors is taken")
-    except timeweave.BadAnchors as bad:
-        if bad.line != 2:
-            raise Wrong(f"  got {bad}") from None
+    for given, wanted in (
+        ((proof, anchors), timeweave.Report("exists", f"accepted exists\nevent a 1 0 {b'milk'.hex()}\n", [event])),
+        ((bytearray(proof), anchors.encode()), timeweave.Report("exists", f"accepted exists\nevent a 1 0 {b'milk'.hex()}\n", [event])),
+        ((proof.replace(b"milk", b"beer"), anchors), ("Rejected", {"number": 6, "name": "BadEvent", "fields": ["0"]})),
+        ((proof, anchors + "a 1"), ("BadAnchors", {"line": 2})),
+    ):
+        if raised(*given) != wanted:
+            raise Wrong(f"  wanted {wanted}\n  got    {raised(*given)}")
+    if timeweave.version() != wanted_version():
+        raise Wrong(f"  the version is {timeweave.version()}")
 
 
 def each_proof(room):
