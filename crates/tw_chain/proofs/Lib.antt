@@ -10,3 +10,7 @@ pub mod ProofSizes
 pub mod Completeness
 pub mod OwnSpelling
 pub mod ChainBytes
+pub mod PassesLaws
+pub mod LowerSteps
+pub mod FoundSteps
+pub mod Lowest

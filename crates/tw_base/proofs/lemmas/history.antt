@@ -4,6 +4,7 @@ pub mod KeyTests
 pub mod Asked
 pub mod Members
 pub mod Leaves
+pub mod AskedLists
 pub mod Trees
 pub mod Archives
 pub mod SoundEvents
