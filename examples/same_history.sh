@@ -4,23 +4,30 @@
 #
 #     examples/same_history.sh PROOF OLDER NEWER
 #
-# OLDER and NEWER are files of one line each. The status is 0 where they are of one history; 1 where the service has shown another history to
-# whoever has the one line than to whoever has the other; 2 where this proof doesn't tell. It needs timeweave on the path, and xxd or perl.
-set -eu
+# OLDER is a file of one line, NEWER one of the newer line or of lines as `verify` takes them. The status is 0 where the two are of one history; 1
+# where the service has shown another history to whoever has the one line than to whoever has the other; 2 where this doesn't tell. It needs
+# timeweave on the path, and xxd or perl.
+set -u
 
-[ $# -eq 3 ] || { echo "same_history.sh PROOF OLDER NEWER" >&2; exit 2; }
-read -r name step held < "$2"
-read -r newer top _ < "$3"
-work=$(mktemp -d)
+# Ends where nothing is known, with the reason.
+unknown() {
+    echo "not known: $1" >&2
+    exit 2
+}
+
+[ $# -eq 3 ] || unknown "same_history.sh PROOF OLDER NEWER"
+read -r name step held < "$2" || [ -n "${held-}" ] || unknown "$2 has no line"
+work=$(mktemp -d) || unknown "there is no folder to work in"
 trap 'rm -r "$work"' EXIT
 
 # Whether the proof is of that step under the newer line.
-report=$(timeweave strict "$1" "$3") || { echo "not shown: $report" >&2; exit 2; }
+report=$(timeweave strict "$1" "$3") || unknown "$report"
 case $report in
     "accepted exists
 event $name $step "*) ;;
-    *) echo "not shown: the proof isn't of an event of $name in step $step: $report" >&2; exit 2 ;;
+    *) unknown "the proof isn't of an event of $name in step $step: $report" ;;
 esac
+top=$(sed -n "s/^$name \([0-9]*\) .*/\1/p" "$3")
 
 # From the top down the proof has a path: for each link 32 bytes, and as many for each other link of the step that it leaves
 # (docs/formats.md, "Path"). How many bytes it has follows from the two steps.
@@ -41,9 +48,13 @@ done
     printf %s "$held" | if command -v xxd > /dev/null; then xxd -r -p; else perl -ne 'print pack "H*", $_'; fi
     tail -c +38 "$1" | head -c "$size"
 } > "$work/link"
-if timeweave strict "$work/link" "$3" > "$work/report"; then
-    echo "one history: steps $step and $top of $name"
-else
-    echo "two histories: $newer at step $top has another step $step than your line of it" >&2
-    exit 1
-fi
+report=$(timeweave strict "$work/link" "$3")
+case $report in
+    "accepted link
+link $name $step $top "*) echo "one history: steps $step and $top of $name" ;;
+    "rejected 4 BadPath 0")
+        echo "two histories: $name at step $top has another step $step than your line of it" >&2
+        exit 1
+        ;;
+    *) unknown "no link could be made: $report" ;;
+esac

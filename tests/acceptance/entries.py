@@ -96,6 +96,12 @@ def same_history(room):
     expect_same(room, proof, anchor(line, 3), anchor(line, 8), 2, "rejected 3 NotHeld s 9")
     expect_same(room, proof, anchor(line, 3), anchor(fork, 9), 2, "rejected 4 BadPath 0")
     expect_same(room, proof, anchor(line, 3).replace("s", "t"), anchor(line, 9), 2, "isn't of an event of t")
+    expect_same(room, proof, anchor(line, 3).strip(), f"a 1 {'0' * 64}\n{anchor(line, 9)}b 1 {'0' * 64}", 0, "one history")
+    # What goes wrong isn't told as two histories.
+    expect_same(room, proof, "", anchor(line, 9), 2, "no line")
+    expect_same(room, proof, f"s 3 {'0' * 62}\n", anchor(line, 9), 2, "rejected 1 Malformed")
+    expect_same(room, proof, anchor(line, 3), "", 2, "rejected 3 NotHeld")
+    expect_same(room, b"", anchor(line, 3), anchor(line, 9), 2, "rejected 1 Malformed 0")
 
 
 def without_the_program(room):

@@ -19,8 +19,8 @@ Says fault found = SaysOf tree_faults (tree_faults fault) found
 module _ {X Y : Type 0} where
   pub fault_on : (fault : TreeFault) (one : Found X) (other : Found Y) → ((page : ℕ) → one ≡ Bad page → other ≡ Bad page) → Says fault one → Says fault other
   fault_on (BadPage page) one other on is = on page is
-  fault_on Present one other on is = absurd is
-  fault_on Untrue one other on is = absurd is
+  fault_on Present one other on is = tt
+  fault_on Untrue one other on is = tt
   fault_on DiskFault one other on is = tt
   fault_on NoMemory one other on is = tt
 

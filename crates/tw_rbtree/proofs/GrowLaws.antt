@@ -141,7 +141,7 @@ module _ (dig : List ℕ → List ℕ) (ps : Image) (entry : Entry) (low high : 
         goes_on ∙ is_on (on q) (λ stops. Is (here dig ps (Absent (key_of entry)) low high p ∷ stops)) (below_is.0 ∷ below_is.1) below_is.3,
         below_is.4,
       )
-      fault-up Untrue below_is = absurd below_is
+      fault-up Untrue below_is = tt
       fault-up (BadPage page) below_is =
           subst (λ (w : Found (List Stop)). Says (BadPage page) w) (sym goes_on) (bad_on (BadPage page) (on q) (λ stops. Is (here dig ps (Absent (key_of entry)) low high p ∷ stops)) below_is)
       fault-up DiskFault below_is = tt
@@ -165,7 +165,7 @@ grown-passed level (Err e) f found is has = subst (λ (x : TreeFault). AnswersGr
 
 pub as_grown_fault : (level : ℕ) (f : TreeFault) (found : Found (List Stop)) → f ≢ Present → Says f found → AnswersGrown level (Err f) found
 as_grown_fault level Present found never is = absurd (never refl)
-as_grown_fault level Untrue found never is = absurd is
+as_grown_fault level Untrue found never is = tt
 as_grown_fault level (BadPage page) found never is = is
 as_grown_fault level DiskFault found never is = tt
 as_grown_fault level NoMemory found never is = tt

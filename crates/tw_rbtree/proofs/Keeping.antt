@@ -75,7 +75,7 @@ module _ (dig : List ℕ → List ℕ) (Has : OfPage) (ps : Image) where
   below-once zero c s t a b = a ∙ sym b
   below-once (suc level) c s t a b = tree_page-once (IsTreeBelow dig Has ps level) (below-once level) level 12 c.page s t a.1 b.1
 
-  root-once : (page : ℕ) (s t : Tree) → IsRootTree dig Has ps page s → IsRootTree dig Has ps page t → s ≡ t
+  pub root-once : (page : ℕ) (s t : Tree) → IsRootTree dig Has ps page s → IsRootTree dig Has ps page t → s ≡ t
   root-once page s t (inl a) (inl b) = a.1 ∙ sym b.1
   root-once page s t (inl a) (inr (level, b)) = absurd (omega (arith, a.0, b.at.low))
   root-once page s t (inr (level, a)) (inl b) = absurd (omega (arith, b.0, a.at.low))
@@ -100,7 +100,7 @@ module _ (dig : List ℕ → List ℕ) (Has : OfPage) (ps : Image) where
     has = tt;
   }
 
-  below-any : (level : ℕ) (c : Child) (t : Tree) → IsTreeBelow dig Has ps level c t → IsTreeBelow dig any_page ps level c t
+  pub below-any : (level : ℕ) (c : Child) (t : Tree) → IsTreeBelow dig Has ps level c t → IsTreeBelow dig any_page ps level c t
   unfolding IsTreeBelow
   below-any zero c t is = is
   below-any (suc level) c t is =

@@ -81,7 +81,7 @@ insert-passed root (Err e) f found is has = subst (λ (x : TreeFault). AnswersIn
 
 pub as_insert_fault : (root : Root) (f : TreeFault) (found : Found (List Stop)) → f ≢ Present → Says f found → AnswersInsert root (Err f) found
 as_insert_fault root Present found never is = absurd (never refl)
-as_insert_fault root Untrue found never is = absurd is
+as_insert_fault root Untrue found never is = tt
 as_insert_fault root (BadPage page) found never is = inl is
 as_insert_fault root DiskFault found never is = tt
 as_insert_fault root NoMemory found never is = tt

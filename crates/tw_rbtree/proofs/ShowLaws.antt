@@ -88,7 +88,7 @@ module _ (dig : List ℕ → List ℕ) (ask : Ask) where
       pub shown-fault : (f : TreeFault) → AnswersShown dig ask (Err f) (on q) → AnswersShown dig ask (Err f) (way_from dig ps ask level low high p)
       shown-fault Untrue shown =
           (here dig ps ask low high p, shown.0 ∷ shown.1, goes_on ∙ is_on (on q) (λ stops. Is (here dig ps ask low high p ∷ stops)) (shown.0 ∷ shown.1) shown.2, shown.3)
-      shown-fault Present shown = absurd shown
+      shown-fault Present shown = tt
       shown-fault (BadPage page) shown =
           subst (λ (w : Found (List Stop)). Says (BadPage page) w) (sym goes_on) (bad_on (BadPage page) (on q) (λ stops. Is (here dig ps ask low high p ∷ stops)) shown)
       shown-fault DiskFault shown = tt
@@ -133,7 +133,7 @@ module _ (dig : List ℕ → List ℕ) (ask : Ask) where
 
       pub path-fault : (f : TreeFault) → AnswersShown dig ask (Err f) (way_from dig ps ask p.level None None p) → AnswersPath dig ask (Err f) (way dig ps ask root)
       path-fault Untrue shown = (shown.0 ∷ shown.1, way_is ∙ shown.2, shown.3)
-      path-fault Present shown = absurd shown
+      path-fault Present shown = tt
       path-fault (BadPage page) shown = way_is ∙ shown
       path-fault DiskFault shown = tt
       path-fault NoMemory shown = tt

@@ -75,7 +75,7 @@ module _ (dig : List ℕ → List ℕ) (ps : Image) where
   all-counts R m least (c ∷ cs) (t ∷ ts) are = let rest = all-counts R m least cs ts are.1 in ((least c t are.0, rest.0), ap suc rest.1)
 
   -- a page with so many keys over children with so many entries
-  page-count : (R : Child → Tree → Type 0) (m level least page : ℕ) (t : Tree) → ((c : Child) (t : Tree) → R c t → m ≤ length (entries t) + 1) → IsTreePage dig any_page ps R level least page t
+  pub page-count : (R : Child → Tree → Type 0) (m level least page : ℕ) (t : Tree) → ((c : Child) (t : Tree) → R c t → m ≤ length (entries t) + 1) → IsTreePage dig any_page ps R level least page t
       → (least + 1) * m ≤ length (entries t) + 1
   page-count R m level least page t below is =
       let counts = all-counts R m below is.node.children is.trees is.are_trees in
@@ -91,7 +91,7 @@ module _ (dig : List ℕ → List ℕ) (ps : Image) where
       map-length [] = refl
       map-length (t ∷ ts) = ap suc (map-length ts)
 
-  below-count : (level : ℕ) (c : Child) (t : Tree) → IsTreeBelow dig any_page ps level c t → 13 ^ level ≤ length (entries t) + 1
+  pub below-count : (level : ℕ) (c : Child) (t : Tree) → IsTreeBelow dig any_page ps level c t → 13 ^ level ≤ length (entries t) + 1
   unfolding IsTreeBelow
   below-count zero c t is = omega arith
   below-count (suc level) c t is =

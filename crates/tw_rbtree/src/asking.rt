@@ -1,13 +1,16 @@
 // What a tree in pages has of a key, and next to it.
 
-ghost use Rattle.std.specs.Prelude.{◌≡◌, Some, false};
+ghost use Rattle.std.specs.Prelude.{◌≡◌, Some, false, IfOk, IfSome};
+ghost use Rattle.tw_base.specs.history.Entries.{KeyBelow, key_of};
+ghost use Rattle.tw_base.specs.history.Limits.{IsEntryInRange};
 ghost use Rattle.tw_disk.specs.Answers.{AnswersAs, FaultsRise, NeverRefuses, ReadsPages, has_failed};
 ghost use Rattle.tw_disk.specs.Image.{Image};
 ghost use Rattle.tw_disk.specs.Pages.{OnlyReads};
 ghost use Rattle.tw_disk.specs.WalkFaults.{walk_faults};
+ghost use Rattle.tw_rbtree.specs.Beside.{AreBeside, IsSoughtBy};
 ghost use Rattle.tw_rbtree.specs.Ways.{end_from, found_after, found_before, found_with, way_end};
 
-use crate::reading::{read_child, read_root};
+use crate::reading::{read_child, read_root, see_node};
 use crate::seeking::{Sought, seek};
 use tw_base::{Ask, Entry, Hasher, Key, Root};
 use tw_disk::{Pages, WalkFault};
@@ -21,12 +24,15 @@ fn end_below<P: Pages, H: Hasher>(
     low: &Option<Entry>,
     high: &Option<Entry>,
 ) -> Result<Sought, WalkFault>
+    requires beside { AreBeside ask.now low.now high.now }
+    ensures tells { IfOk result (λ s. IsSoughtBy ask.now s) }
     ensures answer { (ps : Image) → (P.view pages.old).list ≡ Some ps →
         AnswersAs walk_faults (λ s. s) result (end_from H.dig ps ask.now node.now.level low.now high.now node.now) }
     ensures own { NeverRefuses walk_faults result }
     ensures kept { OnlyReads P.view P.same pages.old pages.new (has_failed walk_faults result ≡ false) }
     ensures faults { FaultsRise walk_faults P.view P.same pages.old pages.new result }
 {
+    see_node(node);
     let here = seek(node, ask, low, high);
     let Found::Between(place) = here.at else {
         return Ok(here);
@@ -42,6 +48,7 @@ fn end_below<P: Pages, H: Hasher>(
 /// Where the way from the root down ends.
 #[tactic(auto, using(crate::proofs::WayLaws::root_ends))]
 fn find_end<P: Pages, H: Hasher>(pages: &mut P, root: &Root, ask: &Ask) -> Result<Sought, WalkFault>
+    ensures tells { IfOk result (λ s. IsSoughtBy ask.now s) }
     ensures reads { ReadsPages walk_faults P.view P.same pages.old pages.new (λ s. s) result (λ ps. way_end H.dig ps ask.now root.now) }
 {
     if root.page == 0 {
@@ -68,6 +75,8 @@ pub fn get<P: Pages, H: Hasher>(
     // answer is what is found in them, whatever they keep, a disk fault excepted: the entry of the key at the
     // end of the way down, or `BadPage` with the first page met that doesn't fit the way.
     ensures reads { ReadsPages walk_faults P.view P.same pages.old pages.new (λ e. e) result (λ ps. found_with H.dig ps root.now key.now) }
+    // Over any pages, told or not, an entry that is answered has the asked key, and its steps are within 1 to 2^40 - 1.
+    ensures key { IfOk result (λ o. IfSome o (λ e. (key_of e ≡ key.now) × IsEntryInRange e)) }
 {
     let end = find_end::<P, H>(pages, root, &Ask::Absent(*key))?;
     Ok(end.met)
@@ -85,6 +94,8 @@ pub fn before<P: Pages, H: Hasher>(
     // answer is what is found in them, whatever they keep, a disk fault excepted: the nearest entry on the
     // left of the way down, or `BadPage` with the first page met that doesn't fit the way.
     ensures reads { ReadsPages walk_faults P.view P.same pages.old pages.new (λ e. e) result (λ ps. found_before H.dig ps root.now key.now) }
+    // Over any pages, told or not, an entry that is answered is below the key, and its steps are within 1 to 2^40 - 1.
+    ensures key { IfOk result (λ o. IfSome o (λ e. KeyBelow (key_of e) key.now × IsEntryInRange e)) }
 {
     let end = find_end::<P, H>(pages, root, &Ask::Below(*key))?;
     Ok(end.low)
@@ -102,6 +113,8 @@ pub fn after<P: Pages, H: Hasher>(
     // answer is what is found in them, whatever they keep, a disk fault excepted: the nearest entry on the
     // right of the way down, or `BadPage` with the first page met that doesn't fit the way.
     ensures reads { ReadsPages walk_faults P.view P.same pages.old pages.new (λ e. e) result (λ ps. found_after H.dig ps root.now key.now) }
+    // Over any pages, told or not, an entry that is answered is above the key, and its steps are within 1 to 2^40 - 1.
+    ensures key { IfOk result (λ o. IfSome o (λ e. KeyBelow key.now (key_of e) × IsEntryInRange e)) }
 {
     let end = find_end::<P, H>(pages, root, &Ask::Above(*key))?;
     Ok(end.high)

@@ -24,14 +24,14 @@ ghost use Rattle.tw_rbtree.specs.Ways.{way, way_from};
 ghost use Rattle.tw_rbtree.specs.declared.limits.TheConstants.{MOST_STAGED};
 
 use crate::fault::TreeFault;
-use crate::reading::{read_child, read_root};
+use crate::reading::{read_child, read_root, see_node};
 use crate::seeking::seek;
 use std::alloc::Global;
 use tw_base::{Ask, Entry, Hasher, NoMemory, Root, empty_tree, entry_key};
 use tw_disk::Pages;
 use tw_rbnode::limits::TOP_LEVEL;
 use tw_rbnode::{
-    Added, Child, Found, RbNode, add, child_at, keys, label, level, put_child, single, write_node,
+    Added, Child, Found, RbNode, add, child_at, label, level, put_child, single, write_node,
 };
 
 /// What a part of the tree has become: one child in its place, or two with an entry between them.
@@ -43,13 +43,6 @@ pub(crate) enum Grown {
         middle: Entry,
         right: Child,
     },
-}
-
-/// Tells that a page is a page.
-fn see_node(node: &RbNode)
-    ensures { IsNode node.now }
-{
-    let _count = keys(node);
 }
 
 /// Tells that pages are pages.

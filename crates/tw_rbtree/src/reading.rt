@@ -5,6 +5,7 @@ ghost use Rattle.tw_disk.specs.Answers.{AnswersAs, ReadsPages};
 ghost use Rattle.tw_disk.specs.WalkFaults.{walk_faults};
 ghost use Rattle.tw_disk.specs.declared.walk_fault.WalkFault.TheVariants.{BadPage};
 ghost use Rattle.tw_rbnode.specs.Children.{HasChildren};
+ghost use Rattle.tw_rbnode.specs.Page.{IsNode};
 ghost use Rattle.tw_rbtree.specs.Reading.{child_in, fits as fits_there, is_above as is_above_of, is_below as is_below_of, lie_between, node_from as node_from_bytes, node_in};
 
 use crate::limits::LEAST_KEYS;
@@ -12,6 +13,13 @@ use tw_base::limits::PAGE_SIZE;
 use tw_base::{Entry, Hasher, Page, entry_key, is_below};
 use tw_disk::{Pages, WalkFault, read_page};
 use tw_rbnode::{RbNode, entry_at, keys, level, read_node};
+
+/// Tells that a page is a page.
+pub(crate) fn see_node(node: &RbNode)
+    ensures { IsNode node.now }
+{
+    let _count = keys(node);
+}
 
 /// The tree page that the bytes of the page of this number are.
 fn node_from<H: Hasher>(bytes: &Page, page: u64) -> Result<RbNode, WalkFault>

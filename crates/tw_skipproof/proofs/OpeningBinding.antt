@@ -37,7 +37,7 @@ small_time h i sound = within (time_at h (suc i)) (sound-time h (suc i) sound)
 
 module _ (dig : List ℕ → List ℕ) (size : (text : List ℕ) → length (dig text) ≡ 32) (are : (text : List ℕ) → AreBytes (dig text)) where
   -- what an opening hashes is bytes
-  opening_texts-bytes : (step : ℕ) (o : Opening) → HasSizes o → length o.others < 255 → Each AreBytes (opening_texts dig step o)
+  pub opening_texts-bytes : (step : ℕ) (o : Opening) → HasSizes o → length o.others < 255 → Each AreBytes (opening_texts dig step o)
   unfolding opening_texts
   opening_texts-bytes step o sizes few =
       let datum = step_datum_text-bytes o.event_root o.archive_root o.count o.time sizes.event_root.1 sizes.archive_root.1 in

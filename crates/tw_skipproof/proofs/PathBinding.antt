@@ -37,7 +37,7 @@ length-with others level label =
     ∙ (let whole = ap length (take-append-drop level others) in let parts = length-append (take level others) (drop level others) in omega (arith, whole, parts))
 
 -- what climbing hashes is bytes
-path_texts-bytes : (dig : List ℕ → List ℕ) (size : (text : List ℕ) → length (dig text) ≡ 32) (are : (text : List ℕ) → AreBytes (dig text))
+pub path_texts-bytes : (dig : List ℕ → List ℕ) (size : (text : List ℕ) → length (dig text) ≡ 32) (are : (text : List ℕ) → AreBytes (dig text))
     (links : List Link) (upper lower : ℕ) (bottom : List ℕ) → AreBytes bottom → HasLinkSizes links → HasShape links upper lower → upper < 2 ^ 40 → Each AreBytes (path_texts dig links upper lower bottom)
 unfolding path_texts climbed
 path_texts-bytes dig size are [] upper lower bottom is sizes shape small = tt

@@ -10,6 +10,8 @@ use Rattle.tw_rbtree.specs.Ways.{child_page, end_from, seek}
 use Rattle.tw_rbtree.proofs.FoundLaws.{walk_bad_on, walk_passed}
 use Rattle.tw_rbtree.proofs.PageLaws.{IsSpotOf, seek-there}
 use Rattle.tw_rbtree.proofs.WayLaws.{child_page-get, end-at, end-goes, end-leaf}
+use Rattle.tw_rbtree.specs.Beside.{IsSoughtBy}
+use Rattle.tw_rbtree.proofs.Besides.{seek-beside}
 use Rattle.tw_rbtree.proofs.asking.+end_below.Goals as goal
 use Rattle.tw_disk.specs.Answers.{AnswersAs, SaysOf}
 use Rattle.tw_disk.specs.WalkFaults.{walk_faults}
@@ -77,3 +79,19 @@ returns-clause-answer g t c = λ ps told.
     let there : end_from g.H.Hasher.dig ps ask p.level low high p ≡ end_from g.H.Hasher.dig ps ask q.level s.low s.high q =
     goes ∙ on ∙ (λ i. end_from g.H.Hasher.dig ps ask (sym (c.in_ok-child.ensures.level ∙ lower) i) (sym same i).low (sym same i).high q) in
     subst (λ (f : Found Sought). AnswersAs walk_faults (λ (x : Sought). x) c.end_below.result f) (sym there) (c.end_below.ensures.answer ps (c.in_ok-child.ensures.reads.kept.list_kept ∙ told))
+
+pub returns-in_default-clause-tells : goal.returns-in_default-clause-tells
+returns-in_default-clause-tells g t c =
+    subst (IsSoughtBy c.args.ask.now) (sym c.seek-here.ensures)
+    (seek-beside c.args.ask.now 0 c.args.low.now c.args.high.now c.args.node.now.entries c.requires.beside c.see_node.ensures.ranges)
+
+pub returns-then-level-eq0-clause-tells : goal.returns-then-level-eq0-clause-tells
+returns-then-level-eq0-clause-tells g t c =
+    subst (IsSoughtBy c.args.ask.now) (sym c.seek-here.ensures)
+    (seek-beside c.args.ask.now 0 c.args.low.now c.args.high.now c.args.node.now.entries c.requires.beside c.see_node.ensures.ranges)
+
+pub end_below-requires : goal.end_below-requires
+end_below-requires g t c κs within =
+    let tells = subst (IsSoughtBy c.args.ask.now) (sym c.seek-here.ensures)
+    (seek-beside c.args.ask.now 0 c.args.low.now c.args.high.now c.args.node.now.entries c.requires.beside c.see_node.ensures.ranges) in
+    (omega (arith, c.decreases, c.in_ok-child.ensures.level, c.level-2.ensures, c.level.ensures, c.if-level-eq0.false), (within.0, (within.1, tells.1)))

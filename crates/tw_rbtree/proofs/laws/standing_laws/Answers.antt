@@ -1,6 +1,8 @@
 use Rattle.tw_rbtree.specs.Ways.{end_of, nowhere}
 use Rattle.tw_rbtree.proofs.RootWays.{after-found, before-found, root-way, so-found, with-found}
 use Rattle.tw_rbtree.proofs.PageLaws.{is-root, root-is}
+use Rattle.tw_rbtree.proofs.Fullness.{no-bad-page}
+use Rattle.tw_rbtree.proofs.StandingLaws.{root-key, stands-ranges}
 use Rattle.tw_rbtree.proofs.laws.standing_laws.Goals as goal
 
 pub returns-clause-page : goal.returns-clause-page
@@ -19,3 +21,12 @@ pub returns-clause-path : goal.returns-clause-path
 returns-clause-path g c = λ ps root t ask stands.
     let w = root-way g.H.Hasher.dig ps ask root t stands in
     (w.stops, w.found, so-found g.H.Hasher.dig ps root t ask (end_of nowhere w.stops) w.tells, w.proof)
+
+pub returns-clause-present : goal.returns-clause-present
+returns-clause-present g c = λ ps root e. root-key e g.H.Hasher.dig ps root
+
+pub returns-clause-ranges : goal.returns-clause-ranges
+returns-clause-ranges g c = λ ps root t stands. stands-ranges g.H.Hasher.dig ps root t stands
+
+pub returns-clause-room : goal.returns-clause-room
+returns-clause-room g c = λ ps root t entry page stands few over. no-bad-page g.H.Hasher.dig ps root t entry page stands few over
