@@ -8,7 +8,7 @@ use std::path::Path;
 use std::rt::Files;
 
 /// Opens the file to read it, and waits while another program holds its lock to write. None where its folder has no such file.
-pub fn open_to_read<R: Files<File = File>>(rt: &R, path: &str) -> io::Result<Option<File>> {
+pub(crate) fn open_to_read<R: Files<File = File>>(rt: &R, path: &str) -> io::Result<Option<File>> {
     match fs::open(rt, path) {
         Ok(file) => {
             file.lock_shared()?;
@@ -25,7 +25,7 @@ pub fn open_to_read<R: Files<File = File>>(rt: &R, path: &str) -> io::Result<Opt
 /// Opens the file to read and write it, made where there is none, and waits while another program holds its lock. Its folder
 /// is synced each time, so that nothing is written into a file whose name a crash might still take away, as that of a copy; of
 /// a symbolic link the folder of its target is synced too. A file that lost its name to another one meanwhile is an error.
-pub fn open_to_write<R: Files<File = File> + Alloc>(rt: &R, path: &str) -> io::Result<File> {
+pub(crate) fn open_to_write<R: Files<File = File> + Alloc>(rt: &R, path: &str) -> io::Result<File> {
     let file = OpenOptions::new()
         .read(true)
         .write(true)
