@@ -15,3 +15,4 @@ pub mod PassesLaws
 pub mod LowerSteps
 pub mod FoundSteps
 pub mod Lowest
+pub mod HeldServices

@@ -4,6 +4,7 @@ pub mod Passing
 pub mod Finding
 pub mod Accepting
 pub mod Claiming
+pub mod Services
 pub mod OwnProofs
 pub mod Reasons
 pub mod Binding
