@@ -3,7 +3,7 @@
 use std::alloc::Global;
 use std::test::Fail;
 use tw_base::{Failed, NoMemory};
-use tw_cache::Cached;
+use tw_cache::{Cached, Room};
 use tw_disk::{MemDisk, MemPages, Pages};
 use tw_pages::Store;
 
@@ -101,5 +101,16 @@ fn a_failed_read_is_tried_again(rt: HostRuntime) -> Result<(), Fail> {
     assert_eq!(rt; last_byte(&mut pages, 4)?, Some(4));
     assert_eq!(rt; last_byte(&mut pages, 4)?, Some(4));
     assert_eq!(rt; pages.close().reads(), 2);
+    Ok(())
+}
+
+#[test]
+fn a_page_over_a_room_made_before_is_read_once_below(rt: HostRuntime) -> Result<(), Fail> {
+    let room = Room::new(rt.alloc())?;
+    let mut pages = Cached::over(room, MemPages::new(rt.alloc())?);
+    assert_eq!(rt; stage_byte(&mut pages, 4)?, 4);
+    assert_eq!(rt; last_byte(&mut pages, 4)?, Some(4));
+    assert_eq!(rt; last_byte(&mut pages, 4)?, Some(4));
+    assert_eq!(rt; pages.close().reads(), 1);
     Ok(())
 }
