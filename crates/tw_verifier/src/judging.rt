@@ -57,7 +57,10 @@ fn ended(stage: Stage) -> Option<Judgement>
 {
     match stage {
         Stage::Done(judgement) => Some(judgement),
-        _ => None,
+        unfinished => {
+            drop(unfinished);
+            None
+        }
     }
 }
 
