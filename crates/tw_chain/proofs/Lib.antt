@@ -16,3 +16,4 @@ pub mod LowerSteps
 pub mod FoundSteps
 pub mod Lowest
 pub mod HeldServices
+pub mod OwnMade

@@ -1,6 +1,8 @@
 -- The proofs that a history itself has, of each kind.
 use Rattle.std.specs.Prelude.{◌≡◌, ◌≢◌, ℕ, ◌<◌, ◌≤◌, List, Some}
 use Rattle.tw_base.specs.declared.kinds.limits.TheConstants.{LAST_STEP}
+use Rattle.tw_base.specs.declared.history.thread.Entry.{Entry}
+use Rattle.tw_base.specs.declared.history.thread.Key.{Key}
 use Rattle.tw_base.specs.declared.history.tree_proof.Ask.TheVariants as ask
 use Rattle.tw_base.specs.history.Auth.{auth}
 use Rattle.tw_base.specs.history.History.{History, entry_at, received}
@@ -8,6 +10,7 @@ use Rattle.tw_base.specs.history.Entries.{key_of}
 use Rattle.tw_base.specs.kinds.Lists.{Each}
 use Rattle.tw_base.specs.kinds.Names.{IsName}
 use Rattle.tw_base.specs.history.Tree.{tree}
+use Rattle.tw_skipproof.specs.declared.existence.ExistenceProof.{ExistenceProof}
 use Rattle.tw_skipproof.specs.HistoryProofs.{IsExistenceOf, IsPartOf, IsPathOf}
 use Rattle.tw_treeproof.specs.Making.{proof_of}
 use Rattle.tw_chain.specs.declared.proof.AbsenceProof.{AbsenceProof}
@@ -49,3 +52,21 @@ module _ (dig : List ℕ → List ℕ) (h : History) (step top : ℕ) where
   IsOwnProof (Archived p) = IsThreadProofOf p
   IsOwnProof (Absent p) = IsAbsenceProofOf p
   IsOwnProof (Linked p) = IsLinkProofOf p
+
+  -- ---- that there is one
+
+  -- of the event at this index of the step
+  abbrev pub HasOwnEvent : (index : ℕ) → Type 0
+  HasOwnEvent index = (p : ExistenceProof) × IsExistenceOf dig h step index top p
+
+  -- of the thread of this entry, up to the step
+  abbrev pub HasOwnThread : Entry → Type 0
+  HasOwnThread entry = (p : ThreadProof) × (p.entry ≡ entry) × IsOwnProof (Archived p)
+
+  -- that up to the step there is no thread of this key
+  abbrev pub HasOwnAbsence : Key → Type 0
+  HasOwnAbsence key = (p : AbsenceProof) × (p.key ≡ key) × IsOwnProof (Absent p)
+
+  -- of the step's authenticator
+  abbrev pub HasOwnLink : Type 0
+  HasOwnLink = (p : LinkProof) × IsOwnProof (Linked p)

@@ -1,14 +1,19 @@
 // The laws of proofs: their spelling, and what an accepted one says of histories.
 
-ghost use Rattle.std.specs.Prelude.{◌≡◌, ℕ, ◌<◌, ◌≤◌, List, length, Some, slice_get};
+ghost use Rattle.std.specs.Prelude.{◌≡◌, ◌≢◌, ℕ, ◌<◌, ◌≤◌, List, length, Some, slice_get};
+ghost use Rattle.tw_base.specs.declared.history.thread.Entry.{Entry};
+ghost use Rattle.tw_base.specs.declared.history.thread.Key.{Key};
 ghost use Rattle.tw_base.specs.declared.history.thread.Thread.{Thread};
+ghost use Rattle.tw_base.specs.declared.kinds.limits.TheConstants.{LAST_STEP};
 ghost use Rattle.tw_base.specs.history.Anchors.{anchor_of};
 ghost use Rattle.tw_base.specs.history.Auth.{auth};
 ghost use Rattle.tw_base.specs.format.Codecs.{IsUnambiguous};
 ghost use Rattle.tw_base.specs.kinds.Bytes.{AreBytes};
 ghost use Rattle.tw_base.specs.kinds.Lists.{Each};
+ghost use Rattle.tw_base.specs.kinds.Names.{IsName};
 ghost use Rattle.tw_base.specs.format.Formats.{Spells};
-ghost use Rattle.tw_base.specs.history.History.{History, events_at};
+ghost use Rattle.tw_base.specs.history.Entries.{key_of};
+ghost use Rattle.tw_base.specs.history.History.{History, entry_at, events_at, received};
 ghost use Rattle.tw_base.specs.history.Sound.{IsSound};
 ghost use Rattle.tw_base.specs.history.Tree.{tree};
 ghost use Rattle.tw_skipproof.specs.declared.existence.ExistenceProof.{ExistenceProof};
@@ -21,7 +26,7 @@ ghost use Rattle.tw_chain.specs.declared.proof.Proof.TheVariants.{Exists};
 ghost use Rattle.tw_chain.specs.Accepting.{Accepts, IsAccepted, claim_of, proof_texts, report_of};
 ghost use Rattle.tw_chain.specs.Binding.{BindsReport};
 ghost use Rattle.tw_chain.specs.Claiming.{ClaimsOf, claim_at};
-ghost use Rattle.tw_chain.specs.OwnProofs.{IsOwnProof};
+ghost use Rattle.tw_chain.specs.OwnProofs.{HasOwnAbsence, HasOwnEvent, HasOwnLink, HasOwnThread, IsOwnProof};
 ghost use Rattle.tw_chain.specs.Proofs.{proof_bytes, proof_codec, proof_layout};
 ghost use Rattle.tw_chain.specs.Services.{HoldsItsServices};
 
@@ -32,6 +37,9 @@ use tw_base::Hasher;
 /// authenticator of the top. It claims that this event stands at this index of the step, with the
 /// step's time or none. Where the history is sound and has the top, the proof is spelled, by what
 /// `write_existence` writes of it, and these bytes are accepted there.
+///
+/// There is such a proof of each event of a history, each thread that it received, each key of which it
+/// received none, and each step, under each top from there on.
 ///
 /// A sound history's proofs of a thread that was received, of a key of which none was, and of a step's
 /// authenticator are accepted in the same way, claim what they are of, and are spelled where no way
@@ -56,6 +64,20 @@ pub fn completeness_laws<H: Hasher>()
         IsSound h → step ≤ top → top ≤ length h.steps → IsExistenceOf H.dig h step index top p →
         anchor_of anchors h.name top ≡ Some anchor → anchor.auth ≡ auth H.dig h top →
         Spells proof_layout (existence_bytes p) (Exists p) × Accepts H.dig anchors (existence_bytes p) }
+    // A history has a proof of each of its events, under each top from the event's step on.
+    ensures has_event { (h : History) (step index top : ℕ) →
+        step ≤ top → index < length (events_at h step) → HasOwnEvent H.dig h step top index }
+    // It has a proof of each thread that it received, at the step that received it and at each one after, under each top from
+    // there on.
+    ensures has_thread { (h : History) (step top : ℕ) (entry : Entry) (archived : ℕ) →
+        step ≤ top → entry_at h archived ≡ Some entry → archived ≤ step → HasOwnThread H.dig h step top entry }
+    // It has a proof, at each step from 1 on, of each service and step of which no thread was received up to there, under each
+    // top from there on.
+    ensures has_absence { (h : History) (step top : ℕ) (key : Key) →
+        0 < step → step ≤ top → IsName key.from → (0 < key.step) × (key.step ≤ LAST_STEP) →
+        Each (λ entry. key_of entry ≢ key) (received h step) → HasOwnAbsence H.dig h step top key }
+    // It has a proof of the authenticator of each step, under each top from there on.
+    ensures has_link { (h : History) (step top : ℕ) → step ≤ top → HasOwnLink H.dig h step top }
     // The proof that a sound history has of a step under a top that it has and that isn't below the step, be it of an
     // event, of a thread that was received up to the step, of a key of which none was, or of the step's authenticator, is
     // accepted wherever the anchor that is held of the service and top has the history's authenticator of the top.
