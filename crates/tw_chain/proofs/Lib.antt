@@ -17,3 +17,4 @@ pub mod FoundSteps
 pub mod Lowest
 pub mod HeldServices
 pub mod OwnMade
+pub mod OwnTrees

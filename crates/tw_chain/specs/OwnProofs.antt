@@ -1,5 +1,5 @@
 -- The proofs that a history itself has, of each kind.
-use Rattle.std.specs.Prelude.{◌≡◌, ◌≢◌, ℕ, ◌<◌, ◌≤◌, List, Some}
+use Rattle.std.specs.Prelude.{◌≡◌, ◌≢◌, ℕ, ◌<◌, ◌≤◌, List, length, Some}
 use Rattle.tw_base.specs.declared.kinds.limits.TheConstants.{LAST_STEP}
 use Rattle.tw_base.specs.declared.history.thread.Entry.{Entry}
 use Rattle.tw_base.specs.declared.history.thread.Key.{Key}
@@ -12,12 +12,20 @@ use Rattle.tw_base.specs.kinds.Names.{IsName}
 use Rattle.tw_base.specs.history.Tree.{tree}
 use Rattle.tw_skipproof.specs.declared.existence.ExistenceProof.{ExistenceProof}
 use Rattle.tw_skipproof.specs.HistoryProofs.{IsExistenceOf, IsPartOf, IsPathOf}
+use Rattle.tw_treeproof.specs.declared.limits.TheConstants.{MOST_ABOVE_ENTRY, MOST_ABOVE_PLACE}
+use Rattle.tw_treeproof.specs.Answers.{ancestors_of}
 use Rattle.tw_treeproof.specs.Making.{proof_of}
 use Rattle.tw_chain.specs.declared.proof.AbsenceProof.{AbsenceProof}
 use Rattle.tw_chain.specs.declared.proof.LinkProof.{LinkProof}
 use Rattle.tw_chain.specs.declared.proof.Proof.{Proof}
 use Rattle.tw_chain.specs.declared.proof.Proof.TheVariants.{Exists, Precedes, Archived, Absent, Linked}
 use Rattle.tw_chain.specs.declared.proof.ThreadProof.{ThreadProof}
+
+-- no more nodes stand above the place of a tree proof in it than the format has room for
+abbrev pub HasFewNodes : Proof → Type 0
+HasFewNodes (Archived p) = length (ancestors_of p.shown) ≤ MOST_ABOVE_ENTRY
+HasFewNodes (Absent p) = length (ancestors_of p.shown) ≤ MOST_ABOVE_PLACE
+HasFewNodes _ = Unit {0}
 
 module _ (dig : List ℕ → List ℕ) (h : History) (step top : ℕ) where
   -- the proof of a thread that was received up to the step, under this top: the history's part, and the own proof of the tree

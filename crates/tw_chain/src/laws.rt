@@ -26,7 +26,7 @@ ghost use Rattle.tw_chain.specs.declared.proof.Proof.TheVariants.{Exists};
 ghost use Rattle.tw_chain.specs.Accepting.{Accepts, IsAccepted, claim_of, proof_texts, report_of};
 ghost use Rattle.tw_chain.specs.Binding.{BindsReport};
 ghost use Rattle.tw_chain.specs.Claiming.{ClaimsOf, claim_at};
-ghost use Rattle.tw_chain.specs.OwnProofs.{HasOwnAbsence, HasOwnEvent, HasOwnLink, HasOwnThread, IsOwnProof};
+ghost use Rattle.tw_chain.specs.OwnProofs.{HasFewNodes, HasOwnAbsence, HasOwnEvent, HasOwnLink, HasOwnThread, IsOwnProof};
 ghost use Rattle.tw_chain.specs.Proofs.{proof_bytes, proof_codec, proof_layout};
 ghost use Rattle.tw_chain.specs.Services.{HoldsItsServices};
 
@@ -42,8 +42,8 @@ use tw_base::Hasher;
 /// received none, and each step, under each top from there on.
 ///
 /// A sound history's proofs of a thread that was received, of a key of which none was, and of a step's
-/// authenticator are accepted in the same way, claim what they are of, and are spelled where no way
-/// down the archive's tree has more than 128 nodes.
+/// authenticator are accepted in the same way, claim what they are of, and are spelled: those of threads and
+/// keys where few nodes stand above the place of their tree proofs.
 pub fn completeness_laws<H: Hasher>()
     // The proof that a history has of one of its events, under a top that isn't below its step, is accepted wherever
     // the anchor that is held of the service and top has the history's authenticator of the top.
@@ -86,11 +86,15 @@ pub fn completeness_laws<H: Hasher>()
         IsAccepted H.dig anchors p }
     // It claims that thread, that there is none of that key, or that authenticator, at the history's step.
     ensures own_claims { (h : History) (step top : ℕ) (p : Proof) → IsOwnProof H.dig h step top p → ClaimsOf H.dig h step top p }
-    // Where the history has the top, and no way down the tree of the step's archive has more than 128 nodes, the bytes
-    // that are written of such a proof spell it.
+    // Where the history has the top, and no more nodes stand above the place of a tree proof in such a proof than its format
+    // has room for, 127 above an entry and 128 above an empty place, the bytes that are written of the proof spell it.
     ensures own_spelled { (h : History) (step top : ℕ) (p : Proof) →
-        IsSound h → step ≤ top → 0 < top → top ≤ length h.steps → height (tree h step) ≤ MOST_ABOVE_PLACE → IsOwnProof H.dig h step top p →
+        IsSound h → step ≤ top → 0 < top → top ≤ length h.steps → HasFewNodes p → IsOwnProof H.dig h step top p →
         Spells proof_layout (proof_bytes p) p }
+    // No more stand there where no way down the tree of the step's archive has more than 128 nodes.
+    ensures own_few { (h : History) (step top : ℕ) (p : Proof) →
+        IsSound h → step ≤ top → top ≤ length h.steps → height (tree h step) ≤ MOST_ABOVE_PLACE → IsOwnProof H.dig h step top p →
+        HasFewNodes p }
 {}
 
 /// The words of proofs: each has one value, a value has one spelling, and no word is the front of a

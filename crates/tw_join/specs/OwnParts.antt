@@ -1,6 +1,7 @@
 -- The parts of a proof from event to event as the services of a family make them.
 use Rattle.std.specs.Prelude.{◌≡◌, ℕ, ◌≤◌, List, length, Some, Ok}
 use Rattle.tw_base.specs.declared.history.thread.Thread.{Thread}
+use Rattle.tw_base.specs.format.Formats.{Spells}
 use Rattle.tw_base.specs.history.Chains.{HopStands}
 use Rattle.tw_base.specs.history.Family.{AllSound, HasHistory, HasThread}
 use Rattle.tw_base.specs.history.History.{History}
@@ -8,11 +9,16 @@ use Rattle.tw_base.specs.kinds.Lists.{Each}
 use Rattle.tw_chain.specs.declared.proof.PrecedenceProof.{PrecedenceProof}
 use Rattle.tw_chain.specs.declared.proof.Proof.{Proof}
 use Rattle.tw_chain.specs.declared.proof.Proof.TheVariants.{Precedes, Archived}
-use Rattle.tw_chain.specs.Accepting.{IsAccepted, named}
+use Rattle.tw_chain.specs.Accepting.{Accepts, IsAccepted, named}
 use Rattle.tw_join.specs.Joining.{joined, shown_hop}
 use Rattle.tw_join.specs.Joining.Taken.{Nothing}
 use Rattle.tw_chain.specs.OwnProofs.{IsOwnProof}
 use Rattle.tw_chain.specs.Passing.{anchor_at}
+use Rattle.tw_chain.specs.Proofs.{proof_bytes, proof_layout}
+
+-- some bytes spell the proof
+abbrev pub HasSpelling : Proof → Type 0
+HasSpelling part = (bytes : List ℕ) × Spells proof_layout bytes part
 
 module _ (dig : List ℕ → List ℕ) (family : List History) where
   -- a history of the family has this proof itself
@@ -41,3 +47,11 @@ JoinedIsAccepted dig =
     (family : List History) (parts : List Proof) (p : PrecedenceProof) (anchors : List Thread) → AllSound family
     → Each (IsMade dig family) parts → Each (HopOfPartStands dig family) parts → joined Nothing 1 parts ≡ Ok p
     → IsAnchored dig family anchors (Precedes p) → IsAccepted dig anchors (Precedes p)
+
+-- the bytes that are written of what such parts join to, each of which has a spelling, spell it, and are accepted there
+abbrev pub JoinedBytesAreAccepted : (dig : List ℕ → List ℕ) → Type 0
+JoinedBytesAreAccepted dig =
+    (family : List History) (parts : List Proof) (p : PrecedenceProof) (anchors : List Thread) → AllSound family
+    → Each (IsMade dig family) parts → Each (HopOfPartStands dig family) parts → Each HasSpelling parts
+    → joined Nothing 1 parts ≡ Ok p → IsAnchored dig family anchors (Precedes p)
+    → Spells proof_layout (proof_bytes (Precedes p)) (Precedes p) × Accepts dig anchors (proof_bytes (Precedes p))

@@ -9,13 +9,13 @@ ghost use Rattle.tw_chain.specs.declared.proof.Proof.TheVariants.{Precedes};
 ghost use Rattle.tw_chain.specs.Accepting.{report_of};
 ghost use Rattle.tw_join.specs.Joining.{joined, shown_hops};
 ghost use Rattle.tw_join.specs.Joining.Taken.{Nothing};
-ghost use Rattle.tw_join.specs.OwnParts.{JoinedIsAccepted};
+ghost use Rattle.tw_join.specs.OwnParts.{JoinedBytesAreAccepted, JoinedIsAccepted};
 ghost use Rattle.tw_chain.specs.Proofs.{proof_bytes, proof_layout};
 
 use tw_base::Hasher;
 
 /// What parts join to: a proof that has a spelling where they have, that tells the hops that they show,
-/// and that is accepted where services made them.
+/// and that is accepted where services made them, as are the bytes that are written of it.
 pub fn joining_laws<H: Hasher>()
     // Parts that services of sound histories made, for hops that stand there, and that fit, join to a proof that is accepted
     // wherever the anchors of the tops that it names are held, and are those of the histories.
@@ -23,6 +23,9 @@ pub fn joining_laws<H: Hasher>()
     // What parts join to, each of which has a spelling, has a spelling itself: what is written of it.
     ensures joined_spelled { (parts : List Proof) (p : PrecedenceProof) →
         Each (λ part. (bytes : List ℕ) × Spells proof_layout bytes part) parts → joined Nothing 1 parts ≡ Ok p → Spells proof_layout (proof_bytes (Precedes p)) (Precedes p) }
+    // Both in one: where such parts have spellings, what is written of what they join to spells it, and these bytes are accepted
+    // wherever those anchors are held.
+    ensures joined_accepts { JoinedBytesAreAccepted H.dig }
     // The hops of its report are those that the parts show, from the first event to the second.
     ensures joined_hops { (parts : List Proof) (p : PrecedenceProof) →
         joined Nothing 1 parts ≡ Ok p → (report_of (Precedes p)).hops ≡ reverse (shown_hops parts) }

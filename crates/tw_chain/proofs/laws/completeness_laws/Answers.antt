@@ -1,6 +1,6 @@
 use Rattle.tw_chain.proofs.Completeness.{Accepts-made, claim_of-made, existence-accepted, own-accepted, own-claims, spelled-accepted}
 use Rattle.tw_chain.proofs.OwnMade.{absence-made, event-made, link-made, thread-made}
-use Rattle.tw_chain.proofs.OwnSpelling.{own-spelled}
+use Rattle.tw_chain.proofs.OwnSpelling.{own-few, own-spelled}
 use Rattle.tw_chain.proofs.laws.completeness_laws.Goals as goal
 
 pub returns-clause-accepted : goal.returns-clause-accepted
@@ -38,5 +38,9 @@ pub returns-clause-own_claims : goal.returns-clause-own_claims
 returns-clause-own_claims g c = own-claims g.H.Hasher.dig
 
 pub returns-clause-own_spelled : goal.returns-clause-own_spelled
-returns-clause-own_spelled g c = λ h step top p sound order some has low is.
-    own-spelled g.H.Hasher.dig h step top g.met.H.Hasher.size g.met.H.Hasher.bytes sound order has p some low is
+returns-clause-own_spelled g c = λ h step top p sound order some has few is.
+    own-spelled g.H.Hasher.dig h step top g.met.H.Hasher.size g.met.H.Hasher.bytes sound order has p some few is
+
+pub returns-clause-own_few : goal.returns-clause-own_few
+returns-clause-own_few g c = λ h step top p sound order has low is.
+    own-few g.H.Hasher.dig h step top g.met.H.Hasher.size g.met.H.Hasher.bytes sound order has p low is
