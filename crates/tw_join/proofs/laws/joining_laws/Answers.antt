@@ -1,5 +1,6 @@
 -- Each law, from what the parts are.
 use Rattle.tw_join.proofs.JoinedAccepted.{joined-accepted}
+use Rattle.tw_join.proofs.JoinedFronts.{joins-front}
 use Rattle.tw_join.proofs.JoinedHops.{joined-hops}
 use Rattle.tw_join.proofs.JoinedSpelling.{joined-spelled}
 use Rattle.tw_join.proofs.laws.joining_laws.Goals as goal
@@ -12,3 +13,6 @@ returns-clause-joined_spelled g c = joined-spelled
 
 pub returns-clause-joined_hops : goal.returns-clause-joined_hops
 returns-clause-joined_hops g c = joined-hops
+
+pub returns-clause-front_decides : goal.returns-clause-front_decides
+returns-clause-front_decides g c = joins-front
