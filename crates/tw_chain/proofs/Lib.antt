@@ -10,3 +10,5 @@ pub mod ProofSizes
 pub mod Completeness
 pub mod OwnSpelling
 pub mod ChainBytes
+pub mod OwnExistence
+pub mod HeldServices

@@ -4,5 +4,7 @@ pub mod Passing
 pub mod Accepting
 pub mod Claiming
 pub mod OwnProofs
+pub mod OwnExistence
+pub mod HeldServices
 pub mod Reasons
 pub mod Binding

@@ -19,6 +19,8 @@ ghost use Rattle.tw_chain.specs.declared.proof.Proof.TheVariants.{Exists};
 ghost use Rattle.tw_chain.specs.Accepting.{Accepts, IsAccepted, claim_of, report_of};
 ghost use Rattle.tw_chain.specs.Binding.{BindsReport};
 ghost use Rattle.tw_chain.specs.Claiming.{ClaimsOf, claim_at};
+ghost use Rattle.tw_chain.specs.HeldServices.{HeldSuffices};
+ghost use Rattle.tw_chain.specs.OwnExistence.{HasOwnProofs};
 ghost use Rattle.tw_chain.specs.OwnProofs.{IsOwnProof};
 ghost use Rattle.tw_chain.specs.Proofs.{proof_bytes, proof_codec, proof_layout};
 
@@ -66,6 +68,9 @@ pub fn completeness_laws<H: Hasher>()
     ensures own_spelled { (h : History) (step top : ℕ) (p : Proof) →
         IsSound h → step ≤ top → 0 < top → top ≤ length h.steps → height (tree h step) ≤ MOST_ABOVE_PLACE → IsOwnProof H.dig h step top p →
         Spells proof_layout (proof_bytes p) p }
+    // A history has such proofs, under each top: of each event of the step, of each thread that was received up to the step, of
+    // each key of which none was received up to the step, from step 1 on, and of the step's authenticator.
+    ensures own_exist { (h : History) (step top : ℕ) → HasOwnProofs H.dig h step top }
 {}
 
 /// The words of proofs: each has one value, a value has one spelling, and no word is the front of a
@@ -80,8 +85,11 @@ pub fn proof_laws()
 
 /// What an accepted proof says of histories, whatever its kind.
 pub fn chain_laws<H: Hasher>()
-    // What the report of an accepted proof claims is so in every family of sound histories that has the threads held of
+    // What the report of an accepted proof that bytes spell claims is so in every family of sound histories that has the threads held of
     // the proof, or two different texts of the histories and of the proof have one digest.
     ensures headline { (bytes : List ℕ) (p : Proof) (anchors : List Thread) →
         Spells proof_layout bytes p → IsAccepted H.dig anchors p → BindsReport H.dig anchors p (report_of p) }
+    // Each service that the claim of an accepted proof is about, and each service of a hop, is the service of a thread that is held
+    // of the proof.
+    ensures held_suffices { (p : Proof) (anchors : List Thread) → IsAccepted H.dig anchors p → HeldSuffices anchors p }
 {}

@@ -3,12 +3,14 @@ use Rattle.std.specs.Prelude.{◌≡◌, ℕ, ◌≤◌, List, length, Some, Ok}
 use Rattle.tw_base.specs.declared.thread.Thread.{Thread}
 use Rattle.tw_base.specs.Chains.{HopStands}
 use Rattle.tw_base.specs.Family.{AllSound, HasHistory, HasThread}
+use Rattle.tw_base.specs.Formats.{Spells}
 use Rattle.tw_base.specs.History.{History}
 use Rattle.tw_base.specs.Lists.{Each}
 use Rattle.tw_chain.specs.declared.proof.PrecedenceProof.{PrecedenceProof}
 use Rattle.tw_chain.specs.declared.proof.Proof.{Proof}
 use Rattle.tw_chain.specs.declared.proof.Proof.TheVariants.{Precedes, Archived}
-use Rattle.tw_chain.specs.Accepting.{IsAccepted, named}
+use Rattle.tw_chain.specs.Accepting.{Accepts, IsAccepted, named}
+use Rattle.tw_chain.specs.Proofs.{proof_bytes, proof_layout}
 use Rattle.tw_join.specs.Joining.{joined, shown_hop}
 use Rattle.tw_join.specs.Joining.Taken.{Nothing}
 use Rattle.tw_chain.specs.OwnProofs.{IsOwnProof}
@@ -41,3 +43,11 @@ JoinedIsAccepted dig =
     (family : List History) (parts : List Proof) (p : PrecedenceProof) (anchors : List Thread) → AllSound family
     → Each (IsMade dig family) parts → Each (HopOfPartStands dig family) parts → joined Nothing 1 parts ≡ Ok p
     → IsAnchored dig family anchors (Precedes p) → IsAccepted dig anchors (Precedes p)
+
+-- so are the bytes that are written of it, where the parts have a spelling
+abbrev pub JoinedBytesAreAccepted : (dig : List ℕ → List ℕ) → Type 0
+JoinedBytesAreAccepted dig =
+    (family : List History) (parts : List Proof) (p : PrecedenceProof) (anchors : List Thread) → AllSound family
+    → Each (IsMade dig family) parts → Each (HopOfPartStands dig family) parts
+    → Each (λ part. (bytes : List ℕ) × Spells proof_layout bytes part) parts → joined Nothing 1 parts ≡ Ok p
+    → IsAnchored dig family anchors (Precedes p) → Accepts dig anchors (proof_bytes (Precedes p))

@@ -10,7 +10,7 @@ ghost use Rattle.tw_chain.specs.Accepting.{report_of};
 ghost use Rattle.tw_join.specs.declared.joining.JoinFault.{JoinFault};
 ghost use Rattle.tw_join.specs.Joining.{Joins, joined, shown_hops};
 ghost use Rattle.tw_join.specs.Joining.Taken.{Nothing};
-ghost use Rattle.tw_join.specs.OwnParts.{JoinedIsAccepted};
+ghost use Rattle.tw_join.specs.OwnParts.{JoinedBytesAreAccepted, JoinedIsAccepted};
 ghost use Rattle.tw_chain.specs.Proofs.{proof_bytes, proof_layout};
 
 use crate::limits::MOST_PARTS;
@@ -25,6 +25,8 @@ pub fn joining_laws<H: Hasher>()
     // What parts join to, each of which has a spelling, has a spelling itself: what is written of it.
     ensures joined_spelled { (parts : List Proof) (p : PrecedenceProof) →
         Each (λ part. (bytes : List ℕ) × Spells proof_layout bytes part) parts → joined Nothing 1 parts ≡ Ok p → Spells proof_layout (proof_bytes (Precedes p)) (Precedes p) }
+    // So what is written of such a proof, whose parts have a spelling, is bytes that are accepted there.
+    ensures joined_bytes { JoinedBytesAreAccepted H.dig }
     // The hops of its report are those that the parts show, from the first event to the second.
     ensures joined_hops { (parts : List Proof) (p : PrecedenceProof) →
         joined Nothing 1 parts ≡ Ok p → (report_of (Precedes p)).hops ≡ reverse (shown_hops parts) }

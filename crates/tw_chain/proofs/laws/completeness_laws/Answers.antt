@@ -1,4 +1,5 @@
 use Rattle.tw_chain.proofs.Completeness.{Accepts-made, claim_of-made, existence-accepted, own-accepted, own-claims, spelled-accepted}
+use Rattle.tw_chain.proofs.OwnExistence.{own-exist}
 use Rattle.tw_chain.proofs.OwnSpelling.{own-spelled}
 use Rattle.tw_chain.proofs.laws.completeness_laws.Goals as goal
 
@@ -27,3 +28,6 @@ returns-clause-own_claims g c = own-claims g.H.Hasher.dig
 pub returns-clause-own_spelled : goal.returns-clause-own_spelled
 returns-clause-own_spelled g c = λ h step top p sound order some has low is.
     own-spelled g.H.Hasher.dig h step top g.met.H.Hasher.size g.met.H.Hasher.bytes sound order has p some low is
+
+pub returns-clause-own_exist : goal.returns-clause-own_exist
+returns-clause-own_exist g c = own-exist g.H.Hasher.dig

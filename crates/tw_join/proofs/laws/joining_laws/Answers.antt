@@ -1,4 +1,5 @@
 -- Each law, from what the parts are.
+use Rattle.tw_chain.specs.declared.proof.Proof.TheVariants.{Precedes}
 use Rattle.tw_join.proofs.JoinedAccepted.{joined-accepted}
 use Rattle.tw_join.proofs.JoinedFronts.{joins-front}
 use Rattle.tw_join.proofs.JoinedHops.{joined-hops}
@@ -16,3 +17,7 @@ returns-clause-joined_hops g c = joined-hops
 
 pub returns-clause-front_decides : goal.returns-clause-front_decides
 returns-clause-front_decides g c = joins-front
+
+pub returns-clause-joined_bytes : goal.returns-clause-joined_bytes
+returns-clause-joined_bytes g c = λ family parts p anchors sound made stand spelled is anchored.
+    (Precedes p, joined-spelled parts p spelled is, joined-accepted g.H.Hasher.dig family parts p anchors sound made stand is anchored)
