@@ -3,3 +3,4 @@ pub mod Commands
 pub mod Outcomes
 pub mod Running
 pub mod Statuses
+pub mod Stores

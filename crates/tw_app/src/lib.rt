@@ -6,7 +6,9 @@ mod following;
 mod laws;
 mod outcome;
 mod printing;
+mod store;
 
-pub use ending::{Ran, run};
+pub use ending::{Ran, end_without_memory, run};
 pub use laws::status_laws;
 pub use outcome::Outcome;
+pub use store::{Store, StoreAccess, store_laws, store_of};
