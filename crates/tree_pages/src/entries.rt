@@ -1,7 +1,7 @@
 // The entries that are inserted, and their keys.
 
 ghost use Rattle.std.specs.Prelude.{IfSome};
-ghost use Rattle.tw_base.specs.Limits.{IsEntryInRange};
+ghost use Rattle.tw_base.specs.history.Limits.{IsEntryInRange};
 
 use tw_base::limits::LAST_STEP;
 use tw_base::{Entry, Hasher, Key, Name, Sha, Thread};

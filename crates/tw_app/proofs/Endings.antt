@@ -3,13 +3,13 @@ use Rattle.std.proofs.Common.{◌≡◌, ℕ, ◌<◌, ◌≤◌, List, [], ◌+
 use Rattle.std.proofs.lemmas.Bool.{cases_eq}
 use Rattle.std.specs.Prelude.{Option, Some, None, MatchOption}
 use Rattle.sha2.specs.Sha256.{sha256}
-use Rattle.tw_base.specs.declared.report.Report.{Report}
-use Rattle.tw_base.specs.Clash.{OrClash}
-use Rattle.tw_base.specs.Facts.{Facts, TimesRise}
-use Rattle.tw_base.specs.Family.{family_texts}
-use Rattle.tw_base.specs.Faults.{Rose}
-use Rattle.tw_base.specs.History.{History}
-use Rattle.tw_base.proofs.FormatLaws.{one_value}
+use Rattle.tw_base.specs.declared.history.report.Report.{Report}
+use Rattle.tw_base.specs.kinds.Clash.{OrClash}
+use Rattle.tw_base.specs.history.Facts.{Facts, TimesRise}
+use Rattle.tw_base.specs.history.Family.{family_texts}
+use Rattle.tw_base.specs.kinds.Faults.{Rose}
+use Rattle.tw_base.specs.history.History.{History}
+use Rattle.tw_base.proofs.lemmas.format.FormatLaws.{one_value}
 use Rattle.tw_disk.specs.Disk.{DiskView}
 use Rattle.tw_disk.specs.Image.{Image}
 use Rattle.tw_outside.specs.TakenBytes.{Appends}

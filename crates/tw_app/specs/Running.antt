@@ -1,6 +1,6 @@
 -- What each command does, what a run of the program comes to, and how it ends.
 use Rattle.std.specs.Prelude.{◌≡◌, ◌⊎◌, ℕ, List, true, false, Option, Some, None, Result, Ok, Err, MatchOption}
-use Rattle.tw_base.specs.Faults.{Rose}
+use Rattle.tw_base.specs.kinds.Faults.{Rose}
 use Rattle.tw_disk.specs.Disk.{DiskView}
 use Rattle.tw_outside.specs.TakenBytes.{Appends, AppendsPart}
 use Rattle.tw_text.specs.CommandLine.{IsFirstBad, command_of}

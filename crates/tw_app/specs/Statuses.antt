@@ -1,15 +1,15 @@
 -- What a run's status says by itself.
 use Rattle.std.specs.Prelude.{◌≡◌, ◌≢◌, ℕ, List, [], ◌∷◌, ◌++◌, Bool, true, false, Option, Some, None, Err, MatchOption}
 use Rattle.sha2.specs.Sha256.{sha256}
-use Rattle.tw_base.specs.declared.thread.Thread.{Thread}
-use Rattle.tw_base.specs.declared.report.Reason.{Reason}
-use Rattle.tw_base.specs.Clash.{OrClash}
-use Rattle.tw_base.specs.Facts.{Facts, TimesRise}
-use Rattle.tw_base.specs.Family.{AllSound, HasThreads, family_texts}
-use Rattle.tw_base.specs.Faults.{Rose}
-use Rattle.tw_base.specs.Formats.{Spells}
-use Rattle.tw_base.specs.History.{History}
-use Rattle.tw_base.specs.Lists.{In}
+use Rattle.tw_base.specs.declared.history.thread.Thread.{Thread}
+use Rattle.tw_base.specs.declared.history.report.Reason.{Reason}
+use Rattle.tw_base.specs.kinds.Clash.{OrClash}
+use Rattle.tw_base.specs.history.Facts.{Facts, TimesRise}
+use Rattle.tw_base.specs.history.Family.{AllSound, HasThreads, family_texts}
+use Rattle.tw_base.specs.kinds.Faults.{Rose}
+use Rattle.tw_base.specs.format.Formats.{Spells}
+use Rattle.tw_base.specs.history.History.{History}
+use Rattle.tw_base.specs.kinds.Lists.{In}
 use Rattle.tw_disk.specs.Disk.{DiskView}
 use Rattle.tw_outside.specs.Files.{Files, IsThere, Tells}
 use Rattle.tw_outside.specs.TakenBytes.{Appends}

@@ -1,8 +1,8 @@
 // How a run ends.
 
 ghost use Rattle.std.specs.Prelude.{◌≡◌, ◌⊎◌, map, string_bytes, IfSome, MatchOption};
-ghost use Rattle.tw_base.specs.Lists.{Each};
-ghost use Rattle.tw_base.specs.Faults.{Rose};
+ghost use Rattle.tw_base.specs.kinds.Lists.{Each};
+ghost use Rattle.tw_base.specs.kinds.Faults.{Rose};
 ghost use Rattle.tw_diskcmd.specs.Disks.{IsLeft};
 ghost use Rattle.tw_outside.specs.Asked.{asked};
 ghost use Rattle.tw_outside.specs.TakenBytes.{Appends, AppendsPart};

@@ -1,8 +1,8 @@
 // What the status of a run says by itself, whatever ends so.
 
 ghost use Rattle.std.specs.Prelude.{◌⊎◌, ℕ, List};
-ghost use Rattle.tw_base.specs.Faults.{Rose};
-ghost use Rattle.tw_base.specs.History.{History};
+ghost use Rattle.tw_base.specs.kinds.Faults.{Rose};
+ghost use Rattle.tw_base.specs.history.History.{History};
 ghost use Rattle.tw_diskcmd.specs.Disks.{IsLeft, ReadsAs};
 ghost use Rattle.tw_text.specs.Lines.{no_memory_text};
 ghost use Rattle.tw_text.specs.declared.fault.CommandFault.TheVariants.{Refused, Unreadable, Unserved};

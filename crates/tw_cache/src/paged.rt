@@ -1,6 +1,6 @@
 // Pages of which some are kept, as upper crates see them.
 ghost use Rattle.std.specs.Prelude.{◌≡◌, ◌-◌, ◌<◌, ◌≤◌, Some, IsOk, OnOk};
-ghost use Rattle.tw_base.specs.Faults.{HasCause};
+ghost use Rattle.tw_base.specs.kinds.Faults.{HasCause};
 ghost use Rattle.tw_disk.specs.Image.{Image, page_at};
 ghost use Rattle.tw_disk.specs.Pages.{OnlyReads};
 ghost use Rattle.tw_disk.specs.declared.limits.TheConstants.{FIRST_PAGE, NUMBER_LIMIT};

@@ -1,17 +1,17 @@
 -- What the entries of a sound history's archive answer is so of what its steps received.
 use Rattle.std.proofs.Common.{◌≡◌, ◌≢◌, ℕ, ◌≤◌, List, [], ◌∷◌, length, refl, subst, inl, inr}
 use Rattle.std.specs.Prelude.{Some, None}
-use Rattle.tw_base.specs.declared.thread.Entry.{Entry}
-use Rattle.tw_base.specs.declared.thread.Key.{Key}
-use Rattle.tw_base.specs.Asking.{entry_with}
-use Rattle.tw_base.specs.Entries.{key_of}
-use Rattle.tw_base.specs.History.{History, entry_at, received}
-use Rattle.tw_base.specs.Lists.{Each, In}
-use Rattle.tw_base.specs.Sound.{IsSound}
-use Rattle.tw_base.specs.Tree.{entries, tree}
-use Rattle.tw_base.proofs.Archives.{tree-has, tree-has_received, tree-only_received}
-use Rattle.tw_base.proofs.ListLemmas.{Each-in}
-use Rattle.tw_base.proofs.Trees.{IsArchived, entry_at-parts, tree-archived, tree-rises}
+use Rattle.tw_base.specs.declared.history.thread.Entry.{Entry}
+use Rattle.tw_base.specs.declared.history.thread.Key.{Key}
+use Rattle.tw_base.specs.history.Asking.{entry_with}
+use Rattle.tw_base.specs.history.Entries.{key_of}
+use Rattle.tw_base.specs.history.History.{History, entry_at, received}
+use Rattle.tw_base.specs.kinds.Lists.{Each, In}
+use Rattle.tw_base.specs.history.Sound.{IsSound}
+use Rattle.tw_base.specs.history.Tree.{entries, tree}
+use Rattle.tw_base.proofs.lemmas.history.Archives.{tree-has, tree-has_received, tree-only_received}
+use Rattle.tw_base.proofs.lemmas.kinds.ListLemmas.{Each-in}
+use Rattle.tw_base.proofs.lemmas.history.Trees.{IsArchived, entry_at-parts, tree-archived, tree-rises}
 use Rattle.tw_tree.proofs.Members.{each-without, in-with, with-in, without-each}
 
 each_of : {X : Type 0} (P : X → Type 0) (xs : List X) → ((x : X) → In x xs → P x) → Each P xs

@@ -2,14 +2,14 @@
 use Rattle.std.proofs.Common.{◌≡◌, ℕ, suc, ◌≤◌, List, [], ◌∷◌, length, Bool, true, false, refl, subst, arith, inl}
 use Rattle.std.specs.Prelude.{Option, Some, None, MatchOption, ◌==◌, if◌then◌else◌, nat_lt}
 use Rattle.std.proofs.lemmas.Bool.{lt-ltb}
-use Rattle.tw_base.specs.declared.thread.Thread.{Thread}
-use Rattle.tw_base.specs.declared.tree_proof.Ask.TheVariants as ask
-use Rattle.tw_base.specs.Chains.{HopStands, LeadsBy}
-use Rattle.tw_base.specs.Codecs.{EachFits, optional, pair, present, seen}
-use Rattle.tw_base.specs.Family.{HasThread}
-use Rattle.tw_base.specs.History.{entry_at}
-use Rattle.tw_base.proofs.Clashes.{and_then}
-use Rattle.tw_base.proofs.Leads.{hop-stands, leads-snoc}
+use Rattle.tw_base.specs.declared.history.thread.Thread.{Thread}
+use Rattle.tw_base.specs.declared.history.tree_proof.Ask.TheVariants as ask
+use Rattle.tw_base.specs.history.Chains.{HopStands, LeadsBy}
+use Rattle.tw_base.specs.format.Codecs.{EachFits, optional, pair, present, seen}
+use Rattle.tw_base.specs.history.Family.{HasThread}
+use Rattle.tw_base.specs.history.History.{entry_at}
+use Rattle.tw_base.proofs.lemmas.kinds.Clashes.{and_then}
+use Rattle.tw_base.proofs.lemmas.history.Leads.{hop-stands, leads-snoc}
 use Rattle.tw_skipproof.specs.declared.opening.Opening.{Opening}
 use Rattle.tw_skipproof.specs.Codecs.{opening_codec}
 use Rattle.tw_skipproof.specs.Paths.{HasLinkSizes}

@@ -1,8 +1,8 @@
 -- The bytes of a proof from event to event, as they are written.
 use Rattle.std.proofs.Common.{◌≡◌, ℕ, ◌-◌, List, ◌++◌, length, flat_map, refl, ap, sym, ◌∙◌, append_assoc}
 use Rattle.std.specs.Prelude.{Bool, true, false, Option, Some, None, nat_lt}
-use Rattle.tw_base.specs.Codecs.{by_kind, each, labels_codec, many, nothing, number_codec, optional, pair, present, seen, written}
-use Rattle.tw_base.specs.Fields.{number_bytes}
+use Rattle.tw_base.specs.format.Codecs.{by_kind, each, labels_codec, many, nothing, number_codec, optional, pair, present, seen, written}
+use Rattle.tw_base.specs.format.Fields.{number_bytes}
 use Rattle.tw_skipproof.specs.declared.opening.Opening.{Opening}
 use Rattle.tw_skipproof.specs.Codecs.{count_codec, event_codec, opening_codec, part_bytes, part_codec, path_codec}
 use Rattle.tw_chain.specs.declared.proof.HopPart.{HopPart}

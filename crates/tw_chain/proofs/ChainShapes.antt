@@ -1,10 +1,10 @@
 -- The hops of a proof that fits: how many follow each, and the step that they come to.
 use Rattle.std.proofs.Common.{◌≡◌, ℕ, suc, zero, ◌-◌, ◌<◌, ◌≤◌, List, [], ◌∷◌, length, refl, ap, arith}
 use Rattle.std.specs.Prelude.{Some, None, slice_get}
-use Rattle.tw_base.specs.declared.limits.TheConstants.{LAST_STEP}
-use Rattle.tw_base.specs.Codecs.{EachFits, each, pair, seen}
-use Rattle.tw_base.specs.EntryCodec.{entry_codec}
-use Rattle.tw_base.proofs.EntryCodecLaws.{entry-range}
+use Rattle.tw_base.specs.declared.kinds.limits.TheConstants.{LAST_STEP}
+use Rattle.tw_base.specs.format.Codecs.{EachFits, each, pair, seen}
+use Rattle.tw_base.specs.history.EntryCodec.{entry_codec}
+use Rattle.tw_base.proofs.lemmas.history.EntryCodecLaws.{entry-range}
 use Rattle.tw_chain.specs.declared.proof.HopPart.{HopPart}
 use Rattle.tw_chain.specs.Proofs.{following, hop_bytes, hop_codec, last_step}
 

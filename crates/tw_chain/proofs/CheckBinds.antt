@@ -3,30 +3,30 @@ use Rattle.std.proofs.Common.{◌≡◌, ℕ, suc, zero, ◌<◌, ◌≤◌, Lis
 use Rattle.std.specs.Prelude.{Option, Some, None, IsSome, IfSome, slice_get}
 use Rattle.std.specs.List.{flat_map}
 use Rattle.std.specs.Option.{option_map, option_to_list}
-use Rattle.tw_base.specs.declared.event_part.EventPart.{EventPart}
-use Rattle.tw_base.specs.declared.thread.Key.{Key}
-use Rattle.tw_base.specs.declared.thread.Thread.{Thread}
-use Rattle.tw_base.specs.declared.tree_proof.Ask.{Ask}
-use Rattle.tw_base.specs.declared.tree_proof.Ask.TheVariants as ask
-use Rattle.tw_base.specs.declared.tree_proof.TreeProof.{TreeProof}
-use Rattle.tw_base.specs.AuditPath.{audit_texts}
-use Rattle.tw_base.specs.Auth.{auth}
-use Rattle.tw_base.specs.Clash.{OrClash, Within}
-use Rattle.tw_base.specs.Digests.{AllDigests}
-use Rattle.tw_base.specs.EventTree.{event_texts}
-use Rattle.tw_base.specs.Facts.{SeenStands}
-use Rattle.tw_base.specs.Family.{AllSound, HasHistory, HasThread, HasThreads, family_texts}
-use Rattle.tw_base.specs.History.{History, events_at}
-use Rattle.tw_base.specs.HistoryTexts.{history_texts, tree_texts}
-use Rattle.tw_base.specs.Lists.{Each}
-use Rattle.tw_base.specs.Tree.{entries, tree}
-use Rattle.tw_base.proofs.Anchoring.{anchor_of-is}
-use Rattle.tw_base.proofs.ArchiveTexts.{joined_within, tree_texts-within}
-use Rattle.tw_base.proofs.Auths.{has-event_text}
-use Rattle.tw_base.proofs.Clashes.{Among-left, Among-right, OrClash-wider, and_then}
-use Rattle.tw_base.proofs.Families.{sound_of, texts_within}
-use Rattle.tw_base.proofs.ListLemmas.{Each-parts}
-use Rattle.tw_base.proofs.Trees.{tree-rising}
+use Rattle.tw_base.specs.declared.events.event_part.EventPart.{EventPart}
+use Rattle.tw_base.specs.declared.history.thread.Key.{Key}
+use Rattle.tw_base.specs.declared.history.thread.Thread.{Thread}
+use Rattle.tw_base.specs.declared.history.tree_proof.Ask.{Ask}
+use Rattle.tw_base.specs.declared.history.tree_proof.Ask.TheVariants as ask
+use Rattle.tw_base.specs.declared.history.tree_proof.TreeProof.{TreeProof}
+use Rattle.tw_base.specs.events.AuditPath.{audit_texts}
+use Rattle.tw_base.specs.history.Auth.{auth}
+use Rattle.tw_base.specs.kinds.Clash.{OrClash, Within}
+use Rattle.tw_base.specs.kinds.Digests.{AllDigests}
+use Rattle.tw_base.specs.events.EventTree.{event_texts}
+use Rattle.tw_base.specs.history.Facts.{SeenStands}
+use Rattle.tw_base.specs.history.Family.{AllSound, HasHistory, HasThread, HasThreads, family_texts}
+use Rattle.tw_base.specs.history.History.{History, events_at}
+use Rattle.tw_base.specs.history.HistoryTexts.{history_texts, tree_texts}
+use Rattle.tw_base.specs.kinds.Lists.{Each}
+use Rattle.tw_base.specs.history.Tree.{entries, tree}
+use Rattle.tw_base.proofs.lemmas.history.Anchoring.{anchor_of-is}
+use Rattle.tw_base.proofs.lemmas.history.ArchiveTexts.{joined_within, tree_texts-within}
+use Rattle.tw_base.proofs.lemmas.history.Auths.{has-event_text}
+use Rattle.tw_base.proofs.lemmas.kinds.Clashes.{Among-left, Among-right, OrClash-wider, and_then}
+use Rattle.tw_base.proofs.lemmas.history.Families.{sound_of, texts_within}
+use Rattle.tw_base.proofs.lemmas.kinds.ListLemmas.{Each-parts}
+use Rattle.tw_base.proofs.lemmas.history.Trees.{tree-rising}
 use Rattle.tw_events.proofs.Binding.{ChecksEvent-binds}
 use Rattle.tw_skipproof.specs.declared.existence.Part.{Part}
 use Rattle.tw_skipproof.specs.declared.opening.Opening.{Opening}

@@ -3,24 +3,24 @@ use Rattle.std.proofs.Common.{◌≡◌, ℕ, suc, zero, ◌<◌, ◌≤◌, Lis
 use Rattle.std.specs.Prelude.{Option, Some, None, IfSome, IsSome, slice_get}
 use Rattle.std.specs.Option.{option_map}
 use Rattle.std.proofs.lemmas.Option.{get_or_from_slice_get}
-use Rattle.tw_base.specs.declared.event_part.EventPart.{EventPart}
-use Rattle.tw_base.specs.declared.report.Claim.TheVariants as claims
-use Rattle.tw_base.specs.declared.thread.Entry.{Entry}
-use Rattle.tw_base.specs.declared.thread.Key.{Key}
-use Rattle.tw_base.specs.declared.thread.Thread.{Thread}
-use Rattle.tw_base.specs.declared.tree_proof.Ask.{Ask}
-use Rattle.tw_base.specs.declared.tree_proof.Ask.TheVariants as ask
-use Rattle.tw_base.specs.declared.tree_proof.TreeProof.{TreeProof}
-use Rattle.tw_base.specs.Anchors.{anchor_of}
-use Rattle.tw_base.specs.Auth.{auth}
-use Rattle.tw_base.specs.Bytes.{AreBytes}
-use Rattle.tw_base.specs.Formats.{Spells}
-use Rattle.tw_base.specs.History.{History, entry_at, events_at}
-use Rattle.tw_base.specs.Lists.{Each}
-use Rattle.tw_base.specs.Sound.{IsSound}
-use Rattle.tw_base.specs.Tree.{entries, tree}
-use Rattle.tw_base.proofs.ListLemmas.{Each-append}
-use Rattle.tw_base.proofs.Trees.{tree-rises}
+use Rattle.tw_base.specs.declared.events.event_part.EventPart.{EventPart}
+use Rattle.tw_base.specs.declared.history.report.Claim.TheVariants as claims
+use Rattle.tw_base.specs.declared.history.thread.Entry.{Entry}
+use Rattle.tw_base.specs.declared.history.thread.Key.{Key}
+use Rattle.tw_base.specs.declared.history.thread.Thread.{Thread}
+use Rattle.tw_base.specs.declared.history.tree_proof.Ask.{Ask}
+use Rattle.tw_base.specs.declared.history.tree_proof.Ask.TheVariants as ask
+use Rattle.tw_base.specs.declared.history.tree_proof.TreeProof.{TreeProof}
+use Rattle.tw_base.specs.history.Anchors.{anchor_of}
+use Rattle.tw_base.specs.history.Auth.{auth}
+use Rattle.tw_base.specs.kinds.Bytes.{AreBytes}
+use Rattle.tw_base.specs.format.Formats.{Spells}
+use Rattle.tw_base.specs.history.History.{History, entry_at, events_at}
+use Rattle.tw_base.specs.kinds.Lists.{Each}
+use Rattle.tw_base.specs.history.Sound.{IsSound}
+use Rattle.tw_base.specs.history.Tree.{entries, tree}
+use Rattle.tw_base.proofs.lemmas.kinds.ListLemmas.{Each-append}
+use Rattle.tw_base.proofs.lemmas.history.Trees.{tree-rises}
 use Rattle.tw_skipproof.specs.declared.existence.ExistenceProof.{ExistenceProof}
 use Rattle.tw_skipproof.specs.declared.existence.Part.{Part}
 use Rattle.tw_skipproof.specs.Acceptance.{Reaches}

@@ -1,15 +1,15 @@
 -- What an accepted proof of each kind says of the histories of a family.
 use Rattle.std.proofs.Common.{◌≡◌, ℕ, suc, List, [], ◌∷◌, ◌++◌, length, Bool, ap, sym, ◌∙◌, subst, arith, inl}
-use Rattle.tw_base.specs.declared.thread.Thread.{Thread}
-use Rattle.tw_base.specs.declared.tree_proof.Ask.TheVariants as ask
-use Rattle.tw_base.specs.Codecs.{EachFits, behind, by_kind, each, pair, seen, variant}
-use Rattle.tw_base.specs.Digests.{AllDigests}
-use Rattle.tw_base.specs.Facts.{Facts, Precedence, SeenStands, TimesRise, WasNotReceived, WasReceived}
-use Rattle.tw_base.specs.Family.{HasThread, family_texts}
-use Rattle.tw_base.specs.Formats.{Spells}
-use Rattle.tw_base.proofs.Clashes.{Among-left, Among-right, and_then}
-use Rattle.tw_base.proofs.CodecLaws.{spelled-fits, unambiguous}
-use Rattle.tw_base.proofs.Families.{sound_of}
+use Rattle.tw_base.specs.declared.history.thread.Thread.{Thread}
+use Rattle.tw_base.specs.declared.history.tree_proof.Ask.TheVariants as ask
+use Rattle.tw_base.specs.format.Codecs.{EachFits, behind, by_kind, each, pair, seen, variant}
+use Rattle.tw_base.specs.kinds.Digests.{AllDigests}
+use Rattle.tw_base.specs.history.Facts.{Facts, Precedence, SeenStands, TimesRise, WasNotReceived, WasReceived}
+use Rattle.tw_base.specs.history.Family.{HasThread, family_texts}
+use Rattle.tw_base.specs.format.Formats.{Spells}
+use Rattle.tw_base.proofs.lemmas.kinds.Clashes.{Among-left, Among-right, and_then}
+use Rattle.tw_base.proofs.lemmas.format.CodecLaws.{spelled-fits, unambiguous}
+use Rattle.tw_base.proofs.lemmas.history.Families.{sound_of}
 use Rattle.tw_skipproof.specs.declared.existence.ExistenceProof.{ExistenceProof}
 use Rattle.tw_skipproof.specs.declared.existence.Part.{Part}
 use Rattle.tw_skipproof.specs.Codecs.{existence_body}

@@ -3,13 +3,13 @@ use Rattle.std.proofs.Common.{◌≡◌, ℕ, suc, List, [], ◌∷◌, ◌++◌
 use Rattle.std.specs.Prelude.{Bool, true, false, Option, Some, None, IsSome, ◌==◌, if◌then◌else◌}
 use Rattle.std.specs.List.{flat_map}
 use Rattle.std.specs.Option.{option_to_list}
-use Rattle.tw_base.specs.declared.report.Hop.{Hop}
-use Rattle.tw_base.specs.declared.thread.Key.{Key}
-use Rattle.tw_base.specs.declared.thread.Thread.{Thread}
-use Rattle.tw_base.specs.declared.tree_proof.Ask.TheVariants as ask
-use Rattle.tw_base.specs.Lists.{Each, In}
-use Rattle.tw_base.proofs.Anchoring.{anchor_of-is}
-use Rattle.tw_base.proofs.ListLemmas.{Each-append, Each-parts, In-cases_append, In-left, In-right}
+use Rattle.tw_base.specs.declared.history.report.Hop.{Hop}
+use Rattle.tw_base.specs.declared.history.thread.Key.{Key}
+use Rattle.tw_base.specs.declared.history.thread.Thread.{Thread}
+use Rattle.tw_base.specs.declared.history.tree_proof.Ask.TheVariants as ask
+use Rattle.tw_base.specs.kinds.Lists.{Each, In}
+use Rattle.tw_base.proofs.lemmas.history.Anchoring.{anchor_of-is}
+use Rattle.tw_base.proofs.lemmas.kinds.ListLemmas.{Each-append, Each-parts, In-cases_append, In-left, In-right}
 use Rattle.tw_skipproof.specs.declared.existence.Part.{Part}
 use Rattle.tw_chain.specs.declared.proof.HopPart.{HopPart}
 use Rattle.tw_chain.specs.declared.proof.LinkProof.{LinkProof}

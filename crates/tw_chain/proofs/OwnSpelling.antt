@@ -1,23 +1,23 @@
 -- The proofs that a sound history has are spelled.
 use Rattle.std.proofs.Common.{◌≡◌, ℕ, ◌<◌, ◌≤◌, List, length, refl, sym, subst, arith, lit≤}
-use Rattle.tw_base.specs.declared.thread.Entry.{Entry}
-use Rattle.tw_base.specs.declared.tree_proof.Ask.{Ask}
-use Rattle.tw_base.specs.declared.tree_proof.Ask.TheVariants as ask
-use Rattle.tw_base.specs.Bytes.{AreBytes}
-use Rattle.tw_base.specs.Codecs.{HasBytes, behind, by_kind, bytes_codec, name_codec, number_codec, pair, seen, variant}
-use Rattle.tw_base.specs.Entries.{key_of}
-use Rattle.tw_base.specs.EntryCodec.{entry_codec}
-use Rattle.tw_base.proofs.EntryCodecLaws.{entry-fits}
-use Rattle.tw_base.specs.Formats.{Spells}
-use Rattle.tw_base.specs.History.{History}
-use Rattle.tw_base.specs.Lists.{Each}
-use Rattle.tw_base.specs.Names.{IsName}
-use Rattle.tw_base.specs.Sound.{IsSound}
-use Rattle.tw_base.specs.Tree.{entries, tree}
-use Rattle.tw_base.proofs.CodecLaws.{spelled-fits}
-use Rattle.tw_base.proofs.DigestBytes.{auth-digest}
-use Rattle.tw_base.proofs.ListLemmas.{Each-in, Each-map}
-use Rattle.tw_base.proofs.Trees.{IsArchived, entry_at-parts, received-sound, tree-archived, tree-rises}
+use Rattle.tw_base.specs.declared.history.thread.Entry.{Entry}
+use Rattle.tw_base.specs.declared.history.tree_proof.Ask.{Ask}
+use Rattle.tw_base.specs.declared.history.tree_proof.Ask.TheVariants as ask
+use Rattle.tw_base.specs.kinds.Bytes.{AreBytes}
+use Rattle.tw_base.specs.format.Codecs.{HasBytes, behind, by_kind, bytes_codec, name_codec, number_codec, pair, seen, variant}
+use Rattle.tw_base.specs.history.Entries.{key_of}
+use Rattle.tw_base.specs.history.EntryCodec.{entry_codec}
+use Rattle.tw_base.proofs.lemmas.history.EntryCodecLaws.{entry-fits}
+use Rattle.tw_base.specs.format.Formats.{Spells}
+use Rattle.tw_base.specs.history.History.{History}
+use Rattle.tw_base.specs.kinds.Lists.{Each}
+use Rattle.tw_base.specs.kinds.Names.{IsName}
+use Rattle.tw_base.specs.history.Sound.{IsSound}
+use Rattle.tw_base.specs.history.Tree.{entries, tree}
+use Rattle.tw_base.proofs.lemmas.format.CodecLaws.{spelled-fits}
+use Rattle.tw_base.proofs.lemmas.kinds.DigestBytes.{auth-digest}
+use Rattle.tw_base.proofs.lemmas.kinds.ListLemmas.{Each-in, Each-map}
+use Rattle.tw_base.proofs.lemmas.history.Trees.{IsArchived, entry_at-parts, received-sound, tree-archived, tree-rises}
 use Rattle.tw_tree.proofs.Members.{in-with}
 use Rattle.tw_skipproof.specs.declared.existence.Part.{Part}
 use Rattle.tw_skipproof.specs.Codecs.{existence_codec, part_codec, path_codec}

@@ -1,26 +1,26 @@
 -- What fits the codecs of a proof's pieces has the widths that the hashed texts give them.
 use Rattle.std.proofs.Common.{ℕ, ◌<◌, ◌^◌, List, [], ◌∷◌, arith}
 use Rattle.std.specs.Prelude.{Bool, true, false, Option, Some, None, IfSome}
-use Rattle.tw_base.specs.declared.event_part.EventPart.{EventPart}
-use Rattle.tw_base.specs.declared.thread.Entry.{Entry}
-use Rattle.tw_base.specs.declared.tree_proof.Ancestor.{Ancestor}
-use Rattle.tw_base.specs.declared.tree_proof.Ask.TheVariants as ask
-use Rattle.tw_base.specs.declared.tree_proof.TreeProof.{TreeProof}
-use Rattle.tw_base.specs.declared.tree_proof.TreeProof.TheVariants as trees
-use Rattle.tw_base.specs.declared.thread.Key.{Key}
-use Rattle.tw_base.specs.Codecs.{EachFits, HasBytes, by_kind, bytes_codec, counted, each, labels_codec, many, name_codec, nothing, number_codec, optional, pair, present, seen, variant, written}
-use Rattle.tw_base.specs.Digests.{AllDigests}
-use Rattle.tw_base.specs.Entries.{IsFit}
-use Rattle.tw_base.specs.HistoryCodec.{thread_codec, time_codec}
-use Rattle.tw_base.specs.Lists.{Each}
-use Rattle.tw_base.proofs.Naming.{IsName-size}
+use Rattle.tw_base.specs.declared.events.event_part.EventPart.{EventPart}
+use Rattle.tw_base.specs.declared.history.thread.Entry.{Entry}
+use Rattle.tw_base.specs.declared.history.tree_proof.Ancestor.{Ancestor}
+use Rattle.tw_base.specs.declared.history.tree_proof.Ask.TheVariants as ask
+use Rattle.tw_base.specs.declared.history.tree_proof.TreeProof.{TreeProof}
+use Rattle.tw_base.specs.declared.history.tree_proof.TreeProof.TheVariants as trees
+use Rattle.tw_base.specs.declared.history.thread.Key.{Key}
+use Rattle.tw_base.specs.format.Codecs.{EachFits, HasBytes, by_kind, bytes_codec, counted, each, labels_codec, many, name_codec, nothing, number_codec, optional, pair, present, seen, variant, written}
+use Rattle.tw_base.specs.kinds.Digests.{AllDigests}
+use Rattle.tw_base.specs.history.Entries.{IsFit}
+use Rattle.tw_base.specs.history.HistoryCodec.{thread_codec, time_codec}
+use Rattle.tw_base.specs.kinds.Lists.{Each}
+use Rattle.tw_base.proofs.lemmas.kinds.Naming.{IsName-size}
 use Rattle.tw_skipproof.specs.declared.existence.Part.{Part}
 use Rattle.tw_skipproof.specs.declared.opening.Opening.{Opening}
 use Rattle.tw_skipproof.specs.declared.path.Link.{Link}
 use Rattle.tw_skipproof.specs.Codecs.{count_codec, event_codec, link_bytes, link_codec, opening_codec, part_codec, path_codec}
 use Rattle.tw_skipproof.specs.Openings.{HasSizes as HasOpeningSizes}
 use Rattle.tw_skipproof.specs.Paths.{HasLinkSizes, greedy_steps}
-use Rattle.tw_base.specs.EntryCodec.{entry_codec}
+use Rattle.tw_base.specs.history.EntryCodec.{entry_codec}
 use Rattle.tw_treeproof.specs.Codecs.{ancestor_codec, gap_codec, present_codec}
 use Rattle.tw_treeproof.specs.Sizes.{HasProofSizes, HasSizes}
 

@@ -2,13 +2,13 @@
 use Rattle.std.proofs.Common.{◌≡◌, ℕ, suc, zero, ◌-◌, List, [], ◌∷◌, ◌++◌, length, refl, ap, sym, ◌∙◌, subst, arith, lit≤}
 use Rattle.std.specs.Prelude.{Bool, true, false, Option, Some, None, MatchOption, ◌==◌, nat_lt}
 use Rattle.std.specs.Option.{option_map_or}
-use Rattle.tw_base.specs.declared.limits.TheConstants.{LAST_STEP, MOST_HOPS}
-use Rattle.tw_base.specs.Codecs.{Codec, EachFits, behind, by_kind, each, labels_codec, many, nothing, number_codec, optional, pair, present, seen, variant}
-use Rattle.tw_base.specs.EntryCodec.{entry_codec}
-use Rattle.tw_base.specs.Fields.{number_bytes}
-use Rattle.tw_base.specs.Formats.{Spells}
-use Rattle.tw_base.proofs.EntryCodecLaws.{entry-lawful}
-use Rattle.tw_base.proofs.CodecLaws.{Lawful, lawful, lawful-by_kind, lawful-choose, lawful-each, lawful-optional, lawful-pair, lawful-seen, lawful-variant, spelled-fits, written-as}
+use Rattle.tw_base.specs.declared.kinds.limits.TheConstants.{LAST_STEP, MOST_HOPS}
+use Rattle.tw_base.specs.format.Codecs.{Codec, EachFits, behind, by_kind, each, labels_codec, many, nothing, number_codec, optional, pair, present, seen, variant}
+use Rattle.tw_base.specs.history.EntryCodec.{entry_codec}
+use Rattle.tw_base.specs.format.Fields.{number_bytes}
+use Rattle.tw_base.specs.format.Formats.{Spells}
+use Rattle.tw_base.proofs.lemmas.history.EntryCodecLaws.{entry-lawful}
+use Rattle.tw_base.proofs.lemmas.format.CodecLaws.{Lawful, lawful, lawful-by_kind, lawful-choose, lawful-each, lawful-optional, lawful-pair, lawful-seen, lawful-variant, spelled-fits, written-as}
 use Rattle.tw_skipproof.specs.declared.existence.ExistenceProof.{ExistenceProof}
 use Rattle.tw_skipproof.specs.declared.opening.Opening.{Opening}
 use Rattle.tw_skipproof.specs.Codecs.{event_codec, existence_body, existence_codec, opening_bytes, opening_codec, part_codec, path_bytes, path_codec, step_codec}

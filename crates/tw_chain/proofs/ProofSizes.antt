@@ -3,11 +3,11 @@ use Rattle.std.proofs.Common.{ℕ, suc, zero, ◌-◌, ◌*◌, ◌<◌, ◌≤�
 use Rattle.std.specs.Prelude.{◌==◌, nat_lt}
 use Rattle.std.proofs.lemmas.List.{length-append}
 use Rattle.std.proofs.Math.Nat.{mul-le-mul_right, suc-mul}
-use Rattle.tw_base.specs.declared.limits.TheConstants.{LAST_STEP, MOST_HOPS}
-use Rattle.tw_base.specs.Codecs.{Codec, behind, each, number_codec, variant}
-use Rattle.tw_base.specs.Formats.{Spells}
-use Rattle.tw_base.proofs.EntryCodecLaws.{entry-most, entry-range}
-use Rattle.tw_base.proofs.CodecSizes.{AtMost, at_most-behind, at_most-by_kind, at_most-bytes, at_most-choose, at_most-name, at_most-number, at_most-optional, at_most-pair, at_most-seen, at_most-variant, word-size}
+use Rattle.tw_base.specs.declared.kinds.limits.TheConstants.{LAST_STEP, MOST_HOPS}
+use Rattle.tw_base.specs.format.Codecs.{Codec, behind, each, number_codec, variant}
+use Rattle.tw_base.specs.format.Formats.{Spells}
+use Rattle.tw_base.proofs.lemmas.history.EntryCodecLaws.{entry-most, entry-range}
+use Rattle.tw_base.proofs.lemmas.format.CodecSizes.{AtMost, at_most-behind, at_most-by_kind, at_most-bytes, at_most-choose, at_most-name, at_most-number, at_most-optional, at_most-pair, at_most-seen, at_most-variant, word-size}
 use Rattle.tw_skipproof.specs.Codecs.{existence_body, existence_codec, existence_magic, opening_codec}
 use Rattle.tw_skipproof.proofs.LawfulCodecs.{opening-few, part-counts}
 use Rattle.tw_skipproof.proofs.Shapes.{event-most, existence-most, opening-most, part-most, part-shape, path-most}

@@ -1,14 +1,14 @@
 -- Where an event precedes another without hops, its time isn't the later one.
 use Rattle.std.proofs.Common.{◌≡◌, ℕ, ◌≤◌, List, [], ◌∷◌, sym, ap, ◌∙◌, arith}
 use Rattle.std.specs.Prelude.{Option, Some, None, IfSome}
-use Rattle.tw_base.specs.declared.report.Claim.TheVariants as claims
-use Rattle.tw_base.specs.declared.report.Hop.{Hop}
-use Rattle.tw_base.specs.declared.report.Seen.{Seen}
-use Rattle.tw_base.specs.Facts.{Precedence, TimesRise}
-use Rattle.tw_base.specs.Family.{AllSound, history_of}
-use Rattle.tw_base.specs.History.{History, time_at}
-use Rattle.tw_base.proofs.Families.{sound_of}
-use Rattle.tw_base.proofs.Times.{times-order}
+use Rattle.tw_base.specs.declared.history.report.Claim.TheVariants as claims
+use Rattle.tw_base.specs.declared.history.report.Hop.{Hop}
+use Rattle.tw_base.specs.declared.history.report.Seen.{Seen}
+use Rattle.tw_base.specs.history.Facts.{Precedence, TimesRise}
+use Rattle.tw_base.specs.history.Family.{AllSound, history_of}
+use Rattle.tw_base.specs.history.History.{History, time_at}
+use Rattle.tw_base.proofs.lemmas.history.Families.{sound_of}
+use Rattle.tw_base.proofs.lemmas.history.Times.{times-order}
 
 module _ (dig : List ℕ → List ℕ) (family : List History) (sound : AllSound family) where
   pub times-rise : (hops : List Hop) (first second : Seen) → Precedence dig family hops first second → TimesRise hops (claims.Precedes first second)

@@ -1,12 +1,12 @@
 -- What an accepted proof says of histories.
 use Rattle.std.specs.Prelude.{ℕ, List, ◌++◌}
-use Rattle.tw_base.specs.declared.thread.Thread.{Thread}
-use Rattle.tw_base.specs.declared.report.Report.{Report}
-use Rattle.tw_base.specs.Clash.{OrClash}
-use Rattle.tw_base.specs.Facts.{Facts, TimesRise}
-use Rattle.tw_base.specs.Family.{AllSound, HasThreads, family_texts}
-use Rattle.tw_base.specs.Formats.{Spells}
-use Rattle.tw_base.specs.History.{History}
+use Rattle.tw_base.specs.declared.history.thread.Thread.{Thread}
+use Rattle.tw_base.specs.declared.history.report.Report.{Report}
+use Rattle.tw_base.specs.kinds.Clash.{OrClash}
+use Rattle.tw_base.specs.history.Facts.{Facts, TimesRise}
+use Rattle.tw_base.specs.history.Family.{AllSound, HasThreads, family_texts}
+use Rattle.tw_base.specs.format.Formats.{Spells}
+use Rattle.tw_base.specs.history.History.{History}
 use Rattle.tw_chain.specs.declared.proof.Proof.{Proof}
 use Rattle.tw_chain.specs.declared.verdict.Verdict.{Verdict}
 use Rattle.tw_chain.specs.declared.verdict.Verdict.TheVariants.{Yes, No}

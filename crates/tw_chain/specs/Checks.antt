@@ -2,12 +2,12 @@
 -- all else is said over them (Passing, Accepting, Reasons).
 use Rattle.std.specs.Prelude.{ℕ, suc, ◌-◌, List, [], ◌∷◌, ◌++◌, length, Option, ◌==◌, if◌then◌else◌}
 use Rattle.std.specs.Option.{option_map_or}
-use Rattle.tw_base.specs.declared.event_part.EventPart.{EventPart}
-use Rattle.tw_base.specs.declared.thread.Key.{Key}
-use Rattle.tw_base.specs.declared.thread.Thread.{Thread}
-use Rattle.tw_base.specs.declared.tree_proof.Ask.{Ask}
-use Rattle.tw_base.specs.declared.tree_proof.Ask.TheVariants.{Present, Absent as NoneOf}
-use Rattle.tw_base.specs.declared.tree_proof.TreeProof.{TreeProof}
+use Rattle.tw_base.specs.declared.events.event_part.EventPart.{EventPart}
+use Rattle.tw_base.specs.declared.history.thread.Key.{Key}
+use Rattle.tw_base.specs.declared.history.thread.Thread.{Thread}
+use Rattle.tw_base.specs.declared.history.tree_proof.Ask.{Ask}
+use Rattle.tw_base.specs.declared.history.tree_proof.Ask.TheVariants.{Present, Absent as NoneOf}
+use Rattle.tw_base.specs.declared.history.tree_proof.TreeProof.{TreeProof}
 use Rattle.tw_skipproof.specs.declared.existence.Part.{Part}
 use Rattle.tw_skipproof.specs.declared.opening.Opening.{Opening}
 use Rattle.tw_chain.specs.declared.proof.HopPart.{HopPart}

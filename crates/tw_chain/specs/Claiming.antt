@@ -1,9 +1,9 @@
 -- What a history's own proofs claim.
 use Rattle.std.specs.Prelude.{◌≡◌, ℕ, List}
-use Rattle.tw_base.specs.declared.report.Claim.{Claim}
-use Rattle.tw_base.specs.declared.report.Claim.TheVariants as claims
-use Rattle.tw_base.specs.Auth.{auth}
-use Rattle.tw_base.specs.History.{History, time_at}
+use Rattle.tw_base.specs.declared.history.report.Claim.{Claim}
+use Rattle.tw_base.specs.declared.history.report.Claim.TheVariants as claims
+use Rattle.tw_base.specs.history.Auth.{auth}
+use Rattle.tw_base.specs.history.History.{History, time_at}
 use Rattle.tw_chain.specs.declared.proof.Proof.{Proof}
 use Rattle.tw_chain.specs.declared.proof.Proof.TheVariants.{Exists, Precedes, Archived, Absent, Linked}
 use Rattle.tw_chain.specs.Accepting.{claim_of}

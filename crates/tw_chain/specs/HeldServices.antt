@@ -1,10 +1,10 @@
 -- The services that a report speaks of, and that a verifier holds threads of.
 use Rattle.std.specs.Prelude.{◌≡◌, ℕ, List, [], ◌∷◌}
-use Rattle.tw_base.specs.declared.report.Claim.{Claim}
-use Rattle.tw_base.specs.declared.report.Claim.TheVariants.{Exists, Precedes, Archived, Absent, Linked}
-use Rattle.tw_base.specs.declared.report.Hop.{Hop}
-use Rattle.tw_base.specs.declared.thread.Thread.{Thread}
-use Rattle.tw_base.specs.Lists.{Each, In}
+use Rattle.tw_base.specs.declared.history.report.Claim.{Claim}
+use Rattle.tw_base.specs.declared.history.report.Claim.TheVariants.{Exists, Precedes, Archived, Absent, Linked}
+use Rattle.tw_base.specs.declared.history.report.Hop.{Hop}
+use Rattle.tw_base.specs.declared.history.thread.Thread.{Thread}
+use Rattle.tw_base.specs.kinds.Lists.{Each, In}
 use Rattle.tw_chain.specs.declared.proof.Proof.{Proof}
 use Rattle.tw_chain.specs.Accepting.{claim_of, held, hops_of}
 

@@ -1,12 +1,12 @@
 -- That a history has proofs itself: of each event, each thread that was received, each key of which none was, and each step.
 use Rattle.std.specs.Prelude.{◌≡◌, ◌≢◌, ℕ, ◌<◌, ◌≤◌, List, length, Some}
-use Rattle.tw_base.specs.declared.limits.TheConstants.{LAST_STEP}
-use Rattle.tw_base.specs.declared.thread.Entry.{Entry}
-use Rattle.tw_base.specs.declared.thread.Key.{Key}
-use Rattle.tw_base.specs.Entries.{key_of}
-use Rattle.tw_base.specs.History.{History, entry_at, events_at, received}
-use Rattle.tw_base.specs.Lists.{Each}
-use Rattle.tw_base.specs.Names.{IsName}
+use Rattle.tw_base.specs.declared.kinds.limits.TheConstants.{LAST_STEP}
+use Rattle.tw_base.specs.declared.history.thread.Entry.{Entry}
+use Rattle.tw_base.specs.declared.history.thread.Key.{Key}
+use Rattle.tw_base.specs.history.Entries.{key_of}
+use Rattle.tw_base.specs.history.History.{History, entry_at, events_at, received}
+use Rattle.tw_base.specs.kinds.Lists.{Each}
+use Rattle.tw_base.specs.kinds.Names.{IsName}
 use Rattle.tw_skipproof.specs.declared.existence.ExistenceProof.{ExistenceProof}
 use Rattle.tw_skipproof.specs.HistoryProofs.{IsExistenceOf}
 use Rattle.tw_chain.specs.declared.proof.AbsenceProof.{AbsenceProof}

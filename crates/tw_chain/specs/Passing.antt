@@ -1,12 +1,12 @@
 -- When a check of a proof passes, the reason where it doesn't, and what checking hashes.
 use Rattle.std.specs.Prelude.{◌≡◌, ℕ, ◌≤◌, List, [], ◌∷◌, Option, Some, IsSome, IfSome}
 use Rattle.std.specs.Option.{option_map, option_to_list}
-use Rattle.tw_base.specs.declared.report.Reason.{Reason}
-use Rattle.tw_base.specs.declared.report.Reason.TheVariants.{BadOrder, NotHeld, BadPath, BadOpening, BadEvent, BadTree, Carried}
-use Rattle.tw_base.specs.declared.thread.Key.{Key}
-use Rattle.tw_base.specs.declared.thread.Thread.{Thread}
-use Rattle.tw_base.specs.Anchors.{anchor_of}
-use Rattle.tw_base.specs.AuditPath.{audit_texts}
+use Rattle.tw_base.specs.declared.history.report.Reason.{Reason}
+use Rattle.tw_base.specs.declared.history.report.Reason.TheVariants.{BadOrder, NotHeld, BadPath, BadOpening, BadEvent, BadTree, Carried}
+use Rattle.tw_base.specs.declared.history.thread.Key.{Key}
+use Rattle.tw_base.specs.declared.history.thread.Thread.{Thread}
+use Rattle.tw_base.specs.history.Anchors.{anchor_of}
+use Rattle.tw_base.specs.events.AuditPath.{audit_texts}
 use Rattle.tw_skipproof.specs.Acceptance.{Reaches, ShowsEvent, part_texts}
 use Rattle.tw_skipproof.specs.Openings.{IsOpeningAt, opening_auth, opening_texts}
 use Rattle.tw_skipproof.specs.Paths.{Climbs, path_texts}

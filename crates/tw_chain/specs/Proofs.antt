@@ -1,12 +1,12 @@
 -- The bytes of proofs, by their kinds.
 use Rattle.std.specs.Prelude.{ℕ, suc, zero, ◌-◌, List, [], ◌∷◌, ◌++◌, length, Option, Some, None, ◌==◌, nat_lt}
 use Rattle.std.specs.Option.{option_map_or}
-use Rattle.tw_base.specs.declared.limits.TheConstants.{LAST_STEP, MOST_HOPS}
-use Rattle.tw_base.specs.declared.thread.Key.{Key}
-use Rattle.tw_base.specs.Codecs.{Codec, behind, by_kind, choose, digest_codec, each, name_codec, number_codec, optional, pair, seen, variant}
-use Rattle.tw_base.specs.Fields.{number_bytes}
-use Rattle.tw_base.specs.Formats.{Format}
-use Rattle.tw_base.specs.EntryCodec.{entry_codec}
+use Rattle.tw_base.specs.declared.kinds.limits.TheConstants.{LAST_STEP, MOST_HOPS}
+use Rattle.tw_base.specs.declared.history.thread.Key.{Key}
+use Rattle.tw_base.specs.format.Codecs.{Codec, behind, by_kind, choose, digest_codec, each, name_codec, number_codec, optional, pair, seen, variant}
+use Rattle.tw_base.specs.format.Fields.{number_bytes}
+use Rattle.tw_base.specs.format.Formats.{Format}
+use Rattle.tw_base.specs.history.EntryCodec.{entry_codec}
 use Rattle.tw_skipproof.specs.declared.existence.ExistenceProof.{ExistenceProof}
 use Rattle.tw_skipproof.specs.declared.opening.Opening.{Opening}
 use Rattle.tw_skipproof.specs.Codecs.{event_codec, existence_body, opening_bytes, opening_codec, part_codec, path_bytes, path_codec, proof_magic, step_codec}

@@ -1,12 +1,12 @@
 -- Which reasons stand against the bytes of a proof, and the lowest of them.
 use Rattle.std.specs.Prelude.{◌≡◌, ◌≢◌, ◌⊎◌, ℕ, ◌<◌, List, [], ◌∷◌, length, Bool, true, Option, Some, None}
 use Rattle.std.specs.Option.{option_map_or}
-use Rattle.tw_base.specs.declared.thread.Key.{Key}
-use Rattle.tw_base.specs.declared.thread.Thread.{Thread}
-use Rattle.tw_base.specs.declared.report.Reason.{Reason}
-use Rattle.tw_base.specs.declared.report.Reason.TheVariants.{Malformed, NotHeld, Carried}
-use Rattle.tw_base.specs.Formats.{IsPlace, Spells, SpellsNothing}
-use Rattle.tw_base.specs.Reasons.{IsNoHigher}
+use Rattle.tw_base.specs.declared.history.thread.Key.{Key}
+use Rattle.tw_base.specs.declared.history.thread.Thread.{Thread}
+use Rattle.tw_base.specs.declared.history.report.Reason.{Reason}
+use Rattle.tw_base.specs.declared.history.report.Reason.TheVariants.{Malformed, NotHeld, Carried}
+use Rattle.tw_base.specs.format.Formats.{IsPlace, Spells, SpellsNothing}
+use Rattle.tw_base.specs.history.Reasons.{IsNoHigher}
 use Rattle.tw_chain.specs.declared.proof.Proof.{Proof}
 use Rattle.tw_chain.specs.declared.verdict.Verdict.{Verdict}
 use Rattle.tw_chain.specs.declared.verdict.Verdict.TheVariants.{Yes, No}

@@ -1,10 +1,10 @@
 // Reading proofs from event to event.
-#![tactic(auto, unfolding(crate::specs::Proofs::behind_codec, crate::specs::Proofs::hop_codec, crate::specs::Proofs::hops_codec, crate::specs::Proofs::tail_codec, tw_base::specs::Codecs::pair, tw_base::specs::Codecs::seen))]
+#![tactic(auto, unfolding(crate::specs::Proofs::behind_codec, crate::specs::Proofs::hop_codec, crate::specs::Proofs::hops_codec, crate::specs::Proofs::tail_codec, tw_base::specs::format::Codecs::pair, tw_base::specs::format::Codecs::seen))]
 
 ghost use Rattle.std.specs.Prelude.{◌≡◌, ◌-◌, ◌≤◌, length, nat_lt};
-ghost use Rattle.tw_base.specs.declared.limits.TheConstants.{LAST_STEP};
-ghost use Rattle.tw_base.specs.Codecs.{each, optional};
-ghost use Rattle.tw_base.specs.Taking.{Takes};
+ghost use Rattle.tw_base.specs.declared.kinds.limits.TheConstants.{LAST_STEP};
+ghost use Rattle.tw_base.specs.format.Codecs.{each, optional};
+ghost use Rattle.tw_base.specs.format.Taking.{Takes};
 ghost use Rattle.tw_skipproof.specs.Codecs.{opening_codec};
 ghost use Rattle.tw_chain.specs.Proofs.{behind_codec, following, hop_bytes, hop_codec, hops_codec, last_step, precedence_body, tail_codec};
 
@@ -16,7 +16,7 @@ use tw_skipproof::{Opening, take_event, take_opening, take_part, take_path};
 use tw_treeproof::take_present;
 
 /// Takes the opening of a step where there is to be one.
-#[tactic(auto, unfolding(tw_base::specs::Codecs::nothing, tw_base::specs::Codecs::present))]
+#[tactic(auto, unfolding(tw_base::specs::format::Codecs::nothing, tw_base::specs::format::Codecs::present))]
 fn take_optional(
     alloc: Global,
     bytes: &[u8],

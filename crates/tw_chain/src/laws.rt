@@ -1,14 +1,14 @@
 // The laws of proofs: their spelling, and what an accepted one says of histories.
 
 ghost use Rattle.std.specs.Prelude.{◌≡◌, ℕ, ◌<◌, ◌≤◌, List, length, Some, slice_get};
-ghost use Rattle.tw_base.specs.declared.thread.Thread.{Thread};
-ghost use Rattle.tw_base.specs.Anchors.{anchor_of};
-ghost use Rattle.tw_base.specs.Auth.{auth};
-ghost use Rattle.tw_base.specs.Codecs.{IsUnambiguous};
-ghost use Rattle.tw_base.specs.Formats.{Spells};
-ghost use Rattle.tw_base.specs.History.{History, events_at};
-ghost use Rattle.tw_base.specs.Sound.{IsSound};
-ghost use Rattle.tw_base.specs.Tree.{tree};
+ghost use Rattle.tw_base.specs.declared.history.thread.Thread.{Thread};
+ghost use Rattle.tw_base.specs.history.Anchors.{anchor_of};
+ghost use Rattle.tw_base.specs.history.Auth.{auth};
+ghost use Rattle.tw_base.specs.format.Codecs.{IsUnambiguous};
+ghost use Rattle.tw_base.specs.format.Formats.{Spells};
+ghost use Rattle.tw_base.specs.history.History.{History, events_at};
+ghost use Rattle.tw_base.specs.history.Sound.{IsSound};
+ghost use Rattle.tw_base.specs.history.Tree.{tree};
 ghost use Rattle.tw_skipproof.specs.declared.existence.ExistenceProof.{ExistenceProof};
 ghost use Rattle.tw_skipproof.specs.HistoryProofs.{IsExistenceOf, MakesExistence};
 ghost use Rattle.tw_skipproof.specs.Existence.{existence_bytes};

@@ -1,9 +1,9 @@
 // Reading proofs.
-#![tactic(auto, unfolding(crate::specs::Proofs::absence_body, crate::specs::Proofs::key_codec, crate::specs::Proofs::link_body, crate::specs::Proofs::thread_body, tw_base::specs::Codecs::pair, tw_base::specs::Codecs::seen))]
+#![tactic(auto, unfolding(crate::specs::Proofs::absence_body, crate::specs::Proofs::key_codec, crate::specs::Proofs::link_body, crate::specs::Proofs::thread_body, tw_base::specs::format::Codecs::pair, tw_base::specs::format::Codecs::seen))]
 
 ghost use Rattle.std.specs.Prelude.{◌≡◌, ◌≤◌, length, IfOk};
-ghost use Rattle.tw_base.specs.Formats.{ReadsAs, ReadsFrontAs};
-ghost use Rattle.tw_base.specs.Taking.{Takes};
+ghost use Rattle.tw_base.specs.format.Formats.{ReadsAs, ReadsFrontAs};
+ghost use Rattle.tw_base.specs.format.Taking.{Takes};
 ghost use Rattle.tw_chain.specs.Proofs.{absence_body, body_of_kind, key_codec, kind_codec, kinds_codec, link_body, proof_codec, proof_layout, thread_body};
 
 use crate::chain_reading::take_precedence_body;
@@ -78,7 +78,7 @@ fn take_link_body(alloc: Global, bytes: &[u8], at: &mut u64) -> Result<LinkProof
 }
 
 /// Takes what a proof of this kind has.
-#[tactic(auto, unfolding(tw_base::specs::Codecs::variant))]
+#[tactic(auto, unfolding(tw_base::specs::format::Codecs::variant))]
 fn take_of_kind(alloc: Global, bytes: &[u8], at: &mut u64, kind: u64) -> Result<Proof, ReadFault>
     requires { at.old ≤ length bytes.now }
     ensures { Takes (body_of_kind kind) (λ p. p) bytes.now at.old at.new result }
@@ -120,7 +120,7 @@ fn take_by_kind(alloc: Global, bytes: &[u8], at: &mut u64) -> Result<Proof, Read
 }
 
 /// Takes a proof.
-#[tactic(auto, unfolding(crate::specs::Proofs::proof_codec, tw_base::specs::Codecs::behind))]
+#[tactic(auto, unfolding(crate::specs::Proofs::proof_codec, tw_base::specs::format::Codecs::behind))]
 fn take_proof(alloc: Global, bytes: &[u8], at: &mut u64) -> Result<Proof, ReadFault>
     requires { at.old ≤ length bytes.now }
     ensures { Takes proof_codec (λ p. p) bytes.now at.old at.new result }

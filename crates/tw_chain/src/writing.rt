@@ -1,8 +1,8 @@
 // Writing proofs.
-#![tactic(auto, unfolding(crate::specs::Proofs::absence_body, crate::specs::Proofs::key_codec, crate::specs::Proofs::link_body, crate::specs::Proofs::thread_body, tw_base::specs::Codecs::bytes_codec, tw_base::specs::Codecs::each, tw_base::specs::Codecs::name_codec, tw_base::specs::Codecs::number_codec, tw_base::specs::Codecs::pair, tw_base::specs::Codecs::seen, tw_skipproof::specs::Codecs::part_bytes, tw_skipproof::specs::Codecs::path_bytes, tw_skipproof::specs::Codecs::path_codec))]
+#![tactic(auto, unfolding(crate::specs::Proofs::absence_body, crate::specs::Proofs::key_codec, crate::specs::Proofs::link_body, crate::specs::Proofs::thread_body, tw_base::specs::format::Codecs::bytes_codec, tw_base::specs::format::Codecs::each, tw_base::specs::format::Codecs::name_codec, tw_base::specs::format::Codecs::number_codec, tw_base::specs::format::Codecs::pair, tw_base::specs::format::Codecs::seen, tw_skipproof::specs::Codecs::part_bytes, tw_skipproof::specs::Codecs::path_bytes, tw_skipproof::specs::Codecs::path_codec))]
 
 ghost use Rattle.std.specs.Prelude.{◌≡◌, [], ◌∷◌, ◌++◌, IfOk, OnOk};
-ghost use Rattle.tw_base.specs.Formats.{Spells};
+ghost use Rattle.tw_base.specs.format.Formats.{Spells};
 ghost use Rattle.tw_chain.specs.Proofs.{absence_body, body_of_kind, key_codec, kind_of as kind_of_proof, link_body, proof_bytes, proof_codec, proof_layout, thread_body};
 
 use crate::chain_writing::put_precedence_body;
@@ -68,7 +68,7 @@ fn kind_of(proof: &Proof) -> u8
 }
 
 /// Appends what the proof has behind its kind.
-#[tactic(auto, unfolding(tw_base::specs::Codecs::variant))]
+#[tactic(auto, unfolding(tw_base::specs::format::Codecs::variant))]
 fn put_body(into: &mut Bytes, proof: &Proof) -> Result<(), NoMemory>
     ensures { OnOk result (into.new ≡ into.old ++ (body_of_kind (kind_of_proof proof.now)).write proof.now) }
 {
@@ -82,7 +82,7 @@ fn put_body(into: &mut Bytes, proof: &Proof) -> Result<(), NoMemory>
 }
 
 /// Appends the proof: the magic, its kind, and what the kind has.
-#[tactic(auto, unfolding(crate::specs::Proofs::kinds_codec, crate::specs::Proofs::proof_codec, tw_base::specs::Codecs::behind, tw_base::specs::Codecs::by_kind, tw_base::specs::Codecs::number_codec, tw_base::specs::Codecs::text_codec))]
+#[tactic(auto, unfolding(crate::specs::Proofs::kinds_codec, crate::specs::Proofs::proof_codec, tw_base::specs::format::Codecs::behind, tw_base::specs::format::Codecs::by_kind, tw_base::specs::format::Codecs::number_codec, tw_base::specs::format::Codecs::text_codec))]
 fn put_proof(into: &mut Bytes, proof: &Proof) -> Result<(), NoMemory>
     ensures { OnOk result (into.new ≡ into.old ++ proof_bytes proof.now) }
 {

@@ -1,6 +1,6 @@
 -- The disk model: what a disk is after its writes and barriers, and which images a crash may then leave.
 use Rattle.std.specs.Prelude.{◌≡◌, ◌≢◌, ℕ, zero, suc, ◌<◌, ◌≤◌, List, [], ◌∷◌, length, take, replicate, slice_set}
-use Rattle.tw_base.specs.declared.limits.TheConstants.{PAGE_SIZE}
+use Rattle.tw_base.specs.declared.kinds.limits.TheConstants.{PAGE_SIZE}
 use Rattle.tw_disk.specs.Image.{Image, put, page_at}
 
 -- a write that took effect, with its bytes, or a good barrier

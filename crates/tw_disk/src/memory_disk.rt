@@ -1,8 +1,8 @@
 // A disk in memory.
 ghost use Rattle.std.specs.Prelude.{◌≡◌, ◌⊎◌, ◌↔◌, ◌<◌, ◌≤◌, ◌+◌, ◌-◌, ◌^◌, ◌++◌, ◌∷◌, [], ℕ, min, length, Some, None, false, vec_len, OnOk, OnErr, IsOk, IsErr, IsTrue};
 ghost use Rattle.tw_disk.specs.Image.{put, page_at};
-ghost use Rattle.tw_base.specs.Faults.{HasCause, Rose};
-ghost use Rattle.tw_base.specs.PlannedFailures.{fails_next, after_call};
+ghost use Rattle.tw_base.specs.kinds.Faults.{HasCause, Rose};
+ghost use Rattle.tw_base.specs.kinds.PlannedFailures.{fails_next, after_call};
 ghost use Rattle.tw_disk.specs.Model.{Write, Barrier, IsImage, Since};
 ghost use Rattle.tw_disk.specs.KeptCalls.{earlier, calls_of, written_of, AllFit, Gains};
 ghost use Rattle.tw_disk.specs.MemDiskSteps.{all_fit-prop};

@@ -1,7 +1,7 @@
 // A list of pages in memory.
 ghost use Rattle.std.specs.Prelude.{◌≡◌, ◌↔◌, ◌<◌, ◌≤◌, ◌+◌, ◌-◌, ◌^◌, ◌++◌, ◌∷◌, [], ℕ, min, length, drop, replicate, Some, IfOk, OnOk, OnErr, IsOk, IsErr, IsTrue};
-ghost use Rattle.tw_base.specs.PlannedFailures.{fails_next, after_call};
-ghost use Rattle.tw_base.specs.declared.limits.TheConstants.{PAGE_SIZE};
+ghost use Rattle.tw_base.specs.kinds.PlannedFailures.{fails_next, after_call};
+ghost use Rattle.tw_base.specs.declared.kinds.limits.TheConstants.{PAGE_SIZE};
 ghost use Rattle.tw_disk.specs.declared.limits.TheConstants.{FIRST_PAGE, NUMBER_LIMIT};
 
 use crate::limits::FIRST_PAGE;
@@ -60,7 +60,7 @@ impl MemPages {
 impl Pages for MemPages {
     ghost use Rattle.std.specs.Option.{option_map};
     ghost use Rattle.tw_disk.specs.Image.{Image, page_at};
-    ghost use Rattle.tw_base.specs.Faults.{HasCause};
+    ghost use Rattle.tw_base.specs.kinds.Faults.{HasCause};
     ghost use Rattle.tw_disk.specs.Pages.{OnlyReads};
     ghost use Rattle.tw_disk.specs.MemPages.{list_of, count_of, reads_of, failing_of, faults_of, IsSame, IsUnbroken};
     ghost use Rattle.tw_disk.specs.MemPagesSteps.{told_used};

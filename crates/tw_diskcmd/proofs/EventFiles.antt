@@ -4,7 +4,7 @@ use Rattle.tw_outside.specs.Asked.{Asked}
 use Rattle.tw_diskcmd.specs.WorkSteps.{ComesOfFile}
 use Rattle.std.proofs.lemmas.Bool.{cases_lt}
 use Rattle.std.proofs.lemmas.List.{length-take, length-take-le, take_all}
-use Rattle.tw_base.specs.Formats.{IsPlace, Spells, SpellsNothing}
+use Rattle.tw_base.specs.format.Formats.{IsPlace, Spells, SpellsNothing}
 use Rattle.tw_msg.specs.EventsFile.{events_file}
 use Rattle.tw_outside.specs.Files.{IsReadTo, IsThere}
 use Rattle.tw_text.specs.declared.fault.CommandFault.{CommandFault}

@@ -4,15 +4,15 @@ use Rattle.std.specs.Prelude.{Option, Some, None, Result, Ok, Err, MatchOption, 
 use Rattle.std.proofs.lemmas.Bool.{cases_lt, le-ltb}
 use Rattle.std.proofs.lemmas.Bool.Decides.{nat_tests}
 use Rattle.sha2.specs.Sha256.{sha256}
-use Rattle.tw_base.specs.declared.thread.Thread.{Thread}
-use Rattle.tw_base.specs.Anchors.{anchor_of}
-use Rattle.tw_base.specs.Auth.{auth}
-use Rattle.tw_base.specs.History.{History, events_at}
-use Rattle.tw_base.specs.Sound.{IsSound}
+use Rattle.tw_base.specs.declared.history.thread.Thread.{Thread}
+use Rattle.tw_base.specs.history.Anchors.{anchor_of}
+use Rattle.tw_base.specs.history.Auth.{auth}
+use Rattle.tw_base.specs.history.History.{History, events_at}
+use Rattle.tw_base.specs.history.Sound.{IsSound}
 use Rattle.tw_chain.specs.Accepting.{Accepts}
 use Rattle.tw_skipproof.specs.HistoryProofs.{MakesExistence}
 use Rattle.tw_disk.specs.Image.{Image}
-use Rattle.tw_base.specs.Faults.{Rose}
+use Rattle.tw_base.specs.kinds.Faults.{Rose}
 use Rattle.tw_skiplist.proofs.FewEvents.{few_told}
 use Rattle.tw_skiplist.specs.declared.head.Head.{Head}
 use Rattle.tw_skiplist.specs.declared.info.StepProof.{StepProof}

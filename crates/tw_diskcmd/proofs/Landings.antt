@@ -1,11 +1,11 @@
 -- From the work on a disk to what the command comes to, and what it leaves.
 use Rattle.std.proofs.Common.{◌≡◌, ◌∙◌, ℕ, List, refl, ap, sym, subst, inl, inr, ◌⊎◌}
 use Rattle.std.specs.Prelude.{Option, Some, Result, Ok, Err, ◌≢◌}
-use Rattle.tw_base.specs.declared.thread.Thread.{Thread}
-use Rattle.tw_base.specs.History.{History, with_events}
+use Rattle.tw_base.specs.declared.history.thread.Thread.{Thread}
+use Rattle.tw_base.specs.history.History.{History, with_events}
 use Rattle.tw_disk.specs.Disk.{DiskView, LeavesOnly}
 use Rattle.tw_disk.specs.Image.{Image}
-use Rattle.tw_base.specs.Faults.{Rose}
+use Rattle.tw_base.specs.kinds.Faults.{Rose}
 use Rattle.tw_outside.specs.Asked.{Asked}
 use Rattle.tw_outside.specs.Files.{Files}
 use Rattle.tw_pages.specs.Slots.{IsTaken}

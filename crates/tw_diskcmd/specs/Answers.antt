@@ -1,8 +1,8 @@
 -- What a command over the disk of a service answers: a function of what the disk is served as.
 use Rattle.std.specs.Prelude.{◌≡◌, ℕ, Option, Some, Result, Ok, Err}
 use Rattle.sha2.specs.Sha256.{sha256}
-use Rattle.tw_base.specs.Faults.{Rose}
-use Rattle.tw_base.specs.History.{History}
+use Rattle.tw_base.specs.kinds.Faults.{Rose}
+use Rattle.tw_base.specs.history.History.{History}
 use Rattle.tw_disk.specs.Image.{Image}
 use Rattle.tw_disk.specs.Found.{Found}
 use Rattle.tw_disk.specs.Found.Found.{Is, Bad}

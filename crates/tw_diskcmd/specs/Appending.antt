@@ -1,10 +1,10 @@
 -- `append`: when a step of the events of a file is added, when it isn't, what the command comes to, and what it leaves of the disk.
 use Rattle.std.specs.Prelude.{◌≡◌, ◌⊎◌, ℕ, ◌+◌, ◌<◌, ◌≤◌, List, length, Option, None, Result, Ok, Err, false}
 use Rattle.sha2.specs.Sha256.{sha256}
-use Rattle.tw_base.specs.declared.thread.Thread.{Thread}
-use Rattle.tw_base.specs.Formats.{IsPlace, Spells, SpellsNothing}
-use Rattle.tw_base.specs.History.{History, with_events}
-use Rattle.tw_base.specs.Faults.{Rose}
+use Rattle.tw_base.specs.declared.history.thread.Thread.{Thread}
+use Rattle.tw_base.specs.format.Formats.{IsPlace, Spells, SpellsNothing}
+use Rattle.tw_base.specs.history.History.{History, with_events}
+use Rattle.tw_base.specs.kinds.Faults.{Rose}
 use Rattle.tw_disk.specs.Disk.{DiskView, LeavesOnly}
 use Rattle.tw_disk.specs.Image.{Image}
 use Rattle.tw_msg.specs.EventsFile.{events_file}

@@ -1,7 +1,7 @@
 -- What a disk reads as, what it stands for, and what a run leaves of it.
 use Rattle.std.specs.Prelude.{◌≡◌, ◌⊎◌, ℕ, List, Option, Some, Result, Ok, Err}
 use Rattle.sha2.specs.Sha256.{sha256}
-use Rattle.tw_base.specs.History.{History}
+use Rattle.tw_base.specs.history.History.{History}
 use Rattle.tw_disk.specs.Disk.{DiskView, LeavesOnly, Only, Reads}
 use Rattle.tw_disk.specs.Image.{Image}
 use Rattle.tw_pages.specs.Slots.{IsTaken}

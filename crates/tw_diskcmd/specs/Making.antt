@@ -1,8 +1,8 @@
 -- `init`: when a service is made, when it isn't, what the command comes to, and what it leaves of the disk.
 use Rattle.std.specs.Prelude.{◌≡◌, ℕ, List, Option, Some, Result, Ok, Err}
 use Rattle.sha2.specs.Sha256.{sha256}
-use Rattle.tw_base.specs.declared.thread.Thread.{Thread}
-use Rattle.tw_base.specs.Faults.{Rose}
+use Rattle.tw_base.specs.declared.history.thread.Thread.{Thread}
+use Rattle.tw_base.specs.kinds.Faults.{Rose}
 use Rattle.tw_disk.specs.Disk.{DiskView}
 use Rattle.tw_disk.specs.Image.{Image}
 use Rattle.tw_pages.specs.Slots.{IsTaken}

@@ -1,10 +1,10 @@
 -- `prove DIR event`: when an event of a service is proved, when it isn't, and what the command comes to.
 use Rattle.std.specs.Prelude.{◌≡◌, ℕ, List, length, Option, Some, None, Result, Ok, Err, false}
 use Rattle.sha2.specs.Sha256.{sha256}
-use Rattle.tw_base.specs.declared.thread.Thread.{Thread}
-use Rattle.tw_base.specs.Anchors.{anchor_of}
-use Rattle.tw_base.specs.Auth.{auth}
-use Rattle.tw_base.specs.History.{History}
+use Rattle.tw_base.specs.declared.history.thread.Thread.{Thread}
+use Rattle.tw_base.specs.history.Anchors.{anchor_of}
+use Rattle.tw_base.specs.history.Auth.{auth}
+use Rattle.tw_base.specs.history.History.{History}
 use Rattle.tw_chain.specs.Accepting.{Accepts}
 use Rattle.tw_skipproof.specs.HistoryProofs.{MakesExistence}
 use Rattle.tw_disk.specs.Image.{Image}

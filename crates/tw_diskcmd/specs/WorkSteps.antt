@@ -1,7 +1,7 @@
 -- What the steps of a command over a disk come to, and what they leave.
 use Rattle.std.specs.Prelude.{ℕ, List, Result, Ok, Err}
-use Rattle.tw_base.specs.declared.thread.Thread.{Thread}
-use Rattle.tw_base.specs.History.{History}
+use Rattle.tw_base.specs.declared.history.thread.Thread.{Thread}
+use Rattle.tw_base.specs.history.History.{History}
 use Rattle.tw_disk.specs.Disk.{DiskView}
 use Rattle.tw_outside.specs.Asked.{Asked}
 use Rattle.tw_text.specs.declared.fault.CommandFault.{CommandFault}

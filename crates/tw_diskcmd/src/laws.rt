@@ -1,7 +1,7 @@
 // The laws of what commands come to over a disk that tells its content, and of what they leave.
 
 ghost use Rattle.std.specs.Prelude.{◌≡◌, ℕ, List, Option, Some, Result};
-ghost use Rattle.tw_base.specs.declared.thread.Thread.{Thread};
+ghost use Rattle.tw_base.specs.declared.history.thread.Thread.{Thread};
 ghost use Rattle.tw_disk.specs.Image.{Image};
 ghost use Rattle.tw_text.specs.declared.fault.CommandFault.{CommandFault};
 ghost use Rattle.tw_diskcmd.specs.Answers.{TellsContent};

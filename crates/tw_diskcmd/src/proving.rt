@@ -2,7 +2,7 @@
 
 ghost use Rattle.std.specs.Prelude.{◌≡◌, ◌≤◌, ℕ, Option, Some, false};
 ghost use Rattle.sha2.specs.Sha256.{sha256};
-ghost use Rattle.tw_base.specs.History.{History};
+ghost use Rattle.tw_base.specs.history.History.{History};
 ghost use Rattle.tw_disk.specs.Image.{Image};
 ghost use Rattle.tw_service.specs.Serves.{Serves, disk_of, has_failed, pages_of, record_of};
 ghost use Rattle.tw_diskcmd.specs.Answers.{IsOpened};

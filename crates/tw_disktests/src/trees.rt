@@ -2,7 +2,7 @@
 // how many pages that reads.
 
 ghost use Rattle.std.specs.Prelude.{IfOk};
-ghost use Rattle.tw_base.specs.Limits.{IsEntryInRange, IsStep};
+ghost use Rattle.tw_base.specs.history.Limits.{IsEntryInRange, IsStep};
 
 use std::alloc::Global;
 use std::test::Fail;

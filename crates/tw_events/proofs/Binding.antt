@@ -4,18 +4,18 @@ use Rattle.std.specs.Prelude.{Some, slice_get}
 use Rattle.std.proofs.lemmas.Bool.{cases_lt}
 use Rattle.std.proofs.lemmas.Option.{slice_get-get_or}
 use Rattle.std.proofs.lemmas.List.{get_or-take, get_or-drop}
-use Rattle.tw_base.specs.declared.side.Side.{Side}
-use Rattle.tw_base.specs.declared.side.Side.TheVariants.{Left, Right}
-use Rattle.tw_base.specs.Texts.{event_leaf_text, event_node_text}
-use Rattle.tw_base.specs.Digests.{AllDigests}
-use Rattle.tw_base.specs.Clash.{Among, OrClash, Within}
-use Rattle.tw_base.specs.AuditPath.{ChecksEvent, audit_texts, node_text_beside, node_texts_above, path_length, path_sides, root_above}
-use Rattle.tw_base.specs.EventTree.{event_root, event_texts, largest_power_below, left_half, right_half}
-use Rattle.tw_base.proofs.Clashes.{Among-left, Among-right, and_then, same_text}
-use Rattle.tw_base.proofs.TextFields.{leaf-fields, node-fields}
-use Rattle.tw_base.proofs.EventTrees.{by_halves, event_root-more, event_root-one, event_texts-leaf, event_texts-left, event_texts-right, event_texts-top, largest_power_below-less, length-event_root, length-left_half, length-right_half}
-use Rattle.tw_base.proofs.AuditPaths.{path_length-left, path_length-right, path_sides-few, path_sides-left, path_sides-right}
-use Rattle.tw_base.proofs.Upwards.{AllDigests-front, HasLast, has_last, length-root_above, node_texts_above-last, root_above-last, root_above-none}
+use Rattle.tw_base.specs.declared.events.side.Side.{Side}
+use Rattle.tw_base.specs.declared.events.side.Side.TheVariants.{Left, Right}
+use Rattle.tw_base.specs.kinds.Texts.{event_leaf_text, event_node_text}
+use Rattle.tw_base.specs.kinds.Digests.{AllDigests}
+use Rattle.tw_base.specs.kinds.Clash.{Among, OrClash, Within}
+use Rattle.tw_base.specs.events.AuditPath.{ChecksEvent, audit_texts, node_text_beside, node_texts_above, path_length, path_sides, root_above}
+use Rattle.tw_base.specs.events.EventTree.{event_root, event_texts, largest_power_below, left_half, right_half}
+use Rattle.tw_base.proofs.lemmas.kinds.Clashes.{Among-left, Among-right, and_then, same_text}
+use Rattle.tw_base.proofs.lemmas.kinds.TextFields.{leaf-fields, node-fields}
+use Rattle.tw_base.proofs.lemmas.events.EventTrees.{by_halves, event_root-more, event_root-one, event_texts-leaf, event_texts-left, event_texts-right, event_texts-top, largest_power_below-less, length-event_root, length-left_half, length-right_half}
+use Rattle.tw_base.proofs.lemmas.events.AuditPaths.{path_length-left, path_length-right, path_sides-few, path_sides-left, path_sides-right}
+use Rattle.tw_base.proofs.lemmas.events.Upwards.{AllDigests-front, HasLast, has_last, length-root_above, node_texts_above-last, root_above-last, root_above-none}
 
 first_of_one : (e : List ℕ) (index : ℕ) → index < 1 → get_or (e ∷ []) index [] ≡ e
 first_of_one e zero h = refl

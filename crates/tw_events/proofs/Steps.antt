@@ -1,12 +1,12 @@
 -- One step of each function, over plain lists.
 use Rattle.std.proofs.Common.{◌≡◌, ℕ, suc, ◌+◌, ◌-◌, ◌<◌, ◌≤◌, List, [], ◌∷◌, ◌++◌, length, get_or, take, drop, reverse, ap, sym, ◌∙◌, append_assoc, add-one, drop-cons, arith}
 use Rattle.std.proofs.lemmas.List.{drop_all, reverse-append}
-use Rattle.tw_base.specs.declared.side.Side.{Side}
-use Rattle.tw_base.specs.Texts.{event_leaf_text, event_node_text, no_events_text}
-use Rattle.tw_base.specs.AuditPath.{node_text_beside, root_above}
-use Rattle.tw_base.specs.EventTree.{audit_path, event_root, largest_power_below}
-use Rattle.tw_base.proofs.EventTrees.{audit_path-left, audit_path-one, audit_path-right, event_root-more, event_root-none, event_root-one}
-use Rattle.tw_base.proofs.Upwards.{root_above-no_label, root_above-none}
+use Rattle.tw_base.specs.declared.events.side.Side.{Side}
+use Rattle.tw_base.specs.kinds.Texts.{event_leaf_text, event_node_text, no_events_text}
+use Rattle.tw_base.specs.events.AuditPath.{node_text_beside, root_above}
+use Rattle.tw_base.specs.events.EventTree.{audit_path, event_root, largest_power_below}
+use Rattle.tw_base.proofs.lemmas.events.EventTrees.{audit_path-left, audit_path-one, audit_path-right, event_root-more, event_root-none, event_root-one}
+use Rattle.tw_base.proofs.lemmas.events.Upwards.{root_above-no_label, root_above-none}
 
 module _ (dig : List ℕ → List ℕ) where
   pub root-none : (events : List (List ℕ)) → length events < 1 → event_root dig events ≡ dig no_events_text

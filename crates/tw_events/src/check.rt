@@ -1,10 +1,10 @@
 // Checking one event against a root.
 
 ghost use Rattle.std.specs.Prelude.{◌≡◌, ℕ, ◌≤◌, ◌↔◌, List, ◌++◌, length, reverse, IsTrue, Some, slice_get};
-ghost use Rattle.tw_base.specs.AuditPath.{ChecksEvent, audit_texts, node_text_beside, root_above};
-ghost use Rattle.tw_base.specs.Clash.{OrClash};
-ghost use Rattle.tw_base.specs.EventTree.{event_root, event_texts};
-ghost use Rattle.tw_base.specs.declared.limits.TheConstants.{MOST_EVENTS, MOST_EVENT_BYTES};
+ghost use Rattle.tw_base.specs.events.AuditPath.{ChecksEvent, audit_texts, node_text_beside, root_above};
+ghost use Rattle.tw_base.specs.kinds.Clash.{OrClash};
+ghost use Rattle.tw_base.specs.events.EventTree.{event_root, event_texts};
+ghost use Rattle.tw_base.specs.declared.kinds.limits.TheConstants.{MOST_EVENTS, MOST_EVENT_BYTES};
 
 use arrayvec::ArrayVec;
 use tw_base::{Digest, Hasher, Labels, Side, event_leaf, event_node, is_same_digest, sides_of};

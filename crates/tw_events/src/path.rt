@@ -1,10 +1,10 @@
 // The audit path of an event.
 
 ghost use Rattle.std.specs.Prelude.{◌≡◌, ℕ, ◌<◌, ◌≤◌, List, ◌++◌, length, OnOk, IfOk, Some, slice_get};
-ghost use Rattle.tw_base.specs.AuditPath.{ChecksEvent};
-ghost use Rattle.tw_base.specs.EventTree.{audit_path, event_root as event_root_of};
-ghost use Rattle.tw_base.specs.Lists.{Each};
-ghost use Rattle.tw_base.specs.declared.limits.TheConstants.{MOST_EVENTS, MOST_EVENT_BYTES};
+ghost use Rattle.tw_base.specs.events.AuditPath.{ChecksEvent};
+ghost use Rattle.tw_base.specs.events.EventTree.{audit_path, event_root as event_root_of};
+ghost use Rattle.tw_base.specs.kinds.Lists.{Each};
+ghost use Rattle.tw_base.specs.declared.kinds.limits.TheConstants.{MOST_EVENTS, MOST_EVENT_BYTES};
 
 use crate::root::event_root;
 use std::alloc::Global;

@@ -1,9 +1,9 @@
 // The root of a list of events.
 
 ghost use Rattle.std.specs.Prelude.{◌≡◌, ◌≤◌, length};
-ghost use Rattle.tw_base.specs.EventTree.{event_root as event_root_of};
-ghost use Rattle.tw_base.specs.Lists.{Each};
-ghost use Rattle.tw_base.specs.declared.limits.TheConstants.{MOST_EVENTS, MOST_EVENT_BYTES};
+ghost use Rattle.tw_base.specs.events.EventTree.{event_root as event_root_of};
+ghost use Rattle.tw_base.specs.kinds.Lists.{Each};
+ghost use Rattle.tw_base.specs.declared.kinds.limits.TheConstants.{MOST_EVENTS, MOST_EVENT_BYTES};
 
 use tw_base::{Bytes, Digest, Hasher, event_leaf, event_node, left_count, no_events};
 

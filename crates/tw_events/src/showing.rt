@@ -1,11 +1,11 @@
 // The part of a proof that shows one event among the events of its step.
 
 ghost use Rattle.std.specs.Prelude.{◌≡◌, ℕ, ◌<◌, ◌≤◌, List, length, IfOk};
-ghost use Rattle.tw_base.specs.AuditPath.{ChecksEvent, path_length};
-ghost use Rattle.tw_base.specs.EventParts.{event_part as event_part_of};
-ghost use Rattle.tw_base.specs.EventTree.{event_root as event_root_of};
-ghost use Rattle.tw_base.specs.Lists.{Each};
-ghost use Rattle.tw_base.specs.declared.limits.TheConstants.{MOST_EVENTS, MOST_EVENT_BYTES};
+ghost use Rattle.tw_base.specs.events.AuditPath.{ChecksEvent, path_length};
+ghost use Rattle.tw_base.specs.events.EventParts.{event_part as event_part_of};
+ghost use Rattle.tw_base.specs.events.EventTree.{event_root as event_root_of};
+ghost use Rattle.tw_base.specs.kinds.Lists.{Each};
+ghost use Rattle.tw_base.specs.declared.kinds.limits.TheConstants.{MOST_EVENTS, MOST_EVENT_BYTES};
 
 use crate::check::root_above_leaf;
 use crate::path::event_path;

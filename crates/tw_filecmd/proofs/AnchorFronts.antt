@@ -9,8 +9,8 @@ use Rattle.std.proofs.lemmas.List.{length-drop, length-map, length-take, length-
 use Rattle.std.proofs.lemmas.List.Folds.{prefix_len-append}
 use Rattle.std.proofs.lemmas.List.Sums.{prefix_len-le-length}
 use Rattle.std.proofs.lemmas.Bool.Decides.{nat_tests}
-use Rattle.tw_base.specs.declared.thread.Thread.{Thread}
-use Rattle.tw_base.specs.Names.{is_name_text, is_name_byte}
+use Rattle.tw_base.specs.declared.history.thread.Thread.{Thread}
+use Rattle.tw_base.specs.kinds.Names.{is_name_text, is_name_byte}
 use Rattle.tw_text.specs.Words.{is_digest, is_number, word_number}
 use Rattle.tw_msg.specs.AnchorsFile.{AllGood, IsFirstBadLine, anchor, digest_word, is_anchor, is_blank, is_good, is_line_feed, is_of, line_at, lines, line_may_follow, name_word, step_word}
 use Rattle.tw_msg.proofs.LineLaws.{lines-first}

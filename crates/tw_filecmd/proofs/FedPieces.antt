@@ -4,10 +4,10 @@ use Rattle.std.specs.Prelude.{Option}
 use Rattle.std.proofs.lemmas.Bool.{cases_lt}
 use Rattle.std.proofs.lemmas.List.{length-append, length-take-le, take_all}
 use Rattle.sha2.specs.Sha256.{sha256}
-use Rattle.tw_base.specs.declared.hasher.Sha.{Sha}
-use Rattle.tw_base.specs.declared.thread.Thread.{Thread}
-use Rattle.tw_base.specs.Feeding.{IsSpent}
-use Rattle.tw_base.specs.Formats.{IsFront}
+use Rattle.tw_base.specs.declared.kinds.hasher.Sha.{Sha}
+use Rattle.tw_base.specs.declared.history.thread.Thread.{Thread}
+use Rattle.tw_pieces.specs.Feeding.{IsSpent}
+use Rattle.tw_base.specs.format.Formats.{IsFront}
 use Rattle.tw_outside.specs.Files.{Came, Files, Tells}
 use Rattle.tw_outside.proofs.Fronts.{front_grows}
 use Rattle.tw_verifier.specs.declared.verifier.Verifier.{Verifier}

@@ -3,19 +3,19 @@ use Rattle.std.proofs.Common.{◌≡◌, ℕ, ◌<◌, ◌≤◌, List, length, 
 use Rattle.std.specs.Prelude.{Result, Ok, Err, IfOk}
 use Rattle.std.proofs.lemmas.List.{length-take}
 use Rattle.sha2.specs.Sha256.{sha256}
-use Rattle.tw_base.specs.Auth.{auth}
-use Rattle.tw_base.specs.History.{History}
-use Rattle.tw_base.specs.Sound.{IsSound}
+use Rattle.tw_base.specs.history.Auth.{auth}
+use Rattle.tw_base.specs.history.History.{History}
+use Rattle.tw_base.specs.history.Sound.{IsSound}
 use Rattle.tw_outside.specs.Files.{IsReadTo, IsThere}
-use Rattle.tw_base.specs.Formats.{Spells}
-use Rattle.tw_base.proofs.FormatLaws.{one_value}
+use Rattle.tw_base.specs.format.Formats.{Spells}
+use Rattle.tw_base.proofs.lemmas.format.FormatLaws.{one_value}
 use Rattle.tw_skipproof.specs.declared.existence.ExistenceProof.{ExistenceProof}
 use Rattle.tw_skipproof.specs.Acceptance.{IsAcceptedUnder}
 use Rattle.tw_skipproof.specs.Existence.{existence_layout}
 use Rattle.tw_chain.proofs.Completeness.{Accepts-made}
 use Rattle.tw_skipproof.specs.HistoryProofs.{MakesExistence}
 use Rattle.tw_skipproof.proofs.WideIndex.{makes_at}
-use Rattle.tw_base.specs.declared.limits.TheConstants.{MOST_HISTORY_BYTES}
+use Rattle.tw_base.specs.declared.kinds.limits.TheConstants.{MOST_HISTORY_BYTES}
 use Rattle.tw_history.specs.Refusals.{ReadsHistory, RefusesEvent}
 use Rattle.tw_history.specs.declared.fault.HistoryFault.{HistoryFault}
 use Rattle.tw_history.specs.declared.fault.HistoryFault.TheVariants.{Malformed, NoMemory, TooLong, Unsound}

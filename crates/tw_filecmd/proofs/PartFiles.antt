@@ -3,14 +3,14 @@ use Rattle.std.proofs.Common.{◌≡◌, ℕ, ◌+◌, ◌<◌, ◌≤◌, List,
 use Rattle.std.specs.Prelude.{Option, Some, None, Ok, Err, true, false, is_some}
 use Rattle.std.proofs.lemmas.Bool.{cases_lt}
 use Rattle.std.proofs.lemmas.List.{length-append, length-take, length-take-le, take-append-drop, take-append-le, take_all}
-use Rattle.tw_base.specs.Faults.{Rose}
-use Rattle.tw_base.specs.Formats.{IsFront, IsPlace, Spells, SpellsNothing}
-use Rattle.tw_base.specs.Lists.{Each}
-use Rattle.tw_base.proofs.ListLemmas.{Each-append}
+use Rattle.tw_base.specs.kinds.Faults.{Rose}
+use Rattle.tw_base.specs.format.Formats.{IsFront, IsPlace, Spells, SpellsNothing}
+use Rattle.tw_base.specs.kinds.Lists.{Each}
+use Rattle.tw_base.proofs.lemmas.kinds.ListLemmas.{Each-append}
 use Rattle.tw_outside.specs.Asked.{Asked}
 use Rattle.tw_outside.specs.Files.{Files, IsReadTo, IsThere}
-use Rattle.tw_outside.specs.declared.reading.InputFault.{InputFault as ReadingFault}
-use Rattle.tw_outside.specs.declared.reading.InputFault.TheVariants.{Failed, NoMemory}
+use Rattle.tw_base.specs.declared.kinds.failure.InputFault.{InputFault as ReadingFault}
+use Rattle.tw_base.specs.declared.kinds.failure.InputFault.TheVariants.{Failed, NoMemory}
 use Rattle.tw_text.specs.Faults.{fault_of_input}
 use Rattle.tw_text.specs.declared.fault.CommandFault.{CommandFault}
 use Rattle.tw_text.specs.declared.fault.CommandFault.TheVariants.{Unreadable}

@@ -1,6 +1,6 @@
 -- How the faults of what a command calls are told.
 use Rattle.std.specs.Prelude.{ℕ, List}
-use Rattle.tw_base.specs.declared.limits.TheConstants.{MOST_HISTORY_BYTES}
+use Rattle.tw_base.specs.declared.kinds.limits.TheConstants.{MOST_HISTORY_BYTES}
 use Rattle.tw_history.specs.declared.fault.HistoryFault.{HistoryFault}
 use Rattle.tw_history.specs.declared.fault.HistoryFault.TheVariants as history
 use Rattle.tw_history.specs.declared.fault.ShowFault.{ShowFault}

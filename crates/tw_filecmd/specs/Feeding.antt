@@ -1,10 +1,10 @@
 -- What a verifier was fed of a proof file.
 use Rattle.std.specs.Prelude.{◌≡◌, ◌⊎◌, ℕ, List, length, Bool, Option}
 use Rattle.sha2.specs.Sha256.{sha256}
-use Rattle.tw_base.specs.declared.hasher.Sha.{Sha}
-use Rattle.tw_base.specs.declared.thread.Thread.{Thread}
-use Rattle.tw_base.specs.Feeding.{IsSpent}
-use Rattle.tw_base.specs.Formats.{IsFront}
+use Rattle.tw_base.specs.declared.kinds.hasher.Sha.{Sha}
+use Rattle.tw_base.specs.declared.history.thread.Thread.{Thread}
+use Rattle.tw_pieces.specs.Feeding.{IsSpent}
+use Rattle.tw_base.specs.format.Formats.{IsFront}
 use Rattle.tw_outside.specs.Files.{Files, IsFrontOfFile, Tells}
 use Rattle.tw_verifier.specs.declared.verifier.Verifier.{Verifier}
 use Rattle.tw_chain.specs.Proofs.{proof_layout}

@@ -1,8 +1,8 @@
 -- `join`: which proofs the files of the parts hold, and what joining them comes to.
 use Rattle.std.specs.Prelude.{◌≡◌, ◌≢◌, ◌⊎◌, ℕ, List, [], ◌∷◌, Option, Result, Ok, Err}
-use Rattle.tw_base.specs.Faults.{Rose}
-use Rattle.tw_base.specs.Formats.{IsPlace, Spells, SpellsNothing}
-use Rattle.tw_base.specs.Lists.{Each}
+use Rattle.tw_base.specs.kinds.Faults.{Rose}
+use Rattle.tw_base.specs.format.Formats.{IsPlace, Spells, SpellsNothing}
+use Rattle.tw_base.specs.kinds.Lists.{Each}
 use Rattle.tw_outside.specs.Asked.{Asked}
 use Rattle.tw_outside.specs.Files.{Files, IsThere, Tells}
 use Rattle.tw_text.specs.declared.refusal.BadInput.TheVariants.{BadByte}

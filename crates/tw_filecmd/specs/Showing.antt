@@ -1,19 +1,19 @@
 -- `show`: when an event of a history file is shown, when it isn't, and what the command comes to.
 use Rattle.std.specs.Prelude.{◌≡◌, ◌⊎◌, ℕ, ◌<◌, ◌≤◌, List, length, Option, Some, Result, Ok, Err}
 use Rattle.sha2.specs.Sha256.{sha256}
-use Rattle.tw_base.specs.declared.thread.Thread.{Thread}
-use Rattle.tw_base.specs.Anchors.{anchor_of}
-use Rattle.tw_base.specs.Auth.{auth}
-use Rattle.tw_base.specs.Formats.{IsPlace, Spells, SpellsNothing}
-use Rattle.tw_base.specs.History.{History}
-use Rattle.tw_base.specs.Sound.{IsSound}
-use Rattle.tw_base.specs.Faults.{Rose}
+use Rattle.tw_base.specs.declared.history.thread.Thread.{Thread}
+use Rattle.tw_base.specs.history.Anchors.{anchor_of}
+use Rattle.tw_base.specs.history.Auth.{auth}
+use Rattle.tw_base.specs.format.Formats.{IsPlace, Spells, SpellsNothing}
+use Rattle.tw_base.specs.history.History.{History}
+use Rattle.tw_base.specs.history.Sound.{IsSound}
+use Rattle.tw_base.specs.kinds.Faults.{Rose}
 use Rattle.tw_outside.specs.Asked.{Asked}
 use Rattle.tw_outside.specs.Files.{Files, IsThere, Tells}
 use Rattle.tw_chain.specs.Accepting.{Accepts}
 use Rattle.tw_skipproof.specs.HistoryProofs.{MakesExistence}
-use Rattle.tw_base.specs.declared.limits.TheConstants.{MOST_HISTORY_BYTES}
-use Rattle.tw_base.specs.HistoryCodec.{history_layout}
+use Rattle.tw_base.specs.declared.kinds.limits.TheConstants.{MOST_HISTORY_BYTES}
+use Rattle.tw_base.specs.history.HistoryCodec.{history_layout}
 use Rattle.tw_history.specs.Refusals.{RefusesEvent}
 use Rattle.tw_history.specs.Rules.{IsFirstBroken}
 use Rattle.tw_history.specs.declared.fault.ShowFault.TheVariants as fault

@@ -1,8 +1,8 @@
 // Reading the file of a proof, piece by piece.
 
 ghost use Rattle.std.specs.Prelude.{◌≡◌, ◌≤◌, ◌+◌, ◌↔◌, ℕ, List, Bool, length, Ok, Err, IfOk, OnOk};
-ghost use Rattle.tw_base.specs.Faults.{Rose};
-ghost use Rattle.tw_base.specs.declared.thread.Thread.{Thread as Anchor};
+ghost use Rattle.tw_base.specs.kinds.Faults.{Rose};
+ghost use Rattle.tw_base.specs.declared.history.thread.Thread.{Thread as Anchor};
 ghost use Rattle.tw_outside.specs.Files.{IsThere, Tells};
 ghost use Rattle.tw_filecmd.specs.Feeding.{IsFedFar, IsFedFront};
 

@@ -1,6 +1,6 @@
 // The command that joins proofs.
 
-ghost use Rattle.tw_base.specs.Lists.{Each};
+ghost use Rattle.tw_base.specs.kinds.Lists.{Each};
 ghost use Rattle.tw_outside.specs.Asked.{asked};
 ghost use Rattle.tw_filecmd.specs.Joining.{JoinComes};
 

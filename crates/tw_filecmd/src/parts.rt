@@ -1,7 +1,7 @@
 // Reading the files of proofs that are to be joined.
 
 ghost use Rattle.std.specs.Prelude.{ℕ, List, [], ◌∷◌, ◌++◌, OnOk, Option};
-ghost use Rattle.tw_base.specs.Lists.{Each};
+ghost use Rattle.tw_base.specs.kinds.Lists.{Each};
 ghost use Rattle.tw_outside.specs.Asked.{asked};
 ghost use Rattle.tw_outside.specs.Files.{Files, IsReadTo, IsThere};
 ghost use Rattle.tw_filecmd.specs.Parts.{AreRead, PartsCome};

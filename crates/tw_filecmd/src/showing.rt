@@ -1,7 +1,7 @@
 // The command that shows an event of a history file.
 
 ghost use Rattle.std.specs.Prelude.{IfErr, IfOk};
-ghost use Rattle.tw_base.specs.Sound.{IsSound};
+ghost use Rattle.tw_base.specs.history.Sound.{IsSound};
 ghost use Rattle.tw_history.specs.Refusals.{RefusesEvent};
 ghost use Rattle.tw_outside.specs.Asked.{asked};
 ghost use Rattle.tw_filecmd.specs.Showing.{ProvesEvent, ShowComes};

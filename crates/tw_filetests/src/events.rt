@@ -1,8 +1,8 @@
 // Three events: their root, their paths, and what is refused of them.
 
 ghost use Rattle.std.specs.Prelude.{◌≡◌, ◌+◌, ◌≤◌, ◌<◌, length, OnOk, IfOk};
-ghost use Rattle.tw_base.specs.Lists.{Each};
-ghost use Rattle.tw_base.specs.declared.limits.TheConstants.{MOST_EVENT_BYTES};
+ghost use Rattle.tw_base.specs.kinds.Lists.{Each};
+ghost use Rattle.tw_base.specs.declared.kinds.limits.TheConstants.{MOST_EVENT_BYTES};
 
 use std::alloc::Global;
 use std::test::Fail;

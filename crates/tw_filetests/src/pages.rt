@@ -1,7 +1,7 @@
 // Leaf pages of an archive's tree: of few keys, of the most, and what comes of one key more.
 
 ghost use Rattle.std.specs.Prelude.{◌≡◌};
-ghost use Rattle.tw_base.specs.Limits.{IsEntryInRange, IsStep};
+ghost use Rattle.tw_base.specs.history.Limits.{IsEntryInRange, IsStep};
 ghost use Rattle.tw_rbnode.specs.Children.{IsChildAt};
 ghost use Rattle.tw_rbnode.specs.Page.{TreePage};
 ghost use Rattle.tw_rbnode.specs.declared.node.Added.TheVariants.{One};

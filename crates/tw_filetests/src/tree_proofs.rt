@@ -1,7 +1,7 @@
 // Proofs over small trees: worked values, each question against the sorted list, and the limits of their format.
 
 ghost use Rattle.std.specs.Prelude.{IfOk};
-ghost use Rattle.tw_base.specs.Tree.{IsRising, entries};
+ghost use Rattle.tw_base.specs.history.Tree.{IsRising, entries};
 ghost use Rattle.tw_tree.specs.TreeMeaning.{tree_of};
 
 use std::alloc::Global;

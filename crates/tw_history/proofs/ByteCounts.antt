@@ -4,14 +4,14 @@ use Rattle.std.specs.Prelude.{Option, Some, None, true, false}
 use Rattle.std.specs.Option.{option_map_or}
 use Rattle.std.proofs.lemmas.List.{length-append, length-drop, length-map, length-take}
 use Rattle.std.proofs.lemmas.List.Sums.{sum_by-cons}
-use Rattle.tw_base.specs.declared.content.Content.{Content}
-use Rattle.tw_base.specs.declared.content.Content.TheVariants.{Events, Received}
-use Rattle.tw_base.specs.declared.thread.Thread.{Thread}
-use Rattle.tw_base.specs.Codecs.{behind, by_kind, bytes_codec, variant, counted, many, name_codec, nothing, number_codec, pair, present, seen, sized_codec}
-use Rattle.tw_base.specs.Fields.{number_bytes}
-use Rattle.tw_base.specs.History.{History, Node}
-use Rattle.tw_base.specs.HistoryCodec.{content_codec, event_codec, history_bytes, history_codec, history_magic, node_codec, recorded_codec, step_codec, thread_codec}
-use Rattle.tw_base.proofs.NumberLaws.{length-number_bytes}
+use Rattle.tw_base.specs.declared.history.content.Content.{Content}
+use Rattle.tw_base.specs.declared.history.content.Content.TheVariants.{Events, Received}
+use Rattle.tw_base.specs.declared.history.thread.Thread.{Thread}
+use Rattle.tw_base.specs.format.Codecs.{behind, by_kind, bytes_codec, variant, counted, many, name_codec, nothing, number_codec, pair, present, seen, sized_codec}
+use Rattle.tw_base.specs.format.Fields.{number_bytes}
+use Rattle.tw_base.specs.history.History.{History, Node}
+use Rattle.tw_base.specs.history.HistoryCodec.{content_codec, event_codec, history_bytes, history_codec, history_magic, node_codec, recorded_codec, step_codec, thread_codec}
+use Rattle.tw_base.proofs.lemmas.format.NumberLaws.{length-number_bytes}
 use Rattle.tw_history.specs.declared.step.Node.{Node as TableNode}
 use Rattle.tw_history.specs.declared.step.Step.{Step}
 use Rattle.tw_history.specs.Tables.{node_of, step_of, steps_of_table}

@@ -1,17 +1,17 @@
 -- Which histories have a file, part by part, and which numbers their files have.
 use Rattle.std.proofs.Common.{ℕ, ◌<◌, ◌≤◌, ◌^◌, List, length, refl, arith}
 use Rattle.std.specs.Prelude.{Option, Some, None, true, false}
-use Rattle.tw_base.specs.declared.content.Content.{Content}
-use Rattle.tw_base.specs.declared.content.Content.TheVariants.{Events, Received}
-use Rattle.tw_base.specs.declared.limits.TheConstants.{LAST_STEP, MOST_EVENTS, MOST_EVENT_BYTES}
-use Rattle.tw_base.specs.declared.thread.Thread.{Thread}
-use Rattle.tw_base.specs.Codecs.{HasBytes, behind, by_kind, bytes_codec, variant, counted, many, name_codec, nothing, number_codec, pair, present, seen, sized_codec}
-use Rattle.tw_base.specs.History.{History, Node, Step}
-use Rattle.tw_base.specs.HistoryCodec.{content_codec, event_codec, history_codec, node_codec, recorded_codec, step_codec, thread_codec}
-use Rattle.tw_base.specs.Limits.{IsTimeWithinLimits}
-use Rattle.tw_base.specs.Lists.{Each}
-use Rattle.tw_base.specs.Names.{IsName}
-use Rattle.tw_base.proofs.ListLemmas.{Each-map}
+use Rattle.tw_base.specs.declared.history.content.Content.{Content}
+use Rattle.tw_base.specs.declared.history.content.Content.TheVariants.{Events, Received}
+use Rattle.tw_base.specs.declared.kinds.limits.TheConstants.{LAST_STEP, MOST_EVENTS, MOST_EVENT_BYTES}
+use Rattle.tw_base.specs.declared.history.thread.Thread.{Thread}
+use Rattle.tw_base.specs.format.Codecs.{HasBytes, behind, by_kind, bytes_codec, variant, counted, many, name_codec, nothing, number_codec, pair, present, seen, sized_codec}
+use Rattle.tw_base.specs.history.History.{History, Node, Step}
+use Rattle.tw_base.specs.history.HistoryCodec.{content_codec, event_codec, history_codec, node_codec, recorded_codec, step_codec, thread_codec}
+use Rattle.tw_base.specs.history.Limits.{IsTimeWithinLimits}
+use Rattle.tw_base.specs.kinds.Lists.{Each}
+use Rattle.tw_base.specs.kinds.Names.{IsName}
+use Rattle.tw_base.proofs.lemmas.kinds.ListLemmas.{Each-map}
 use Rattle.tw_history.specs.FileRanges.{IsNodeInRange}
 use Rattle.tw_history.specs.Tables.{IsInRange}
 use Rattle.tw_history.specs.WritingSteps.{has_events}

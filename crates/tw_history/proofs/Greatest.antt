@@ -2,7 +2,7 @@
 use Rattle.std.proofs.Common.{◌≡◌, ◌≢◌, ◌↔◌, ◌⊎◌, ℕ, ◌≤◌, List, [], ◌∷◌, ◌++◌, refl, sym, subst, ◌∙◌, arith, inl, inr, Option, Some, None, IsTrue, true, ltb}
 use Rattle.std.specs.Prelude.{MatchOption, Result, Ok, Err, option_map, IfSome, OnOk}
 use Rattle.std.specs.Option.{option_to_list}
-use Rattle.tw_base.specs.declared.failure.NoMemory.{NoMemory}
+use Rattle.tw_base.specs.declared.kinds.failure.NoMemory.{NoMemory}
 use Rattle.std.specs.Ordering.{nat_cmp}
 use Rattle.std.specs.declared.cmp.Ordering.{Ordering}
 use Rattle.std.specs.declared.cmp.Ordering.TheVariants.{Less, Equal, Greater}
@@ -10,10 +10,10 @@ use Rattle.std.specs.Cmp.Lexicographic.{slice_cmp}
 use Rattle.std.proofs.lemmas.Bool.{ltb-true, lt-ltb}
 use Rattle.std.proofs.lemmas.Cmp.{nat_list_cmp_total, tied_itself}
 use Rattle.std.proofs.lemmas.Map.Lookups.{exact_bytes}
-use Rattle.tw_base.specs.declared.thread.Thread.{Thread}
-use Rattle.tw_base.specs.declared.thread.Entry.{Entry}
-use Rattle.tw_base.specs.Lists.{Each, In}
-use Rattle.tw_base.proofs.ListLemmas.{Each-append, Each-in, Each-map, In-left, In-right}
+use Rattle.tw_base.specs.declared.history.thread.Thread.{Thread}
+use Rattle.tw_base.specs.declared.history.thread.Entry.{Entry}
+use Rattle.tw_base.specs.kinds.Lists.{Each, In}
+use Rattle.tw_base.proofs.lemmas.kinds.ListLemmas.{Each-append, Each-in, Each-map, In-left, In-right}
 use Rattle.tw_history.specs.JudgingSteps.{IsGreatest, IsLater, greatest_of}
 use Rattle.tw_history.specs.declared.soundness.greatest.GreatestSteps.{GreatestSteps}
 

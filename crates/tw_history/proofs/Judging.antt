@@ -1,11 +1,11 @@
 -- A history file that was read, and its history judged.
 use Rattle.std.proofs.Common.{◌≡◌, ℕ, ◌≤◌, List, length, subst, sym}
 use Rattle.std.specs.Prelude.{Result, Ok, Err, MatchResult}
-use Rattle.tw_base.specs.declared.limits.TheConstants.{MOST_HISTORY_BYTES}
-use Rattle.tw_base.specs.Formats.{Spells}
-use Rattle.tw_base.specs.History.{History}
-use Rattle.tw_base.specs.HistoryCodec.{history_layout}
-use Rattle.tw_base.specs.Sound.{IsSound}
+use Rattle.tw_base.specs.declared.kinds.limits.TheConstants.{MOST_HISTORY_BYTES}
+use Rattle.tw_base.specs.format.Formats.{Spells}
+use Rattle.tw_base.specs.history.History.{History}
+use Rattle.tw_base.specs.history.HistoryCodec.{history_layout}
+use Rattle.tw_base.specs.history.Sound.{IsSound}
 use Rattle.tw_history.specs.declared.fault.HistoryFault.{HistoryFault}
 use Rattle.tw_history.specs.declared.fault.HistoryFault.TheVariants.{Malformed, NoMemory, TooLong, Unsound}
 use Rattle.tw_history.specs.Refusals.{ReadsHistory, TellsRule}

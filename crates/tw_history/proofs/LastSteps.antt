@@ -2,8 +2,8 @@
 use Rattle.std.proofs.Common.{◌≡◌, ◌≢◌, ℕ, suc, ◌-◌, ◌<◌, ◌≤◌, ◌^◌, ◌%◌, lit<, ap, ◌∙◌, inl, inr, arith}
 use Rattle.std.proofs.Math.Nat.{mod-eq_of_lt, mod-lt, mod_self, one-le-pow, suc-mod}
 use Rattle.std.proofs.lemmas.Bool.{cases_lt}
-use Rattle.tw_base.specs.Levels.{top_level}
-use Rattle.tw_base.proofs.Levels.{divides-less, top_level-divides, top_level-greatest}
+use Rattle.tw_base.specs.kinds.Levels.{top_level}
+use Rattle.tw_base.proofs.lemmas.kinds.Levels.{divides-less, top_level-divides, top_level-greatest}
 
 -- where the next number is divided, this one's remainder is the greatest
 greatest_rest : (i d : ℕ) → 0 < d → suc i % d ≡ 0 → suc (i % d) ≡ d

@@ -2,9 +2,9 @@
 use Rattle.std.proofs.Common.{◌≡◌, ℕ, ◌+◌, ◌-◌, ◌^◌, List, [], ◌∷◌, ◌++◌, length, get_or, refl, ap, ◌∙◌, add-one}
 use Rattle.std.specs.Prelude.{map}
 use Rattle.std.proofs.lemmas.List.{length-map, map_push}
-use Rattle.tw_base.specs.Texts.{link_text}
-use Rattle.tw_base.specs.Auth.{link_texts}
-use Rattle.tw_base.proofs.Auths.{length-link_texts}
+use Rattle.tw_base.specs.kinds.Texts.{link_text}
+use Rattle.tw_base.specs.history.Auth.{link_texts}
+use Rattle.tw_base.proofs.lemmas.history.Auths.{length-link_texts}
 
 module _ (dig : List ℕ → List ℕ) (datum : List ℕ) (earlier : List (List ℕ)) (step : ℕ) where
   abbrev pub labels_below : ℕ → List (List ℕ)

@@ -4,20 +4,20 @@ use Rattle.std.specs.Prelude.{Option, Some, drop, map, replicate, slice_get}
 use Rattle.std.proofs.lemmas.List.{append-nil, get_or-append_right, get_or-drop, get_or-replicate, get_or_append_left, length-append, length-map, length-replicate, map_more, map_push, take_all}
 use Rattle.std.proofs.Math.Nat.{mod-one, one-le-pow}
 use Rattle.std.proofs.lemmas.Bool.{cases_lt}
-use Rattle.tw_base.specs.declared.limits.TheConstants.{LAST_STEP}
-use Rattle.tw_base.specs.declared.thread.Entry.{Entry}
-use Rattle.tw_base.specs.Texts.{authenticator_text, empty_tree_text, genesis_text, step_datum_text}
-use Rattle.tw_base.specs.Entries.{entry_text}
-use Rattle.tw_base.specs.EventTree.{event_root}
-use Rattle.tw_base.specs.History.{History, entry_to, events_at, events_of, fresh_of, root_of, step_at, time_at, time_of}
-use Rattle.tw_base.specs.History.{Node as NodeMeant, Step as StepMeant}
-use Rattle.tw_base.specs.Levels.{top_level}
-use Rattle.tw_base.specs.Tree.{Tree, branch, forest, planted, tree}
-use Rattle.tw_base.specs.Tree.Tree.{Branch, Empty}
-use Rattle.tw_base.specs.Auth.{auth, auths, datum_text_at, link_texts, link_texts_at, tree_label}
-use Rattle.tw_base.proofs.Auths.{auth-suc, auths-at}
-use Rattle.tw_base.proofs.Levels.{top_level-below}
-use Rattle.tw_base.proofs.Plus.{forest-first}
+use Rattle.tw_base.specs.declared.kinds.limits.TheConstants.{LAST_STEP}
+use Rattle.tw_base.specs.declared.history.thread.Entry.{Entry}
+use Rattle.tw_base.specs.kinds.Texts.{authenticator_text, empty_tree_text, genesis_text, step_datum_text}
+use Rattle.tw_base.specs.history.Entries.{entry_text}
+use Rattle.tw_base.specs.events.EventTree.{event_root}
+use Rattle.tw_base.specs.history.History.{History, entry_to, events_at, events_of, fresh_of, root_of, step_at, time_at, time_of}
+use Rattle.tw_base.specs.history.History.{Node as NodeMeant, Step as StepMeant}
+use Rattle.tw_base.specs.kinds.Levels.{top_level}
+use Rattle.tw_base.specs.history.Tree.{Tree, branch, forest, planted, tree}
+use Rattle.tw_base.specs.history.Tree.Tree.{Branch, Empty}
+use Rattle.tw_base.specs.history.Auth.{auth, auths, datum_text_at, link_texts, link_texts_at, tree_label}
+use Rattle.tw_base.proofs.lemmas.history.Auths.{auth-suc, auths-at}
+use Rattle.tw_base.proofs.lemmas.kinds.Levels.{top_level-below}
+use Rattle.tw_base.proofs.lemmas.history.Plus.{forest-first}
 use Rattle.tw_skipproof.specs.HistoryProofs.{labels_at}
 use Rattle.tw_history.specs.declared.step.Node.{Node}
 use Rattle.tw_history.specs.declared.step.Step.{Step}

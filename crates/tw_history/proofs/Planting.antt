@@ -4,16 +4,16 @@ use Rattle.std.specs.Prelude.{if◌then◌else◌, is_some, option_map, IsSome}
 use Rattle.std.proofs.lemmas.Bool.{le-leb, lt-leb}
 use Rattle.std.proofs.lemmas.List.{append-nil, append_assoc, get_or-map, length-map, length_push, map-append}
 use Rattle.std.proofs.Math.Seq.{drop-cons}
-use Rattle.tw_base.specs.declared.thread.Entry.{Entry}
-use Rattle.tw_base.specs.declared.thread.Key.{Key}
-use Rattle.tw_base.specs.Lists.{Each}
-use Rattle.tw_base.specs.Entries.{key_of}
-use Rattle.tw_base.specs.History.{History, Node, entry_at, entry_to, fresh_of, step_at}
-use Rattle.tw_base.specs.Rules.{NodesFit}
-use Rattle.tw_base.specs.Tree.{Tree, IsRising, branch, entries, forest, new_trees, planted}
-use Rattle.tw_base.specs.Tree.Tree.{Empty, Branch}
-use Rattle.tw_base.proofs.ListLemmas.{Each-append, Each-get_or, Each-parts}
-use Rattle.tw_base.proofs.Trees.{entry_at-parts, entry_to-at}
+use Rattle.tw_base.specs.declared.history.thread.Entry.{Entry}
+use Rattle.tw_base.specs.declared.history.thread.Key.{Key}
+use Rattle.tw_base.specs.kinds.Lists.{Each}
+use Rattle.tw_base.specs.history.Entries.{key_of}
+use Rattle.tw_base.specs.history.History.{History, Node, entry_at, entry_to, fresh_of, step_at}
+use Rattle.tw_base.specs.history.Rules.{NodesFit}
+use Rattle.tw_base.specs.history.Tree.{Tree, IsRising, branch, entries, forest, new_trees, planted}
+use Rattle.tw_base.specs.history.Tree.Tree.{Empty, Branch}
+use Rattle.tw_base.proofs.lemmas.kinds.ListLemmas.{Each-append, Each-get_or, Each-parts}
+use Rattle.tw_base.proofs.lemmas.history.Trees.{entry_at-parts, entry_to-at}
 use Rattle.tw_history.specs.declared.soundness.summary.Summary.{Summary}
 use Rattle.tw_history.specs.declared.step.Node.{Node as NodeOfTable}
 use Rattle.tw_history.specs.JudgingSteps.{AreReceived, summary_of}

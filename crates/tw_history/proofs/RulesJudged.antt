@@ -4,17 +4,17 @@ use Rattle.std.specs.Prelude.{option_and_then, option_map, IfSome, MatchOption, 
 use Rattle.std.specs.Option.{option_to_list}
 use Rattle.std.proofs.lemmas.Bool.{cases_lt}
 use Rattle.std.proofs.lemmas.List.{get_or-map, length-append, length-map}
-use Rattle.tw_base.specs.declared.limits.TheConstants.{LAST_STEP}
-use Rattle.tw_base.specs.declared.thread.Thread.{Thread}
-use Rattle.tw_base.specs.declared.thread.Entry.{Entry}
-use Rattle.tw_base.specs.Lists.{Each, In}
-use Rattle.tw_base.specs.Names.{IsName}
-use Rattle.tw_base.specs.History.{History, Node, Step, entry_at, fresh_of, received, root_of, step_at, thread_of, time_of, times}
-use Rattle.tw_base.specs.Rules.{NodesFit}
-use Rattle.tw_base.specs.Sound.{IsSound, IsSoundStep}
-use Rattle.tw_base.specs.Tree.{Tree, branch, entries, forest, new_trees, planted, tree}
-use Rattle.tw_base.specs.Tree.Tree.{Empty}
-use Rattle.tw_base.proofs.ListLemmas.{Each-append}
+use Rattle.tw_base.specs.declared.kinds.limits.TheConstants.{LAST_STEP}
+use Rattle.tw_base.specs.declared.history.thread.Thread.{Thread}
+use Rattle.tw_base.specs.declared.history.thread.Entry.{Entry}
+use Rattle.tw_base.specs.kinds.Lists.{Each, In}
+use Rattle.tw_base.specs.kinds.Names.{IsName}
+use Rattle.tw_base.specs.history.History.{History, Node, Step, entry_at, fresh_of, received, root_of, step_at, thread_of, time_of, times}
+use Rattle.tw_base.specs.history.Rules.{NodesFit}
+use Rattle.tw_base.specs.history.Sound.{IsSound, IsSoundStep}
+use Rattle.tw_base.specs.history.Tree.{Tree, branch, entries, forest, new_trees, planted, tree}
+use Rattle.tw_base.specs.history.Tree.Tree.{Empty}
+use Rattle.tw_base.proofs.lemmas.kinds.ListLemmas.{Each-append}
 use Rattle.tw_history.specs.declared.step.Step.{Step as StepOfTable}
 use Rattle.tw_history.specs.declared.step.Node.{Node as NodeOfTable}
 use Rattle.tw_history.specs.declared.fault.HistoryFault.{HistoryFault}
@@ -24,8 +24,8 @@ use Rattle.tw_history.specs.declared.soundness.Judged.{Judged}
 use Rattle.tw_history.specs.JudgingSteps.{IsGreatest, IsGreatestTime, HasJudged, IsLater, TellsFirst, greatest_of, summary_of}
 use Rattle.tw_history.specs.Tables.{IsTable, node_of, step_of, steps_of_table}
 use Rattle.tw_history.specs.Refusals.{TellsRule}
-use Rattle.tw_base.specs.Rules.{KeepsRule, Rule, rule_number}
-use Rattle.tw_base.specs.Rules.Rule.{NodesAreKnown, TreesRise, HoldsAllThreads, IsOfAnother, StepsRise, EventsFit, TimesDontFall}
+use Rattle.tw_base.specs.history.Rules.{KeepsRule, Rule, rule_number}
+use Rattle.tw_base.specs.history.Rules.Rule.{NodesAreKnown, TreesRise, HoldsAllThreads, IsOfAnother, StepsRise, EventsFit, TimesDontFall}
 use Rattle.tw_history.proofs.Planting.{Rises, forest-next}
 use Rattle.tw_history.proofs.TableLaws.{length-steps_of_table}
 use Rattle.tw_history.proofs.Summaries.{count-summary}

@@ -1,19 +1,19 @@
 -- A sound history whose nodes are in the ranges of the file is spelled by its written bytes.
 use Rattle.std.proofs.Common.{◌≡◌, ℕ, suc, ◌≤◌, List, [], ◌∷◌, length, refl, arith}
 use Rattle.std.specs.Prelude.{Some, slice_get}
-use Rattle.tw_base.specs.declared.content.Content.{Content}
-use Rattle.tw_base.specs.declared.content.Content.TheVariants.{Events, Received}
-use Rattle.tw_base.specs.declared.limits.TheConstants.{MOST_EVENT_BYTES}
-use Rattle.tw_base.specs.Bytes.{AreBytes}
-use Rattle.tw_base.specs.Codecs.{by_kind, bytes_codec, number_codec, sized_codec}
-use Rattle.tw_base.specs.Formats.{Spells}
-use Rattle.tw_base.specs.History.{History, Step}
-use Rattle.tw_base.specs.HistoryCodec.{content_codec, event_codec, history_bytes, history_layout, node_codec, step_codec}
-use Rattle.tw_base.specs.Limits.{IsTimeWithinLimits, IsWithinLimits}
-use Rattle.tw_base.specs.Lists.{Each}
-use Rattle.tw_base.specs.Sound.{IsSound}
-use Rattle.tw_base.proofs.HistoryCodecLaws.{history-lawful}
-use Rattle.tw_base.proofs.ListLemmas.{Each-map}
+use Rattle.tw_base.specs.declared.history.content.Content.{Content}
+use Rattle.tw_base.specs.declared.history.content.Content.TheVariants.{Events, Received}
+use Rattle.tw_base.specs.declared.kinds.limits.TheConstants.{MOST_EVENT_BYTES}
+use Rattle.tw_base.specs.kinds.Bytes.{AreBytes}
+use Rattle.tw_base.specs.format.Codecs.{by_kind, bytes_codec, number_codec, sized_codec}
+use Rattle.tw_base.specs.format.Formats.{Spells}
+use Rattle.tw_base.specs.history.History.{History, Step}
+use Rattle.tw_base.specs.history.HistoryCodec.{content_codec, event_codec, history_bytes, history_layout, node_codec, step_codec}
+use Rattle.tw_base.specs.history.Limits.{IsTimeWithinLimits, IsWithinLimits}
+use Rattle.tw_base.specs.kinds.Lists.{Each}
+use Rattle.tw_base.specs.history.Sound.{IsSound}
+use Rattle.tw_base.proofs.lemmas.history.HistoryCodecLaws.{history-lawful}
+use Rattle.tw_base.proofs.lemmas.kinds.ListLemmas.{Each-map}
 use Rattle.tw_history.specs.WritingSteps.{has_events}
 use Rattle.tw_history.specs.FileRanges.{IsInFileRange, IsNodeInRange, IsStepInRange}
 use Rattle.tw_history.proofs.FileFits.{events-fit, history-fits, node-fits, recorded-fits, step-fits, thread-fits, thread-parts}

@@ -5,14 +5,14 @@ use Rattle.std.proofs.lemmas.Bool.{le-leb, lt-leb}
 use Rattle.std.proofs.lemmas.List.{drop-drop, length-append, length-drop, length-map, length-take-le}
 use Rattle.std.proofs.lemmas.List.Sums.{sum_by-cons, sum_by_more, sum_by_more_le}
 use Rattle.std.proofs.lemmas.Option.{slice_get_past}
-use Rattle.tw_base.specs.declared.thread.Thread.{Thread}
-use Rattle.tw_base.specs.declared.thread.Entry.{Entry}
-use Rattle.tw_base.specs.Lists.{Each}
-use Rattle.tw_base.specs.History.{History, entry_at, entry_to, events_at, events_of, fresh_of, step_at, thread_of, time_at, time_of}
-use Rattle.tw_base.specs.History.{Node as NodeMeant, Step as StepMeant}
-use Rattle.tw_base.specs.Tree.{Tree, forest, planted}
-use Rattle.tw_base.specs.declared.content.Content.{Content}
-use Rattle.tw_base.specs.declared.content.Content.TheVariants.{Events, Received}
+use Rattle.tw_base.specs.declared.history.thread.Thread.{Thread}
+use Rattle.tw_base.specs.declared.history.thread.Entry.{Entry}
+use Rattle.tw_base.specs.kinds.Lists.{Each}
+use Rattle.tw_base.specs.history.History.{History, entry_at, entry_to, events_at, events_of, fresh_of, step_at, thread_of, time_at, time_of}
+use Rattle.tw_base.specs.history.History.{Node as NodeMeant, Step as StepMeant}
+use Rattle.tw_base.specs.history.Tree.{Tree, forest, planted}
+use Rattle.tw_base.specs.declared.history.content.Content.{Content}
+use Rattle.tw_base.specs.declared.history.content.Content.TheVariants.{Events, Received}
 use Rattle.tw_history.specs.declared.step.Step.{Step}
 use Rattle.tw_history.specs.declared.step.Node.{Node}
 use Rattle.tw_history.specs.Tables.{node_of, step_of, steps_of_table}

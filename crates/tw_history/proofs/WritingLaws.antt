@@ -3,14 +3,14 @@ use Rattle.std.proofs.Common.{◌≡◌, ℕ, ◌+◌, ◌<◌, ◌≤◌, ◌^�
 use Rattle.std.specs.Prelude.{Option, Some, None, true, false, is_some, ◌-◌}
 use Rattle.std.proofs.lemmas.List.{append-nil, append_assoc, drop_all, drop_more, length-drop, take-append-drop}
 use Rattle.std.proofs.lemmas.List.Sums.{sum_by-cons}
-use Rattle.tw_base.specs.declared.content.Content.{Content}
-use Rattle.tw_base.specs.declared.content.Content.TheVariants.{Events, Received}
-use Rattle.tw_base.specs.Codecs.{by_kind, counted, many, nothing, number_codec, optional, pair, present, seen}
-use Rattle.tw_base.specs.Fields.{number_bytes}
-use Rattle.tw_base.specs.History.{Step}
-use Rattle.tw_base.specs.HistoryCodec.{content_codec, kind_of, node_codec, recorded_codec, step_codec}
-use Rattle.tw_base.specs.Lists.{Each}
-use Rattle.tw_base.proofs.ListLemmas.{Each-parts}
+use Rattle.tw_base.specs.declared.history.content.Content.{Content}
+use Rattle.tw_base.specs.declared.history.content.Content.TheVariants.{Events, Received}
+use Rattle.tw_base.specs.format.Codecs.{by_kind, counted, many, nothing, number_codec, optional, pair, present, seen}
+use Rattle.tw_base.specs.format.Fields.{number_bytes}
+use Rattle.tw_base.specs.history.History.{Step}
+use Rattle.tw_base.specs.history.HistoryCodec.{content_codec, kind_of, node_codec, recorded_codec, step_codec}
+use Rattle.tw_base.specs.kinds.Lists.{Each}
+use Rattle.tw_base.proofs.lemmas.kinds.ListLemmas.{Each-parts}
 use Rattle.tw_history.specs.declared.step.Node.{Node as TableNode}
 use Rattle.tw_history.specs.declared.step.Step.{Step as TableStep}
 use Rattle.tw_history.specs.Tables.{step_of, steps_of_table}

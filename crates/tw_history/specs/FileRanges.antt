@@ -1,7 +1,7 @@
 -- The ranges that a history file gives the numbers of nodes.
 use Rattle.std.specs.Prelude.{◌<◌, ◌^◌, length}
-use Rattle.tw_base.specs.Lists.{Each}
-use Rattle.tw_base.specs.History.{History, Node, Step}
+use Rattle.tw_base.specs.kinds.Lists.{Each}
+use Rattle.tw_base.specs.history.History.{History, Node, Step}
 
 abbrev pub IsNodeInRange : Node → Type 0
 IsNodeInRange n = (n.left < 2 ^ 32) × (n.entry < 2 ^ 64) × (n.right < 2 ^ 32)

@@ -1,5 +1,5 @@
 -- The history that a value of the code stands for.
-use Rattle.tw_base.specs.History.{History as HistoryMeant}
+use Rattle.tw_base.specs.history.History.{History as HistoryMeant}
 use Rattle.tw_history.specs.declared.history.History.TheInside.{Inside}
 use Rattle.tw_history.specs.Tables.{steps_of_table}
 

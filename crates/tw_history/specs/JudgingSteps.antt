@@ -3,18 +3,18 @@ use Rattle.std.specs.Prelude.{◌≡◌, ◌≢◌, ◌↔◌, ℕ, suc, ◌<◌
 use Rattle.std.specs.Ordering.{nat_cmp}
 use Rattle.std.specs.Cmp.Lexicographic.{slice_cmp}
 use Rattle.std.specs.BTreeMap.{get}
-use Rattle.tw_base.specs.declared.thread.Entry.{Entry}
-use Rattle.tw_base.specs.declared.thread.Key.{Key}
-use Rattle.tw_base.specs.declared.thread.Thread.{Thread}
-use Rattle.tw_base.specs.Lists.{Each, In}
-use Rattle.tw_base.specs.History.{History, Step, entry_at, received, times}
-use Rattle.tw_base.specs.Tree.{IsRising, Tree, entries, forest}
+use Rattle.tw_base.specs.declared.history.thread.Entry.{Entry}
+use Rattle.tw_base.specs.declared.history.thread.Key.{Key}
+use Rattle.tw_base.specs.declared.history.thread.Thread.{Thread}
+use Rattle.tw_base.specs.kinds.Lists.{Each, In}
+use Rattle.tw_base.specs.history.History.{History, Step, entry_at, received, times}
+use Rattle.tw_base.specs.history.Tree.{IsRising, Tree, entries, forest}
 use Rattle.tw_history.specs.declared.soundness.summary.Summary.{Summary}
 use Rattle.tw_history.specs.declared.soundness.greatest.GreatestSteps.{GreatestSteps}
 use Rattle.tw_history.specs.declared.soundness.Judged.{Judged}
 use Rattle.tw_history.specs.declared.fault.HistoryFault.{HistoryFault}
 use Rattle.tw_history.specs.declared.fault.HistoryFault.TheVariants.{NoMemory, Unsound}
-use Rattle.tw_base.specs.Rules.{KeepsRule, Rule, rule_number}
+use Rattle.tw_base.specs.history.Rules.{KeepsRule, Rule, rule_number}
 
 -- what an archive is ordered by
 abbrev pub thread_key : Thread → Key

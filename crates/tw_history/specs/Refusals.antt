@@ -1,10 +1,10 @@
 -- When each refusal comes.
 use Rattle.std.specs.Prelude.{◌≡◌, ℕ, ◌<◌, ◌≤◌, List, length, Result, Ok, Err}
-use Rattle.tw_base.specs.declared.limits.TheConstants.{MOST_HISTORY_BYTES}
-use Rattle.tw_base.specs.Formats.{IsPlace, Spells, SpellsNothing}
-use Rattle.tw_base.specs.History.{History, events_at}
-use Rattle.tw_base.specs.Sound.{IsSound}
-use Rattle.tw_base.specs.HistoryCodec.{history_layout}
+use Rattle.tw_base.specs.declared.kinds.limits.TheConstants.{MOST_HISTORY_BYTES}
+use Rattle.tw_base.specs.format.Formats.{IsPlace, Spells, SpellsNothing}
+use Rattle.tw_base.specs.history.History.{History, events_at}
+use Rattle.tw_base.specs.history.Sound.{IsSound}
+use Rattle.tw_base.specs.history.HistoryCodec.{history_layout}
 use Rattle.tw_history.specs.Rules.{IsFirstBroken}
 use Rattle.tw_history.specs.declared.fault.HistoryFault.{HistoryFault}
 use Rattle.tw_history.specs.declared.fault.HistoryFault.TheVariants.{Malformed, NoMemory, TooLong, Unsound}

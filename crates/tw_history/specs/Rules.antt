@@ -1,7 +1,7 @@
 -- The first rule that a history breaks.
 use Rattle.std.specs.Prelude.{◌≡◌, ℕ, suc, ◌<◌, Some}
-use Rattle.tw_base.specs.History.{History, Step, step_at}
-use Rattle.tw_base.specs.Rules.{KeepsRule, Rule, rule_number}
+use Rattle.tw_base.specs.history.History.{History, Step, step_at}
+use Rattle.tw_base.specs.history.Rules.{KeepsRule, Rule, rule_number}
 
 -- the step breaks the rule of this number and keeps each lower one, and each earlier step keeps them all
 pub record IsFirstBroken (h : History) (step rule : ℕ) : Type 0 where

@@ -1,11 +1,11 @@
 -- What a table of steps and nodes stands for.
 use Rattle.std.specs.Prelude.{◌≡◌, ◌<◌, ◌≤◌, ◌^◌, List, [], ◌∷◌, length, map, take, drop, sum_by}
-use Rattle.tw_base.specs.declared.content.Content.{Content}
-use Rattle.tw_base.specs.declared.content.Content.TheVariants.{Events, Received}
-use Rattle.tw_base.specs.declared.limits.TheConstants.{LAST_STEP, MOST_EVENTS, MOST_EVENT_BYTES}
-use Rattle.tw_base.specs.Limits.{IsTimeWithinLimits}
-use Rattle.tw_base.specs.Lists.{Each}
-use Rattle.tw_base.specs.History.{Step as StepMeant, Node as NodeMeant}
+use Rattle.tw_base.specs.declared.history.content.Content.{Content}
+use Rattle.tw_base.specs.declared.history.content.Content.TheVariants.{Events, Received}
+use Rattle.tw_base.specs.declared.kinds.limits.TheConstants.{LAST_STEP, MOST_EVENTS, MOST_EVENT_BYTES}
+use Rattle.tw_base.specs.history.Limits.{IsTimeWithinLimits}
+use Rattle.tw_base.specs.kinds.Lists.{Each}
+use Rattle.tw_base.specs.history.History.{Step as StepMeant, Node as NodeMeant}
 use Rattle.tw_history.specs.declared.step.Step.{Step}
 use Rattle.tw_history.specs.declared.step.Node.{Node}
 

@@ -1,8 +1,8 @@
 -- What a step of a table is written as, and how many bytes it has.
 use Rattle.std.specs.Prelude.{ℕ, ◌+◌, ◌*◌, length, Bool, true, false}
-use Rattle.tw_base.specs.HistoryCodec.{recorded_codec}
-use Rattle.tw_base.specs.declared.content.Content.{Content}
-use Rattle.tw_base.specs.declared.content.Content.TheVariants.{Events, Received}
+use Rattle.tw_base.specs.history.HistoryCodec.{recorded_codec}
+use Rattle.tw_base.specs.declared.history.content.Content.{Content}
+use Rattle.tw_base.specs.declared.history.content.Content.TheVariants.{Events, Received}
 use Rattle.tw_history.specs.declared.step.Step.{Step}
 
 -- whether a step records events, and not a thread

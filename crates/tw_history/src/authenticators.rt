@@ -1,7 +1,7 @@
 // The authenticators of a history.
 
 ghost use Rattle.std.specs.Prelude.{◌≡◌, ◌<◌, ◌≤◌, length, IfOk, MatchOption};
-ghost use Rattle.tw_base.specs.Auth.{auth};
+ghost use Rattle.tw_base.specs.history.Auth.{auth};
 
 use crate::history::History;
 use crate::lookup::count_of_steps;

@@ -20,7 +20,7 @@ pub struct History {
 }
 
 impl Model for History {
-    ghost use Rattle.tw_base.specs.History.{History as HistoryMeant};
+    ghost use Rattle.tw_base.specs.history.History.{History as HistoryMeant};
 
     ghost Value = { HistoryMeant };
 

@@ -1,10 +1,10 @@
 // The laws of history files, on which the layers above build.
 
-ghost use Rattle.tw_base.specs.Formats.{OneSpelling, Spells, WrittenAs};
-ghost use Rattle.tw_base.specs.History.{History};
-ghost use Rattle.tw_base.specs.Sound.{IsSound};
+ghost use Rattle.tw_base.specs.format.Formats.{OneSpelling, Spells, WrittenAs};
+ghost use Rattle.tw_base.specs.history.History.{History};
+ghost use Rattle.tw_base.specs.history.Sound.{IsSound};
 ghost use Rattle.tw_history.specs.FileRanges.{IsInFileRange};
-ghost use Rattle.tw_base.specs.HistoryCodec.{history_bytes, history_layout};
+ghost use Rattle.tw_base.specs.history.HistoryCodec.{history_bytes, history_layout};
 
 /// What the layout spells: a history's one spelling is what `write_history` writes; and a sound
 /// history of which each number of a node fits its field has that spelling.

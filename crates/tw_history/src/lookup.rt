@@ -1,13 +1,13 @@
 // What a history has at a step.
 
 ghost use Rattle.std.specs.Prelude.{◌≡◌, ◌+◌, ◌^◌, ◌<◌, ◌≤◌, length, take, sum_by, Some, slice_get, IfNone, IfSome, OnSome};
-ghost use Rattle.tw_base.specs.History.{entry_to, events_at, step_at, thread_of, time_at};
-ghost use Rattle.tw_base.specs.Limits.{IsTimeWithinLimits};
-ghost use Rattle.tw_base.specs.Lists.{Each};
-ghost use Rattle.tw_base.specs.Tree.{forest};
+ghost use Rattle.tw_base.specs.history.History.{entry_to, events_at, step_at, thread_of, time_at};
+ghost use Rattle.tw_base.specs.history.Limits.{IsTimeWithinLimits};
+ghost use Rattle.tw_base.specs.kinds.Lists.{Each};
+ghost use Rattle.tw_base.specs.history.Tree.{forest};
 ghost use Rattle.tw_history.specs.Tables.{IsInRange, IsTable, step_of, steps_of_table};
 ghost use Rattle.tw_history.specs.PassSteps.{events_in, thread_in};
-ghost use Rattle.tw_base.specs.declared.limits.TheConstants.{LAST_STEP};
+ghost use Rattle.tw_base.specs.declared.kinds.limits.TheConstants.{LAST_STEP};
 
 use crate::history::History;
 use crate::step::{Node, Step};

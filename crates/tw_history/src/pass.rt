@@ -1,13 +1,13 @@
 // A pass over the steps of a history, from the first on, in which each text is hashed once.
 
 ghost use Rattle.std.specs.Prelude.{◌≡◌, ℕ, ◌+◌, ◌<◌, ◌≤◌, suc, List, ◌++◌, drop, length, map, replicate, slice_index_or, IfOk, OnOk};
-ghost use Rattle.tw_base.specs.Auth.{auth, tree_label};
-ghost use Rattle.tw_base.specs.EventTree.{event_root as event_root_of};
-ghost use Rattle.tw_base.specs.History.{History as HistoryMeant, entry_to, events_at};
-ghost use Rattle.tw_base.specs.Levels.{top_level as top_level_of};
-ghost use Rattle.tw_base.specs.declared.limits.TheConstants.{LAST_STEP};
-ghost use Rattle.tw_base.specs.Tree.{Tree, branch, planted};
-ghost use Rattle.tw_base.specs.Tree.Tree.{Empty};
+ghost use Rattle.tw_base.specs.history.Auth.{auth, tree_label};
+ghost use Rattle.tw_base.specs.events.EventTree.{event_root as event_root_of};
+ghost use Rattle.tw_base.specs.history.History.{History as HistoryMeant, entry_to, events_at};
+ghost use Rattle.tw_base.specs.kinds.Levels.{top_level as top_level_of};
+ghost use Rattle.tw_base.specs.declared.kinds.limits.TheConstants.{LAST_STEP};
+ghost use Rattle.tw_base.specs.history.Tree.{Tree, branch, planted};
+ghost use Rattle.tw_base.specs.history.Tree.Tree.{Empty};
 ghost use Rattle.tw_history.specs.Tables.{node_of};
 ghost use Rattle.tw_history.specs.PassSteps.{HasPassed, IsOfStep};
 

@@ -3,7 +3,7 @@
 ghost use Rattle.std.specs.Prelude.{◌≡◌, ◌^◌, ◌<◌, ◌≤◌, List, length, reverse, IfOk, OnOk};
 ghost use Rattle.tw_skipproof.specs.HistoryProofs.{IsPathOf};
 ghost use Rattle.tw_history.specs.PassSteps.{HasPassed};
-ghost use Rattle.tw_base.specs.declared.limits.TheConstants.{LAST_STEP};
+ghost use Rattle.tw_base.specs.declared.kinds.limits.TheConstants.{LAST_STEP};
 
 use crate::history::History;
 use crate::pass::{Digests, event_root_behind, pass_step, pass_steps};

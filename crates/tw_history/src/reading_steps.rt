@@ -1,12 +1,12 @@
 // Reading the steps of a history file into a table.
 
 ghost use Rattle.std.specs.Prelude.{◌≡◌, ℕ, ◌+◌, ◌^◌, ◌<◌, ◌≤◌, ◌++◌, length, map, IfOk};
-ghost use Rattle.tw_base.specs.declared.limits.TheConstants.{LAST_STEP};
-ghost use Rattle.tw_base.specs.Codecs.{counted, many};
-ghost use Rattle.tw_base.specs.HistoryCodec.{node_codec, step_codec};
-ghost use Rattle.tw_base.specs.Limits.{IsTimeWithinLimits};
-ghost use Rattle.tw_base.specs.Lists.{Each};
-ghost use Rattle.tw_base.specs.Taking.{Takes};
+ghost use Rattle.tw_base.specs.declared.kinds.limits.TheConstants.{LAST_STEP};
+ghost use Rattle.tw_base.specs.format.Codecs.{counted, many};
+ghost use Rattle.tw_base.specs.history.HistoryCodec.{node_codec, step_codec};
+ghost use Rattle.tw_base.specs.history.Limits.{IsTimeWithinLimits};
+ghost use Rattle.tw_base.specs.kinds.Lists.{Each};
+ghost use Rattle.tw_base.specs.format.Taking.{Takes};
 ghost use Rattle.tw_history.specs.declared.reading_steps.Table.{Table};
 ghost use Rattle.tw_history.specs.declared.step.Step.{Step};
 ghost use Rattle.tw_history.specs.Tables.{IsInRange, IsTable, added, node_of, step_of, steps_of_table};
@@ -24,7 +24,7 @@ pub(crate) struct Table {
 }
 
 /// Takes a node.
-#[tactic(auto, unfolding(tw_base::specs::Codecs::number_codec, tw_base::specs::Codecs::pair, tw_base::specs::Codecs::seen, tw_base::specs::HistoryCodec::node_codec))]
+#[tactic(auto, unfolding(tw_base::specs::format::Codecs::number_codec, tw_base::specs::format::Codecs::pair, tw_base::specs::format::Codecs::seen, tw_base::specs::history::HistoryCodec::node_codec))]
 fn take_node(bytes: &[u8], at: &mut u64) -> Result<Node, ReadFault>
     requires { at.old ≤ length bytes.now }
     ensures takes { Takes node_codec node_of bytes.now at.old at.new result }
@@ -70,7 +70,7 @@ fn take_fresh(bytes: &[u8], at: &mut u64, nodes: &mut Nodes) -> Result<u16, Read
 }
 
 /// Takes a step, and appends its new nodes.
-#[tactic(auto, unfolding(tw_base::specs::Codecs::number_codec, tw_base::specs::Codecs::pair, tw_base::specs::Codecs::seen, tw_base::specs::HistoryCodec::step_codec))]
+#[tactic(auto, unfolding(tw_base::specs::format::Codecs::number_codec, tw_base::specs::format::Codecs::pair, tw_base::specs::format::Codecs::seen, tw_base::specs::history::HistoryCodec::step_codec))]
 fn take_step(
     alloc: Global,
     bytes: &[u8],

@@ -2,19 +2,19 @@
 
 ghost use Rattle.std.specs.Prelude.{◌≡◌, ◌^◌, ◌<◌, ◌≤◌, List, length, Some, IfOk, IfErr, OnOk};
 ghost use Rattle.tw_skipproof.specs.declared.existence.ExistenceProof.{ExistenceProof};
-ghost use Rattle.tw_base.specs.Auth.{auth};
-ghost use Rattle.tw_base.specs.EventTree.{event_root as event_root_of};
-ghost use Rattle.tw_base.specs.History.{events_at};
-ghost use Rattle.tw_base.specs.Limits.{IsTimeWithinLimits};
-ghost use Rattle.tw_base.specs.Lists.{Each};
-ghost use Rattle.tw_base.specs.Formats.{Spells};
+ghost use Rattle.tw_base.specs.history.Auth.{auth};
+ghost use Rattle.tw_base.specs.events.EventTree.{event_root as event_root_of};
+ghost use Rattle.tw_base.specs.history.History.{events_at};
+ghost use Rattle.tw_base.specs.history.Limits.{IsTimeWithinLimits};
+ghost use Rattle.tw_base.specs.kinds.Lists.{Each};
+ghost use Rattle.tw_base.specs.format.Formats.{Spells};
 ghost use Rattle.tw_skipproof.specs.Acceptance.{IsAcceptedUnder};
 ghost use Rattle.tw_skipproof.specs.Existence.{existence_layout};
 ghost use Rattle.tw_skipproof.specs.HistoryProofs.{IsExistenceOf, IsOpeningOf, IsPartOf, MakesExistence};
 ghost use Rattle.tw_history.specs.Tables.{IsInRange};
 ghost use Rattle.tw_history.specs.PassSteps.{HasPassed, events_in};
 ghost use Rattle.tw_history.specs.Refusals.{RefusesEvent};
-ghost use Rattle.tw_base.specs.declared.limits.TheConstants.{LAST_STEP, MOST_EVENTS, MOST_EVENT_BYTES};
+ghost use Rattle.tw_base.specs.declared.kinds.limits.TheConstants.{LAST_STEP, MOST_EVENTS, MOST_EVENT_BYTES};
 
 use crate::fault::ShowFault;
 use crate::history::History;

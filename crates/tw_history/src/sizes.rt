@@ -2,11 +2,11 @@
 
 ghost use Rattle.std.specs.Prelude.{◌≡◌, ◌+◌, ◌*◌, ◌<◌, ◌≤◌, ◌^◌, length, sum_by};
 ghost use Rattle.std.specs.Option.{option_map_or};
-ghost use Rattle.tw_base.specs.Lists.{Each};
-ghost use Rattle.tw_base.specs.HistoryCodec.{content_codec, event_codec, history_bytes, recorded_codec};
+ghost use Rattle.tw_base.specs.kinds.Lists.{Each};
+ghost use Rattle.tw_base.specs.history.HistoryCodec.{content_codec, event_codec, history_bytes, recorded_codec};
 ghost use Rattle.tw_history.specs.Tables.{IsInRange};
 ghost use Rattle.tw_history.specs.WritingSteps.{has_events, step_size as step_size_of};
-ghost use Rattle.tw_base.specs.declared.limits.TheConstants.{LAST_STEP, MOST_EVENTS, MOST_EVENT_BYTES};
+ghost use Rattle.tw_base.specs.declared.kinds.limits.TheConstants.{LAST_STEP, MOST_EVENTS, MOST_EVENT_BYTES};
 
 use crate::history::History;
 use crate::step::Step;

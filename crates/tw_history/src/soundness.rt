@@ -1,13 +1,13 @@
 // Whether a history is sound.
 
 ghost use Rattle.std.specs.Prelude.{◌≡◌, ℕ, suc, ◌<◌, ◌≤◌, length, Some, Err, IfOk, MatchResult};
-ghost use Rattle.tw_base.specs.History.{History as HistoryMeant, Step as StepMeant, step_at};
-ghost use Rattle.tw_base.specs.Limits.{IsTimeWithinLimits};
-ghost use Rattle.tw_base.specs.Sound.{IsSound, IsSoundStep};
+ghost use Rattle.tw_base.specs.history.History.{History as HistoryMeant, Step as StepMeant, step_at};
+ghost use Rattle.tw_base.specs.history.Limits.{IsTimeWithinLimits};
+ghost use Rattle.tw_base.specs.history.Sound.{IsSound, IsSoundStep};
 ghost use Rattle.tw_history.specs.JudgingSteps.{HasJudged, TellsFirst};
 ghost use Rattle.tw_history.specs.Tables.{IsInRange, IsTable, step_of, steps_of_table};
 ghost use Rattle.tw_history.specs.Refusals.{TellsRule};
-ghost use Rattle.tw_base.specs.declared.limits.TheConstants.{LAST_STEP};
+ghost use Rattle.tw_base.specs.declared.kinds.limits.TheConstants.{LAST_STEP};
 
 mod greatest;
 mod keys;

@@ -1,13 +1,13 @@
 // The digests that the authenticator of a step is made of.
 
 ghost use Rattle.std.specs.Prelude.{◌≡◌, ℕ, suc, ◌+◌, ◌<◌, ◌≤◌, List, [], drop, length, map, remove, slice_index_or, IfOk};
-ghost use Rattle.tw_base.specs.Auth.{link_texts};
-ghost use Rattle.tw_base.specs.EventTree.{event_root as event_root_of};
-ghost use Rattle.tw_base.specs.Levels.{top_level as top_level_of};
-ghost use Rattle.tw_base.specs.Texts.{step_datum_text};
+ghost use Rattle.tw_base.specs.history.Auth.{link_texts};
+ghost use Rattle.tw_base.specs.events.EventTree.{event_root as event_root_of};
+ghost use Rattle.tw_base.specs.kinds.Levels.{top_level as top_level_of};
+ghost use Rattle.tw_base.specs.kinds.Texts.{step_datum_text};
 ghost use Rattle.tw_history.specs.Tables.{IsInRange};
 ghost use Rattle.tw_history.specs.PassSteps.{AreReached, events_in};
-ghost use Rattle.tw_base.specs.declared.limits.TheConstants.{LAST_STEP};
+ghost use Rattle.tw_base.specs.declared.kinds.limits.TheConstants.{LAST_STEP};
 
 use arrayvec::ArrayVec;
 use std::alloc::Global;

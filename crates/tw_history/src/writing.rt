@@ -1,14 +1,14 @@
 // Writing history files.
 
 ghost use Rattle.std.specs.Prelude.{◌≡◌, ◌<◌, ◌≤◌, ◌^◌, length, map, sum_by, IfOk, IfErr};
-ghost use Rattle.tw_base.specs.declared.limits.TheConstants.{LAST_STEP, MOST_EVENT_BYTES};
-ghost use Rattle.tw_base.specs.Codecs.{many};
-ghost use Rattle.tw_base.specs.Formats.{Spells};
-ghost use Rattle.tw_base.specs.HistoryCodec.{content_codec, event_codec, history_bytes, history_codec, history_layout, node_codec, recorded_codec, step_codec, thread_codec};
-ghost use Rattle.tw_base.specs.HistoryCodec.{kind_of as kind_of_recorded};
-ghost use Rattle.tw_base.specs.Limits.{IsTimeWithinLimits};
-ghost use Rattle.tw_base.specs.Lists.{Each};
-ghost use Rattle.tw_base.specs.Taking.{Puts};
+ghost use Rattle.tw_base.specs.declared.kinds.limits.TheConstants.{LAST_STEP, MOST_EVENT_BYTES};
+ghost use Rattle.tw_base.specs.format.Codecs.{many};
+ghost use Rattle.tw_base.specs.format.Formats.{Spells};
+ghost use Rattle.tw_base.specs.history.HistoryCodec.{content_codec, event_codec, history_bytes, history_codec, history_layout, node_codec, recorded_codec, step_codec, thread_codec};
+ghost use Rattle.tw_base.specs.history.HistoryCodec.{kind_of as kind_of_recorded};
+ghost use Rattle.tw_base.specs.history.Limits.{IsTimeWithinLimits};
+ghost use Rattle.tw_base.specs.kinds.Lists.{Each};
+ghost use Rattle.tw_base.specs.format.Taking.{Puts};
 ghost use Rattle.tw_history.specs.Refusals.{TellsLength};
 ghost use Rattle.tw_history.specs.Tables.{IsInRange, node_of, step_of, steps_of_table};
 ghost use Rattle.tw_history.specs.WritingSteps.{has_events};
@@ -88,7 +88,7 @@ fn put_steps(into: &mut Bytes, steps: &[Step], nodes: &[Node]) -> Result<(), NoM
 }
 
 /// Appends the step with its new nodes.
-#[tactic(auto, unfolding(tw_base::specs::Codecs::by_kind, tw_base::specs::Codecs::counted, tw_base::specs::Codecs::many, tw_base::specs::Codecs::number_codec, tw_base::specs::Codecs::pair, tw_base::specs::Codecs::seen, tw_base::specs::HistoryCodec::step_codec))]
+#[tactic(auto, unfolding(tw_base::specs::format::Codecs::by_kind, tw_base::specs::format::Codecs::counted, tw_base::specs::format::Codecs::many, tw_base::specs::format::Codecs::number_codec, tw_base::specs::format::Codecs::pair, tw_base::specs::format::Codecs::seen, tw_base::specs::history::HistoryCodec::step_codec))]
 fn put_step(into: &mut Bytes, step: &Step, fresh: &[Node]) -> Result<(), NoMemory>
     requires counted { length fresh.now ≡ step.now.fresh }
     requires content { IsInRange step.now.content }
@@ -116,7 +116,7 @@ fn kind_of(time: Option<u64>, content: &Content) -> u64
 }
 
 /// Appends the kind of what a step records, its time, if any, and its content.
-#[tactic(auto, unfolding(tw_base::specs::Codecs::number_codec))]
+#[tactic(auto, unfolding(tw_base::specs::format::Codecs::number_codec))]
 fn put_recorded(into: &mut Bytes, time: Option<u64>, content: &Content) -> Result<(), NoMemory>
     requires content { IsInRange content.now }
     requires time { IsTimeWithinLimits time }
@@ -129,7 +129,7 @@ fn put_recorded(into: &mut Bytes, time: Option<u64>, content: &Content) -> Resul
 }
 
 /// Appends the content: the number of events and each of them, or the thread.
-#[tactic(auto, unfolding(tw_base::specs::Codecs::by_kind, tw_base::specs::Codecs::bytes_codec, tw_base::specs::Codecs::variant, tw_base::specs::Codecs::counted, tw_base::specs::Codecs::many, tw_base::specs::Codecs::name_codec, tw_base::specs::Codecs::number_codec, tw_base::specs::Codecs::pair, tw_base::specs::Codecs::seen, tw_base::specs::HistoryCodec::content_codec, tw_base::specs::HistoryCodec::thread_codec))]
+#[tactic(auto, unfolding(tw_base::specs::format::Codecs::by_kind, tw_base::specs::format::Codecs::bytes_codec, tw_base::specs::format::Codecs::variant, tw_base::specs::format::Codecs::counted, tw_base::specs::format::Codecs::many, tw_base::specs::format::Codecs::name_codec, tw_base::specs::format::Codecs::number_codec, tw_base::specs::format::Codecs::pair, tw_base::specs::format::Codecs::seen, tw_base::specs::history::HistoryCodec::content_codec, tw_base::specs::history::HistoryCodec::thread_codec))]
 fn put_content(into: &mut Bytes, content: &Content) -> Result<(), NoMemory>
     requires { IsInRange content.now }
     ensures { Puts (content_codec (has_events content.now)) content.now into.old into.new result }
@@ -148,7 +148,7 @@ fn put_content(into: &mut Bytes, content: &Content) -> Result<(), NoMemory>
 }
 
 /// Appends the thread.
-#[tactic(auto, unfolding(tw_base::specs::Codecs::bytes_codec, tw_base::specs::Codecs::name_codec, tw_base::specs::Codecs::number_codec, tw_base::specs::Codecs::pair, tw_base::specs::Codecs::seen, tw_base::specs::HistoryCodec::thread_codec))]
+#[tactic(auto, unfolding(tw_base::specs::format::Codecs::bytes_codec, tw_base::specs::format::Codecs::name_codec, tw_base::specs::format::Codecs::number_codec, tw_base::specs::format::Codecs::pair, tw_base::specs::format::Codecs::seen, tw_base::specs::history::HistoryCodec::thread_codec))]
 fn put_thread(into: &mut Bytes, thread: &Thread) -> Result<(), NoMemory>
     requires { (0 < thread.now.step) × (thread.now.step ≤ LAST_STEP) }
     ensures { Puts thread_codec thread.now into.old into.new result }
@@ -191,7 +191,7 @@ fn put_nodes(into: &mut Bytes, nodes: &[Node]) -> Result<(), NoMemory>
 }
 
 /// Appends the node.
-#[tactic(auto, unfolding(tw_base::specs::Codecs::number_codec, tw_base::specs::Codecs::pair, tw_base::specs::Codecs::seen, tw_base::specs::HistoryCodec::node_codec))]
+#[tactic(auto, unfolding(tw_base::specs::format::Codecs::number_codec, tw_base::specs::format::Codecs::pair, tw_base::specs::format::Codecs::seen, tw_base::specs::history::HistoryCodec::node_codec))]
 fn put_node(into: &mut Bytes, node: &Node) -> Result<(), NoMemory>
     requires { node.now.entry < 2 ^ 64 }
     ensures { Puts node_codec (node_of node.now) into.old into.new result }

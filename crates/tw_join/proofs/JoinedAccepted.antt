@@ -3,18 +3,18 @@ use Rattle.std.proofs.Common.{◌≡◌, ℕ, suc, ◌-◌, ◌<◌, List, [], �
 use Rattle.std.specs.Prelude.{Bool, true, false, Option, Some, None, IfSome, ◌==◌, if◌then◌else◌}
 use Rattle.std.specs.List.{flat_map}
 use Rattle.std.proofs.lemmas.List.{append_assoc}
-use Rattle.tw_base.specs.declared.thread.Entry.{Entry}
-use Rattle.tw_base.specs.declared.thread.Key.{Key}
-use Rattle.tw_base.specs.declared.thread.Thread.{Thread}
-use Rattle.tw_base.specs.declared.tree_proof.Ask.TheVariants as ask
-use Rattle.tw_base.specs.Anchors.{anchor_of}
-use Rattle.tw_base.specs.Auth.{auth}
-use Rattle.tw_base.specs.Family.{AllSound, HasHistory, HasThread, history_of}
-use Rattle.tw_base.specs.History.{History, entry_at}
-use Rattle.tw_base.specs.Lists.{Each}
-use Rattle.tw_base.proofs.Anchoring.{anchor_of-is}
-use Rattle.tw_base.proofs.Families.{sound_of}
-use Rattle.tw_base.proofs.ListLemmas.{Each-append, Each-parts}
+use Rattle.tw_base.specs.declared.history.thread.Entry.{Entry}
+use Rattle.tw_base.specs.declared.history.thread.Key.{Key}
+use Rattle.tw_base.specs.declared.history.thread.Thread.{Thread}
+use Rattle.tw_base.specs.declared.history.tree_proof.Ask.TheVariants as ask
+use Rattle.tw_base.specs.history.Anchors.{anchor_of}
+use Rattle.tw_base.specs.history.Auth.{auth}
+use Rattle.tw_base.specs.history.Family.{AllSound, HasHistory, HasThread, history_of}
+use Rattle.tw_base.specs.history.History.{History, entry_at}
+use Rattle.tw_base.specs.kinds.Lists.{Each}
+use Rattle.tw_base.proofs.lemmas.history.Anchoring.{anchor_of-is}
+use Rattle.tw_base.proofs.lemmas.history.Families.{sound_of}
+use Rattle.tw_base.proofs.lemmas.kinds.ListLemmas.{Each-append, Each-parts}
 use Rattle.tw_skipproof.specs.declared.existence.ExistenceProof.{ExistenceProof}
 use Rattle.tw_skipproof.specs.declared.opening.Opening.{Opening}
 use Rattle.tw_skipproof.specs.Acceptance.{Reaches}

@@ -2,9 +2,9 @@
 use Rattle.std.proofs.Common.{◌≡◌, ℕ, ◌+◌, ◌≤◌, List, [], ◌∷◌, ◌++◌, length, refl, sym, ap, ◌∙◌, arith}
 use Rattle.std.specs.Prelude.{reverse, Option, Some, None, Ok}
 use Rattle.std.proofs.lemmas.List.{append-nil, append_assoc}
-use Rattle.tw_base.specs.declared.limits.TheConstants.{MOST_HOPS}
-use Rattle.tw_base.specs.declared.thread.Thread.{Thread}
-use Rattle.tw_base.specs.Lists.{Each}
+use Rattle.tw_base.specs.declared.kinds.limits.TheConstants.{MOST_HOPS}
+use Rattle.tw_base.specs.declared.history.thread.Thread.{Thread}
+use Rattle.tw_base.specs.kinds.Lists.{Each}
 use Rattle.tw_skipproof.specs.declared.existence.ExistenceProof.{ExistenceProof}
 use Rattle.tw_skipproof.specs.declared.opening.Opening.{Opening}
 use Rattle.tw_chain.specs.declared.proof.HopPart.{HopPart}

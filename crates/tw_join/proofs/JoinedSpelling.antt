@@ -2,15 +2,15 @@
 use Rattle.std.proofs.Common.{◌≡◌, ℕ, suc, ◌-◌, ◌≤◌, List, [], ◌∷◌, length, refl, sym, ap, ◌∙◌, subst, arith, lit≤}
 use Rattle.std.specs.Prelude.{Option, Some, None, IfSome, Ok, nat_lt}
 use Rattle.std.proofs.lemmas.Bool.{lt-ltb}
-use Rattle.tw_base.specs.declared.limits.TheConstants.{LAST_STEP}
-use Rattle.tw_base.specs.Codecs.{behind, by_kind, each, nothing, number_codec, optional, pair, present, seen, variant}
-use Rattle.tw_base.specs.declared.thread.Key.{Key}
-use Rattle.tw_base.specs.declared.thread.Thread.{Thread}
-use Rattle.tw_base.specs.EntryCodec.{entry_codec}
-use Rattle.tw_base.specs.Formats.{Spells}
-use Rattle.tw_base.specs.Lists.{Each}
-use Rattle.tw_base.proofs.CodecLaws.{spelled-fits}
-use Rattle.tw_base.proofs.ListLemmas.{Each-map}
+use Rattle.tw_base.specs.declared.kinds.limits.TheConstants.{LAST_STEP}
+use Rattle.tw_base.specs.format.Codecs.{behind, by_kind, each, nothing, number_codec, optional, pair, present, seen, variant}
+use Rattle.tw_base.specs.declared.history.thread.Key.{Key}
+use Rattle.tw_base.specs.declared.history.thread.Thread.{Thread}
+use Rattle.tw_base.specs.history.EntryCodec.{entry_codec}
+use Rattle.tw_base.specs.format.Formats.{Spells}
+use Rattle.tw_base.specs.kinds.Lists.{Each}
+use Rattle.tw_base.proofs.lemmas.format.CodecLaws.{spelled-fits}
+use Rattle.tw_base.proofs.lemmas.kinds.ListLemmas.{Each-map}
 use Rattle.tw_skipproof.specs.declared.existence.ExistenceProof.{ExistenceProof}
 use Rattle.tw_skipproof.specs.declared.existence.Part.{Part}
 use Rattle.tw_skipproof.specs.declared.opening.Opening.{Opening}

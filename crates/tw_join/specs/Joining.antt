@@ -3,11 +3,11 @@
 use Rattle.std.specs.Prelude.{◌≡◌, ℕ, ◌+◌, ◌-◌, List, [], ◌∷◌, length, Bool, Option, Some, None, Result, Ok, Err, is_none, nat_lt, ◌==◌, ◌&&◌, if◌then◌else◌}
 use Rattle.std.specs.Option.{option_map_or}
 use Rattle.std.specs.Str.{bytes_eq}
-use Rattle.tw_base.specs.declared.limits.TheConstants.{MOST_HOPS}
-use Rattle.tw_base.specs.declared.report.Hop.{Hop}
-use Rattle.tw_base.specs.declared.thread.Key.{Key}
-use Rattle.tw_base.specs.declared.thread.Thread.{Thread}
-use Rattle.tw_base.specs.Entries.{key_of}
+use Rattle.tw_base.specs.declared.kinds.limits.TheConstants.{MOST_HOPS}
+use Rattle.tw_base.specs.declared.history.report.Hop.{Hop}
+use Rattle.tw_base.specs.declared.history.thread.Key.{Key}
+use Rattle.tw_base.specs.declared.history.thread.Thread.{Thread}
+use Rattle.tw_base.specs.history.Entries.{key_of}
 use Rattle.tw_skipproof.specs.declared.existence.ExistenceProof.{ExistenceProof}
 use Rattle.tw_skipproof.specs.declared.opening.Opening.{Opening}
 use Rattle.tw_join.specs.declared.joining.JoinFault.{JoinFault}

@@ -1,11 +1,11 @@
 -- The parts of a proof from event to event as the services of a family make them.
 use Rattle.std.specs.Prelude.{◌≡◌, ℕ, ◌≤◌, List, length, Some, Ok}
-use Rattle.tw_base.specs.declared.thread.Thread.{Thread}
-use Rattle.tw_base.specs.Chains.{HopStands}
-use Rattle.tw_base.specs.Family.{AllSound, HasHistory, HasThread}
-use Rattle.tw_base.specs.Formats.{Spells}
-use Rattle.tw_base.specs.History.{History}
-use Rattle.tw_base.specs.Lists.{Each}
+use Rattle.tw_base.specs.declared.history.thread.Thread.{Thread}
+use Rattle.tw_base.specs.history.Chains.{HopStands}
+use Rattle.tw_base.specs.history.Family.{AllSound, HasHistory, HasThread}
+use Rattle.tw_base.specs.format.Formats.{Spells}
+use Rattle.tw_base.specs.history.History.{History}
+use Rattle.tw_base.specs.kinds.Lists.{Each}
 use Rattle.tw_chain.specs.declared.proof.PrecedenceProof.{PrecedenceProof}
 use Rattle.tw_chain.specs.declared.proof.Proof.{Proof}
 use Rattle.tw_chain.specs.declared.proof.Proof.TheVariants.{Precedes, Archived}

@@ -5,11 +5,11 @@ use Rattle.std.proofs.Math.Seq.{drop-cons, take-suc, take-length}
 use Rattle.std.proofs.lemmas.List.{length-drop, length-map, length-take, length-take-le, map-append, get_or-map, get_or-take}
 use Rattle.std.proofs.lemmas.Slice.Eq.{bytes_eq-Decides}
 use Rattle.std.proofs.lemmas.List.Folds.{list_any_at}
-use Rattle.tw_base.specs.declared.limits.TheConstants.{LAST_STEP, MOST_ANCHORS}
-use Rattle.tw_base.specs.declared.thread.Thread.{Thread}
+use Rattle.tw_base.specs.declared.kinds.limits.TheConstants.{LAST_STEP, MOST_ANCHORS}
+use Rattle.tw_base.specs.declared.history.thread.Thread.{Thread}
 use Rattle.tw_text.specs.Words.{is_number, word_number, is_number_within, is_digest}
 use Rattle.tw_msg.specs.AnchorsFile.{anchor, line_may_follow, is_good, line_at, AllGood, IsFirstBadLine, is_anchor, is_of, name_word, step_word, digest_word}
-use Rattle.tw_base.specs.Names.{is_name_text}
+use Rattle.tw_base.specs.kinds.Names.{is_name_text}
 
 -- ---- tests
 

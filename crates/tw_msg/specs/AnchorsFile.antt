@@ -2,9 +2,9 @@
 use Rattle.std.specs.Prelude.{◌≡◌, ℕ, ◌+◌, ◌<◌, List, [], ◌∷◌, length, take, map, Bool, true, false, not, ◌&&◌, ◌==◌, nat_lt}
 use Rattle.std.specs.List.{slice_split, before_first, after_first, list_any, slice_index_or}
 use Rattle.std.specs.Str.{bytes_eq}
-use Rattle.tw_base.specs.declared.limits.TheConstants.{LAST_STEP, MOST_ANCHORS}
-use Rattle.tw_base.specs.Names.{is_name_text, padded_name}
-use Rattle.tw_base.specs.declared.thread.Thread.{Thread}
+use Rattle.tw_base.specs.declared.kinds.limits.TheConstants.{LAST_STEP, MOST_ANCHORS}
+use Rattle.tw_base.specs.kinds.Names.{is_name_text, padded_name}
+use Rattle.tw_base.specs.declared.history.thread.Thread.{Thread}
 use Rattle.tw_text.specs.Words.{is_number_within, word_number, is_digest, word_digest}
 
 -- ---- lines

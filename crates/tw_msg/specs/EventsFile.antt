@@ -1,7 +1,7 @@
 -- Events files: the events of one step, as a service is given them.
 use Rattle.std.specs.Prelude.{ℕ, ◌-◌, ◌^◌, List, [], ◌∷◌}
-use Rattle.tw_base.specs.Codecs.{Codec, behind, counted, sized_codec}
-use Rattle.tw_base.specs.Formats.{Format}
+use Rattle.tw_base.specs.format.Codecs.{Codec, behind, counted, sized_codec}
+use Rattle.tw_base.specs.format.Formats.{Format}
 
 -- the four bytes TWE1
 abbrev pub events_magic : List ℕ

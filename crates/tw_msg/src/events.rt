@@ -1,9 +1,9 @@
 // Reading events files.
 
 ghost use Rattle.std.specs.Prelude.{◌≤◌, length};
-ghost use Rattle.tw_base.specs.Codecs.{IsUnambiguous};
-ghost use Rattle.tw_base.specs.Formats.{ReadsAs};
-ghost use Rattle.tw_base.specs.Taking.{Takes};
+ghost use Rattle.tw_base.specs.format.Codecs.{IsUnambiguous};
+ghost use Rattle.tw_base.specs.format.Formats.{ReadsAs};
+ghost use Rattle.tw_base.specs.format.Taking.{Takes};
 ghost use Rattle.tw_msg.specs.EventsFile.{events_codec, events_file};
 
 use std::alloc::Global;
@@ -13,7 +13,7 @@ use tw_base::{EventList, ReadFault, take_events_within, take_text, whole_to};
 const MAGIC: [u8; 4] = [0x54, 0x57, 0x45, 0x31];
 
 /// Takes an events file; the number of events and their lengths are any that four bytes hold.
-#[tactic(auto, unfolding(crate::specs::EventsFile::events_codec, tw_base::specs::Codecs::behind))]
+#[tactic(auto, unfolding(crate::specs::EventsFile::events_codec, tw_base::specs::format::Codecs::behind))]
 fn take_file(alloc: Global, bytes: &[u8], at: &mut u64) -> Result<EventList, ReadFault>
     requires { at.old ≤ length bytes.now }
     ensures { Takes events_codec (λ events. events) bytes.now at.old at.new result }

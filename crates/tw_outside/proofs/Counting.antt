@@ -1,6 +1,6 @@
 -- Counts of faults, call after call.
 use Rattle.std.proofs.Common.{ℕ, ◌≤◌, arith}
-use Rattle.tw_base.specs.Faults.{Rose}
+use Rattle.tw_base.specs.kinds.Faults.{Rose}
 
 -- a count that rose has risen still after later calls
 pub Rose-later : (before now later : ℕ) → Rose before now → now ≤ later → Rose before later

@@ -1,6 +1,6 @@
 // Inputs that are read by their names.
 ghost use Rattle.std.specs.Prelude.{◌≡◌, ◌≤◌, ◌↔◌, ℕ, List, Option, length, IfOk, OnOk};
-ghost use Rattle.tw_base.specs.Faults.{HasCause};
+ghost use Rattle.tw_base.specs.kinds.Faults.{HasCause};
 ghost use Rattle.tw_outside.specs.Files.{Files, Tells, IsThere, Came};
 
 use tw_base::Failed;

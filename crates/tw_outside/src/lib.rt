@@ -12,6 +12,7 @@ mod writing;
 pub use inputs::Inputs;
 pub use mem_inputs::MemInputs;
 pub use mem_sink::MemSink;
-pub use reading::{InputFault, PIECE, read_all, read_piece};
+pub use reading::{PIECE, read_all, read_piece};
 pub use sink::Sink;
+pub use tw_base::InputFault;
 pub use writing::write_all;

@@ -1,7 +1,7 @@
 // A sink in memory.
 ghost use Rattle.std.specs.Prelude.{◌≡◌, ◌++◌, ◌∷◌, [], length, OnOk, OnErr, IfOk, IsErr, IsTrue};
-ghost use Rattle.tw_base.specs.PlannedFailures.{fails_next, after_call};
-ghost use Rattle.tw_base.specs.Faults.{HasCause};
+ghost use Rattle.tw_base.specs.kinds.PlannedFailures.{fails_next, after_call};
+ghost use Rattle.tw_base.specs.kinds.Faults.{HasCause};
 
 use crate::sink::Sink;
 use std::alloc::Global;

@@ -1,56 +1,14 @@
 // Reading an input piece by piece.
 ghost use Rattle.std.specs.Prelude.{◌≡◌, ◌<◌, ◌≤◌, ◌↔◌, ◌+◌, ◌*◌, ◌/◌, ℕ, List, vec_len, Ok, Err, true, false, IfOk, OnOk, OnErr};
-ghost use Rattle.tw_base.specs.Faults.{Rose};
+ghost use Rattle.tw_base.specs.kinds.Faults.{Rose};
 ghost use Rattle.tw_outside.specs.Files.{IsThere, IsFrontOfFile, IsReadTo};
 
 use crate::inputs::Inputs;
-use std::alloc::{AllocError, Global};
-use tw_base::{Failed, NoMemory};
+use std::alloc::Global;
+use tw_base::InputFault;
 
 /// The size of a piece in bytes: one read asks for no more, and for none beyond the next multiple of it.
 pub const PIECE: usize = 4096;
-
-/// Why an input wasn't read.
-#[derive(Clone, Copy, PartialEq, Eq, Debug, Drop)]
-pub enum InputFault {
-    /// The inputs failed: their count of faults rose.
-    Failed,
-    /// There was no memory for the bytes.
-    NoMemory,
-}
-
-impl From<Failed> for InputFault {
-    ghost use Rattle.std.specs.Prelude.{◌≡◌};
-    ghost use Rattle.tw_outside.specs.declared.reading.InputFault.TheVariants.{Failed as InputsFailed};
-
-    ghost from_gives = { λ _ fault. fault ≡ InputsFailed };
-
-    fn from(_: Failed) -> Self {
-        InputFault::Failed
-    }
-}
-
-impl From<AllocError> for InputFault {
-    ghost use Rattle.std.specs.Prelude.{◌≡◌};
-    ghost use Rattle.tw_outside.specs.declared.reading.InputFault.TheVariants.{NoMemory as WantedMemory};
-
-    ghost from_gives = { λ _ fault. fault ≡ WantedMemory };
-
-    fn from(_: AllocError) -> Self {
-        InputFault::NoMemory
-    }
-}
-
-impl From<NoMemory> for InputFault {
-    ghost use Rattle.std.specs.Prelude.{◌≡◌};
-    ghost use Rattle.tw_outside.specs.declared.reading.InputFault.TheVariants.{NoMemory as WantedMemory};
-
-    ghost from_gives = { λ _ fault. fault ≡ WantedMemory };
-
-    fn from(_: NoMemory) -> Self {
-        InputFault::NoMemory
-    }
-}
 
 /// Reads what comes next of a file after the bytes read so far, by one read, and answers whether more may come.
 /// `limit` is the number of bytes at which reading ends. The read ends with the piece of `PIECE` bytes that it begins in,

@@ -1,6 +1,6 @@
 // A sink that takes what is written.
 ghost use Rattle.std.specs.Prelude.{◌≤◌, ◌<◌, ℕ, List, Option, length, take, IfOk, OnErr};
-ghost use Rattle.tw_base.specs.Faults.{HasCause};
+ghost use Rattle.tw_base.specs.kinds.Faults.{HasCause};
 ghost use Rattle.tw_outside.specs.TakenBytes.{Appends, IsUnchanged};
 
 use tw_base::Failed;

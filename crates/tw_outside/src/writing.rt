@@ -1,6 +1,6 @@
 // Writing a text whole.
 ghost use Rattle.std.specs.Prelude.{OnOk, OnErr};
-ghost use Rattle.tw_base.specs.Faults.{HasCause};
+ghost use Rattle.tw_base.specs.kinds.Faults.{HasCause};
 ghost use Rattle.tw_outside.specs.TakenBytes.{Appends, AppendsPart};
 
 use crate::sink::Sink;

@@ -1,7 +1,7 @@
 -- What the phases that make a store leave.
 use Rattle.std.proofs.Common.{◌≡◌, ◌≢◌, ℕ, ◌+◌, ◌<◌, ◌≤◌, List, length, get_or, refl, sym, ◌∙◌, ap, arith}
 use Rattle.std.proofs.lemmas.List.{get_or-replicate}
-use Rattle.tw_base.specs.Bytes.{AreBytes}
+use Rattle.tw_base.specs.kinds.Bytes.{AreBytes}
 use Rattle.tw_disk.specs.Image.{Image, put, page_at}
 use Rattle.tw_disk.specs.PutSteps.{length-put, page_at-put_same, page_at-put_other}
 use Rattle.tw_pages.specs.Store.{OpensAboveOlder, IsBody, open_gate_page, closed_gate_page, body_page}

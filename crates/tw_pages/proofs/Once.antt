@@ -2,7 +2,7 @@
 use Rattle.std.proofs.Common.{◌≡◌, inl, inr, ℕ, ◌+◌, ◌<◌, List, length, take, drop, get_or, sym, ◌∙◌, ap, subst, arith}
 use Rattle.std.proofs.lemmas.Bool.{cases_eq}
 use Rattle.tw_disk.specs.Image.{Image, page_at}
-use Rattle.tw_base.proofs.PageLaws.{page-once}
+use Rattle.tw_base.proofs.lemmas.format.PageLaws.{page-once}
 use Rattle.tw_pages.specs.Store.{Opening, Stands, OpensAs, IsBody, body_codec, used_of, spare_of}
 use Rattle.tw_pages.proofs.Bodies.{body-lawful}
 use Rattle.tw_pages.proofs.Openings.{pages_of}

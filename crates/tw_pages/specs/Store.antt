@@ -1,9 +1,9 @@
 -- What an image of a disk opens as: two slots, each with a gate page and a body page, and then the committed pages.
 use Rattle.std.specs.Prelude.{Bool, true, false, ◌≡◌, ◌≢◌, ◌⊎◌, ℕ, ◌+◌, ◌-◌, ◌<◌, ◌≤◌, List, [], ◌∷◌, length, replicate, slice_index}
-use Rattle.tw_base.specs.Codecs.{Codec, behind, number_codec, pair, sized_codec}
+use Rattle.tw_base.specs.format.Codecs.{Codec, behind, number_codec, pair, sized_codec}
 use Rattle.tw_disk.specs.Image.{Image, page_at}
-use Rattle.tw_base.specs.PageBytes.{IsPageOf, padded}
-use Rattle.tw_base.specs.declared.limits.TheConstants.{PAGE_SIZE}
+use Rattle.tw_base.specs.format.PageBytes.{IsPageOf, padded}
+use Rattle.tw_base.specs.declared.kinds.limits.TheConstants.{PAGE_SIZE}
 use Rattle.tw_disk.specs.declared.limits.TheConstants.{FIRST_PAGE, NUMBER_LIMIT}
 use Rattle.tw_pages.specs.declared.limits.TheConstants.{FIRST_BODY, MOST_ROOT_BYTES}
 

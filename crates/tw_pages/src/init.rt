@@ -2,7 +2,7 @@
 ghost use Rattle.std.specs.Prelude.{◌≡◌, ◌⊎◌, ◌<◌, ◌≤◌, ℕ, List, length, Some, Err, OnOk, IfOk, IfErr, if◌then◌else◌};
 ghost use Rattle.std.specs.Option.{IsSomeAnd};
 ghost use Rattle.tw_disk.specs.Image.{Image};
-ghost use Rattle.tw_base.specs.Faults.{Rose};
+ghost use Rattle.tw_base.specs.kinds.Faults.{Rose};
 ghost use Rattle.tw_disk.specs.Disk.{LeavesOnly, IsAtRest, IsRun};
 ghost use Rattle.tw_pages.specs.Store.{OpensAboveOlder};
 ghost use Rattle.tw_pages.specs.InitSteps.{BothClosed, HasBodies, IsUnmade};

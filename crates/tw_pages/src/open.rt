@@ -1,7 +1,7 @@
 // What the two slots of a disk hold, and which of them counts.
 ghost use Rattle.std.specs.Prelude.{◌≡◌, ◌≢◌, ◌⊎◌, ◌<◌, ◌≤◌, ◌+◌, ◌-◌, ℕ, length, Some, Err, IfOk, IfErr, OnOk, IfSome};
 ghost use Rattle.std.specs.Option.{IsSomeAnd};
-ghost use Rattle.tw_base.specs.Faults.{HasCause, Rose};
+ghost use Rattle.tw_base.specs.kinds.Faults.{HasCause, Rose};
 ghost use Rattle.tw_disk.specs.Image.{Image};
 ghost use Rattle.tw_disk.specs.Disk.{LeavesOnly, IsAtRest, Only};
 ghost use Rattle.tw_pages.specs.SlotSteps.{HoldsSlot, IsFoundIn, HasRoom};

@@ -1,8 +1,8 @@
 -- The children of pages with one more entry are of their level.
 use Rattle.std.proofs.Common.{ℕ, ◌+◌, List, ◌∷◌, [], subst, sym}
-use Rattle.tw_base.specs.declared.thread.Entry.{Entry}
-use Rattle.tw_base.specs.Lists.{Each}
-use Rattle.tw_base.proofs.ListLemmas.{Each-parts}
+use Rattle.tw_base.specs.declared.history.thread.Entry.{Entry}
+use Rattle.tw_base.specs.kinds.Lists.{Each}
+use Rattle.tw_base.proofs.lemmas.kinds.ListLemmas.{Each-parts}
 use Rattle.tw_rbnode.specs.declared.child.Child.{Child}
 use Rattle.tw_rbnode.specs.declared.node.Added.{Added}
 use Rattle.tw_rbnode.specs.declared.node.Added.TheVariants.{One, Two}

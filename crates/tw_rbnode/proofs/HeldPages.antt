@@ -2,12 +2,12 @@
 use Rattle.std.proofs.Common.{◌≡◌, ℕ, suc, zero, ◌+◌, ◌<◌, ◌≤◌, false, List, [], ◌∷◌, length, Option, Some, None, refl, sym, ap, ◌∙◌, arith, slice_get}
 use Rattle.std.specs.Prelude.{map, MatchOption}
 use Rattle.std.proofs.lemmas.Option.{same_Some, none-some}
-use Rattle.tw_base.specs.declared.thread.Entry.{Entry}
-use Rattle.tw_base.specs.Lists.{Each}
-use Rattle.tw_base.proofs.EntryCodecLaws.{entry-range}
-use Rattle.tw_base.proofs.ListLemmas.{Each-map}
-use Rattle.tw_base.specs.Codecs.{behind, by_kind, many, number_codec, pair, seen}
-use Rattle.tw_base.specs.Limits.{IsEntryInRange}
+use Rattle.tw_base.specs.declared.history.thread.Entry.{Entry}
+use Rattle.tw_base.specs.kinds.Lists.{Each}
+use Rattle.tw_base.proofs.lemmas.history.EntryCodecLaws.{entry-range}
+use Rattle.tw_base.proofs.lemmas.kinds.ListLemmas.{Each-map}
+use Rattle.tw_base.specs.format.Codecs.{behind, by_kind, many, number_codec, pair, seen}
+use Rattle.tw_base.specs.history.Limits.{IsEntryInRange}
 use Rattle.tw_rbnode.specs.declared.child.Child.{Child}
 use Rattle.tw_rbnode.specs.declared.links.Link.{Link}
 use Rattle.tw_rbnode.specs.declared.slot.Slot.{Slot}

@@ -1,8 +1,8 @@
 -- The links of a tree as a list, and the slots of a page.
 use Rattle.std.proofs.Common.{◌≡◌, ℕ, suc, zero, ◌+◌, ◌-◌, ◌<◌, ◌≤◌, List, [], ◌∷◌, ◌++◌, take, drop, length, Option, Some, refl, sym, ap, ◌∙◌, ◌⊎◌, inl, inr, arith, slice_get, length-append, length-take, length-drop}
 use Rattle.std.proofs.lemmas.Option.{same_Some, none-some}
-use Rattle.tw_base.specs.declared.thread.Entry.{Entry}
-use Rattle.tw_base.specs.Lists.{Each}
+use Rattle.tw_base.specs.declared.history.thread.Entry.{Entry}
+use Rattle.tw_base.specs.kinds.Lists.{Each}
 use Rattle.tw_rbnode.specs.declared.links.Link.{Link}
 use Rattle.tw_rbnode.specs.declared.slot.Slot.{Slot}
 use Rattle.tw_rbnode.specs.NodeBytes.{links_of, slots_with}

@@ -1,9 +1,9 @@
 -- The codec of tree pages is lawful.
 use Rattle.std.proofs.Common.{◌≡◌, ℕ, suc, zero, ◌≤◌, Bool, length, arith}
 use Rattle.std.specs.Prelude.{◌==◌, if◌then◌else◌}
-use Rattle.tw_base.specs.Codecs.{many, nothing, number_codec, pair}
-use Rattle.tw_base.proofs.CodecLaws.{Lawful, lawful, lawful-by_kind, lawful-many, lawful-nothing, lawful-number, lawful-pair}
-use Rattle.tw_base.proofs.EntryCodecLaws.{entry-lawful}
+use Rattle.tw_base.specs.format.Codecs.{many, nothing, number_codec, pair}
+use Rattle.tw_base.proofs.lemmas.format.CodecLaws.{Lawful, lawful, lawful-by_kind, lawful-many, lawful-nothing, lawful-number, lawful-pair}
+use Rattle.tw_base.proofs.lemmas.history.EntryCodecLaws.{entry-lawful}
 use Rattle.tw_rbnode.specs.NodeBytes.{Held, child_codec, colour_codec, counted_codec, held_codec, node_codec, slot_codec}
 
 colour-kind : (n : ℕ) (red : Bool) → n ≤ 1 → (n == 1) ≡ red → (if red then 1 else 0) ≡ n

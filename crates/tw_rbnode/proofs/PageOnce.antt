@@ -1,8 +1,8 @@
 -- Bytes are those of one page at most.
 use Rattle.std.proofs.Common.{◌≡◌, ℕ, suc, ◌+◌, List, ◌∷◌, length, false, refl, sym, ap, ◌∙◌, arith, slice_get}
 use Rattle.std.specs.Prelude.{map}
-use Rattle.tw_base.specs.PageBytes.{IsPageOf}
-use Rattle.tw_base.proofs.PageLaws.{page-once}
+use Rattle.tw_base.specs.format.PageBytes.{IsPageOf}
+use Rattle.tw_base.proofs.lemmas.format.PageLaws.{page-once}
 use Rattle.tw_rbnode.specs.declared.links.Link.{Link}
 use Rattle.tw_rbnode.specs.declared.slot.Slot.{Slot}
 use Rattle.tw_rbnode.specs.NodeBytes.{Held, fields_of, links_of, node_codec, slots_with}

@@ -3,11 +3,11 @@ use Rattle.std.proofs.Common.{◌≡◌, ℕ, suc, zero, ◌+◌, ◌-◌, ◌<�
 use Rattle.std.proofs.lemmas.List.{take_all, take-append-drop}
 use Rattle.std.proofs.lemmas.Grind.{take_at_read}
 use Rattle.tw_rbnode.specs.declared.links.Link.{Link}
-use Rattle.tw_base.specs.declared.thread.Entry.{Entry}
-use Rattle.tw_base.specs.Entries.{key_of}
-use Rattle.tw_base.specs.Lists.{Each}
-use Rattle.tw_base.specs.Tree.{IsRising}
-use Rattle.tw_base.specs.Limits.{IsEntryInRange}
+use Rattle.tw_base.specs.declared.history.thread.Entry.{Entry}
+use Rattle.tw_base.specs.history.Entries.{key_of}
+use Rattle.tw_base.specs.kinds.Lists.{Each}
+use Rattle.tw_base.specs.history.Tree.{IsRising}
+use Rattle.tw_base.specs.history.Limits.{IsEntryInRange}
 use Rattle.tw_rbnode.specs.declared.child.Child.{Child}
 use Rattle.tw_rbnode.specs.Shape.{Shape, Empty, Node, size, IsEven, IsRedBlack, insert}
 use Rattle.tw_rbnode.specs.Slots.{slot_of, At, IsTree}

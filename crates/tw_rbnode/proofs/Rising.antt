@@ -1,13 +1,13 @@
 -- Lists with an entry more, and entries that rise.
 use Rattle.std.proofs.Common.{◌≡◌, ℕ, suc, zero, ◌<◌, ◌≤◌, List, [], ◌∷◌, ◌++◌, take, drop, length, get_or, Some, arith, slice_get, refl, subst, sym, ap}
 use Rattle.std.proofs.lemmas.Option.{none-some, same_Some}
-use Rattle.tw_base.specs.declared.thread.Entry.{Entry}
-use Rattle.tw_base.specs.declared.thread.Key.{Key}
-use Rattle.tw_base.specs.Entries.{KeyBelow, key_of}
-use Rattle.tw_base.specs.Lists.{Each}
-use Rattle.tw_base.specs.Tree.{IsRising}
-use Rattle.tw_base.proofs.Keys.{KeyBelow-trans}
-use Rattle.tw_base.proofs.ListLemmas.{Each-append, Each-map}
+use Rattle.tw_base.specs.declared.history.thread.Entry.{Entry}
+use Rattle.tw_base.specs.declared.history.thread.Key.{Key}
+use Rattle.tw_base.specs.history.Entries.{KeyBelow, key_of}
+use Rattle.tw_base.specs.kinds.Lists.{Each}
+use Rattle.tw_base.specs.history.Tree.{IsRising}
+use Rattle.tw_base.proofs.lemmas.history.Keys.{KeyBelow-trans}
+use Rattle.tw_base.proofs.lemmas.kinds.ListLemmas.{Each-append, Each-map}
 
 module _ {X : Type 0} (P : X → Type 0) where
   pub Each-take : (n : ℕ) (xs : List X) → Each P xs → Each P (take n xs)

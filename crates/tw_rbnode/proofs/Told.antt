@@ -1,14 +1,14 @@
 -- The tree page that bytes are, where they are one, is told.
 use Rattle.std.proofs.Common.{◌≡◌, ℕ, suc, zero, ◌+◌, ◌-◌, ◌<◌, ◌≤◌, List, [], ◌∷◌, ◌++◌, length, false, refl, ap, sym, ◌∙◌, subst, arith, ◌⊎◌, inl, inr, slice_get, replicate, Result, Ok, Err}
 use Rattle.std.specs.Prelude.{map, Option, Some, None, MatchOption}
-use Rattle.tw_base.specs.declared.thread.Entry.{Entry}
-use Rattle.tw_base.specs.Formats.{Placed}
-use Rattle.tw_base.specs.Limits.{IsEntryInRange}
-use Rattle.tw_base.specs.Lists.{Each}
-use Rattle.tw_base.specs.PageBytes.{IsPageOf, padded}
-use Rattle.tw_base.specs.Tree.{IsRising}
-use Rattle.tw_base.proofs.FormatLaws.{read_at-spells}
-use Rattle.tw_base.proofs.PageLaws.{page-reads}
+use Rattle.tw_base.specs.declared.history.thread.Entry.{Entry}
+use Rattle.tw_base.specs.format.Formats.{Placed}
+use Rattle.tw_base.specs.history.Limits.{IsEntryInRange}
+use Rattle.tw_base.specs.kinds.Lists.{Each}
+use Rattle.tw_base.specs.format.PageBytes.{IsPageOf, padded}
+use Rattle.tw_base.specs.history.Tree.{IsRising}
+use Rattle.tw_base.proofs.lemmas.format.FormatLaws.{read_at-spells}
+use Rattle.tw_base.proofs.lemmas.format.PageLaws.{page-reads}
 use Rattle.tw_rbnode.specs.declared.child.Child.{Child}
 use Rattle.tw_rbnode.specs.declared.links.Link.{Link}
 use Rattle.tw_rbnode.specs.declared.slot.Slot.{Slot}

@@ -1,11 +1,11 @@
 -- The label of a page is that of its tree.
 use Rattle.std.proofs.Common.{◌≡◌, ℕ, suc, zero, ◌+◌, List, [], ◌∷◌, Option, Some, None, refl, ap, ◌∙◌, slice_get}
 use Rattle.std.specs.Prelude.{map, slice_index_or}
-use Rattle.tw_base.specs.declared.thread.Entry.{Entry}
-use Rattle.tw_base.specs.Auth.{tree_label}
-use Rattle.tw_base.specs.Texts.{empty_tree_text}
-use Rattle.tw_base.specs.Tree.{Tree, branch}
-use Rattle.tw_base.specs.Tree.Tree.{Empty as NoEntry}
+use Rattle.tw_base.specs.declared.history.thread.Entry.{Entry}
+use Rattle.tw_base.specs.history.Auth.{tree_label}
+use Rattle.tw_base.specs.kinds.Texts.{empty_tree_text}
+use Rattle.tw_base.specs.history.Tree.{Tree, branch}
+use Rattle.tw_base.specs.history.Tree.Tree.{Empty as NoEntry}
 use Rattle.tw_rbnode.specs.Page.{TreePage}
 use Rattle.tw_rbnode.specs.Shape.{Shape, Empty, Node, size}
 use Rattle.tw_rbnode.specs.Trees.{label_at, label_over, labels_of, page_label, page_tree, tree_at}

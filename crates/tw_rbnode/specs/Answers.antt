@@ -1,9 +1,9 @@
 -- What is found in a page, and what comes of one entry more.
 use Rattle.std.specs.Prelude.{◌≡◌, ℕ, ◌+◌, ◌-◌, ◌<◌, ◌≤◌, List, [], ◌∷◌, ◌++◌, length, take, drop, slice_get, Some}
-use Rattle.tw_base.specs.declared.thread.Entry.{Entry}
-use Rattle.tw_base.specs.declared.thread.Key.{Key}
+use Rattle.tw_base.specs.declared.history.thread.Entry.{Entry}
+use Rattle.tw_base.specs.declared.history.thread.Key.{Key}
 use Rattle.std.specs.declared.cmp.Ordering.TheVariants.{Equal}
-use Rattle.tw_base.specs.Entries.{key_cmp, key_of}
+use Rattle.tw_base.specs.history.Entries.{key_cmp, key_of}
 use Rattle.tw_rbnode.specs.declared.limits.TheConstants.{MOST_KEYS}
 use Rattle.tw_rbnode.specs.declared.child.Child.{Child}
 use Rattle.tw_rbnode.specs.declared.node.Added.{Added}

@@ -2,12 +2,12 @@
 use Rattle.std.specs.Prelude.{◌≡◌, ℕ, suc, zero, ◌+◌, ◌≤◌, ◌<◌, Bool, cond, List, [], ◌∷◌, length, take, drop, Option, Some, None, refl, nat_eq}
 use Rattle.std.specs.Coded.{Coded, code_by, coded_list, coded_option, coded_bool}
 use Rattle.std.proofs.Common.{ap, ◌∙◌}
-use Rattle.tw_base.specs.declared.thread.Entry.{Entry}
-use Rattle.tw_base.specs.declared.thread.Key.{Key}
-use Rattle.tw_base.specs.Entries.{KeyBelow, key_of}
-use Rattle.tw_base.specs.Limits.{IsEntryInRange}
-use Rattle.tw_base.specs.Lists.{Each}
-use Rattle.tw_base.specs.Tree.{IsRising}
+use Rattle.tw_base.specs.declared.history.thread.Entry.{Entry}
+use Rattle.tw_base.specs.declared.history.thread.Key.{Key}
+use Rattle.tw_base.specs.history.Entries.{KeyBelow, key_of}
+use Rattle.tw_base.specs.history.Limits.{IsEntryInRange}
+use Rattle.tw_base.specs.kinds.Lists.{Each}
+use Rattle.tw_base.specs.history.Tree.{IsRising}
 use Rattle.tw_rbnode.specs.declared.limits.TheConstants.{MOST_KEYS, TOP_LEVEL}
 use Rattle.tw_rbnode.specs.declared.child.Child.{Child}
 use Rattle.tw_rbnode.specs.declared.links.Link.{Link}

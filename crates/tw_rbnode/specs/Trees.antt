@@ -1,11 +1,11 @@
 -- The tree that a page stands for, its label, and the nodes above a slot or a place.
 use Rattle.std.specs.Prelude.{ℕ, ◌+◌, ◌*◌, ◌==◌, nat_lt, List, [], ◌∷◌, ◌++◌, map, slice_get, slice_index_or, Option, Some, None, if◌then◌else◌}
-use Rattle.tw_base.specs.declared.thread.Entry.{Entry}
-use Rattle.tw_base.specs.declared.tree_proof.Ancestor.{Ancestor}
-use Rattle.tw_base.specs.Entries.{entry_text}
-use Rattle.tw_base.specs.Texts.{empty_tree_text}
-use Rattle.tw_base.specs.Tree.{Tree, branch}
-use Rattle.tw_base.specs.Tree.Tree.{Empty as NoEntry}
+use Rattle.tw_base.specs.declared.history.thread.Entry.{Entry}
+use Rattle.tw_base.specs.declared.history.tree_proof.Ancestor.{Ancestor}
+use Rattle.tw_base.specs.history.Entries.{entry_text}
+use Rattle.tw_base.specs.kinds.Texts.{empty_tree_text}
+use Rattle.tw_base.specs.history.Tree.{Tree, branch}
+use Rattle.tw_base.specs.history.Tree.Tree.{Empty as NoEntry}
 use Rattle.tw_rbnode.specs.declared.child.Child.{Child}
 use Rattle.tw_rbnode.specs.declared.node.Found.{Found}
 use Rattle.tw_rbnode.specs.declared.node.Found.TheVariants.{At, Between}

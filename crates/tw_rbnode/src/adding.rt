@@ -2,10 +2,10 @@
 
 ghost use Rattle.std.specs.Prelude.{◌≡◌, ◌+◌, ◌<◌, ◌≤◌, ◌++◌, ◌∷◌, [], ◌≢◌, ℕ, List, length, slice_get, take, drop};
 ghost use Rattle.arrayvec.specs.ArrayVec.{array_vec_len};
-ghost use Rattle.tw_base.specs.Entries.{key_of};
-ghost use Rattle.tw_base.specs.Lists.{Each};
-ghost use Rattle.tw_base.specs.Tree.{IsRising};
-ghost use Rattle.tw_base.specs.Limits.{IsEntryInRange};
+ghost use Rattle.tw_base.specs.history.Entries.{key_of};
+ghost use Rattle.tw_base.specs.kinds.Lists.{Each};
+ghost use Rattle.tw_base.specs.history.Tree.{IsRising};
+ghost use Rattle.tw_base.specs.history.Limits.{IsEntryInRange};
 ghost use Rattle.tw_rbnode.specs.Answers.{IsAdded, more_entries as with_entry, more_children as with_sides};
 ghost use Rattle.tw_rbnode.specs.Children.{AddedHasChildren, HasChildren, IsChildAt};
 ghost use Rattle.tw_rbnode.specs.Page.{IsBetween, IsNode};

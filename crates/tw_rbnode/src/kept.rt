@@ -12,7 +12,7 @@ pub(crate) struct Kept {
 }
 
 impl Model for Kept {
-    ghost use Rattle.tw_base.specs.declared.thread.Entry.{Entry as EntryOf};
+    ghost use Rattle.tw_base.specs.declared.history.thread.Entry.{Entry as EntryOf};
 
     ghost Value = { EntryOf };
 

@@ -1,10 +1,10 @@
 // What holds of pages, whatever the calls do.
 
 ghost use Rattle.std.specs.Prelude.{◌≡◌, ℕ, List, length, map};
-ghost use Rattle.tw_base.specs.Auth.{tree_label};
-ghost use Rattle.tw_base.specs.Tree.{Tree, entries};
-ghost use Rattle.tw_base.specs.Codecs.{IsUnambiguous};
-ghost use Rattle.tw_base.specs.PageBytes.{IsPageOf};
+ghost use Rattle.tw_base.specs.history.Auth.{tree_label};
+ghost use Rattle.tw_base.specs.history.Tree.{Tree, entries};
+ghost use Rattle.tw_base.specs.format.Codecs.{IsUnambiguous};
+ghost use Rattle.tw_base.specs.format.PageBytes.{IsPageOf};
 ghost use Rattle.tw_rbnode.specs.NodeBytes.{fields_of, node_codec};
 ghost use Rattle.tw_rbnode.specs.Page.{IsNode, TreePage};
 ghost use Rattle.tw_rbnode.specs.Trees.{labels_of, page_label, page_tree, woven};

@@ -1,7 +1,7 @@
 // A page of an archive's tree, and what it has.
 
 ghost use Rattle.std.specs.Prelude.{◌≡◌, ◌+◌, ◌-◌, ◌<◌, ◌≤◌, ℕ, length, slice_get, Option, Some};
-ghost use Rattle.tw_base.specs.Tree.{IsRising};
+ghost use Rattle.tw_base.specs.history.Tree.{IsRising};
 ghost use Rattle.tw_rbnode.specs.Answers.{IsFound};
 ghost use Rattle.tw_rbnode.specs.Page.{IsNode};
 ghost use Rattle.tw_rbnode.specs.Slots.{below_at, slot_of};

@@ -1,14 +1,14 @@
 // Reading a page.
-#![tactic(auto, unfolding(crate::specs::NodeBytes::child_codec, crate::specs::NodeBytes::colour_codec, crate::specs::NodeBytes::node_codec, crate::specs::NodeBytes::slot_codec, tw_base::specs::Codecs::behind, tw_base::specs::Codecs::by_kind, tw_base::specs::Codecs::nothing, tw_base::specs::Codecs::pair, tw_base::specs::Codecs::seen, tw_base::specs::HistoryCodec::thread_codec))]
+#![tactic(auto, unfolding(crate::specs::NodeBytes::child_codec, crate::specs::NodeBytes::colour_codec, crate::specs::NodeBytes::node_codec, crate::specs::NodeBytes::slot_codec, tw_base::specs::format::Codecs::behind, tw_base::specs::format::Codecs::by_kind, tw_base::specs::format::Codecs::nothing, tw_base::specs::format::Codecs::pair, tw_base::specs::format::Codecs::seen, tw_base::specs::history::HistoryCodec::thread_codec))]
 
 ghost use Rattle.std.specs.Prelude.{◌≡◌, ◌≢◌, ◌↔◌, ◌+◌, ◌≤◌, ◌<◌, ℕ, suc, length, map, false, IfErr, IsTrue, MatchOption, slice_get, Some};
-ghost use Rattle.tw_base.specs.Lists.{Each};
-ghost use Rattle.tw_base.specs.Codecs.{many};
-ghost use Rattle.tw_base.specs.Taking.{Takes};
-ghost use Rattle.tw_base.specs.Texts.{empty_tree_text};
-ghost use Rattle.tw_base.specs.Tree.{IsRising};
-ghost use Rattle.tw_base.specs.PageBytes.{IsPageOf};
-ghost use Rattle.tw_base.specs.Limits.{IsEntryInRange};
+ghost use Rattle.tw_base.specs.kinds.Lists.{Each};
+ghost use Rattle.tw_base.specs.format.Codecs.{many};
+ghost use Rattle.tw_base.specs.format.Taking.{Takes};
+ghost use Rattle.tw_base.specs.kinds.Texts.{empty_tree_text};
+ghost use Rattle.tw_base.specs.history.Tree.{IsRising};
+ghost use Rattle.tw_base.specs.format.PageBytes.{IsPageOf};
+ghost use Rattle.tw_base.specs.history.Limits.{IsEntryInRange};
 ghost use Rattle.tw_rbnode.specs.Children.{IsChildAt};
 ghost use Rattle.tw_rbnode.specs.NodeBytes.{LiesBelow, MayStand, child_codec, colour_codec, counted_codec, fields_of, held_codec, held_of, node_codec, slot_codec};
 ghost use Rattle.tw_rbnode.specs.Page.{IsNode, TreePage};
@@ -52,7 +52,7 @@ fn take_colour(bytes: &[u8], at: &mut u64) -> Result<bool, ReadFault>
 }
 
 /// Takes a slot.
-#[tactic(auto, unfolding(crate::specs::NodeBytes::slot_codec, tw_base::specs::Codecs::pair, tw_base::specs::Codecs::seen))]
+#[tactic(auto, unfolding(crate::specs::NodeBytes::slot_codec, tw_base::specs::format::Codecs::pair, tw_base::specs::format::Codecs::seen))]
 fn take_slot(bytes: &[u8], at: &mut u64) -> Result<Slot, ReadFault>
     requires { at.old ≤ length bytes.now }
     ensures takes { Takes slot_codec (λ s. s) bytes.now at.old at.new result }
@@ -110,7 +110,7 @@ fn take_children(bytes: &[u8], at: &mut u64, count: u8) -> Result<ArrayVec<Child
 }
 
 /// Takes the root slot, so many slots, and one child more.
-#[tactic(auto, unfolding(tw_base::specs::Codecs::pair))]
+#[tactic(auto, unfolding(tw_base::specs::format::Codecs::pair))]
 fn take_held(bytes: &[u8], at: &mut u64, count: u8) -> Result<Held, ReadFault>
     requires within { at.old ≤ length bytes.now }
     requires some { 1 ≤ count }
@@ -129,7 +129,7 @@ fn take_held(bytes: &[u8], at: &mut u64, count: u8) -> Result<Held, ReadFault>
 }
 
 /// Takes the number of the keys, and what stands behind it.
-#[tactic(auto, unfolding(tw_base::specs::Codecs::by_kind))]
+#[tactic(auto, unfolding(tw_base::specs::format::Codecs::by_kind))]
 fn take_counted(bytes: &[u8], at: &mut u64) -> Result<Held, ReadFault>
     requires { at.old ≤ length bytes.now }
     ensures takes { Takes counted_codec (λ h. (h.top, (h.slots.items, h.children.items))) bytes.now at.old at.new result }
@@ -140,7 +140,7 @@ fn take_counted(bytes: &[u8], at: &mut u64) -> Result<Held, ReadFault>
 }
 
 /// Takes what the bytes of a page have.
-#[tactic(auto, unfolding(crate::specs::NodeBytes::node_codec, tw_base::specs::Codecs::behind, tw_base::specs::Codecs::pair))]
+#[tactic(auto, unfolding(crate::specs::NodeBytes::node_codec, tw_base::specs::format::Codecs::behind, tw_base::specs::format::Codecs::pair))]
 fn take_fields(bytes: &[u8], at: &mut u64) -> Result<PageFields, ReadFault>
     requires { at.old ≤ length bytes.now }
     ensures takes { Takes node_codec (λ f. (f.level, (f.held.top, (f.held.slots.items, f.held.children.items)))) bytes.now at.old at.new result }

@@ -1,13 +1,13 @@
 // Writing a page.
-#![tactic(auto, unfolding(crate::specs::NodeBytes::child_codec, crate::specs::NodeBytes::colour_codec, crate::specs::NodeBytes::node_codec, crate::specs::NodeBytes::slot_codec, tw_base::specs::Codecs::behind, tw_base::specs::Codecs::by_kind, tw_base::specs::Codecs::bytes_codec, tw_base::specs::Codecs::many, tw_base::specs::Codecs::name_codec, tw_base::specs::Codecs::nothing, tw_base::specs::Codecs::number_codec, tw_base::specs::Codecs::pair, tw_base::specs::Codecs::seen, tw_base::specs::EntryCodec::entry_codec, tw_base::specs::HistoryCodec::thread_codec))]
+#![tactic(auto, unfolding(crate::specs::NodeBytes::child_codec, crate::specs::NodeBytes::colour_codec, crate::specs::NodeBytes::node_codec, crate::specs::NodeBytes::slot_codec, tw_base::specs::format::Codecs::behind, tw_base::specs::format::Codecs::by_kind, tw_base::specs::format::Codecs::bytes_codec, tw_base::specs::format::Codecs::many, tw_base::specs::format::Codecs::name_codec, tw_base::specs::format::Codecs::nothing, tw_base::specs::format::Codecs::number_codec, tw_base::specs::format::Codecs::pair, tw_base::specs::format::Codecs::seen, tw_base::specs::history::EntryCodec::entry_codec, tw_base::specs::history::HistoryCodec::thread_codec))]
 
 ghost use Rattle.std.specs.Prelude.{◌≡◌, ◌+◌, ◌*◌, ◌≤◌, ◌<◌, ◌++◌, ◌∷◌, [], length, drop, flat_map, take};
-ghost use Rattle.tw_base.specs.Bytes.{AreBytes};
-ghost use Rattle.tw_base.specs.Codecs.{HasBytes};
-ghost use Rattle.tw_base.specs.Lists.{Each};
-ghost use Rattle.tw_base.specs.PageBytes.{IsPageOf};
-ghost use Rattle.tw_base.specs.EntryCodec.{entry_codec};
-ghost use Rattle.tw_base.specs.Limits.{IsEntryInRange};
+ghost use Rattle.tw_base.specs.kinds.Bytes.{AreBytes};
+ghost use Rattle.tw_base.specs.format.Codecs.{HasBytes};
+ghost use Rattle.tw_base.specs.kinds.Lists.{Each};
+ghost use Rattle.tw_base.specs.format.PageBytes.{IsPageOf};
+ghost use Rattle.tw_base.specs.history.EntryCodec.{entry_codec};
+ghost use Rattle.tw_base.specs.history.Limits.{IsEntryInRange};
 ghost use Rattle.tw_rbnode.specs.NodeBytes.{child_codec, fields_of, links_of, node_codec, slot_codec, slots_with};
 
 use crate::child::Child;
@@ -53,7 +53,7 @@ fn put_entry(page: &mut PageFront, entry: &Entry)
 }
 
 /// Puts a slot, 67 bytes.
-#[tactic(auto, unfolding(crate::specs::NodeBytes::colour_codec, crate::specs::NodeBytes::slot_codec, tw_base::specs::Codecs::by_kind, tw_base::specs::Codecs::nothing, tw_base::specs::Codecs::number_codec, tw_base::specs::Codecs::pair, tw_base::specs::Codecs::seen))]
+#[tactic(auto, unfolding(crate::specs::NodeBytes::colour_codec, crate::specs::NodeBytes::slot_codec, tw_base::specs::format::Codecs::by_kind, tw_base::specs::format::Codecs::nothing, tw_base::specs::format::Codecs::number_codec, tw_base::specs::format::Codecs::pair, tw_base::specs::format::Codecs::seen))]
 fn put_slot(page: &mut PageFront, slot: &Slot)
     requires room { length page.old + 67 ≤ 4096 }
     requires range { IsEntryInRange slot.now.entry }

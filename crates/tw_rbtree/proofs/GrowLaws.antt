@@ -2,15 +2,15 @@
 use Rattle.std.proofs.Common.{◌≡◌, ◌≢◌, ℕ, suc, zero, ◌+◌, ◌<◌, ◌≤◌, List, [], ◌∷◌, ◌++◌, length, Bool, true, false, refl, ap, sym, ◌∙◌, subst, arith, slice_get, Result, Ok, Err}
 use Rattle.std.specs.Prelude.{Option, Some, map, slice_index_or}
 use Rattle.std.specs.Result.{IsErrAnd}
-use Rattle.tw_base.specs.declared.thread.Entry.{Entry}
-use Rattle.tw_base.specs.declared.tree_proof.Ask.{Ask}
-use Rattle.tw_base.specs.declared.tree_proof.Ask.TheVariants.{Absent}
-use Rattle.tw_base.specs.Entries.{key_of}
-use Rattle.tw_base.specs.Limits.{IsEntryInRange}
-use Rattle.tw_base.specs.Lists.{Each}
-use Rattle.tw_base.specs.Tree.{Tree, IsRising, entries}
-use Rattle.tw_base.specs.Tree.Tree.{Empty}
-use Rattle.tw_base.proofs.ListLemmas.{Each-parts}
+use Rattle.tw_base.specs.declared.history.thread.Entry.{Entry}
+use Rattle.tw_base.specs.declared.history.tree_proof.Ask.{Ask}
+use Rattle.tw_base.specs.declared.history.tree_proof.Ask.TheVariants.{Absent}
+use Rattle.tw_base.specs.history.Entries.{key_of}
+use Rattle.tw_base.specs.history.Limits.{IsEntryInRange}
+use Rattle.tw_base.specs.kinds.Lists.{Each}
+use Rattle.tw_base.specs.history.Tree.{Tree, IsRising, entries}
+use Rattle.tw_base.specs.history.Tree.Tree.{Empty}
+use Rattle.tw_base.proofs.lemmas.kinds.ListLemmas.{Each-parts}
 use Rattle.tw_disk.specs.Found.{Found, ◌>>=◌, when}
 use Rattle.tw_disk.specs.Found.Found.{Is}
 use Rattle.tw_disk.specs.Image.{Image}

@@ -1,9 +1,9 @@
 -- Pages that stand for a tree: others behind them, and that there is one tree.
 use Rattle.std.proofs.Common.{◌≡◌, ℕ, suc, zero, ◌-◌, List, [], ◌∷◌, ◌++◌, refl, ap, sym, ◌∙◌, subst, arith, inl, inr, length-append}
 use Rattle.std.proofs.lemmas.List.{get_or_append_left}
-use Rattle.tw_base.specs.declared.root.Root.{Root}
-use Rattle.tw_base.specs.PageBytes.{IsPageOf}
-use Rattle.tw_base.specs.Tree.{Tree}
+use Rattle.tw_base.specs.declared.history.root.Root.{Root}
+use Rattle.tw_base.specs.format.PageBytes.{IsPageOf}
+use Rattle.tw_base.specs.history.Tree.{Tree}
 use Rattle.tw_disk.specs.Image.{Image, page_at}
 use Rattle.tw_rbnode.specs.declared.child.Child.{Child}
 use Rattle.tw_rbnode.specs.NodeBytes.{fields_of, node_codec}

@@ -3,8 +3,8 @@ use Rattle.std.proofs.Common.{◌≡◌, ◌≢◌, ℕ, suc, zero, ◌+◌, ◌
 use Rattle.std.specs.Prelude.{◌==◌, ◌||◌, nat_lt, Option, Some, None, if◌then◌else◌}
 use Rattle.std.specs.Result.{IsErrAnd}
 use Rattle.std.proofs.lemmas.Bool.{le-ltb, lt-ltb}
-use Rattle.tw_base.specs.declared.root.Root.{Root}
-use Rattle.tw_base.specs.declared.thread.Entry.{Entry}
+use Rattle.tw_base.specs.declared.history.root.Root.{Root}
+use Rattle.tw_base.specs.declared.history.thread.Entry.{Entry}
 use Rattle.tw_disk.specs.Found.{Found, ◌>>=◌}
 use Rattle.tw_disk.specs.Found.Found.{Is}
 use Rattle.tw_rbnode.specs.Page.{TreePage}

@@ -2,8 +2,8 @@
 use Rattle.std.proofs.Common.{◌≡◌, ℕ, suc, zero, ◌+◌, ◌<◌, ◌≤◌, List, [], ◌∷◌, drop, length, Bool, true, false, refl, ap, ◌∙◌, arith, slice_get}
 use Rattle.std.specs.Prelude.{◌&&◌, Option, Some, None, MatchOption, if◌then◌else◌}
 use Rattle.std.proofs.lemmas.Option.{none-some, same_Some}
-use Rattle.tw_base.specs.declared.thread.Entry.{Entry}
-use Rattle.tw_base.specs.declared.tree_proof.Ask.{Ask}
+use Rattle.tw_base.specs.declared.history.thread.Entry.{Entry}
+use Rattle.tw_base.specs.declared.history.tree_proof.Ask.{Ask}
 use Rattle.tw_disk.specs.Found.{when}
 use Rattle.tw_disk.specs.Found.Found.{Is, Bad}
 use Rattle.tw_disk.specs.Image.{Image}

@@ -5,20 +5,20 @@ use Rattle.std.proofs.lemmas.Option.{none-some, same_Some}
 use Rattle.std.specs.declared.cmp.Ordering.{Ordering}
 use Rattle.std.specs.declared.cmp.Ordering.TheVariants.{Less, Equal, Greater}
 use Rattle.std.specs.Ordering.{is_eq, is_lt}
-use Rattle.tw_base.specs.declared.thread.Entry.{Entry}
-use Rattle.tw_base.specs.declared.thread.Key.{Key}
-use Rattle.tw_base.specs.declared.tree_proof.Ancestor.{Ancestor}
-use Rattle.tw_base.specs.declared.tree_proof.Ask.{Ask}
-use Rattle.tw_base.specs.declared.tree_proof.Ask.TheVariants.{Present, Absent, Below, Above}
-use Rattle.tw_base.specs.declared.tree_proof.TreeProof.TheVariants.{Present as OfEntry}
-use Rattle.tw_base.specs.Auth.{tree_label}
-use Rattle.tw_base.specs.Entries.{KeyBelow, key_cmp, key_of}
-use Rattle.tw_base.specs.Lists.{Each}
-use Rattle.tw_base.specs.Tree.{Tree, IsRising, branch}
-use Rattle.tw_base.specs.Tree.Tree.{Empty as NoEntry, Branch}
-use Rattle.tw_base.proofs.Keys.{KeyBelow-trans, key_cmp_total}
-use Rattle.tw_base.proofs.KeyTests.{NotBelow, eq-below, lt-above, lt-below, not_below}
-use Rattle.tw_base.proofs.KeyTests.NotBelow.{One, Over}
+use Rattle.tw_base.specs.declared.history.thread.Entry.{Entry}
+use Rattle.tw_base.specs.declared.history.thread.Key.{Key}
+use Rattle.tw_base.specs.declared.history.tree_proof.Ancestor.{Ancestor}
+use Rattle.tw_base.specs.declared.history.tree_proof.Ask.{Ask}
+use Rattle.tw_base.specs.declared.history.tree_proof.Ask.TheVariants.{Present, Absent, Below, Above}
+use Rattle.tw_base.specs.declared.history.tree_proof.TreeProof.TheVariants.{Present as OfEntry}
+use Rattle.tw_base.specs.history.Auth.{tree_label}
+use Rattle.tw_base.specs.history.Entries.{KeyBelow, key_cmp, key_of}
+use Rattle.tw_base.specs.kinds.Lists.{Each}
+use Rattle.tw_base.specs.history.Tree.{Tree, IsRising, branch}
+use Rattle.tw_base.specs.history.Tree.Tree.{Empty as NoEntry, Branch}
+use Rattle.tw_base.proofs.lemmas.history.Keys.{KeyBelow-trans, key_cmp_total}
+use Rattle.tw_base.proofs.lemmas.history.KeyTests.{NotBelow, eq-below, lt-above, lt-below, not_below}
+use Rattle.tw_base.proofs.lemmas.history.KeyTests.NotBelow.{One, Over}
 use Rattle.tw_rbnode.specs.declared.node.Found.{Found as Spot}
 use Rattle.tw_rbnode.specs.declared.node.Found.TheVariants.{At, Between}
 use Rattle.tw_rbnode.specs.Shape.{Shape, Empty, Node, size}

@@ -2,11 +2,11 @@
 use Rattle.std.proofs.Common.{◌≡◌, ◌≢◌, ℕ, suc, List, [], ◌∷◌, ◌++◌, length, refl, ap, sym, ◌∙◌, subst, arith, Result, Ok, Err}
 use Rattle.std.specs.Prelude.{Option, None, IfOk}
 use Rattle.std.specs.Result.{IsErrAnd}
-use Rattle.tw_base.specs.declared.root.Root.{Root}
-use Rattle.tw_base.specs.declared.thread.Entry.{Entry}
-use Rattle.tw_base.specs.declared.tree_proof.Ancestor.{Ancestor}
-use Rattle.tw_base.specs.declared.tree_proof.Ask.{Ask}
-use Rattle.tw_base.specs.declared.tree_proof.TreeProof.{TreeProof}
+use Rattle.tw_base.specs.declared.history.root.Root.{Root}
+use Rattle.tw_base.specs.declared.history.thread.Entry.{Entry}
+use Rattle.tw_base.specs.declared.history.tree_proof.Ancestor.{Ancestor}
+use Rattle.tw_base.specs.declared.history.tree_proof.Ask.{Ask}
+use Rattle.tw_base.specs.declared.history.tree_proof.TreeProof.{TreeProof}
 use Rattle.tw_disk.specs.Found.{Found, ◌>>=◌}
 use Rattle.tw_disk.specs.Found.Found.{Is}
 use Rattle.tw_disk.proofs.FoundLaws.{is_on}

@@ -5,16 +5,16 @@ use Rattle.std.specs.Option.{option_or}
 use Rattle.std.specs.declared.cmp.Ordering.{Ordering}
 use Rattle.std.specs.declared.cmp.Ordering.TheVariants.{Less, Equal, Greater}
 use Rattle.std.specs.Ordering.{is_eq, is_lt}
-use Rattle.tw_base.specs.declared.thread.Entry.{Entry}
-use Rattle.tw_base.specs.declared.thread.Key.{Key}
-use Rattle.tw_base.specs.declared.tree_proof.Ask.{Ask}
-use Rattle.tw_base.specs.declared.tree_proof.Ask.TheVariants.{Present, Absent, Below, Above}
-use Rattle.tw_base.specs.Asking.{entry_with, first_above, last_below}
-use Rattle.tw_base.specs.Entries.{KeyBelow, key_cmp, key_of}
-use Rattle.tw_base.specs.Lists.{Each}
-use Rattle.tw_base.specs.Tree.{IsRising}
-use Rattle.tw_base.proofs.KeyTests.{lt-below}
-use Rattle.tw_base.proofs.ListLemmas.{Each-parts}
+use Rattle.tw_base.specs.declared.history.thread.Entry.{Entry}
+use Rattle.tw_base.specs.declared.history.thread.Key.{Key}
+use Rattle.tw_base.specs.declared.history.tree_proof.Ask.{Ask}
+use Rattle.tw_base.specs.declared.history.tree_proof.Ask.TheVariants.{Present, Absent, Below, Above}
+use Rattle.tw_base.specs.history.Asking.{entry_with, first_above, last_below}
+use Rattle.tw_base.specs.history.Entries.{KeyBelow, key_cmp, key_of}
+use Rattle.tw_base.specs.kinds.Lists.{Each}
+use Rattle.tw_base.specs.history.Tree.{IsRising}
+use Rattle.tw_base.proofs.lemmas.history.KeyTests.{lt-below}
+use Rattle.tw_base.proofs.lemmas.kinds.ListLemmas.{Each-parts}
 use Rattle.tw_rbnode.specs.declared.node.Found.{Found as Spot}
 use Rattle.tw_rbnode.specs.declared.node.Found.TheVariants.{At, Between}
 use Rattle.tw_rbnode.specs.Trees.{woven}

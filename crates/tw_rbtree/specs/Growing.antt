@@ -1,11 +1,11 @@
 -- What a part of a tree has become by an entry more: one child in its place, or two with an entry between them.
 use Rattle.std.specs.Prelude.{◌≡◌, ◌≢◌, ℕ, ◌+◌, ◌<◌, ◌≤◌, List, [], ◌∷◌, ◌++◌, length, map, take, drop, true, Option, Some, None, Result, Ok, Err}
-use Rattle.tw_base.specs.declared.thread.Entry.{Entry}
-use Rattle.tw_base.specs.Auth.{tree_label}
-use Rattle.tw_base.specs.Entries.{key_of}
-use Rattle.tw_base.specs.Limits.{IsEntryInRange}
-use Rattle.tw_base.specs.Lists.{Each}
-use Rattle.tw_base.specs.Tree.{Tree, entries}
+use Rattle.tw_base.specs.declared.history.thread.Entry.{Entry}
+use Rattle.tw_base.specs.history.Auth.{tree_label}
+use Rattle.tw_base.specs.history.Entries.{key_of}
+use Rattle.tw_base.specs.history.Limits.{IsEntryInRange}
+use Rattle.tw_base.specs.kinds.Lists.{Each}
+use Rattle.tw_base.specs.history.Tree.{Tree, entries}
 use Rattle.tw_disk.specs.Found.{Found}
 use Rattle.tw_disk.specs.Found.Found.{Is}
 use Rattle.tw_disk.specs.Image.{Image}

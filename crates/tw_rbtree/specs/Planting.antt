@@ -1,7 +1,7 @@
 -- The trees of listed nodes.
 use Rattle.std.specs.Prelude.{◌≡◌, ℕ, ◌-◌, ◌<◌, List, [], ◌∷◌, ◌++◌, slice_get, Some}
-use Rattle.tw_base.specs.Tree.{Tree}
-use Rattle.tw_base.specs.Tree.Tree.{Empty, Branch}
+use Rattle.tw_base.specs.history.Tree.{Tree}
+use Rattle.tw_base.specs.history.Tree.Tree.{Empty, Branch}
 use Rattle.tw_disk.specs.Image.{Image}
 use Rattle.tw_rbtree.specs.declared.new_node.NewNode.{NewNode}
 use Rattle.tw_rbtree.specs.declared.new_node.Side.{Side}

@@ -1,13 +1,13 @@
 -- Which tree pages stand in a list of pages, and which of them fit a way down.
 use Rattle.std.specs.Prelude.{ℕ, ◌+◌, ◌-◌, ◌<◌, ◌≤◌, ◌==◌, ◌&&◌, List, [], ◌∷◌, length, nat_le, Bool, true, Option, Some, None, MatchOption}
 use Rattle.std.specs.Ordering.{is_lt}
-use Rattle.tw_base.specs.declared.thread.Entry.{Entry}
-use Rattle.tw_base.specs.Entries.{key_cmp, key_of}
+use Rattle.tw_base.specs.declared.history.thread.Entry.{Entry}
+use Rattle.tw_base.specs.history.Entries.{key_cmp, key_of}
 use Rattle.tw_disk.specs.declared.limits.TheConstants.{FIRST_PAGE}
 use Rattle.tw_disk.specs.Found.{Found, when}
 use Rattle.tw_disk.specs.Found.Found.{Bad}
 use Rattle.tw_disk.specs.Image.{Image, page_at}
-use Rattle.tw_base.specs.PageBytes.{IsPageOf}
+use Rattle.tw_base.specs.format.PageBytes.{IsPageOf}
 use Rattle.tw_rbnode.specs.NodeBytes.{MayStand, fields_of, node_codec}
 use Rattle.tw_rbnode.specs.Page.{TreePage}
 use Rattle.tw_rbtree.specs.declared.limits.TheConstants.{LEAST_KEYS}

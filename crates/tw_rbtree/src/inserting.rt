@@ -2,12 +2,12 @@
 
 ghost use Rattle.std.specs.Prelude.{◌≡◌, ℕ, ◌+◌, ◌*◌, ◌-◌, ◌<◌, ◌≤◌, ◌^◌, ◌++◌, ◌∷◌, [], List, true, IfOk, Some, length, map};
 ghost use Rattle.std.specs.Option.{option_map};
-ghost use Rattle.tw_base.specs.declared.tree_proof.Ask.TheVariants.{Absent};
-ghost use Rattle.tw_base.specs.Asking.{with_entry};
-ghost use Rattle.tw_base.specs.Entries.{key_of};
-ghost use Rattle.tw_base.specs.Limits.{IsEntryInRange};
-ghost use Rattle.tw_base.specs.PageBytes.{IsPageOf};
-ghost use Rattle.tw_base.specs.Tree.{Tree, IsRising, entries};
+ghost use Rattle.tw_base.specs.declared.history.tree_proof.Ask.TheVariants.{Absent};
+ghost use Rattle.tw_base.specs.history.Asking.{with_entry};
+ghost use Rattle.tw_base.specs.history.Entries.{key_of};
+ghost use Rattle.tw_base.specs.history.Limits.{IsEntryInRange};
+ghost use Rattle.tw_base.specs.format.PageBytes.{IsPageOf};
+ghost use Rattle.tw_base.specs.history.Tree.{Tree, IsRising, entries};
 ghost use Rattle.tw_disk.specs.Image.{Image};
 ghost use Rattle.tw_disk.specs.Pages.{OnlyAdds};
 ghost use Rattle.tw_rbnode.specs.Children.{AddedHasChildren, HasChildren, IsChildAt};

@@ -1,11 +1,11 @@
 // What holds of pages that stand for trees, whatever the calls do.
 
 ghost use Rattle.std.specs.Prelude.{◌≡◌, ◌≢◌, [], Some, slice_get, ℕ, ◌+◌, ◌-◌, ◌*◌, ◌^◌, ◌<◌, ◌≤◌, ◌++◌, List, length};
-ghost use Rattle.tw_base.specs.declared.root.Root.{Root};
-ghost use Rattle.tw_base.specs.declared.thread.Key.{Key};
-ghost use Rattle.tw_base.specs.declared.tree_proof.Ask.{Ask};
-ghost use Rattle.tw_base.specs.Asking.{entry_with, first_above, last_below};
-ghost use Rattle.tw_base.specs.Tree.{Tree, entries};
+ghost use Rattle.tw_base.specs.declared.history.root.Root.{Root};
+ghost use Rattle.tw_base.specs.declared.history.thread.Key.{Key};
+ghost use Rattle.tw_base.specs.declared.history.tree_proof.Ask.{Ask};
+ghost use Rattle.tw_base.specs.history.Asking.{entry_with, first_above, last_below};
+ghost use Rattle.tw_base.specs.history.Tree.{Tree, entries};
 ghost use Rattle.tw_disk.specs.Found.Found.{Is};
 ghost use Rattle.tw_disk.specs.Image.{Image};
 ghost use Rattle.tw_rbtree.specs.declared.new_node.NewNode.{NewNode};

@@ -6,7 +6,7 @@ ghost use Rattle.tw_disk.specs.Pages.{OnlyReads};
 ghost use Rattle.tw_rbnode.specs.Answers.{IsThere};
 ghost use Rattle.tw_rbnode.specs.Trees.{nodes_above};
 ghost use Rattle.tw_treeproof.specs.Answers.{ancestors_of};
-ghost use Rattle.tw_base.specs.declared.tree_proof.Ancestor.{Ancestor};
+ghost use Rattle.tw_base.specs.declared.history.tree_proof.Ancestor.{Ancestor};
 ghost use Rattle.tw_rbtree.specs.Answers.{AnswersPath, FaultsRise, IsSoAt, NeverPresent, NotDiskFault, UntrueUnless};
 ghost use Rattle.tw_rbtree.specs.Paths.{proof_in, shown_proof};
 ghost use Rattle.tw_rbtree.specs.Reading.{IsReading, Reading};

@@ -3,15 +3,15 @@ use Rattle.std.proofs.Common.{◌≡◌, ℕ, ◌≤◌, List, [], length, refl,
 use Rattle.tw_disk.specs.Image.{Image}
 use Rattle.tw_disk.specs.Disk.{DiskView, IsAtRest, LeavesOnly, Reads}
 use Rattle.tw_disk.proofs.Moments.{leaves_weaker}
-use Rattle.tw_base.specs.Auth.{auth, auths, tree_label}
-use Rattle.tw_base.specs.History.{received}
-use Rattle.tw_base.specs.Names.{IsName}
-use Rattle.tw_base.specs.Sound.{IsSound}
-use Rattle.tw_base.specs.Texts.{empty_tree_text, genesis_text}
-use Rattle.tw_base.specs.Tree.{Tree, tree}
-use Rattle.tw_base.specs.Tree.Tree.{Empty}
-use Rattle.tw_base.proofs.DigestBytes.{IsDigest}
-use Rattle.tw_base.proofs.Plus.{tree-first}
+use Rattle.tw_base.specs.history.Auth.{auth, auths, tree_label}
+use Rattle.tw_base.specs.history.History.{received}
+use Rattle.tw_base.specs.kinds.Names.{IsName}
+use Rattle.tw_base.specs.history.Sound.{IsSound}
+use Rattle.tw_base.specs.kinds.Texts.{empty_tree_text, genesis_text}
+use Rattle.tw_base.specs.history.Tree.{Tree, tree}
+use Rattle.tw_base.specs.history.Tree.Tree.{Empty}
+use Rattle.tw_base.proofs.lemmas.kinds.DigestBytes.{IsDigest}
+use Rattle.tw_base.proofs.lemmas.history.Plus.{tree-first}
 use Rattle.tw_pages.specs.Init.{first_opening, second_opening}
 use Rattle.tw_pages.specs.Init.{IsBlankOrNew as IsBlankOrNewStore}
 use Rattle.tw_pages.specs.StoreValue.{IsKept, disk_of, opening_of, staged_of}

@@ -5,19 +5,19 @@ use Rattle.std.specs.Option.{option_to_list}
 use Rattle.std.proofs.lemmas.Bool.{cases_lt}
 use Rattle.std.proofs.lemmas.List.{append-nil, length_push}
 use Rattle.std.proofs.lemmas.Option.{slice_get_past, slice_get_within}
-use Rattle.tw_base.specs.declared.limits.TheConstants.{LAST_STEP}
-use Rattle.tw_base.specs.declared.thread.Entry.{Entry}
-use Rattle.tw_base.specs.declared.thread.Thread.{Thread}
-use Rattle.tw_base.specs.History.{History, Node, Step, entry_at, entry_to, events_at, events_of, fresh_of, received, root_of, step_at, thread_of, with_events}
-use Rattle.tw_base.specs.Limits.{MayRecord}
-use Rattle.tw_base.specs.Lists.{Each}
-use Rattle.tw_base.specs.Names.{IsName}
-use Rattle.tw_base.specs.Rules.{KeepsRule, Rule}
-use Rattle.tw_base.specs.Rules.Rule.{NodesAreKnown, TreesRise, HoldsAllThreads, IsOfAnother, StepsRise, EventsFit, TimesDontFall}
-use Rattle.tw_base.specs.Sound.{IsSound, IsSoundStep}
-use Rattle.tw_base.specs.Tree.{IsRising, Tree, entries, forest, new_trees, planted, tree}
-use Rattle.tw_base.specs.Tree.Tree.{Empty}
-use Rattle.tw_base.proofs.Plus.{received-plus, step_at-new, step_at-plus}
+use Rattle.tw_base.specs.declared.kinds.limits.TheConstants.{LAST_STEP}
+use Rattle.tw_base.specs.declared.history.thread.Entry.{Entry}
+use Rattle.tw_base.specs.declared.history.thread.Thread.{Thread}
+use Rattle.tw_base.specs.history.History.{History, Node, Step, entry_at, entry_to, events_at, events_of, fresh_of, received, root_of, step_at, thread_of, with_events}
+use Rattle.tw_base.specs.history.Limits.{MayRecord}
+use Rattle.tw_base.specs.kinds.Lists.{Each}
+use Rattle.tw_base.specs.kinds.Names.{IsName}
+use Rattle.tw_base.specs.history.Rules.{KeepsRule, Rule}
+use Rattle.tw_base.specs.history.Rules.Rule.{NodesAreKnown, TreesRise, HoldsAllThreads, IsOfAnother, StepsRise, EventsFit, TimesDontFall}
+use Rattle.tw_base.specs.history.Sound.{IsSound, IsSoundStep}
+use Rattle.tw_base.specs.history.Tree.{IsRising, Tree, entries, forest, new_trees, planted, tree}
+use Rattle.tw_base.specs.history.Tree.Tree.{Empty}
+use Rattle.tw_base.proofs.lemmas.history.Plus.{received-plus, step_at-new, step_at-plus}
 use Rattle.tw_disk.specs.Image.{Image}
 use Rattle.tw_skiplist.specs.declared.head.Head.{Head}
 use Rattle.tw_skiplist.specs.Keeping.{Keeps, event_step}

@@ -5,10 +5,10 @@ use Rattle.std.specs.Option.{option_map}
 use Rattle.std.proofs.lemmas.Bool.{ltb-false}
 use Rattle.std.proofs.lemmas.List.Sums.{sum_by-cons}
 use Rattle.std.proofs.lemmas.Option.{get_or_from_slice_get}
-use Rattle.tw_base.specs.Lists.{Each}
-use Rattle.tw_base.proofs.ListLemmas.{Each-get_or}
-use Rattle.tw_base.specs.declared.limits.TheConstants.{MOST_EVENT_BYTES}
-use Rattle.tw_base.specs.Limits.{MayRecord}
+use Rattle.tw_base.specs.kinds.Lists.{Each}
+use Rattle.tw_base.proofs.lemmas.kinds.ListLemmas.{Each-get_or}
+use Rattle.tw_base.specs.declared.kinds.limits.TheConstants.{MOST_EVENT_BYTES}
+use Rattle.tw_base.specs.history.Limits.{MayRecord}
 use Rattle.tw_service.specs.Limits.{bytes_of, first_long}
 
 -- where no event is longer than 1,024 bytes, each is at most so long

@@ -2,12 +2,12 @@
 use Rattle.std.proofs.Common.{◌≡◌, ◌⊎◌, ℕ, ◌+◌, ◌^◌, ◌<◌, ◌≤◌, List, length, refl, ap, sym, ◌∙◌, subst, arith, inl, inr, Bool}
 use Rattle.std.specs.Prelude.{Option, Some, None, Result, Ok, Err, if◌then◌else◌, false}
 use Rattle.std.proofs.lemmas.Bool.{cases_lt, le-ltb}
-use Rattle.tw_base.specs.declared.limits.TheConstants.{LAST_STEP}
-use Rattle.tw_base.specs.declared.root.Root.{Root}
-use Rattle.tw_base.specs.History.{History, events_at, with_events}
-use Rattle.tw_base.specs.Limits.{MayRecord}
-use Rattle.tw_base.specs.Sound.{IsSound}
-use Rattle.tw_base.proofs.DigestBytes.{IsDigest}
+use Rattle.tw_base.specs.declared.kinds.limits.TheConstants.{LAST_STEP}
+use Rattle.tw_base.specs.declared.history.root.Root.{Root}
+use Rattle.tw_base.specs.history.History.{History, events_at, with_events}
+use Rattle.tw_base.specs.history.Limits.{MayRecord}
+use Rattle.tw_base.specs.history.Sound.{IsSound}
+use Rattle.tw_base.proofs.lemmas.kinds.DigestBytes.{IsDigest}
 use Rattle.tw_disk.specs.Image.{Image}
 use Rattle.tw_skipproof.specs.declared.existence.ExistenceProof.{ExistenceProof}
 use Rattle.tw_skipproof.specs.Existence.{existence_of_part}

@@ -5,7 +5,7 @@ use Rattle.std.specs.Option.{option_map}
 use Rattle.std.specs.Prelude.{Option, Some}
 use Rattle.tw_disk.specs.Image.{Image}
 use Rattle.tw_disk.specs.Disk.{DiskView, IsAtRest}
-use Rattle.tw_base.specs.History.{History}
+use Rattle.tw_base.specs.history.History.{History}
 use Rattle.tw_pages.specs.StoreValue.{IsKept, disk_of, opening_of, root_of, slot_of, staged_of}
 use Rattle.tw_pages.specs.Same.{list_of, pages_of}
 use Rattle.tw_pages.specs.Store.{Opening, OpensAs, used_of}

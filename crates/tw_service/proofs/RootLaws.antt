@@ -1,10 +1,10 @@
 -- The codec of root records is lawful, and what fits it.
 use Rattle.std.proofs.Common.{◌≡◌, ℕ, ◌<◌, ◌≤◌, ◌^◌, List, arith}
-use Rattle.tw_base.specs.declared.limits.TheConstants.{LAST_STEP}
-use Rattle.tw_base.specs.Codecs.{HasBytes, bytes_codec, name_codec, number_codec, pair, seen}
-use Rattle.tw_base.specs.Names.{IsName}
-use Rattle.tw_base.proofs.CodecLaws.{Lawful, lawful}
-use Rattle.tw_base.proofs.TakeLaws.{word-once}
+use Rattle.tw_base.specs.declared.kinds.limits.TheConstants.{LAST_STEP}
+use Rattle.tw_base.specs.format.Codecs.{HasBytes, bytes_codec, name_codec, number_codec, pair, seen}
+use Rattle.tw_base.specs.kinds.Names.{IsName}
+use Rattle.tw_base.proofs.lemmas.format.CodecLaws.{Lawful, lawful}
+use Rattle.tw_base.proofs.lemmas.format.TakeLaws.{word-once}
 use Rattle.tw_service.specs.declared.root.RootRecord.{RootRecord}
 use Rattle.tw_service.specs.Roots.{IsAllowed, root_bytes, root_codec}
 

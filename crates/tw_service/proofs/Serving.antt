@@ -6,13 +6,13 @@ use Rattle.std.proofs.lemmas.List.{append-nil, length_push}
 use Rattle.tw_disk.specs.Image.{Image}
 use Rattle.tw_disk.specs.Disk.{DiskView, IsAtRest, LeavesOnly, Reads}
 use Rattle.tw_disk.proofs.Moments.{goes_on, leaves_weaker}
-use Rattle.tw_base.specs.declared.limits.TheConstants.{LAST_STEP}
-use Rattle.tw_base.specs.declared.root.Root.{Root}
-use Rattle.tw_base.specs.Auth.{tree_label}
-use Rattle.tw_base.specs.History.{History, received, root_of, step_at, with_events}
-use Rattle.tw_base.specs.Names.{IsName}
-use Rattle.tw_base.proofs.DigestBytes.{IsDigest, auth-digest, tree_label-digest}
-use Rattle.tw_base.specs.Tree.{tree}
+use Rattle.tw_base.specs.declared.kinds.limits.TheConstants.{LAST_STEP}
+use Rattle.tw_base.specs.declared.history.root.Root.{Root}
+use Rattle.tw_base.specs.history.Auth.{tree_label}
+use Rattle.tw_base.specs.history.History.{History, received, root_of, step_at, with_events}
+use Rattle.tw_base.specs.kinds.Names.{IsName}
+use Rattle.tw_base.proofs.lemmas.kinds.DigestBytes.{IsDigest, auth-digest, tree_label-digest}
+use Rattle.tw_base.specs.history.Tree.{tree}
 use Rattle.tw_pages.specs.StoreValue.{IsKept, disk_of, next_opening, opening_of, staged_of}
 use Rattle.tw_pages.specs.Same.{IsSameStore, count_of, pages_of}
 use Rattle.tw_pages.specs.Store.{IsAbove, Opening, OpensAs, OpensAsEither, used_of}
@@ -26,7 +26,7 @@ use Rattle.tw_skiplist.proofs.EventHistories.{same_tree}
 use Rattle.tw_disk.proofs.FoundLaws.{same_found}
 use Rattle.tw_skiplist.proofs.Growing.{head_page}
 use Rattle.tw_skiplist.proofs.KeptAppended.{grown}
-use Rattle.tw_base.specs.Limits.{MayRecord}
+use Rattle.tw_base.specs.history.Limits.{MayRecord}
 use Rattle.tw_service.specs.declared.limits.TheConstants.{MOST_PAGES_OF_A_STEP}
 use Rattle.tw_service.specs.declared.root.RootRecord.{RootRecord}
 use Rattle.tw_service.specs.Keeps.{KeepsHistory}

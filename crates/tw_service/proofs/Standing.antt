@@ -1,7 +1,7 @@
 -- What an image stands for.
 use Rattle.std.proofs.Common.{◌≡◌, ℕ, ◌+◌, ◌^◌, ◌≤◌, List, length, ap, arith, sym, ◌∙◌, subst, inl, inr, ⊎_elim}
-use Rattle.tw_base.specs.History.{History}
-use Rattle.tw_base.proofs.DigestBytes.{IsDigest}
+use Rattle.tw_base.specs.history.History.{History}
+use Rattle.tw_base.proofs.lemmas.kinds.DigestBytes.{IsDigest}
 use Rattle.tw_disk.specs.Image.{Image}
 use Rattle.tw_pages.specs.Store.{Opening, OpensAs, used_of}
 use Rattle.tw_pages.specs.declared.open.StoreFault.{StoreFault}

@@ -1,7 +1,7 @@
 -- The history that a store keeps.
 use Rattle.std.specs.Prelude.{◌≡◌, ℕ, List, []}
-use Rattle.tw_base.specs.History.{History}
-use Rattle.tw_base.specs.Sound.{IsSound}
+use Rattle.tw_base.specs.history.History.{History}
+use Rattle.tw_base.specs.history.Sound.{IsSound}
 use Rattle.tw_disk.specs.Image.{Image}
 use Rattle.tw_pages.specs.declared.store.Store.{Store}
 use Rattle.tw_pages.specs.StoreValue.{IsKept, opening_of, staged_of}

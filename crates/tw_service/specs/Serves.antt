@@ -1,8 +1,8 @@
 -- The history that a service value serves.
 use Rattle.std.specs.Prelude.{ℕ, List, Bool, Option}
-use Rattle.tw_base.specs.declared.root.Root.{Root}
-use Rattle.tw_base.specs.declared.thread.Thread.{Thread}
-use Rattle.tw_base.specs.History.{History}
+use Rattle.tw_base.specs.declared.history.root.Root.{Root}
+use Rattle.tw_base.specs.declared.history.thread.Thread.{Thread}
+use Rattle.tw_base.specs.history.History.{History}
 use Rattle.tw_disk.specs.Image.{Image}
 use Rattle.tw_disk.specs.Disk.{DiskView, IsAtRest}
 use Rattle.tw_pages.specs.StoreValue.{disk_of as disk_below}

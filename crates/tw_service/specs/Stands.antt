@@ -1,7 +1,7 @@
 -- Which history an image stands for, and why an image is opened as none.
 use Rattle.std.specs.Prelude.{◌≡◌, ◌⊎◌, ℕ, List, [], length}
-use Rattle.tw_base.specs.History.{History, received}
-use Rattle.tw_base.specs.Sound.{IsSound}
+use Rattle.tw_base.specs.history.History.{History, received}
+use Rattle.tw_base.specs.history.Sound.{IsSound}
 use Rattle.tw_disk.specs.Image.{Image}
 use Rattle.tw_pages.specs.Store.{Opening, OpensAs, used_of}
 use Rattle.tw_pages.specs.Slots.{IsBlank, IsRefusedFor}

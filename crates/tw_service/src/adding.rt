@@ -1,9 +1,9 @@
 // One more step of the history that a store keeps.
 
 ghost use Rattle.std.specs.Prelude.{◌≡◌, ◌⊎◌, ℕ, ◌+◌, ◌*◌, ◌<◌, ◌≤◌, [], IfOk, IfErr, false, Some, Err};
-ghost use Rattle.tw_base.specs.History.{History, with_events};
-ghost use Rattle.tw_base.specs.Limits.{MayRecord};
-ghost use Rattle.tw_base.specs.Faults.{Rose};
+ghost use Rattle.tw_base.specs.history.History.{History, with_events};
+ghost use Rattle.tw_base.specs.history.Limits.{MayRecord};
+ghost use Rattle.tw_base.specs.kinds.Faults.{Rose};
 ghost use Rattle.tw_disk.specs.Disk.{IsAtRest, LeavesOnly, Reads};
 ghost use Rattle.tw_disk.specs.Image.{Image};
 ghost use Rattle.tw_pages.specs.StoreValue.{disk_of, generation_of, is_broken, root_of, staged_of};

@@ -1,10 +1,10 @@
 // The laws of what images stand for.
 
 ghost use Rattle.std.specs.Prelude.{◌≡◌, ℕ, ◌+◌, ◌^◌, ◌<◌, ◌≤◌, List, length, None, Ok, Err, false};
-ghost use Rattle.tw_base.specs.declared.limits.TheConstants.{LAST_STEP};
-ghost use Rattle.tw_base.specs.History.{History, events_at, with_events};
-ghost use Rattle.tw_base.specs.Limits.{MayRecord};
-ghost use Rattle.tw_base.specs.Sound.{IsSound};
+ghost use Rattle.tw_base.specs.declared.kinds.limits.TheConstants.{LAST_STEP};
+ghost use Rattle.tw_base.specs.history.History.{History, events_at, with_events};
+ghost use Rattle.tw_base.specs.history.Limits.{MayRecord};
+ghost use Rattle.tw_base.specs.history.Sound.{IsSound};
 ghost use Rattle.tw_disk.specs.Image.{Image};
 ghost use Rattle.tw_pages.specs.declared.open.StoreFault.{StoreFault};
 ghost use Rattle.tw_skiplist.specs.declared.head.Head.{Head};

@@ -2,10 +2,10 @@
 
 ghost use Rattle.std.specs.Prelude.{◌≡◌, ◌+◌, ◌≤◌, ◌<◌, ◌^◌, length, false, IsNone};
 ghost use Rattle.std.specs.Option.{option_map};
-ghost use Rattle.tw_base.specs.Bytes.{AreBytes};
-ghost use Rattle.tw_base.specs.Lists.{Each};
+ghost use Rattle.tw_base.specs.kinds.Bytes.{AreBytes};
+ghost use Rattle.tw_base.specs.kinds.Lists.{Each};
 ghost use Rattle.tw_service.specs.Limits.{bytes_of, first_long, append_refusal as append_refusal_of, event_refusal as event_refusal_of, limits_refusal as limits_refusal_of, order_refusal as order_refusal_of};
-ghost use Rattle.tw_base.specs.Limits.{MayRecord};
+ghost use Rattle.tw_base.specs.history.Limits.{MayRecord};
 
 use crate::refusal::Refusal;
 use tw_base::limits::{LAST_STEP, MOST_EVENT_BYTES, MOST_EVENTS, MOST_STEP_BYTES};

@@ -1,8 +1,8 @@
 // The existence proof of an event of a history that pages keep.
 
 ghost use Rattle.std.specs.Prelude.{◌≡◌, ◌⊎◌, ◌<◌, ◌≤◌, ◌^◌, length, IfOk, IfErr, Some, Err};
-ghost use Rattle.tw_base.specs.Limits.{MayRecord};
-ghost use Rattle.tw_base.specs.Faults.{Rose};
+ghost use Rattle.tw_base.specs.history.Limits.{MayRecord};
+ghost use Rattle.tw_base.specs.kinds.Faults.{Rose};
 ghost use Rattle.tw_disk.specs.Image.{Image};
 ghost use Rattle.tw_disk.specs.Pages.{OnlyReads};
 ghost use Rattle.tw_service.specs.Refusals.{IsFault, IsNoEvent};

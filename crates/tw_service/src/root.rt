@@ -2,10 +2,10 @@
 
 ghost use Rattle.std.specs.Prelude.{◌≡◌, ◌≢◌, ℕ, ◌+◌, ◌-◌, ◌*◌, ◌≤◌, ◌<◌, ◌^◌, ◌++◌, List, length, IfErr, IfOk, IfSome, IsTrue, ◌↔◌, MatchOption};
 ghost use Rattle.arrayvec.specs.ArrayVec.{array_vec_len};
-ghost use Rattle.tw_base.specs.declared.limits.TheConstants.{LAST_STEP};
-ghost use Rattle.tw_base.specs.Fields.{number_bytes};
-ghost use Rattle.tw_base.specs.Names.{IsName};
-ghost use Rattle.tw_base.specs.Taking.{Takes};
+ghost use Rattle.tw_base.specs.declared.kinds.limits.TheConstants.{LAST_STEP};
+ghost use Rattle.tw_base.specs.format.Fields.{number_bytes};
+ghost use Rattle.tw_base.specs.kinds.Names.{IsName};
+ghost use Rattle.tw_base.specs.format.Taking.{Takes};
 ghost use Rattle.tw_service.specs.declared.root.RootRecord.{RootRecord};
 ghost use Rattle.tw_service.specs.Roots.{FitsStore, HasLastPage, IsAllowed, root_bytes, root_codec};
 
@@ -45,7 +45,7 @@ fn put_digest(text: &mut ArrayVec<u8, 112>, digest: &Digest)
 }
 
 /// The bytes of a root record.
-#[tactic(auto, unfolding(crate::specs::Roots::root_codec, tw_base::specs::Codecs::bytes_codec, tw_base::specs::Codecs::name_codec, tw_base::specs::Codecs::number_codec, tw_base::specs::Codecs::pair, tw_base::specs::Codecs::seen))]
+#[tactic(auto, unfolding(crate::specs::Roots::root_codec, tw_base::specs::format::Codecs::bytes_codec, tw_base::specs::format::Codecs::name_codec, tw_base::specs::format::Codecs::number_codec, tw_base::specs::format::Codecs::pair, tw_base::specs::format::Codecs::seen))]
 pub(crate) fn root_record(root: &RootRecord) -> ArrayVec<u8, 112>
     ensures bytes { result.items ≡ root_bytes root.now }
     ensures size { length result.items ≡ ROOT_BYTES }
@@ -63,7 +63,7 @@ pub(crate) fn root_record(root: &RootRecord) -> ArrayVec<u8, 112>
 }
 
 /// Takes a root record.
-#[tactic(auto, unfolding(crate::specs::Roots::root_codec, tw_base::specs::Codecs::pair, tw_base::specs::Codecs::seen))]
+#[tactic(auto, unfolding(crate::specs::Roots::root_codec, tw_base::specs::format::Codecs::pair, tw_base::specs::format::Codecs::seen))]
 fn take_root(bytes: &[u8], at: &mut u64) -> Result<RootRecord, ReadFault>
     requires { at.old ≤ length bytes.now }
     ensures takes { Takes root_codec (λ r. r) bytes.now at.old at.new result }

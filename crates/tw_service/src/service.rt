@@ -2,7 +2,7 @@
 ghost use Rattle.std.specs.Prelude.{◌≡◌, ◌<◌, ◌≤◌, ◌+◌, ◌*◌, ◌^◌, ◌⊎◌, [], true, false};
 ghost use Rattle.tw_pages.specs.StoreValue.{generation_of, is_broken as store_is_broken, root_of, staged_of};
 ghost use Rattle.tw_pages.specs.Same.{count_of};
-ghost use Rattle.tw_base.specs.declared.limits.TheConstants.{LAST_STEP};
+ghost use Rattle.tw_base.specs.declared.kinds.limits.TheConstants.{LAST_STEP};
 ghost use Rattle.tw_disk.specs.declared.limits.TheConstants.{FIRST_PAGE};
 ghost use Rattle.tw_service.specs.declared.limits.TheConstants.{MOST_PAGES_OF_A_STEP};
 ghost use Rattle.tw_service.specs.Roots.{root_bytes};
@@ -37,13 +37,13 @@ pub struct Service<D: Disk, H: Hasher> {
 
 impl<D: Disk, H: Hasher> Service<D, H> {
     ghost use Rattle.std.specs.Prelude.{◌↔◌, ◌≢◌, ℕ, length, List, Some, None, Ok, Err, IfOk, IfErr, IsErrAnd, IsTrue, OnErr, MatchOption, MatchResult};
-    ghost use Rattle.tw_base.specs.Anchors.{anchor_of};
-    ghost use Rattle.tw_base.specs.Auth.{auth};
-    ghost use Rattle.tw_base.specs.History.{History, events_at, with_events};
-    ghost use Rattle.tw_base.specs.declared.thread.Thread.{Thread as ThreadOf};
+    ghost use Rattle.tw_base.specs.history.Anchors.{anchor_of};
+    ghost use Rattle.tw_base.specs.history.Auth.{auth};
+    ghost use Rattle.tw_base.specs.history.History.{History, events_at, with_events};
+    ghost use Rattle.tw_base.specs.declared.history.thread.Thread.{Thread as ThreadOf};
     ghost use Rattle.tw_chain.specs.Accepting.{Accepts};
     ghost use Rattle.tw_skipproof.specs.HistoryProofs.{MakesExistence};
-    ghost use Rattle.tw_base.specs.Faults.{Rose};
+    ghost use Rattle.tw_base.specs.kinds.Faults.{Rose};
     ghost use Rattle.tw_disk.specs.Disk.{IsAtRest, LeavesOnly, Reads};
     ghost use Rattle.tw_disk.specs.Image.{Image};
     ghost use Rattle.tw_pages.specs.Slots.{IsTaken};

@@ -1,15 +1,15 @@
 -- Histories whose steps are all steps of events, and one with one more.
 use Rattle.std.proofs.Common.{◌≡◌, ℕ, suc, zero, ◌≤◌, List, [], ◌++◌, length, get_or, refl, ap, ◌∙◌, arith, Option, None}
 use Rattle.std.proofs.lemmas.List.{append-nil}
-use Rattle.tw_base.specs.Texts.{datum_text, step_datum_text}
-use Rattle.tw_base.specs.EventTree.{event_root}
-use Rattle.tw_base.specs.History.{History, Step, entry_to, events_at, events_of, fresh_of, root_of, step_at, time_at, time_of}
-use Rattle.tw_base.specs.Tree.{Tree, forest, planted, tree}
-use Rattle.tw_base.specs.Tree.Tree.{Empty}
-use Rattle.tw_base.specs.Auth.{datum_text_at, tree_label}
-use Rattle.tw_base.proofs.Plus.{forest-plus, step_at-new}
+use Rattle.tw_base.specs.kinds.Texts.{datum_text, step_datum_text}
+use Rattle.tw_base.specs.events.EventTree.{event_root}
+use Rattle.tw_base.specs.history.History.{History, Step, entry_to, events_at, events_of, fresh_of, root_of, step_at, time_at, time_of}
+use Rattle.tw_base.specs.history.Tree.{Tree, forest, planted, tree}
+use Rattle.tw_base.specs.history.Tree.Tree.{Empty}
+use Rattle.tw_base.specs.history.Auth.{datum_text_at, tree_label}
+use Rattle.tw_base.proofs.lemmas.history.Plus.{forest-plus, step_at-new}
 use Rattle.tw_disk.specs.Image.{Image}
-use Rattle.tw_base.specs.History.{with_events}
+use Rattle.tw_base.specs.history.History.{with_events}
 use Rattle.tw_skiplist.specs.Keeping.{event_step}
 use Rattle.tw_skiplist.specs.Keeping.{KeepsSteps, Place}
 

@@ -3,13 +3,13 @@ use Rattle.std.proofs.Common.{◌≡◌, ℕ, ◌-◌, ◌≤◌, List, [], ◌�
 use Rattle.std.specs.Prelude.{nat_le, sum_by}
 use Rattle.std.proofs.lemmas.Bool.{and_parts, le-leb, leb-true}
 use Rattle.std.proofs.lemmas.List.{append-nil}
-use Rattle.tw_base.specs.Bytes.{AreBytes}
-use Rattle.tw_base.specs.Codecs.{by_kind, bytes_codec, many, number_codec, sized_codec}
-use Rattle.tw_base.specs.declared.limits.TheConstants.{MOST_EVENTS, MOST_EVENT_BYTES, MOST_STEP_BYTES}
-use Rattle.tw_base.specs.Lists.{Each}
-use Rattle.tw_base.proofs.CodecLaws.{Lawful, lawful}
-use Rattle.tw_base.proofs.ListLemmas.{Each-map}
-use Rattle.tw_base.proofs.NumberLaws.{number_bytes-four}
+use Rattle.tw_base.specs.kinds.Bytes.{AreBytes}
+use Rattle.tw_base.specs.format.Codecs.{by_kind, bytes_codec, many, number_codec, sized_codec}
+use Rattle.tw_base.specs.declared.kinds.limits.TheConstants.{MOST_EVENTS, MOST_EVENT_BYTES, MOST_STEP_BYTES}
+use Rattle.tw_base.specs.kinds.Lists.{Each}
+use Rattle.tw_base.proofs.lemmas.format.CodecLaws.{Lawful, lawful}
+use Rattle.tw_base.proofs.lemmas.kinds.ListLemmas.{Each-map}
+use Rattle.tw_base.proofs.lemmas.format.NumberLaws.{number_bytes-four}
 use Rattle.tw_skiplist.specs.Events.{events_codec, events_in, may_be_recorded}
 use Rattle.tw_disk.specs.Found.{Found, when, ◌>>=◌}
 use Rattle.tw_skiplist.specs.Found.{spelled}

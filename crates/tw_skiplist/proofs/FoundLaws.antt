@@ -4,13 +4,13 @@ use Rattle.std.specs.Prelude.{nat_lt, ◌==◌, ◌&&◌}
 use Rattle.std.specs.Result.{IsErrAnd}
 use Rattle.std.proofs.lemmas.Bool.{and_parts, eqb-true, le-leb, lt-leb, lt-ltb, le-ltb}
 use Rattle.std.proofs.lemmas.List.{drop_at}
-use Rattle.tw_base.specs.Codecs.{Codec}
-use Rattle.tw_base.specs.Formats.{Placed}
-use Rattle.tw_base.proofs.CodecLaws.{Lawful}
-use Rattle.tw_base.proofs.FormatLaws.{read_at-spells, read_at-word}
+use Rattle.tw_base.specs.format.Codecs.{Codec}
+use Rattle.tw_base.specs.format.Formats.{Placed}
+use Rattle.tw_base.proofs.lemmas.format.CodecLaws.{Lawful}
+use Rattle.tw_base.proofs.lemmas.format.FormatLaws.{read_at-spells, read_at-word}
 use Rattle.tw_disk.proofs.FoundLaws.{same_found}
 use Rattle.tw_disk.specs.Image.{Image, page_at}
-use Rattle.tw_base.specs.PageBytes.{IsPageOf}
+use Rattle.tw_base.specs.format.PageBytes.{IsPageOf}
 use Rattle.tw_skiplist.specs.declared.fault.ListFault.{ListFault}
 use Rattle.tw_skiplist.specs.declared.fault.ListFault.TheVariants.{BadPage}
 use Rattle.tw_skiplist.specs.declared.head.Head.{Head}

@@ -6,14 +6,14 @@ use Rattle.std.proofs.lemmas.List.{length_push, get_or_push, get_or_append_left}
 use Rattle.std.proofs.lemmas.Nat.{pow_pos}
 use Rattle.std.proofs.Math.Nat.{pow-le-pow_right, mod-eq_of_lt}
 use Rattle.tw_disk.specs.Image.{Image, page_at}
-use Rattle.tw_base.specs.Auth.{auth}
-use Rattle.tw_base.specs.History.{History, events_at}
-use Rattle.tw_base.specs.Lists.{Each}
-use Rattle.tw_base.specs.Levels.{top_level}
-use Rattle.tw_base.specs.Tree.{tree}
-use Rattle.tw_base.proofs.DigestBytes.{IsDigest, auth-digest, event_root-digest, tree_label-digest}
-use Rattle.tw_base.proofs.Levels.{top_level-divides}
-use Rattle.tw_base.proofs.ListLemmas.{Each-append}
+use Rattle.tw_base.specs.history.Auth.{auth}
+use Rattle.tw_base.specs.history.History.{History, events_at}
+use Rattle.tw_base.specs.kinds.Lists.{Each}
+use Rattle.tw_base.specs.kinds.Levels.{top_level}
+use Rattle.tw_base.specs.history.Tree.{tree}
+use Rattle.tw_base.proofs.lemmas.kinds.DigestBytes.{IsDigest, auth-digest, event_root-digest, tree_label-digest}
+use Rattle.tw_base.proofs.lemmas.kinds.Levels.{top_level-divides}
+use Rattle.tw_base.proofs.lemmas.kinds.ListLemmas.{Each-append}
 use Rattle.tw_skiplist.specs.declared.head.StepRef.{StepRef}
 use Rattle.tw_skiplist.specs.declared.fields.StepFields.{StepFields}
 use Rattle.tw_skiplist.specs.Keeping.{KeepsStep, KeepsSteps, Place, fields_at, link_to, links_at, links_to, place_of}

@@ -6,18 +6,18 @@ use Rattle.std.proofs.lemmas.List.{length_push}
 use Rattle.std.proofs.lemmas.Nat.{pow_pos}
 use Rattle.std.proofs.Math.Nat.{pow-suc}
 use Rattle.tw_disk.specs.Image.{Image}
-use Rattle.tw_base.specs.declared.limits.TheConstants.{LAST_STEP}
-use Rattle.tw_base.specs.declared.root.Root.{Root}
-use Rattle.tw_base.specs.Texts.{authenticator_text, datum_text}
-use Rattle.tw_base.specs.EventTree.{event_root}
-use Rattle.tw_base.specs.History.{History, Step, events_at, root_of, step_at, with_events}
-use Rattle.tw_base.specs.Levels.{top_level}
-use Rattle.tw_base.specs.Auth.{auth, auths, datum_text_at, link_texts, tree_label}
-use Rattle.tw_base.specs.Limits.{MayRecord}
-use Rattle.tw_base.proofs.DigestBytes.{IsDigest}
-use Rattle.tw_base.proofs.Auths.{auth-suc}
-use Rattle.tw_base.proofs.Levels.{divides-less, divides-minus, top_level-divides, top_level-greatest}
-use Rattle.tw_base.proofs.Plus.{auths-plus}
+use Rattle.tw_base.specs.declared.kinds.limits.TheConstants.{LAST_STEP}
+use Rattle.tw_base.specs.declared.history.root.Root.{Root}
+use Rattle.tw_base.specs.kinds.Texts.{authenticator_text, datum_text}
+use Rattle.tw_base.specs.events.EventTree.{event_root}
+use Rattle.tw_base.specs.history.History.{History, Step, events_at, root_of, step_at, with_events}
+use Rattle.tw_base.specs.kinds.Levels.{top_level}
+use Rattle.tw_base.specs.history.Auth.{auth, auths, datum_text_at, link_texts, tree_label}
+use Rattle.tw_base.specs.history.Limits.{MayRecord}
+use Rattle.tw_base.proofs.lemmas.kinds.DigestBytes.{IsDigest}
+use Rattle.tw_base.proofs.lemmas.history.Auths.{auth-suc}
+use Rattle.tw_base.proofs.lemmas.kinds.Levels.{divides-less, divides-minus, top_level-divides, top_level-greatest}
+use Rattle.tw_base.proofs.lemmas.history.Plus.{auths-plus}
 use Rattle.tw_skiplist.specs.declared.head.Head.{Head}
 use Rattle.tw_skiplist.specs.declared.head.StepRef.{StepRef}
 use Rattle.tw_skiplist.specs.declared.fields.StepFields.{StepFields}

@@ -4,14 +4,14 @@ use Rattle.std.specs.Prelude.{if◌then◌else◌}
 use Rattle.std.specs.Int.{to_be_bytes, w32}
 use Rattle.std.proofs.lemmas.Bool.{le-ltb}
 use Rattle.std.proofs.lemmas.List.{take_all}
-use Rattle.tw_base.specs.Bytes.{AreBytes}
-use Rattle.tw_base.specs.Codecs.{HasBytes, behind, bytes_codec}
-use Rattle.tw_base.specs.History.{History, events_at}
-use Rattle.tw_base.specs.Lists.{Each}
-use Rattle.tw_base.proofs.ByteLemmas.{AreBytes-append, AreBytes-drop, AreBytes-take}
-use Rattle.tw_base.proofs.CodecLaws.{Lawful, lawful}
+use Rattle.tw_base.specs.kinds.Bytes.{AreBytes}
+use Rattle.tw_base.specs.format.Codecs.{HasBytes, behind, bytes_codec}
+use Rattle.tw_base.specs.history.History.{History, events_at}
+use Rattle.tw_base.specs.kinds.Lists.{Each}
+use Rattle.tw_base.proofs.lemmas.kinds.ByteLemmas.{AreBytes-append, AreBytes-drop, AreBytes-take}
+use Rattle.tw_base.proofs.lemmas.format.CodecLaws.{Lawful, lawful}
 use Rattle.tw_disk.specs.Image.{Image, page_at}
-use Rattle.tw_base.specs.PageBytes.{IsPageOf}
+use Rattle.tw_base.specs.format.PageBytes.{IsPageOf}
 use Rattle.tw_skiplist.specs.declared.info.StepInfo.{StepInfo}
 use Rattle.tw_skiplist.specs.declared.limits.TheConstants.{MOST_PIECE_BYTES, MOST_STREAM_BYTES}
 use Rattle.tw_skiplist.specs.Events.{events_in, events_of_info, last_page, piece_count, piece_in, piece_size, pieces_below}

@@ -2,10 +2,10 @@
 use Rattle.std.proofs.Common.{◌≡◌, ℕ, suc, zero, ◌+◌, ◌-◌, ◌^◌, ◌<◌, ◌≤◌, List, [], ◌∷◌, length, ap, sym, ◌∙◌, arith, inl, inr}
 use Rattle.std.proofs.lemmas.Bool.{cases_lt}
 use Rattle.tw_disk.specs.Image.{Image}
-use Rattle.tw_base.specs.Auth.{auth}
-use Rattle.tw_base.specs.History.{History, events_at}
-use Rattle.tw_base.specs.Levels.{top_level}
-use Rattle.tw_base.proofs.DigestBytes.{IsDigest}
+use Rattle.tw_base.specs.history.Auth.{auth}
+use Rattle.tw_base.specs.history.History.{History, events_at}
+use Rattle.tw_base.specs.kinds.Levels.{top_level}
+use Rattle.tw_base.proofs.lemmas.kinds.DigestBytes.{IsDigest}
 use Rattle.tw_skipproof.specs.declared.path.Link.{Link}
 use Rattle.tw_skipproof.specs.declared.path.Path.{Path}
 use Rattle.tw_skipproof.specs.HistoryProofs.{IsPathOf}

@@ -4,10 +4,10 @@ use Rattle.std.specs.Prelude.{min}
 use Rattle.std.proofs.lemmas.Bool.{cases_lt}
 use Rattle.std.proofs.lemmas.List.{ext_get_or, take_all}
 use Rattle.std.proofs.lemmas.Option.{get_or_from_slice_get}
-use Rattle.tw_base.proofs.DigestBytes.{IsDigest}
+use Rattle.tw_base.proofs.lemmas.kinds.DigestBytes.{IsDigest}
 use Rattle.tw_disk.specs.Image.{Image}
-use Rattle.tw_base.specs.History.{History, events_at, root_of, step_at}
-use Rattle.tw_base.specs.Levels.{top_level}
+use Rattle.tw_base.specs.history.History.{History, events_at, root_of, step_at}
+use Rattle.tw_base.specs.kinds.Levels.{top_level}
 use Rattle.tw_skiplist.specs.declared.head.Head.{Head}
 use Rattle.tw_skiplist.specs.declared.head.StepRef.{StepRef}
 use Rattle.tw_skiplist.specs.declared.fields.StepFields.{StepFields}

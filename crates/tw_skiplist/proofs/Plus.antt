@@ -4,16 +4,16 @@ use Rattle.std.proofs.lemmas.Bool.{cases_lt}
 use Rattle.std.proofs.lemmas.List.{length_push, get_or_push, get_or_append_left, get_or-append_right}
 use Rattle.std.proofs.lemmas.Nat.{pow_pos}
 use Rattle.tw_disk.specs.Image.{Image, page_at}
-use Rattle.tw_base.specs.declared.limits.TheConstants.{LAST_STEP}
-use Rattle.tw_base.specs.EventTree.{event_root}
-use Rattle.tw_base.specs.History.{History, Step, events_at, events_of, plus, root_of, step_at}
-use Rattle.tw_base.specs.Levels.{top_level}
-use Rattle.tw_base.specs.Auth.{tree_label}
-use Rattle.tw_base.proofs.Plus.{auth-plus, step_at-new, step_at-plus, tree-plus}
+use Rattle.tw_base.specs.declared.kinds.limits.TheConstants.{LAST_STEP}
+use Rattle.tw_base.specs.events.EventTree.{event_root}
+use Rattle.tw_base.specs.history.History.{History, Step, events_at, events_of, plus, root_of, step_at}
+use Rattle.tw_base.specs.kinds.Levels.{top_level}
+use Rattle.tw_base.specs.history.Auth.{tree_label}
+use Rattle.tw_base.proofs.lemmas.history.Plus.{auth-plus, step_at-new, step_at-plus, tree-plus}
 use Rattle.tw_skiplist.specs.declared.head.StepRef.{StepRef}
 use Rattle.tw_skiplist.specs.declared.fields.StepFields.{StepFields}
-use Rattle.tw_base.specs.Limits.{MayRecord}
-use Rattle.tw_base.specs.History.{with_events}
+use Rattle.tw_base.specs.history.Limits.{MayRecord}
+use Rattle.tw_base.specs.history.History.{with_events}
 use Rattle.tw_skiplist.specs.Keeping.{event_step}
 use Rattle.tw_skiplist.specs.Keeping.{KeepsStep, KeepsSteps, KeepsStream, Place, fields_at, link_to, links_at, links_to, no_place, place_of}
 use Rattle.tw_skiplist.specs.StepBytes.{event_page_bytes, event_pages, piece, step_page_bytes, stream}

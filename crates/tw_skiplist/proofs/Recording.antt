@@ -7,14 +7,14 @@ use Rattle.std.proofs.lemmas.List.{length_push, map_push}
 use Rattle.std.proofs.lemmas.List.Edits.{length-remove, remove-append_left}
 use Rattle.std.proofs.lemmas.Nat.{pow_pos}
 use Rattle.tw_disk.specs.Image.{Image}
-use Rattle.tw_base.specs.EventTree.{event_root}
-use Rattle.tw_base.specs.Texts.{link_text, step_datum_text}
-use Rattle.tw_base.specs.Tree.{tree}
-use Rattle.tw_base.specs.History.{History, events_at, time_at, time_of}
-use Rattle.tw_base.specs.Levels.{top_level}
-use Rattle.tw_base.specs.Auth.{auths, datum_text_at, link_texts, tree_label}
-use Rattle.tw_base.proofs.DigestBytes.{IsDigest}
-use Rattle.tw_base.proofs.Auths.{auths-at}
+use Rattle.tw_base.specs.events.EventTree.{event_root}
+use Rattle.tw_base.specs.kinds.Texts.{link_text, step_datum_text}
+use Rattle.tw_base.specs.history.Tree.{tree}
+use Rattle.tw_base.specs.history.History.{History, events_at, time_at, time_of}
+use Rattle.tw_base.specs.kinds.Levels.{top_level}
+use Rattle.tw_base.specs.history.Auth.{auths, datum_text_at, link_texts, tree_label}
+use Rattle.tw_base.proofs.lemmas.kinds.DigestBytes.{IsDigest}
+use Rattle.tw_base.proofs.lemmas.history.Auths.{auths-at}
 use Rattle.tw_skipproof.specs.HistoryProofs.{labels_at}
 use Rattle.tw_skipproof.specs.declared.path.Link.{Link}
 use Rattle.tw_skiplist.specs.declared.head.StepRef.{StepRef}

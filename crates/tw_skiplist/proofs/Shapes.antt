@@ -1,7 +1,7 @@
 -- The shape of a path that is collected link by link, from the upper step downwards.
 use Rattle.std.proofs.Common.{◌≡◌, ℕ, ◌<◌, ◌≤◌, List, [], ◌∷◌, ◌++◌, length, sym, subst, append_assoc}
 use Rattle.std.proofs.lemmas.List.{append-nil}
-use Rattle.tw_base.specs.Levels.{top_level}
+use Rattle.tw_base.specs.kinds.Levels.{top_level}
 use Rattle.tw_skipproof.specs.Paths.{HasShape, hop}
 use Rattle.tw_skipproof.specs.declared.path.Link.{Link}
 

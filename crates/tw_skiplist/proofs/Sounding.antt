@@ -4,16 +4,16 @@ use Rattle.std.specs.Prelude.{option_and_then}
 use Rattle.std.specs.Option.{option_to_list}
 use Rattle.std.proofs.lemmas.Option.{slice_get_within}
 use Rattle.tw_disk.specs.Image.{Image}
-use Rattle.tw_base.specs.declared.thread.Entry.{Entry}
-use Rattle.tw_base.specs.Lists.{Each}
-use Rattle.tw_base.specs.Names.{IsName}
-use Rattle.tw_base.specs.History.{History, Step, Node, entry_at, entry_to, events_at, fresh_of, received, root_of, step_at, thread_of}
-use Rattle.tw_base.specs.Tree.{IsRising, Tree, entries, forest, planted, tree}
-use Rattle.tw_base.specs.Tree.Tree.{Empty}
-use Rattle.tw_base.specs.Rules.{KeepsRule, Rule}
-use Rattle.tw_base.specs.Rules.Rule.{NodesAreKnown, TreesRise, HoldsAllThreads, IsOfAnother, StepsRise, EventsFit, TimesDontFall}
-use Rattle.tw_base.specs.Sound.{IsSound, IsSoundStep}
-use Rattle.tw_base.proofs.Plus.{forest-first}
+use Rattle.tw_base.specs.declared.history.thread.Entry.{Entry}
+use Rattle.tw_base.specs.kinds.Lists.{Each}
+use Rattle.tw_base.specs.kinds.Names.{IsName}
+use Rattle.tw_base.specs.history.History.{History, Step, Node, entry_at, entry_to, events_at, fresh_of, received, root_of, step_at, thread_of}
+use Rattle.tw_base.specs.history.Tree.{IsRising, Tree, entries, forest, planted, tree}
+use Rattle.tw_base.specs.history.Tree.Tree.{Empty}
+use Rattle.tw_base.specs.history.Rules.{KeepsRule, Rule}
+use Rattle.tw_base.specs.history.Rules.Rule.{NodesAreKnown, TreesRise, HoldsAllThreads, IsOfAnother, StepsRise, EventsFit, TimesDontFall}
+use Rattle.tw_base.specs.history.Sound.{IsSound, IsSoundStep}
+use Rattle.tw_base.proofs.lemmas.history.Plus.{forest-first}
 use Rattle.tw_skiplist.specs.declared.head.Head.{Head}
 use Rattle.tw_skiplist.proofs.EventHistories.{roots_none}
 use Rattle.tw_skiplist.specs.Keeping.{event_step}

@@ -3,13 +3,13 @@ use Rattle.std.proofs.Common.{◌≡◌, ℕ, suc, zero, ◌+◌, ◌<◌, ◌�
 use Rattle.std.specs.Int.{to_be_bytes, from_be_bytes, w32}
 use Rattle.std.proofs.lemmas.List.{take_at, drop-drop, append-nil}
 use Rattle.std.proofs.lemmas.Nat.{from_be_bytes-to_be_bytes_4}
-use Rattle.tw_base.specs.Bytes.{AreBytes}
-use Rattle.tw_base.specs.declared.limits.TheConstants.{MOST_EVENT_BYTES}
-use Rattle.tw_base.specs.Lists.{Each}
-use Rattle.tw_base.proofs.ByteLemmas.{AreBytes-back, AreBytes-front}
-use Rattle.tw_base.proofs.TextFields.{halves}
+use Rattle.tw_base.specs.kinds.Bytes.{AreBytes}
+use Rattle.tw_base.specs.declared.kinds.limits.TheConstants.{MOST_EVENT_BYTES}
+use Rattle.tw_base.specs.kinds.Lists.{Each}
+use Rattle.tw_base.proofs.lemmas.kinds.ByteLemmas.{AreBytes-back, AreBytes-front}
+use Rattle.tw_base.proofs.lemmas.kinds.TextFields.{halves}
 use Rattle.tw_skiplist.specs.ScanSteps.{HasEventAt, IsNoEventAt, SpellsEvents}
-use Rattle.tw_base.specs.Codecs.{behind, bytes_codec}
+use Rattle.tw_base.specs.format.Codecs.{behind, bytes_codec}
 use Rattle.tw_skiplist.specs.StepBytes.{event_page_bytes, piece_codec, stream}
 use Rattle.tw_skiplist.proofs.Streams.{stream-append}
 

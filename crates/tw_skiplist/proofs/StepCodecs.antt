@@ -1,9 +1,9 @@
 -- The codecs of step pages are lawful, and what fits them.
 use Rattle.std.proofs.Common.{◌≡◌, ℕ, suc, ◌<◌, ◌≤◌, ◌^◌, List, length, arith}
-use Rattle.tw_base.specs.Codecs.{HasBytes, behind, bytes_codec, many, number_codec, pair, seen}
-use Rattle.tw_base.specs.Levels.{top_level}
-use Rattle.tw_base.specs.Lists.{Each}
-use Rattle.tw_base.proofs.CodecLaws.{Lawful, lawful}
+use Rattle.tw_base.specs.format.Codecs.{HasBytes, behind, bytes_codec, many, number_codec, pair, seen}
+use Rattle.tw_base.specs.kinds.Levels.{top_level}
+use Rattle.tw_base.specs.kinds.Lists.{Each}
+use Rattle.tw_base.proofs.lemmas.format.CodecLaws.{Lawful, lawful}
 use Rattle.tw_skiplist.specs.declared.head.StepRef.{StepRef}
 use Rattle.tw_skiplist.specs.declared.fields.StepFields.{StepFields}
 use Rattle.tw_skiplist.specs.StepBytes.{fields_codec, links_codec, ref_codec, step_codec}

@@ -6,7 +6,7 @@ use Rattle.std.specs.Int.{to_be_bytes, w32}
 use Rattle.std.proofs.lemmas.Bool.{cases_lt}
 use Rattle.std.proofs.lemmas.List.Sums.{sum_by-cons}
 use Rattle.std.proofs.lemmas.List.{length-append, take_all, take_more, length_push, get_or_push, get_or_append_left, append-nil}
-use Rattle.tw_base.specs.Lists.{Each}
+use Rattle.tw_base.specs.kinds.Lists.{Each}
 use Rattle.tw_disk.specs.Image.{Image, page_at}
 use Rattle.tw_skiplist.specs.StepBytes.{event_page_bytes, event_pages, piece, stream}
 use Rattle.tw_skiplist.specs.declared.limits.TheConstants.{MOST_PIECE_BYTES}

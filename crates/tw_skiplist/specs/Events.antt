@@ -1,8 +1,8 @@
 -- Reading the events of a step from its event pages.
 use Rattle.std.specs.Prelude.{ℕ, suc, zero, ◌+◌, ◌-◌, ◌*◌, ◌/◌, ◌&&◌, min, List, [], ◌++◌, length, nat_le, nat_lt, sum_by, Bool, if◌then◌else◌}
-use Rattle.tw_base.specs.Codecs.{Codec, many, sized_codec}
-use Rattle.tw_base.specs.declared.limits.TheConstants.{MOST_EVENTS, MOST_EVENT_BYTES, MOST_STEP_BYTES}
-use Rattle.tw_base.specs.declared.limits.TheConstants.{PAGE_SIZE}
+use Rattle.tw_base.specs.format.Codecs.{Codec, many, sized_codec}
+use Rattle.tw_base.specs.declared.kinds.limits.TheConstants.{MOST_EVENTS, MOST_EVENT_BYTES, MOST_STEP_BYTES}
+use Rattle.tw_base.specs.declared.kinds.limits.TheConstants.{PAGE_SIZE}
 use Rattle.tw_disk.specs.Image.{Image}
 use Rattle.tw_skiplist.specs.declared.info.StepInfo.{StepInfo}
 use Rattle.tw_skiplist.specs.declared.limits.TheConstants.{MOST_PIECE_BYTES, MOST_STREAM_BYTES}

@@ -1,7 +1,7 @@
 -- What the bytes of a page spell.
 use Rattle.std.specs.Prelude.{ℕ, suc, zero, ◌+◌, ◌-◌, ◌==◌, ◌&&◌, List, [], ◌∷◌, length, drop, nat_le, nat_lt, Bool, true, false, Result, Ok, Err}
-use Rattle.tw_base.specs.Codecs.{Codec}
-use Rattle.tw_base.specs.Formats.{Placed}
+use Rattle.tw_base.specs.format.Codecs.{Codec}
+use Rattle.tw_base.specs.format.Formats.{Placed}
 use Rattle.tw_disk.specs.declared.limits.TheConstants.{FIRST_PAGE}
 use Rattle.tw_disk.specs.Found.{Found, when}
 use Rattle.tw_disk.specs.Found.Found.{Bad}

@@ -2,13 +2,13 @@
 use Rattle.std.specs.Prelude.{◌≡◌, ℕ, ◌+◌, ◌<◌, ◌≤◌, List, length}
 use Rattle.tw_disk.specs.declared.limits.TheConstants.{FIRST_PAGE}
 use Rattle.tw_disk.specs.Image.{Image}
-use Rattle.tw_base.specs.declared.limits.TheConstants.{LAST_STEP}
-use Rattle.tw_base.specs.EventTree.{event_root}
-use Rattle.tw_base.specs.History.{History, events_at}
-use Rattle.tw_base.specs.Auth.{auth}
+use Rattle.tw_base.specs.declared.kinds.limits.TheConstants.{LAST_STEP}
+use Rattle.tw_base.specs.events.EventTree.{event_root}
+use Rattle.tw_base.specs.history.History.{History, events_at}
+use Rattle.tw_base.specs.history.Auth.{auth}
 use Rattle.tw_skipproof.specs.HistoryProofs.{IsOpeningOf}
 use Rattle.tw_skiplist.specs.declared.info.StepInfo.{StepInfo}
-use Rattle.tw_base.specs.Limits.{MayRecord}
+use Rattle.tw_base.specs.history.Limits.{MayRecord}
 use Rattle.tw_skiplist.specs.StepBytes.{stream}
 use Rattle.tw_skiplist.specs.Keeping.{KeepsStream, archive_at}
 

@@ -2,15 +2,15 @@
 use Rattle.std.specs.Prelude.{◌≡◌, ℕ, suc, zero, ◌+◌, ◌-◌, ◌*◌, ◌^◌, ◌<◌, ◌≤◌, List, [], ◌∷◌, ◌++◌, length, slice_index_or, None, Some}
 use Rattle.tw_disk.specs.declared.limits.TheConstants.{FIRST_PAGE, NUMBER_LIMIT}
 use Rattle.tw_disk.specs.Image.{Image, page_at}
-use Rattle.tw_base.specs.declared.content.Content.TheVariants.{Events}
-use Rattle.tw_base.specs.declared.limits.TheConstants.{LAST_STEP}
-use Rattle.tw_base.specs.declared.root.Root.{Root}
-use Rattle.tw_base.specs.EventTree.{event_root}
-use Rattle.tw_base.specs.History.{History, Step, events_at, root_of, step_at}
-use Rattle.tw_base.specs.Limits.{MayRecord}
-use Rattle.tw_base.specs.Levels.{top_level}
-use Rattle.tw_base.specs.Tree.{tree}
-use Rattle.tw_base.specs.Auth.{auth, tree_label}
+use Rattle.tw_base.specs.declared.history.content.Content.TheVariants.{Events}
+use Rattle.tw_base.specs.declared.kinds.limits.TheConstants.{LAST_STEP}
+use Rattle.tw_base.specs.declared.history.root.Root.{Root}
+use Rattle.tw_base.specs.events.EventTree.{event_root}
+use Rattle.tw_base.specs.history.History.{History, Step, events_at, root_of, step_at}
+use Rattle.tw_base.specs.history.Limits.{MayRecord}
+use Rattle.tw_base.specs.kinds.Levels.{top_level}
+use Rattle.tw_base.specs.history.Tree.{tree}
+use Rattle.tw_base.specs.history.Auth.{auth, tree_label}
 use Rattle.tw_skiplist.specs.declared.head.Head.{Head}
 use Rattle.tw_skiplist.specs.declared.head.StepRef.{StepRef}
 use Rattle.tw_skiplist.specs.declared.fields.StepFields.{StepFields}

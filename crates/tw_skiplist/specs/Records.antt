@@ -1,6 +1,6 @@
 -- What the fields and links of a step's page make of a path and of an opening.
 use Rattle.std.specs.Prelude.{ℕ, suc, zero, List, [], ◌∷◌, ◌++◌, length, remove, None}
-use Rattle.tw_base.specs.Texts.{datum_text, link_text}
+use Rattle.tw_base.specs.kinds.Texts.{datum_text, link_text}
 use Rattle.tw_skipproof.specs.declared.opening.Opening.{Opening}
 use Rattle.tw_skipproof.specs.declared.path.Link.{Link}
 use Rattle.tw_skiplist.specs.declared.head.StepRef.{StepRef}

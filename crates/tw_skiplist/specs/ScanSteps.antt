@@ -1,8 +1,8 @@
 -- Steps of the proofs that a step's stream is read from its event pages, and its events where it spells some.
 use Rattle.std.specs.Prelude.{◌≡◌, ℕ, ◌+◌, ◌≤◌, List, ◌++◌, length, take, drop, Result, Ok, Err}
 use Rattle.std.specs.Int.{to_be_bytes, w32}
-use Rattle.tw_base.specs.declared.limits.TheConstants.{MOST_EVENT_BYTES}
-use Rattle.tw_base.specs.Limits.{MayRecord}
+use Rattle.tw_base.specs.declared.kinds.limits.TheConstants.{MOST_EVENT_BYTES}
+use Rattle.tw_base.specs.history.Limits.{MayRecord}
 use Rattle.tw_skiplist.specs.declared.fault.ListFault.{ListFault}
 use Rattle.tw_skiplist.specs.Answers.{IsFaultOf}
 use Rattle.tw_disk.specs.Found.{Found}

@@ -1,9 +1,9 @@
 -- The bytes of step pages and event pages. Numbers are big-endian, and unused bytes are zero.
 use Rattle.std.specs.Prelude.{ℕ, suc, zero, ◌-◌, ◌*◌, ◌^◌, List, [], ◌∷◌, ◌++◌, length, take, drop, replicate}
 use Rattle.std.specs.Int.{to_be_bytes, w16, w32, w64}
-use Rattle.tw_base.specs.Codecs.{Codec, behind, bytes_codec, digest_codec, many, number_codec, pair, seen}
-use Rattle.tw_base.specs.Levels.{top_level}
-use Rattle.tw_base.specs.PageBytes.{padded}
+use Rattle.tw_base.specs.format.Codecs.{Codec, behind, bytes_codec, digest_codec, many, number_codec, pair, seen}
+use Rattle.tw_base.specs.kinds.Levels.{top_level}
+use Rattle.tw_base.specs.format.PageBytes.{padded}
 use Rattle.tw_skiplist.specs.declared.head.StepRef.{StepRef}
 use Rattle.tw_skiplist.specs.declared.fields.StepFields.{StepFields}
 use Rattle.tw_skiplist.specs.declared.limits.TheConstants.{MOST_PIECE_BYTES, MOST_STREAM_BYTES}

@@ -1,6 +1,6 @@
 -- The pages of steps of events.
 use Rattle.std.specs.Prelude.{ℕ, suc, zero, ◌^◌, ◌==◌, ◌&&◌, List, [], length, nat_lt, slice_index_or, Bool, true, if◌then◌else◌}
-use Rattle.tw_base.specs.declared.limits.TheConstants.{PAGE_SIZE}
+use Rattle.tw_base.specs.declared.kinds.limits.TheConstants.{PAGE_SIZE}
 use Rattle.tw_disk.specs.Image.{Image}
 use Rattle.tw_skiplist.specs.declared.head.StepRef.{StepRef}
 use Rattle.tw_skiplist.specs.declared.fields.StepFields.{StepFields}

@@ -1,7 +1,7 @@
 -- In which order the pages of steps are read: down the greedy path, and for the links of one more step.
 use Rattle.std.specs.Prelude.{ℕ, suc, zero, ◌+◌, ◌-◌, ◌^◌, List, [], ◌∷◌, ◌++◌}
 use Rattle.tw_disk.specs.Image.{Image}
-use Rattle.tw_base.specs.Levels.{top_level}
+use Rattle.tw_base.specs.kinds.Levels.{top_level}
 use Rattle.tw_skipproof.specs.declared.path.Link.{Link}
 use Rattle.tw_skipproof.specs.Paths.{greedy_steps, hop_level}
 use Rattle.tw_skiplist.specs.declared.head.Head.{Head}

@@ -3,9 +3,9 @@
 ghost use Rattle.std.specs.Prelude.{◌≡◌, ℕ, suc, ◌+◌, ◌<◌, ◌≤◌, ◌^◌, ◌++◌, ◌∷◌, [], length, Some, IfOk, OnErr};
 ghost use Rattle.tw_disk.specs.Image.{Image};
 ghost use Rattle.tw_disk.specs.Pages.{OnlyReads};
-ghost use Rattle.tw_base.specs.Limits.{MayRecord};
-ghost use Rattle.tw_base.specs.Levels.{top_level as top_level_of};
-ghost use Rattle.tw_base.specs.Texts.{authenticator_text, link_text};
+ghost use Rattle.tw_base.specs.history.Limits.{MayRecord};
+ghost use Rattle.tw_base.specs.kinds.Levels.{top_level as top_level_of};
+ghost use Rattle.tw_base.specs.kinds.Texts.{authenticator_text, link_text};
 ghost use Rattle.tw_skiplist.specs.Answers.{AnswersAs, AnswersNext, FaultsRise, NeverNoStep, NotDiskFault};
 ghost use Rattle.tw_skiplist.specs.Appended.{Extends, appended, first_page as first_page_of, with_step};
 ghost use Rattle.tw_skiplist.specs.Events.{piece_count};

@@ -3,7 +3,7 @@
 ghost use Rattle.std.specs.Prelude.{◌≡◌, ◌<◌, ◌≤◌, ◌^◌, length, Some, IfOk};
 ghost use Rattle.tw_disk.specs.Image.{Image};
 ghost use Rattle.tw_disk.specs.Pages.{OnlyReads};
-ghost use Rattle.tw_base.specs.Levels.{top_level};
+ghost use Rattle.tw_base.specs.kinds.Levels.{top_level};
 ghost use Rattle.tw_skipproof.specs.Paths.{HasShape};
 ghost use Rattle.tw_skiplist.specs.Answers.{Answers, FaultsRise, NeverNoStep, NotDiskFault};
 ghost use Rattle.tw_skiplist.specs.Walks.{collected, hop_in, info_in};

@@ -5,7 +5,7 @@ ghost use Rattle.std.specs.Int.{from_be_bytes, w32};
 ghost use Rattle.tw_disk.specs.Image.{Image};
 ghost use Rattle.tw_disk.specs.Pages.{OnlyReads};
 ghost use Rattle.tw_skiplist.specs.Answers.{AnswersAs, FaultsRise, NeverNoStep, NotDiskFault};
-ghost use Rattle.tw_base.specs.Limits.{MayRecord};
+ghost use Rattle.tw_base.specs.history.Limits.{MayRecord};
 ghost use Rattle.tw_skiplist.specs.ScanSteps.{AddsPiece, HasEventAt, IsNoEventAt};
 ghost use Rattle.tw_disk.specs.Found.Found.{Is, Bad};
 ghost use Rattle.tw_skiplist.specs.Events.{events_in, last_page, piece_count, piece_in, pieces_below};

@@ -1,11 +1,11 @@
 // The bytes of step pages and event pages.
 
 ghost use Rattle.std.specs.Prelude.{◌≡◌, ◌≢◌, ◌<◌, ◌≤◌, ◌^◌, ◌+◌, ◌*◌, ◌++◌, ◌↔◌, ◌&&◌, ℕ, suc, length, take, drop, flat_map, IfErr, IfOk, IfSome, IsTrue, MatchOption};
-ghost use Rattle.tw_base.specs.Bytes.{AreBytes};
-ghost use Rattle.tw_base.specs.Codecs.{HasBytes, many};
-ghost use Rattle.tw_base.specs.Levels.{top_level as top_level_of};
-ghost use Rattle.tw_base.specs.Lists.{Each};
-ghost use Rattle.tw_base.specs.Taking.{Takes};
+ghost use Rattle.tw_base.specs.kinds.Bytes.{AreBytes};
+ghost use Rattle.tw_base.specs.format.Codecs.{HasBytes, many};
+ghost use Rattle.tw_base.specs.kinds.Levels.{top_level as top_level_of};
+ghost use Rattle.tw_base.specs.kinds.Lists.{Each};
+ghost use Rattle.tw_base.specs.format.Taking.{Takes};
 ghost use Rattle.tw_skiplist.specs.StepBytes.{event_page_bytes, fields_codec, ref_codec, step_codec, step_page_bytes};
 ghost use Rattle.tw_skiplist.specs.StepPages.{keeps_field_rules as field_rules, keeps_link_rules as link_rules, lies_below as is_below, step_in};
 ghost use Rattle.tw_disk.specs.Found.Found.{Is, Bad};
@@ -22,7 +22,7 @@ use tw_base::{
 // ---- writing
 
 // Puts a link.
-#[tactic(auto, unfolding(crate::specs::StepBytes::ref_codec, tw_base::specs::Codecs::bytes_codec, tw_base::specs::Codecs::number_codec, tw_base::specs::Codecs::pair, tw_base::specs::Codecs::seen))]
+#[tactic(auto, unfolding(crate::specs::StepBytes::ref_codec, tw_base::specs::format::Codecs::bytes_codec, tw_base::specs::format::Codecs::number_codec, tw_base::specs::format::Codecs::pair, tw_base::specs::format::Codecs::seen))]
 fn put_link(page: &mut PageFront, link: &StepRef)
     requires { length page.old + 40 ≤ 4096 }
     ensures bytes { page.new ≡ page.old ++ ref_codec.write link.now }
@@ -43,7 +43,7 @@ fn put_links(page: &mut PageFront, links: &[StepRef])
 }
 
 // Puts the fields of a step of events.
-#[tactic(auto, unfolding(crate::specs::StepBytes::fields_codec, tw_base::specs::Codecs::behind, tw_base::specs::Codecs::bytes_codec, tw_base::specs::Codecs::number_codec, tw_base::specs::Codecs::pair, tw_base::specs::Codecs::seen))]
+#[tactic(auto, unfolding(crate::specs::StepBytes::fields_codec, tw_base::specs::format::Codecs::behind, tw_base::specs::format::Codecs::bytes_codec, tw_base::specs::format::Codecs::number_codec, tw_base::specs::format::Codecs::pair, tw_base::specs::format::Codecs::seen))]
 fn put_fields(page: &mut PageFront, fields: &StepFields)
     requires { length page.old + 176 ≤ 4096 }
     ensures bytes { page.new ≡ page.old ++ fields_codec.write fields.now }
@@ -60,7 +60,7 @@ fn put_fields(page: &mut PageFront, fields: &StepFields)
 }
 
 /// The page of a step of events with these links, of which a step below 2^40 has one a level.
-#[tactic(auto, unfolding(crate::specs::StepBytes::links_codec, crate::specs::StepBytes::step_codec, tw_base::specs::Codecs::behind, tw_base::specs::Codecs::many, tw_base::specs::Codecs::pair))]
+#[tactic(auto, unfolding(crate::specs::StepBytes::links_codec, crate::specs::StepBytes::step_codec, tw_base::specs::format::Codecs::behind, tw_base::specs::format::Codecs::many, tw_base::specs::format::Codecs::pair))]
 pub(crate) fn step_page(step: u64, fields: &StepFields, links: &[StepRef]) -> Page
     requires few { length links.now ≤ MOST_LINKS }
     requires count { length links.now ≡ suc (top_level_of step) }
@@ -77,7 +77,7 @@ pub(crate) fn step_page(step: u64, fields: &StepFields, links: &[StepRef]) -> Pa
 }
 
 /// The event page of this number within a step.
-#[tactic(auto, unfolding(crate::specs::StepBytes::event_page_bytes, crate::specs::StepBytes::piece_codec, tw_base::specs::Codecs::behind, tw_base::specs::Codecs::bytes_codec))]
+#[tactic(auto, unfolding(crate::specs::StepBytes::event_page_bytes, crate::specs::StepBytes::piece_codec, tw_base::specs::format::Codecs::behind, tw_base::specs::format::Codecs::bytes_codec))]
 pub(crate) fn event_page(step: u64, number: u16, piece: &[u8]) -> Page
     requires { length piece.now ≤ MOST_PIECE_BYTES }
     ensures page { result ≡ event_page_bytes step number piece.now }
@@ -101,7 +101,7 @@ pub(crate) struct StepPage {
 }
 
 // Takes a link.
-#[tactic(auto, unfolding(crate::specs::StepBytes::ref_codec, tw_base::specs::Codecs::pair, tw_base::specs::Codecs::seen))]
+#[tactic(auto, unfolding(crate::specs::StepBytes::ref_codec, tw_base::specs::format::Codecs::pair, tw_base::specs::format::Codecs::seen))]
 fn take_link(bytes: &[u8], at: &mut u64) -> Result<StepRef, ReadFault>
     requires { at.old ≤ length bytes.now }
     ensures takes { Takes ref_codec (λ l. l) bytes.now at.old at.new result }
@@ -127,7 +127,7 @@ fn take_links(bytes: &[u8], at: &mut u64, count: u8) -> Result<ArrayVec<StepRef,
 }
 
 // Takes the fields of a step of events.
-#[tactic(auto, unfolding(crate::specs::StepBytes::fields_codec, tw_base::specs::Codecs::behind, tw_base::specs::Codecs::pair, tw_base::specs::Codecs::seen))]
+#[tactic(auto, unfolding(crate::specs::StepBytes::fields_codec, tw_base::specs::format::Codecs::behind, tw_base::specs::format::Codecs::pair, tw_base::specs::format::Codecs::seen))]
 fn take_fields(bytes: &[u8], at: &mut u64) -> Result<StepFields, ReadFault>
     requires { at.old ≤ length bytes.now }
     ensures takes { Takes fields_codec (λ f. f) bytes.now at.old at.new result }
@@ -154,7 +154,7 @@ fn take_fields(bytes: &[u8], at: &mut u64) -> Result<StepFields, ReadFault>
 }
 
 // Takes the fields and the links of the step.
-#[tactic(auto, unfolding(crate::specs::StepBytes::links_codec, crate::specs::StepBytes::step_codec, tw_base::specs::Codecs::behind, tw_base::specs::Codecs::pair))]
+#[tactic(auto, unfolding(crate::specs::StepBytes::links_codec, crate::specs::StepBytes::step_codec, tw_base::specs::format::Codecs::behind, tw_base::specs::format::Codecs::pair))]
 fn take_step(bytes: &[u8], at: &mut u64, step: u64) -> Result<StepPage, ReadFault>
     requires within { at.old ≤ length bytes.now }
     requires step { step < 2 ^ 40 }

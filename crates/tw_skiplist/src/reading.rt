@@ -3,7 +3,7 @@
 ghost use Rattle.std.specs.Prelude.{◌≡◌, ℕ, ◌*◌, ◌<◌, ◌≤◌, ◌^◌, length, Some, IfOk};
 ghost use Rattle.tw_disk.specs.Image.{Image};
 ghost use Rattle.tw_disk.specs.Pages.{OnlyReads};
-ghost use Rattle.tw_base.specs.Limits.{MayRecord};
+ghost use Rattle.tw_base.specs.history.Limits.{MayRecord};
 ghost use Rattle.tw_skiplist.specs.Answers.{Answers, FaultsRise, NeverNoStep, NoStepUnless, NotDiskFault};
 ghost use Rattle.tw_skiplist.specs.Events.{events_of_info};
 ghost use Rattle.tw_skiplist.specs.Readings.{found_events, found_path, found_proof, found_step};

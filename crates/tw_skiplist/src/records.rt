@@ -1,7 +1,7 @@
 // What a step's page makes of paths and openings.
 
 ghost use Rattle.std.specs.Prelude.{◌≡◌, ℕ, suc, ◌+◌, ◌<◌, ◌≤◌, ◌^◌, ◌++◌, ◌∷◌, [], ◌==◌, List, length, remove, Some, IfOk, OnOk, if◌then◌else◌};
-ghost use Rattle.tw_base.specs.Texts.{link_text};
+ghost use Rattle.tw_base.specs.kinds.Texts.{link_text};
 ghost use Rattle.tw_skiplist.specs.StepPages.{link_of};
 ghost use Rattle.tw_skiplist.specs.Records.{info_record, link_record, opening_record, other_labels, page_datum};
 

@@ -3,7 +3,7 @@
 ghost use Rattle.std.specs.Prelude.{◌≡◌, suc, ◌<◌, ◌≤◌, ◌^◌, length, Some, IfOk};
 ghost use Rattle.tw_disk.specs.Image.{Image};
 ghost use Rattle.tw_disk.specs.Pages.{OnlyReads};
-ghost use Rattle.tw_base.specs.Levels.{top_level};
+ghost use Rattle.tw_base.specs.kinds.Levels.{top_level};
 ghost use Rattle.tw_skiplist.specs.Answers.{Answers, AnswersAs, FaultsRise, NeverNoStep, NotDiskFault};
 ghost use Rattle.tw_skiplist.specs.StepPages.{page_of_step};
 ghost use Rattle.tw_skiplist.specs.Walks.{link_in, walk};

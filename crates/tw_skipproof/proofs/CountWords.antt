@@ -3,11 +3,11 @@ use Rattle.std.proofs.Common.{◌≡◌, ℕ, ◌+◌, ◌-◌, ◌*◌, ◌/◌
 use Rattle.std.specs.Prelude.{Option, Some, None, is_some, OnOk, Result, Ok, Err, if◌then◌else◌}
 use Rattle.std.proofs.lemmas.List.{append-nil}
 use Rattle.std.proofs.lemmas.Nat.{div-add-mod'}
-use Rattle.tw_base.specs.declared.failure.NoMemory.{NoMemory as WantOfMemory}
-use Rattle.tw_base.specs.Codecs.{nothing, number_codec, optional, present}
-use Rattle.tw_base.specs.Fields.{number_bytes}
-use Rattle.tw_base.specs.Taking.{Puts}
-use Rattle.tw_base.proofs.NumberLaws.{low_bytes, number_bytes-more}
+use Rattle.tw_base.specs.declared.kinds.failure.NoMemory.{NoMemory as WantOfMemory}
+use Rattle.tw_base.specs.format.Codecs.{nothing, number_codec, optional, present}
+use Rattle.tw_base.specs.format.Fields.{number_bytes}
+use Rattle.tw_base.specs.format.Taking.{Puts}
+use Rattle.tw_base.proofs.lemmas.format.NumberLaws.{low_bytes, number_bytes-more}
 use Rattle.tw_skipproof.specs.Codecs.{count_bytes}
 
 pub untimed_word : (n : ℕ) → n < 2 ^ 24 → number_bytes 4 n ≡ 0 ∷ number_bytes 3 n

@@ -2,22 +2,22 @@
 use Rattle.std.proofs.Common.{refl, ◌≡◌, ℕ, suc, zero, ◌<◌, ◌≤◌, ◌^◌, List, [], length, sym, subst, arith, lit≤}
 use Rattle.std.specs.Prelude.{slice_index_or}
 use Rattle.std.proofs.lemmas.Option.{slice_get-get_or}
-use Rattle.tw_base.specs.declared.event_part.EventPart.{EventPart}
-use Rattle.tw_base.specs.declared.limits.TheConstants.{LAST_STEP, MOST_EVENTS, MOST_EVENT_BYTES}
-use Rattle.tw_base.specs.AuditPath.{ChecksEvent}
-use Rattle.tw_base.specs.Auth.{auth}
-use Rattle.tw_base.specs.EventTree.{audit_path, event_root}
-use Rattle.tw_base.specs.History.{History, events_at}
-use Rattle.tw_base.specs.Lists.{Each}
-use Rattle.tw_base.specs.Bytes.{AreBytes}
-use Rattle.tw_base.specs.Codecs.{by_kind, bytes_codec, labels_codec, many, number_codec, pair, seen, sized_codec}
-use Rattle.tw_base.specs.Formats.{Spells}
-use Rattle.tw_base.specs.Limits.{IsTimeWithinLimits}
-use Rattle.tw_base.specs.Sound.{IsSound}
-use Rattle.tw_base.proofs.AuditShown.{ChecksEvent-audit_path}
-use Rattle.tw_base.proofs.DigestBytes.{IsDigest, audit_path-digests}
-use Rattle.tw_base.proofs.ListLemmas.{Each-get_or}
-use Rattle.tw_base.proofs.SoundEvents.{sound-may_record, sound-time}
+use Rattle.tw_base.specs.declared.events.event_part.EventPart.{EventPart}
+use Rattle.tw_base.specs.declared.kinds.limits.TheConstants.{LAST_STEP, MOST_EVENTS, MOST_EVENT_BYTES}
+use Rattle.tw_base.specs.events.AuditPath.{ChecksEvent}
+use Rattle.tw_base.specs.history.Auth.{auth}
+use Rattle.tw_base.specs.events.EventTree.{audit_path, event_root}
+use Rattle.tw_base.specs.history.History.{History, events_at}
+use Rattle.tw_base.specs.kinds.Lists.{Each}
+use Rattle.tw_base.specs.kinds.Bytes.{AreBytes}
+use Rattle.tw_base.specs.format.Codecs.{by_kind, bytes_codec, labels_codec, many, number_codec, pair, seen, sized_codec}
+use Rattle.tw_base.specs.format.Formats.{Spells}
+use Rattle.tw_base.specs.history.Limits.{IsTimeWithinLimits}
+use Rattle.tw_base.specs.history.Sound.{IsSound}
+use Rattle.tw_base.proofs.lemmas.events.AuditShown.{ChecksEvent-audit_path}
+use Rattle.tw_base.proofs.lemmas.kinds.DigestBytes.{IsDigest, audit_path-digests}
+use Rattle.tw_base.proofs.lemmas.kinds.ListLemmas.{Each-get_or}
+use Rattle.tw_base.proofs.lemmas.history.SoundEvents.{sound-may_record, sound-time}
 use Rattle.tw_skipproof.specs.declared.existence.ExistenceProof.{ExistenceProof}
 use Rattle.tw_skipproof.specs.Acceptance.{IsAcceptedUnder, ShowsEvent}
 use Rattle.tw_skipproof.specs.Codecs.{event_codec}

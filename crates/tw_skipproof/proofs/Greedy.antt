@@ -3,8 +3,8 @@ use Rattle.std.proofs.Common.{◌≡◌, ℕ, suc, zero, ◌+◌, ◌-◌, ◌*�
 use Rattle.std.specs.Prelude.{nat_le, if◌then◌else◌}
 use Rattle.std.proofs.lemmas.Bool.{cases_lt, cases_eq, le-leb}
 use Rattle.std.proofs.Math.Nat.{le_trans, mod-one, pow-le-pow_right, pow-suc}
-use Rattle.tw_base.specs.Levels.{top_level}
-use Rattle.tw_base.proofs.Levels.{divides-less, divides-minus, divides-next, top_level-divides, top_level-greatest}
+use Rattle.tw_base.specs.kinds.Levels.{top_level}
+use Rattle.tw_base.proofs.lemmas.kinds.Levels.{divides-less, divides-minus, divides-next, top_level-divides, top_level-greatest}
 use Rattle.tw_skipproof.specs.declared.path.Link.{Link}
 use Rattle.tw_skipproof.specs.Paths.{HasShape, IsGreedy, hop, hop_level, level_up_to}
 use Rattle.tw_skipproof.proofs.Hops.{hop_level-le, hop_level-short}

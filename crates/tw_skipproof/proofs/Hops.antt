@@ -2,8 +2,8 @@
 use Rattle.std.proofs.Common.{◌≡◌, ℕ, suc, zero, ◌-◌, ◌<◌, ◌≤◌, ◌^◌, List, [], ◌∷◌, ◌++◌, length, Bool, true, false, refl, ap, sym, ◌∙◌, subst, arith}
 use Rattle.std.specs.Prelude.{nat_le, if◌then◌else◌}
 use Rattle.std.proofs.lemmas.Bool.{le-leb, lt-leb, leb-true}
-use Rattle.tw_base.specs.Digests.{AllDigests}
-use Rattle.tw_base.specs.Levels.{top_level}
+use Rattle.tw_base.specs.kinds.Digests.{AllDigests}
+use Rattle.tw_base.specs.kinds.Levels.{top_level}
 use Rattle.tw_skipproof.specs.declared.path.Link.{Link}
 use Rattle.tw_skipproof.specs.Paths.{HasShape, climb_auth_text, climbed, hop, hop_level, level_up_to}
 

@@ -2,16 +2,16 @@
 use Rattle.std.proofs.Common.{◌≡◌, ℕ, ◌≤◌, List, [], ◌∷◌, ◌++◌, length, subst, refl, ap, sym, ◌∙◌, arith, lit≤}
 use Rattle.std.specs.Prelude.{Bool, true, false, Option, Some, None, is_some, OnOk, Result, Ok, Err}
 use Rattle.std.proofs.lemmas.List.{append-nil}
-use Rattle.tw_base.specs.declared.limits.TheConstants.{MOST_EVENTS}
-use Rattle.tw_base.specs.Codecs.{EachFits, behind, by_kind, digest_codec, each, flag_codec, labels_codec, name_codec, nothing, number_codec, optional, pair, present, seen, written, bytes_codec, many}
-use Rattle.tw_base.specs.Fields.{number_bytes}
-use Rattle.tw_base.specs.HistoryCodec.{time_codec}
-use Rattle.tw_base.specs.Limits.{IsTimeWithinLimits}
-use Rattle.tw_base.specs.Lists.{Each}
-use Rattle.tw_base.specs.declared.failure.NoMemory.{NoMemory as WantOfMemory}
-use Rattle.tw_base.specs.Names.{IsName}
-use Rattle.tw_base.specs.Taking.{Puts}
-use Rattle.tw_base.proofs.CodecLaws.{Lawful, lawful, lawful-by_kind, lawful-each, lawful-flag, lawful-optional, lawful-pair, lawful-seen, lawful-written}
+use Rattle.tw_base.specs.declared.kinds.limits.TheConstants.{MOST_EVENTS}
+use Rattle.tw_base.specs.format.Codecs.{EachFits, behind, by_kind, digest_codec, each, flag_codec, labels_codec, name_codec, nothing, number_codec, optional, pair, present, seen, written, bytes_codec, many}
+use Rattle.tw_base.specs.format.Fields.{number_bytes}
+use Rattle.tw_base.specs.history.HistoryCodec.{time_codec}
+use Rattle.tw_base.specs.history.Limits.{IsTimeWithinLimits}
+use Rattle.tw_base.specs.kinds.Lists.{Each}
+use Rattle.tw_base.specs.declared.kinds.failure.NoMemory.{NoMemory as WantOfMemory}
+use Rattle.tw_base.specs.kinds.Names.{IsName}
+use Rattle.tw_base.specs.format.Taking.{Puts}
+use Rattle.tw_base.proofs.lemmas.format.CodecLaws.{Lawful, lawful, lawful-by_kind, lawful-each, lawful-flag, lawful-optional, lawful-pair, lawful-seen, lawful-written}
 use Rattle.tw_skipproof.specs.declared.opening.Opening.{Opening}
 use Rattle.tw_skipproof.specs.declared.path.Link.{Link}
 use Rattle.tw_skipproof.specs.declared.existence.ExistenceProof.{ExistenceProof}

@@ -11,5 +11,4 @@ pub mod GreedySteps
 pub mod CountWords
 pub mod LawfulCodecs
 pub mod Shapes
-pub mod Waits
 pub mod WideIndex

@@ -1,21 +1,21 @@
 -- From a step's authenticator to what it was made of.
 use Rattle.std.proofs.Common.{◌≡◌, ℕ, suc, zero, ◌-◌, ◌<◌, ◌≤◌, ◌^◌, List, [], ◌∷◌, ◌++◌, length, get_or, refl, ap, sym, ◌∙◌, arith, inl, inr}
 use Rattle.std.specs.Prelude.{Option, Some, None, MatchOption, IfSome, map}
-use Rattle.tw_base.specs.History.{History, events_at, time_at}
-use Rattle.tw_base.specs.Tree.{tree}
-use Rattle.tw_base.specs.EventTree.{event_root}
-use Rattle.tw_base.specs.Levels.{top_level}
-use Rattle.tw_base.specs.Auth.{auth, auths, auth_text, datum_text_at, link_texts_at, tree_label}
-use Rattle.tw_base.specs.HistoryTexts.{history_texts}
-use Rattle.tw_base.specs.Limits.{IsTimeWithinLimits}
-use Rattle.tw_base.specs.Sound.{IsSound}
-use Rattle.tw_base.specs.Clash.{Among, OrClash}
-use Rattle.tw_base.proofs.Clashes.{and_then, same_text, Among-left, Among-right}
-use Rattle.tw_base.proofs.TextFields.{authenticator-fields, link-fields, datum-fields, SameDatum}
-use Rattle.tw_base.proofs.EventTrees.{length-event_root}
-use Rattle.tw_base.proofs.SoundEvents.{sound-may_record, sound-time}
-use Rattle.tw_base.proofs.Sizes.{AllDigests-map, tree_label-size}
-use Rattle.tw_base.proofs.Auths.{auth-suc, auths-at, has-auth_text, has-datum_text, has-link_text, label-at, link_texts-has, text_at}
+use Rattle.tw_base.specs.history.History.{History, events_at, time_at}
+use Rattle.tw_base.specs.history.Tree.{tree}
+use Rattle.tw_base.specs.events.EventTree.{event_root}
+use Rattle.tw_base.specs.kinds.Levels.{top_level}
+use Rattle.tw_base.specs.history.Auth.{auth, auths, auth_text, datum_text_at, link_texts_at, tree_label}
+use Rattle.tw_base.specs.history.HistoryTexts.{history_texts}
+use Rattle.tw_base.specs.history.Limits.{IsTimeWithinLimits}
+use Rattle.tw_base.specs.history.Sound.{IsSound}
+use Rattle.tw_base.specs.kinds.Clash.{Among, OrClash}
+use Rattle.tw_base.proofs.lemmas.kinds.Clashes.{and_then, same_text, Among-left, Among-right}
+use Rattle.tw_base.proofs.lemmas.kinds.TextFields.{authenticator-fields, link-fields, datum-fields, SameDatum}
+use Rattle.tw_base.proofs.lemmas.events.EventTrees.{length-event_root}
+use Rattle.tw_base.proofs.lemmas.history.SoundEvents.{sound-may_record, sound-time}
+use Rattle.tw_base.proofs.lemmas.kinds.Sizes.{AllDigests-map, tree_label-size}
+use Rattle.tw_base.proofs.lemmas.history.Auths.{auth-suc, auths-at, has-auth_text, has-datum_text, has-link_text, label-at, link_texts-has, text_at}
 use Rattle.tw_skipproof.specs.declared.opening.Opening.{Opening}
 use Rattle.tw_skipproof.specs.Openings.{Binds, HasSizes, IsOpeningAt, opening_auth, opening_auth_text, opening_datum_text, opening_link_text, opening_texts}
 

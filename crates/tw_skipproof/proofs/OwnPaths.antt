@@ -3,11 +3,11 @@ use Rattle.std.proofs.Common.{◌≡◌, ℕ, suc, zero, ◌-◌, ◌<◌, ◌�
 use Rattle.std.specs.Prelude.{map, remove}
 use Rattle.std.proofs.Math.Nat.{one-le-pow}
 use Rattle.std.proofs.lemmas.List.{append-nil}
-use Rattle.tw_base.specs.Texts.{authenticator_text, link_text, step_datum_text}
-use Rattle.tw_base.specs.History.{History}
-use Rattle.tw_base.specs.Levels.{top_level}
-use Rattle.tw_base.specs.Auth.{auth, auths, datum_text_at, link_texts_at}
-use Rattle.tw_base.proofs.Auths.{auth-suc, auths-at, label-at, length-link_texts}
+use Rattle.tw_base.specs.kinds.Texts.{authenticator_text, link_text, step_datum_text}
+use Rattle.tw_base.specs.history.History.{History}
+use Rattle.tw_base.specs.kinds.Levels.{top_level}
+use Rattle.tw_base.specs.history.Auth.{auth, auths, datum_text_at, link_texts_at}
+use Rattle.tw_base.proofs.lemmas.history.Auths.{auth-suc, auths-at, label-at, length-link_texts}
 use Rattle.tw_skipproof.specs.declared.opening.Opening.{Opening}
 use Rattle.tw_skipproof.specs.declared.path.Link.{Link}
 use Rattle.tw_skipproof.specs.Openings.{IsOpeningAt, opening_auth, opening_datum_text, opening_link_text}

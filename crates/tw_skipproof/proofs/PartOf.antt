@@ -1,16 +1,16 @@
 -- The part that a history has of a step under a top reaches the history's authenticator of the top, and is spelled.
 use Rattle.std.proofs.Common.{◌≡◌, ℕ, ◌-◌, ◌<◌, ◌≤◌, List, [], ◌∷◌, length, ap, sym, ◌∙◌, subst, arith}
-use Rattle.tw_base.specs.declared.limits.TheConstants.{LAST_STEP, MOST_EVENTS}
-use Rattle.tw_base.specs.Auth.{auth}
-use Rattle.tw_base.specs.Bytes.{AreBytes}
-use Rattle.tw_base.specs.Codecs.{bytes_codec, each, labels_codec, many, pair, seen}
-use Rattle.tw_base.specs.History.{History, events_at}
-use Rattle.tw_base.specs.Limits.{IsTimeWithinLimits}
-use Rattle.tw_base.specs.Lists.{Each}
-use Rattle.tw_base.specs.Names.{IsName}
-use Rattle.tw_base.specs.Sound.{IsSound}
-use Rattle.tw_base.proofs.DigestBytes.{Each-drop, Each-remove, IsDigest, auth-digest, dig-digest, event_root-digest, map-digests, tree_label-digest}
-use Rattle.tw_base.proofs.SoundEvents.{sound-may_record, sound-time}
+use Rattle.tw_base.specs.declared.kinds.limits.TheConstants.{LAST_STEP, MOST_EVENTS}
+use Rattle.tw_base.specs.history.Auth.{auth}
+use Rattle.tw_base.specs.kinds.Bytes.{AreBytes}
+use Rattle.tw_base.specs.format.Codecs.{bytes_codec, each, labels_codec, many, pair, seen}
+use Rattle.tw_base.specs.history.History.{History, events_at}
+use Rattle.tw_base.specs.history.Limits.{IsTimeWithinLimits}
+use Rattle.tw_base.specs.kinds.Lists.{Each}
+use Rattle.tw_base.specs.kinds.Names.{IsName}
+use Rattle.tw_base.specs.history.Sound.{IsSound}
+use Rattle.tw_base.proofs.lemmas.kinds.DigestBytes.{Each-drop, Each-remove, IsDigest, auth-digest, dig-digest, event_root-digest, map-digests, tree_label-digest}
+use Rattle.tw_base.proofs.lemmas.history.SoundEvents.{sound-may_record, sound-time}
 use Rattle.tw_skipproof.specs.declared.existence.Part.{Part}
 use Rattle.tw_skipproof.specs.declared.path.Link.{Link}
 use Rattle.tw_skipproof.specs.Acceptance.{Reaches}

@@ -3,17 +3,17 @@ use Rattle.std.proofs.Common.{◌≡◌, ℕ, suc, zero, ◌-◌, ◌<◌, ◌�
 use Rattle.std.specs.Prelude.{Option, Some, None, MatchOption, IfSome, map}
 use Rattle.std.proofs.Math.Nat.{one-le-pow}
 use Rattle.std.proofs.lemmas.List.{get_or_at, length-take-le, take-append-drop}
-use Rattle.tw_base.specs.Digests.{AllDigests}
-use Rattle.tw_base.specs.History.{History}
-use Rattle.tw_base.specs.Levels.{top_level}
-use Rattle.tw_base.specs.Auth.{auth, auths, auth_text, datum_text_at, link_texts_at}
-use Rattle.tw_base.specs.HistoryTexts.{history_texts}
-use Rattle.tw_base.specs.Sound.{IsSound}
-use Rattle.tw_base.specs.Clash.{Among, OrClash, Within}
-use Rattle.tw_base.proofs.Clashes.{and_then, same_text, Among-left, Among-right, OrClash-wider, both_within}
-use Rattle.tw_base.proofs.TextFields.{authenticator-fields, link-fields}
-use Rattle.tw_base.proofs.Sizes.{AllDigests-map}
-use Rattle.tw_base.proofs.Auths.{auth-suc, auths-at, has-auth_text, has-link_text, label-at, link_texts-has, text_at}
+use Rattle.tw_base.specs.kinds.Digests.{AllDigests}
+use Rattle.tw_base.specs.history.History.{History}
+use Rattle.tw_base.specs.kinds.Levels.{top_level}
+use Rattle.tw_base.specs.history.Auth.{auth, auths, auth_text, datum_text_at, link_texts_at}
+use Rattle.tw_base.specs.history.HistoryTexts.{history_texts}
+use Rattle.tw_base.specs.history.Sound.{IsSound}
+use Rattle.tw_base.specs.kinds.Clash.{Among, OrClash, Within}
+use Rattle.tw_base.proofs.lemmas.kinds.Clashes.{and_then, same_text, Among-left, Among-right, OrClash-wider, both_within}
+use Rattle.tw_base.proofs.lemmas.kinds.TextFields.{authenticator-fields, link-fields}
+use Rattle.tw_base.proofs.lemmas.kinds.Sizes.{AllDigests-map}
+use Rattle.tw_base.proofs.lemmas.history.Auths.{auth-suc, auths-at, has-auth_text, has-link_text, label-at, link_texts-has, text_at}
 use Rattle.tw_skipproof.specs.declared.path.Link.{Link}
 use Rattle.tw_skipproof.specs.Paths.{HasLinkSizes, HasShape, climb_auth_text, climb_link_text, climbed, hop, hop_level, path_texts, with_label}
 use Rattle.tw_skipproof.proofs.Hops.{AllDigests-join, AllDigests-parts, hop-below, hop_level-le}

@@ -3,8 +3,8 @@ use Rattle.std.proofs.Common.{◌≡◌, ℕ, suc, zero, ◌+◌, ◌-◌, ◌*�
 use Rattle.std.proofs.lemmas.Bool.{cases_lt, cases_eq}
 use Rattle.std.proofs.lemmas.Nat.{shr_split}
 use Rattle.std.proofs.Math.Nat.{add-mul, div-eq_of_lt, mod-one, mul-le-mul_right, one-le-pow, pow-suc}
-use Rattle.tw_base.specs.Levels.{top_level}
-use Rattle.tw_base.proofs.Levels.{divides-less, divides-next, top_level-divides, top_level-greatest, top_level-zero}
+use Rattle.tw_base.specs.kinds.Levels.{top_level}
+use Rattle.tw_base.proofs.lemmas.kinds.Levels.{divides-less, divides-next, top_level-divides, top_level-greatest, top_level-zero}
 use Rattle.tw_skipproof.specs.declared.path.Link.{Link}
 use Rattle.tw_skipproof.specs.Paths.{HasShape, hop, hop_level}
 use Rattle.tw_skipproof.proofs.Hops.{hop_level-le, hop_level-short}

@@ -3,16 +3,16 @@ use Rattle.std.proofs.Common.{◌≡◌, ℕ, ◌+◌, ◌-◌, ◌*◌, ◌<◌
 use Rattle.std.specs.Prelude.{Bool, true, false, Option, Some, None}
 use Rattle.std.proofs.lemmas.Bool.{cases_lt}
 use Rattle.std.proofs.lemmas.List.{length-append}
-use Rattle.tw_base.specs.declared.limits.TheConstants.{LAST_STEP, MOST_EVENTS}
-use Rattle.tw_base.specs.Codecs.{EachFits, behind, by_kind, bytes_codec, each, labels_codec, nothing, number_codec, optional, pair, present, seen, sized_codec, written, many}
-use Rattle.tw_base.specs.Fields.{number_bytes}
-use Rattle.tw_base.specs.HistoryCodec.{time_codec}
-use Rattle.tw_base.specs.Limits.{IsTimeWithinLimits}
-use Rattle.tw_base.specs.Texts.{joined}
-use Rattle.tw_base.proofs.AuditPaths.{path_length-le}
-use Rattle.tw_base.proofs.CodecSizes.{AtMost, at_most-behind, at_most-bytes, at_most-labels, at_most-name, at_most-number, at_most-pair, at_most-seen, at_most-sized, length-joined}
-use Rattle.tw_base.proofs.NumberLaws.{length-number_bytes}
-use Rattle.tw_base.proofs.Levels.{top_level-below}
+use Rattle.tw_base.specs.declared.kinds.limits.TheConstants.{LAST_STEP, MOST_EVENTS}
+use Rattle.tw_base.specs.format.Codecs.{EachFits, behind, by_kind, bytes_codec, each, labels_codec, nothing, number_codec, optional, pair, present, seen, sized_codec, written, many}
+use Rattle.tw_base.specs.format.Fields.{number_bytes}
+use Rattle.tw_base.specs.history.HistoryCodec.{time_codec}
+use Rattle.tw_base.specs.history.Limits.{IsTimeWithinLimits}
+use Rattle.tw_base.specs.kinds.Texts.{joined}
+use Rattle.tw_base.proofs.lemmas.events.AuditPaths.{path_length-le}
+use Rattle.tw_base.proofs.lemmas.format.CodecSizes.{AtMost, at_most-behind, at_most-bytes, at_most-labels, at_most-name, at_most-number, at_most-pair, at_most-seen, at_most-sized, length-joined}
+use Rattle.tw_base.proofs.lemmas.format.NumberLaws.{length-number_bytes}
+use Rattle.tw_base.proofs.lemmas.kinds.Levels.{top_level-below}
 use Rattle.tw_skipproof.specs.declared.path.Link.{Link}
 use Rattle.tw_skipproof.specs.declared.existence.ExistenceProof.{ExistenceProof}
 use Rattle.tw_skipproof.specs.declared.existence.Part.{Part}

@@ -1,9 +1,9 @@
 -- An index of more than 32 bits: no step has an event of it, and none of the greatest of 32 bits.
 use Rattle.std.proofs.Common.{◌≡◌, ℕ, ◌<◌, ◌≤◌, List, length, min, subst, arith, inl, inr}
 use Rattle.std.proofs.lemmas.Bool.{cases_lt}
-use Rattle.tw_base.specs.History.{History, events_at}
-use Rattle.tw_base.specs.Sound.{IsSound}
-use Rattle.tw_base.proofs.SoundEvents.{sound-may_record}
+use Rattle.tw_base.specs.history.History.{History, events_at}
+use Rattle.tw_base.specs.history.Sound.{IsSound}
+use Rattle.tw_base.proofs.lemmas.history.SoundEvents.{sound-may_record}
 use Rattle.tw_skipproof.specs.HistoryProofs.{IsExistenceOf, MakesExistence}
 
 pub few_events : (h : History) (step : ℕ) → IsSound h → length (events_at h step) ≤ 1024

@@ -1,7 +1,7 @@
 -- The greedy path, computed between some steps.
 use Rattle.std.proofs.Common.{◌≡◌, [], ◌∷◌, refl}
 use Rattle.std.specs.Int.Count.{count_trailing_zeros}
-use Rattle.tw_base.specs.Levels.{top_level}
+use Rattle.tw_base.specs.kinds.Levels.{top_level}
 use Rattle.tw_skipproof.specs.Paths.{greedy_steps, hop_level, level_up_to, steps_within}
 
 steps-13-5 : greedy_steps 13 5 ≡ 13 ∷ 12 ∷ 8 ∷ 6 ∷ []

@@ -1,7 +1,7 @@
 -- When an existence proof is accepted under an authenticator of its top, and what climbing to it hashes.
 use Rattle.std.specs.Prelude.{ℕ, ◌≤◌, List, ◌++◌}
-use Rattle.tw_base.specs.AuditPath.{ChecksEvent}
-use Rattle.tw_base.specs.declared.event_part.EventPart.{EventPart}
+use Rattle.tw_base.specs.events.AuditPath.{ChecksEvent}
+use Rattle.tw_base.specs.declared.events.event_part.EventPart.{EventPart}
 use Rattle.tw_skipproof.specs.declared.existence.ExistenceProof.{ExistenceProof}
 use Rattle.tw_skipproof.specs.declared.existence.Part.{Part}
 use Rattle.tw_skipproof.specs.declared.opening.Opening.{Opening}

@@ -1,14 +1,14 @@
 -- The bytes of openings, paths and existence proofs.
 use Rattle.std.specs.Prelude.{ℕ, ◌+◌, ◌-◌, ◌^◌, List, [], ◌∷◌, ◌++◌, Bool, Option, Some, None, is_some}
-use Rattle.tw_base.specs.declared.limits.TheConstants.{LAST_STEP, MOST_EVENTS, MOST_EVENT_BYTES}
-use Rattle.tw_base.specs.AuditPath.{path_length}
-use Rattle.tw_base.specs.Codecs.{Codec, behind, by_kind, digest_codec, each, flag_codec, labels_codec, name_codec, number_codec, optional, pair, seen, sized_codec, written}
-use Rattle.tw_base.specs.Fields.{number_bytes}
-use Rattle.tw_base.specs.HistoryCodec.{time_codec}
-use Rattle.tw_base.specs.Levels.{top_level}
+use Rattle.tw_base.specs.declared.kinds.limits.TheConstants.{LAST_STEP, MOST_EVENTS, MOST_EVENT_BYTES}
+use Rattle.tw_base.specs.events.AuditPath.{path_length}
+use Rattle.tw_base.specs.format.Codecs.{Codec, behind, by_kind, digest_codec, each, flag_codec, labels_codec, name_codec, number_codec, optional, pair, seen, sized_codec, written}
+use Rattle.tw_base.specs.format.Fields.{number_bytes}
+use Rattle.tw_base.specs.history.HistoryCodec.{time_codec}
+use Rattle.tw_base.specs.kinds.Levels.{top_level}
 use Rattle.tw_skipproof.specs.declared.opening.Opening.{Opening}
 use Rattle.tw_skipproof.specs.declared.path.Link.{Link}
-use Rattle.tw_base.specs.declared.event_part.EventPart.{EventPart}
+use Rattle.tw_base.specs.declared.events.event_part.EventPart.{EventPart}
 use Rattle.tw_skipproof.specs.declared.existence.ExistenceProof.{ExistenceProof}
 use Rattle.tw_skipproof.specs.declared.existence.Part.{Part}
 use Rattle.tw_skipproof.specs.Paths.{greedy_steps}

@@ -1,11 +1,11 @@
 -- Proofs that one event exists: which of them have a spelling.
 use Rattle.std.specs.Prelude.{◌≡◌, ℕ, ◌<◌, ◌≤◌, List, length}
-use Rattle.tw_base.specs.declared.limits.TheConstants.{LAST_STEP, MOST_EVENTS, MOST_EVENT_BYTES}
-use Rattle.tw_base.specs.AuditPath.{path_length}
-use Rattle.tw_base.specs.EventParts.{event_part}
-use Rattle.tw_base.specs.Formats.{Format}
-use Rattle.tw_base.specs.Levels.{top_level}
-use Rattle.tw_base.specs.Limits.{IsTimeWithinLimits}
+use Rattle.tw_base.specs.declared.kinds.limits.TheConstants.{LAST_STEP, MOST_EVENTS, MOST_EVENT_BYTES}
+use Rattle.tw_base.specs.events.AuditPath.{path_length}
+use Rattle.tw_base.specs.events.EventParts.{event_part}
+use Rattle.tw_base.specs.format.Formats.{Format}
+use Rattle.tw_base.specs.kinds.Levels.{top_level}
+use Rattle.tw_base.specs.history.Limits.{IsTimeWithinLimits}
 use Rattle.tw_skipproof.specs.declared.existence.ExistenceProof.{ExistenceProof}
 use Rattle.tw_skipproof.specs.declared.existence.Part.{Part}
 use Rattle.tw_skipproof.specs.Codecs.{existence_codec}

@@ -1,9 +1,9 @@
 -- The openings, paths, parts and existence proofs that a history itself has.
 use Rattle.std.specs.Prelude.{◌≡◌, ℕ, ◌-◌, ◌<◌, ◌≤◌, List, [], ◌∷◌, length, drop, map, remove}
-use Rattle.tw_base.specs.EventParts.{event_part}
-use Rattle.tw_base.specs.Formats.{Spells}
-use Rattle.tw_base.specs.History.{History, events_at}
-use Rattle.tw_base.specs.Auth.{auths, datum_text_at, link_texts_at}
+use Rattle.tw_base.specs.events.EventParts.{event_part}
+use Rattle.tw_base.specs.format.Formats.{Spells}
+use Rattle.tw_base.specs.history.History.{History, events_at}
+use Rattle.tw_base.specs.history.Auth.{auths, datum_text_at, link_texts_at}
 use Rattle.tw_skipproof.specs.declared.existence.ExistenceProof.{ExistenceProof}
 use Rattle.tw_skipproof.specs.declared.existence.Part.{Part}
 use Rattle.tw_skipproof.specs.declared.opening.Opening.{Opening}

@@ -5,4 +5,3 @@ pub mod Existence
 pub mod Spelling
 pub mod HistoryProofs
 pub mod Acceptance
-pub mod PieceSteps

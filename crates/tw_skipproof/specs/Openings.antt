@@ -1,12 +1,12 @@
 -- What an opening of a step computes, and what it binds.
 use Rattle.std.specs.Prelude.{◌≡◌, ℕ, ◌-◌, ◌<◌, ◌^◌, List, [], ◌∷◌, length, IfSome}
-use Rattle.tw_base.specs.Texts.{step_datum_text, link_text, authenticator_text}
-use Rattle.tw_base.specs.Digests.{AllDigests}
-use Rattle.tw_base.specs.EventTree.{event_root}
-use Rattle.tw_base.specs.History.{History, events_at, time_at}
-use Rattle.tw_base.specs.Tree.{tree}
-use Rattle.tw_base.specs.Levels.{top_level}
-use Rattle.tw_base.specs.Auth.{auth, tree_label}
+use Rattle.tw_base.specs.kinds.Texts.{step_datum_text, link_text, authenticator_text}
+use Rattle.tw_base.specs.kinds.Digests.{AllDigests}
+use Rattle.tw_base.specs.events.EventTree.{event_root}
+use Rattle.tw_base.specs.history.History.{History, events_at, time_at}
+use Rattle.tw_base.specs.history.Tree.{tree}
+use Rattle.tw_base.specs.kinds.Levels.{top_level}
+use Rattle.tw_base.specs.history.Auth.{auth, tree_label}
 use Rattle.tw_skipproof.specs.declared.opening.Opening.{Opening}
 
 -- the step has an opening with so many labels: one for each level from 1 on

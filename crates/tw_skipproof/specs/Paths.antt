@@ -1,8 +1,8 @@
 -- The greedy path from a step down to an earlier one, and what climbing it computes.
 use Rattle.std.specs.Prelude.{◌≡◌, ℕ, suc, zero, ◌-◌, ◌%◌, ◌<◌, ◌≤◌, ◌^◌, List, [], ◌∷◌, ◌++◌, length, take, drop, nat_le, if◌then◌else◌}
-use Rattle.tw_base.specs.Texts.{link_text, authenticator_text}
-use Rattle.tw_base.specs.Digests.{AllDigests}
-use Rattle.tw_base.specs.Levels.{top_level}
+use Rattle.tw_base.specs.kinds.Texts.{link_text, authenticator_text}
+use Rattle.tw_base.specs.kinds.Digests.{AllDigests}
+use Rattle.tw_base.specs.kinds.Levels.{top_level}
 use Rattle.tw_skipproof.specs.declared.path.Link.{Link}
 
 -- the step has a link at this level, and it leads to the lower step or to one above it

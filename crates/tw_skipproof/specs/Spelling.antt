@@ -1,12 +1,12 @@
 -- Which openings, links, events and parts of proofs have a spelling.
 use Rattle.std.specs.Prelude.{◌≡◌, ℕ, ◌<◌, ◌≤◌, List, length}
-use Rattle.tw_base.specs.declared.limits.TheConstants.{MOST_EVENTS, MOST_EVENT_BYTES}
-use Rattle.tw_base.specs.AuditPath.{path_length}
-use Rattle.tw_base.specs.Levels.{top_level}
-use Rattle.tw_base.specs.Limits.{IsTimeWithinLimits}
+use Rattle.tw_base.specs.declared.kinds.limits.TheConstants.{MOST_EVENTS, MOST_EVENT_BYTES}
+use Rattle.tw_base.specs.events.AuditPath.{path_length}
+use Rattle.tw_base.specs.kinds.Levels.{top_level}
+use Rattle.tw_base.specs.history.Limits.{IsTimeWithinLimits}
 use Rattle.tw_skipproof.specs.declared.opening.Opening.{Opening}
 use Rattle.tw_skipproof.specs.declared.path.Link.{Link}
-use Rattle.tw_base.specs.declared.event_part.EventPart.{EventPart}
+use Rattle.tw_base.specs.declared.events.event_part.EventPart.{EventPart}
 use Rattle.tw_skipproof.specs.declared.existence.Part.{Part}
 use Rattle.tw_skipproof.specs.Codecs.{event_codec, link_codec, opening_codec, part_codec, path_codec}
 use Rattle.tw_skipproof.specs.Existence.{IsPartInRange, IsPartShaped}

@@ -1,13 +1,13 @@
 // Climbing a path.
 
 ghost use Rattle.std.specs.Prelude.{◌≡◌, ℕ, ◌+◌, ◌-◌, ◌^◌, ◌<◌, ◌≤◌, List, ◌++◌, length, MatchOption, IfSome};
-ghost use Rattle.tw_base.specs.declared.limits.TheConstants.{LAST_STEP};
-ghost use Rattle.tw_base.specs.Auth.{auth};
-ghost use Rattle.tw_base.specs.Clash.{OrClash};
-ghost use Rattle.tw_base.specs.Digests.{AllDigests};
-ghost use Rattle.tw_base.specs.History.{History};
-ghost use Rattle.tw_base.specs.HistoryTexts.{history_texts};
-ghost use Rattle.tw_base.specs.Sound.{IsSound};
+ghost use Rattle.tw_base.specs.declared.kinds.limits.TheConstants.{LAST_STEP};
+ghost use Rattle.tw_base.specs.history.Auth.{auth};
+ghost use Rattle.tw_base.specs.kinds.Clash.{OrClash};
+ghost use Rattle.tw_base.specs.kinds.Digests.{AllDigests};
+ghost use Rattle.tw_base.specs.history.History.{History};
+ghost use Rattle.tw_base.specs.history.HistoryTexts.{history_texts};
+ghost use Rattle.tw_base.specs.history.Sound.{IsSound};
 ghost use Rattle.tw_skipproof.specs.Paths.{HasLinkSizes, HasShape, climb_auth_text, climbed, path_texts};
 
 use crate::hop::level_of_hop;

@@ -1,10 +1,10 @@
 // Reading existence proofs.
-#![tactic(auto, unfolding(crate::specs::Codecs::event_codec, crate::specs::Codecs::existence_body, crate::specs::Codecs::part_codec, tw_base::specs::Codecs::pair, tw_base::specs::Codecs::seen))]
+#![tactic(auto, unfolding(crate::specs::Codecs::event_codec, crate::specs::Codecs::existence_body, crate::specs::Codecs::part_codec, tw_base::specs::format::Codecs::pair, tw_base::specs::format::Codecs::seen))]
 
 ghost use Rattle.std.specs.Prelude.{◌≡◌, ◌≤◌, length, IfOk};
-ghost use Rattle.tw_base.specs.declared.limits.TheConstants.{LAST_STEP, MOST_EVENTS};
-ghost use Rattle.tw_base.specs.Formats.{ReadsAs};
-ghost use Rattle.tw_base.specs.Taking.{Takes};
+ghost use Rattle.tw_base.specs.declared.kinds.limits.TheConstants.{LAST_STEP, MOST_EVENTS};
+ghost use Rattle.tw_base.specs.format.Formats.{ReadsAs};
+ghost use Rattle.tw_base.specs.format.Taking.{Takes};
 ghost use Rattle.tw_skipproof.specs.Codecs.{event_codec, existence_body, existence_codec, part_codec};
 ghost use Rattle.tw_skipproof.specs.Existence.{IsExistenceInRange, IsShaped, existence_layout};
 
@@ -88,7 +88,7 @@ pub fn take_existence_body(
 }
 
 /// Takes an existence proof.
-#[tactic(auto, unfolding(crate::specs::Codecs::existence_codec, tw_base::specs::Codecs::behind))]
+#[tactic(auto, unfolding(crate::specs::Codecs::existence_codec, tw_base::specs::format::Codecs::behind))]
 fn take_existence(alloc: Global, bytes: &[u8], at: &mut u64) -> Result<ExistenceProof, ReadFault>
     requires { at.old ≤ length bytes.now }
     ensures { Takes existence_codec (λ p. p) bytes.now at.old at.new result }

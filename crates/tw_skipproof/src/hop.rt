@@ -1,8 +1,8 @@
 // The greedy rule.
 
 ghost use Rattle.std.specs.Prelude.{◌≡◌, ℕ, ◌-◌, ◌*◌, ◌^◌, ◌<◌, ◌≤◌, List, length};
-ghost use Rattle.tw_base.specs.declared.limits.TheConstants.{LAST_STEP};
-ghost use Rattle.tw_base.specs.Levels.{top_level as top_level_of};
+ghost use Rattle.tw_base.specs.declared.kinds.limits.TheConstants.{LAST_STEP};
+ghost use Rattle.tw_base.specs.kinds.Levels.{top_level as top_level_of};
 ghost use Rattle.tw_skipproof.specs.declared.path.Link.{Link};
 ghost use Rattle.tw_skipproof.specs.Paths.{HasShape, IsGreedy, hop_level};
 

@@ -1,13 +1,13 @@
 // The laws of paths, openings and existence proofs, on which the layers above build.
 
 ghost use Rattle.std.specs.Prelude.{◌≡◌, ℕ, ◌^◌, ◌<◌, ◌≤◌, List, length};
-ghost use Rattle.tw_base.specs.declared.limits.TheConstants.{LAST_STEP};
-ghost use Rattle.tw_base.specs.Auth.{auth};
-ghost use Rattle.tw_base.specs.Codecs.{IsUnambiguous};
-ghost use Rattle.tw_base.specs.Formats.{Spells, WrittenAs};
-ghost use Rattle.tw_base.specs.History.{History};
-ghost use Rattle.tw_base.specs.Sound.{IsSound};
-ghost use Rattle.tw_base.specs.Levels.{top_level};
+ghost use Rattle.tw_base.specs.declared.kinds.limits.TheConstants.{LAST_STEP};
+ghost use Rattle.tw_base.specs.history.Auth.{auth};
+ghost use Rattle.tw_base.specs.format.Codecs.{IsUnambiguous};
+ghost use Rattle.tw_base.specs.format.Formats.{Spells, WrittenAs};
+ghost use Rattle.tw_base.specs.history.History.{History};
+ghost use Rattle.tw_base.specs.history.Sound.{IsSound};
+ghost use Rattle.tw_base.specs.kinds.Levels.{top_level};
 ghost use Rattle.tw_skipproof.specs.declared.existence.ExistenceProof.{ExistenceProof};
 ghost use Rattle.tw_skipproof.specs.declared.existence.Part.{Part};
 ghost use Rattle.tw_skipproof.specs.declared.opening.Opening.{Opening};

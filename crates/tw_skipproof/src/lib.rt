@@ -10,7 +10,6 @@ mod least;
 mod opening;
 mod path;
 mod reading;
-mod waiting;
 mod writing;
 
 pub use climbing::climb;
@@ -23,8 +22,9 @@ pub use laws::{making_laws, spelling_laws};
 pub use least::{LEAST_AUTHENTICATOR, LEAST_EXISTENCE};
 pub use opening::{Opening, check_opening};
 pub use path::{Link, LinkList, Path};
-pub use reading::{next_step, read_opening, read_path, take_link, take_opening, take_path};
-pub use waiting::{event_until, link_until, opening_until};
+pub use reading::{
+    next_step, read_opening, read_path, take_count, take_link, take_opening, take_path,
+};
 pub use writing::{
     put_event, put_existence_body, put_opening, put_part, put_path, write_existence, write_opening,
     write_path,

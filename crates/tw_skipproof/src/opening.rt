@@ -1,12 +1,12 @@
 // Openings: what the authenticator of a step is made of.
 
 ghost use Rattle.std.specs.Prelude.{◌≡◌, ℕ, ◌+◌, ◌^◌, ◌<◌, ◌≤◌, List, ◌++◌, length, MatchOption, IfSome};
-ghost use Rattle.tw_base.specs.declared.limits.TheConstants.{LAST_STEP};
-ghost use Rattle.tw_base.specs.Auth.{auth};
-ghost use Rattle.tw_base.specs.Clash.{OrClash};
-ghost use Rattle.tw_base.specs.History.{History};
-ghost use Rattle.tw_base.specs.HistoryTexts.{history_texts};
-ghost use Rattle.tw_base.specs.Sound.{IsSound};
+ghost use Rattle.tw_base.specs.declared.kinds.limits.TheConstants.{LAST_STEP};
+ghost use Rattle.tw_base.specs.history.Auth.{auth};
+ghost use Rattle.tw_base.specs.kinds.Clash.{OrClash};
+ghost use Rattle.tw_base.specs.history.History.{History};
+ghost use Rattle.tw_base.specs.history.HistoryTexts.{history_texts};
+ghost use Rattle.tw_base.specs.history.Sound.{IsSound};
 ghost use Rattle.tw_skipproof.specs.Openings.{Binds, HasSizes, IsOpeningAt, opening_auth, opening_texts};
 
 use arrayvec::ArrayVec;

@@ -1,10 +1,10 @@
 // Reading openings and paths.
-#![tactic(auto, unfolding(crate::specs::Codecs::link_codec, crate::specs::Codecs::opening_codec, tw_base::specs::Codecs::pair, tw_base::specs::Codecs::seen))]
+#![tactic(auto, unfolding(crate::specs::Codecs::link_codec, crate::specs::Codecs::opening_codec, tw_base::specs::format::Codecs::pair, tw_base::specs::format::Codecs::seen))]
 
 ghost use Rattle.std.specs.Prelude.{◌≡◌, ℕ, ◌<◌, ◌≤◌, length, IfOk};
-ghost use Rattle.tw_base.specs.declared.limits.TheConstants.{LAST_STEP, MOST_EVENTS};
-ghost use Rattle.tw_base.specs.Formats.{ReadsAs};
-ghost use Rattle.tw_base.specs.Taking.{Takes};
+ghost use Rattle.tw_base.specs.declared.kinds.limits.TheConstants.{LAST_STEP, MOST_EVENTS};
+ghost use Rattle.tw_base.specs.format.Formats.{ReadsAs};
+ghost use Rattle.tw_base.specs.format.Taking.{Takes};
 ghost use Rattle.tw_skipproof.specs.declared.path.Path.{Path};
 ghost use Rattle.tw_skipproof.specs.Codecs.{count_codec, counted_with, link_codec, opening_codec, path_codec};
 ghost use Rattle.tw_skipproof.specs.Paths.{hop};
@@ -20,7 +20,7 @@ use tw_base::{
 };
 
 /// Takes the count of events, and the time where there is to be one.
-#[tactic(auto, unfolding(tw_base::specs::Codecs::pair))]
+#[tactic(auto, unfolding(tw_base::specs::format::Codecs::pair))]
 pub(crate) fn take_counted(
     bytes: &[u8],
     at: &mut u64,
@@ -39,13 +39,10 @@ pub(crate) fn take_counted(
 
 /// Takes the count word with a count of events of at least `least`, and the time where one follows.
 #[tactic(auto)]
-pub(crate) fn take_count(
-    bytes: &[u8],
-    at: &mut u64,
-    least: u64,
-) -> Result<(u32, Option<u64>), ReadFault>
+pub fn take_count(bytes: &[u8], at: &mut u64, least: u64) -> Result<(u32, Option<u64>), ReadFault>
     requires within { at.old ≤ length bytes.now }
     requires least { least ≤ MOST_EVENTS }
+    // A count of events and the time are taken at a place exactly as their codec reads them; else the place of the first bad byte is told.
     ensures takes { Takes (count_codec least) (λ c. c) bytes.now at.old at.new result }
     ensures range { IfOk result (λ c. (least ≤ c.0) × (c.0 ≤ MOST_EVENTS)) }
 {

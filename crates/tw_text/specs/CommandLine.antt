@@ -1,7 +1,7 @@
 -- The forms of the program's command line.
 use Rattle.std.specs.Prelude.{◌≡◌, ℕ, ◌+◌, ◌-◌, ◌≤◌, List, [], ◌∷◌, ◌++◌, length, take, codes, Option, IsSome}
 use Rattle.std.specs.Result.{result_ok}
-use Rattle.tw_base.specs.declared.limits.TheConstants.{LAST_STEP}
+use Rattle.tw_base.specs.declared.kinds.limits.TheConstants.{LAST_STEP}
 use Rattle.tw_text.specs.Forms.{Form, any_paths, at_most_paths, choose, digest, either, end, maybe, name, number, path}
 use Rattle.tw_text.specs.declared.command.Command.{Command}
 use Rattle.tw_text.specs.declared.command.Command.TheVariants.{Init, Append, Thread, Receive, ProveEvent, ProveThread, ProveAbsent, ProveLink, MapLow, MapHigh, Export, Show, Join, VerifyFile, VerifyOne, Strict, CheckMap, Audit, Replay, Generate}

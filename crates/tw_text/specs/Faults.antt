@@ -1,7 +1,7 @@
 -- Why a command isn't done: the status of each fault, and its line.
 use Rattle.std.specs.Prelude.{◌≡◌, ◌⊎◌, ℕ, List}
-use Rattle.tw_outside.specs.declared.reading.InputFault.{InputFault as ReadingFault}
-use Rattle.tw_outside.specs.declared.reading.InputFault.TheVariants as reading
+use Rattle.tw_base.specs.declared.kinds.failure.InputFault.{InputFault as ReadingFault}
+use Rattle.tw_base.specs.declared.kinds.failure.InputFault.TheVariants as reading
 use Rattle.tw_text.specs.Lines.{fault_disk_text, fault_input_text, no_memory_text}
 use Rattle.tw_text.specs.Refusals.{bad_input_text, refused_text, store_text}
 use Rattle.tw_text.specs.declared.fault.CommandFault.{CommandFault}

@@ -2,7 +2,7 @@
 use Rattle.std.specs.Prelude.{ℕ, suc, ◌-◌, List, [], ◌∷◌, length, min, Option, Some, None, Result, Ok, Err, ◌==◌, nat_le, if◌then◌else◌}
 use Rattle.std.specs.Option.{option_map_or}
 use Rattle.std.specs.Str.{bytes_eq}
-use Rattle.tw_base.specs.Names.{is_name_text, padded_name}
+use Rattle.tw_base.specs.kinds.Names.{is_name_text, padded_name}
 use Rattle.tw_text.specs.Words.{is_number_within, word_number, is_digest, word_digest}
 use Rattle.tw_text.specs.declared.command.Command.{Command}
 

@@ -2,17 +2,17 @@
 use Rattle.std.specs.Prelude.{ℕ, List, [], ◌∷◌, ◌++◌, codes}
 use Rattle.std.specs.List.{flat_map}
 use Rattle.std.specs.Option.{option_map_or}
-use Rattle.tw_base.specs.declared.report.Claim.{Claim}
-use Rattle.tw_base.specs.declared.report.Claim.TheVariants.{Exists, Precedes, Archived, Absent, Linked}
-use Rattle.tw_base.specs.declared.report.Hop.{Hop}
-use Rattle.tw_base.specs.declared.report.Seen.{Seen}
-use Rattle.tw_base.specs.declared.thread.Entry.{Entry}
-use Rattle.tw_base.specs.declared.thread.Key.{Key}
-use Rattle.tw_base.specs.declared.thread.Thread.{Thread}
-use Rattle.tw_base.specs.declared.report.Report.{Report}
-use Rattle.tw_base.specs.declared.report.Reason.{Reason}
-use Rattle.tw_base.specs.declared.report.Reason.TheVariants.{Malformed, BadOrder, NotHeld, BadPath, BadOpening, BadEvent, BadTree, Carried}
-use Rattle.tw_base.specs.Reasons.{reason_number}
+use Rattle.tw_base.specs.declared.history.report.Claim.{Claim}
+use Rattle.tw_base.specs.declared.history.report.Claim.TheVariants.{Exists, Precedes, Archived, Absent, Linked}
+use Rattle.tw_base.specs.declared.history.report.Hop.{Hop}
+use Rattle.tw_base.specs.declared.history.report.Seen.{Seen}
+use Rattle.tw_base.specs.declared.history.thread.Entry.{Entry}
+use Rattle.tw_base.specs.declared.history.thread.Key.{Key}
+use Rattle.tw_base.specs.declared.history.thread.Thread.{Thread}
+use Rattle.tw_base.specs.declared.history.report.Report.{Report}
+use Rattle.tw_base.specs.declared.history.report.Reason.{Reason}
+use Rattle.tw_base.specs.declared.history.report.Reason.TheVariants.{Malformed, BadOrder, NotHeld, BadPath, BadOpening, BadEvent, BadTree, Carried}
+use Rattle.tw_base.specs.history.Reasons.{reason_number}
 use Rattle.tw_text.specs.Lines.{line}
 use Rattle.tw_text.specs.declared.field.Field.{Field}
 use Rattle.tw_text.specs.declared.field.Field.TheVariants.{Word, Number, Named, Hex}

@@ -7,8 +7,7 @@ ghost use Rattle.tw_text.specs.declared.fault.CommandFault.TheVariants.{NoMemory
 use crate::fixed::{fault_disk, fault_input, no_memory};
 use crate::refusal::{BadInput, Refusal, StoreCause, print_bad_input, print_refused, print_store};
 use std::alloc::Global;
-use tw_base::{Bytes, NoMemory};
-use tw_outside::InputFault;
+use tw_base::{Bytes, InputFault, NoMemory};
 
 /// Why a command isn't done.
 #[derive(Drop, Debug)]

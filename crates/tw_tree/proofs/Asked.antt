@@ -5,15 +5,15 @@ use Rattle.std.specs.Option.{option_or}
 use Rattle.std.specs.declared.cmp.Ordering.TheVariants.{Less, Equal, Greater}
 use Rattle.std.specs.Ordering.{is_eq, is_lt}
 use Rattle.std.proofs.lemmas.List.Folds.{find-append}
-use Rattle.tw_base.specs.declared.thread.Entry.{Entry}
-use Rattle.tw_base.specs.declared.thread.Key.{Key}
-use Rattle.tw_base.specs.Asking.{entry_with, first_above, last_below}
-use Rattle.tw_base.specs.Entries.{KeyBelow, key_cmp, key_of}
-use Rattle.tw_base.specs.Lists.{Each}
-use Rattle.tw_base.specs.Tree.{IsRising}
-use Rattle.tw_base.proofs.Keys.{KeyBelow-trans}
-use Rattle.tw_base.proofs.ListLemmas.{Each-map, Each-parts}
-use Rattle.tw_base.proofs.KeyTests.{below-lt, below-other, eq-above, eq-below, lt-above, lt-below}
+use Rattle.tw_base.specs.declared.history.thread.Entry.{Entry}
+use Rattle.tw_base.specs.declared.history.thread.Key.{Key}
+use Rattle.tw_base.specs.history.Asking.{entry_with, first_above, last_below}
+use Rattle.tw_base.specs.history.Entries.{KeyBelow, key_cmp, key_of}
+use Rattle.tw_base.specs.kinds.Lists.{Each}
+use Rattle.tw_base.specs.history.Tree.{IsRising}
+use Rattle.tw_base.proofs.lemmas.history.Keys.{KeyBelow-trans}
+use Rattle.tw_base.proofs.lemmas.kinds.ListLemmas.{Each-map, Each-parts}
+use Rattle.tw_base.proofs.lemmas.history.KeyTests.{below-lt, below-other, eq-above, eq-below, lt-above, lt-below}
 
 -- a rising list, cut at an entry
 pub record Cut (front : List Entry) (e : Entry) (back : List Entry) : Type 0 where

@@ -2,18 +2,18 @@
 use Rattle.std.proofs.Common.{◌≡◌, List, [], ◌∷◌, ◌++◌, Bool, true, false, refl, ap, sym, ◌∙◌, subst}
 use Rattle.std.specs.Prelude.{Option, Some, None, is_some, cond, if◌then◌else◌}
 use Rattle.std.specs.Ordering.{is_eq, is_lt}
-use Rattle.tw_base.specs.declared.thread.Entry.{Entry}
-use Rattle.tw_base.specs.Asking.{entry_with, with_entry}
-use Rattle.tw_base.specs.Entries.{KeyBelow, key_cmp, key_of}
-use Rattle.tw_base.specs.Lists.{Each}
-use Rattle.tw_base.specs.Tree.{Tree, IsRising, entries}
-use Rattle.tw_base.specs.Tree.Tree.{Empty, Branch}
-use Rattle.tw_base.proofs.Keys.{KeyBelow-trans}
-use Rattle.tw_base.proofs.ListLemmas.{Each-map}
+use Rattle.tw_base.specs.declared.history.thread.Entry.{Entry}
+use Rattle.tw_base.specs.history.Asking.{entry_with, with_entry}
+use Rattle.tw_base.specs.history.Entries.{KeyBelow, key_cmp, key_of}
+use Rattle.tw_base.specs.kinds.Lists.{Each}
+use Rattle.tw_base.specs.history.Tree.{Tree, IsRising, entries}
+use Rattle.tw_base.specs.history.Tree.Tree.{Empty, Branch}
+use Rattle.tw_base.proofs.lemmas.history.Keys.{KeyBelow-trans}
+use Rattle.tw_base.proofs.lemmas.kinds.ListLemmas.{Each-map}
 use Rattle.tw_tree.specs.Inserting.{HasLeaf, with_leaf}
 use Rattle.tw_tree.proofs.Asked.{cut}
-use Rattle.tw_base.proofs.KeyTests.{NotBelow, below-lt, below-other, eq-above, lt-above, not_below}
-use Rattle.tw_base.proofs.KeyTests.NotBelow.{One, Over}
+use Rattle.tw_base.proofs.lemmas.history.KeyTests.{NotBelow, below-lt, below-other, eq-above, lt-above, not_below}
+use Rattle.tw_base.proofs.lemmas.history.KeyTests.NotBelow.{One, Over}
 
 pub some_is : (o : Option Entry) → is_some o ≡ true → (f : Entry) × (o ≡ Some f)
 some_is None test = cc

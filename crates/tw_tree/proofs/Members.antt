@@ -6,14 +6,14 @@ use Rattle.std.specs.declared.cmp.Ordering.{Ordering}
 use Rattle.std.specs.declared.cmp.Ordering.TheVariants.{Less, Equal, Greater}
 use Rattle.std.specs.Cmp.Lexicographic.{slice_cmp}
 use Rattle.std.specs.Ordering.{is_eq, nat_cmp, ordering_then}
-use Rattle.tw_base.specs.declared.thread.Entry.{Entry}
-use Rattle.tw_base.specs.declared.thread.Key.{Key}
-use Rattle.tw_base.specs.Asking.{entry_with}
-use Rattle.tw_base.specs.Entries.{KeyBelow, key_cmp, key_of}
-use Rattle.tw_base.specs.Lists.{Each, In}
-use Rattle.tw_base.specs.Tree.{IsRising}
-use Rattle.tw_base.proofs.ListLemmas.{Each-in}
-use Rattle.tw_base.proofs.KeyTests.{eq-above, same_key}
+use Rattle.tw_base.specs.declared.history.thread.Entry.{Entry}
+use Rattle.tw_base.specs.declared.history.thread.Key.{Key}
+use Rattle.tw_base.specs.history.Asking.{entry_with}
+use Rattle.tw_base.specs.history.Entries.{KeyBelow, key_cmp, key_of}
+use Rattle.tw_base.specs.kinds.Lists.{Each, In}
+use Rattle.tw_base.specs.history.Tree.{IsRising}
+use Rattle.tw_base.proofs.lemmas.kinds.ListLemmas.{Each-in}
+use Rattle.tw_base.proofs.lemmas.history.KeyTests.{eq-above, same_key}
 
 equal-key : (a b : Key) → key_cmp a b ≡ Equal → a ≡ b
 equal-key a b is = by (slice_cmp nat_cmp a.from b.from) refl is

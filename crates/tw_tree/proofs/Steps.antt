@@ -4,12 +4,12 @@ use Rattle.std.specs.Prelude.{Option, Some, None}
 use Rattle.std.specs.Option.{option_or}
 use Rattle.std.specs.declared.cmp.Ordering.TheVariants.{Less, Equal, Greater}
 use Rattle.std.specs.Ordering.{is_lt}
-use Rattle.tw_base.specs.declared.thread.Entry.{Entry}
-use Rattle.tw_base.specs.declared.thread.Key.{Key}
-use Rattle.tw_base.specs.Asking.{entry_with, first_above, last_below}
-use Rattle.tw_base.specs.Entries.{key_cmp, key_of}
-use Rattle.tw_base.specs.Tree.{Tree, IsRising, entries}
-use Rattle.tw_base.specs.Tree.Tree.{Branch}
+use Rattle.tw_base.specs.declared.history.thread.Entry.{Entry}
+use Rattle.tw_base.specs.declared.history.thread.Key.{Key}
+use Rattle.tw_base.specs.history.Asking.{entry_with, first_above, last_below}
+use Rattle.tw_base.specs.history.Entries.{key_cmp, key_of}
+use Rattle.tw_base.specs.history.Tree.{Tree, IsRising, entries}
+use Rattle.tw_base.specs.history.Tree.Tree.{Branch}
 use Rattle.tw_tree.proofs.Asked.{above-left, above-right, below-left, below-right, cut, with-equal, with-less, with-more}
 
 -- the side rises, and an answer over it and what was met before is that over the tree and what was met before it

@@ -1,11 +1,11 @@
 -- What a tree is with one more entry.
 use Rattle.std.specs.Prelude.{◌≡◌, Some, None, Result, Ok, Err, if◌then◌else◌}
 use Rattle.std.specs.Ordering.{is_lt}
-use Rattle.tw_base.specs.declared.thread.Entry.{Entry}
-use Rattle.tw_base.specs.Asking.{entry_with, with_entry}
-use Rattle.tw_base.specs.Entries.{key_cmp, key_of}
-use Rattle.tw_base.specs.Tree.{Tree as TreeOfEntries, IsRising, entries}
-use Rattle.tw_base.specs.Tree.Tree.{Empty, Branch}
+use Rattle.tw_base.specs.declared.history.thread.Entry.{Entry}
+use Rattle.tw_base.specs.history.Asking.{entry_with, with_entry}
+use Rattle.tw_base.specs.history.Entries.{key_cmp, key_of}
+use Rattle.tw_base.specs.history.Tree.{Tree as TreeOfEntries, IsRising, entries}
+use Rattle.tw_base.specs.history.Tree.Tree.{Empty, Branch}
 use Rattle.tw_tree.specs.declared.inserting.InsertFault.{InsertFault}
 use Rattle.tw_tree.specs.declared.inserting.InsertFault.TheVariants.{Present, NoMemory}
 use Rattle.tw_tree.specs.declared.tree.Tree.{Tree}

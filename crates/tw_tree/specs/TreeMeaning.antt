@@ -1,6 +1,6 @@
 -- What a tree of the code stands for.
-use Rattle.tw_base.specs.Tree.{Tree as TreeOfEntries}
-use Rattle.tw_base.specs.Tree.Tree.{Empty as NoEntry, Branch as RootedAt}
+use Rattle.tw_base.specs.history.Tree.{Tree as TreeOfEntries}
+use Rattle.tw_base.specs.history.Tree.Tree.{Empty as NoEntry, Branch as RootedAt}
 use Rattle.tw_tree.specs.declared.tree.Tree.{Tree}
 use Rattle.tw_tree.specs.declared.tree.Tree.TheVariants.{Empty, Branch'}
 

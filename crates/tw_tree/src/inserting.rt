@@ -2,7 +2,7 @@
 
 ghost use Rattle.std.specs.Prelude.{◌≡◌, IfOk};
 ghost use Rattle.std.specs.Ordering.{is_lt};
-ghost use Rattle.tw_base.specs.Tree.{IsRising, entries};
+ghost use Rattle.tw_base.specs.history.Tree.{IsRising, entries};
 ghost use Rattle.tw_tree.specs.Inserting.{Inserts, with_leaf};
 ghost use Rattle.tw_tree.specs.TreeMeaning.{tree_of};
 

@@ -1,8 +1,8 @@
 // What a tree has of a key, and next to it.
 
 ghost use Rattle.std.specs.Prelude.{◌≡◌};
-ghost use Rattle.tw_base.specs.Asking.{entry_with, first_above, last_below};
-ghost use Rattle.tw_base.specs.Tree.{IsRising, entries};
+ghost use Rattle.tw_base.specs.history.Asking.{entry_with, first_above, last_below};
+ghost use Rattle.tw_base.specs.history.Tree.{IsRising, entries};
 ghost use Rattle.tw_tree.specs.TreeMeaning.{tree_of};
 
 use crate::tree::Tree;

@@ -1,10 +1,10 @@
 // The archive's tree: a binary tree of entries.
 
 ghost use Rattle.std.specs.Prelude.{◌≡◌, ◌++◌, OnOk, IfOk};
-ghost use Rattle.tw_base.specs.Auth.{tree_label};
-ghost use Rattle.tw_base.specs.Texts.{empty_tree_text};
-ghost use Rattle.tw_base.specs.Tree.{entries};
-ghost use Rattle.tw_base.specs.Tree.Tree.{Empty as NoEntry, Branch as RootedAt};
+ghost use Rattle.tw_base.specs.history.Auth.{tree_label};
+ghost use Rattle.tw_base.specs.kinds.Texts.{empty_tree_text};
+ghost use Rattle.tw_base.specs.history.Tree.{entries};
+ghost use Rattle.tw_base.specs.history.Tree.Tree.{Empty as NoEntry, Branch as RootedAt};
 ghost use Rattle.tw_tree.specs.TreeMeaning.{tree_of};
 
 use std::alloc::Global;
@@ -58,7 +58,7 @@ pub fn label<H: Hasher>(tree: &Tree) -> Digest
 }
 
 /// The tree's label, where that of the empty tree is at hand.
-#[tactic(auto, unfolding(tw_base::specs::Auth::tree_label))]
+#[tactic(auto, unfolding(tw_base::specs::history::Auth::tree_label))]
 fn label_over<H: Hasher>(tree: &Tree, empty: &Digest) -> Digest
     requires { empty.now ≡ H.dig empty_tree_text }
     ensures { result ≡ tree_label H.dig (tree_of tree.now) }

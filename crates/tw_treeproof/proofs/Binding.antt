@@ -5,24 +5,24 @@ use Rattle.std.specs.Int.{w64, to_be_bytes, from_be_bytes}
 use Rattle.std.specs.Ordering.{is_eq}
 use Rattle.std.proofs.lemmas.List.{append-nil}
 use Rattle.std.proofs.lemmas.Nat.{from_be_bytes-to_be_bytes_8}
-use Rattle.tw_base.specs.declared.thread.Entry.{Entry}
-use Rattle.tw_base.specs.declared.tree_proof.Ancestor.{Ancestor}
-use Rattle.tw_base.specs.declared.tree_proof.Ask.{Ask}
-use Rattle.tw_base.specs.declared.tree_proof.Ask.TheVariants.{Present, Absent, Below, Above}
-use Rattle.tw_base.specs.declared.tree_proof.TreeProof.{TreeProof}
-use Rattle.tw_base.specs.declared.tree_proof.TreeProof.TheVariants.{Present as OfEntry, Gap}
-use Rattle.tw_base.specs.Auth.{tree_label}
-use Rattle.tw_base.specs.Clash.{Among, OrClash, Within}
-use Rattle.tw_base.specs.Entries.{IsFit, entry_text, key_of}
-use Rattle.tw_base.specs.HistoryTexts.{tree_texts}
-use Rattle.tw_base.specs.Lists.{Each}
-use Rattle.tw_base.specs.Texts.{empty_tree_text, tree_node_text}
-use Rattle.tw_base.specs.Tree.{Tree, IsRisingTree, entries}
-use Rattle.tw_base.specs.Tree.Tree.{Empty, Branch}
-use Rattle.tw_base.proofs.Clashes.{Among-left, Among-right, and_then, same_text}
-use Rattle.tw_base.proofs.ListLemmas.{Each-parts}
-use Rattle.tw_base.proofs.TextFields.{halves}
-use Rattle.tw_base.proofs.KeyTests.{same_key}
+use Rattle.tw_base.specs.declared.history.thread.Entry.{Entry}
+use Rattle.tw_base.specs.declared.history.tree_proof.Ancestor.{Ancestor}
+use Rattle.tw_base.specs.declared.history.tree_proof.Ask.{Ask}
+use Rattle.tw_base.specs.declared.history.tree_proof.Ask.TheVariants.{Present, Absent, Below, Above}
+use Rattle.tw_base.specs.declared.history.tree_proof.TreeProof.{TreeProof}
+use Rattle.tw_base.specs.declared.history.tree_proof.TreeProof.TheVariants.{Present as OfEntry, Gap}
+use Rattle.tw_base.specs.history.Auth.{tree_label}
+use Rattle.tw_base.specs.kinds.Clash.{Among, OrClash, Within}
+use Rattle.tw_base.specs.history.Entries.{IsFit, entry_text, key_of}
+use Rattle.tw_base.specs.history.HistoryTexts.{tree_texts}
+use Rattle.tw_base.specs.kinds.Lists.{Each}
+use Rattle.tw_base.specs.kinds.Texts.{empty_tree_text, tree_node_text}
+use Rattle.tw_base.specs.history.Tree.{Tree, IsRisingTree, entries}
+use Rattle.tw_base.specs.history.Tree.Tree.{Empty, Branch}
+use Rattle.tw_base.proofs.lemmas.kinds.Clashes.{Among-left, Among-right, and_then, same_text}
+use Rattle.tw_base.proofs.lemmas.kinds.ListLemmas.{Each-parts}
+use Rattle.tw_base.proofs.lemmas.kinds.TextFields.{halves}
+use Rattle.tw_base.proofs.lemmas.history.KeyTests.{same_key}
 use Rattle.tw_treeproof.specs.declared.shown.Shown.{Shown}
 use Rattle.tw_treeproof.specs.declared.shown.Shown.TheVariants.{Present as IsThere, Absent as IsNotThere, Nearest, Wrong}
 use Rattle.tw_treeproof.specs.Answers.{Checks, IsAnswer, Shows, ancestors_of, answer_of, proof_texts}

@@ -1,11 +1,11 @@
 -- The codecs of tree proofs are lawful; the greatest sizes of their words.
 use Rattle.std.proofs.Common.{◌≡◌, ℕ, suc, ◌+◌, ◌-◌, ◌≤◌, List, length, refl, subst, arith}
-use Rattle.tw_base.specs.declared.tree_proof.TreeProof.TheVariants.{Present}
-use Rattle.tw_base.specs.Codecs.{Codec, many, number_codec, pair}
-use Rattle.tw_base.proofs.CodecLaws.{Lawful, lawful, lawful-by_kind, lawful-variant}
-use Rattle.tw_base.proofs.CodecSizes.{AtMost, at_most-by_kind, at_most-bytes, at_most-variant, at_most-counted, at_most-many, at_most-number, at_most-pair, at_most-seen}
-use Rattle.tw_base.proofs.EntryCodecLaws.{entry-lawful, entry-most}
-use Rattle.tw_base.proofs.TakeLaws.{ManyTaken}
+use Rattle.tw_base.specs.declared.history.tree_proof.TreeProof.TheVariants.{Present}
+use Rattle.tw_base.specs.format.Codecs.{Codec, many, number_codec, pair}
+use Rattle.tw_base.proofs.lemmas.format.CodecLaws.{Lawful, lawful, lawful-by_kind, lawful-variant}
+use Rattle.tw_base.proofs.lemmas.format.CodecSizes.{AtMost, at_most-by_kind, at_most-bytes, at_most-variant, at_most-counted, at_most-many, at_most-number, at_most-pair, at_most-seen}
+use Rattle.tw_base.proofs.lemmas.history.EntryCodecLaws.{entry-lawful, entry-most}
+use Rattle.tw_base.proofs.lemmas.format.TakeLaws.{ManyTaken}
 use Rattle.tw_treeproof.specs.declared.limits.TheConstants.{MOST_ABOVE_ENTRY}
 use Rattle.tw_treeproof.specs.Codecs.{PresentParts, ancestor_codec, gap_codec, parts_codec, parts_of, present_codec}
 

@@ -4,14 +4,14 @@ use Rattle.std.specs.Prelude.{Option, Some, None, if◌then◌else◌}
 use Rattle.std.specs.declared.cmp.Ordering.{Ordering}
 use Rattle.std.specs.declared.cmp.Ordering.TheVariants.{Less, Equal, Greater}
 use Rattle.std.specs.Ordering.{is_eq, is_lt}
-use Rattle.tw_base.specs.declared.thread.Entry.{Entry}
-use Rattle.tw_base.specs.declared.thread.Key.{Key}
-use Rattle.tw_base.specs.declared.tree_proof.Ask.{Ask}
-use Rattle.tw_base.specs.declared.tree_proof.Ask.TheVariants.{Present, Absent, Below, Above}
-use Rattle.tw_base.specs.Asking.{entry_with}
-use Rattle.tw_base.specs.Entries.{key_cmp, key_of}
-use Rattle.tw_base.specs.Tree.{Tree, IsRising, entries}
-use Rattle.tw_base.specs.Tree.Tree.{Empty, Branch}
+use Rattle.tw_base.specs.declared.history.thread.Entry.{Entry}
+use Rattle.tw_base.specs.declared.history.thread.Key.{Key}
+use Rattle.tw_base.specs.declared.history.tree_proof.Ask.{Ask}
+use Rattle.tw_base.specs.declared.history.tree_proof.Ask.TheVariants.{Present, Absent, Below, Above}
+use Rattle.tw_base.specs.history.Asking.{entry_with}
+use Rattle.tw_base.specs.history.Entries.{key_cmp, key_of}
+use Rattle.tw_base.specs.history.Tree.{Tree, IsRising, entries}
+use Rattle.tw_base.specs.history.Tree.Tree.{Empty, Branch}
 use Rattle.tw_tree.proofs.Asked.{cut, with-equal, with-less, with-more}
 use Rattle.tw_treeproof.specs.Making.{IsSo, place_of}
 use Rattle.tw_treeproof.specs.Ways.{has_asked_key, is_left}

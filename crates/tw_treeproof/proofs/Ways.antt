@@ -3,18 +3,18 @@ use Rattle.std.proofs.Common.{◌≡◌, ℕ, List, [], ◌∷◌, ◌++◌, Boo
 use Rattle.std.specs.Prelude.{Option, Some, None, not, if◌then◌else◌}
 use Rattle.std.specs.Option.{option_or}
 use Rattle.std.specs.Ordering.{is_lt}
-use Rattle.tw_base.specs.declared.thread.Entry.{Entry}
-use Rattle.tw_base.specs.declared.thread.Key.{Key}
-use Rattle.tw_base.specs.declared.tree_proof.Ancestor.{Ancestor}
-use Rattle.tw_base.specs.declared.tree_proof.Ask.{Ask}
-use Rattle.tw_base.specs.declared.tree_proof.Ask.TheVariants.{Below, Above}
-use Rattle.tw_base.specs.Asking.{first_above, last_below}
-use Rattle.tw_base.specs.Auth.{tree_label}
-use Rattle.tw_base.specs.Entries.{entry_text, key_cmp, key_of}
-use Rattle.tw_base.specs.Lists.{Each}
-use Rattle.tw_base.specs.Tree.{Tree, IsRising, entries}
-use Rattle.tw_base.specs.Tree.Tree.{Empty, Branch}
-use Rattle.tw_base.proofs.ListLemmas.{Each-append}
+use Rattle.tw_base.specs.declared.history.thread.Entry.{Entry}
+use Rattle.tw_base.specs.declared.history.thread.Key.{Key}
+use Rattle.tw_base.specs.declared.history.tree_proof.Ancestor.{Ancestor}
+use Rattle.tw_base.specs.declared.history.tree_proof.Ask.{Ask}
+use Rattle.tw_base.specs.declared.history.tree_proof.Ask.TheVariants.{Below, Above}
+use Rattle.tw_base.specs.history.Asking.{first_above, last_below}
+use Rattle.tw_base.specs.history.Auth.{tree_label}
+use Rattle.tw_base.specs.history.Entries.{entry_text, key_cmp, key_of}
+use Rattle.tw_base.specs.kinds.Lists.{Each}
+use Rattle.tw_base.specs.history.Tree.{Tree, IsRising, entries}
+use Rattle.tw_base.specs.history.Tree.Tree.{Empty, Branch}
+use Rattle.tw_base.proofs.lemmas.kinds.ListLemmas.{Each-append}
 use Rattle.tw_tree.proofs.Asked.{above-left, above-right, below-left, below-right, cut, or-none}
 use Rattle.tw_treeproof.specs.Making.{ancestor, place_of, way_up}
 use Rattle.tw_treeproof.specs.Ways.{IsNotAsked, climbed, has_asked_key, is_left, nearest_left, nearest_right, over_text}

@@ -1,15 +1,15 @@
 -- When a tree proof checks under a label, what it then shows, and when that is so of a tree's entries.
 use Rattle.std.specs.Prelude.{◌≡◌, Bool, true, false, ℕ, List, ◌∷◌, Some, None}
-use Rattle.tw_base.specs.declared.thread.Entry.{Entry}
-use Rattle.tw_base.specs.declared.tree_proof.Ancestor.{Ancestor}
-use Rattle.tw_base.specs.declared.tree_proof.Ask.{Ask}
-use Rattle.tw_base.specs.declared.tree_proof.Ask.TheVariants.{Present, Absent, Below, Above}
-use Rattle.tw_base.specs.declared.tree_proof.TreeProof.{TreeProof}
-use Rattle.tw_base.specs.declared.tree_proof.TreeProof.TheVariants.{Present as OfEntry, Gap}
-use Rattle.tw_base.specs.Asking.{entry_with, first_above, last_below}
-use Rattle.tw_base.specs.Entries.{entry_text, key_of}
-use Rattle.tw_base.specs.Lists.{Each}
-use Rattle.tw_base.specs.Texts.{empty_tree_text}
+use Rattle.tw_base.specs.declared.history.thread.Entry.{Entry}
+use Rattle.tw_base.specs.declared.history.tree_proof.Ancestor.{Ancestor}
+use Rattle.tw_base.specs.declared.history.tree_proof.Ask.{Ask}
+use Rattle.tw_base.specs.declared.history.tree_proof.Ask.TheVariants.{Present, Absent, Below, Above}
+use Rattle.tw_base.specs.declared.history.tree_proof.TreeProof.{TreeProof}
+use Rattle.tw_base.specs.declared.history.tree_proof.TreeProof.TheVariants.{Present as OfEntry, Gap}
+use Rattle.tw_base.specs.history.Asking.{entry_with, first_above, last_below}
+use Rattle.tw_base.specs.history.Entries.{entry_text, key_of}
+use Rattle.tw_base.specs.kinds.Lists.{Each}
+use Rattle.tw_base.specs.kinds.Texts.{empty_tree_text}
 use Rattle.tw_treeproof.specs.declared.shown.Shown.{Shown}
 use Rattle.tw_treeproof.specs.declared.shown.Shown.TheVariants.{Present as IsThere, Absent as IsNotThere, Nearest, Wrong}
 use Rattle.tw_treeproof.specs.Ways.{IsNotAsked, climbed, climb_texts, is_left, nearest_left, nearest_right}

@@ -1,10 +1,10 @@
 -- The bytes of tree proofs.
 use Rattle.std.specs.Prelude.{ℕ, List, length, Bool, Option, Some, None}
-use Rattle.tw_base.specs.declared.tree_proof.Ancestor.{Ancestor}
-use Rattle.tw_base.specs.declared.tree_proof.TreeProof.{TreeProof}
-use Rattle.tw_base.specs.declared.tree_proof.TreeProof.TheVariants.{Present, Gap}
-use Rattle.tw_base.specs.Codecs.{Codec, by_kind, choose, counted, digest_codec, many, number_codec, pair, seen, variant}
-use Rattle.tw_base.specs.EntryCodec.{entry_codec}
+use Rattle.tw_base.specs.declared.history.tree_proof.Ancestor.{Ancestor}
+use Rattle.tw_base.specs.declared.history.tree_proof.TreeProof.{TreeProof}
+use Rattle.tw_base.specs.declared.history.tree_proof.TreeProof.TheVariants.{Present, Gap}
+use Rattle.tw_base.specs.format.Codecs.{Codec, by_kind, choose, counted, digest_codec, many, number_codec, pair, seen, variant}
+use Rattle.tw_base.specs.history.EntryCodec.{entry_codec}
 use Rattle.tw_treeproof.specs.declared.limits.TheConstants.{MOST_ABOVE_ENTRY, MOST_ABOVE_PLACE}
 use Rattle.tw_treeproof.specs.Answers.{is_of_entry}
 

@@ -1,10 +1,10 @@
 -- Which tree proofs are within the limits of their format.
 use Rattle.std.specs.Prelude.{ℕ, ◌≤◌, length}
-use Rattle.tw_base.specs.declared.tree_proof.Ancestor.{Ancestor}
-use Rattle.tw_base.specs.declared.tree_proof.TreeProof.{TreeProof}
-use Rattle.tw_base.specs.declared.tree_proof.TreeProof.TheVariants.{Present, Gap}
-use Rattle.tw_base.specs.Limits.{IsEntryInRange}
-use Rattle.tw_base.specs.Lists.{Each}
+use Rattle.tw_base.specs.declared.history.tree_proof.Ancestor.{Ancestor}
+use Rattle.tw_base.specs.declared.history.tree_proof.TreeProof.{TreeProof}
+use Rattle.tw_base.specs.declared.history.tree_proof.TreeProof.TheVariants.{Present, Gap}
+use Rattle.tw_base.specs.history.Limits.{IsEntryInRange}
+use Rattle.tw_base.specs.kinds.Lists.{Each}
 use Rattle.tw_treeproof.specs.declared.limits.TheConstants.{MOST_ABOVE_ENTRY, MOST_ABOVE_PLACE}
 use Rattle.tw_treeproof.specs.Answers.{ancestors_of}
 

@@ -1,14 +1,14 @@
 -- The proof that a tree itself has of the answer to a question.
 use Rattle.std.specs.Prelude.{◌≡◌, ℕ, suc, max, List, [], ◌∷◌, ◌++◌, Result, Ok, Err, if◌then◌else◌}
-use Rattle.tw_base.specs.declared.thread.Entry.{Entry}
-use Rattle.tw_base.specs.declared.tree_proof.Ancestor.{Ancestor}
-use Rattle.tw_base.specs.declared.tree_proof.Ask.{Ask}
-use Rattle.tw_base.specs.declared.tree_proof.Ask.TheVariants.{Present, Absent, Below, Above}
-use Rattle.tw_base.specs.declared.tree_proof.TreeProof.{TreeProof}
-use Rattle.tw_base.specs.declared.tree_proof.TreeProof.TheVariants.{Present as OfEntry, Gap}
-use Rattle.tw_base.specs.Auth.{tree_label}
-use Rattle.tw_base.specs.Tree.{Tree, entries}
-use Rattle.tw_base.specs.Tree.Tree.{Empty, Branch}
+use Rattle.tw_base.specs.declared.history.thread.Entry.{Entry}
+use Rattle.tw_base.specs.declared.history.tree_proof.Ancestor.{Ancestor}
+use Rattle.tw_base.specs.declared.history.tree_proof.Ask.{Ask}
+use Rattle.tw_base.specs.declared.history.tree_proof.Ask.TheVariants.{Present, Absent, Below, Above}
+use Rattle.tw_base.specs.declared.history.tree_proof.TreeProof.{TreeProof}
+use Rattle.tw_base.specs.declared.history.tree_proof.TreeProof.TheVariants.{Present as OfEntry, Gap}
+use Rattle.tw_base.specs.history.Auth.{tree_label}
+use Rattle.tw_base.specs.history.Tree.{Tree, entries}
+use Rattle.tw_base.specs.history.Tree.Tree.{Empty, Branch}
 use Rattle.tw_treeproof.specs.declared.making.ProveFault.{ProveFault}
 use Rattle.tw_treeproof.specs.declared.making.ProveFault.TheVariants.{Untrue, NoMemory}
 use Rattle.tw_treeproof.specs.declared.shown.Shown.TheVariants.{Present as IsThere, Absent as IsNotThere}

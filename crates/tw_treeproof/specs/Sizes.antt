@@ -1,12 +1,12 @@
 -- What the types of a tree proof keep: digests of 32 bytes, and fields that fit the text of a node.
 use Rattle.std.specs.Prelude.{◌≡◌, List, length}
-use Rattle.tw_base.specs.declared.tree_proof.Ancestor.{Ancestor}
-use Rattle.tw_base.specs.declared.tree_proof.Ask.{Ask}
-use Rattle.tw_base.specs.declared.tree_proof.Ask.TheVariants.{Present}
-use Rattle.tw_base.specs.declared.tree_proof.TreeProof.{TreeProof}
-use Rattle.tw_base.specs.declared.tree_proof.TreeProof.TheVariants.{Present as OfEntry}
-use Rattle.tw_base.specs.Entries.{IsFit}
-use Rattle.tw_base.specs.Lists.{Each}
+use Rattle.tw_base.specs.declared.history.tree_proof.Ancestor.{Ancestor}
+use Rattle.tw_base.specs.declared.history.tree_proof.Ask.{Ask}
+use Rattle.tw_base.specs.declared.history.tree_proof.Ask.TheVariants.{Present}
+use Rattle.tw_base.specs.declared.history.tree_proof.TreeProof.{TreeProof}
+use Rattle.tw_base.specs.declared.history.tree_proof.TreeProof.TheVariants.{Present as OfEntry}
+use Rattle.tw_base.specs.history.Entries.{IsFit}
+use Rattle.tw_base.specs.kinds.Lists.{Each}
 use Rattle.tw_treeproof.specs.Answers.{ancestors_of}
 
 abbrev pub HasSizes : List Ancestor → Type 0

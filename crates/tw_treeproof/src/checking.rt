@@ -1,12 +1,12 @@
 // Checking a proof against a tree's label.
 
 ghost use Rattle.std.specs.Prelude.{◌≡◌, ◌≢◌, ℕ, List, ◌++◌, length, MatchOption, IfSome, IsTrue, ◌↔◌};
-ghost use Rattle.tw_base.specs.Auth.{tree_label};
-ghost use Rattle.tw_base.specs.Clash.{OrClash};
-ghost use Rattle.tw_base.specs.Entries.{IsFit};
-ghost use Rattle.tw_base.specs.HistoryTexts.{tree_texts};
-ghost use Rattle.tw_base.specs.Lists.{Each};
-ghost use Rattle.tw_base.specs.Tree.{IsRisingTree, Tree, entries};
+ghost use Rattle.tw_base.specs.history.Auth.{tree_label};
+ghost use Rattle.tw_base.specs.kinds.Clash.{OrClash};
+ghost use Rattle.tw_base.specs.history.Entries.{IsFit};
+ghost use Rattle.tw_base.specs.history.HistoryTexts.{tree_texts};
+ghost use Rattle.tw_base.specs.kinds.Lists.{Each};
+ghost use Rattle.tw_base.specs.history.Tree.{IsRisingTree, Tree, entries};
 ghost use Rattle.tw_treeproof.specs.Answers.{IsAnswer, Shows, ancestors_of, answer_of, asks_entry, is_of_entry, place_text, proof_texts};
 ghost use Rattle.tw_treeproof.specs.Ways.{IsNotAsked, climbed, is_left, nearest_left as left_of_way, nearest_right as right_of_way, over_text};
 ghost use Rattle.tw_treeproof.specs.Sizes.{HasPlaceSizes, HasProofSizes, HasSizes};

@@ -1,14 +1,14 @@
 // The laws of tree proofs, on which the layers above build.
 
 ghost use Rattle.std.specs.Prelude.{◌≡◌, ℕ, ◌≤◌, List, length};
-ghost use Rattle.tw_base.specs.declared.tree_proof.Ask.{Ask};
-ghost use Rattle.tw_base.specs.declared.tree_proof.TreeProof.{TreeProof};
-ghost use Rattle.tw_base.specs.Auth.{tree_label};
-ghost use Rattle.tw_base.specs.Codecs.{IsUnambiguous};
-ghost use Rattle.tw_base.specs.Formats.{Spells};
-ghost use Rattle.tw_base.specs.Lists.{Each};
-ghost use Rattle.tw_base.specs.Tree.{IsRising, Tree, entries};
-ghost use Rattle.tw_base.specs.EntryCodec.{entry_codec};
+ghost use Rattle.tw_base.specs.declared.history.tree_proof.Ask.{Ask};
+ghost use Rattle.tw_base.specs.declared.history.tree_proof.TreeProof.{TreeProof};
+ghost use Rattle.tw_base.specs.history.Auth.{tree_label};
+ghost use Rattle.tw_base.specs.format.Codecs.{IsUnambiguous};
+ghost use Rattle.tw_base.specs.format.Formats.{Spells};
+ghost use Rattle.tw_base.specs.kinds.Lists.{Each};
+ghost use Rattle.tw_base.specs.history.Tree.{IsRising, Tree, entries};
+ghost use Rattle.tw_base.specs.history.EntryCodec.{entry_codec};
 ghost use Rattle.tw_treeproof.specs.declared.limits.TheConstants.{MOST_ABOVE_PLACE};
 ghost use Rattle.tw_treeproof.specs.Answers.{Checks, IsAnswer, ancestors_of, answer_of, asks_entry};
 ghost use Rattle.tw_treeproof.specs.Codecs.{gap_codec, present_codec, tree_proof_codec};

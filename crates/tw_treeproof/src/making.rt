@@ -1,7 +1,7 @@
 // Making a proof over a tree in memory.
 
 ghost use Rattle.std.specs.Prelude.{◌≡◌, ◌↔◌, IfOk, IsTrue};
-ghost use Rattle.tw_base.specs.Tree.{IsRising, entries};
+ghost use Rattle.tw_base.specs.history.Tree.{IsRising, entries};
 ghost use Rattle.tw_tree.specs.TreeMeaning.{tree_of};
 ghost use Rattle.tw_treeproof.specs.Making.{IsSo, Proves, place_of, proof_at as proof_of_place, way_up};
 

@@ -1,9 +1,9 @@
 // Reading tree proofs.
-#![tactic(auto, unfolding(crate::specs::Codecs::ancestor_codec, tw_base::specs::Codecs::pair, tw_base::specs::Codecs::seen))]
+#![tactic(auto, unfolding(crate::specs::Codecs::ancestor_codec, tw_base::specs::format::Codecs::pair, tw_base::specs::format::Codecs::seen))]
 
 ghost use Rattle.std.specs.Prelude.{◌≤◌, length};
-ghost use Rattle.tw_base.specs.Codecs.{counted, many};
-ghost use Rattle.tw_base.specs.Taking.{Takes};
+ghost use Rattle.tw_base.specs.format.Codecs.{counted, many};
+ghost use Rattle.tw_base.specs.format.Taking.{Takes};
 ghost use Rattle.tw_treeproof.specs.declared.limits.TheConstants.{MOST_ABOVE_PLACE};
 ghost use Rattle.tw_treeproof.specs.Codecs.{ancestor_codec, counted_parts, gap_codec, parts_codec, present_codec};
 
@@ -83,7 +83,7 @@ fn take_counted_parts(alloc: Global, bytes: &[u8], at: &mut u64) -> Result<Prese
 
 /// Takes a proof of an entry: the number of the nodes above it (at most 127), the labels of both
 /// sides of its node, and the nodes.
-#[tactic(auto, unfolding(crate::specs::Codecs::present_codec, tw_base::specs::Codecs::variant))]
+#[tactic(auto, unfolding(crate::specs::Codecs::present_codec, tw_base::specs::format::Codecs::variant))]
 pub fn take_present(alloc: Global, bytes: &[u8], at: &mut u64) -> Result<TreeProof, ReadFault>
     requires { at.old ≤ length bytes.now }
     // A proof of an entry is taken at a place exactly as its codec reads it; else the place of the first bad byte is
@@ -99,7 +99,7 @@ pub fn take_present(alloc: Global, bytes: &[u8], at: &mut u64) -> Result<TreePro
 }
 
 /// Takes a proof of an empty place: the number of the nodes above it (at most 128), and the nodes.
-#[tactic(auto, unfolding(crate::specs::Codecs::gap_codec, tw_base::specs::Codecs::variant))]
+#[tactic(auto, unfolding(crate::specs::Codecs::gap_codec, tw_base::specs::format::Codecs::variant))]
 pub fn take_gap(alloc: Global, bytes: &[u8], at: &mut u64) -> Result<TreeProof, ReadFault>
     requires { at.old ≤ length bytes.now }
     // A proof of an empty place is taken at a place exactly as its codec reads it; else the place of the first bad byte

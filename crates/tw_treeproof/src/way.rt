@@ -2,7 +2,7 @@
 
 ghost use Rattle.std.specs.Prelude.{◌≡◌};
 ghost use Rattle.std.specs.Ordering.{is_eq};
-ghost use Rattle.tw_base.specs.Entries.{key_cmp};
+ghost use Rattle.tw_base.specs.history.Entries.{key_cmp};
 ghost use Rattle.tw_treeproof.specs.Ways.{has_asked_key, is_left};
 
 use std::cmp::Ordering;

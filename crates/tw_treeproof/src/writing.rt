@@ -1,9 +1,9 @@
 // Writing tree proofs.
-#![tactic(auto, unfolding(crate::specs::Codecs::ancestor_codec, tw_base::specs::Codecs::bytes_codec, tw_base::specs::Codecs::pair, tw_base::specs::Codecs::seen))]
+#![tactic(auto, unfolding(crate::specs::Codecs::ancestor_codec, tw_base::specs::format::Codecs::bytes_codec, tw_base::specs::format::Codecs::pair, tw_base::specs::format::Codecs::seen))]
 
 ghost use Rattle.std.specs.Prelude.{◌≡◌, ◌++◌, flat_map, length, OnOk};
-ghost use Rattle.tw_base.specs.Fields.{number_bytes};
-ghost use Rattle.tw_base.specs.Lists.{Each};
+ghost use Rattle.tw_base.specs.format.Fields.{number_bytes};
+ghost use Rattle.tw_base.specs.kinds.Lists.{Each};
 ghost use Rattle.tw_treeproof.specs.Codecs.{ancestor_codec, gap_codec, present_codec, tree_proof_bytes, tree_proof_codec};
 ghost use Rattle.tw_treeproof.specs.Answers.{is_of_entry};
 ghost use Rattle.tw_treeproof.specs.Limits.{IsAncestorInRange, IsProofInRange};
@@ -44,7 +44,7 @@ fn put_ancestors(into: &mut Bytes, ancestors: &[Ancestor]) -> Result<(), NoMemor
 /// Appends the proof: the number of the nodes above, of an entry the labels of both sides of its
 /// node, and the nodes, nearest first. They spell it where it has at most 127 nodes above an entry or
 /// 128 above an empty place, and their entries' steps are within 1 to 2^40 - 1.
-#[tactic(auto, unfolding(crate::specs::Codecs::gap_codec, crate::specs::Codecs::present_codec, tw_base::specs::Codecs::by_kind, tw_base::specs::Codecs::bytes_codec, tw_base::specs::Codecs::counted, tw_base::specs::Codecs::many, tw_base::specs::Codecs::number_codec, tw_base::specs::Codecs::pair, tw_base::specs::Codecs::variant))]
+#[tactic(auto, unfolding(crate::specs::Codecs::gap_codec, crate::specs::Codecs::present_codec, tw_base::specs::format::Codecs::by_kind, tw_base::specs::format::Codecs::bytes_codec, tw_base::specs::format::Codecs::counted, tw_base::specs::format::Codecs::many, tw_base::specs::format::Codecs::number_codec, tw_base::specs::format::Codecs::pair, tw_base::specs::format::Codecs::variant))]
 pub fn put_tree_proof(into: &mut Bytes, proof: &TreeProof) -> Result<(), NoMemory>
     // What is appended of a tree proof is its bytes in the format.
     ensures ok { OnOk result (into.new ≡ into.old ++ tree_proof_bytes proof.now) }
@@ -70,7 +70,7 @@ pub fn put_tree_proof(into: &mut Bytes, proof: &TreeProof) -> Result<(), NoMemor
 }
 
 /// Appends the proof where it is of an entry, and else nothing.
-#[tactic(auto, unfolding(crate::specs::Codecs::present_codec, tw_base::specs::Codecs::variant))]
+#[tactic(auto, unfolding(crate::specs::Codecs::present_codec, tw_base::specs::format::Codecs::variant))]
 pub fn put_present(into: &mut Bytes, proof: &TreeProof) -> Result<(), NoMemory>
     // What is appended of a proof of an entry is its bytes in the format; of another proof nothing.
     ensures { OnOk result (into.new ≡ into.old ++ present_codec.write proof.now) }
@@ -82,7 +82,7 @@ pub fn put_present(into: &mut Bytes, proof: &TreeProof) -> Result<(), NoMemory>
 }
 
 /// Appends the proof where it is of an empty place, and else nothing.
-#[tactic(auto, unfolding(crate::specs::Codecs::gap_codec, tw_base::specs::Codecs::variant))]
+#[tactic(auto, unfolding(crate::specs::Codecs::gap_codec, tw_base::specs::format::Codecs::variant))]
 pub fn put_gap(into: &mut Bytes, proof: &TreeProof) -> Result<(), NoMemory>
     // What is appended of a proof of an empty place is its bytes in the format; of another proof nothing.
     ensures { OnOk result (into.new ≡ into.old ++ gap_codec.write proof.now) }

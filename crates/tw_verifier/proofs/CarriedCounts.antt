@@ -4,11 +4,11 @@ use Rattle.std.specs.Prelude.{Bool, true, false, ◌==◌, if◌then◌else◌}
 use Rattle.std.specs.List.{flat_map}
 use Rattle.std.proofs.lemmas.Grind.{flat_map-append}
 use Rattle.std.proofs.lemmas.List.{append-nil}
-use Rattle.tw_base.specs.declared.limits.TheConstants.{MOST_HOPS}
-use Rattle.tw_base.specs.declared.thread.Thread.{Thread}
-use Rattle.tw_base.specs.Codecs.{behind, by_kind, number_codec, variant}
-use Rattle.tw_base.specs.Formats.{Spells}
-use Rattle.tw_base.proofs.CodecLaws.{spelled-fits}
+use Rattle.tw_base.specs.declared.kinds.limits.TheConstants.{MOST_HOPS}
+use Rattle.tw_base.specs.declared.history.thread.Thread.{Thread}
+use Rattle.tw_base.specs.format.Codecs.{behind, by_kind, number_codec, variant}
+use Rattle.tw_base.specs.format.Formats.{Spells}
+use Rattle.tw_base.proofs.lemmas.format.CodecLaws.{spelled-fits}
 use Rattle.tw_chain.specs.declared.proof.HopPart.{HopPart}
 use Rattle.tw_chain.specs.declared.proof.PrecedenceProof.{PrecedenceProof}
 use Rattle.tw_chain.specs.declared.proof.Proof.{Proof}

@@ -5,10 +5,10 @@ use Rattle.std.specs.List.{flat_map}
 use Rattle.std.proofs.lemmas.List.{append-nil, reverse-append}
 use Rattle.std.proofs.Math.Nat.{add-zero}
 use Rattle.std.proofs.lemmas.Grind.{flat_map-append}
-use Rattle.tw_base.specs.declared.report.Claim.{Claim}
-use Rattle.tw_base.specs.declared.report.Hop.{Hop}
-use Rattle.tw_base.specs.declared.report.Reason.{Reason}
-use Rattle.tw_base.specs.declared.thread.Thread.{Thread}
+use Rattle.tw_base.specs.declared.history.report.Claim.{Claim}
+use Rattle.tw_base.specs.declared.history.report.Hop.{Hop}
+use Rattle.tw_base.specs.declared.history.report.Reason.{Reason}
+use Rattle.tw_base.specs.declared.history.thread.Thread.{Thread}
 use Rattle.tw_verifier.specs.declared.chain.Chain.{Chain}
 use Rattle.tw_verifier.specs.declared.judgement.Judgement.{Judgement}
 use Rattle.tw_chain.specs.declared.proof.HopPart.{HopPart}

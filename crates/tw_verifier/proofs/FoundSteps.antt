@@ -4,10 +4,10 @@ use Rattle.std.specs.Prelude.{Bool, true, Option, Some, None, IfSome, ifâ—Œthenâ
 use Rattle.std.specs.Bool.{Decides}
 use Rattle.std.specs.Option.{option_map}
 use Rattle.std.proofs.lemmas.Bool.Decides.{same_from_decides}
-use Rattle.tw_base.specs.declared.report.Reason.{Reason}
-use Rattle.tw_base.specs.declared.report.Reason.TheVariants.{NotHeld}
-use Rattle.tw_base.specs.declared.thread.Key.{Key}
-use Rattle.tw_base.specs.declared.thread.Thread.{Thread}
+use Rattle.tw_base.specs.declared.history.report.Reason.{Reason}
+use Rattle.tw_base.specs.declared.history.report.Reason.TheVariants.{NotHeld}
+use Rattle.tw_base.specs.declared.history.thread.Key.{Key}
+use Rattle.tw_base.specs.declared.history.thread.Thread.{Thread}
 use Rattle.tw_verifier.specs.Chaining.{found_with}
 use Rattle.tw_chain.specs.Checks.{Check}
 use Rattle.tw_chain.specs.Checks.Check.{NeedsAnchor}

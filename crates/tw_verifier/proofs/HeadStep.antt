@@ -4,8 +4,8 @@ use Rattle.std.specs.Prelude.{Option, Some, None, ◌-◌, reverse}
 use Rattle.std.specs.List.{flat_map}
 use Rattle.std.proofs.lemmas.Grind.{flat_map-append}
 use Rattle.std.proofs.lemmas.List.{append-nil}
-use Rattle.tw_base.specs.declared.report.Reason.{Reason}
-use Rattle.tw_base.specs.declared.thread.Thread.{Thread}
+use Rattle.tw_base.specs.declared.history.report.Reason.{Reason}
+use Rattle.tw_base.specs.declared.history.thread.Thread.{Thread}
 use Rattle.tw_skipproof.specs.declared.opening.Opening.{Opening}
 use Rattle.tw_chain.specs.declared.proof.PrecedenceProof.{PrecedenceProof}
 use Rattle.tw_chain.specs.declared.proof.Proof.TheVariants.{Precedes}
@@ -13,7 +13,7 @@ use Rattle.tw_verifier.specs.Chaining.{behind_checks, chain_of, closed, found_wi
 use Rattle.tw_chain.specs.Checks.{Check, checks, end_of, head_checks, hops_checks, opening_checks, root_of, start_of, tail_checks}
 use Rattle.tw_verifier.specs.Judgements.{found_in, judgement_of, lower_of}
 use Rattle.tw_chain.specs.Passing.{carried_by}
-use Rattle.tw_base.specs.declared.report.Hop.{Hop}
+use Rattle.tw_base.specs.declared.history.report.Hop.{Hop}
 use Rattle.tw_verifier.specs.declared.judgement.Judgement.{Judgement}
 use Rattle.tw_chain.specs.Accepting.{claim_of, hops_to}
 use Rattle.tw_verifier.proofs.ChainSteps.{found-append}

@@ -1,12 +1,12 @@
 -- The words of proofs, their fronts and their places are the same where each word has its judgement as its value.
 use Rattle.std.proofs.Common.{◌≡◌, ℕ, List, [], ◌∷◌, ◌++◌, take, refl, sym, ◌∙◌, subst}
 use Rattle.std.proofs.lemmas.List.{append-nil}
-use Rattle.tw_base.specs.declared.thread.Thread.{Thread}
-use Rattle.tw_base.specs.Formats.{Format, IsFront, IsPlace, Spells, SpellsNothing, then_by}
-use Rattle.tw_base.specs.Formats.Format.{Done}
-use Rattle.tw_base.specs.Resuming.{StaysFront}
-use Rattle.tw_base.proofs.FormatLaws.{goes_on-then, spells_then, then_spells}
-use Rattle.tw_base.proofs.PieceLaws.{starts}
+use Rattle.tw_base.specs.declared.history.thread.Thread.{Thread}
+use Rattle.tw_base.specs.format.Formats.{Format, IsFront, IsPlace, Spells, SpellsNothing, then_by}
+use Rattle.tw_base.specs.format.Formats.Format.{Done}
+use Rattle.tw_pieces.specs.Resuming.{StaysFront}
+use Rattle.tw_base.proofs.lemmas.format.FormatLaws.{goes_on-then, spells_then, then_spells}
+use Rattle.tw_pieces.proofs.PieceLaws.{starts}
 use Rattle.tw_verifier.specs.declared.judgement.Judgement.{Judgement}
 use Rattle.tw_chain.specs.declared.proof.Proof.{Proof}
 use Rattle.tw_verifier.specs.Judgements.{judged_layout, judgement_of}

@@ -1,8 +1,8 @@
 -- The lower of three reasons.
 use Rattle.std.proofs.Common.{◌≡◌, ℕ, ◌<◌, refl, sym, ap, ◌∙◌, arith}
 use Rattle.std.specs.Prelude.{Option, Some, None, Bool, true, false, nat_lt, ◌==◌, ◌&&◌, if◌then◌else◌}
-use Rattle.tw_base.specs.declared.report.Reason.{Reason}
-use Rattle.tw_base.specs.Reasons.{reason_number, reason_place}
+use Rattle.tw_base.specs.declared.history.report.Reason.{Reason}
+use Rattle.tw_base.specs.history.Reasons.{reason_number, reason_place}
 use Rattle.tw_verifier.specs.Judgements.{is_lower, lower_of}
 
 abbrev below : (n p m q : ℕ) → Bool

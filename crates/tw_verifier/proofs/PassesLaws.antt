@@ -6,15 +6,15 @@ use Rattle.std.specs.Str.{bytes_eq}
 use Rattle.std.proofs.lemmas.Bool.{leb-true, le-leb, not-true, not_from_false}
 use Rattle.std.proofs.lemmas.Bool.Decides.{Decides-and, Decides-eqb, Decides-ltb}
 use Rattle.std.proofs.lemmas.Slice.Eq.{bytes_eq-Decides}
-use Rattle.tw_base.specs.declared.event_part.EventPart.{EventPart}
-use Rattle.tw_base.specs.declared.thread.Thread.{Thread}
-use Rattle.tw_base.specs.declared.tree_proof.Ancestor.{Ancestor}
-use Rattle.tw_base.specs.declared.tree_proof.Ask.{Ask}
-use Rattle.tw_base.specs.declared.tree_proof.TreeProof.{TreeProof}
-use Rattle.tw_base.specs.AuditPath.{path_length, path_sides, root_above}
-use Rattle.tw_base.specs.Levels.{top_level}
-use Rattle.tw_base.specs.Lists.{Each}
-use Rattle.tw_base.specs.Texts.{event_leaf_text}
+use Rattle.tw_base.specs.declared.events.event_part.EventPart.{EventPart}
+use Rattle.tw_base.specs.declared.history.thread.Thread.{Thread}
+use Rattle.tw_base.specs.declared.history.tree_proof.Ancestor.{Ancestor}
+use Rattle.tw_base.specs.declared.history.tree_proof.Ask.{Ask}
+use Rattle.tw_base.specs.declared.history.tree_proof.TreeProof.{TreeProof}
+use Rattle.tw_base.specs.events.AuditPath.{path_length, path_sides, root_above}
+use Rattle.tw_base.specs.kinds.Levels.{top_level}
+use Rattle.tw_base.specs.kinds.Lists.{Each}
+use Rattle.tw_base.specs.kinds.Texts.{event_leaf_text}
 use Rattle.tw_skipproof.specs.declared.existence.Part.{Part}
 use Rattle.tw_skipproof.specs.declared.opening.Opening.{Opening}
 use Rattle.tw_skipproof.specs.declared.path.Link.{Link}

@@ -3,19 +3,19 @@ use Rattle.std.proofs.Common.{◌≡◌, ℕ, suc, zero, ◌+◌, ◌-◌, ◌<�
 use Rattle.std.specs.Prelude.{Bool, true, false, Option, Some, None, nat_lt, ◌==◌, if◌then◌else◌}
 use Rattle.std.proofs.lemmas.Bool.{le-ltb, lt-ltb}
 use Rattle.std.proofs.lemmas.List.{append-nil, length-replicate}
-use Rattle.tw_base.specs.declared.event_part.EventPart.{EventPart}
-use Rattle.tw_base.specs.declared.limits.TheConstants.{LAST_STEP, MOST_HOPS}
-use Rattle.tw_base.specs.declared.thread.Entry.{Entry}
-use Rattle.tw_base.specs.declared.thread.Key.{Key}
-use Rattle.tw_base.specs.declared.thread.Thread.{Thread}
-use Rattle.tw_base.specs.declared.tree_proof.Ancestor.{Ancestor}
-use Rattle.tw_base.specs.declared.tree_proof.TreeProof.{TreeProof}
-use Rattle.tw_base.specs.declared.tree_proof.TreeProof.TheVariants.{Present, Gap}
-use Rattle.tw_base.specs.Codecs.{Codec, choose, counted, digest_codec, each, each_format, many, name_codec, number_codec, optional, pair, text_codec}
-use Rattle.tw_base.specs.EntryCodec.{entry_codec}
-use Rattle.tw_base.specs.Formats.{Format, then_by}
-use Rattle.tw_base.specs.Formats.Format.{Done}
-use Rattle.tw_base.proofs.SegmentLaws.{then_absent, then_assoc, then_behind, then_each, then_kind, then_many, then_none, then_pair, then_present, then_seen, then_variant}
+use Rattle.tw_base.specs.declared.events.event_part.EventPart.{EventPart}
+use Rattle.tw_base.specs.declared.kinds.limits.TheConstants.{LAST_STEP, MOST_HOPS}
+use Rattle.tw_base.specs.declared.history.thread.Entry.{Entry}
+use Rattle.tw_base.specs.declared.history.thread.Key.{Key}
+use Rattle.tw_base.specs.declared.history.thread.Thread.{Thread}
+use Rattle.tw_base.specs.declared.history.tree_proof.Ancestor.{Ancestor}
+use Rattle.tw_base.specs.declared.history.tree_proof.TreeProof.{TreeProof}
+use Rattle.tw_base.specs.declared.history.tree_proof.TreeProof.TheVariants.{Present, Gap}
+use Rattle.tw_base.specs.format.Codecs.{Codec, choose, counted, digest_codec, each, each_format, many, name_codec, number_codec, optional, pair, text_codec}
+use Rattle.tw_base.specs.history.EntryCodec.{entry_codec}
+use Rattle.tw_base.specs.format.Formats.{Format, then_by}
+use Rattle.tw_base.specs.format.Formats.Format.{Done}
+use Rattle.tw_pieces.proofs.SegmentLaws.{then_absent, then_assoc, then_behind, then_each, then_kind, then_many, then_none, then_pair, then_present, then_seen, then_variant}
 use Rattle.tw_skipproof.specs.declared.existence.Part.{Part}
 use Rattle.tw_skipproof.specs.declared.opening.Opening.{Opening}
 use Rattle.tw_skipproof.specs.declared.path.Link.{Link}

@@ -1,20 +1,20 @@
 -- The segments of a proof that comes in pieces are lawful and have a byte or more, and no front of what follows breaks.
 use Rattle.std.proofs.Common.{◌≡◌, ℕ, suc, zero, ◌-◌, ◌<◌, ◌≤◌, List, [], ◌∷◌, ◌++◌, length, take, lit≤, arith, refl}
 use Rattle.std.specs.Prelude.{Bool, true, false, Option, Some, None, nat_lt, ◌==◌, if◌then◌else◌}
-use Rattle.tw_base.specs.declared.event_part.EventPart.{EventPart}
-use Rattle.tw_base.specs.declared.limits.TheConstants.{LAST_STEP, MOST_EVENTS, MOST_EVENT_BYTES, MOST_HOPS}
-use Rattle.tw_base.specs.declared.thread.Entry.{Entry}
-use Rattle.tw_base.specs.declared.thread.Key.{Key}
-use Rattle.tw_base.specs.declared.thread.Thread.{Thread}
-use Rattle.tw_base.specs.declared.tree_proof.TreeProof.{TreeProof}
-use Rattle.tw_base.specs.Codecs.{Codec, behind, bytes_codec, digest_codec, each, each_format, labels_codec, many, name_codec, number_codec, optional, pair, seen, sized_codec, by_kind, counted, variant}
-use Rattle.tw_base.specs.Fields.{byte_then, bytes, name, name_part, number, text}
-use Rattle.tw_base.specs.EntryCodec.{entry_codec}
-use Rattle.tw_base.specs.Formats.{Format, GoesOn, IsFront, IsPlace, SpellsNothing, then_by}
-use Rattle.tw_base.specs.Formats.Format.{Done, Byte}
-use Rattle.tw_base.specs.Resuming.{StaysFront}
-use Rattle.tw_base.specs.HistoryCodec.{thread_codec}
-use Rattle.tw_base.proofs.CodecLaws.{Lawful, goes-then, lawful, lawful-each, lawful-optional}
+use Rattle.tw_base.specs.declared.events.event_part.EventPart.{EventPart}
+use Rattle.tw_base.specs.declared.kinds.limits.TheConstants.{LAST_STEP, MOST_EVENTS, MOST_EVENT_BYTES, MOST_HOPS}
+use Rattle.tw_base.specs.declared.history.thread.Entry.{Entry}
+use Rattle.tw_base.specs.declared.history.thread.Key.{Key}
+use Rattle.tw_base.specs.declared.history.thread.Thread.{Thread}
+use Rattle.tw_base.specs.declared.history.tree_proof.TreeProof.{TreeProof}
+use Rattle.tw_base.specs.format.Codecs.{Codec, behind, bytes_codec, digest_codec, each, each_format, labels_codec, many, name_codec, number_codec, optional, pair, seen, sized_codec, by_kind, counted, variant}
+use Rattle.tw_base.specs.format.Fields.{byte_then, bytes, name, name_part, number, text}
+use Rattle.tw_base.specs.history.EntryCodec.{entry_codec}
+use Rattle.tw_base.specs.format.Formats.{Format, GoesOn, IsFront, IsPlace, SpellsNothing, then_by}
+use Rattle.tw_base.specs.format.Formats.Format.{Done, Byte}
+use Rattle.tw_pieces.specs.Resuming.{StaysFront}
+use Rattle.tw_base.specs.history.HistoryCodec.{thread_codec}
+use Rattle.tw_base.proofs.lemmas.format.CodecLaws.{Lawful, goes-then, lawful, lawful-each, lawful-optional}
 use Rattle.tw_skipproof.specs.declared.existence.Part.{Part}
 use Rattle.tw_skipproof.specs.declared.opening.Opening.{Opening}
 use Rattle.tw_skipproof.specs.declared.path.Link.{Link}
@@ -22,7 +22,7 @@ use Rattle.tw_skipproof.specs.Codecs.{event_codec, link_codec, opening_codec, pa
 use Rattle.tw_skipproof.proofs.LawfulCodecs.{event-lawful, opening-few, opening-lawful, path-lawful}
 use Rattle.tw_treeproof.specs.Codecs.{ancestor_codec, gap_codec, present_codec}
 use Rattle.tw_treeproof.proofs.LawfulCodecs.{ancestor-lawful, gap-lawful, present-lawful}
-use Rattle.tw_base.proofs.EntryCodecLaws.{entry-lawful}
+use Rattle.tw_base.proofs.lemmas.history.EntryCodecLaws.{entry-lawful}
 use Rattle.tw_verifier.specs.declared.chain.Chain.{Chain}
 use Rattle.tw_verifier.specs.declared.judgement.Judgement.{Judgement}
 use Rattle.tw_verifier.specs.declared.stage.Asked.{Asked}

@@ -4,12 +4,12 @@ use Rattle.std.specs.Prelude.{Bool, true, false, Option, Some, None, ◌&&◌, n
 use Rattle.std.specs.Option.{option_map_or}
 use Rattle.std.proofs.lemmas.Bool.{and_parts, ltb-false, ltb-true}
 use Rattle.std.proofs.lemmas.List.{length-reverse}
-use Rattle.tw_base.specs.declared.thread.Thread.{Thread}
-use Rattle.tw_base.specs.declared.report.Reason.{Reason}
-use Rattle.tw_base.specs.declared.report.Reason.TheVariants.{Malformed, BadOrder, NotHeld, BadPath, BadOpening, BadEvent, BadTree, Carried}
-use Rattle.tw_base.specs.Formats.{Format, IsPlace, Spells, SpellsNothing}
-use Rattle.tw_base.specs.Reasons.{IsNoHigher}
-use Rattle.tw_base.proofs.FormatLaws.{one_value}
+use Rattle.tw_base.specs.declared.history.thread.Thread.{Thread}
+use Rattle.tw_base.specs.declared.history.report.Reason.{Reason}
+use Rattle.tw_base.specs.declared.history.report.Reason.TheVariants.{Malformed, BadOrder, NotHeld, BadPath, BadOpening, BadEvent, BadTree, Carried}
+use Rattle.tw_base.specs.format.Formats.{Format, IsPlace, Spells, SpellsNothing}
+use Rattle.tw_base.specs.history.Reasons.{IsNoHigher}
+use Rattle.tw_base.proofs.lemmas.format.FormatLaws.{one_value}
 use Rattle.tw_verifier.specs.declared.judgement.Judgement.{Judgement}
 use Rattle.tw_chain.specs.declared.proof.Proof.{Proof}
 use Rattle.tw_chain.specs.declared.verdict.Verdict.{Verdict}

@@ -1,13 +1,13 @@
 -- A proof from event to event, judged hop by hop: what stands behind a front of it that was judged.
 use Rattle.std.specs.Prelude.{ℕ, suc, ◌+◌, List, [], ◌∷◌, ◌++◌, length, reverse, Option}
 use Rattle.std.specs.List.{flat_map}
-use Rattle.tw_base.specs.declared.report.Claim.TheVariants as claims
-use Rattle.tw_base.specs.declared.report.Hop.{Hop}
-use Rattle.tw_base.specs.declared.report.Reason.{Reason}
-use Rattle.tw_base.specs.declared.thread.Thread.{Thread}
-use Rattle.tw_base.specs.Codecs.{each_format}
-use Rattle.tw_base.specs.Formats.{Format, then_by}
-use Rattle.tw_base.specs.Formats.Format.{Done}
+use Rattle.tw_base.specs.declared.history.report.Claim.TheVariants as claims
+use Rattle.tw_base.specs.declared.history.report.Hop.{Hop}
+use Rattle.tw_base.specs.declared.history.report.Reason.{Reason}
+use Rattle.tw_base.specs.declared.history.thread.Thread.{Thread}
+use Rattle.tw_base.specs.format.Codecs.{each_format}
+use Rattle.tw_base.specs.format.Formats.{Format, then_by}
+use Rattle.tw_base.specs.format.Formats.Format.{Done}
 use Rattle.tw_verifier.specs.declared.chain.Chain.{Chain}
 use Rattle.tw_verifier.specs.declared.judgement.Judgement.{Judgement}
 use Rattle.tw_chain.specs.declared.proof.HopPart.{HopPart}

@@ -3,20 +3,20 @@
 use Rattle.std.specs.Prelude.{ℕ, List, [], ◌∷◌, ◌++◌, length, reverse, Bool, true, false, Option, Some, None, ◌==◌, ◌&&◌, not, nat_le, nat_lt, is_some, if◌then◌else◌}
 use Rattle.std.specs.Option.{option_map_or}
 use Rattle.std.specs.Str.{bytes_eq}
-use Rattle.tw_base.specs.declared.event_part.EventPart.{EventPart}
-use Rattle.tw_base.specs.declared.report.Reason.{Reason}
-use Rattle.tw_base.specs.declared.report.Reason.TheVariants.{Carried}
-use Rattle.tw_base.specs.declared.report.Report.{Report}
-use Rattle.tw_base.specs.declared.thread.Thread.{Thread}
-use Rattle.tw_base.specs.declared.tree_proof.Ancestor.{Ancestor}
-use Rattle.tw_base.specs.declared.tree_proof.Ask.{Ask}
-use Rattle.tw_base.specs.declared.tree_proof.TreeProof.{TreeProof}
-use Rattle.tw_base.specs.AuditPath.{path_length, path_sides, root_above}
-use Rattle.tw_base.specs.Formats.{Format, then_by}
-use Rattle.tw_base.specs.Formats.Format.{Done}
-use Rattle.tw_base.specs.Levels.{top_level}
-use Rattle.tw_base.specs.Reasons.{reason_number, reason_place}
-use Rattle.tw_base.specs.Texts.{event_leaf_text}
+use Rattle.tw_base.specs.declared.events.event_part.EventPart.{EventPart}
+use Rattle.tw_base.specs.declared.history.report.Reason.{Reason}
+use Rattle.tw_base.specs.declared.history.report.Reason.TheVariants.{Carried}
+use Rattle.tw_base.specs.declared.history.report.Report.{Report}
+use Rattle.tw_base.specs.declared.history.thread.Thread.{Thread}
+use Rattle.tw_base.specs.declared.history.tree_proof.Ancestor.{Ancestor}
+use Rattle.tw_base.specs.declared.history.tree_proof.Ask.{Ask}
+use Rattle.tw_base.specs.declared.history.tree_proof.TreeProof.{TreeProof}
+use Rattle.tw_base.specs.events.AuditPath.{path_length, path_sides, root_above}
+use Rattle.tw_base.specs.format.Formats.{Format, then_by}
+use Rattle.tw_base.specs.format.Formats.Format.{Done}
+use Rattle.tw_base.specs.kinds.Levels.{top_level}
+use Rattle.tw_base.specs.history.Reasons.{reason_number, reason_place}
+use Rattle.tw_base.specs.kinds.Texts.{event_leaf_text}
 use Rattle.tw_skipproof.specs.declared.existence.Part.{Part}
 use Rattle.tw_skipproof.specs.declared.opening.Opening.{Opening}
 use Rattle.tw_skipproof.specs.declared.path.Link.{Link}

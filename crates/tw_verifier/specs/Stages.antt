@@ -1,17 +1,17 @@
 -- What may follow what a verifier in pieces has taken of a proof, each word with its judgement: a segment, and what stands behind it.
 use Rattle.std.specs.Prelude.{ℕ, ◌-◌, ◌==◌, List, [], ◌∷◌, ◌++◌, Bool, nat_lt, Option, Some, None, if◌then◌else◌}
-use Rattle.tw_base.specs.declared.limits.TheConstants.{LAST_STEP, MOST_HOPS}
-use Rattle.tw_base.specs.declared.event_part.EventPart.{EventPart}
-use Rattle.tw_base.specs.declared.thread.Entry.{Entry}
-use Rattle.tw_base.specs.declared.thread.Key.{Key}
-use Rattle.tw_base.specs.declared.thread.Thread.{Thread}
-use Rattle.tw_base.specs.declared.tree_proof.Ancestor.{Ancestor}
-use Rattle.tw_base.specs.declared.tree_proof.TreeProof.{TreeProof}
-use Rattle.tw_base.specs.declared.tree_proof.TreeProof.TheVariants.{Present, Gap}
-use Rattle.tw_base.specs.Codecs.{Codec, behind, digest_codec, each, each_format, many, name_codec, number_codec, optional, pair}
-use Rattle.tw_base.specs.Formats.{Format, then_by}
-use Rattle.tw_base.specs.Formats.Format.{Done as End}
-use Rattle.tw_base.specs.EntryCodec.{entry_codec}
+use Rattle.tw_base.specs.declared.kinds.limits.TheConstants.{LAST_STEP, MOST_HOPS}
+use Rattle.tw_base.specs.declared.events.event_part.EventPart.{EventPart}
+use Rattle.tw_base.specs.declared.history.thread.Entry.{Entry}
+use Rattle.tw_base.specs.declared.history.thread.Key.{Key}
+use Rattle.tw_base.specs.declared.history.thread.Thread.{Thread}
+use Rattle.tw_base.specs.declared.history.tree_proof.Ancestor.{Ancestor}
+use Rattle.tw_base.specs.declared.history.tree_proof.TreeProof.{TreeProof}
+use Rattle.tw_base.specs.declared.history.tree_proof.TreeProof.TheVariants.{Present, Gap}
+use Rattle.tw_base.specs.format.Codecs.{Codec, behind, digest_codec, each, each_format, many, name_codec, number_codec, optional, pair}
+use Rattle.tw_base.specs.format.Formats.{Format, then_by}
+use Rattle.tw_base.specs.format.Formats.Format.{Done as End}
+use Rattle.tw_base.specs.history.EntryCodec.{entry_codec}
 use Rattle.tw_skipproof.specs.declared.existence.Part.{Part}
 use Rattle.tw_skipproof.specs.declared.opening.Opening.{Opening}
 use Rattle.tw_skipproof.specs.declared.path.Link.{Link}

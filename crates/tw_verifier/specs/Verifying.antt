@@ -1,8 +1,8 @@
 -- What a verifier was fed.
 use Rattle.std.specs.Prelude.{◌≡◌, ℕ, List, Bool}
-use Rattle.tw_base.specs.declared.thread.Thread.{Thread}
-use Rattle.tw_base.specs.Feeding.{HasFed}
-use Rattle.tw_base.specs.Formats.{Format}
+use Rattle.tw_base.specs.declared.history.thread.Thread.{Thread}
+use Rattle.tw_pieces.specs.Feeding.{HasFed}
+use Rattle.tw_base.specs.format.Formats.{Format}
 use Rattle.tw_verifier.specs.declared.judgement.Judgement.{Judgement}
 use Rattle.tw_verifier.specs.declared.verifier.Judging.{Judging}
 use Rattle.tw_verifier.specs.declared.verifier.Verifier.{Verifier}

@@ -2,9 +2,9 @@
 #![tactic(auto)]
 
 ghost use Rattle.std.specs.Prelude.{◌≡◌, ℕ, ◌≤◌, List, [], ◌∷◌, ◌++◌, IfOk};
-ghost use Rattle.tw_base.specs.declared.limits.TheConstants.{LAST_STEP, MOST_HOPS};
-ghost use Rattle.tw_base.specs.declared.thread.Thread.{Thread as Anchor};
-ghost use Rattle.tw_base.specs.Resuming.{Attempts};
+ghost use Rattle.tw_base.specs.declared.kinds.limits.TheConstants.{LAST_STEP, MOST_HOPS};
+ghost use Rattle.tw_base.specs.declared.history.thread.Thread.{Thread as Anchor};
+ghost use Rattle.tw_pieces.specs.Resuming.{Attempts};
 ghost use Rattle.tw_skipproof.specs.Paths.{hop};
 ghost use Rattle.tw_verifier.specs.declared.stage.Stage.TheVariants.{Begun, Counted, Event, Head, LinkHead, Opening, Path};
 ghost use Rattle.tw_verifier.specs.Stages.{behind_kind as behind_kind_of, behind_path, behind_second, event_of, head_of, least_opened, path_of, rest, step_opened};
@@ -14,11 +14,9 @@ use crate::heads::{take_kind_head, take_link_head, take_part_head};
 use crate::stage::{EventAt, Goal, HopCount, Opens, PathSoFar, Role, Stage, Way};
 use std::alloc::Global;
 use tw_base::limits::MOST_HOPS;
-use tw_base::{Attempt, Hasher, NoMemory, Thread, missed, take_number};
-use tw_skipproof::{
-    Link, LinkList, event_until, link_until, next_step, opening_until, take_event, take_link,
-    take_opening,
-};
+use tw_base::{Hasher, NoMemory, Thread, take_number};
+use tw_pieces::{Attempt, event_until, link_until, missed, opening_until};
+use tw_skipproof::{Link, LinkList, next_step, take_event, take_link, take_opening};
 
 /// Behind the kind.
 fn behind_kind(kind: u64) -> Stage

@@ -2,8 +2,8 @@
 
 ghost use Rattle.std.specs.Prelude.{◌≡◌, ℕ, ◌+◌, ◌-◌, ◌<◌, ◌≤◌, List, [], ◌∷◌, ◌++◌, length, IfOk, OnOk};
 ghost use Rattle.std.specs.List.{flat_map};
-ghost use Rattle.tw_base.specs.declared.limits.TheConstants.{LAST_STEP, MOST_EVENTS, MOST_EVENT_BYTES};
-ghost use Rattle.tw_base.specs.declared.thread.Thread.{Thread as Anchor};
+ghost use Rattle.tw_base.specs.declared.kinds.limits.TheConstants.{LAST_STEP, MOST_EVENTS, MOST_EVENT_BYTES};
+ghost use Rattle.tw_base.specs.declared.history.thread.Thread.{Thread as Anchor};
 ghost use Rattle.tw_chain.specs.declared.proof.HopPart.{HopPart as AnyHop};
 ghost use Rattle.tw_chain.specs.declared.proof.Tail.{Tail as AnyTail};
 ghost use Rattle.tw_chain.specs.Accepting.{hop_from as hop_from_of};
@@ -12,7 +12,7 @@ ghost use Rattle.tw_chain.specs.Checks.{bind_checks, hop_checks, root_of};
 ghost use Rattle.tw_chain.specs.Checks.Check.{AnswerOf, EventOf, InOrder, PathOf};
 ghost use Rattle.tw_chain.specs.Checks.Upper.{Known};
 ghost use Rattle.tw_chain.specs.Passing.{carried_by};
-ghost use Rattle.tw_base.specs.declared.tree_proof.Ask.TheVariants.{Present};
+ghost use Rattle.tw_base.specs.declared.history.tree_proof.Ask.TheVariants.{Present};
 
 use crate::finding::{
     under_anchor, with_answer, with_event, with_link, with_opening, with_order, with_path,

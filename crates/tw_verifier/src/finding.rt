@@ -1,9 +1,9 @@
 // The lowest reason against a proof, as its checks follow one another.
 
 ghost use Rattle.std.specs.Prelude.{◌≡◌, ℕ, ◌≤◌, List, [], ◌∷◌, length, Some, None, if◌then◌else◌};
-ghost use Rattle.tw_base.specs.declared.limits.TheConstants.{LAST_STEP, MOST_EVENTS, MOST_EVENT_BYTES};
-ghost use Rattle.tw_base.specs.declared.report.Reason.TheVariants.{BadTree};
-ghost use Rattle.tw_base.specs.declared.thread.Thread.{Thread as Anchor};
+ghost use Rattle.tw_base.specs.declared.kinds.limits.TheConstants.{LAST_STEP, MOST_EVENTS, MOST_EVENT_BYTES};
+ghost use Rattle.tw_base.specs.declared.history.report.Reason.TheVariants.{BadTree};
+ghost use Rattle.tw_base.specs.declared.history.thread.Thread.{Thread as Anchor};
 ghost use Rattle.tw_verifier.specs.Chaining.{found_with};
 ghost use Rattle.tw_chain.specs.Checks.{link_checks, opening_checks, under_anchor as under_anchor_of};
 ghost use Rattle.tw_chain.specs.Checks.Check.{AnswerOf, EventOf, InOrder, PathOf};

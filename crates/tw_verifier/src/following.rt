@@ -2,8 +2,8 @@
 #![tactic(auto)]
 
 ghost use Rattle.std.specs.Prelude.{◌≡◌, ℕ, ◌<◌, ◌≤◌, List, length, IfOk};
-ghost use Rattle.tw_base.specs.declared.limits.TheConstants.{LAST_STEP, MOST_EVENTS, MOST_EVENT_BYTES};
-ghost use Rattle.tw_base.specs.declared.thread.Thread.{Thread as Anchor};
+ghost use Rattle.tw_base.specs.declared.kinds.limits.TheConstants.{LAST_STEP, MOST_EVENTS, MOST_EVENT_BYTES};
+ghost use Rattle.tw_base.specs.declared.history.thread.Thread.{Thread as Anchor};
 ghost use Rattle.tw_verifier.specs.declared.stage.Stage.TheVariants.{Done};
 ghost use Rattle.tw_verifier.specs.declared.stage.Way.TheVariants.{Link};
 ghost use Rattle.tw_verifier.specs.Chaining.{behind_chain as behind_chain_of};

@@ -1,8 +1,8 @@
 // Reading the segments of a proof that comes in pieces, but those that other crates read.
-#![tactic(auto, unfolding(crate::specs::Stages::kind_head, crate::specs::Stages::link_head, crate::specs::Stages::part_head, crate::specs::Stages::present_head, tw_base::specs::Codecs::behind, tw_base::specs::Codecs::pair))]
+#![tactic(auto, unfolding(crate::specs::Stages::kind_head, crate::specs::Stages::link_head, crate::specs::Stages::part_head, crate::specs::Stages::present_head, tw_base::specs::format::Codecs::behind, tw_base::specs::format::Codecs::pair))]
 
 ghost use Rattle.std.specs.Prelude.{◌≤◌, length, IfOk};
-ghost use Rattle.tw_base.specs.Taking.{Takes};
+ghost use Rattle.tw_base.specs.format.Taking.{Takes};
 ghost use Rattle.tw_verifier.specs.declared.stage.Linking.{Linking as AnyLinking};
 ghost use Rattle.tw_verifier.specs.declared.stage.Under.{Under as AnyUnder};
 ghost use Rattle.tw_treeproof.specs.declared.limits.TheConstants.{MOST_ABOVE_ENTRY};

@@ -1,8 +1,8 @@
 // What a verifier in pieces takes, segment by segment.
 
 ghost use Rattle.std.specs.Prelude.{ℕ, List, Ok};
-ghost use Rattle.tw_base.specs.Resuming.{Attempts, EndsAs};
-ghost use Rattle.tw_base.specs.declared.thread.Thread.{Thread as Anchor};
+ghost use Rattle.tw_pieces.specs.Resuming.{Attempts, EndsAs};
+ghost use Rattle.tw_base.specs.declared.history.thread.Thread.{Thread as Anchor};
 ghost use Rattle.tw_verifier.specs.declared.stage.Stage.{Stage as AnyStage};
 ghost use Rattle.tw_verifier.specs.Stages.{rest};
 ghost use Rattle.tw_verifier.specs.Verifying.{judging_rest};
@@ -19,7 +19,8 @@ use crate::tree_attempts::{
 use crate::verifier::Judging;
 use std::alloc::Global;
 use std::marker::PhantomData;
-use tw_base::{Attempt, Hasher, NoMemory, Segments, Thread, Threads};
+use tw_base::{Hasher, NoMemory, Thread, Threads};
+use tw_pieces::{Attempt, Segments};
 
 /// Looks at the bytes that are held of the segment at hand.
 #[tactic(auto)]

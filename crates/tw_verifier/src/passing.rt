@@ -1,7 +1,7 @@
 // Whether a check of a proof passes.
 
 ghost use Rattle.std.specs.Prelude.{◌≡◌, ◌≤◌, length, IsTrue, ◌↔◌};
-ghost use Rattle.tw_base.specs.declared.limits.TheConstants.{LAST_STEP, MOST_EVENTS, MOST_EVENT_BYTES};
+ghost use Rattle.tw_base.specs.declared.kinds.limits.TheConstants.{LAST_STEP, MOST_EVENTS, MOST_EVENT_BYTES};
 ghost use Rattle.tw_skipproof.specs.Acceptance.{Reaches, ShowsEvent};
 ghost use Rattle.tw_skipproof.specs.Openings.{IsOpeningAt, opening_auth};
 ghost use Rattle.tw_skipproof.specs.Paths.{Climbs};

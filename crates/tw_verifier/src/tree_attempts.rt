@@ -2,12 +2,12 @@
 #![tactic(auto)]
 
 ghost use Rattle.std.specs.Prelude.{◌≡◌, ℕ, ◌-◌, ◌<◌, ◌≤◌, List, [], ◌∷◌, length, IfOk, Ok};
-ghost use Rattle.tw_base.specs.declared.limits.TheConstants.{LAST_STEP};
-ghost use Rattle.tw_base.specs.declared.thread.Thread.{Thread as Anchor};
-ghost use Rattle.tw_base.specs.declared.tree_proof.TreeProof.TheVariants.{Present};
+ghost use Rattle.tw_base.specs.declared.kinds.limits.TheConstants.{LAST_STEP};
+ghost use Rattle.tw_base.specs.declared.history.thread.Thread.{Thread as Anchor};
+ghost use Rattle.tw_base.specs.declared.history.tree_proof.TreeProof.TheVariants.{Present};
 ghost use Rattle.tw_treeproof.specs.declared.limits.TheConstants.{MOST_ABOVE_ENTRY};
-ghost use Rattle.tw_base.specs.Formats.{then_by};
-ghost use Rattle.tw_base.specs.Resuming.{Attempts};
+ghost use Rattle.tw_base.specs.format.Formats.{then_by};
+ghost use Rattle.tw_pieces.specs.Resuming.{Attempts};
 ghost use Rattle.tw_skipproof.specs.declared.path.Link.{Link as AnyLink};
 ghost use Rattle.tw_treeproof.specs.Codecs.{gap_codec, present_codec};
 ghost use Rattle.tw_verifier.specs.declared.stage.Stage.TheVariants.{Bind, Done, Entry as OfEntry, Key, Nodes, Tail, Tree};
@@ -22,10 +22,11 @@ use crate::stage::{
 use std::alloc::Global;
 use tw_base::limits::LAST_STEP;
 use tw_base::{
-    Ancestor, AncestorList, Attempt, Digest, Entry, Hasher, NoMemory, Thread, TreeProof, missed,
-    take_entry, take_number,
+    Ancestor, AncestorList, Digest, Entry, Hasher, NoMemory, Thread, TreeProof, take_entry,
+    take_number,
 };
 use tw_chain::take_key;
+use tw_pieces::{Attempt, missed};
 use tw_skipproof::LinkList;
 use tw_treeproof::{MOST_ABOVE_PLACE, take_ancestor};
 

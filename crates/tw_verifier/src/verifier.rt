@@ -1,9 +1,9 @@
 // Verifying a proof that comes in pieces.
 
 ghost use Rattle.std.specs.Prelude.{◌≡◌, ◌↔◌, IsTrue, ℕ, List, [], ◌++◌, Bool, IfOk, OnOk, OnErr};
-ghost use Rattle.tw_base.specs.declared.thread.Thread.{Thread as Anchor};
-ghost use Rattle.tw_base.specs.Feeding.{IsSpent, is_broken};
-ghost use Rattle.tw_base.specs.Formats.{IsFront};
+ghost use Rattle.tw_base.specs.declared.history.thread.Thread.{Thread as Anchor};
+ghost use Rattle.tw_pieces.specs.Feeding.{IsSpent, is_broken};
+ghost use Rattle.tw_base.specs.format.Formats.{IsFront};
 ghost use Rattle.tw_chain.specs.Binding.{BindsHistories};
 ghost use Rattle.tw_chain.specs.Proofs.{proof_layout};
 ghost use Rattle.tw_chain.specs.Reasons.{IsVerdict};
@@ -12,8 +12,9 @@ ghost use Rattle.tw_verifier.specs.Verifying.{IsFed};
 use crate::stage::Stage;
 use std::alloc::Global;
 use std::marker::PhantomData;
-use tw_base::{Fed, Hasher, NoMemory, ReadFault, Reason, Thread, Threads};
+use tw_base::{Hasher, NoMemory, ReadFault, Reason, Thread, Threads};
 use tw_chain::Verdict;
+use tw_pieces::Fed;
 
 /// What was taken of a proof, and the anchors under which it is judged.
 #[derive(Drop)]

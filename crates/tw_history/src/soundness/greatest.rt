@@ -2,7 +2,7 @@
 
 ghost use Rattle.std.specs.Prelude.{◌≡◌, ◌≢◌, ◌++◌, List, ℕ, Some, option_map, IfSome, OnOk, OnErr};
 ghost use Rattle.std.specs.Option.{option_to_list};
-ghost use Rattle.tw_base.specs.declared.thread.Entry.{Entry};
+ghost use Rattle.tw_base.specs.declared.history.thread.Entry.{Entry};
 ghost use Rattle.tw_history.specs.JudgingSteps.{IsGreatest, IsLater, greatest_of};
 
 use std::alloc::Global;

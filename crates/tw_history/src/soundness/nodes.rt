@@ -1,10 +1,10 @@
 // The new nodes of a step.
 
 ghost use Rattle.std.specs.Prelude.{◌≡◌, ◌↔◌, ℕ, suc, ◌+◌, ◌<◌, ◌^◌, length, map, IsSome, IsTrue, IfOk, false};
-ghost use Rattle.tw_base.specs.Lists.{Each};
-ghost use Rattle.tw_base.specs.History.{entry_to, fresh_of, step_at};
-ghost use Rattle.tw_base.specs.Rules.{NodesFit};
-ghost use Rattle.tw_base.specs.Tree.{IsRising, entries, forest, new_trees};
+ghost use Rattle.tw_base.specs.kinds.Lists.{Each};
+ghost use Rattle.tw_base.specs.history.History.{entry_to, fresh_of, step_at};
+ghost use Rattle.tw_base.specs.history.Rules.{NodesFit};
+ghost use Rattle.tw_base.specs.history.Tree.{IsRising, entries, forest, new_trees};
 ghost use Rattle.tw_history.specs.JudgingSteps.{summary_of};
 ghost use Rattle.tw_history.specs.Tables.{node_of};
 

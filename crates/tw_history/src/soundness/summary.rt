@@ -1,9 +1,9 @@
 // What is kept of a tree.
 
 ghost use Rattle.std.specs.Prelude.{◌≡◌};
-ghost use Rattle.tw_base.specs.declared.thread.Entry.{Entry};
-ghost use Rattle.tw_base.specs.Tree.{Tree};
-ghost use Rattle.tw_base.specs.Tree.Tree.{Branch, Empty};
+ghost use Rattle.tw_base.specs.declared.history.thread.Entry.{Entry};
+ghost use Rattle.tw_base.specs.history.Tree.{Tree};
+ghost use Rattle.tw_base.specs.history.Tree.Tree.{Branch, Empty};
 ghost use Rattle.tw_history.specs.JudgingSteps.{summary_of};
 
 /// How many entries a tree has, and the steps that received the first and the last of them.

@@ -2,14 +2,14 @@
 
 ghost use Rattle.std.specs.Prelude.{◌≡◌, ◌≢◌, ◌↔◌, ◌≤◌, List, [], length, sum_by, Some, IsTrue, IfSome};
 ghost use Rattle.std.specs.Option.{option_to_list};
-ghost use Rattle.tw_base.specs.declared.thread.Entry.{Entry};
-ghost use Rattle.tw_base.specs.Lists.{Each};
-ghost use Rattle.tw_base.specs.Bytes.{AreBytes};
-ghost use Rattle.tw_base.specs.Limits.{FitTogether, IsWithinLimits};
-ghost use Rattle.tw_base.specs.History.{events_of, thread_of};
+ghost use Rattle.tw_base.specs.declared.history.thread.Entry.{Entry};
+ghost use Rattle.tw_base.specs.kinds.Lists.{Each};
+ghost use Rattle.tw_base.specs.kinds.Bytes.{AreBytes};
+ghost use Rattle.tw_base.specs.history.Limits.{FitTogether, IsWithinLimits};
+ghost use Rattle.tw_base.specs.history.History.{events_of, thread_of};
 ghost use Rattle.tw_history.specs.JudgingSteps.{IsGreatest, IsLater, greatest_of};
 ghost use Rattle.tw_history.specs.Tables.{IsInRange, step_of};
-ghost use Rattle.tw_base.specs.declared.limits.TheConstants.{MOST_EVENTS, MOST_EVENT_BYTES};
+ghost use Rattle.tw_base.specs.declared.kinds.limits.TheConstants.{MOST_EVENTS, MOST_EVENT_BYTES};
 
 use super::greatest::GreatestSteps;
 use crate::step::Step;

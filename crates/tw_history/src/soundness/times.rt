@@ -2,7 +2,7 @@
 
 ghost use Rattle.std.specs.Prelude.{◌↔◌, ◌≤◌, ◌++◌, List, ℕ, IsTrue, IfSome};
 ghost use Rattle.std.specs.Option.{option_to_list};
-ghost use Rattle.tw_base.specs.Lists.{Each};
+ghost use Rattle.tw_base.specs.kinds.Lists.{Each};
 ghost use Rattle.tw_history.specs.JudgingSteps.{IsGreatestTime};
 
 /// Whether the time isn't below the greatest of those before it.

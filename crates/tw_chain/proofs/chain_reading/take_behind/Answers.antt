@@ -1,5 +1,5 @@
 use Rattle.std.proofs.Common.{◌-◌, ◌≤◌, sym, subst, arith}
-use Rattle.tw_base.specs.declared.limits.TheConstants.{LAST_STEP}
+use Rattle.tw_base.specs.declared.kinds.limits.TheConstants.{LAST_STEP}
 use Rattle.tw_chain.proofs.ChainShapes.{last_step-all}
 use Rattle.tw_chain.proofs.chain_reading.take_behind.Goals as goal
 

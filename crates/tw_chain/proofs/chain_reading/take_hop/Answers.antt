@@ -1,4 +1,4 @@
-use Rattle.tw_base.proofs.EntryCodecLaws.{entry-range}
+use Rattle.tw_base.proofs.lemmas.history.EntryCodecLaws.{entry-range}
 use Rattle.tw_chain.proofs.chain_reading.take_hop.Goals as goal
 
 pub take_optional-requires-clause-step : goal.take_optional-requires-clause-step

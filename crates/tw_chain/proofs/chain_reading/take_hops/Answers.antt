@@ -1,6 +1,6 @@
 use Rattle.std.proofs.Common.{◌-◌}
 use Rattle.std.proofs.lemmas.Result.{err_from_is_err_and}
-use Rattle.tw_base.proofs.TakeLaws.{each-ends, each-fails, each-more}
+use Rattle.tw_base.proofs.lemmas.format.TakeLaws.{each-ends, each-fails, each-more}
 use Rattle.tw_chain.specs.Proofs.{following, hop_bytes, hop_codec}
 use Rattle.tw_chain.proofs.ChainShapes.{following-more, following-none}
 use Rattle.tw_chain.proofs.ProofCodec.{hop-lawful}

@@ -1,5 +1,5 @@
 use Rattle.std.proofs.Common.{◌≤◌, length}
-use Rattle.tw_base.proofs.TakeLaws.{EachTaken}
+use Rattle.tw_base.proofs.lemmas.format.TakeLaws.{EachTaken}
 use Rattle.tw_chain.specs.Proofs.{following, hop_bytes, hop_codec}
 use Rattle.tw_chain.proofs.chain_reading.take_hops.Given as goal
 

@@ -1,8 +1,8 @@
 use Rattle.std.proofs.Common.{length}
 use Rattle.std.proofs.lemmas.Result.{err_from_is_err_and}
-use Rattle.tw_base.specs.declared.limits.TheConstants.{MOST_HOPS}
-use Rattle.tw_base.specs.Codecs.{number_codec}
-use Rattle.tw_base.proofs.TakeLaws.{takes-kind, takes-no_kind}
+use Rattle.tw_base.specs.declared.kinds.limits.TheConstants.{MOST_HOPS}
+use Rattle.tw_base.specs.format.Codecs.{number_codec}
+use Rattle.tw_base.proofs.lemmas.format.TakeLaws.{takes-kind, takes-no_kind}
 use Rattle.tw_chain.specs.declared.proof.PrecedenceProof.{PrecedenceProof}
 use Rattle.tw_chain.specs.Proofs.{hops_codec, precedence_body}
 use Rattle.tw_chain.proofs.ProofCodec.{hops-count}

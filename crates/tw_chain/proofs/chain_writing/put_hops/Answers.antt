@@ -1,4 +1,4 @@
-use Rattle.tw_base.proofs.PutLaws.{put-all, put-more, put-none}
+use Rattle.tw_base.proofs.lemmas.format.PutLaws.{put-all, put-more, put-none}
 use Rattle.tw_chain.specs.Proofs.{hop_bytes}
 use Rattle.tw_chain.proofs.chain_writing.put_hops.Goals as goal
 

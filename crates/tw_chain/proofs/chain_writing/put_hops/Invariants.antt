@@ -1,4 +1,4 @@
-use Rattle.tw_base.proofs.PutLaws.{ManyPut}
+use Rattle.tw_base.proofs.lemmas.format.PutLaws.{ManyPut}
 use Rattle.tw_chain.specs.Proofs.{hop_bytes}
 use Rattle.tw_chain.proofs.chain_writing.put_hops.Given as goal
 

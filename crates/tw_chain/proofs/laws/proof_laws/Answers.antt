@@ -1,4 +1,4 @@
-use Rattle.tw_base.proofs.CodecLaws.{unambiguous}
+use Rattle.tw_base.proofs.lemmas.format.CodecLaws.{unambiguous}
 use Rattle.tw_chain.specs.Proofs.{proof_codec}
 use Rattle.tw_chain.proofs.ProofCodec.{proof-lawful}
 use Rattle.tw_chain.proofs.ProofSizes.{proof-small}

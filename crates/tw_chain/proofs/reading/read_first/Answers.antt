@@ -1,4 +1,4 @@
-use Rattle.tw_base.proofs.TakeLaws.{takes-front}
+use Rattle.tw_base.proofs.lemmas.format.TakeLaws.{takes-front}
 use Rattle.tw_chain.specs.Proofs.{proof_codec}
 use Rattle.tw_chain.proofs.ProofCodec.{proof-lawful}
 use Rattle.tw_chain.proofs.reading.read_first.Goals as goal

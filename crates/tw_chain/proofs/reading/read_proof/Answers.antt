@@ -1,4 +1,4 @@
-use Rattle.tw_base.proofs.TakeLaws.{takes-whole}
+use Rattle.tw_base.proofs.lemmas.format.TakeLaws.{takes-whole}
 use Rattle.tw_chain.specs.Proofs.{proof_codec}
 use Rattle.tw_chain.proofs.ProofCodec.{proof-lawful}
 use Rattle.tw_chain.proofs.reading.read_proof.Goals as goal

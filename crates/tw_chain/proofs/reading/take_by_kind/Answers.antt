@@ -1,5 +1,5 @@
 use Rattle.std.proofs.lemmas.Result.{err_from_is_err_and}
-use Rattle.tw_base.proofs.TakeLaws.{takes-kind, takes-no_kind}
+use Rattle.tw_base.proofs.lemmas.format.TakeLaws.{takes-kind, takes-no_kind}
 use Rattle.tw_chain.specs.Proofs.{body_of_kind, kind_codec, kind_of, kinds_codec}
 use Rattle.tw_chain.proofs.ProofCodec.{kinds}
 use Rattle.tw_chain.proofs.reading.take_by_kind.Goals as goal

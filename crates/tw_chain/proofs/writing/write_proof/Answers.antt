@@ -1,4 +1,4 @@
-use Rattle.tw_base.proofs.PutLaws.{put-whole}
+use Rattle.tw_base.proofs.lemmas.format.PutLaws.{put-whole}
 use Rattle.tw_chain.specs.Proofs.{proof_codec}
 use Rattle.tw_chain.proofs.ProofCodec.{proof-lawful}
 use Rattle.tw_chain.proofs.writing.write_proof.Goals as goal

@@ -1,4 +1,4 @@
-use Rattle.tw_base.specs.History.{with_events}
+use Rattle.tw_base.specs.history.History.{with_events}
 use Rattle.tw_service.specs.Serves.{disk_of}
 use Rattle.tw_diskcmd.specs.Appending.{MachineAdds, TableAdds, added}
 use Rattle.tw_diskcmd.proofs.AtRest.{leaves_from, left_on}

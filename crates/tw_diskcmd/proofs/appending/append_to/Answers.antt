@@ -1,7 +1,7 @@
 use Rattle.std.proofs.Common.{sym, subst, inl, inr, ⊎_elim}
 use Rattle.sha2.specs.Sha256.{sha256}
-use Rattle.tw_base.specs.History.{with_events}
-use Rattle.tw_base.specs.Faults.{Rose}
+use Rattle.tw_base.specs.history.History.{with_events}
+use Rattle.tw_base.specs.kinds.Faults.{Rose}
 use Rattle.tw_service.specs.Serves.{Serves, disk_of, pages_of}
 use Rattle.tw_diskcmd.specs.Disks.{IsLeft, LeavesOldOrOneOf, ReadsAsOneOf, found_disk}
 use Rattle.tw_diskcmd.proofs.AtRest.{named_one_of, named_reads, own_rest, rose_since, same_left}

@@ -1,6 +1,6 @@
 use Rattle.std.proofs.Common.{ℕ, List, ap}
-use Rattle.tw_base.specs.declared.thread.Thread.{Thread}
-use Rattle.tw_base.specs.Auth.{auth, auths}
+use Rattle.tw_base.specs.declared.history.thread.Thread.{Thread}
+use Rattle.tw_base.specs.history.Auth.{auth, auths}
 use Rattle.tw_diskcmd.proofs.making.first_thread.Goals as goal
 
 pub returns : goal.returns

@@ -1,6 +1,6 @@
 use Rattle.std.proofs.Common.{◌∙◌, ap, sym, subst}
 use Rattle.sha2.specs.Sha256.{sha256}
-use Rattle.tw_base.specs.Faults.{Rose}
+use Rattle.tw_base.specs.kinds.Faults.{Rose}
 use Rattle.tw_service.specs.Serves.{Serves, disk_of, pages_of}
 use Rattle.tw_diskcmd.specs.Disks.{IsLeft, found_disk}
 use Rattle.tw_diskcmd.specs.Proving.{top_of}

@@ -1,5 +1,5 @@
 use Rattle.std.proofs.Common.{subst}
-use Rattle.tw_base.specs.AuditPath.{ChecksEvent}
+use Rattle.tw_base.specs.events.AuditPath.{ChecksEvent}
 use Rattle.tw_events.proofs.Binding.{ChecksEvent-binds}
 use Rattle.tw_events.proofs.check.check_event.Goals as goal
 

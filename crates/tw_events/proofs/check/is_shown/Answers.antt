@@ -1,5 +1,5 @@
 use Rattle.std.proofs.Common.{ap, sym, ◌∙◌}
-use Rattle.tw_base.specs.AuditPath.{path_sides, root_above}
+use Rattle.tw_base.specs.events.AuditPath.{path_sides, root_above}
 use Rattle.tw_events.proofs.check.is_shown.Goals as goal
 
 pub returns-then-path-len : goal.returns-then-path-len

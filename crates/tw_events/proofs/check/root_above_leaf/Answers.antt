@@ -1,5 +1,5 @@
 use Rattle.std.proofs.Common.{◌+◌, arith, ap, sym, ◌∙◌, drop, reverse}
-use Rattle.tw_base.specs.AuditPath.{root_above}
+use Rattle.tw_base.specs.events.AuditPath.{root_above}
 use Rattle.tw_events.proofs.Steps.{root_above-end, root_above-step}
 use Rattle.tw_events.proofs.check.root_above_leaf.Goals as goal
 

@@ -1,5 +1,5 @@
 use Rattle.std.proofs.Common.{◌≡◌, ◌+◌, length, drop, reverse}
-use Rattle.tw_base.specs.AuditPath.{root_above}
+use Rattle.tw_base.specs.events.AuditPath.{root_above}
 use Rattle.tw_events.proofs.check.root_above_leaf.Given as goal
 
 abbrev pub invariant-loop-label : goal.invariant-loop-label

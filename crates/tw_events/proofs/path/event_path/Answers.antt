@@ -1,7 +1,7 @@
 use Rattle.std.proofs.Common.{◌++◌, length, ap, subst, sym, ◌∙◌}
-use Rattle.tw_base.specs.AuditPath.{ChecksEvent}
-use Rattle.tw_base.specs.EventTree.{audit_path, event_root}
-use Rattle.tw_base.proofs.AuditShown.{ChecksEvent-audit_path}
+use Rattle.tw_base.specs.events.AuditPath.{ChecksEvent}
+use Rattle.tw_base.specs.events.EventTree.{audit_path, event_root}
+use Rattle.tw_base.proofs.lemmas.events.AuditShown.{ChecksEvent-audit_path}
 use Rattle.tw_events.proofs.path.event_path.Goals as goal
 
 pub returns-clause-checks : goal.returns-clause-checks

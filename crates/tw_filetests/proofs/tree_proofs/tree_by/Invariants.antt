@@ -1,4 +1,4 @@
-use Rattle.tw_base.specs.Tree.{IsRising, entries}
+use Rattle.tw_base.specs.history.Tree.{IsRising, entries}
 use Rattle.tw_tree.specs.TreeMeaning.{tree_of}
 use Rattle.tw_filetests.proofs.tree_proofs.tree_by.Given as goal
 

@@ -1,6 +1,6 @@
-use Rattle.tw_base.specs.HistoryCodec.{history_codec}
-use Rattle.tw_base.proofs.CodecLaws.{unambiguous}
-use Rattle.tw_base.proofs.HistoryCodecLaws.{history-lawful}
+use Rattle.tw_base.specs.history.HistoryCodec.{history_codec}
+use Rattle.tw_base.proofs.lemmas.format.CodecLaws.{unambiguous}
+use Rattle.tw_base.proofs.lemmas.history.HistoryCodecLaws.{history-lawful}
 use Rattle.tw_history.proofs.SoundFiles.{sound_spelled}
 use Rattle.tw_history.proofs.laws.history_laws.Goals as goal
 

@@ -1,6 +1,6 @@
 use Rattle.std.proofs.Common.{◌≡◌, ◌+◌, List, ap, sym, ◌∙◌, arith}
 use Rattle.std.specs.Prelude.{slice_get}
-use Rattle.tw_base.specs.History.{Step}
+use Rattle.tw_base.specs.history.History.{Step}
 use Rattle.tw_history.proofs.TableSteps.{length-forest, nodes_of_first}
 use Rattle.tw_history.proofs.lookup.step_behind.Goals as goal
 

@@ -1,5 +1,5 @@
 use Rattle.std.proofs.Common.{◌≡◌, List, length, ap, sym, ◌∙◌, subst}
-use Rattle.tw_base.specs.History.{History, Step}
+use Rattle.tw_base.specs.history.History.{History, Step}
 use Rattle.tw_history.specs.Tables.{IsTable, steps_of_table}
 use Rattle.tw_history.proofs.TableLaws.{length-steps_of_table}
 use Rattle.tw_history.proofs.lookup.table_of.Goals as goal

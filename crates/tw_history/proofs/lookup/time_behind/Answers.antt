@@ -1,5 +1,5 @@
 use Rattle.std.proofs.Common.{sym, arith}
-use Rattle.tw_base.specs.Limits.{IsTimeWithinLimits}
+use Rattle.tw_base.specs.history.Limits.{IsTimeWithinLimits}
 use Rattle.tw_history.specs.declared.step.Step.{Step}
 use Rattle.tw_history.proofs.TableSteps.{Each-inside, time_at-table}
 use Rattle.tw_history.proofs.lookup.time_behind.Goals as goal

@@ -1,6 +1,6 @@
 use Rattle.std.proofs.Common.{replicate, ◌++◌, ◌∷◌, [], ap, ◌∙◌}
-use Rattle.tw_base.specs.History.{History}
-use Rattle.tw_base.specs.Texts.{genesis_text}
+use Rattle.tw_base.specs.history.History.{History}
+use Rattle.tw_base.specs.kinds.Texts.{genesis_text}
 use Rattle.tw_history.proofs.Passes.{HasPassed-none}
 use Rattle.tw_history.proofs.pass.begin.Goals as goal
 

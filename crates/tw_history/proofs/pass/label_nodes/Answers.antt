@@ -1,8 +1,8 @@
 use Rattle.std.proofs.Common.{◌++◌, ◌∷◌, List, [], length, take, ap, sym, ◌∙◌, arith}
 use Rattle.std.specs.Prelude.{map}
 use Rattle.std.proofs.lemmas.List.{length_push}
-use Rattle.tw_base.specs.History.{entry_to}
-use Rattle.tw_base.specs.Tree.{Tree, planted}
+use Rattle.tw_base.specs.history.History.{entry_to}
+use Rattle.tw_base.specs.history.Tree.{Tree, planted}
 use Rattle.tw_history.specs.declared.step.Node.{Node}
 use Rattle.tw_history.specs.Tables.{node_of}
 use Rattle.tw_history.proofs.Passes.{first-stays, labels_to-all, labels_to-more, labels_to-none}

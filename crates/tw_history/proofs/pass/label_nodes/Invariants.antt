@@ -1,8 +1,8 @@
 use Rattle.std.proofs.Common.{◌≡◌, ◌<◌, List, length, get_or}
 use Rattle.std.specs.Prelude.{map}
-use Rattle.tw_base.specs.Auth.{tree_label}
-use Rattle.tw_base.specs.Tree.{Tree}
-use Rattle.tw_base.specs.Tree.Tree.{Empty}
+use Rattle.tw_base.specs.history.Auth.{tree_label}
+use Rattle.tw_base.specs.history.Tree.{Tree}
+use Rattle.tw_base.specs.history.Tree.Tree.{Empty}
 use Rattle.tw_history.proofs.Passes.{labels_to}
 use Rattle.tw_history.proofs.pass.label_nodes.Given as goal
 

@@ -1,6 +1,6 @@
 use Rattle.std.proofs.Common.{get_or}
-use Rattle.tw_base.specs.History.{entry_to}
-use Rattle.tw_base.specs.Tree.Tree.{Empty}
+use Rattle.tw_base.specs.history.History.{entry_to}
+use Rattle.tw_base.specs.history.Tree.Tree.{Empty}
 use Rattle.tw_history.proofs.Passes.{label-some}
 use Rattle.tw_history.proofs.pass.label_of_node.Goals as goal
 

@@ -1,9 +1,9 @@
 use Rattle.std.proofs.Common.{◌+◌, ap, ◌∙◌, arith}
 use Rattle.std.specs.Prelude.{map}
-use Rattle.tw_base.specs.History.{entry_to}
-use Rattle.tw_base.specs.Texts.{authenticator_text, step_datum_text}
-use Rattle.tw_base.specs.Tree.{forest, planted}
-use Rattle.tw_base.proofs.Plus.{forest-first}
+use Rattle.tw_base.specs.history.History.{entry_to}
+use Rattle.tw_base.specs.kinds.Texts.{authenticator_text, step_datum_text}
+use Rattle.tw_base.specs.history.Tree.{forest, planted}
+use Rattle.tw_base.proofs.lemmas.history.Plus.{forest-first}
 use Rattle.tw_history.specs.Tables.{node_of}
 use Rattle.tw_history.proofs.Passes.{PassesStep-passes, length-labels, some_labels, some_trees}
 use Rattle.tw_history.proofs.pass.pass_step.Goals as goal

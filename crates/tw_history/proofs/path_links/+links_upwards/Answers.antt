@@ -1,6 +1,6 @@
 use Rattle.std.proofs.Common.{◌≡◌, ◌-◌, ◌+◌, ◌<◌, arith}
-use Rattle.tw_base.specs.Levels.{top_level}
-use Rattle.tw_base.proofs.Levels.{top_level-below}
+use Rattle.tw_base.specs.kinds.Levels.{top_level}
+use Rattle.tw_base.proofs.lemmas.kinds.Levels.{top_level-below}
 use Rattle.tw_skipproof.proofs.Hops.{hop_level-le}
 use Rattle.tw_history.proofs.Passes.{IsOfStep-count}
 use Rattle.tw_history.proofs.path_links.+links_upwards.Goals as goal

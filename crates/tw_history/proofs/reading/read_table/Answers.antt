@@ -1,6 +1,6 @@
-use Rattle.tw_base.proofs.TakeLaws.{takes-whole}
-use Rattle.tw_base.specs.HistoryCodec.{history_codec}
-use Rattle.tw_base.proofs.HistoryCodecLaws.{history-lawful}
+use Rattle.tw_base.proofs.lemmas.format.TakeLaws.{takes-whole}
+use Rattle.tw_base.specs.history.HistoryCodec.{history_codec}
+use Rattle.tw_base.proofs.lemmas.history.HistoryCodecLaws.{history-lawful}
 use Rattle.tw_history.proofs.reading.read_table.Goals as goal
 
 pub returns : goal.returns

@@ -1,12 +1,12 @@
 use Rattle.std.proofs.Common.{◌≡◌, ℕ, List, map}
 use Rattle.std.specs.Prelude.{Ok, Err}
 use Rattle.std.proofs.lemmas.Result.{err_from_is_err_and}
-use Rattle.tw_base.specs.declared.failure.ReadFault.{ReadFault}
-use Rattle.tw_base.specs.Codecs.{counted, many, number_codec}
-use Rattle.tw_base.specs.History.{Node}
-use Rattle.tw_base.specs.HistoryCodec.{node_codec}
-use Rattle.tw_base.specs.Taking.{Takes}
-use Rattle.tw_base.proofs.TakeLaws.{takes-counted, takes-no_count}
+use Rattle.tw_base.specs.declared.kinds.failure.ReadFault.{ReadFault}
+use Rattle.tw_base.specs.format.Codecs.{counted, many, number_codec}
+use Rattle.tw_base.specs.history.History.{Node}
+use Rattle.tw_base.specs.history.HistoryCodec.{node_codec}
+use Rattle.tw_base.specs.format.Taking.{Takes}
+use Rattle.tw_base.proofs.lemmas.format.TakeLaws.{takes-counted, takes-no_count}
 use Rattle.tw_history.specs.Tables.{added, node_of}
 use Rattle.tw_history.proofs.reading_steps.take_fresh.Goals as goal
 

@@ -1,9 +1,9 @@
 use Rattle.std.proofs.Common.{◌≡◌, ℕ, ◌+◌, ◌-◌, ◌<◌, ◌^◌, List, [], ◌∷◌, length, map, subst, sym, ap, arith, length-append}
 use Rattle.std.proofs.lemmas.Result.{err_from_is_err_and}
-use Rattle.tw_base.specs.History.{Node as NodeMeant}
-use Rattle.tw_base.specs.HistoryCodec.{node_codec}
-use Rattle.tw_base.proofs.HistoryCodecLaws.{node-lawful}
-use Rattle.tw_base.proofs.TakeLaws.{ManyTaken, many-begins, many-ends, many-fails, many-more}
+use Rattle.tw_base.specs.history.History.{Node as NodeMeant}
+use Rattle.tw_base.specs.history.HistoryCodec.{node_codec}
+use Rattle.tw_base.proofs.lemmas.history.HistoryCodecLaws.{node-lawful}
+use Rattle.tw_base.proofs.lemmas.format.TakeLaws.{ManyTaken, many-begins, many-ends, many-fails, many-more}
 use Rattle.tw_history.specs.Tables.{added, node_of}
 use Rattle.tw_history.proofs.TableReading.{added-none, added-push, each_further, nodes-push, one_left}
 use Rattle.tw_history.proofs.reading_steps.take_nodes.Goals as goal

@@ -1,7 +1,7 @@
 use Rattle.std.proofs.Common.{◌≡◌, ◌+◌, ◌-◌, ◌<◌, ◌≤◌, ◌^◌, ◌++◌, length, map}
-use Rattle.tw_base.specs.HistoryCodec.{node_codec}
-use Rattle.tw_base.specs.Lists.{Each}
-use Rattle.tw_base.proofs.TakeLaws.{ManyTaken}
+use Rattle.tw_base.specs.history.HistoryCodec.{node_codec}
+use Rattle.tw_base.specs.kinds.Lists.{Each}
+use Rattle.tw_base.proofs.lemmas.format.TakeLaws.{ManyTaken}
 use Rattle.tw_history.specs.Tables.{added, node_of}
 use Rattle.tw_history.proofs.reading_steps.take_nodes.Given as goal
 

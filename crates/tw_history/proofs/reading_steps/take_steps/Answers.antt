@@ -1,7 +1,7 @@
 use Rattle.std.proofs.lemmas.Result.{err_from_is_err_and}
-use Rattle.tw_base.specs.declared.limits.TheConstants.{LAST_STEP}
-use Rattle.tw_base.specs.HistoryCodec.{step_codec}
-use Rattle.tw_base.proofs.TakeLaws.{takes-counted, takes-no_count}
+use Rattle.tw_base.specs.declared.kinds.limits.TheConstants.{LAST_STEP}
+use Rattle.tw_base.specs.history.HistoryCodec.{step_codec}
+use Rattle.tw_base.proofs.lemmas.format.TakeLaws.{takes-counted, takes-no_count}
 use Rattle.tw_history.specs.declared.reading_steps.Table.{Table}
 use Rattle.tw_history.specs.Tables.{steps_of_table}
 use Rattle.tw_history.proofs.reading_steps.take_steps.Goals as goal

@@ -1,10 +1,10 @@
 use Rattle.std.proofs.Common.{◌≡◌, ℕ, ◌+◌, ◌-◌, List, [], subst, sym, arith, refl}
 use Rattle.std.proofs.lemmas.Result.{err_from_is_err_and}
-use Rattle.tw_base.specs.History.{Step as StepMeant}
-use Rattle.tw_base.specs.HistoryCodec.{step_codec}
-use Rattle.tw_base.specs.Limits.{IsTimeWithinLimits}
-use Rattle.tw_base.proofs.HistoryCodecLaws.{step-lawful}
-use Rattle.tw_base.proofs.TakeLaws.{ManyTaken, many-begins, many-ends, many-fails, many-more}
+use Rattle.tw_base.specs.history.History.{Step as StepMeant}
+use Rattle.tw_base.specs.history.HistoryCodec.{step_codec}
+use Rattle.tw_base.specs.history.Limits.{IsTimeWithinLimits}
+use Rattle.tw_base.proofs.lemmas.history.HistoryCodecLaws.{step-lawful}
+use Rattle.tw_base.proofs.lemmas.format.TakeLaws.{ManyTaken, many-begins, many-ends, many-fails, many-more}
 use Rattle.tw_history.specs.declared.reading_steps.Table.{Table}
 use Rattle.tw_history.specs.declared.step.Step.{Step}
 use Rattle.tw_history.specs.Tables.{IsInRange, added, step_of, steps_of_table}

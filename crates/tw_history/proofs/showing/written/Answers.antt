@@ -1,8 +1,8 @@
 use Rattle.std.proofs.Common.{◌≤◌, length, subst}
 use Rattle.std.proofs.lemmas.Result.{IfOk-weaker}
-use Rattle.tw_base.specs.declared.limits.TheConstants.{MOST_EVENTS, MOST_EVENT_BYTES}
-use Rattle.tw_base.specs.Formats.{Spells}
-use Rattle.tw_base.specs.Lists.{Each}
+use Rattle.tw_base.specs.declared.kinds.limits.TheConstants.{MOST_EVENTS, MOST_EVENT_BYTES}
+use Rattle.tw_base.specs.format.Formats.{Spells}
+use Rattle.tw_base.specs.kinds.Lists.{Each}
 use Rattle.tw_skipproof.specs.declared.existence.ExistenceProof.{ExistenceProof}
 use Rattle.tw_skipproof.specs.Existence.{IsExistenceInRange, existence_layout}
 use Rattle.tw_skipproof.specs.HistoryProofs.{MakesExistence}

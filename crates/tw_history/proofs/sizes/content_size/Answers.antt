@@ -1,6 +1,6 @@
 use Rattle.std.proofs.Common.{arith, length, ap, sum_by, sym, ◌∙◌, ◌+◌}
 use Rattle.std.proofs.lemmas.List.Concat.{length-flat_map}
-use Rattle.tw_base.specs.HistoryCodec.{event_codec}
+use Rattle.tw_base.specs.history.HistoryCodec.{event_codec}
 use Rattle.tw_history.proofs.ByteCounts.{events-size, thread-size}
 use Rattle.tw_history.proofs.sizes.content_size.Goals as goal
 

@@ -1,5 +1,5 @@
 use Rattle.std.proofs.Common.{◌≡◌, ◌+◌, ◌*◌, ◌≤◌, drop, length, sum_by}
-use Rattle.tw_base.specs.HistoryCodec.{event_codec}
+use Rattle.tw_base.specs.history.HistoryCodec.{event_codec}
 use Rattle.tw_history.proofs.sizes.events_size.Given as goal
 
 abbrev pub invariant-loop-event : goal.invariant-loop-event

@@ -1,4 +1,4 @@
-use Rattle.tw_base.specs.Sound.{IsSound}
+use Rattle.tw_base.specs.history.Sound.{IsSound}
 use Rattle.tw_history.proofs.RulesJudged.{ok-told, sound_history}
 use Rattle.tw_history.proofs.soundness.is_sound.Goals as goal
 

@@ -1,9 +1,9 @@
 use Rattle.std.proofs.Common.{suc, ◌++◌, ◌<◌, ap, sym, subst, ◌∙◌, arith, length}
 use Rattle.tw_history.specs.JudgingSteps.{IsGreatest, greatest_of}
 use Rattle.std.specs.Option.{option_to_list}
-use Rattle.tw_base.specs.History.{History, Step, received, times}
+use Rattle.tw_base.specs.history.History.{History, Step, received, times}
 use Rattle.tw_history.specs.Tables.{step_of}
-use Rattle.tw_base.specs.Rules.Rule.{NodesAreKnown, TreesRise, HoldsAllThreads, IsOfAnother, StepsRise, EventsFit, TimesDontFall}
+use Rattle.tw_base.specs.history.Rules.Rule.{NodesAreKnown, TreesRise, HoldsAllThreads, IsOfAnother, StepsRise, EventsFit, TimesDontFall}
 use Rattle.tw_history.proofs.Summaries.{is_false}
 use Rattle.tw_history.proofs.RulesJudged.{all_by, another_by, count-received, entry_of, judged_next, known_by, later_by, length-option, length-received, lower_rules, number-below, refusal, root-within}
 use Rattle.tw_history.proofs.soundness.judge_step.Goals as goal

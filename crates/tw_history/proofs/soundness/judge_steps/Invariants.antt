@@ -1,6 +1,6 @@
 use Rattle.std.proofs.Common.{◌≡◌, ℕ, suc, ◌<◌, Some, drop, length, sum_by}
-use Rattle.tw_base.specs.History.{Step, step_at}
-use Rattle.tw_base.specs.Sound.{IsSoundStep}
+use Rattle.tw_base.specs.history.History.{Step, step_at}
+use Rattle.tw_base.specs.history.Sound.{IsSoundStep}
 use Rattle.tw_history.specs.JudgingSteps.{HasJudged}
 use Rattle.tw_history.specs.Tables.{steps_of_table}
 use Rattle.tw_history.proofs.soundness.judge_steps.Given as goal

@@ -1,5 +1,5 @@
 use Rattle.std.proofs.Common.{◌+◌, ◌++◌, ◌∷◌, [], length, ap, sym, ◌∙◌, arith}
-use Rattle.tw_base.specs.Texts.{link_text}
+use Rattle.tw_base.specs.kinds.Texts.{link_text}
 use Rattle.tw_history.proofs.LinkLabels.{labels_below-more, labels_below-none}
 use Rattle.tw_history.proofs.step_digests.link_labels.Goals as goal
 

@@ -1,6 +1,6 @@
 use Rattle.std.proofs.Common.{ap, sym, ◌∙◌}
-use Rattle.tw_base.specs.EventTree.{event_root}
-use Rattle.tw_base.proofs.EventTrees.{event_root-none}
+use Rattle.tw_base.specs.events.EventTree.{event_root}
+use Rattle.tw_base.proofs.lemmas.events.EventTrees.{event_root-none}
 use Rattle.tw_history.specs.PassSteps.{events_in}
 use Rattle.tw_history.proofs.step_digests.root_of_events.Goals as goal
 

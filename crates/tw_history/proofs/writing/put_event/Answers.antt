@@ -1,5 +1,5 @@
 use Rattle.std.proofs.Common.{ap, arith, length}
-use Rattle.tw_base.specs.declared.limits.TheConstants.{MOST_EVENT_BYTES}
+use Rattle.tw_base.specs.declared.kinds.limits.TheConstants.{MOST_EVENT_BYTES}
 use Rattle.tw_history.proofs.writing.put_event.Goals as goal
 
 pub returns : goal.returns

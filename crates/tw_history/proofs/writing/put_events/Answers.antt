@@ -1,7 +1,7 @@
 use Rattle.std.proofs.Common.{refl}
-use Rattle.tw_base.specs.Codecs.{many}
-use Rattle.tw_base.specs.HistoryCodec.{event_codec}
-use Rattle.tw_base.proofs.PutLaws.{put-all, put-more, put-none}
+use Rattle.tw_base.specs.format.Codecs.{many}
+use Rattle.tw_base.specs.history.HistoryCodec.{event_codec}
+use Rattle.tw_base.proofs.lemmas.format.PutLaws.{put-all, put-more, put-none}
 use Rattle.tw_history.proofs.writing.put_events.Goals as goal
 
 pub loop-event-init : goal.loop-event-init

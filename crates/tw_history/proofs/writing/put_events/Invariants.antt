@@ -1,5 +1,5 @@
-use Rattle.tw_base.specs.HistoryCodec.{event_codec}
-use Rattle.tw_base.proofs.PutLaws.{ManyPut}
+use Rattle.tw_base.specs.history.HistoryCodec.{event_codec}
+use Rattle.tw_base.proofs.lemmas.format.PutLaws.{ManyPut}
 use Rattle.tw_history.proofs.writing.put_events.Given as goal
 
 abbrev pub invariant-loop-event : goal.invariant-loop-event

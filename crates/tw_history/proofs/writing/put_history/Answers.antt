@@ -1,8 +1,8 @@
 use Rattle.std.proofs.Common.{List, ◌++◌, ◌∙◌, ap, flat_map, length, subst, sym, arith}
-use Rattle.tw_base.specs.Codecs.{behind, by_kind, counted, many, name_codec, number_codec, pair, seen, text_codec}
-use Rattle.tw_base.specs.Fields.{number_bytes}
-use Rattle.tw_base.specs.HistoryCodec.{history_codec, history_magic, step_codec}
-use Rattle.tw_base.specs.Lists.{Each}
+use Rattle.tw_base.specs.format.Codecs.{behind, by_kind, counted, many, name_codec, number_codec, pair, seen, text_codec}
+use Rattle.tw_base.specs.format.Fields.{number_bytes}
+use Rattle.tw_base.specs.history.HistoryCodec.{history_codec, history_magic, step_codec}
+use Rattle.tw_base.specs.kinds.Lists.{Each}
 use Rattle.tw_history.specs.declared.step.Node.{Node}
 use Rattle.tw_history.specs.declared.step.Step.{Step}
 use Rattle.tw_history.specs.HistoryOf.{history_of_table}

@@ -1,9 +1,9 @@
 use Rattle.std.proofs.Common.{◌++◌, ap, sym, ◌∙◌}
 use Rattle.std.proofs.lemmas.List.{get_or_default, length-map}
 use Rattle.std.proofs.lemmas.List.Folds.{flat_map-map}
-use Rattle.tw_base.specs.Codecs.{many}
-use Rattle.tw_base.specs.HistoryCodec.{node_codec}
-use Rattle.tw_base.proofs.PutLaws.{put-all, put-more, put-none}
+use Rattle.tw_base.specs.format.Codecs.{many}
+use Rattle.tw_base.specs.history.HistoryCodec.{node_codec}
+use Rattle.tw_base.proofs.lemmas.format.PutLaws.{put-all, put-more, put-none}
 use Rattle.tw_history.specs.declared.step.Node.{Node}
 use Rattle.tw_history.specs.Tables.{node_of}
 use Rattle.tw_history.proofs.WritingLaws.{Each-seen}

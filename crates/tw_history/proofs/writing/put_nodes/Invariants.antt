@@ -1,5 +1,5 @@
-use Rattle.tw_base.specs.HistoryCodec.{node_codec}
-use Rattle.tw_base.proofs.PutLaws.{ManyPut}
+use Rattle.tw_base.specs.history.HistoryCodec.{node_codec}
+use Rattle.tw_base.proofs.lemmas.format.PutLaws.{ManyPut}
 use Rattle.tw_history.specs.Tables.{node_of}
 use Rattle.tw_history.proofs.writing.put_nodes.Given as goal
 

@@ -1,4 +1,4 @@
-use Rattle.tw_base.specs.Codecs.{number_codec}
+use Rattle.tw_base.specs.format.Codecs.{number_codec}
 use Rattle.tw_history.proofs.FileFits.{recorded-fits}
 use Rattle.tw_history.proofs.WritingLaws.{recorded_put}
 use Rattle.tw_history.proofs.writing.put_recorded.Goals as goal

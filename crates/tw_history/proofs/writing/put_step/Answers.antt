@@ -1,6 +1,6 @@
 use Rattle.std.proofs.Common.{arith, sym, ◌∙◌}
 use Rattle.std.proofs.lemmas.List.{length-map}
-use Rattle.tw_base.specs.Codecs.{many, number_codec}
+use Rattle.tw_base.specs.format.Codecs.{many, number_codec}
 use Rattle.tw_history.specs.Tables.{node_of, step_of}
 use Rattle.tw_history.proofs.FileFits.{step-fits}
 use Rattle.tw_history.proofs.WritingLaws.{step_put}

@@ -1,4 +1,4 @@
-use Rattle.tw_base.specs.Codecs.{many}
+use Rattle.tw_base.specs.format.Codecs.{many}
 use Rattle.tw_history.proofs.TableLaws.{length-steps_of_table}
 use Rattle.tw_history.proofs.WritingLaws.{steps_end, steps_further, written_all}
 use Rattle.tw_history.proofs.writing.put_steps.Goals as goal

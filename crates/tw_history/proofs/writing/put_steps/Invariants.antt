@@ -1,6 +1,6 @@
 use Rattle.std.proofs.Common.{◌≡◌, ◌<◌, ◌^◌, ◌++◌, drop, flat_map, length, sum_by}
-use Rattle.tw_base.specs.HistoryCodec.{step_codec}
-use Rattle.tw_base.specs.Lists.{Each}
+use Rattle.tw_base.specs.history.HistoryCodec.{step_codec}
+use Rattle.tw_base.specs.kinds.Lists.{Each}
 use Rattle.tw_history.specs.Tables.{steps_of_table}
 use Rattle.tw_history.proofs.writing.put_steps.Given as goal
 

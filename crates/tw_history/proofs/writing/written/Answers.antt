@@ -1,7 +1,7 @@
 use Rattle.std.proofs.Common.{◌∙◌}
-use Rattle.tw_base.specs.HistoryCodec.{history_codec}
-use Rattle.tw_base.proofs.HistoryCodecLaws.{history-lawful}
-use Rattle.tw_base.proofs.PutLaws.{put-whole}
+use Rattle.tw_base.specs.history.HistoryCodec.{history_codec}
+use Rattle.tw_base.proofs.lemmas.history.HistoryCodecLaws.{history-lawful}
+use Rattle.tw_base.proofs.lemmas.format.PutLaws.{put-whole}
 use Rattle.tw_history.proofs.writing.written.Goals as goal
 
 pub returns-clause-spelled : goal.returns-clause-spelled

@@ -1,7 +1,7 @@
 use Rattle.std.proofs.Common.{◌≡◌, ◌∙◌, sym, ap, subst, refl, true, false, IsSome}
 use Rattle.std.specs.List.{before_first, after_first}
-use Rattle.tw_base.specs.declared.limits.TheConstants.{LAST_STEP}
-use Rattle.tw_base.specs.Names.{is_name_text}
+use Rattle.tw_base.specs.declared.kinds.limits.TheConstants.{LAST_STEP}
+use Rattle.tw_base.specs.kinds.Names.{is_name_text}
 use Rattle.tw_text.specs.Words.{is_number_within, is_digest}
 use Rattle.tw_msg.specs.AnchorsFile.{is_blank, step_word, digest_word}
 use Rattle.tw_msg.proofs.Reading.{anchor-words, words-anchor}

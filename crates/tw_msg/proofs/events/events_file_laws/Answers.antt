@@ -1,4 +1,4 @@
-use Rattle.tw_base.proofs.CodecLaws.{unambiguous}
+use Rattle.tw_base.proofs.lemmas.format.CodecLaws.{unambiguous}
 use Rattle.tw_msg.specs.EventsFile.{events_codec}
 use Rattle.tw_msg.proofs.EventsLawful.{events-lawful}
 use Rattle.tw_msg.proofs.events.events_file_laws.Goals as goal

@@ -1,4 +1,4 @@
-use Rattle.tw_base.proofs.TakeLaws.{takes-whole}
+use Rattle.tw_base.proofs.lemmas.format.TakeLaws.{takes-whole}
 use Rattle.tw_msg.specs.EventsFile.{events_codec}
 use Rattle.tw_msg.proofs.EventsLawful.{events-lawful}
 use Rattle.tw_msg.proofs.events.read_events.Goals as goal

@@ -1,5 +1,5 @@
 use Rattle.std.proofs.Common.{◌∙◌, arith}
-use Rattle.tw_base.proofs.ByteLemmas.{AreBytes-from}
+use Rattle.tw_base.proofs.lemmas.kinds.ByteLemmas.{AreBytes-from}
 use Rattle.std.specs.Option.{option_map}
 use Rattle.tw_disk.specs.Image.{put}
 use Rattle.tw_disk.proofs.Moments.{pair_rests}

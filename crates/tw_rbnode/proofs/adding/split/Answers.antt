@@ -1,7 +1,7 @@
 use Rattle.std.proofs.Common.{◌≡◌, ◌++◌, ◌∷◌, [], length, sym, ap, ◌∙◌, arith, length-take, length-drop}
-use Rattle.tw_base.specs.declared.thread.Entry.{Entry}
+use Rattle.tw_base.specs.declared.history.thread.Entry.{Entry}
 use Rattle.tw_rbnode.specs.Answers.{more_children, more_entries}
-use Rattle.tw_base.specs.Limits.{IsEntryInRange}
+use Rattle.tw_base.specs.history.Limits.{IsEntryInRange}
 use Rattle.tw_rbnode.specs.Page.{TreePage}
 use Rattle.tw_rbnode.proofs.Pages.{rest_taken, with_size, joined_children, joined_entries, more_rising, more_ranges}
 use Rattle.tw_rbnode.proofs.Rising.{Each-drop, Each-take, Rising-drop, Rising-take, get-read}

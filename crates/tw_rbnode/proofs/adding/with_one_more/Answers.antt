@@ -1,5 +1,5 @@
 use Rattle.std.proofs.Common.{◌≡◌, ◌<◌, length, sym, ap, ◌∙◌, subst, arith, slice_get}
-use Rattle.tw_base.specs.Entries.{key_of}
+use Rattle.tw_base.specs.history.Entries.{key_of}
 use Rattle.tw_rbnode.specs.Answers.{more_children, more_entries}
 use Rattle.tw_rbnode.specs.Page.{TreePage, IsBetween, tree_of}
 use Rattle.tw_rbnode.specs.Shape.{size}

@@ -1,5 +1,5 @@
 use Rattle.std.proofs.Common.{◌≡◌, ◌+◌, ◌<◌, length, ap, ◌∙◌, arith}
-use Rattle.tw_base.specs.Entries.{entry_text}
+use Rattle.tw_base.specs.history.Entries.{entry_text}
 use Rattle.tw_rbnode.specs.Shape.{size}
 use Rattle.tw_rbnode.specs.Trees.{labels_of}
 use Rattle.tw_rbnode.proofs.Descents.{no_node, parts}

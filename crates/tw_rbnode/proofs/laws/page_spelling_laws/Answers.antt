@@ -1,4 +1,4 @@
-use Rattle.tw_base.proofs.CodecLaws.{unambiguous}
+use Rattle.tw_base.proofs.lemmas.format.CodecLaws.{unambiguous}
 use Rattle.tw_rbnode.specs.NodeBytes.{node_codec}
 use Rattle.tw_rbnode.proofs.NodeCodecs.{node-lawful}
 use Rattle.tw_rbnode.proofs.PageOnce.{once}

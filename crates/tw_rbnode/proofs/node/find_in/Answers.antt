@@ -1,9 +1,9 @@
 use Rattle.std.proofs.Common.{◌≡◌, ◌+◌, ◌-◌, ℕ, suc, take, sym, ap, ◌∙◌, subst, arith}
 use Rattle.std.specs.Prelude.{slice_get, Some}
 use Rattle.std.specs.declared.cmp.Ordering.TheVariants.{Less, Greater}
-use Rattle.tw_base.specs.Entries.{KeyBelow, key_cmp, key_of}
-use Rattle.tw_base.specs.Lists.{Each}
-use Rattle.tw_base.proofs.Keys.{KeyBelow-turned}
+use Rattle.tw_base.specs.history.Entries.{KeyBelow, key_cmp, key_of}
+use Rattle.tw_base.specs.kinds.Lists.{Each}
+use Rattle.tw_base.proofs.lemmas.history.Keys.{KeyBelow-turned}
 use Rattle.tw_rbnode.proofs.Rising.{Each-one_more, above_rest, read-get}
 use Rattle.tw_rbnode.proofs.node.find_in.Goals as goal
 

@@ -1,6 +1,6 @@
 use Rattle.std.proofs.Common.{take}
-use Rattle.tw_base.specs.Entries.{KeyBelow, key_of}
-use Rattle.tw_base.specs.Lists.{Each}
+use Rattle.tw_base.specs.history.Entries.{KeyBelow, key_of}
+use Rattle.tw_base.specs.kinds.Lists.{Each}
 use Rattle.tw_rbnode.proofs.node.find_in.Given as goal
 
 abbrev pub invariant-loop-place : goal.invariant-loop-place

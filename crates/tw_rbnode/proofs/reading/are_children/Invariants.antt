@@ -1,5 +1,5 @@
 use Rattle.std.proofs.Common.{take}
-use Rattle.tw_base.specs.Lists.{Each}
+use Rattle.tw_base.specs.kinds.Lists.{Each}
 use Rattle.tw_rbnode.specs.declared.child.Child.{Child}
 use Rattle.tw_rbnode.specs.Children.{IsChildAt}
 use Rattle.tw_rbnode.specs.NodeBytes.{LiesBelow}

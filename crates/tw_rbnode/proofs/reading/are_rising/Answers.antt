@@ -1,9 +1,9 @@
 use Rattle.std.proofs.Common.{◌≡◌, ◌+◌, ◌-◌, ℕ, suc, ap, sym, ◌∙◌, arith, subst, take, slice_get, true}
 use Rattle.std.specs.Prelude.{Some}
 use Rattle.std.specs.Ordering.{is_lt}
-use Rattle.tw_base.specs.Entries.{KeyBelow, key_cmp, key_of}
-use Rattle.tw_base.specs.Tree.{IsRising}
-use Rattle.tw_base.proofs.KeyTests.{below-lt}
+use Rattle.tw_base.specs.history.Entries.{KeyBelow, key_cmp, key_of}
+use Rattle.tw_base.specs.history.Tree.{IsRising}
+use Rattle.tw_base.proofs.lemmas.history.KeyTests.{below-lt}
 use Rattle.tw_rbnode.proofs.Rising.{rise-more, rising-next}
 use Rattle.tw_rbnode.proofs.reading.are_rising.Goals as goal
 

@@ -1,5 +1,5 @@
 use Rattle.std.proofs.Common.{take}
-use Rattle.tw_base.specs.Tree.{IsRising}
+use Rattle.tw_base.specs.history.Tree.{IsRising}
 use Rattle.tw_rbnode.proofs.reading.are_rising.Given as goal
 
 abbrev pub invariant-loop-index : goal.invariant-loop-index

@@ -1,8 +1,8 @@
 use Rattle.std.proofs.Common.{◌≡◌, ◌+◌, length, refl, sym, ap, ◌∙◌, subst, arith, slice_get, true, false}
 use Rattle.std.specs.Prelude.{map}
-use Rattle.tw_base.specs.Lists.{Each}
-use Rattle.tw_base.specs.Tree.{IsRising}
-use Rattle.tw_base.specs.Limits.{IsEntryInRange}
+use Rattle.tw_base.specs.kinds.Lists.{Each}
+use Rattle.tw_base.specs.history.Tree.{IsRising}
+use Rattle.tw_base.specs.history.Limits.{IsEntryInRange}
 use Rattle.tw_rbnode.specs.declared.slot.Slot.{Slot}
 use Rattle.tw_rbnode.specs.Page.{tree_of}
 use Rattle.tw_rbnode.specs.Shape.{is_red, size}

@@ -1,7 +1,7 @@
 use Rattle.std.proofs.Common.{◌≡◌, ℕ, List, sym, ap, subst, arith, true}
-use Rattle.tw_base.specs.Lists.{Each}
-use Rattle.tw_base.specs.PageBytes.{IsPageOf}
-use Rattle.tw_base.proofs.PageLaws.{page-once, takes-page}
+use Rattle.tw_base.specs.kinds.Lists.{Each}
+use Rattle.tw_base.specs.format.PageBytes.{IsPageOf}
+use Rattle.tw_base.proofs.lemmas.format.PageLaws.{page-once, takes-page}
 use Rattle.tw_rbnode.specs.declared.child.Child.{Child}
 use Rattle.tw_rbnode.specs.declared.reading.PageFields.{PageFields}
 use Rattle.tw_rbnode.specs.Children.{IsChildAt}

@@ -1,5 +1,5 @@
 use Rattle.std.proofs.Common.{◌≡◌, ◌-◌, ◌≤◌, length}
-use Rattle.tw_base.proofs.TakeLaws.{ManyTaken}
+use Rattle.tw_base.proofs.lemmas.format.TakeLaws.{ManyTaken}
 use Rattle.tw_rbnode.specs.NodeBytes.{child_codec}
 use Rattle.tw_rbnode.proofs.reading.take_children.Given as goal
 

@@ -1,6 +1,6 @@
 use Rattle.std.proofs.Common.{length}
-use Rattle.tw_base.specs.Codecs.{number_codec}
-use Rattle.tw_base.proofs.TakeLaws.{takes-kind}
+use Rattle.tw_base.specs.format.Codecs.{number_codec}
+use Rattle.tw_base.proofs.lemmas.format.TakeLaws.{takes-kind}
 use Rattle.tw_rbnode.specs.declared.reading.Held.{Held as TakenHeld}
 use Rattle.tw_rbnode.specs.NodeBytes.{Held, held_codec}
 use Rattle.tw_rbnode.proofs.NodeCodecs.{held-count}

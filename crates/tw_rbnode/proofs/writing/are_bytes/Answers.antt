@@ -1,5 +1,5 @@
 use Rattle.std.proofs.Common.{arith}
-use Rattle.tw_base.proofs.ByteLemmas.{AreBytes-from}
+use Rattle.tw_base.proofs.lemmas.kinds.ByteLemmas.{AreBytes-from}
 use Rattle.tw_rbnode.proofs.writing.are_bytes.Goals as goal
 
 pub returns : goal.returns

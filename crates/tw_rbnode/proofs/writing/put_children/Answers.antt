@@ -1,5 +1,5 @@
 use Rattle.std.proofs.Common.{arith}
-use Rattle.tw_base.proofs.PutLaws.{put-all, put-more, put-none}
+use Rattle.tw_base.proofs.lemmas.format.PutLaws.{put-all, put-more, put-none}
 use Rattle.tw_rbnode.specs.NodeBytes.{child_codec}
 use Rattle.tw_rbnode.proofs.writing.put_children.Goals as goal
 

@@ -1,5 +1,5 @@
 use Rattle.std.proofs.Common.{◌≡◌, ◌+◌, ◌*◌, length}
-use Rattle.tw_base.proofs.PutLaws.{ManyPut}
+use Rattle.tw_base.proofs.lemmas.format.PutLaws.{ManyPut}
 use Rattle.tw_rbnode.specs.NodeBytes.{child_codec}
 use Rattle.tw_rbnode.proofs.writing.put_children.Given as goal
 

@@ -1,6 +1,6 @@
 use Rattle.std.specs.Prelude.{Option}
-use Rattle.tw_base.specs.declared.thread.Entry.{Entry}
-use Rattle.tw_base.specs.declared.tree_proof.Ask.TheVariants.{Below}
+use Rattle.tw_base.specs.declared.history.thread.Entry.{Entry}
+use Rattle.tw_base.specs.declared.history.tree_proof.Ask.TheVariants.{Below}
 use Rattle.tw_disk.specs.Found.Found.{Is}
 use Rattle.tw_disk.proofs.FoundLaws.{is_on}
 use Rattle.tw_rbtree.specs.declared.seeking.Sought.{Sought}

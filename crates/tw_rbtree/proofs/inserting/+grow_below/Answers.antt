@@ -1,14 +1,14 @@
 use Rattle.std.proofs.Common.{◌≡◌, ℕ, suc, ◌+◌, ◌-◌, ◌≤◌, List, [], ◌∷◌, ◌++◌, length, ap, refl, sym, ◌∙◌, subst, arith}
 use Rattle.std.specs.Prelude.{Err, Ok, Option, map, slice_index_or}
 use Rattle.std.proofs.lemmas.Option.{same_Some}
-use Rattle.tw_base.specs.declared.thread.Entry.{Entry}
-use Rattle.tw_base.specs.declared.thread.Key.{Key}
-use Rattle.tw_base.specs.declared.tree_proof.Ask.TheVariants.{Absent}
-use Rattle.tw_base.specs.Asking.{with_entry}
-use Rattle.tw_base.specs.Entries.{key_of}
-use Rattle.tw_base.specs.Limits.{IsEntryInRange}
-use Rattle.tw_base.specs.Tree.{IsRising, entries}
-use Rattle.tw_base.specs.Tree.Tree.{Empty}
+use Rattle.tw_base.specs.declared.history.thread.Entry.{Entry}
+use Rattle.tw_base.specs.declared.history.thread.Key.{Key}
+use Rattle.tw_base.specs.declared.history.tree_proof.Ask.TheVariants.{Absent}
+use Rattle.tw_base.specs.history.Asking.{with_entry}
+use Rattle.tw_base.specs.history.Entries.{key_of}
+use Rattle.tw_base.specs.history.Limits.{IsEntryInRange}
+use Rattle.tw_base.specs.history.Tree.{IsRising, entries}
+use Rattle.tw_base.specs.history.Tree.Tree.{Empty}
 use Rattle.tw_disk.specs.Found.{Found}
 use Rattle.tw_disk.specs.Image.{Image}
 use Rattle.tw_rbnode.specs.declared.child.Child.{Child}

@@ -1,11 +1,11 @@
 use Rattle.std.proofs.Common.{◌≡◌, ℕ, suc, ◌+◌, List, [], ◌∷◌, ◌++◌, length, ap, refl, sym, ◌∙◌, subst, arith}
 use Rattle.std.specs.Prelude.{None, Ok, map}
-use Rattle.tw_base.specs.declared.thread.Entry.{Entry}
-use Rattle.tw_base.specs.declared.tree_proof.Ask.TheVariants.{Absent}
-use Rattle.tw_base.specs.Asking.{with_entry}
-use Rattle.tw_base.specs.Entries.{key_of}
-use Rattle.tw_base.specs.Tree.{IsRising, Tree, entries}
-use Rattle.tw_base.specs.Tree.Tree.{Empty}
+use Rattle.tw_base.specs.declared.history.thread.Entry.{Entry}
+use Rattle.tw_base.specs.declared.history.tree_proof.Ask.TheVariants.{Absent}
+use Rattle.tw_base.specs.history.Asking.{with_entry}
+use Rattle.tw_base.specs.history.Entries.{key_of}
+use Rattle.tw_base.specs.history.Tree.{IsRising, Tree, entries}
+use Rattle.tw_base.specs.history.Tree.Tree.{Empty}
 use Rattle.tw_rbnode.specs.Trees.{woven}
 use Rattle.tw_rbtree.specs.FaultWords.{tree_fault}
 use Rattle.tw_rbtree.specs.declared.inserting.Grown.{Grown}

@@ -1,6 +1,6 @@
 use Rattle.std.proofs.Common.{List, [], ◌∷◌, ◌++◌, length, ap, sym, subst, arith}
 use Rattle.std.specs.Prelude.{map}
-use Rattle.tw_base.specs.Tree.{IsRising, entries}
+use Rattle.tw_base.specs.history.Tree.{IsRising, entries}
 use Rattle.tw_rbnode.specs.declared.child.Child.{Child}
 use Rattle.tw_rbnode.specs.Trees.{woven}
 use Rattle.tw_rbtree.specs.Growing.{IsOver}

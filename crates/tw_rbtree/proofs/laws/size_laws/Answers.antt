@@ -1,5 +1,5 @@
 use Rattle.std.proofs.Common.{◌*◌, ◌≤◌, List, length, sym, ◌∙◌, subst}
-use Rattle.tw_base.specs.declared.tree_proof.Ancestor.{Ancestor}
+use Rattle.tw_base.specs.declared.history.tree_proof.Ancestor.{Ancestor}
 use Rattle.tw_treeproof.specs.Making.{place_of, way_up}
 use Rattle.tw_treeproof.proofs.OwnProofs.{at-ancestors}
 use Rattle.tw_rbtree.proofs.Readings.{reading}

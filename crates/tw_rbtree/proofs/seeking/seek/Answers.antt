@@ -1,6 +1,6 @@
 use Rattle.std.proofs.Common.{◌≡◌, ◌+◌, ◌-◌, false, true, ap, sym, ◌∙◌, arith, slice_get, refl}
 use Rattle.std.specs.Prelude.{Some, None, Option}
-use Rattle.tw_base.specs.declared.thread.Entry.{Entry}
+use Rattle.tw_base.specs.declared.history.thread.Entry.{Entry}
 use Rattle.tw_rbnode.specs.declared.node.Found.{Found as Spot}
 use Rattle.tw_rbnode.specs.declared.node.Found.TheVariants.{Between}
 use Rattle.tw_rbtree.specs.declared.seeking.Sought.{Sought}

@@ -1,9 +1,9 @@
 use Rattle.std.proofs.Common.{◌≡◌, ◌+◌, ◌*◌, ◌^◌, ◌<◌, ◌≤◌, ℕ, length, ◌∙◌, inl, refl, subst, sym, arith}
 use Rattle.tw_disk.specs.Disk.{LeavesOnly, Reads}
-use Rattle.tw_base.specs.History.{with_events}
+use Rattle.tw_base.specs.history.History.{with_events}
 use Rattle.tw_pages.specs.Same.{count_of, list_of}
 use Rattle.tw_pages.specs.SameSteps.{is_same_on, told_pages}
-use Rattle.tw_base.specs.declared.limits.TheConstants.{LAST_STEP}
+use Rattle.tw_base.specs.declared.kinds.limits.TheConstants.{LAST_STEP}
 use Rattle.tw_disk.specs.Image.{Image}
 use Rattle.tw_pages.specs.StoreValue.{opening_of}
 use Rattle.tw_skiplist.specs.Appended.{appended}

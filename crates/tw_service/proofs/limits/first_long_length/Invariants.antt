@@ -1,6 +1,6 @@
 use Rattle.std.proofs.Common.{◌≡◌, drop, take}
-use Rattle.tw_base.specs.Bytes.{AreBytes}
-use Rattle.tw_base.specs.Lists.{Each}
+use Rattle.tw_base.specs.kinds.Bytes.{AreBytes}
+use Rattle.tw_base.specs.kinds.Lists.{Each}
 use Rattle.tw_service.specs.Limits.{first_long}
 use Rattle.tw_service.proofs.limits.first_long_length.Given as goal
 

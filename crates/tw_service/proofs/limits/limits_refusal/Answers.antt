@@ -1,7 +1,7 @@
 use Rattle.std.proofs.Common.{◌∙◌, List, ℕ, ap, length, arith, subst}
 use Rattle.std.specs.Prelude.{is_some}
-use Rattle.tw_base.specs.Bytes.{AreBytes}
-use Rattle.tw_base.specs.Lists.{Each}
+use Rattle.tw_base.specs.kinds.Bytes.{AreBytes}
+use Rattle.tw_base.specs.kinds.Lists.{Each}
 use Rattle.std.specs.Option.{option_map}
 use Rattle.tw_service.specs.Limits.{bytes_of, first_long}
 use Rattle.tw_service.proofs.EventLimits.{bytes-short, short_events}

@@ -1,5 +1,5 @@
 use Rattle.std.proofs.Common.{◌++◌, ap, sym, ◌∙◌}
-use Rattle.tw_base.proofs.NumberLaws.{number_bytes-eight}
+use Rattle.tw_base.proofs.lemmas.format.NumberLaws.{number_bytes-eight}
 use Rattle.tw_service.proofs.root.put_number.Goals as goal
 
 pub returns-clause-bytes : goal.returns-clause-bytes

@@ -1,5 +1,5 @@
 use Rattle.std.proofs.Common.{false, IsTrue, refl, subst}
-use Rattle.tw_base.proofs.TakeLaws.{takes-word, word-once}
+use Rattle.tw_base.proofs.lemmas.format.TakeLaws.{takes-word, word-once}
 use Rattle.tw_service.specs.Roots.{FitsStore, root_codec}
 use Rattle.tw_service.proofs.RootLaws.{root-lawful}
 use Rattle.tw_service.proofs.root.read_root.Goals as goal

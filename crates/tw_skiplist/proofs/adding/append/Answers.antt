@@ -1,6 +1,6 @@
 use Rattle.std.proofs.Common.{◌≡◌, ◌+◌, ℕ, List, length, ap, sym, ◌∙◌, arith}
-use Rattle.tw_base.specs.EventTree.{event_root}
-use Rattle.tw_base.specs.Texts.{authenticator_text, datum_text}
+use Rattle.tw_base.specs.events.EventTree.{event_root}
+use Rattle.tw_base.specs.kinds.Texts.{authenticator_text, datum_text}
 use Rattle.tw_skiplist.specs.Appended.{appended, first_page, new_auth, next_of, with_step}
 use Rattle.tw_skiplist.specs.Events.{piece_count}
 use Rattle.tw_disk.specs.Found.Found.{Is}

@@ -1,7 +1,7 @@
 use Rattle.std.proofs.Common.{◌≡◌, ◌≤◌, ◌^◌, ◌+◌, ◌-◌, ◌++◌, ◌∷◌, [], ℕ, List, length, ap, sym, ◌∙◌, subst, arith}
 use Rattle.tw_disk.specs.Image.{Image}
 use Rattle.tw_disk.proofs.ReadingLaws.{only_reads_itself, only_reads_on}
-use Rattle.tw_base.specs.Levels.{top_level as top_level_of}
+use Rattle.tw_base.specs.kinds.Levels.{top_level as top_level_of}
 use Rattle.tw_skiplist.specs.declared.adding.Links.{Links}
 use Rattle.tw_skiplist.specs.declared.head.StepRef.{StepRef}
 use Rattle.tw_skiplist.specs.Answers.{IsFaultOf}

@@ -1,8 +1,8 @@
 use Rattle.std.proofs.Common.{◌≡◌, ◌<◌, ◌-◌, ◌^◌, ◌++◌, [], ℕ, List, length, ap, sym, ◌∙◌, subst, arith}
 use Rattle.std.proofs.lemmas.List.{append-nil}
 use Rattle.tw_disk.proofs.ReadingLaws.{only_reads_itself, only_reads_on}
-use Rattle.tw_base.specs.Levels.{top_level}
-use Rattle.tw_base.proofs.Levels.{top_level-below}
+use Rattle.tw_base.specs.kinds.Levels.{top_level}
+use Rattle.tw_base.proofs.lemmas.kinds.Levels.{top_level-below}
 use Rattle.tw_skipproof.specs.Paths.{HasShape, hop, hop_level}
 use Rattle.tw_skipproof.specs.declared.path.Link.{Link}
 use Rattle.tw_skipproof.proofs.Hops.{hop_level-le, hop_level-short}

@@ -1,5 +1,5 @@
 use Rattle.std.proofs.Common.{List, length, ap, sym, ◌∙◌}
-use Rattle.tw_base.specs.Levels.{top_level}
+use Rattle.tw_base.specs.kinds.Levels.{top_level}
 use Rattle.tw_skipproof.specs.declared.path.Link.{Link}
 use Rattle.tw_skiplist.specs.declared.collecting.Hop.{Hop}
 use Rattle.tw_skiplist.specs.declared.head.StepRef.{StepRef}

@@ -2,8 +2,8 @@ use Rattle.std.proofs.Common.{◌≡◌, ◌+◌, ◌-◌, ℕ, List, ap, sym, �
 use Rattle.std.proofs.lemmas.List.{length_push, take_all}
 use Rattle.tw_skiplist.specs.StepBytes.{stream}
 use Rattle.tw_skiplist.proofs.Streams.{length-stream}
-use Rattle.tw_base.specs.Bytes.{AreBytes}
-use Rattle.tw_base.proofs.ByteLemmas.{AreBytes-from}
+use Rattle.tw_base.specs.kinds.Bytes.{AreBytes}
+use Rattle.tw_base.proofs.lemmas.kinds.ByteLemmas.{AreBytes-from}
 use Rattle.tw_skiplist.proofs.EventWords.{found-events, found-none}
 use Rattle.tw_skiplist.proofs.Spelling.{AllShort, all_taken, more_sizes, more_taken, no_event, spelled_bytes}
 use Rattle.tw_skiplist.proofs.event_pages.read_events.Goals as goal

@@ -1,5 +1,5 @@
 use Rattle.std.proofs.Common.{arith}
-use Rattle.tw_base.proofs.ByteLemmas.{AreBytes-from}
+use Rattle.tw_base.proofs.lemmas.kinds.ByteLemmas.{AreBytes-from}
 use Rattle.tw_skiplist.proofs.page.event_page.Goals as goal
 
 pub returns-clause-bytes : goal.returns-clause-bytes

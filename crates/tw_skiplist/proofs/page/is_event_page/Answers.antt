@@ -1,6 +1,6 @@
 use Rattle.std.proofs.Common.{◌≡◌, ◌+◌, ◌-◌, ℕ, take, drop, subst, arith, length-drop}
 use Rattle.std.proofs.lemmas.List.{length-take-le}
-use Rattle.tw_base.specs.Bytes.{AreBytes}
+use Rattle.tw_base.specs.kinds.Bytes.{AreBytes}
 use Rattle.tw_skiplist.proofs.page.is_event_page.Goals as goal
 
 pub returns-clause-piece : goal.returns-clause-piece

@@ -1,5 +1,5 @@
 use Rattle.std.proofs.Common.{◌≡◌, ◌+◌, ◌*◌, length}
-use Rattle.tw_base.proofs.PutLaws.{ManyPut}
+use Rattle.tw_base.proofs.lemmas.format.PutLaws.{ManyPut}
 use Rattle.tw_skiplist.specs.StepBytes.{ref_codec}
 use Rattle.tw_skiplist.proofs.page.put_links.Given as goal
 

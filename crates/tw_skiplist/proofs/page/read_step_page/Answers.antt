@@ -1,6 +1,6 @@
 use Rattle.std.proofs.Common.{List, length, ap, sym, ◌∙◌, Bool}
 use Rattle.std.specs.Prelude.{◌&&◌}
-use Rattle.tw_base.proofs.PageLaws.{takes-page}
+use Rattle.tw_base.proofs.lemmas.format.PageLaws.{takes-page}
 use Rattle.tw_skiplist.specs.declared.fields.StepFields.{StepFields}
 use Rattle.tw_skiplist.specs.declared.head.StepRef.{StepRef}
 use Rattle.tw_skiplist.specs.declared.page.StepPage.{StepPage}

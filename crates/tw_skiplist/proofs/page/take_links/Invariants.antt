@@ -1,5 +1,5 @@
 use Rattle.std.proofs.Common.{◌≡◌, ◌-◌, ◌≤◌, length}
-use Rattle.tw_base.proofs.TakeLaws.{ManyTaken}
+use Rattle.tw_base.proofs.lemmas.format.TakeLaws.{ManyTaken}
 use Rattle.tw_skiplist.specs.StepBytes.{ref_codec}
 use Rattle.tw_skiplist.proofs.page.take_links.Given as goal
 

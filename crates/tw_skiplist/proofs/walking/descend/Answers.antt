@@ -1,6 +1,6 @@
 use Rattle.std.proofs.Common.{◌≡◌, ◌<◌, ◌-◌, ◌^◌, ℕ, ap, sym, ◌∙◌, subst, arith, refl}
 use Rattle.tw_disk.proofs.ReadingLaws.{only_reads_itself, only_reads_on}
-use Rattle.tw_base.proofs.Levels.{top_level-below}
+use Rattle.tw_base.proofs.lemmas.kinds.Levels.{top_level-below}
 use Rattle.tw_skipproof.specs.Paths.{hop, hop_level}
 use Rattle.tw_skipproof.proofs.Hops.{hop_level-le, hop_level-short}
 use Rattle.tw_disk.specs.Found.{Found}

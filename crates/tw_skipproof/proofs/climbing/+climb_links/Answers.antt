@@ -1,6 +1,6 @@
 use Rattle.std.proofs.Common.{◌<◌, length, arith, sym, ◌∙◌}
-use Rattle.tw_base.specs.Levels.{top_level}
-use Rattle.tw_base.proofs.Levels.{top_level-below}
+use Rattle.tw_base.specs.kinds.Levels.{top_level}
+use Rattle.tw_base.proofs.lemmas.kinds.Levels.{top_level-below}
 use Rattle.tw_skipproof.proofs.Hops.{empty_path, longer_path}
 use Rattle.tw_skipproof.proofs.climbing.+climb_links.Goals as goal
 

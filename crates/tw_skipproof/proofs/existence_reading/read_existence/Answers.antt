@@ -1,4 +1,4 @@
-use Rattle.tw_base.proofs.TakeLaws.{if_read, takes-whole}
+use Rattle.tw_base.proofs.lemmas.format.TakeLaws.{if_read, takes-whole}
 use Rattle.tw_skipproof.specs.Codecs.{existence_codec}
 use Rattle.tw_skipproof.specs.Existence.{IsExistenceInRange, IsShaped}
 use Rattle.tw_skipproof.proofs.LawfulCodecs.{existence-lawful}

@@ -1,7 +1,7 @@
 use Rattle.std.proofs.Common.{lit≤, arith}
-use Rattle.tw_base.specs.Codecs.{bytes_codec, each, labels_codec, many, pair, seen}
-use Rattle.tw_base.proofs.CodecLaws.{spelled-fits, unambiguous, written-as}
-use Rattle.tw_base.proofs.CodecSizes.{word-size}
+use Rattle.tw_base.specs.format.Codecs.{bytes_codec, each, labels_codec, many, pair, seen}
+use Rattle.tw_base.proofs.lemmas.format.CodecLaws.{spelled-fits, unambiguous, written-as}
+use Rattle.tw_base.proofs.lemmas.format.CodecSizes.{word-size}
 use Rattle.tw_skipproof.specs.Codecs.{existence_codec, opening_bytes, opening_codec, path_bytes, path_codec}
 use Rattle.tw_skipproof.proofs.LawfulCodecs.{existence-lawful, opening-lawful, path-lawful}
 use Rattle.tw_skipproof.proofs.Shapes.{existence-most, existence-shape, path-most, path-shape}

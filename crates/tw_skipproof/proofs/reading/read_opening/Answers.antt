@@ -1,5 +1,5 @@
 use Rattle.std.proofs.Common.{lit≤}
-use Rattle.tw_base.proofs.TakeLaws.{takes-whole}
+use Rattle.tw_base.proofs.lemmas.format.TakeLaws.{takes-whole}
 use Rattle.tw_skipproof.specs.Codecs.{opening_codec}
 use Rattle.tw_skipproof.proofs.LawfulCodecs.{opening-lawful}
 use Rattle.tw_skipproof.proofs.reading.read_opening.Goals as goal

@@ -1,4 +1,4 @@
-use Rattle.tw_base.proofs.TakeLaws.{takes-whole}
+use Rattle.tw_base.proofs.lemmas.format.TakeLaws.{takes-whole}
 use Rattle.tw_skipproof.specs.declared.path.Path.{Path}
 use Rattle.tw_skipproof.specs.Codecs.{path_codec}
 use Rattle.tw_skipproof.proofs.LawfulCodecs.{path-lawful}

@@ -1,7 +1,7 @@
 use Rattle.std.proofs.lemmas.Result.{err_from_is_err_and}
 use Rattle.std.specs.Prelude.{is_some}
-use Rattle.tw_base.specs.Codecs.{flag_codec, written}
-use Rattle.tw_base.proofs.TakeLaws.{takes-kind, takes-no_kind}
+use Rattle.tw_base.specs.format.Codecs.{flag_codec, written}
+use Rattle.tw_base.proofs.lemmas.format.TakeLaws.{takes-kind, takes-no_kind}
 use Rattle.tw_skipproof.specs.Codecs.{count_codec, counted_with}
 use Rattle.tw_skipproof.proofs.LawfulCodecs.{count-kind}
 use Rattle.tw_skipproof.proofs.reading.take_count.Goals as goal

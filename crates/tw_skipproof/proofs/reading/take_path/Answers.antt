@@ -1,6 +1,6 @@
 use Rattle.std.proofs.Common.{ℕ, List, arith}
 use Rattle.std.proofs.lemmas.Result.{err_from_is_err_and}
-use Rattle.tw_base.proofs.TakeLaws.{EachTaken, each-ends, each-fails, each-more}
+use Rattle.tw_base.proofs.lemmas.format.TakeLaws.{EachTaken, each-ends, each-fails, each-more}
 use Rattle.tw_skipproof.specs.declared.path.Link.{Link}
 use Rattle.tw_skipproof.specs.declared.path.Path.{Path}
 use Rattle.tw_skipproof.specs.Paths.{greedy_steps, hop}

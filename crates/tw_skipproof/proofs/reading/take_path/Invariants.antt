@@ -1,6 +1,6 @@
 use Rattle.std.proofs.Common.{◌-◌, ◌≤◌, length}
-use Rattle.tw_base.specs.declared.limits.TheConstants.{LAST_STEP}
-use Rattle.tw_base.proofs.TakeLaws.{EachTaken}
+use Rattle.tw_base.specs.declared.kinds.limits.TheConstants.{LAST_STEP}
+use Rattle.tw_base.proofs.lemmas.format.TakeLaws.{EachTaken}
 use Rattle.tw_skipproof.specs.Paths.{greedy_steps}
 use Rattle.tw_skipproof.specs.Codecs.{link_bytes, link_codec}
 use Rattle.tw_skipproof.proofs.reading.take_path.Given as goal

@@ -1,7 +1,7 @@
 use Rattle.std.proofs.Common.{◌+◌, ◌^◌, ap, ◌∙◌, ◌++◌}
 use Rattle.std.specs.Prelude.{if◌then◌else◌}
-use Rattle.tw_base.specs.Codecs.{number_codec}
-use Rattle.tw_base.specs.Fields.{number_bytes}
+use Rattle.tw_base.specs.format.Codecs.{number_codec}
+use Rattle.tw_base.specs.format.Fields.{number_bytes}
 use Rattle.tw_skipproof.proofs.CountWords.{count_put}
 use Rattle.tw_skipproof.proofs.writing.put_count.Goals as goal
 

@@ -1,5 +1,5 @@
-use Rattle.tw_base.proofs.PutLaws.{put-all, put-more, put-none}
-use Rattle.tw_base.specs.Codecs.{each}
+use Rattle.tw_base.proofs.lemmas.format.PutLaws.{put-all, put-more, put-none}
+use Rattle.tw_base.specs.format.Codecs.{each}
 use Rattle.tw_skipproof.specs.Codecs.{link_bytes, path_bytes, path_codec}
 use Rattle.tw_skipproof.specs.Spelling.{FitsAsLink}
 use Rattle.tw_skipproof.proofs.writing.put_links.Goals as goal

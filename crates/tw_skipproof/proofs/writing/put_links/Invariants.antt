@@ -1,4 +1,4 @@
-use Rattle.tw_base.proofs.PutLaws.{ManyPut}
+use Rattle.tw_base.proofs.lemmas.format.PutLaws.{ManyPut}
 use Rattle.tw_skipproof.specs.Codecs.{link_bytes}
 use Rattle.tw_skipproof.specs.Spelling.{FitsAsLink}
 use Rattle.tw_skipproof.proofs.writing.put_links.Given as goal

@@ -1,6 +1,6 @@
 use Rattle.std.proofs.Common.{List, subst}
-use Rattle.tw_base.specs.Codecs.{name_codec}
-use Rattle.tw_base.specs.Lists.{Each}
+use Rattle.tw_base.specs.format.Codecs.{name_codec}
+use Rattle.tw_base.specs.kinds.Lists.{Each}
 use Rattle.tw_skipproof.specs.declared.path.Link.{Link}
 use Rattle.tw_skipproof.specs.Spelling.{FitsAsLink}
 use Rattle.tw_skipproof.proofs.LawfulCodecs.{part-fits}

@@ -1,4 +1,4 @@
-use Rattle.tw_base.proofs.PutLaws.{put-whole}
+use Rattle.tw_base.proofs.lemmas.format.PutLaws.{put-whole}
 use Rattle.tw_skipproof.specs.Codecs.{existence_codec}
 use Rattle.tw_skipproof.proofs.LawfulCodecs.{existence-lawful}
 use Rattle.tw_skipproof.proofs.writing.write_existence.Goals as goal

@@ -1,6 +1,6 @@
 use Rattle.std.proofs.Common.{arith, lit≤}
-use Rattle.tw_base.specs.Codecs.{bytes_codec, labels_codec, many, pair, seen}
-use Rattle.tw_base.proofs.PutLaws.{put-whole}
+use Rattle.tw_base.specs.format.Codecs.{bytes_codec, labels_codec, many, pair, seen}
+use Rattle.tw_base.proofs.lemmas.format.PutLaws.{put-whole}
 use Rattle.tw_skipproof.specs.Codecs.{opening_bytes, opening_codec}
 use Rattle.tw_skipproof.proofs.LawfulCodecs.{opening-lawful}
 use Rattle.tw_skipproof.proofs.writing.write_opening.Goals as goal

@@ -1,5 +1,5 @@
-use Rattle.tw_base.specs.Codecs.{each}
-use Rattle.tw_base.proofs.PutLaws.{put-whole}
+use Rattle.tw_base.specs.format.Codecs.{each}
+use Rattle.tw_base.proofs.lemmas.format.PutLaws.{put-whole}
 use Rattle.tw_skipproof.specs.Codecs.{path_bytes, path_codec}
 use Rattle.tw_skipproof.proofs.LawfulCodecs.{path-fits, path-lawful}
 use Rattle.tw_skipproof.proofs.writing.write_path.Goals as goal

@@ -1,6 +1,6 @@
 use Rattle.std.proofs.Common.{ap, sym, ◌∙◌}
 use Rattle.std.specs.Ordering.{is_lt}
-use Rattle.tw_base.specs.Entries.{key_cmp}
+use Rattle.tw_base.specs.history.Entries.{key_cmp}
 use Rattle.tw_tree.specs.TreeMeaning.{tree_of}
 use Rattle.tw_tree.proofs.Steps.{after-left, after-right}
 use Rattle.tw_tree.proofs.searching.after.Goals as goal

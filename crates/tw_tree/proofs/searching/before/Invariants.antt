@@ -1,7 +1,7 @@
 use Rattle.std.proofs.Common.{◌≡◌}
 use Rattle.std.specs.Option.{option_or}
-use Rattle.tw_base.specs.Asking.{last_below}
-use Rattle.tw_base.specs.Tree.{IsRising, entries}
+use Rattle.tw_base.specs.history.Asking.{last_below}
+use Rattle.tw_base.specs.history.Tree.{IsRising, entries}
 use Rattle.tw_tree.specs.TreeMeaning.{tree_of}
 use Rattle.tw_tree.proofs.searching.before.Given as goal
 

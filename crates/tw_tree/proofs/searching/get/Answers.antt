@@ -1,5 +1,5 @@
 use Rattle.std.proofs.Common.{ap, sym, ◌∙◌}
-use Rattle.tw_base.specs.Entries.{key_cmp}
+use Rattle.tw_base.specs.history.Entries.{key_cmp}
 use Rattle.tw_tree.specs.TreeMeaning.{tree_of}
 use Rattle.tw_tree.proofs.Steps.{with-here, with-left, with-right}
 use Rattle.tw_tree.proofs.searching.get.Goals as goal

@@ -1,6 +1,6 @@
 use Rattle.std.proofs.Common.{◌≡◌}
-use Rattle.tw_base.specs.Asking.{entry_with}
-use Rattle.tw_base.specs.Tree.{IsRising, entries}
+use Rattle.tw_base.specs.history.Asking.{entry_with}
+use Rattle.tw_base.specs.history.Tree.{IsRising, entries}
 use Rattle.tw_tree.specs.TreeMeaning.{tree_of}
 use Rattle.tw_tree.proofs.searching.get.Given as goal
 

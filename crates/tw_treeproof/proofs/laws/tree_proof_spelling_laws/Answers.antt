@@ -1,7 +1,7 @@
-use Rattle.tw_base.proofs.CodecLaws.{unambiguous}
-use Rattle.tw_base.proofs.CodecSizes.{word-size}
-use Rattle.tw_base.specs.EntryCodec.{entry_codec}
-use Rattle.tw_base.proofs.EntryCodecLaws.{entry-lawful}
+use Rattle.tw_base.proofs.lemmas.format.CodecLaws.{unambiguous}
+use Rattle.tw_base.proofs.lemmas.format.CodecSizes.{word-size}
+use Rattle.tw_base.specs.history.EntryCodec.{entry_codec}
+use Rattle.tw_base.proofs.lemmas.history.EntryCodecLaws.{entry-lawful}
 use Rattle.tw_treeproof.specs.Codecs.{gap_codec, present_codec}
 use Rattle.tw_treeproof.proofs.LawfulCodecs.{gap-lawful, gap-most, present-lawful, present-most}
 use Rattle.tw_treeproof.proofs.laws.tree_proof_spelling_laws.Goals as goal

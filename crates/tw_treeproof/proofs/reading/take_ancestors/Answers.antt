@@ -1,7 +1,7 @@
 use Rattle.std.proofs.Common.{◌≡◌, ℕ, ◌-◌, List, [], subst, arith}
 use Rattle.std.proofs.lemmas.Result.{err_from_is_err_and}
-use Rattle.tw_base.specs.declared.tree_proof.Ancestor.{Ancestor}
-use Rattle.tw_base.proofs.TakeLaws.{ManyTaken, many-begins, many-ends, many-fails, many-more}
+use Rattle.tw_base.specs.declared.history.tree_proof.Ancestor.{Ancestor}
+use Rattle.tw_base.proofs.lemmas.format.TakeLaws.{ManyTaken, many-begins, many-ends, many-fails, many-more}
 use Rattle.tw_treeproof.specs.Codecs.{ancestor_codec}
 use Rattle.tw_treeproof.proofs.LawfulCodecs.{ancestor-lawful, one_left}
 use Rattle.tw_treeproof.proofs.reading.take_ancestors.Goals as goal

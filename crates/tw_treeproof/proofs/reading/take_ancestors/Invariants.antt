@@ -1,5 +1,5 @@
 use Rattle.std.proofs.Common.{◌-◌, ◌≤◌, length}
-use Rattle.tw_base.proofs.TakeLaws.{ManyTaken}
+use Rattle.tw_base.proofs.lemmas.format.TakeLaws.{ManyTaken}
 use Rattle.tw_treeproof.specs.Codecs.{ancestor_codec}
 use Rattle.tw_treeproof.proofs.reading.take_ancestors.Given as goal
 

@@ -1,7 +1,7 @@
 use Rattle.std.proofs.Common.{length}
 use Rattle.std.proofs.lemmas.Result.{err_from_is_err_and}
-use Rattle.tw_base.specs.Codecs.{number_codec}
-use Rattle.tw_base.proofs.TakeLaws.{takes-kind, takes-no_kind}
+use Rattle.tw_base.specs.format.Codecs.{number_codec}
+use Rattle.tw_base.proofs.lemmas.format.TakeLaws.{takes-kind, takes-no_kind}
 use Rattle.tw_treeproof.specs.declared.limits.TheConstants.{MOST_ABOVE_ENTRY}
 use Rattle.tw_treeproof.specs.Codecs.{PresentParts, parts_codec}
 use Rattle.tw_treeproof.proofs.LawfulCodecs.{parts-count}

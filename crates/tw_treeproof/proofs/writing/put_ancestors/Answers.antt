@@ -1,5 +1,5 @@
-use Rattle.tw_base.specs.declared.tree_proof.Ancestor.{Ancestor}
-use Rattle.tw_base.proofs.PutLaws.{put-all, put-more, put-none}
+use Rattle.tw_base.specs.declared.history.tree_proof.Ancestor.{Ancestor}
+use Rattle.tw_base.proofs.lemmas.format.PutLaws.{put-all, put-more, put-none}
 use Rattle.tw_treeproof.specs.Codecs.{ancestor_codec}
 use Rattle.tw_treeproof.specs.Limits.{IsAncestorInRange}
 use Rattle.tw_treeproof.proofs.writing.put_ancestors.Goals as goal

@@ -1,5 +1,5 @@
 use Rattle.std.proofs.Common.{refl, sym}
-use Rattle.tw_base.proofs.SegmentLaws.{attempts-ended, attempts-missed}
+use Rattle.tw_pieces.proofs.SegmentLaws.{attempts-ended, attempts-missed}
 use Rattle.tw_verifier.specs.declared.stage.Stage.TheVariants.{Begun}
 use Rattle.tw_verifier.specs.Stages.{behind_kind, kind_head, rest}
 use Rattle.tw_verifier.proofs.StageLaws.{kind-goes, kind-lawful, kind-nothing}

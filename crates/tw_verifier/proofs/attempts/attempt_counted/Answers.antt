@@ -1,7 +1,7 @@
 use Rattle.std.proofs.Common.{ℕ, refl, sym}
-use Rattle.tw_base.specs.declared.limits.TheConstants.{MOST_HOPS}
-use Rattle.tw_base.specs.Codecs.{number_codec}
-use Rattle.tw_base.proofs.SegmentLaws.{attempts-ended, attempts-missed}
+use Rattle.tw_base.specs.declared.kinds.limits.TheConstants.{MOST_HOPS}
+use Rattle.tw_base.specs.format.Codecs.{number_codec}
+use Rattle.tw_pieces.proofs.SegmentLaws.{attempts-ended, attempts-missed}
 use Rattle.tw_verifier.specs.declared.stage.Stage.TheVariants.{Counted, Head}
 use Rattle.tw_verifier.specs.Stages.{behind_second, event_of, head_of, rest}
 use Rattle.tw_verifier.proofs.StageLaws.{counted-goes, hops-number, number-nothing}

@@ -1,6 +1,6 @@
 use Rattle.std.proofs.Common.{refl, sym}
-use Rattle.tw_base.specs.declared.event_part.EventPart.{EventPart}
-use Rattle.tw_base.proofs.SegmentLaws.{attempts-ended, attempts-missed, stays-then}
+use Rattle.tw_base.specs.declared.events.event_part.EventPart.{EventPart}
+use Rattle.tw_pieces.proofs.SegmentLaws.{attempts-ended, attempts-missed, stays-then}
 use Rattle.tw_skipproof.specs.Codecs.{event_codec}
 use Rattle.tw_skipproof.proofs.LawfulCodecs.{event-lawful}
 use Rattle.tw_verifier.specs.declared.stage.Stage.TheVariants.{Event}

@@ -1,5 +1,5 @@
 use Rattle.std.proofs.Common.{ℕ, List, ◌∙◌, refl, sym, ap}
-use Rattle.tw_base.proofs.SegmentLaws.{attempts-ended, attempts-missed}
+use Rattle.tw_pieces.proofs.SegmentLaws.{attempts-ended, attempts-missed}
 use Rattle.tw_skipproof.specs.declared.path.Link.{Link}
 use Rattle.tw_verifier.specs.declared.stage.Stage.TheVariants.{Head}
 use Rattle.tw_verifier.specs.declared.stage.Under.{Under}

@@ -1,5 +1,5 @@
 use Rattle.std.proofs.Common.{[], ◌∷◌, ◌++◌, refl, sym}
-use Rattle.tw_base.proofs.SegmentLaws.{attempts-ended, attempts-missed, stays-then}
+use Rattle.tw_pieces.proofs.SegmentLaws.{attempts-ended, attempts-missed, stays-then}
 use Rattle.tw_skipproof.specs.declared.path.Link.{Link}
 use Rattle.tw_skipproof.specs.Codecs.{link_codec}
 use Rattle.tw_skipproof.specs.Paths.{hop}

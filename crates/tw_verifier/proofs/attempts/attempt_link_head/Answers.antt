@@ -1,6 +1,6 @@
 use Rattle.std.proofs.Common.{ℕ, List, [], ◌∙◌, refl, sym, ap}
-use Rattle.tw_base.specs.Formats.{Format}
-use Rattle.tw_base.proofs.SegmentLaws.{attempts-ended, attempts-missed}
+use Rattle.tw_base.specs.format.Formats.{Format}
+use Rattle.tw_pieces.proofs.SegmentLaws.{attempts-ended, attempts-missed}
 use Rattle.tw_skipproof.specs.declared.path.Link.{Link}
 use Rattle.tw_verifier.specs.declared.judgement.Judgement.{Judgement}
 use Rattle.tw_chain.specs.declared.proof.Proof.TheVariants.{Linked}

@@ -1,14 +1,14 @@
 use Rattle.std.proofs.Common.{refl, sym, subst, arith}
-use Rattle.tw_base.specs.Formats.{Format}
-use Rattle.tw_base.specs.Resuming.{StaysFront}
-use Rattle.tw_base.proofs.SegmentLaws.{attempts-ended, attempts-missed, stays-then}
+use Rattle.tw_base.specs.format.Formats.{Format}
+use Rattle.tw_pieces.specs.Resuming.{StaysFront}
+use Rattle.tw_pieces.proofs.SegmentLaws.{attempts-ended, attempts-missed, stays-then}
 use Rattle.tw_skipproof.specs.declared.opening.Opening.{Opening as AnyOpening}
 use Rattle.tw_skipproof.specs.Codecs.{opening_codec}
 use Rattle.tw_skipproof.proofs.LawfulCodecs.{opening-few, opening-lawful}
 use Rattle.tw_verifier.specs.declared.judgement.Judgement.{Judgement}
 use Rattle.tw_verifier.specs.declared.stage.Stage.TheVariants.{Opening}
 use Rattle.tw_verifier.specs.Stages.{behind_opening, rest}
-use Rattle.tw_base.specs.Formats.{then_by}
+use Rattle.tw_base.specs.format.Formats.{then_by}
 use Rattle.tw_verifier.proofs.StageLaws.{opened-goes, opening-nothing}
 use Rattle.tw_verifier.proofs.attempts.attempt_opening.Goals as goal
 

@@ -1,5 +1,5 @@
 use Rattle.std.proofs.Common.{◌∙◌}
-use Rattle.tw_base.specs.declared.tree_proof.Ask.TheVariants.{Present}
+use Rattle.tw_base.specs.declared.history.tree_proof.Ask.TheVariants.{Present}
 use Rattle.tw_chain.specs.Checks.{bind_checks, opening_checks, root_of}
 use Rattle.tw_chain.specs.Checks.Check.{AnswerOf, InOrder}
 use Rattle.tw_verifier.proofs.FoundSteps.{found-four}

@@ -1,6 +1,6 @@
 use Rattle.std.proofs.Common.{◌≡◌, sym, subst, arith}
 use Rattle.std.specs.Prelude.{IfOk}
-use Rattle.tw_base.specs.Formats.{Format}
+use Rattle.tw_base.specs.format.Formats.{Format}
 use Rattle.tw_verifier.specs.declared.judgement.Judgement.{Judgement}
 use Rattle.tw_verifier.specs.Stages.{behind_path, rest}
 use Rattle.tw_verifier.proofs.StageForms.{path-more, path-none}

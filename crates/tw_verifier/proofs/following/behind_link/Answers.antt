@@ -1,6 +1,6 @@
 use Rattle.std.proofs.Common.{◌≡◌, ◌-◌, sym, subst, arith}
 use Rattle.std.specs.Prelude.{IfOk, Option}
-use Rattle.tw_base.specs.Formats.{Format}
+use Rattle.tw_base.specs.format.Formats.{Format}
 use Rattle.tw_skipproof.specs.declared.opening.Opening.{Opening}
 use Rattle.tw_skipproof.specs.Codecs.{opening_codec}
 use Rattle.tw_verifier.specs.declared.judgement.Judgement.{Judgement}

@@ -1,5 +1,5 @@
 use Rattle.std.proofs.Common.{ap}
-use Rattle.tw_base.specs.Formats.Format.{Done}
+use Rattle.tw_base.specs.format.Formats.Format.{Done}
 use Rattle.tw_verifier.proofs.following.closed.Goals as goal
 
 pub returns : goal.returns

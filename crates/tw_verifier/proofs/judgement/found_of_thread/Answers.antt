@@ -1,6 +1,6 @@
 use Rattle.std.proofs.Common.{List, [], ◌∷◌, ◌∙◌}
 use Rattle.std.specs.Prelude.{None}
-use Rattle.tw_base.specs.declared.tree_proof.Ask.TheVariants.{Present}
+use Rattle.tw_base.specs.declared.history.tree_proof.Ask.TheVariants.{Present}
 use Rattle.tw_chain.specs.Checks.{Check, under_anchor}
 use Rattle.tw_chain.specs.Checks.Check.{AnswerOf, InOrder}
 use Rattle.tw_verifier.proofs.FoundSteps.{found-onto}

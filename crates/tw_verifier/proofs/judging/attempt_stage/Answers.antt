@@ -1,6 +1,6 @@
 use Rattle.std.proofs.Common.{subst, sym}
 use Rattle.std.specs.Prelude.{Ok}
-use Rattle.tw_base.specs.Resuming.{Attempts}
+use Rattle.tw_pieces.specs.Resuming.{Attempts}
 use Rattle.tw_verifier.specs.declared.stage.Stage.{Stage}
 use Rattle.tw_verifier.specs.Stages.{rest}
 use Rattle.tw_verifier.proofs.judging.attempt_stage.Goals as goal

@@ -1,7 +1,7 @@
 use Rattle.std.proofs.Common.{ℕ, List, [], ◌∙◌, refl, sym, ap}
-use Rattle.tw_base.specs.declared.limits.TheConstants.{LAST_STEP}
-use Rattle.tw_base.specs.Codecs.{number_codec}
-use Rattle.tw_base.proofs.SegmentLaws.{attempts-ended, attempts-missed}
+use Rattle.tw_base.specs.declared.kinds.limits.TheConstants.{LAST_STEP}
+use Rattle.tw_base.specs.format.Codecs.{number_codec}
+use Rattle.tw_pieces.proofs.SegmentLaws.{attempts-ended, attempts-missed}
 use Rattle.tw_skipproof.specs.declared.path.Link.{Link}
 use Rattle.tw_verifier.specs.declared.stage.Stage.TheVariants.{Bind}
 use Rattle.tw_verifier.specs.Stages.{behind_link, path_of, rest}

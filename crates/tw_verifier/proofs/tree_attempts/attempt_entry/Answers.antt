@@ -1,8 +1,8 @@
 use Rattle.std.proofs.Common.{refl, sym}
-use Rattle.tw_base.specs.declared.thread.Entry.{Entry as AnyEntry}
-use Rattle.tw_base.specs.EntryCodec.{entry_codec}
-use Rattle.tw_base.proofs.EntryCodecLaws.{entry-lawful}
-use Rattle.tw_base.proofs.SegmentLaws.{attempts-ended, attempts-missed}
+use Rattle.tw_base.specs.declared.history.thread.Entry.{Entry as AnyEntry}
+use Rattle.tw_base.specs.history.EntryCodec.{entry_codec}
+use Rattle.tw_base.proofs.lemmas.history.EntryCodecLaws.{entry-lawful}
+use Rattle.tw_pieces.proofs.SegmentLaws.{attempts-ended, attempts-missed}
 use Rattle.tw_verifier.specs.declared.stage.Stage.TheVariants.{Entry, Tree}
 use Rattle.tw_verifier.specs.Stages.{behind_entry, rest}
 use Rattle.tw_verifier.proofs.StageLaws.{entry-goes, entry-nothing, entry-within}

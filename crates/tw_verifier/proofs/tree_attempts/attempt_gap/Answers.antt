@@ -1,7 +1,7 @@
 use Rattle.std.proofs.Common.{ℕ, List, [], ◌∙◌, refl, sym, ap}
-use Rattle.tw_base.specs.declared.tree_proof.Ancestor.{Ancestor}
-use Rattle.tw_base.specs.declared.tree_proof.TreeProof.TheVariants.{Gap}
-use Rattle.tw_base.proofs.SegmentLaws.{attempts-ended, attempts-missed}
+use Rattle.tw_base.specs.declared.history.tree_proof.Ancestor.{Ancestor}
+use Rattle.tw_base.specs.declared.history.tree_proof.TreeProof.TheVariants.{Gap}
+use Rattle.tw_pieces.proofs.SegmentLaws.{attempts-ended, attempts-missed}
 use Rattle.tw_verifier.specs.declared.stage.Stage.TheVariants.{Tree}
 use Rattle.tw_verifier.specs.Stages.{behind_tree, gap_head, nodes_of, rest}
 use Rattle.tw_verifier.proofs.StageForms.{gap-flat}

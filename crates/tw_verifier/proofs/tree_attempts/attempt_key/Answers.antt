@@ -1,6 +1,6 @@
 use Rattle.std.proofs.Common.{refl}
-use Rattle.tw_base.specs.declared.thread.Key.{Key as AnyKey}
-use Rattle.tw_base.proofs.SegmentLaws.{attempts-ended, attempts-missed}
+use Rattle.tw_base.specs.declared.history.thread.Key.{Key as AnyKey}
+use Rattle.tw_pieces.proofs.SegmentLaws.{attempts-ended, attempts-missed}
 use Rattle.tw_verifier.specs.declared.stage.Asked.TheVariants.{Absent}
 use Rattle.tw_verifier.specs.declared.stage.Stage.TheVariants.{Key, Tree}
 use Rattle.tw_chain.specs.Proofs.{key_codec}

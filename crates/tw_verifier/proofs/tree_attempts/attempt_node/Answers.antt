@@ -1,6 +1,6 @@
 use Rattle.std.proofs.Common.{[], ◌∷◌, ◌-◌, refl, sym}
-use Rattle.tw_base.specs.declared.tree_proof.Ancestor.{Ancestor}
-use Rattle.tw_base.proofs.SegmentLaws.{attempts-ended, attempts-missed}
+use Rattle.tw_base.specs.declared.history.tree_proof.Ancestor.{Ancestor}
+use Rattle.tw_pieces.proofs.SegmentLaws.{attempts-ended, attempts-missed}
 use Rattle.tw_treeproof.specs.Codecs.{ancestor_codec}
 use Rattle.tw_treeproof.proofs.LawfulCodecs.{ancestor-lawful}
 use Rattle.tw_verifier.specs.declared.stage.Stage.TheVariants.{Nodes}

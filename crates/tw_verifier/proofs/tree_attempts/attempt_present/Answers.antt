@@ -1,6 +1,6 @@
 use Rattle.std.proofs.Common.{ℕ, List, [], ◌∙◌, sym}
-use Rattle.tw_base.specs.declared.tree_proof.TreeProof.TheVariants.{Present}
-use Rattle.tw_base.proofs.SegmentLaws.{attempts-ended, attempts-missed}
+use Rattle.tw_base.specs.declared.history.tree_proof.TreeProof.TheVariants.{Present}
+use Rattle.tw_pieces.proofs.SegmentLaws.{attempts-ended, attempts-missed}
 use Rattle.tw_verifier.specs.declared.stage.Stage.TheVariants.{Tree}
 use Rattle.tw_verifier.specs.Stages.{behind_tree, nodes_of, present_head, rest}
 use Rattle.tw_verifier.proofs.StageForms.{present-flat}

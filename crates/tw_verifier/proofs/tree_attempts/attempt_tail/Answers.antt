@@ -1,10 +1,10 @@
 use Rattle.std.proofs.Common.{ℕ, refl, sym}
-use Rattle.tw_base.proofs.SegmentLaws.{attempts-ended, attempts-missed}
+use Rattle.tw_pieces.proofs.SegmentLaws.{attempts-ended, attempts-missed}
 use Rattle.tw_skipproof.specs.Codecs.{step_codec}
 use Rattle.tw_verifier.specs.declared.stage.Stage.TheVariants.{Tail}
 use Rattle.tw_verifier.specs.Stages.{behind_first, event_of, part_of, rest}
 use Rattle.tw_verifier.proofs.StageLaws.{first-goes, step-lawful, step-nothing}
-use Rattle.tw_base.specs.declared.limits.TheConstants.{LAST_STEP}
+use Rattle.tw_base.specs.declared.kinds.limits.TheConstants.{LAST_STEP}
 use Rattle.tw_verifier.proofs.tree_attempts.attempt_tail.Goals as goal
 
 pub returns-in_ok-next-in-Ok : goal.returns-in_ok-next-in-Ok

@@ -1,6 +1,6 @@
 use Rattle.std.proofs.Common.{List, ◌∙◌, ap}
-use Rattle.tw_base.specs.declared.tree_proof.Ancestor.{Ancestor}
-use Rattle.tw_base.specs.declared.tree_proof.TreeProof.TheVariants.{Present}
+use Rattle.tw_base.specs.declared.history.tree_proof.Ancestor.{Ancestor}
+use Rattle.tw_base.specs.declared.history.tree_proof.TreeProof.TheVariants.{Present}
 use Rattle.tw_verifier.specs.Stages.{behind_tree, nodes_of}
 use Rattle.tw_verifier.proofs.tree_attempts.behind_labels.Goals as goal
 

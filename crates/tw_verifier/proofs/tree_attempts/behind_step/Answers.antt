@@ -1,6 +1,6 @@
 use Rattle.std.proofs.Common.{◌≡◌, List, ◌∙◌, ap, subst}
 use Rattle.std.specs.Prelude.{IfOk}
-use Rattle.tw_base.specs.Formats.{Format}
+use Rattle.tw_base.specs.format.Formats.{Format}
 use Rattle.tw_skipproof.specs.declared.path.Link.{Link}
 use Rattle.tw_verifier.specs.declared.judgement.Judgement.{Judgement}
 use Rattle.tw_verifier.specs.Stages.{behind_links_of, path_of, rest}

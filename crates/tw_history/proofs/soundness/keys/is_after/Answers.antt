@@ -1,5 +1,5 @@
 use Rattle.std.proofs.Common.{rules}
-use Rattle.tw_base.specs.Tree.{entries}
+use Rattle.tw_base.specs.history.Tree.{entries}
 use Rattle.tw_history.proofs.Summaries.{above_by_first, Each-none, first-summary, none_counted, some_counted}
 use Rattle.tw_history.proofs.soundness.keys.is_after.Goals as goal
 

@@ -1,5 +1,5 @@
 use Rattle.std.proofs.Common.{rules}
-use Rattle.tw_base.specs.Tree.{entries}
+use Rattle.tw_base.specs.history.Tree.{entries}
 use Rattle.tw_history.proofs.Summaries.{below_by_last, Each-none, last-summary, none_counted, some_counted}
 use Rattle.tw_history.proofs.soundness.keys.is_before.Goals as goal
 

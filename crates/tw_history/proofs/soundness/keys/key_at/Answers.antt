@@ -1,7 +1,7 @@
 use Rattle.std.proofs.Common.{◌≡◌, ◌-◌, ◌<◌, ◌≤◌, get_or, ap, sym, subst, ◌∙◌, length}
 use Rattle.std.specs.Option.{SomeIff}
 use Rattle.std.proofs.lemmas.Bool.{ltb-true, ltb-false}
-use Rattle.tw_base.specs.History.{History}
+use Rattle.tw_base.specs.history.History.{History}
 use Rattle.tw_history.proofs.TableWalk.{key_at-found, key_at-missing}
 use Rattle.tw_history.proofs.soundness.keys.key_at.Goals as goal
 

@@ -1,4 +1,4 @@
-use Rattle.tw_base.specs.Tree.{entries}
+use Rattle.tw_base.specs.history.Tree.{entries}
 use Rattle.tw_history.proofs.Summaries.{IsRising-above, IsRising-below, IsRising-between, is_false}
 use Rattle.tw_history.proofs.soundness.keys.rises.Goals as goal
 

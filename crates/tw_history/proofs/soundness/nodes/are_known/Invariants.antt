@@ -1,5 +1,5 @@
 use Rattle.std.proofs.Common.{◌≡◌, ◌↔◌, ◌+◌, drop, map}
-use Rattle.tw_base.specs.Rules.{NodesFit}
+use Rattle.tw_base.specs.history.Rules.{NodesFit}
 use Rattle.tw_history.specs.Tables.{node_of}
 use Rattle.tw_history.proofs.soundness.nodes.are_known.Given as goal
 

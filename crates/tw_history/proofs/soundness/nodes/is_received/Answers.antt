@@ -1,8 +1,8 @@
 use Rattle.std.proofs.Common.{◌↔◌, sym, subst, arith, IsTrue, None}
 use Rattle.std.proofs.lemmas.Bool.{leb-true}
-use Rattle.tw_base.specs.declared.thread.Entry.{Entry}
+use Rattle.tw_base.specs.declared.history.thread.Entry.{Entry}
 use Rattle.std.specs.Prelude.{IsSome}
-use Rattle.tw_base.specs.History.{entry_at}
+use Rattle.tw_base.specs.history.History.{entry_at}
 use Rattle.tw_history.proofs.Planting.{entry_to-past, entry_to-within, some_key}
 use Rattle.tw_history.proofs.soundness.nodes.is_received.Goals as goal
 

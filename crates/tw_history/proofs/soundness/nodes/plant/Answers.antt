@@ -1,6 +1,6 @@
 use Rattle.std.proofs.Common.{◌≡◌, ℕ, ◌+◌, ◌<◌, List, [], ◌∷◌, ◌++◌, length, get_or, sym, subst, ◌∙◌, drop, map}
 use Rattle.std.proofs.Math.ListN.{drop_of_length-le}
-use Rattle.tw_base.specs.History.{History, Node}
+use Rattle.tw_base.specs.history.History.{History, Node}
 use Rattle.tw_history.specs.Tables.{node_of}
 use Rattle.tw_history.specs.declared.step.Node.{Node as NodeOfTable}
 use Rattle.tw_history.specs.declared.soundness.summary.Summary.{Summary}

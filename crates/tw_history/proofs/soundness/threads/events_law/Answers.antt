@@ -1,7 +1,7 @@
 use Rattle.std.proofs.Common.{◌∷◌, ◌+◌, ap, sym, subst, ◌∙◌, drop}
 use Rattle.std.proofs.lemmas.List.{drop_all, drop_more}
-use Rattle.tw_base.specs.Bytes.{AreBytes}
-use Rattle.tw_base.specs.Lists.{Each}
+use Rattle.tw_base.specs.kinds.Bytes.{AreBytes}
+use Rattle.tw_base.specs.kinds.Lists.{Each}
 use Rattle.tw_history.proofs.soundness.threads.events_law.Goals as goal
 
 pub loop-event-init : goal.loop-event-init

@@ -1,6 +1,6 @@
 use Rattle.std.proofs.Common.{drop}
-use Rattle.tw_base.specs.Bytes.{AreBytes}
-use Rattle.tw_base.specs.Lists.{Each}
+use Rattle.tw_base.specs.kinds.Bytes.{AreBytes}
+use Rattle.tw_base.specs.kinds.Lists.{Each}
 use Rattle.tw_history.proofs.soundness.threads.events_law.Given as goal
 
 -- where the events that are left are bytes, they all are

@@ -1,7 +1,7 @@
 use Rattle.std.proofs.Common.{◌≡◌, ◌∙◌, ℕ, List, Bool, subst, ap, inl, inr, length, ⊎_elim, sym}
 use Rattle.std.specs.Prelude.{false, Option, None, Result, Ok}
-use Rattle.tw_base.specs.History.{with_events}
-use Rattle.tw_base.specs.declared.thread.Thread.{Thread}
+use Rattle.tw_base.specs.history.History.{with_events}
+use Rattle.tw_base.specs.declared.history.thread.Thread.{Thread}
 use Rattle.tw_pages.specs.SameSteps.{is_same_itself}
 use Rattle.tw_disk.specs.Disk.{IsAtRest}
 use Rattle.tw_pages.specs.StoreValue.{disk_of}
@@ -11,7 +11,7 @@ use Rattle.tw_service.specs.Machine.Call.{Append}
 use Rattle.tw_service.specs.Machine.Reply.{OfThread}
 use Rattle.tw_service.specs.Serves.{Serves}
 use Rattle.tw_service.proofs.Answering.{IsTold, NoFault, answers_fault, answers_refusal, append_done, append_no_fault, append_refused, append_told, is_disk_fault, of_some}
-use Rattle.tw_base.specs.declared.root.Root.{Root}
+use Rattle.tw_base.specs.declared.history.root.Root.{Root}
 use Rattle.tw_disk.specs.Image.{Image}
 use Rattle.tw_skiplist.specs.declared.head.Head.{Head}
 use Rattle.tw_skiplist.specs.Appended.{Next, appended}

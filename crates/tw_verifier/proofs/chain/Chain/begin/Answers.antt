@@ -1,6 +1,6 @@
 use Rattle.std.proofs.Common.{◌≡◌, ◌-◌, List, [], ◌∷◌, ◌++◌, ◌∙◌, refl, subst}
 use Rattle.std.specs.Prelude.{None}
-use Rattle.tw_base.specs.declared.thread.Thread.{Thread}
+use Rattle.tw_base.specs.declared.history.thread.Thread.{Thread}
 use Rattle.tw_verifier.specs.Chaining.{found_with}
 use Rattle.tw_chain.specs.Checks.{Check, opening_checks, under_anchor}
 use Rattle.tw_chain.specs.Checks.Check.{EventOf}

@@ -1,7 +1,7 @@
 use Rattle.std.proofs.Common.{List, subst}
 use Rattle.std.specs.Prelude.{Ok}
-use Rattle.tw_base.specs.declared.thread.Thread.{Thread}
-use Rattle.tw_base.specs.Resuming.{Attempts}
+use Rattle.tw_base.specs.declared.history.thread.Thread.{Thread}
+use Rattle.tw_pieces.specs.Resuming.{Attempts}
 use Rattle.tw_verifier.specs.Stages.{rest}
 use Rattle.tw_verifier.proofs.judging.JudgingSegments.attempt.Goals as goal
 

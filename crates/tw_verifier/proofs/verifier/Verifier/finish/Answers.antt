@@ -1,9 +1,9 @@
 use Rattle.std.proofs.Common.{ℕ, ◌∙◌, subst, ap, sym}
 use Rattle.std.specs.Prelude.{Bool, Err}
-use Rattle.tw_base.specs.declared.failure.ReadFault.{ReadFault}
-use Rattle.tw_base.specs.declared.failure.ReadFault.TheVariants.{Malformed}
-use Rattle.tw_base.specs.declared.report.Reason.TheVariants as reason
-use Rattle.tw_base.specs.Formats.{ReadsAs}
+use Rattle.tw_base.specs.declared.kinds.failure.ReadFault.{ReadFault}
+use Rattle.tw_base.specs.declared.kinds.failure.ReadFault.TheVariants.{Malformed}
+use Rattle.tw_base.specs.declared.history.report.Reason.TheVariants as reason
+use Rattle.tw_base.specs.format.Formats.{ReadsAs}
 use Rattle.tw_chain.specs.declared.verdict.Verdict.TheVariants.{No}
 use Rattle.tw_verifier.specs.Judgements.{judged_layout, verdict_of}
 use Rattle.tw_chain.specs.Reasons.{IsVerdict}

@@ -1,8 +1,8 @@
 use Rattle.std.proofs.Common.{ℕ, List, [], refl, subst, sym, ◌∙◌}
-use Rattle.tw_base.specs.declared.thread.Thread.{Thread}
-use Rattle.tw_base.specs.Feeding.{HasFed}
-use Rattle.tw_base.specs.Formats.{Format}
-use Rattle.tw_base.specs.Resuming.{StaysFront}
+use Rattle.tw_base.specs.declared.history.thread.Thread.{Thread}
+use Rattle.tw_pieces.specs.Feeding.{HasFed}
+use Rattle.tw_base.specs.format.Formats.{Format}
+use Rattle.tw_pieces.specs.Resuming.{StaysFront}
 use Rattle.tw_verifier.specs.declared.judgement.Judgement.{Judgement}
 use Rattle.tw_verifier.specs.Judgements.{judged_layout}
 use Rattle.tw_verifier.specs.Verifying.{judging_rest}

@@ -1,6 +1,0 @@
-use Rattle.std.proofs.Common.{◌≤◌, length}
-use Rattle.tw_base.proofs.FieldLaws.{NameReadTo}
-use Rattle.tw_base.proofs.fields.check_name.Given as goal
-
-abbrev pub invariant-loop-i : goal.invariant-loop-i
-invariant-loop-i l = (l.i ≤ length l.rest) × NameReadTo l.letters l.zeros l.rest l.at l.i

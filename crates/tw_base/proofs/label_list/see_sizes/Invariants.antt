@@ -1,6 +1,0 @@
-use Rattle.std.proofs.Common.{take}
-use Rattle.tw_base.specs.Digests.{AllDigests}
-use Rattle.tw_base.proofs.label_list.see_sizes.Given as goal
-
-abbrev pub invariant-loop-digest : goal.invariant-loop-digest
-invariant-loop-digest l = AllDigests (take l.digest-index l.digests)

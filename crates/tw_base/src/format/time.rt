@@ -1,0 +1,49 @@
+// Reading and writing the times that steps have or not.
+
+ghost use Rattle.std.specs.Prelude.{◌≡◌, ◌-◌, ◌^◌, ◌≤◌, length, is_some};
+ghost use Rattle.tw_base.specs.format.Codecs.{number_codec, optional, present};
+ghost use Rattle.tw_base.specs.history.HistoryCodec.{time_codec};
+ghost use Rattle.tw_base.specs.format.Taking.{Puts, Takes};
+
+use crate::format::taking::take_number;
+use crate::format::writers::put_number;
+use crate::kinds::failure::{NoMemory, ReadFault};
+use crate::kinds::limits::LAST_TIME;
+use crate::kinds::sequence::Bytes;
+
+/// Takes a time in eight bytes, at most 2^40 - 1.
+#[tactic(auto, unfolding(crate::specs::format::Codecs::present))]
+fn take_some_time(bytes: &[u8], at: &mut u64) -> Result<Option<u64>, ReadFault>
+    requires { at.old ≤ length bytes.now }
+    ensures { Takes (present time_codec) (λ time. time) bytes.now at.old at.new result }
+{
+    let time = take_number(bytes, at, 8, 0, LAST_TIME)?;
+    Ok(Some(time))
+}
+
+/// Takes a time where there is to be one.
+#[tactic(auto, unfolding(crate::specs::format::Codecs::nothing))]
+pub fn take_time(bytes: &[u8], at: &mut u64, timed: bool) -> Result<Option<u64>, ReadFault>
+    requires { at.old ≤ length bytes.now }
+    // A time is taken at a place, where there is to be one, exactly as its codec reads it; else the place of the first
+    // bad byte is told.
+    ensures { Takes (optional timed time_codec) (λ time. time) bytes.now at.old at.new result }
+{
+    if timed {
+        take_some_time(bytes, at)
+    } else {
+        Ok(None)
+    }
+}
+
+/// Appends the time in eight bytes, where there is one.
+#[tactic(auto, unfolding(crate::specs::format::Codecs::nothing, crate::specs::format::Codecs::number_codec, crate::specs::format::Codecs::present))]
+pub fn put_time(into: &mut Bytes, time: Option<u64>) -> Result<(), NoMemory>
+    // A time is appended as its codec writes it, where there is one.
+    ensures { Puts (optional (is_some time) (number_codec 8 0 (2 ^ 64 - 1))) time into.old into.new result }
+{
+    match time {
+        None => Ok(()),
+        Some(time) => put_number(into, time, 8),
+    }
+}
