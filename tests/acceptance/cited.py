@@ -6,7 +6,7 @@ import re
 from declared import TOP, crates
 
 DOCUMENTS = [TOP / "README.md", *sorted((TOP / "docs").glob("*.md")), *sorted((TOP / "bench").glob("*.md"))]
-SOURCES = ("crates/*/src/**/*.rt", "crates/*/specs/*.antt", "crates/*/proofs/**/*.antt", "tests/acceptance/*.py", "tools/*.*", "bench/*.py")
+SOURCES = ("crates/*/src/**/*.rt", "crates/*/specs/**/*.antt", "crates/*/proofs/**/*.antt", "tests/acceptance/*.py", "tools/*.*", "bench/*.py")
 CRATE = re.compile(r"`(tw_\w+|timeweave)\b")
 NAMES = r"(?:`\w+`(?:,\s|\sand\s)?)+"
 PATH = re.compile(r"(?<![\w/.$])(?:crates|tests|tools|specs|docs|bench|examples|proofs|src|must-fail|cases|tw_\w+)/[\w.*/-]*\w")
@@ -26,7 +26,7 @@ def members(owner, named):
     """What stands under a name in each crate that has it: of the crate or its specs, of a module, a record or a function."""
     crate, _, rest = owner.partition("/")
     if crate in crates():
-        module = rest.removeprefix("specs/")
+        module = rest.removeprefix("specs/").rpartition("/")[2]
         return [crates()[crate].members(module) or set() if module != rest else crates()[crate].names()]
     found = (crates()[crate].members(owner) for crate in ([named] if named else crates()))
     return [known for known in found if known is not None]
@@ -34,12 +34,12 @@ def members(owner, named):
 
 def of_owners(program):
     """The members that a document names beside their owner and that aren't there: `owner`: `member`, `member`, or `owner` of `CRATE`:
-    `member` where several crates have the owner; `CRATE/specs/MODULE` (`member`); `member` of or in `CRATE`."""
+    `member` where several crates have the owner; `CRATE/specs/MODULE` (`member`), where the module may stand in a room; `member` of or in `CRATE`."""
     wrong = []
     for document in DOCUMENTS:
         text = document.read_text()
         found = re.findall(rf"`([\w/:]+)`(?:\sof\s`(tw_\w+)`)?:\s({NAMES})", text)
-        found += re.findall(rf"`(\w+/specs/\w+)`()\s\(({NAMES})\)", text)
+        found += re.findall(rf"`(\w+/specs/(?:\w+/)?\w+)`()\s\(({NAMES})\)", text)
         found += [(crate, "", name) for name, crate in re.findall(r"(`\w+`)\s(?:of|in)\s`(tw_\w+)`", text)]
         for owner, crate, names in found:
             known = members(owner, crate)
@@ -91,7 +91,7 @@ def code_names(program):
 def named_paths(text):
     """The paths of a document, and those of the files that stand behind one by their names alone: `CRATE/proofs/A`, `B`; and so on: `C`."""
     yield from PATH.findall(text)
-    for folder, more in re.findall(r"`(tw_\w+/(?:proofs|specs)/)\w+`((?:[,;]\s(?:[\w ]+: )?`\w+`)+)", text):
+    for folder, more in re.findall(r"`(tw_\w+/(?:proofs|specs)/(?:\w+/)*)\w+`((?:[,;]\s(?:[\w ]+: )?`\w+`)+)", text):
         yield from (folder + name for name in inside(more))
 
 

@@ -37,7 +37,7 @@ class Crate:
         self.functions, self.claims = {}, []
         for path, text in zip(files, sources):
             self.add_functions(path, text)
-        self.modules = {path.stem: definitions(path.read_text()) for path in sorted(folder.glob("specs/*.antt"))}
+        self.modules = {path.stem: definitions(path.read_text()) for path in sorted(folder.glob("specs/**/*.antt"))}
         self.items = {name for text in sources for pair in ITEM.findall(text) for name in pair if name}
 
     def add_functions(self, path, text):

@@ -63,7 +63,7 @@ def foreign_words(program):
 
 def lemma_files(program):
     """The files of lemmas that don't begin with a line that says what they are of."""
-    lemmas = [path for path in files("*.antt") if path.parent.name == "proofs" and path.name != "Lib.antt"]
+    lemmas = [path for path in files("*.antt") if (path.parent.name == "proofs" or "lemmas" in path.parts) and path.name != "Lib.antt"]
     wrong = [path for path in lemmas if not path.read_text().startswith("-- ")]
     return "\n".join(f"  {path.relative_to(TOP)}" for path in wrong) or None
 
