@@ -1,8 +1,12 @@
 # What is done with Timeweave. It needs the command `rt` of the Rattle kit, Python 3 and make.
 
-PROGRAM = crates/timeweave/out/timeweave
-TREES = crates/tree_pages/out/tree_pages
+# The copies of the built programs, which the gate doesn't touch.
+PROGRAM = bin/timeweave
+TREES = bin/tree_pages
 PREFIX ?= /usr/local
+
+# Names of crates, for `make wrong-bodies`; none stands for all.
+NAMES ?=
 
 # The least proof, the authenticator that it is accepted under, and another one.
 PROOF = crates/timeweave/data/p
@@ -11,11 +15,11 @@ OTHER = 0f9cc8f6baef592ed6bf90b106ebe7b882f59a1cc9803a6d1eef6974da5f87ed
 
 .PHONY: build demo test check crash wrong-bodies bench install
 
-# Builds the program, and runs it once. Only a proved program is built: the first build on a machine proves every crate
-# below it first, which takes long; later ones prove what changed.
+# Builds the program. Only a proved program is built: the first build on a machine proves every crate below it first, which takes
+# long; later ones prove what changed, and what is proved serves the gate too.
 build:
 	@echo "building: only a proved program is built; the first build on a machine proves all below it, and takes long"
-	cd crates/timeweave && rt run -- verify data/p a 1 $(AUTH)
+	python3 tools/build.py timeweave
 
 # Builds the program, and shows a proof accepted, the same proof rejected under another authenticator, two services that keep
 # their histories on disk, proofs from a history that recorded threads of other services, and one that an event of a service precedes
@@ -42,15 +46,16 @@ $(PROGRAM):
 	$(MAKE) build
 
 $(TREES):
-	cd crates/tree_pages && rt run < stdin
+	python3 tools/build.py tree_pages
 
 # Tries all that a loss of power may leave of a store on the built program, of which `make check` tries some.
 crash: | $(PROGRAM)
 	python3 tests/acceptance/power.py $(PROGRAM)
 
-# The wrong bodies that the gate leaves out, which tries those that tell most; over a copy of this tree.
+# The wrong bodies that the gate leaves out, which tries those that tell most; over a copy of this tree. `make wrong-bodies
+# NAMES="tw_base tw_disk"` tries those of these crates alone.
 wrong-bodies:
-	python3 tools/wrong_bodies.py
+	python3 tools/wrong_bodies.py $(NAMES)
 
 # Measures the built program beside other programs, prints what it found, and writes bench/RESULTS.md and its picture.
 bench: | $(PROGRAM) $(TREES)
@@ -61,3 +66,32 @@ install: | $(PROGRAM)
 	install -D -m 755 $(PROGRAM) $(DESTDIR)$(PREFIX)/bin/timeweave
 	install -D -m 644 docs/timeweave.1 $(DESTDIR)$(PREFIX)/share/man/man1/timeweave.1
 	install -D -m 644 tools/completion.bash $(DESTDIR)$(PREFIX)/share/bash-completion/completions/timeweave
+
+# ---- the library for C and Python
+
+LIBRARY = lib/libtimeweave.a
+HAS_C := $(shell command -v cc)
+
+.PHONY: lib install-lib
+
+# Builds the library, as `build` does the program: lib/libtimeweave.a and lib/libtimeweave.so.
+lib:
+	python3 tools/build_library.py
+
+$(LIBRARY):
+	$(MAKE) lib
+
+# Where there is a C compiler, the acceptance run tries the library too, and it is installed.
+check: | $(if $(HAS_C),$(LIBRARY))
+
+install: $(if $(HAS_C),install-lib)
+
+# Copies the library, its headers, what pkg-config reads, and the module for Python.
+install-lib: | $(LIBRARY)
+	install -D -m 644 $(LIBRARY) $(DESTDIR)$(PREFIX)/lib/libtimeweave.a
+	install -D -m 755 lib/libtimeweave.so $(DESTDIR)$(PREFIX)/lib/libtimeweave.so
+	install -D -m 644 include/timeweave.h $(DESTDIR)$(PREFIX)/include/timeweave.h
+	install -D -m 644 include/timeweave_collect.h $(DESTDIR)$(PREFIX)/include/timeweave_collect.h
+	install -D -m 644 bindings/python/timeweave.py $(DESTDIR)$(PREFIX)/share/timeweave/timeweave.py
+	install -d $(DESTDIR)$(PREFIX)/lib/pkgconfig
+	sed 's|@PREFIX@|$(PREFIX)|; s|@VERSION@|$(shell cat VERSION)|' include/timeweave.pc.in > $(DESTDIR)$(PREFIX)/lib/pkgconfig/timeweave.pc

@@ -4,7 +4,7 @@
     python3 bench/measure.py PROGRAM --try FOLDER       a few runs on small stores, to try the script; writes into the folder
 
 Times are of whole commands, each the best of many runs that take turns in one go; only their ratio is worth anything on another
-machine. What isn't installed is left out, and the page says so: sqlite3, git, openssl, strace, valgrind, a C compiler and Python's `lmdb`.
+machine. What isn't installed is left out, and the page says so: sqlite3, git, openssl, strace, valgrind, a C compiler, the library (`make lib`) and Python's `lmdb`.
 """
 
 import os
@@ -21,6 +21,7 @@ sys.path.insert(0, str(TOP / "tests/acceptance"))
 import calls  # noqa: E402
 import proofs  # noqa: E402
 import reference  # noqa: E402
+from in_process import in_process_lines  # noqa: E402
 from instructions import counted  # noqa: E402
 from paged_trees import tree_lines  # noqa: E402
 from picture import drawn  # noqa: E402
@@ -47,6 +48,7 @@ class Plan:
         self.counted = self.histories[-1] if is_trial else 16
         self.inserts = 1_000 if is_trial else 10_000
         self.found = 1_000 if is_trial else 100_000
+        self.checked = 1_000 if is_trial else 100_000
 
 
 class Kept:
@@ -238,12 +240,13 @@ def introduction(plan):
 
 def main():
     is_trial = "--try" in sys.argv
-    program = os.path.realpath(sys.argv[1] if len(sys.argv) > 1 else TOP / "crates/timeweave/out/timeweave")
+    program = os.path.realpath(sys.argv[1] if len(sys.argv) > 1 else TOP / "bin/timeweave")
     target = Path(sys.argv[3]) if is_trial else HERE
     plan = Plan(is_trial)
     with tempfile.TemporaryDirectory() as folder:
         bench = Bench(program, folder, plan)
         text = introduction(plan) + comparisons(bench) + store_tables(bench) + shown_tables(bench) + instruction_table(bench)
+        text += in_process_lines(bench)
         text += tree_lines(plan, folder)
     result = "\n".join(text) + "\n"
     (target / "RESULTS.md").write_text(result)

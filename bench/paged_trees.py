@@ -15,7 +15,7 @@ try:
 except ImportError:
     lmdb = None
 
-PROGRAM = Path(__file__).resolve().parent.parent / "crates/tree_pages/out/tree_pages"
+PROGRAM = Path(__file__).resolve().parent.parent / "bin/tree_pages"
 PAGE, FIRST = 4096, 4
 
 

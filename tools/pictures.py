@@ -31,11 +31,25 @@ def short(digest):
 # ---- the crates
 
 
+def lines_of(path):
+    """Each line of a list of crates: a name, and what it stands on."""
+    pairs = [line.split(":") for line in (TOP / path).read_text().splitlines() if not line.startswith("#")]
+    return [(name.split()[0], uses.split()) for name, uses in pairs]
+
+
 def crates():
     """Each crate with those of this repository that it stands on."""
-    lines = [line.split(":") for line in (TOP / "crates.txt").read_text().splitlines() if not line.startswith("#")]
-    names = {name.split()[0] for name, _ in lines}
-    return {name.split()[0]: [below for below in uses.split() if below in names] for name, uses in lines}
+    lines = lines_of("crates.txt")
+    names = {name for name, _ in lines}
+    return {name: [below for below in uses if below in names] for name, uses in lines}
+
+
+def crates_to_come():
+    """The same with the crates that are to come, and what those that stand will stand on besides."""
+    known = crates()
+    for name, uses in lines_of("docs/crates_to_come.txt"):
+        known[name.lstrip("+")] = known.get(name.lstrip("+"), []) + uses
+    return known
 
 
 def height(name, known):
@@ -48,9 +62,8 @@ def below_all(name, known):
     return {reached for below in known[name] for reached in {below} | below_all(below, known)}
 
 
-def heights():
+def by_heights(known):
     """The crates by their height, each beside those right below it: the ones that none of the others reaches."""
-    known = crates()
     by_height = {}
     for name in known:
         by_height.setdefault(height(name, known), []).append(name)
@@ -61,6 +74,30 @@ def heights():
             label = f"{level:2}" if place == 0 else "  "
             lines.append(f"{label}  {name:<13} {'──> ' + ', '.join(sorted(right_below)) if right_below else ''}".rstrip())
     return lines
+
+
+def heights():
+    """The crates that stand."""
+    return by_heights(crates())
+
+
+def coming():
+    """The crates that are to come, with the heights that all have then."""
+    known, standing = crates_to_come(), crates()
+    by_height = {}
+    for name in known:
+        by_height.setdefault(height(name, known), []).append(name if name in standing else f"+{name}")
+    return [line for level in sorted(by_height, reverse=True) for line in wrapped(level, sorted(by_height[level], key=lambda x: x.lstrip("+")))]
+
+
+def wrapped(level, names, width=100):
+    """A height's names, in lines of at most so many characters."""
+    lines = [[]]
+    for name in names:
+        if lines[-1] and len("  ".join(lines[-1] + [name])) > width:
+            lines.append([])
+        lines[-1].append(name)
+    return [f"{level if place == 0 else '':>2}  {'  '.join(line)}" for place, line in enumerate(lines)]
 
 
 # ---- a step, the links, a tree of events
@@ -261,7 +298,7 @@ def versions():
     ]
 
 
-PICTURES = {"heights": heights, "step": step, "links": links, "tree": tree, "proof": proof, "absence": absence, "chain": chain, "pages": pages, "half": half, "versions": versions}
+PICTURES = {"heights": heights, "coming": coming, "step": step, "links": links, "tree": tree, "proof": proof, "absence": absence, "chain": chain, "pages": pages, "half": half, "versions": versions}
 
 
 def drawn(text):

@@ -6,8 +6,8 @@ import re
 from declared import TOP, crates
 
 DOCUMENTS = [TOP / "README.md", *sorted((TOP / "docs").glob("*.md")), *sorted((TOP / "bench").glob("*.md"))]
-SOURCES = ("crates/*/src/**/*.rt", "crates/*/specs/**/*.antt", "crates/*/proofs/**/*.antt", "tests/acceptance/*.py", "tools/*.*", "bench/*.py")
-CRATE = re.compile(r"`(tw_\w+|timeweave)\b")
+SOURCES = ("crates/*/src/**/*.rt", "crates/*/specs/**/*.antt", "crates/*/proofs/**/*.antt", "tests/acceptance/*.py", "tools/*.*", "bench/*.py", "docs/*.txt")
+CRATE = re.compile(r"`(tw_\w+|timeweave(?:_c)?)\b")
 NAMES = r"(?:`\w+`(?:,\s|\sand\s)?)+"
 PATH = re.compile(r"(?<![\w/.$])(?:crates|tests|tools|specs|docs|bench|examples|proofs|src|must-fail|cases|tw_\w+)/[\w.*/-]*\w")
 
@@ -38,9 +38,9 @@ def of_owners(program):
     wrong = []
     for document in DOCUMENTS:
         text = document.read_text()
-        found = re.findall(rf"`([\w/:]+)`(?:\sof\s`(tw_\w+)`)?:\s({NAMES})", text)
-        found += re.findall(rf"`(\w+/specs/(?:\w+/)?\w+)`()\s\(({NAMES})\)", text)
-        found += [(crate, "", name) for name, crate in re.findall(r"(`\w+`)\s(?:of|in)\s`(tw_\w+)`", text)]
+        found = re.findall(rf"`([\w/:]+)`(?:\sof\s`((?:tw|timeweave)_\w+)`)?:\s({NAMES})", text)
+        found += re.findall(rf"`(\w+/specs/\w+)`()\s\(({NAMES})\)", text)
+        found += [(crate, "", name) for name, crate in re.findall(r"(`\w+`)\s(?:of|in)\s`((?:tw|timeweave)_\w+)`", text)]
         for owner, crate, names in found:
             known = members(owner, crate)
             if len(known) > 1:

@@ -10,7 +10,7 @@ TOP = Path(__file__).resolve().parent.parent.parent
 
 # A function with its contract, whose comments may end as its head does; a clause with the comment above it; the head of a block of methods,
 # with the type that they are of; a definition, constructor or field.
-FUNCTION = re.compile(r"^ *(pub )?fn (\w+)((?:^ *//[^\n]*\n|(?!^ *//).)*?)(?:^ *\{|[{;]$)", re.M | re.S)
+FUNCTION = re.compile(r"^ *(pub )?(?:extern \"C\" )?fn (\w+)((?:^ *//[^\n]*\n|(?!^ *//).)*?)(?:^ *\{|[{;]$)", re.M | re.S)
 CLAUSE = re.compile(r"((?:^ *//.*\n)*)^ *ensures\*? (?:(\w+) )?\{", re.M)
 BLOCK = re.compile(r"^(?:impl(?:<[^\n]*?>)? (?:(\w+)[^\n]* for )?|pub trait ())(\w+).*?^\}", re.M | re.S)
 DEFINITION = re.compile(r"^( *)(?:(?:pub|abbrev|unfoldable) )*(?:(?:data|record) ([\w'-]+)|([\w'-]+)(?:, [\w'-]+)* :)", re.M)

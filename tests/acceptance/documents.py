@@ -1,6 +1,6 @@
 """The documents say what is so: each link leads to a file and a heading, the README's tutorial gives the output that it shows,
-pictures are those of their data, the claims those of the sources, and docs/architecture.md names each crate. What they name in the
-sources is checked by cited.py."""
+pictures are those of their data, the claims those of the sources, docs/architecture.md names each crate, and the version is that of VERSION. What
+they name in the sources is checked by cited.py."""
 
 import os
 import re
@@ -15,7 +15,7 @@ DOCUMENTS = [TOP / "README.md", *sorted((TOP / "docs").glob("*.md")), *sorted((T
 def anchors(document):
     """The headings of a document, as links name them."""
     headings = re.findall(r"^#+ (.*)$", document.read_text(), re.M)
-    return {re.sub(r"[^a-z0-9 -]", "", heading.lower()).replace(" ", "-") for heading in headings}
+    return {re.sub(r"[^a-z0-9 _-]", "", heading.lower()).replace(" ", "-") for heading in headings}
 
 
 def links(program):
@@ -48,7 +48,7 @@ def tutorial(program):
     """Runs the README's tutorial, and tells where it gives something else than it shows."""
     steps = shown((TOP / "README.md").read_text())
     script = "".join(f"{command}\nlast=$?; echo '=== end of step'; (exit $last)\n" for command, _ in steps)
-    script = script.replace("$PWD/crates/timeweave/out", os.path.dirname(program))
+    script = script.replace("$PWD/bin", os.path.dirname(program))
     ran = subprocess.run(["bash", "-c", script], cwd=TOP, capture_output=True, text=True, timeout=60)
     found = ran.stdout.split("=== end of step\n")
     wrong = [
@@ -70,9 +70,23 @@ def tables(program):
     """The crates that the table or the picture of docs/architecture.md leaves out, or has beyond crates.txt."""
     known = set(re.findall(r"^(\w+)[\w ]*:", (TOP / "crates.txt").read_text(), re.M))
     picture, table = (TOP / "docs/architecture.md").read_text().split("\n## The crates\n")[1].split("\n## ")[0].split("\n| crate |")
-    found = {"the table": set(re.findall(r"^\| `(\w+)` \|", table, re.M)), "the picture": set(re.findall(r"\btw_\w+|\btimeweave\b|\btree_pages\b", picture))}
+    found = {"the table": set(re.findall(r"^\| `(\w+)` \|", table, re.M)), "the picture": set(re.findall(r"\btw_\w+|\btimeweave(?:_c)?\b|\btree_pages\b", picture))}
     wrong = [f"  {place} differs in {', '.join(sorted(names ^ known))}" for place, names in found.items() if names != known]
     return "\n".join(wrong) or None
+
+
+def version(program):
+    """The documents that tell another version than VERSION."""
+    wanted = (TOP / "VERSION").read_text().strip()
+    told = {"docs/timeweave.1": r'^\.TH .*"Timeweave (\S+)"', "docs/operating.md": r"^This is version (\S+) "}
+    found = {path: re.findall(pattern, (TOP / path).read_text(), re.M) for path, pattern in told.items()}
+    return "\n".join(f"  {path}: {versions}, and VERSION {wanted}" for path, versions in found.items() if versions != [wanted]) or None
+
+
+def length(program):
+    """The README's words where they are more than 2,000."""
+    words = len((TOP / "README.md").read_text().split())
+    return f"  README.md has {words} words" if words > 2000 else None
 
 
 def without_program():
@@ -80,6 +94,8 @@ def without_program():
     yield {"name": "documents: links", "check": links}
     yield {"name": "documents: pictures and claims", "check": made}
     yield {"name": "documents: tables of crates", "check": tables}
+    yield {"name": "documents: version", "check": version}
+    yield {"name": "documents: length of the README", "check": length}
 
 
 def cases():

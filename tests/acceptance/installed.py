@@ -7,6 +7,7 @@ import subprocess
 import tempfile
 from pathlib import Path
 
+import library
 import seen
 
 HERE = Path(__file__).resolve().parent
@@ -101,11 +102,13 @@ def manual(program):
 def install(program):
     """Installs into a folder of its own, and tries what is there."""
     with tempfile.TemporaryDirectory() as prefix:
-        command = ["make", "-s", "install", f"PREFIX={prefix}", f"PROGRAM={program}"]
+        has_library = library.is_built()
+        copied = sorted([*COPIED, *(library.COPIED if has_library else ())])
+        command = ["make", "-s", "install", f"PREFIX={prefix}", f"PROGRAM={program}", *([] if has_library else ["HAS_C="])]
         environment = {name: value for name, value in os.environ.items() if not name.startswith(("MAKE", "MFLAGS", "DESTDIR"))}
         done = subprocess.run(command, cwd=TOP, env=environment, capture_output=True, text=True, timeout=60)
         files = sorted(str(path.relative_to(prefix)) for path in Path(prefix).rglob("*") if path.is_file())
-        if done.returncode or files != sorted(COPIED):
+        if done.returncode or files != copied:
             return f"  {' '.join(command)}\n  status {done.returncode}, files {files}\n{done.stdout}{done.stderr}"
         ran = subprocess.run([f"{prefix}/bin/timeweave", "frob"], capture_output=True, timeout=60)
         if (ran.returncode, ran.stdout, ran.stderr) != (2, b"usage 1\n", b""):

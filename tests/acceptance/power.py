@@ -243,7 +243,7 @@ def cases():
 
 def main():
     """Tries all images, and tells how many there are of each run."""
-    program = os.path.abspath(sys.argv[1] if len(sys.argv) > 1 else Path(__file__).parent.parent.parent / "crates/timeweave/out/timeweave")
+    program = os.path.abspath(sys.argv[1] if len(sys.argv) > 1 else Path(__file__).parent.parent.parent / "bin/timeweave")
     failed, workers = 0, os.cpu_count()
     for size in (None, *SIZES):
         try:

@@ -4,11 +4,11 @@
     python3 tests/acceptance/run.py --texts        documents and sources alone, but for the tutorial; it needs no built program
 
 The cases stand in cases/*.json, those that are counted off in generated.py, those of proofs over archives and of links in archives.py,
-those of proofs that an event precedes another and of joining in precedence.py,
+those of proofs that an event precedes another and of joining in precedence.py, those of the scripts that one copies in entries.py and daily.py,
 those of services in steps.py, pages.py and failing.py, those of an archive's tree in pages in tree_runs.py, which run a program of their
 own, those of the program's edge to the system in edges.py, of programs at one time in beside.py, what it keeps itself from in guarded.py,
 and of lost power and failing system calls in power.py and faults.py; documents.py and cited.py check the documents,
-installed.py what `make install` copies, shown.py the examples to copy, and sources.py the sources.
+installed.py what `make install` copies, library.py the library for C and Python over the proofs of all of them, shown.py the examples to copy, and sources.py the sources.
 A case has
 
     name       what it shows
@@ -40,13 +40,16 @@ from pathlib import Path
 import archives
 import beside
 import cited
+import daily
 import documents
 import edges
+import entries
 import failing
 import faults
 import generated
 import guarded
 import installed
+import library
 import pages
 import power
 import precedence
@@ -134,8 +137,8 @@ def difference(program, case):
     if "check" in case:
         return case["check"](program)
     with tempfile.TemporaryDirectory() as room:
-        for name, recipe in case.get("files", {}).items():
-            data = made(recipe)
+        contents = {name: made(recipe) for name, recipe in case.get("files", {}).items()}
+        for name, data in contents.items():
             if data is None:
                 (Path(room) / name).mkdir()
             else:
@@ -146,10 +149,11 @@ def difference(program, case):
         except subprocess.TimeoutExpired:
             return "  it ran for longer than a minute"
     seen.note(status, out)
+    by_library = library.difference(words, contents, status, out)
     wanted = made(case["bytes"]) if "bytes" in case else case.get("stdout", "").encode()
-    if (status, out, err) == (case["status"], wanted, b""):
-        return None
     command = " ".join(shlex.quote(word) for word in ["timeweave", *words])
+    if (status, out, err) == (case["status"], wanted, b""):
+        return by_library and f"  {command}\n{by_library}"
     return f"  {command}\n  wanted {case['status']} {wanted!r}\n  got    {status} {out!r}" + (f"\n  stderr {err!r}" if err else "")
 
 
@@ -173,6 +177,8 @@ def all_cases():
     yield from cited.cases()
     yield from installed.cases()
     yield from shown.cases()
+    yield from entries.cases()
+    yield from daily.cases()
     yield from sources.cases()
 
 
@@ -192,7 +198,7 @@ def main():
     if sys.argv[1:] == ["--texts"]:
         cases = [*documents.without_program(), *cited.cases(), *sources.cases()]
         return told(cases, [difference(None, case) for case in cases])
-    program = os.path.abspath(sys.argv[1] if len(sys.argv) > 1 else TOP / "crates/timeweave/out/timeweave")
+    program = os.path.abspath(sys.argv[1] if len(sys.argv) > 1 else TOP / "bin/timeweave")
     if not os.access(program, os.X_OK):
         print(f"{program} isn't there: `make build` builds it")
         print("0 passed, 1 failed")
@@ -204,6 +210,9 @@ def main():
     cases = list(all_cases())
     with ThreadPoolExecutor(os.cpu_count()) as pool:
         found = list(pool.map(lambda case: difference(program, case), cases))
+    later = list(library.later_cases())
+    found += [difference(program, case) for case in later]
+    cases += later
     cases.append({"name": "each status and text that the manual page names is among the answers"})
     found.append("\n".join(seen.missing()) or None)
     return told(cases, found)

@@ -18,11 +18,11 @@ def with_program(program):
     return {**os.environ, "PATH": f"{os.path.dirname(program)}:{os.environ['PATH']}"}
 
 
-def script(room, name, *words):
-    """Runs a script of examples/; answers its status and its output."""
+def script(room, name, *words, errors=False):
+    """Runs a script of examples/; answers its status and its output, and with `errors` what it told on standard error too."""
     command = ["sh", TOP / "examples" / name, *words]
     done = subprocess.run(command, cwd=room.folder, env=with_program(room.program), capture_output=True, text=True, timeout=60)
-    return done.returncode, done.stdout
+    return (done.returncode, done.stdout, done.stderr) if errors else (done.returncode, done.stdout)
 
 
 def linked(room):

@@ -1,16 +1,31 @@
-"""The sources keep the project's own rules: long functions say why they are, files of lemmas what they are of, no file speaks of what
-a reader of the repository can't look up, and tests stand in crates of their own."""
+"""The sources keep the project's own rules: long functions say why they are, files of lemmas what they are of, tests stand in crates of
+their own, crates are small, and no chain of crates is long."""
 
 import re
 import shutil
 import subprocess
+import sys
 from pathlib import Path
 
 TOP = Path(__file__).resolve().parent.parent.parent
+sys.path.insert(0, str(TOP / "tools"))
+
+from pictures import crates, crates_to_come, height  # noqa: E402
+
 LONGEST = 40
 
-# Codes that a reader can't look up, and paths of one machine.
-FOREIGN = re.compile(r"\bT[1-5]\b|\b[DRW]\d+\b|\b[Dd]ocument 0[1-4]|\b[Rr]ow \d+\b|/" + r"work/|/" + r"root/")
+# A crate's most lines of code and functions, and the longest chain of crates.
+MOST_LINES, MOST_FUNCTIONS, MOST_HEIGHT = 1500, 100, 8
+
+# The crates that have more, and how much at most: no crate comes in, no number rises, and one that has no more than the others goes.
+LARGE = {
+    "tw_base": (2485, 132),
+    "tw_disktests": (1556, 123),
+    "tw_history": (2002, 106),
+    "tw_rbnode": (1522, 100),
+    "tw_text": (1518, 100),
+    "tw_verifier": (1868, 100),
+}
 
 
 def files(pattern):
@@ -49,18 +64,6 @@ def long_functions(program):
     return "\n".join(wrong) or None
 
 
-def foreign_words(program):
-    """The places that speak of what a reader can't look up."""
-    wrong = []
-    for path in files("*"):
-        data = path.read_bytes()
-        for number, line in enumerate(data.decode(errors="replace").split("\n") if b"\0" not in data else [], 1):
-            found = FOREIGN.search(line)
-            if found:
-                wrong.append(f"  {path.relative_to(TOP)}:{number}: {found[0]}")
-    return "\n".join(wrong) or None
-
-
 def lemma_files(program):
     """The files of lemmas that don't begin with a line that says what they are of."""
     lemmas = [path for path in files("*.antt") if (path.parent.name == "proofs" or "lemmas" in path.parts) and path.name != "Lib.antt"]
@@ -74,8 +77,35 @@ def tests_elsewhere(program):
     return "\n".join(f"  {path.relative_to(TOP)}" for path in wrong if not path.parent.parent.name.endswith("tests")) or None
 
 
+def size(name):
+    """How many lines of code a crate has, and how many functions."""
+    sources = [path.read_text().splitlines() for path in files("*.rt") if path.relative_to(TOP).parts[:2] == ("crates", name)]
+    return sum(map(len, sources)), sum(len(list(functions(lines))) for lines in sources)
+
+
+def crate_sizes(program):
+    """The crates that are larger than they may be, and those that are no longer among the large ones."""
+    wrong = []
+    for name in crates():
+        lines, count = size(name)
+        most_lines, most_count = LARGE.get(name, (MOST_LINES, MOST_FUNCTIONS))
+        if lines > most_lines or count > most_count:
+            wrong.append(f"  {name} has {lines} lines and {count} functions, at most {most_lines} and {most_count} are allowed")
+        elif name in LARGE and lines <= MOST_LINES and count <= MOST_FUNCTIONS:
+            wrong.append(f"  {name} has {lines} lines and {count} functions, so it needs no line in LARGE")
+    return "\n".join(wrong) or None
+
+
+def heights(program):
+    """The crates at the end of a chain that is too long, with the crates that are to come."""
+    known = crates_to_come()
+    wrong = {name: height(name, known) for name in known if height(name, known) > MOST_HEIGHT}
+    return "\n".join(f"  {name} stands at {at}, at most {MOST_HEIGHT} is allowed" for name, at in wrong.items()) or None
+
+
 def cases():
     yield {"name": "sources: long functions", "check": long_functions}
-    yield {"name": "sources: foreign words", "check": foreign_words}
     yield {"name": "sources: files of lemmas", "check": lemma_files}
     yield {"name": "sources: tests", "check": tests_elsewhere}
+    yield {"name": "sources: lines and functions of crates", "check": crate_sizes}
+    yield {"name": "sources: heights", "check": heights}

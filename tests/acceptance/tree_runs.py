@@ -16,7 +16,7 @@ from steps import Skipped, Wrong, case
 from tree_pages import FIRST, PagedTree
 from trees import absent, present, proof_over
 
-PROGRAM = Path(__file__).resolve().parent.parent.parent / "crates/tree_pages/out/tree_pages"
+PROGRAM = Path(__file__).resolve().parent.parent.parent / "bin/tree_pages"
 
 # The sequences of insertions: the numbers of entries in their order, 1 to 60, 700 or 5,000.
 MULTIPLIER = 7919
@@ -43,7 +43,7 @@ def entry_of(number, archived):
 def expect(lines, wanted):
     """Raises where the program doesn't print these lines, one for each that asks for one."""
     if not os.access(PROGRAM, os.X_OK):
-        raise Skipped("crates/tree_pages/out/tree_pages, which `make check` builds")
+        raise Skipped("bin/tree_pages, which `make check` builds")
     text = "".join(f"{line}\n" for line in lines)
     done = subprocess.run([PROGRAM], input=text, capture_output=True, text=True, timeout=300)
     if done.returncode or done.stderr:

@@ -1,7 +1,7 @@
 // What comes of a command.
 
 use crate::command::Command;
-use crate::digests::{digest_of_entries, digest_of_pages, digest_of_proof, read_page};
+use crate::digests::{bytes_of_page, digest_of_entries, digest_of_pages, digest_of_proof};
 use crate::entries::key;
 use crate::stop::Stop;
 use crate::versions::Versions;
@@ -42,7 +42,7 @@ fn level_of(versions: &mut Versions, page: u64) -> Result<u8, TreeFault> {
     if page == 0 {
         return Ok(0);
     }
-    let bytes = read_page(&mut versions.pages, page)?;
+    let bytes = bytes_of_page(&mut versions.pages, page)?;
     match read_node::<Sha>(&bytes, page) {
         Some(node) => Ok(level(&node)),
         None => Err(TreeFault::BadPage { page }),

@@ -4,29 +4,24 @@ use crate::stop::Stop;
 use hex::encode;
 use sha2::{Digest as _, Sha256};
 use std::alloc::Global;
+use tw_base::limits::PAGE_SIZE;
 use tw_base::{Bytes, Entry, Hasher, NoMemory, Page, Sha, TreeProof, put_entry};
 use tw_disk::limits::FIRST_PAGE;
-use tw_disk::{MemPages, Pages};
-use tw_rbtree::TreeFault;
+use tw_disk::{MemPages, Pages, WalkFault, read_page};
 use tw_treeproof::put_tree_proof;
 
 /// The bytes of the page of this number.
-pub fn read_page(pages: &mut MemPages, page: u64) -> Result<Page, TreeFault> {
-    let mut bytes = [0; 4096];
-    if page < FIRST_PAGE || page >= pages.used() {
-        return Err(TreeFault::BadPage { page });
-    }
-    match pages.read(page, &mut bytes) {
-        Ok(()) => Ok(bytes),
-        Err(_) => Err(TreeFault::DiskFault),
-    }
+pub fn bytes_of_page(pages: &mut MemPages, page: u64) -> Result<Page, WalkFault> {
+    let mut bytes = [0; PAGE_SIZE];
+    read_page(pages, page, &mut bytes)?;
+    Ok(bytes)
 }
 
 /// The SHA-256 of all pages from the first one that can be read, one after another.
 pub fn digest_of_pages(alloc: Global, pages: &mut MemPages) -> Result<String, Stop> {
     let mut hasher = Sha256::new();
     for page in FIRST_PAGE..pages.used() {
-        hasher.update(&read_page(pages, page)?);
+        hasher.update(&bytes_of_page(pages, page)?);
     }
     Ok(encode(alloc, hasher.finalize())?)
 }

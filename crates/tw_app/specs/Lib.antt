@@ -1,5 +1,6 @@
 pub mod Around
 pub mod Commands
+pub mod Judging
 pub mod Outcomes
 pub mod Running
 pub mod Statuses

@@ -1,6 +1,7 @@
 -- Histories: steps, archives and their trees, authenticators, families of histories, and what is claimed of them.
 pub mod Entries
 pub mod Asking
+pub mod WithLeaf
 pub mod Holding
 pub mod History
 pub mod Tree

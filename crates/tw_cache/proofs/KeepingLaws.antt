@@ -86,10 +86,15 @@ adds-put old new number page (Ok was) put kept =
 adds-put old new number page (Err refused) put kept = rw kept (λ k d lt. inl (All-contains_itself old.entries k d lt))
 
 -- the value over these pages that keeps these
-abbrev cached : {P : Type 0} {g : Ghosts P} (pages : P) (kept : LruCache ℕ (Box Page)) → AreOf (g.list pages) kept.entries → Cached P g
-cached pages kept right = record { pages = pages; kept = kept; right = right }
+abbrev cached : {P : Type 0} {g : Ghosts P} (pages : P) (kept : LruCache ℕ (Box Page)) → AreOf (g.view pages).list kept.entries → kept.cap ≡ 64 → Cached P g
+cached pages kept right most = record { pages = pages; kept = kept; right = right; most = most }
 
 -- two values over the same pages, with the same kept ones, are one
-pub one-value : {P : Type 0} {g : Ghosts P} (pages : P) (a b : LruCache ℕ (Box Page)) (a_right : AreOf (g.list pages) a.entries) (b_right : AreOf (g.list pages) b.entries)
-    → a ≡ b → cached {g = g} pages a a_right ≡ cached {g = g} pages b b_right
-one-value {g = g} pages a b a_right b_right same = λ i. record { pages = pages; kept = same i; right = is_prop→PathP (λ j. AreOf (g.list pages) (same j).entries) (λ j. Prim.hlevel props) a_right b_right i }
+pub one-value : {P : Type 0} {g : Ghosts P} (pages : P) (a b : LruCache ℕ (Box Page)) (a_right : AreOf (g.view pages).list a.entries) (b_right : AreOf (g.view pages).list b.entries)
+    (a_most : a.cap ≡ 64) (b_most : b.cap ≡ 64) → a ≡ b → cached {g = g} pages a a_right a_most ≡ cached {g = g} pages b b_right b_most
+one-value {g = g} pages a b a_right b_right a_most b_most same = λ i. record {
+  pages = pages;
+  kept = same i;
+  right = is_prop→PathP (λ j. AreOf (g.view pages).list (same j).entries) (λ j. Prim.hlevel props) a_right b_right i;
+  most = is_prop→PathP (λ j. (same j).cap ≡ 64) (λ j. Prim.hlevel props) a_most b_most i;
+}

@@ -19,7 +19,7 @@ Keeps cached page = IsSome (lookup (nat_eq page) cached.kept.entries)
 
 -- over these inner pages, with none kept
 abbrev pub emptied : {P : Type 0} {g : _} → Cached P g → P → Cached P g
-emptied cached pages = record { pages = pages; kept = lru_cache [] cached.kept.cap; right = λ image _. All-nil (IsPageOf image) }
+emptied cached pages = record { pages = pages; kept = lru_cache [] cached.kept.cap; right = λ image _. All-nil (IsPageOf image); most = cached.most }
 
 -- it ends with none kept, over what was made of the inner pages
 abbrev pub LendsInner : (P : RattleType) (g : Ghosts P.Denot) → MutBor (Cached P.Denot g) → MutBor P.Denot → Fml

@@ -5,4 +5,4 @@ mod cached;
 mod keep;
 mod paged;
 
-pub use cached::Cached;
+pub use cached::{Cached, Room};

@@ -13,17 +13,13 @@ use tw_disk::Pages;
 
 /// The inner pages: their list, number, faults, `same` and `unbroken`.
 impl<P: Pages> Pages for Cached<P> {
-    ghost list = { λ c. P.list c.pages };
-
-    ghost used_count = { λ c. P.used_count c.pages };
-
-    ghost faults = { λ c. P.faults c.pages };
+    ghost view = { λ c. P.view c.pages };
 
     ghost same = { λ a b. P.same a.pages b.pages };
 
-    ghost unbroken = { λ c. P.unbroken c.pages };
-
     ghost told_count = { λ c. P.told_count c.pages };
+
+    ghost from_first = { λ c. P.from_first c.pages };
 
     ghost same_itself = { λ c. P.same_itself c.pages };
 
@@ -36,14 +32,14 @@ impl<P: Pages> Pages for Cached<P> {
     // Where there is no memory to keep the page, it is answered all the same.
     fn read(&mut self, page: u64, into: &mut Page) -> Result<(), Failed>
         requires low { FIRST_PAGE ≤ page }
-        requires below { page < P.used_count (inner_of self.old) }
+        requires below { page < (P.view (inner_of self.old)).used }
         // A read gives the page that the inner pages have, whether it is kept or not.
-        ensures page { OnOk result ((pages : Image) → P.list (inner_of self.old) ≡ Some pages
+        ensures page { OnOk result ((pages : Image) → (P.view (inner_of self.old)).list ≡ Some pages
             → into.new ≡ page_at pages (page - FIRST_PAGE)) }
         // Reading changes nothing of what the inner pages tell.
-        ensures kept { OnlyReads (λ c. P.used_count (inner_of c)) (λ c. P.list (inner_of c)) (λ a b. P.same (inner_of a) (inner_of b)) (λ c. P.unbroken (inner_of c)) self.old self.new (IsOk result) }
+        ensures kept { OnlyReads (λ c. P.view (inner_of c)) (λ a b. P.same (inner_of a) (inner_of b)) self.old self.new (IsOk result) }
         // A read fails only where the inner pages' count of faults rose.
-        ensures cause { HasCause (P.faults (inner_of self.old)) (P.faults (inner_of self.new)) result }
+        ensures cause { HasCause (P.view (inner_of self.old)).faults (P.view (inner_of self.new)).faults result }
 
         // A page that is kept is answered, and the inner pages aren't asked.
         ensures without_reading { Keeps self.old page → IsOk result × (inner_of self.new ≡ inner_of self.old) }

@@ -12,7 +12,7 @@ use Rattle.tw_base.specs.history.Tree.{entries, tree}
 use Rattle.tw_base.proofs.lemmas.history.Archives.{tree-has, tree-has_received, tree-only_received}
 use Rattle.tw_base.proofs.lemmas.kinds.ListLemmas.{Each-in}
 use Rattle.tw_base.proofs.lemmas.history.Trees.{IsArchived, entry_at-parts, tree-archived, tree-rises}
-use Rattle.tw_tree.proofs.Members.{each-without, in-with, with-in, without-each}
+use Rattle.tw_base.proofs.lemmas.history.Members.{each-without, in-with, with-in, without-each}
 
 each_of : {X : Type 0} (P : X → Type 0) (xs : List X) → ((x : X) → In x xs → P x) → Each P xs
 each_of P [] all = tt

@@ -4,6 +4,7 @@ use Rattle.std.specs.Prelude.{Option, Some, None, MatchOption, ◌==◌, if◌th
 use Rattle.std.proofs.lemmas.Bool.{lt-ltb}
 use Rattle.tw_base.specs.declared.history.thread.Thread.{Thread}
 use Rattle.tw_base.specs.declared.history.tree_proof.Ask.TheVariants as ask
+use Rattle.tw_base.specs.history.Entries.{IsFit}
 use Rattle.tw_base.specs.history.Chains.{HopStands, LeadsBy}
 use Rattle.tw_base.specs.format.Codecs.{EachFits, optional, pair, present, seen}
 use Rattle.tw_base.specs.history.Family.{HasThread}
@@ -21,7 +22,7 @@ use Rattle.tw_chain.specs.Checks.Check.{AnswerOf, CarriesThread}
 use Rattle.tw_chain.specs.Proofs.{following, hop_bytes, hop_codec}
 use Rattle.tw_chain.proofs.ArchiveAnswers.{has-received}
 use Rattle.tw_chain.proofs.CheckBinds.{AreChecked, Checked, Opened, OrTheyClash, Setting, answer-step, link-step, opening-step, parted}
-use Rattle.tw_chain.proofs.PieceSizes.{opening-sizes, path-sizes, present-sizes}
+use Rattle.tw_chain.proofs.PieceSizes.{entry-sizes, opening-sizes, path-sizes, present-sizes}
 
 -- the opening of the step whose archive shows the next of so many hops
 abbrev pub FitsOpening : (more step : ℕ) → Option Opening → Type 0
@@ -36,6 +37,7 @@ opens-some more step opening fits =
 
 -- a hop behind which so many follow
 record HopFits (more : ℕ) (hop : HopPart) : Type 0 where
+  entry : IsFit hop.entry
   shown : HasProofSizes (ask.Present hop.entry) hop.shown
   links : HasLinkSizes hop.link.links
   opening : FitsOpening more hop.entry.thread.step hop.opening
@@ -43,6 +45,7 @@ record HopFits (more : ℕ) (hop : HopPart) : Type 0 where
 hop-fits : (more : ℕ) (hop : HopPart) → (hop_codec more).Fits hop → HopFits more hop
 unfolding hop_codec pair seen
 hop-fits more hop fits = record {
+  entry = entry-sizes hop.entry fits.0;
   shown = present-sizes hop.entry hop.shown fits.0 fits.1.0;
   links = path-sizes hop.bind hop.entry.thread.step hop.link.links fits.1.1.1.0;
   opening = fits.1.1.1.1;
@@ -50,12 +53,12 @@ hop-fits more hop fits = record {
 
 module _ (s : Setting) where
   -- the family has the thread of a hop, whether it is carried or bound
-  bind-step : (part : ℕ) (hop : HopPart) → HasLinkSizes hop.link.links → AreChecked s (bind_checks part hop) → OrTheyClash s (HasThread s.dig s.family hop.entry.thread)
-  bind-step part hop sizes checked = by (hop.bind == 0) checked
+  bind-step : (part : ℕ) (hop : HopPart) → IsFit hop.entry → HasLinkSizes hop.link.links → AreChecked s (bind_checks part hop) → OrTheyClash s (HasThread s.dig s.family hop.entry.thread)
+  bind-step part hop fit sizes checked = by (hop.bind == 0) checked
     where
       by : (carried : Bool) → AreChecked s (if carried then CarriesThread hop.entry.thread ∷ [] else link_checks part (bind_of hop)) → OrTheyClash s (HasThread s.dig s.family hop.entry.thread)
       by true checked = inl (checked.0).has.0
-      by false checked = link-step s part (bind_of hop) sizes checked
+      by false checked = link-step s part (bind_of hop) fit.auth.1 sizes checked
 
   -- the archive whose root the opening has received the hop's thread
   received-step : (part : ℕ) (t : Thread) (o : Opening) (hop : HopPart) → HasProofSizes (ask.Present hop.entry) hop.shown → (opened : Opened s t.from t.step o)
@@ -73,7 +76,7 @@ module _ (s : Setting) where
   hop-step part more t o hop fits opened checked =
       let bind = parted s (bind_checks part hop) (opening_checks part hop.entry.thread hop.opening) checked.1.1 in
       and_then s.dig s.texts _ _ (received-step part t o hop fits.shown opened checked.1.0)
-      (λ received. and_then s.dig s.texts _ _ (bind-step part hop fits.links bind.0)
+      (λ received. and_then s.dig s.texts _ _ (bind-step part hop fits.entry fits.links bind.0)
       (λ thread. inl (thread, hop-stands s.dig s.family t.from hop.entry opened.history opened.has received thread)))
 
   -- from a thread's step down the hops: the family has the thread that they come to, and from each step up to it they lead back

@@ -11,6 +11,7 @@ use Rattle.tw_base.specs.declared.history.tree_proof.Ask.TheVariants as ask
 use Rattle.tw_base.specs.declared.history.tree_proof.TreeProof.{TreeProof}
 use Rattle.tw_base.specs.events.AuditPath.{audit_texts}
 use Rattle.tw_base.specs.history.Auth.{auth}
+use Rattle.tw_base.specs.kinds.Bytes.{AreBytes}
 use Rattle.tw_base.specs.kinds.Clash.{OrClash, Within}
 use Rattle.tw_base.specs.kinds.Digests.{AllDigests}
 use Rattle.tw_base.specs.events.EventTree.{event_texts}
@@ -26,6 +27,7 @@ use Rattle.tw_base.proofs.lemmas.history.Auths.{has-event_text}
 use Rattle.tw_base.proofs.lemmas.kinds.Clashes.{Among-left, Among-right, OrClash-wider, and_then}
 use Rattle.tw_base.proofs.lemmas.history.Families.{sound_of, texts_within}
 use Rattle.tw_base.proofs.lemmas.kinds.ListLemmas.{Each-parts}
+use Rattle.tw_base.proofs.lemmas.history.SoundEvents.{sound-may_record}
 use Rattle.tw_base.proofs.lemmas.history.Trees.{tree-rising}
 use Rattle.tw_events.proofs.Binding.{ChecksEvent-binds}
 use Rattle.tw_skipproof.specs.declared.existence.Part.{Part}
@@ -57,6 +59,7 @@ shows-answer dig root (ask.Above key) proof checks = (checks, refl)
 pub record Setting : Type 0 where
   pub dig : List ℕ → List ℕ
   pub size : (text : List ℕ) → length (dig text) ≡ 32
+  pub bytes : (text : List ℕ) → AreBytes (dig text)
   pub anchors : List Thread
   pub family : List History
   pub sound : AllSound family
@@ -131,13 +134,13 @@ module _ (s : Setting) where
   -- ---- threads, and what they open
 
   climbed-thread : (service : List ℕ) (links : List Link) (from to : ℕ) (bottom upper : List ℕ) → HasThread s.dig s.family (record { from = service; step = from; auth = upper })
-      → to ≤ from → HasLinkSizes links → Climbs s.dig links from to bottom upper → Within (path_texts s.dig links from to bottom) s.texts
+      → to ≤ from → AreBytes bottom → HasLinkSizes links → Climbs s.dig links from to bottom upper → Within (path_texts s.dig links from to bottom) s.texts
       → OrTheyClash (HasThread s.dig s.family (record { from = service; step = to; auth = bottom }))
-  climbed-thread service links from to bottom upper thread order sizes climbs within =
+  climbed-thread service links from to bottom upper thread order is sizes climbs within =
       let h : History = thread.0 in
       and_then s.dig s.texts _ _
       (of_history service h (history_texts s.dig h) (path_texts s.dig links from to bottom) (bottom ≡ auth s.dig h to) thread.1 (λ t a. a) within
-      (climb-binds s.dig s.size h links from to bottom sizes climbs.shape order thread.2 (climbs.reaches ∙ sym thread.3)))
+      (climb-binds s.dig s.size s.bytes h links from to bottom (sound_of s.family service h s.sound thread.1) is sizes climbs.shape order thread.2 (climbs.reaches ∙ sym thread.3)))
       (λ same. inl (h, thread.1, omega (arith, order, thread.2), sym same))
 
   thread-opened : (t : Thread) (o : Opening) → HasOpeningSizes o → HasThread s.dig s.family t → IsOpeningAt t.step o → opening_auth s.dig t.step o ≡ t.auth
@@ -146,7 +149,7 @@ module _ (s : Setting) where
       let h : History = thread.0 in
       and_then s.dig s.texts _ _
       (of_history t.from h (history_texts s.dig h) (opening_texts s.dig t.step o) (Binds s.dig h t.step o) thread.1 (λ text a. a) within
-      (opening-binds_sound s.dig s.size h t.step o sizes is (sound_of s.family t.from h s.sound thread.1) thread.2 (computes ∙ sym thread.3)))
+      (opening-binds_sound s.dig s.size s.bytes h t.step o sizes is (sound_of s.family t.from h s.sound thread.1) thread.2 (computes ∙ sym thread.3)))
       (λ binds. inl (record { history = h; has = thread.1; some = is.0; within = thread.2; binds = binds }))
 
   pub opening-step : (part : ℕ) (t : Thread) (o : Opening) → HasOpeningSizes o → HasThread s.dig s.family t → Checked (OpeningOf part t o) → OrTheyClash (Opened t.from t.step o)
@@ -155,13 +158,13 @@ module _ (s : Setting) where
   -- a step under one that the family has
   pub part-step : (at : Part) (upper : List ℕ) → PartSizes at → HasThread s.dig s.family (record { from = at.service; step = at.top; auth = upper }) → at.step ≤ at.top
       → Reaches s.dig at upper → Within (part_texts s.dig at) s.texts → OrTheyClash (Opened at.service at.step at.opening)
-  unfolding part_texts
+  unfolding part_texts opening_auth
   part-step at upper sizes thread order reaches within =
       let bottom : List ℕ = opening_auth s.dig at.step at.opening in
       let opened : List (List ℕ) = opening_texts s.dig at.step at.opening in
       let climbed : List (List ℕ) = path_texts s.dig at.path.links at.top at.step bottom in
       and_then s.dig s.texts _ _
-      (climbed-thread at.service at.path.links at.top at.step bottom upper thread order sizes.links reaches.path (λ t a. within t (Among-right t opened climbed a)))
+      (climbed-thread at.service at.path.links at.top at.step bottom upper thread order (s.bytes _) sizes.links reaches.path (λ t a. within t (Among-right t opened climbed a)))
       (λ has. thread-opened (record { from = at.service; step = at.step; auth = bottom }) at.opening sizes.opening has reaches.opening refl (λ t a. within t (Among-left t opened climbed a)))
 
   pub anchored-part : (part : ℕ) (at : Part) → PartSizes at → AreChecked (under_anchor part at) → OrTheyClash (Opened at.service at.step at.opening)
@@ -170,12 +173,12 @@ module _ (s : Setting) where
       let path : Checked (PathOf part at (AtAnchor (top_of at))) = checked.1.1.0 in
       part-step at held.anchor.auth sizes held.has checked.0.passes (with_anchor (Reaches s.dig at) (anchor_at s.anchors (top_of at)) held.anchor held.is path.passes) path.within
 
-  pub link-step : (part : ℕ) (l : LinkProof) → HasLinkSizes l.path.links → AreChecked (link_checks part l)
+  pub link-step : (part : ℕ) (l : LinkProof) → AreBytes l.auth → HasLinkSizes l.path.links → AreChecked (link_checks part l)
       → OrTheyClash (HasThread s.dig s.family (record { from = l.service; step = l.step; auth = l.auth }))
-  link-step part l sizes checked =
+  link-step part l is sizes checked =
       let held : Anchored (link_top l) = anchored (link_top l) checked.1.0 in
       let link : Checked (LinkOf part l) = checked.1.1.0 in
-      climbed-thread l.service l.path.links l.top l.step l.auth held.anchor.auth held.has checked.0.passes sizes
+      climbed-thread l.service l.path.links l.top l.step l.auth held.anchor.auth held.has checked.0.passes is sizes
       (with_anchor (Climbs s.dig l.path.links l.top l.step l.auth) (anchor_at s.anchors (link_top l)) held.anchor held.is link.passes) link.within
 
   -- ---- what an opened step shows
@@ -184,7 +187,7 @@ module _ (s : Setting) where
   events-within h zero some within = absurd (omega (arith, some))
   events-within h (suc i) some within = λ t a. has-event_text s.dig h t i (omega (arith, within)) a
 
-  pub event-step : (part : ℕ) (at : Part) (e : EventPart) → AllDigests e.path → Opened at.service at.step at.opening → Checked (EventOf part at.opening e)
+  pub event-step : (part : ℕ) (at : Part) (e : EventPart) → AreBytes e.event × AllDigests e.path → Opened at.service at.step at.opening → Checked (EventOf part at.opening e)
       → OrTheyClash (SeenStands s.family (seen_at at e))
   event-step part at e sizes opened checked =
       let h : History = opened.history in
@@ -193,7 +196,8 @@ module _ (s : Setting) where
       and_then s.dig s.texts _ _
       (of_history at.service h (event_texts s.dig events) (audit_texts s.dig o.count e.index e.event e.path) (slice_get events e.index ≡ Some e.event) opened.has
       (events-within h at.step opened.some opened.within) checked.within
-      (ChecksEvent-binds s.dig s.size o.event_root o.count e.index e.event e.path sizes checked.passes events opened.binds.count opened.binds.event_root))
+      (ChecksEvent-binds s.dig s.size s.bytes o.event_root o.count e.index e.event e.path sizes.0 sizes.1 checked.passes events
+      (sound-may_record h at.step (sound_of s.family at.service h s.sound opened.has)).are.bytes opened.binds.count opened.binds.event_root))
       (λ stands. inl (record { history = h; has = opened.has; stands = stands; time = opened.binds.time }))
 
   -- the answer is that of the archive at the step
@@ -203,5 +207,5 @@ module _ (s : Setting) where
   answer-step part service step o asked proof sizes opened checked =
       let h : History = opened.history in
       of_history service h (tree_texts s.dig (tree h step)) (tree_proof_texts s.dig asked proof) _ opened.has (tree_texts-within s.dig h step opened.within) checked.within
-      (check-binds s.dig s.size o.archive_root asked proof (answer_of asked (ancestors_of proof)) (shows-answer s.dig o.archive_root asked proof checked.passes) (λ right. sizes)
+      (check-binds s.dig s.size s.bytes o.archive_root asked proof (answer_of asked (ancestors_of proof)) (shows-answer s.dig o.archive_root asked proof checked.passes) (λ right. sizes)
       (tree h step) (tree-rising h (sound_of s.family service h s.sound opened.has) step) opened.binds.archive_root)

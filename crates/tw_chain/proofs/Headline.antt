@@ -2,7 +2,8 @@
 use Rattle.std.proofs.Common.{◌≡◌, ℕ, suc, List, [], ◌∷◌, ◌++◌, length, Bool, ap, sym, ◌∙◌, subst, arith, inl}
 use Rattle.tw_base.specs.declared.history.thread.Thread.{Thread}
 use Rattle.tw_base.specs.declared.history.tree_proof.Ask.TheVariants as ask
-use Rattle.tw_base.specs.format.Codecs.{EachFits, behind, by_kind, each, pair, seen, variant}
+use Rattle.tw_base.specs.format.Codecs.{EachFits, behind, by_kind, bytes_codec, each, pair, seen, variant}
+use Rattle.tw_base.specs.kinds.Bytes.{AreBytes}
 use Rattle.tw_base.specs.kinds.Digests.{AllDigests}
 use Rattle.tw_base.specs.history.Facts.{Facts, Precedence, SeenStands, TimesRise, WasNotReceived, WasReceived}
 use Rattle.tw_base.specs.history.Family.{HasThread, family_texts}
@@ -37,11 +38,11 @@ use Rattle.tw_chain.proofs.TimesRise.{times-rise}
 -- the fields of a proof of kind 2 as its checks take them
 record ChainFits (p : PrecedenceProof) : Type 0 where
   head : PartSizes p.head
-  second : AllDigests p.event.path
+  second : AreBytes p.event.event × AllDigests p.event.path
   before : FitsOpening (length p.hops) (start_of p).step p.before
   hops : EachFits hop_bytes hop_codec (following (length p.hops)) p.hops
   tail : PartSizes (tail_at (end_of p) p.tail)
-  first : AllDigests p.tail.event.path
+  first : AreBytes p.tail.event.event × AllDigests p.tail.event.path
 
 chain-fits : (p : PrecedenceProof) → precedence_body.Fits p → ChainFits p
 unfolding precedence_body hops_codec behind_codec tail_codec by_kind pair seen each
@@ -94,8 +95,8 @@ module _ (s : Setting) where
       })))
 
   linked-binds : (p : LinkProof) → link_body.Fits p → AreChecked s (checks (Linked p)) → OrTheyClash s (HasThread s.dig s.family (record { from = p.service; step = p.step; auth = p.auth }))
-  unfolding link_body pair seen
-  linked-binds p fits checked = link-step s 0 p (path-sizes p.top p.step p.path.links fits.1.1.1.1) checked
+  unfolding link_body pair seen bytes_codec
+  linked-binds p fits checked = link-step s 0 p fits.1.1.1.0.1 (path-sizes p.top p.step p.path.links fits.1.1.1.1) checked
 
   -- the first event, under the thread that the hops come to
   tail-binds : (p : PrecedenceProof) → ChainFits p → HasThread s.dig s.family (end_of p) → AreChecked s (tail_checks (suc (length p.hops)) (end_of p) p.tail)
@@ -134,7 +135,7 @@ module _ (s : Setting) where
   claim-binds (Absent p) fits checked = and_then s.dig s.texts _ _ (absent-binds p fits.1.1 checked) (λ fact. inl (fact, tt))
   claim-binds (Linked p) fits checked = and_then s.dig s.texts _ _ (linked-binds p fits.1.1 checked) (λ fact. inl (fact, tt))
 
-module _ (dig : List ℕ → List ℕ) (size : (text : List ℕ) → length (dig text) ≡ 32) (anchors : List Thread) where
+module _ (dig : List ℕ → List ℕ) (size : (text : List ℕ) → length (dig text) ≡ 32) (are : (text : List ℕ) → AreBytes (dig text)) (anchors : List Thread) where
   pub headline : (bytes : List ℕ) (p : Proof) → Spells proof_layout bytes p → IsAccepted dig anchors p → BindsReport dig anchors p (report_of p)
   headline bytes p spells accepted family sound has =
       let of_family : List (List ℕ) = family_texts dig family in
@@ -142,6 +143,7 @@ module _ (dig : List ℕ → List ℕ) (size : (text : List ℕ) → length (dig
       let s : Setting = record {
         dig = dig;
         size = size;
+        bytes = are;
         anchors = anchors;
         family = family;
         sound = sound;

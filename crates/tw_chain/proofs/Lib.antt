@@ -2,6 +2,7 @@ pub mod PieceSizes
 pub mod CheckBinds
 pub mod ChainBinds
 pub mod TimesRise
+pub mod ProofTextBytes
 pub mod Headline
 pub mod ArchiveAnswers
 pub mod ProofCodec
@@ -12,3 +13,7 @@ pub mod OwnSpelling
 pub mod ChainBytes
 pub mod OwnExistence
 pub mod HeldServices
+pub mod PassesLaws
+pub mod LowerSteps
+pub mod FoundSteps
+pub mod Lowest

@@ -18,7 +18,7 @@ use Rattle.tw_base.proofs.lemmas.format.CodecLaws.{spelled-fits}
 use Rattle.tw_base.proofs.lemmas.kinds.DigestBytes.{auth-digest}
 use Rattle.tw_base.proofs.lemmas.kinds.ListLemmas.{Each-in, Each-map}
 use Rattle.tw_base.proofs.lemmas.history.Trees.{IsArchived, entry_at-parts, received-sound, tree-archived, tree-rises}
-use Rattle.tw_tree.proofs.Members.{in-with}
+use Rattle.tw_base.proofs.lemmas.history.Members.{in-with}
 use Rattle.tw_skipproof.specs.declared.existence.Part.{Part}
 use Rattle.tw_skipproof.specs.Codecs.{existence_codec, part_codec, path_codec}
 use Rattle.tw_skipproof.specs.Existence.{existence_bytes}

@@ -8,12 +8,13 @@ use Rattle.tw_base.specs.declared.history.tree_proof.Ask.TheVariants as ask
 use Rattle.tw_base.specs.declared.history.tree_proof.TreeProof.{TreeProof}
 use Rattle.tw_base.specs.declared.history.tree_proof.TreeProof.TheVariants as trees
 use Rattle.tw_base.specs.declared.history.thread.Key.{Key}
-use Rattle.tw_base.specs.format.Codecs.{EachFits, HasBytes, by_kind, bytes_codec, counted, each, labels_codec, many, name_codec, nothing, number_codec, optional, pair, present, seen, variant, written}
+use Rattle.tw_base.specs.format.Codecs.{EachFits, by_kind, bytes_codec, counted, each, labels_codec, many, name_codec, nothing, number_codec, optional, pair, present, seen, sized_codec, variant, written}
+use Rattle.tw_base.specs.kinds.Bytes.{AreBytes}
 use Rattle.tw_base.specs.kinds.Digests.{AllDigests}
 use Rattle.tw_base.specs.history.Entries.{IsFit}
 use Rattle.tw_base.specs.history.HistoryCodec.{thread_codec, time_codec}
 use Rattle.tw_base.specs.kinds.Lists.{Each}
-use Rattle.tw_base.proofs.lemmas.kinds.Naming.{IsName-size}
+use Rattle.tw_base.proofs.lemmas.kinds.Naming.{IsName-bytes}
 use Rattle.tw_skipproof.specs.declared.existence.Part.{Part}
 use Rattle.tw_skipproof.specs.declared.opening.Opening.{Opening}
 use Rattle.tw_skipproof.specs.declared.path.Link.{Link}
@@ -23,10 +24,6 @@ use Rattle.tw_skipproof.specs.Paths.{HasLinkSizes, greedy_steps}
 use Rattle.tw_base.specs.history.EntryCodec.{entry_codec}
 use Rattle.tw_treeproof.specs.Codecs.{ancestor_codec, gap_codec, present_codec}
 use Rattle.tw_treeproof.specs.Sizes.{HasProofSizes, HasSizes}
-
-digests-size : (ds : List (List ℕ)) → Each (HasBytes 32) ds → AllDigests ds
-digests-size [] fits = tt
-digests-size (d ∷ ds) fits = (fits.0.0, digests-size ds fits.1)
 
 time-size : (timed : Bool) (time : Option ℕ) → (optional timed time_codec).Fits time → IfSome time (λ t. t < 2 ^ 64)
 unfolding present nothing number_codec
@@ -38,19 +35,19 @@ time-size false (Some t) fits = cc
 pub opening-sizes : (least step : ℕ) (o : Opening) → (opening_codec least step).Fits o → HasOpeningSizes o
 unfolding opening_codec count_codec written by_kind pair seen number_codec labels_codec many bytes_codec
 opening-sizes least step o fits = record {
-  event_root = fits.0.0;
-  archive_root = fits.1.0.0;
+  event_root = fits.0;
+  archive_root = fits.1.0;
   count = omega (arith, fits.1.1.0.1.0.1);
   time = time-size _ o.time fits.1.1.0.1.1;
-  prev = fits.1.1.1.0.0;
-  others = digests-size o.others fits.1.1.1.1.1;
+  prev = fits.1.1.1.0;
+  others = fits.1.1.1.1.1;
 }
 
 links-sizes : (steps : List ℕ) (links : List Link) → EachFits link_bytes link_codec steps links → HasLinkSizes links
 unfolding link_codec seen pair labels_codec many bytes_codec
 links-sizes steps [] fits = tt
 links-sizes [] (l ∷ links) fits = cc
-links-sizes (step ∷ steps) (l ∷ links) fits = (fits.0.0.0, digests-size l.others fits.0.1.1, links-sizes steps links fits.1)
+links-sizes (step ∷ steps) (l ∷ links) fits = (fits.0.0, fits.0.1.1, links-sizes steps links fits.1)
 
 pub path-sizes : (from to : ℕ) (links : List Link) → (path_codec from to).Fits links → HasLinkSizes links
 unfolding path_codec each
@@ -68,30 +65,30 @@ part-sizes least at fits = record {
   opening = opening-sizes least at.step at.opening fits.1.1.1.1;
 }
 
-pub event-sizes : (count : ℕ) (e : EventPart) → (event_codec count).Fits e → AllDigests e.path
-unfolding event_codec pair seen labels_codec many bytes_codec
-event-sizes count e fits = digests-size e.path fits.1.1.1
+pub event-sizes : (count : ℕ) (e : EventPart) → (event_codec count).Fits e → AreBytes e.event × AllDigests e.path
+unfolding event_codec pair seen labels_codec many sized_codec by_kind bytes_codec
+event-sizes count e fits = (fits.1.0.1.1, fits.1.1.1)
 
 -- ---- tree proofs
 
 pub entry-sizes : (e : Entry) → entry_codec.Fits e → IsFit e
 unfolding entry_codec thread_codec seen pair name_codec number_codec bytes_codec
 entry-sizes e fits = record {
-  from = IsName-size e.thread.from fits.0.0;
+  from = IsName-bytes e.thread.from fits.0.0;
   step = omega (arith, fits.0.1.0.1);
-  auth = fits.0.1.1.0;
+  auth = fits.0.1.1;
   archived = omega (arith, fits.1.1);
 }
 
 ancestors-sizes : (up : List Ancestor) → Each (ancestor_codec.Fits) up → HasSizes up
 unfolding ancestor_codec seen pair bytes_codec
 ancestors-sizes [] fits = tt
-ancestors-sizes (a ∷ up) fits = ((fits.0.1.0, entry-sizes a.entry fits.0.0), ancestors-sizes up fits.1)
+ancestors-sizes (a ∷ up) fits = ((fits.0.1, entry-sizes a.entry fits.0.0), ancestors-sizes up fits.1)
 
 pub present-sizes : (e : Entry) (proof : TreeProof) → entry_codec.Fits e → present_codec.Fits proof → HasProofSizes (ask.Present e) proof
 unfolding present_codec variant by_kind pair many bytes_codec
 present-sizes e (trees.Present left right up) entry fits =
-    let parts = fits.1.1 in ((parts.0.0, parts.1.0.0, entry-sizes e entry), ancestors-sizes up parts.1.1.1)
+    let parts = fits.1.1 in ((parts.0, parts.1.0, entry-sizes e entry), ancestors-sizes up parts.1.1.1)
 present-sizes e (trees.Gap up) entry fits = absurd fits
 
 pub gap-sizes : (key : Key) (proof : TreeProof) → gap_codec.Fits proof → HasProofSizes (ask.Absent key) proof

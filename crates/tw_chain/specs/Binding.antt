@@ -15,7 +15,8 @@ use Rattle.tw_chain.specs.Proofs.{proof_layout}
 
 module _ (dig : List ℕ → List ℕ) (anchors : List Thread) where
   -- in every family of sound histories that has the threads held of the proof, the report's claim holds, by the report's own
-  -- hops, and where it has no hops the times rise; or two different texts of the histories and of the proof have one digest
+  -- hops, and where it has no hops the times rise; or two different texts of the histories and of the proof, both of bytes, have
+  -- one digest
   abbrev pub BindsReport : Proof → Report → Type 0
   BindsReport p report =
       (family : List History) → AllSound family → HasThreads dig family (held anchors p)

@@ -1,6 +1,7 @@
 pub mod Proofs
 pub mod Checks
 pub mod Passing
+pub mod Finding
 pub mod Accepting
 pub mod Claiming
 pub mod OwnProofs

@@ -5,6 +5,8 @@ ghost use Rattle.tw_base.specs.declared.history.thread.Thread.{Thread};
 ghost use Rattle.tw_base.specs.history.Anchors.{anchor_of};
 ghost use Rattle.tw_base.specs.history.Auth.{auth};
 ghost use Rattle.tw_base.specs.format.Codecs.{IsUnambiguous};
+ghost use Rattle.tw_base.specs.kinds.Bytes.{AreBytes};
+ghost use Rattle.tw_base.specs.kinds.Lists.{Each};
 ghost use Rattle.tw_base.specs.format.Formats.{Spells};
 ghost use Rattle.tw_base.specs.history.History.{History, events_at};
 ghost use Rattle.tw_base.specs.history.Sound.{IsSound};
@@ -16,7 +18,7 @@ ghost use Rattle.tw_treeproof.specs.declared.limits.TheConstants.{MOST_ABOVE_PLA
 ghost use Rattle.tw_treeproof.specs.Making.{height};
 ghost use Rattle.tw_chain.specs.declared.proof.Proof.{Proof};
 ghost use Rattle.tw_chain.specs.declared.proof.Proof.TheVariants.{Exists};
-ghost use Rattle.tw_chain.specs.Accepting.{Accepts, IsAccepted, claim_of, report_of};
+ghost use Rattle.tw_chain.specs.Accepting.{Accepts, IsAccepted, claim_of, proof_texts, report_of};
 ghost use Rattle.tw_chain.specs.Binding.{BindsReport};
 ghost use Rattle.tw_chain.specs.Claiming.{ClaimsOf, claim_at};
 ghost use Rattle.tw_chain.specs.HeldServices.{HeldSuffices};
@@ -85,10 +87,12 @@ pub fn proof_laws()
 
 /// What an accepted proof says of histories, whatever its kind.
 pub fn chain_laws<H: Hasher>()
-    // What the report of an accepted proof that bytes spell claims is so in every family of sound histories that has the threads held of
-    // the proof, or two different texts of the histories and of the proof have one digest.
+    // What the report of an accepted proof that bytes spell claims is so in every family of sound histories that has the
+    // threads held of the proof, or two different texts of the histories and of the proof, both of bytes, have one digest.
     ensures headline { (bytes : List ℕ) (p : Proof) (anchors : List Thread) →
         Spells proof_layout bytes p → IsAccepted H.dig anchors p → BindsReport H.dig anchors p (report_of p) }
+    // Where bytes spell a proof, each of the texts that checking it hashes is bytes.
+    ensures texts { (bytes : List ℕ) (p : Proof) → Spells proof_layout bytes p → Each AreBytes (proof_texts H.dig p) }
     // Each service that the claim of an accepted proof is about, and each service of a hop, is the service of a thread that is held
     // of the proof.
     ensures held_suffices { (p : Proof) (anchors : List Thread) → IsAccepted H.dig anchors p → HeldSuffices anchors p }

@@ -1,17 +1,24 @@
-// Proofs and their verdicts.
+// Proofs and their verdicts, and the lowest reason of the checks that don't pass.
 #![tactic(auto)]
 
 mod chain_reading;
 mod chain_writing;
+mod finding;
 mod laws;
 mod least;
+mod passing;
 mod proof;
 mod reading;
 mod verdict;
 mod writing;
 
+pub use finding::{
+    under_anchor, with_answer, with_event, with_link, with_opening, with_order, with_path,
+    without_answer,
+};
 pub use laws::{chain_laws, completeness_laws, proof_laws};
 pub use least::{LEAST_PRECEDENCE, LEAST_PRECEDENCE_AUTHENTICATOR};
+pub use passing::{answers, climbs, opens, reaches, shows};
 pub use proof::{
     AbsenceProof, HopPart, HopParts, LinkProof, PrecedenceProof, Proof, Tail, ThreadProof,
 };

@@ -1,7 +1,10 @@
--- Readings of pages one after another.
-use Rattle.std.proofs.Common.{◌≡◌, ℕ, ap, refl}
-use Rattle.tw_disk.specs.Found.{Found, ◌>>=◌}
+-- Readings of pages one after another, and the bytes of one.
+use Rattle.std.proofs.Common.{◌≡◌, ℕ, ◌+◌, ◌-◌, ◌<◌, ◌≤◌, length, ap, refl, ◌∙◌, arith, Bool, ◌⊎◌, inl, inr}
+use Rattle.std.specs.Prelude.{nat_lt, ◌&&◌}
+use Rattle.std.proofs.lemmas.Bool.{le-leb, le-ltb, lt-leb, lt-ltb}
+use Rattle.tw_disk.specs.Found.{Found, ◌>>=◌, bytes_in, when}
 use Rattle.tw_disk.specs.Found.Found.{Is, Bad}
+use Rattle.tw_disk.specs.Image.{Image, page_at}
 
 module _ {X Y : Type 0} where
   -- what is found is read on from
@@ -25,3 +28,25 @@ module _ {X Y Z : Type 0} where
   pub in_turn : (one : Found X) (next : X → Found Y) (last : Y → Found Z) → ((one >>= next) >>= last) ≡ (one >>= (λ x. next x >>= last))
   in_turn (Is x) next last = refl
   in_turn (Bad page) next last = refl
+
+-- ---- the bytes of a page
+
+pub bytes_in-within : (ps : Image) (page : ℕ) → 4 ≤ page → page < 4 + length ps → bytes_in ps page ≡ Is (page_at ps (page - 4))
+unfolding bytes_in
+bytes_in-within ps page low below =
+    ap (λ (b : Bool). when (b && nat_lt page (4 + length ps)) page (page_at ps (page - 4))) (le-leb 4 page low)
+    ∙ ap (λ (b : Bool). when b page (page_at ps (page - 4))) (lt-ltb page (4 + length ps) below)
+
+pub bytes_in-low : (ps : Image) (page : ℕ) → page < 4 → bytes_in ps page ≡ Bad page
+unfolding bytes_in
+bytes_in-low ps page low = ap (λ (b : Bool). when (b && nat_lt page (4 + length ps)) page (page_at ps (page - 4))) (lt-leb 4 page low)
+
+pub bytes_in-past : (ps : Image) (page : ℕ) → 4 ≤ page → 4 + length ps ≤ page → bytes_in ps page ≡ Bad page
+unfolding bytes_in
+bytes_in-past ps page low past =
+    ap (λ (b : Bool). when (b && nat_lt page (4 + length ps)) page (page_at ps (page - 4))) (le-leb 4 page low)
+    ∙ ap (λ (b : Bool). when b page (page_at ps (page - 4))) (le-ltb page (4 + length ps) past)
+
+pub bytes_in-out : (ps : Image) (page : ℕ) → (page < 4) ⊎ (4 + length ps ≤ page) → bytes_in ps page ≡ Bad page
+bytes_in-out ps page (inl low) = bytes_in-low ps page low
+bytes_in-out ps page (inr past) = bytes_in-past ps page (omega (arith, past)) past

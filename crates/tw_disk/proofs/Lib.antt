@@ -6,3 +6,5 @@ pub mod LooseLaws
 pub mod Unwinding
 pub mod ReadingLaws
 pub mod FoundLaws
+pub mod SpelledLaws
+pub mod AnswerLaws

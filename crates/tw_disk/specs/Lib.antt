@@ -9,5 +9,7 @@ pub mod LooseSteps
 pub mod MemDisk
 pub mod MemDiskSteps
 pub mod Pages
+pub mod Answers
+pub mod WalkFaults
 pub mod MemPages
 pub mod MemPagesSteps

@@ -2,6 +2,7 @@
 use Rattle.std.specs.Prelude.{ℕ, List, length, drop, Option, Some}
 use Rattle.tw_disk.specs.declared.limits.TheConstants.{FIRST_PAGE}
 use Rattle.tw_disk.specs.Image.{Image}
+use Rattle.tw_disk.specs.Pages.{PagesView}
 use Rattle.tw_disk.specs.declared.memory_pages.MemPages.{MemPages}
 
 -- all its pages, the first four among them
@@ -35,3 +36,7 @@ failing_of pages = pages.failing
 -- how often a read has failed
 abbrev pub faults_of : MemPages → ℕ
 faults_of pages = pages.faults
+
+-- all that they tell of themselves
+abbrev pub view_of : MemPages → PagesView
+view_of pages = record { list = list_of pages; used = count_of pages; faults = faults_of pages; unbroken = IsUnbroken pages }

@@ -11,8 +11,12 @@ pub mod limits;
 mod memory_disk;
 mod memory_pages;
 mod pages;
+mod reading;
+mod walk_fault;
 
 pub use disk::Disk;
 pub use memory_disk::MemDisk;
 pub use memory_pages::MemPages;
 pub use pages::Pages;
+pub use reading::read_page;
+pub use walk_fault::WalkFault;

@@ -205,6 +205,13 @@ impl MemDisk {
         self.reads
     }
 
+    /// Whether it is stopped: from the write or barrier on at which it was to stop, until a crash.
+    pub fn is_stopped(&self) -> bool
+        ensures { result ≡ is_stopped self.now }
+    {
+        self.is_stopped
+    }
+
     /// Makes the k-th write or barrier from now on fail, beside those that are to fail already; 1 is the next, and 0 is none.
     /// A write that fails so may be found done all the same.
     pub fn fail(&mut self, k: u64) -> Result<(), NoMemory>

@@ -62,20 +62,16 @@ impl Pages for MemPages {
     ghost use Rattle.tw_disk.specs.Image.{Image, page_at};
     ghost use Rattle.tw_base.specs.kinds.Faults.{HasCause};
     ghost use Rattle.tw_disk.specs.Pages.{OnlyReads};
-    ghost use Rattle.tw_disk.specs.MemPages.{list_of, count_of, reads_of, failing_of, faults_of, IsSame, IsUnbroken};
+    ghost use Rattle.tw_disk.specs.MemPages.{list_of, count_of, reads_of, failing_of, faults_of, view_of, IsSame, IsUnbroken};
     ghost use Rattle.tw_disk.specs.MemPagesSteps.{told_used};
 
-    ghost list = { list_of };
-
-    ghost used_count = { count_of };
-
-    ghost faults = { faults_of };
+    ghost view = { view_of };
 
     ghost same = { IsSame };
 
-    ghost unbroken = { IsUnbroken };
-
     ghost told_count = { λ p pages is. told_used p.pages.items pages p.four is };
+
+    ghost from_first = { λ p. p.four };
 
     ghost same_itself = { λ _. tt };
 
@@ -91,7 +87,7 @@ impl Pages for MemPages {
         // Reads of pages in memory give the pages.
         ensures page { OnOk result ((pages : Image) → list_of self.old ≡ Some pages
             → into.new ≡ page_at pages (page - FIRST_PAGE)) }
-        ensures kept { OnlyReads count_of list_of IsSame IsUnbroken self.old self.new (IsOk result) }
+        ensures kept { OnlyReads view_of IsSame self.old self.new (IsOk result) }
         ensures cause { HasCause (faults_of self.old) (faults_of self.new) result }
 
         // A read of pages in memory fails where that is planned, and nowhere else.

@@ -7,12 +7,16 @@ use Rattle.std.proofs.lemmas.List.{get_or-take, get_or-drop}
 use Rattle.tw_base.specs.declared.events.side.Side.{Side}
 use Rattle.tw_base.specs.declared.events.side.Side.TheVariants.{Left, Right}
 use Rattle.tw_base.specs.kinds.Texts.{event_leaf_text, event_node_text}
+use Rattle.tw_base.specs.kinds.Bytes.{AreBytes, HasBytes}
 use Rattle.tw_base.specs.kinds.Digests.{AllDigests}
+use Rattle.tw_base.specs.kinds.Lists.{Each}
 use Rattle.tw_base.specs.kinds.Clash.{Among, OrClash, Within}
 use Rattle.tw_base.specs.events.AuditPath.{ChecksEvent, audit_texts, node_text_beside, node_texts_above, path_length, path_sides, root_above}
 use Rattle.tw_base.specs.events.EventTree.{event_root, event_texts, largest_power_below, left_half, right_half}
 use Rattle.tw_base.proofs.lemmas.kinds.Clashes.{Among-left, Among-right, and_then, same_text}
+use Rattle.tw_base.proofs.lemmas.kinds.ListLemmas.{Each-append, Each-map}
 use Rattle.tw_base.proofs.lemmas.kinds.TextFields.{leaf-fields, node-fields}
+use Rattle.tw_base.proofs.lemmas.history.TextBytes.{audit_texts-bytes, event_texts-bytes}
 use Rattle.tw_base.proofs.lemmas.events.EventTrees.{by_halves, event_root-more, event_root-one, event_texts-leaf, event_texts-left, event_texts-right, event_texts-top, largest_power_below-less, length-event_root, length-left_half, length-right_half}
 use Rattle.tw_base.proofs.lemmas.events.AuditPaths.{path_length-left, path_length-right, path_sides-few, path_sides-left, path_sides-right}
 use Rattle.tw_base.proofs.lemmas.events.Upwards.{AllDigests-front, HasLast, has_last, length-root_above, node_texts_above-last, root_above-last, root_above-none}
@@ -26,7 +30,7 @@ length-sides : (count index : ℕ) (front : List (List ℕ)) (n : ℕ) → lengt
 unfolding path_length
 length-sides count index front n e f = f ∙ sym e
 
-module _ (dig : List ℕ → List ℕ) (size : (text : List ℕ) → length (dig text) ≡ 32) (texts : List (List ℕ)) (event : List ℕ) (has_leaf : Among (event_leaf_text event) texts) where
+module _ (dig : List ℕ → List ℕ) (size : (text : List ℕ) → length (dig text) ≡ 32) (texts : List (List ℕ)) (are : Each AreBytes texts) (event : List ℕ) (has_leaf : Among (event_leaf_text event) texts) where
   Binds : ℕ → Type 0
   Binds n = (events : List (List ℕ)) (index : ℕ) (path : List (List ℕ)) → length events ≡ n → index < n → AllDigests path → length path ≡ path_length n index
       → root_above dig (path_sides n index) path (dig (event_leaf_text event)) ≡ event_root dig events
@@ -40,7 +44,7 @@ module _ (dig : List ℕ → List ℕ) (size : (text : List ℕ) → length (dig
   one (d ∷ f ∷ ds) index n inside e theirs = absurd (omega arith)
   one (d ∷ []) index n inside e theirs =
       and_then dig texts _ _
-      (same_text dig texts (event_leaf_text d) (event_leaf_text event) (theirs _ (event_texts-leaf dig d)) has_leaf (sym (e ∙ event_root-one dig d)))
+      (same_text dig texts are (event_leaf_text d) (event_leaf_text event) (theirs _ (event_texts-leaf dig d)) has_leaf (sym (e ∙ event_root-one dig d)))
       (λ same. inl (first_of_one d index inside ∙ leaf-fields _ _ same))
 
   few : (n : ℕ) → n ≤ 1 → Binds n
@@ -64,7 +68,7 @@ module _ (dig : List ℕ → List ℕ) (size : (text : List ℕ) → length (dig
         → OrClash dig texts (Top side)
     unfolding below
     top side reaches theirs ours =
-        same_text dig texts (node_text_beside side last below) (event_node_text (event_root dig (left_half events)) (event_root dig (right_half events)))
+        same_text dig texts are (node_text_beside side last below) (event_node_text (event_root dig (left_half events)) (event_root dig (right_half events)))
         (ours _ (subst (Among (node_text_beside side last below)) (sym (node_texts_above-last dig sides side front last (dig (event_leaf_text event)) fits))
         (Among-right _ (node_texts_above dig sides front (dig (event_leaf_text event))) _ (inl refl))))
         (theirs _ (event_texts-top dig events more))
@@ -122,7 +126,7 @@ module _ (dig : List ℕ → List ℕ) (size : (text : List ℕ) → length (dig
             (top events more' parts.front parts.last sides fits Left
             (sym (ap (λ s. root_above dig s path leaf) way ∙ ap (λ p. root_above dig (sides ++ Left ∷ []) p leaf) parts.whole) ∙ reaches) theirs mine)
             (λ one_text.
-            let halves = node-fields _ _ _ _ (small.1 ∙ sym (length-event_root dig size (left_half events))) one_text in
+            let halves = node-fields _ _ _ _ (small.1.0 ∙ sym (length-event_root dig size (left_half events))) one_text in
             and_then dig texts _ _
             (right (right_half events) (index - largest_power_below n) parts.front rest (omega arith) small.0 parts.size halves.1
             (λ text a. theirs text (event_texts-right dig events more' text a)) (lower events more' parts.front parts.last sides fits Left mine))
@@ -139,15 +143,18 @@ module _ (dig : List ℕ → List ℕ) (size : (text : List ℕ) → length (dig
   path-binds n = by_halves Binds few many n
 
 -- where a path shows the event, each list of so many events with that root has it at the index, or the texts clash
-pub ChecksEvent-binds : (dig : List ℕ → List ℕ) (size : (text : List ℕ) → length (dig text) ≡ 32)
-    (root : List ℕ) (count index : ℕ) (event : List ℕ) (path : List (List ℕ)) → AllDigests path → ChecksEvent dig root count index event path
-    → (events : List (List ℕ)) → length events ≡ count → event_root dig events ≡ root
+pub ChecksEvent-binds : (dig : List ℕ → List ℕ) (size : (text : List ℕ) → length (dig text) ≡ 32) (are : (text : List ℕ) → AreBytes (dig text))
+    (root : List ℕ) (count index : ℕ) (event : List ℕ) (path : List (List ℕ)) → AreBytes event → AllDigests path → ChecksEvent dig root count index event path
+    → (events : List (List ℕ)) → Each AreBytes events → length events ≡ count → event_root dig events ≡ root
     → OrClash dig (event_texts dig events ++ audit_texts dig count index event path) (slice_get events index ≡ Some event)
 unfolding audit_texts
-ChecksEvent-binds dig size root count index event path sizes checks events n e =
+ChecksEvent-binds dig size are root count index event path is sizes checks events all n e =
     let inside : index < count = checks.inside in
+    let texts-are : Each AreBytes (event_texts dig events ++ audit_texts dig count index event path) =
+    Each-append AreBytes (event_texts dig events) (audit_texts dig count index event path) (event_texts-bytes dig size are events all)
+    (audit_texts-bytes dig size are count index event path is (Each-map (HasBytes 32) AreBytes path (λ label has. has.1) sizes)) in
     and_then dig (event_texts dig events ++ audit_texts dig count index event path) _ _
-    (path-binds dig size (event_texts dig events ++ audit_texts dig count index event path) event
+    (path-binds dig size (event_texts dig events ++ audit_texts dig count index event path) texts-are event
     (Among-right _ (event_texts dig events) _ (inl refl))
     count events index path n inside sizes checks.size (checks.reaches ∙ sym e)
     (λ text a. Among-left text (event_texts dig events) _ a)

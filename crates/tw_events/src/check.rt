@@ -2,12 +2,16 @@
 
 ghost use Rattle.std.specs.Prelude.{◌≡◌, ℕ, ◌≤◌, ◌↔◌, List, ◌++◌, length, reverse, IsTrue, Some, slice_get};
 ghost use Rattle.tw_base.specs.events.AuditPath.{ChecksEvent, audit_texts, node_text_beside, root_above};
+ghost use Rattle.tw_base.specs.kinds.Bytes.{AreBytes};
 ghost use Rattle.tw_base.specs.kinds.Clash.{OrClash};
+ghost use Rattle.tw_base.specs.kinds.Lists.{Each};
 ghost use Rattle.tw_base.specs.events.EventTree.{event_root, event_texts};
 ghost use Rattle.tw_base.specs.declared.kinds.limits.TheConstants.{MOST_EVENTS, MOST_EVENT_BYTES};
 
 use arrayvec::ArrayVec;
-use tw_base::{Digest, Hasher, Labels, Side, event_leaf, event_node, is_same_digest, sides_of};
+use tw_base::{
+    Digest, Hasher, Labels, Side, event_leaf, event_node, is_same_digest, see_bytes, sides_of,
+};
 
 /// The label of the event node over a label of the path, which stands on that side, and the label
 /// reached so far.
@@ -79,10 +83,11 @@ pub fn check_event<H: Hasher>(
     requires small { length event.now ≤ MOST_EVENT_BYTES }
     // A check answers true exactly where index, length of the path and root are right.
     ensures answer { IsTrue result ↔ ChecksEvent H.dig root.now count index event.now path.now }
-    // Where it answers true, each list of so many events with that root has the event at that index, or two texts of
-    // these events and of the check clash.
-    ensures binds { IsTrue result → (events : List (List ℕ)) → length events ≡ count → event_root H.dig events ≡ root.now →
+    // Where it answers true, each list of so many events, which are bytes, with that root has the event at that index, or
+    // two texts of these events and of the check clash.
+    ensures binds { IsTrue result → (events : List (List ℕ)) → Each AreBytes events → length events ≡ count → event_root H.dig events ≡ root.now →
         OrClash H.dig (event_texts H.dig events ++ audit_texts H.dig count index event.now path.now) (slice_get events index ≡ Some event.now) }
 {
+    see_bytes(event);
     is_shown::<H>(root, count, index, event, path.as_slice())
 }

@@ -11,10 +11,8 @@ use tw_base::{
     Bytes, Digest, Entry, Name, ReadFault, Sha, Thread, Weak, entry_key, put_digest, put_entry,
     take_entry,
 };
-use tw_tree::{Tree, insert_plain, label, list};
-use tw_treeproof::{
-    Ask, ProveFault, Shown, TreeProof, check, prove, put_tree_proof, take_gap, take_present,
-};
+use tw_tree::{ProveFault, Tree, insert_plain, label, list, prove};
+use tw_treeproof::{Ask, Shown, TreeProof, check, put_tree_proof, take_gap, take_present};
 
 /// A digest of the weak hasher.
 fn short(first: u8) -> Digest {

@@ -1,8 +1,9 @@
 -- When a step keeps each of the rules, and what is known once it keeps them all.
-use Rattle.std.proofs.Common.{◌≡◌, ◌≢◌, ◌↔◌, ℕ, suc, zero, ◌+◌, ◌<◌, ◌≤◌, List, [], ◌∷◌, ◌++◌, length, get_or, map, refl, ap, sym, subst, ◌∙◌, arith, Option, Some, None, Result, Ok, Err, add-one, Bool, IsTrue, inl, inr}
-use Rattle.std.specs.Prelude.{option_and_then, option_map, IfSome, MatchOption, MatchResult, IsErrAnd}
+use Rattle.std.proofs.Common.{◌≡◌, ◌≢◌, ◌↔◌, ℕ, suc, zero, ◌+◌, ◌<◌, ◌≤◌, List, [], ◌∷◌, ◌++◌, length, get_or, map, refl, ap, sym, subst, ◌∙◌, arith, Option, Some, None, Result, Ok, Err, add-one, Bool, true, false, IsTrue, inl, inr}
+use Rattle.std.specs.Prelude.{◌==◌, option_and_then, option_map, IfSome, MatchOption, MatchResult, IsErrAnd}
 use Rattle.std.specs.Option.{option_to_list}
 use Rattle.std.proofs.lemmas.Bool.{cases_lt}
+use Rattle.std.proofs.lemmas.Bool.Decides.{Decides-eqb}
 use Rattle.std.proofs.lemmas.List.{get_or-map, length-append, length-map}
 use Rattle.tw_base.specs.declared.kinds.limits.TheConstants.{LAST_STEP}
 use Rattle.tw_base.specs.declared.history.thread.Thread.{Thread}
@@ -21,14 +22,14 @@ use Rattle.tw_history.specs.declared.fault.HistoryFault.{HistoryFault}
 use Rattle.tw_history.specs.declared.fault.HistoryFault.TheVariants.{Malformed, NoMemory, TooLong, Unsound}
 use Rattle.tw_history.specs.declared.soundness.summary.Summary.{Summary}
 use Rattle.tw_history.specs.declared.soundness.Judged.{Judged}
-use Rattle.tw_history.specs.JudgingSteps.{IsGreatest, IsGreatestTime, HasJudged, IsLater, TellsFirst, greatest_of, summary_of}
+use Rattle.tw_history.specs.JudgingSteps.{IsGreatest, IsGreatestTime, HasJudged, IsFirstRule, IsLater, TellsFirst, first_of, greatest_of, summary_of}
 use Rattle.tw_history.specs.Tables.{IsTable, node_of, step_of, steps_of_table}
 use Rattle.tw_history.specs.Refusals.{TellsRule}
 use Rattle.tw_base.specs.history.Rules.{KeepsRule, Rule, rule_number}
 use Rattle.tw_base.specs.history.Rules.Rule.{NodesAreKnown, TreesRise, HoldsAllThreads, IsOfAnother, StepsRise, EventsFit, TimesDontFall}
 use Rattle.tw_history.proofs.Planting.{Rises, forest-next}
 use Rattle.tw_history.proofs.TableLaws.{length-steps_of_table}
-use Rattle.tw_history.proofs.Summaries.{count-summary}
+use Rattle.tw_history.proofs.Summaries.{count-summary, is_false}
 
 -- each rule below the number, rule by rule
 pub lower_rules : (h : History) (i : ℕ) (s : Step) (n : ℕ) → (1 < n → KeepsRule h i s NodesAreKnown) → (2 < n → KeepsRule h i s TreesRise) → (3 < n → KeepsRule h i s HoldsAllThreads)
@@ -52,9 +53,65 @@ number-below EventsFit = omega arith
 number-below TimesDontFall = omega arith
 
 -- the refusal by a rule that is broken
+pub refused : (h : History) (i : ℕ) (s : Step) (P : Unit {0} → Type 0) (r : Result (Unit {0}) HistoryFault) (rule : ℕ) → r ≡ Err (Unsound (i + 1) rule)
+    → IsFirstRule h i s rule → MatchResult r P (TellsFirst h i s)
+refused h i s P r rule is first = subst (λ x. MatchResult x P (TellsFirst h i s)) (sym is) (omega arith, first)
+
 pub refusal : (h : History) (i : ℕ) (s : Step) (P : Unit {0} → Type 0) (r : Result (Unit {0}) HistoryFault) (broken : Rule) → r ≡ Err (Unsound (i + 1) (rule_number broken))
     → (KeepsRule h i s broken → ⊥) → ((other : Rule) → rule_number other < rule_number broken → KeepsRule h i s other) → MatchResult r P (TellsFirst h i s)
-refusal h i s P r broken is breaks lower = subst (λ x. MatchResult x P (TellsFirst h i s)) (sym is) (omega arith, (broken, refl, breaks, lower))
+refusal h i s P r broken is breaks lower = refused h i s P r (rule_number broken) is (broken, refl, breaks, lower)
+
+-- where no rule is told each is kept
+pub none-broken : (All : Type 0) (First : ℕ → Type 0) (told : Option ℕ) → ((rule : ℕ) → told ≡ Some rule → ⊥) → MatchOption told All First → All
+none-broken All First None none is = is
+none-broken All First (Some rule) none is = absurd (none rule refl)
+
+-- a test of two numbers is one of what their being equal decides
+pub decided_by : {P : Type 0} (a b : ℕ) → (a ≡ b) ↔ P → IsTrue (a == b) ↔ P
+decided_by a b both = (λ is. both.0 ((Decides-eqb a b).0 is), λ holds. (Decides-eqb a b).1 (both.1 holds))
+
+-- the tests of the rules 3 to 7 tell the first that is broken, or that each is kept
+module _ (h : History) (i : ℕ) (s : Step) (one : KeepsRule h i s NodesAreKnown) (two : KeepsRule h i s TreesRise) where
+  abbrev Tests : Bool → Rule → Type 0
+  Tests b rule = IsTrue b ↔ KeepsRule h i s rule
+
+  abbrev lower : (n : ℕ) → Type 0
+  lower n = (other : Rule) → rule_number other < n → KeepsRule h i s other
+
+  pub first-told : (a b c d e : Bool) → Tests a HoldsAllThreads → Tests b IsOfAnother → Tests c StepsRise → Tests d EventsFit → Tests e TimesDontFall
+      → MatchOption (first_of a b c d e) ((rule : Rule) → KeepsRule h i s rule) (IsFirstRule h i s)
+  first-told false b c d e is3 is4 is5 is6 is7 = (
+    HoldsAllThreads,
+    refl,
+    (λ kept. is_false false refl (is3.1 kept)),
+    lower_rules h i s 3 (λ _. one) (λ _. two) (λ l. absurd (omega (arith, l))) (λ l. absurd (omega (arith, l))) (λ l. absurd (omega (arith, l))) (λ l. absurd (omega (arith, l))) (λ l. absurd (omega (arith, l))),
+  )
+  first-told true false c d e is3 is4 is5 is6 is7 = (
+    IsOfAnother,
+    refl,
+    (λ kept. is_false false refl (is4.1 kept)),
+    lower_rules h i s 4 (λ _. one) (λ _. two) (λ _. is3.0 refl) (λ l. absurd (omega (arith, l))) (λ l. absurd (omega (arith, l))) (λ l. absurd (omega (arith, l))) (λ l. absurd (omega (arith, l))),
+  )
+  first-told true true false d e is3 is4 is5 is6 is7 = (
+    StepsRise,
+    refl,
+    (λ kept. is_false false refl (is5.1 kept)),
+    lower_rules h i s 5 (λ _. one) (λ _. two) (λ _. is3.0 refl) (λ _. is4.0 refl) (λ l. absurd (omega (arith, l))) (λ l. absurd (omega (arith, l))) (λ l. absurd (omega (arith, l))),
+  )
+  first-told true true true false e is3 is4 is5 is6 is7 = (
+    EventsFit,
+    refl,
+    (λ kept. is_false false refl (is6.1 kept)),
+    lower_rules h i s 6 (λ _. one) (λ _. two) (λ _. is3.0 refl) (λ _. is4.0 refl) (λ _. is5.0 refl) (λ l. absurd (omega (arith, l))) (λ l. absurd (omega (arith, l))),
+  )
+  first-told true true true true false is3 is4 is5 is6 is7 = (
+    TimesDontFall,
+    refl,
+    (λ kept. is_false false refl (is7.1 kept)),
+    lower_rules h i s 7 (λ _. one) (λ _. two) (λ _. is3.0 refl) (λ _. is4.0 refl) (λ _. is5.0 refl) (λ _. is6.0 refl) (λ l. absurd (omega (arith, l))),
+  )
+  first-told true true true true true is3 is4 is5 is6 is7 =
+      λ rule. lower_rules h i s 8 (λ _. one) (λ _. two) (λ _. is3.0 refl) (λ _. is4.0 refl) (λ _. is5.0 refl) (λ _. is6.0 refl) (λ _. is7.0 refl) rule (number-below rule)
 
 length-planted : (entry : ℕ → Option Entry) (trees : List Tree) (ns : List Node) → length (planted entry trees ns) ≡ length ns
 unfolding planted

@@ -1,5 +1,5 @@
 -- What is kept of the steps that were judged, so that a step is judged without a walk over any tree.
-use Rattle.std.specs.Prelude.{◌≡◌, ◌≢◌, ◌↔◌, ℕ, suc, ◌<◌, ◌≤◌, ◌-◌, ◌^◌, min, List, [], ◌∷◌, length, map, Option, Some, MatchOption}
+use Rattle.std.specs.Prelude.{◌≡◌, ◌≢◌, ◌↔◌, ℕ, suc, ◌<◌, ◌≤◌, ◌-◌, ◌^◌, min, List, [], ◌∷◌, length, map, Bool, not, Option, Some, None, MatchOption, if◌then◌else◌}
 use Rattle.std.specs.Ordering.{nat_cmp}
 use Rattle.std.specs.Cmp.Lexicographic.{slice_cmp}
 use Rattle.std.specs.BTreeMap.{get}
@@ -69,9 +69,19 @@ pub record HasJudged (h : History) (i : ℕ) (judged : Judged) : Type 0 where
   pub greatest : IsGreatest (received h i) (greatest_of judged.greatest)
   pub time : IsGreatestTime (times h i) judged.time
 
+-- the number of the first of the rules 3 to 7 that isn't kept, by whether each is: that the archive holds all threads, that a thread
+-- is of another service and later, that the events fit, and that the times rise
+abbrev pub first_of : (holds_all another later fit rise : Bool) → Option ℕ
+first_of holds_all another later fit rise =
+    if not holds_all then Some 3 else if not another then Some 4 else if not later then Some 5 else if not fit then Some 6 else if not rise then Some 7 else None
+
+-- the rule of this number is broken, and each lower one is kept
+abbrev pub IsFirstRule : (h : History) (i : ℕ) (s : Step) → ℕ → Type 0
+IsFirstRule h i s rule =
+    (broken : Rule) × (rule ≡ rule_number broken) × (KeepsRule h i s broken → ⊥) × ((other : Rule) → rule_number other < rule → KeepsRule h i s other)
+
 -- why step i + 1, which is s, isn't sound: the first rule that it breaks
 abbrev pub TellsFirst : (h : History) (i : ℕ) (s : Step) → HistoryFault → Type 0
-TellsFirst h i s (Unsound step rule) =
-    (step ≡ suc i) × ((broken : Rule) × (rule ≡ rule_number broken) × (KeepsRule h i s broken → ⊥) × ((other : Rule) → rule_number other < rule → KeepsRule h i s other))
+TellsFirst h i s (Unsound step rule) = (step ≡ suc i) × IsFirstRule h i s rule
 TellsFirst h i s NoMemory = Unit {0}
 TellsFirst h i s _ = ⊥

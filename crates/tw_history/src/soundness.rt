@@ -4,7 +4,7 @@ ghost use Rattle.std.specs.Prelude.{◌≡◌, ℕ, suc, ◌<◌, ◌≤◌, len
 ghost use Rattle.tw_base.specs.history.History.{History as HistoryMeant, Step as StepMeant, step_at};
 ghost use Rattle.tw_base.specs.history.Limits.{IsTimeWithinLimits};
 ghost use Rattle.tw_base.specs.history.Sound.{IsSound, IsSoundStep};
-ghost use Rattle.tw_history.specs.JudgingSteps.{HasJudged, TellsFirst};
+ghost use Rattle.tw_history.specs.JudgingSteps.{HasJudged, TellsFirst, first_of};
 ghost use Rattle.tw_history.specs.Tables.{IsInRange, IsTable, step_of, steps_of_table};
 ghost use Rattle.tw_history.specs.Refusals.{TellsRule};
 ghost use Rattle.tw_base.specs.declared.kinds.limits.TheConstants.{LAST_STEP};
@@ -138,26 +138,38 @@ fn judge_step(
     }
     let thread = received_thread(step);
     let threads = judged.threads + count(&thread);
-    if judged.summaries[step.root as usize].count != threads {
-        return unsound(number, 3);
-    }
-    if !is_of_another(&history.name, &thread) {
-        return unsound(number, 4);
-    }
-    if !is_later(&judged.greatest, &thread) {
-        return unsound(number, 5);
-    }
-    if !events_fit(step) {
-        return unsound(number, 6);
-    }
-    if !doesnt_fall(judged.time, step.time) {
-        return unsound(number, 7);
+    let holds_all = judged.summaries[step.root as usize].count == threads;
+    let another = is_of_another(&history.name, &thread);
+    let later = is_later(&judged.greatest, &thread);
+    let fit = events_fit(step);
+    let rise = doesnt_fall(judged.time, step.time);
+    if let Some(rule) = first_broken(holds_all, another, later, fit, rise) {
+        return unsound(number, rule);
     }
     limits_law(&step.content);
     judged.threads = threads;
     judged.time = greatest_with(judged.time, step.time);
     judged.greatest.add(&thread)?;
     Ok(())
+}
+
+/// The number of the first of the rules 3 to 7 that isn't kept, by whether each of them is.
+fn first_broken(holds_all: bool, another: bool, later: bool, fit: bool, rise: bool) -> Option<u8>
+    ensures { result ≡ first_of holds_all another later fit rise }
+{
+    if !holds_all {
+        Some(3)
+    } else if !another {
+        Some(4)
+    } else if !later {
+        Some(5)
+    } else if !fit {
+        Some(6)
+    } else if !rise {
+        Some(7)
+    } else {
+        None
+    }
 }
 
 /// The refusal of the step by the rule.

@@ -31,3 +31,7 @@ module _ {D : Type 0} {g : _} (view : D → DiskView) where
       let P : Option ℕ → Type 0 = λ o. IsSomeAnd o (λ n. s.used ≤ n) in
       let fits : s.used ≤ length c = subst P (told c refl) room in
       omega (arith, ap length same, length-append (take (s.used - FIRST_PAGE) (drop FIRST_PAGE c)) s.staged.items, length-take (s.used - FIRST_PAGE) (drop FIRST_PAGE c), length-drop FIRST_PAGE c)
+
+-- the first four pages are counted
+pub counts_first : {D : Type 0} {g : _} (s : Store D g) → 4 ≤ s.used → 4 ≤ count_of s
+counts_first s low = omega (arith, low)

@@ -26,7 +26,7 @@ impl<S: Segments> Fed<S> {
 
     /// No pieces yet.
     pub fn begin(alloc: Global, state: S) -> Self
-        // The reader was fed nothing.
+        // Where words still go on from no bytes, as the state says, the reader was fed nothing.
         ensures fed { StaysFront (S.rest state) [] 0 → HasFed S.rest (S.rest state) result [] }
         // Memory was left so far.
         ensures unspent { IsSpent result → ⊥ }

@@ -14,5 +14,4 @@ pub mod HeldPages
 pub mod TreeLabels
 pub mod PageOnce
 pub mod TreeLists
-pub mod Deciding
-pub mod Told
+pub mod Tests

@@ -5,3 +5,4 @@ pub mod Answers
 pub mod Children
 pub mod Trees
 pub mod NodeBytes
+pub mod Tests

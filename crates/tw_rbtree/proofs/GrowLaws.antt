@@ -25,24 +25,23 @@ use Rattle.tw_rbnode.specs.Page.{IsNode, TreePage}
 use Rattle.tw_rbnode.specs.Trees.{woven}
 use Rattle.tw_rbnode.proofs.Rising.{Each-with}
 use Rattle.tw_rbnode.proofs.TreeLists.{page-list}
-use Rattle.tw_tree.proofs.Asked.{cut}
+use Rattle.tw_base.proofs.lemmas.history.Asked.{cut}
 use Rattle.tw_treeproof.specs.Ways.{has_asked_key, is_left}
 use Rattle.tw_rbtree.specs.declared.fault.TreeFault.{TreeFault}
 use Rattle.tw_rbtree.specs.declared.fault.TreeFault.TheVariants.{BadPage, DiskFault, NoMemory, Present, Untrue}
-use Rattle.tw_rbtree.specs.declared.fault.WalkFault.{WalkFault}
-use Rattle.tw_rbtree.specs.declared.fault.WalkFault.TheVariants.{BadPage as BadOnWay, DiskFault as FaultOnWay}
+use Rattle.tw_disk.specs.declared.walk_fault.WalkFault.{WalkFault}
+use Rattle.tw_disk.specs.declared.walk_fault.WalkFault.TheVariants.{BadPage as BadOnWay, DiskFault as FaultOnWay}
 use Rattle.tw_rbtree.specs.FaultWords.{tree_fault}
 use Rattle.tw_rbtree.specs.declared.inserting.Grown.{Grown}
 use Rattle.tw_rbtree.specs.declared.inserting.Grown.TheVariants.{One, Two}
 use Rattle.tw_rbtree.specs.declared.seeking.Sought.{Sought}
-use Rattle.tw_rbtree.specs.Answers.{IsFaultOf}
 use Rattle.tw_rbtree.specs.Growing.{AnswersGrown, GrownLists, IsChildTree, IsGrownIn, IsStagedAs, IsTwoIfFull, IsWith, MayGoInto}
-use Rattle.tw_rbtree.specs.Reading.{Reading, child_in, fits, lie_between, passing}
-use Rattle.tw_rbtree.specs.Standing.{AreTrees, IsTreeBelow, IsTreePage}
+use Rattle.tw_rbtree.specs.Reading.{child_in, fits, lie_between, node_in}
+use Rattle.tw_rbtree.specs.Standing.{AreTrees, IsTreeBelow, IsTreePage, OfPage}
 use Rattle.tw_rbtree.specs.Ways.{Stop, child_page, seek, way_from}
 use Rattle.tw_rbtree.proofs.Adding.{all-lie, goes-between}
-use Rattle.tw_rbtree.proofs.FoundLaws.{bad_on}
-use Rattle.tw_rbtree.proofs.PageLaws.{IsSpotOf, seek-there}
+use Rattle.tw_rbtree.proofs.FoundLaws.{Says, bad_on}
+use Rattle.tw_rbtree.proofs.PageLaws.{child-tried, IsSpotOf, seek-there}
 use Rattle.tw_rbtree.proofs.Replacing.{SidesList}
 use Rattle.tw_rbtree.proofs.Standings.{list-at, tree-at, trees-count}
 use Rattle.tw_rbtree.proofs.WayLaws.{here, way-at, way-goes}
@@ -101,62 +100,62 @@ grown-in dig number place p low high (Two left middle right) (Two l n r) (TwoPag
 
 -- ---- the way
 
-module _ (at : Reading) (entry : Entry) (low high : Option Entry) (p : TreePage) where
+module _ (dig : List ℕ → List ℕ) (ps : Image) (entry : Entry) (low high : Option Entry) (p : TreePage) where
   abbrev ask : Ask
   ask = Absent (key_of entry)
 
   abbrev s : Sought
   s = seek (Absent (key_of entry)) 0 low high p.entries
 
-  pub present-here : (level slot : ℕ) → (seek (Absent (key_of entry)) 0 low high p.entries).at ≡ At slot → AnswersGrown level (Err Present) (way_from at (Absent (key_of entry)) level low high p)
+  pub present-here : (level slot : ℕ) → (seek (Absent (key_of entry)) 0 low high p.entries).at ≡ At slot → AnswersGrown level (Err Present) (way_from dig ps (Absent (key_of entry)) level low high p)
   present-here level slot spot =
       let met = met-some (Absent (key_of entry)) 0 low high p.entries slot spot in
-      (here at (Absent (key_of entry)) low high p, [], met.0, way-at at (Absent (key_of entry)) low high p level slot spot, met.1)
+      (here dig ps (Absent (key_of entry)) low high p, [], met.0, way-at dig ps (Absent (key_of entry)) low high p level slot spot, met.1)
 
   module _ (level below place : ℕ) (deeper : level ≡ suc below) (spot : (seek (Absent (key_of entry)) 0 low high p.entries).at ≡ Between place) where
     abbrev child : Found TreePage
-    child = child_in at below (seek (Absent (key_of entry)) 0 low high p.entries).low (seek (Absent (key_of entry)) 0 low high p.entries).high (child_page p place)
+    child = child_in dig ps below (seek (Absent (key_of entry)) 0 low high p.entries).low (seek (Absent (key_of entry)) 0 low high p.entries).high (child_page p place)
 
     abbrev on : TreePage → Found (List Stop)
-    on q = way_from at (Absent (key_of entry)) below (seek (Absent (key_of entry)) 0 low high p.entries).low (seek (Absent (key_of entry)) 0 low high p.entries).high q
+    on q = way_from dig ps (Absent (key_of entry)) below (seek (Absent (key_of entry)) 0 low high p.entries).low (seek (Absent (key_of entry)) 0 low high p.entries).high q
 
     abbrev whole : Found (List Stop)
-    whole = way_from at (Absent (key_of entry)) level low high p
+    whole = way_from dig ps (Absent (key_of entry)) level low high p
 
-    goes : way_from at (Absent (key_of entry)) level low high p ≡ (child >>= (λ q. on q >>= (λ stops. Is (here at (Absent (key_of entry)) low high p ∷ stops))))
-    goes = way-goes at (Absent (key_of entry)) low high p level below place deeper spot
+    goes : way_from dig ps (Absent (key_of entry)) level low high p ≡ (child >>= (λ q. on q >>= (λ stops. Is (here dig ps (Absent (key_of entry)) low high p ∷ stops))))
+    goes = way-goes dig ps (Absent (key_of entry)) low high p level below place deeper spot
 
     -- a bad page on the way
-    pub bad-child : (f : TreeFault) → IsFaultOf f child → IsFaultOf f (way_from at (Absent (key_of entry)) level low high p)
-    bad-child f bad = subst (λ (w : Found (List Stop)). IsFaultOf f w) (sym goes) (bad_on f child (λ q. on q >>= (λ stops. Is (here at (Absent (key_of entry)) low high p ∷ stops))) bad)
+    pub bad-child : (f : TreeFault) → Says f child → Says f (way_from dig ps (Absent (key_of entry)) level low high p)
+    bad-child f bad = subst (λ (w : Found (List Stop)). Says f w) (sym goes) (bad_on f child (λ q. on q >>= (λ stops. Is (here dig ps (Absent (key_of entry)) low high p ∷ stops))) bad)
 
     module _ (q : TreePage) (found : child ≡ Is q) where
-      goes_on : way_from at (Absent (key_of entry)) level low high p ≡ (on q >>= (λ stops. Is (here at (Absent (key_of entry)) low high p ∷ stops)))
-      goes_on = goes ∙ is_on child (λ r. on r >>= (λ stops. Is (here at (Absent (key_of entry)) low high p ∷ stops))) q found
+      goes_on : way_from dig ps (Absent (key_of entry)) level low high p ≡ (on q >>= (λ stops. Is (here dig ps (Absent (key_of entry)) low high p ∷ stops)))
+      goes_on = goes ∙ is_on child (λ r. on r >>= (λ stops. Is (here dig ps (Absent (key_of entry)) low high p ∷ stops))) q found
 
-      pub fault-up : (f : TreeFault) → AnswersGrown below (Err f) (on q) → AnswersGrown level (Err f) (way_from at (Absent (key_of entry)) level low high p)
+      pub fault-up : (f : TreeFault) → AnswersGrown below (Err f) (on q) → AnswersGrown level (Err f) (way_from dig ps (Absent (key_of entry)) level low high p)
       fault-up Present below_is = (
-        here at (Absent (key_of entry)) low high p,
+        here dig ps (Absent (key_of entry)) low high p,
         below_is.0 ∷ below_is.1,
         below_is.2,
-        goes_on ∙ is_on (on q) (λ stops. Is (here at (Absent (key_of entry)) low high p ∷ stops)) (below_is.0 ∷ below_is.1) below_is.3,
+        goes_on ∙ is_on (on q) (λ stops. Is (here dig ps (Absent (key_of entry)) low high p ∷ stops)) (below_is.0 ∷ below_is.1) below_is.3,
         below_is.4,
       )
       fault-up Untrue below_is = tt
       fault-up (BadPage page) below_is =
-          subst (λ (w : Found (List Stop)). IsFaultOf (BadPage page) w) (sym goes_on) (bad_on (BadPage page) (on q) (λ stops. Is (here at (Absent (key_of entry)) low high p ∷ stops)) below_is)
+          subst (λ (w : Found (List Stop)). Says (BadPage page) w) (sym goes_on) (bad_on (BadPage page) (on q) (λ stops. Is (here dig ps (Absent (key_of entry)) low high p ∷ stops)) below_is)
       fault-up DiskFault below_is = tt
       fault-up NoMemory below_is = tt
 
-      pub grown-up : (dig : List ℕ → List ℕ) (number : ℕ) (gb grown : Grown) (added : Added) → AnswersGrown below (Ok gb) (on q) → IsWith p place gb added → IsStagedAs dig number added grown
-          → AnswersGrown level (Ok grown) (way_from at (Absent (key_of entry)) level low high p)
-      grown-up dig number gb grown added below_is with_it staged = (
-        here at (Absent (key_of entry)) low high p,
+      pub grown-up : (number : ℕ) (gb grown : Grown) (added : Added) → AnswersGrown below (Ok gb) (on q) → IsWith p place gb added → IsStagedAs dig number added grown
+          → AnswersGrown level (Ok grown) (way_from dig ps (Absent (key_of entry)) level low high p)
+      grown-up number gb grown added below_is with_it staged = (
+        here dig ps (Absent (key_of entry)) low high p,
         below_is.0 ∷ below_is.1,
-        goes_on ∙ is_on (on q) (λ stops. Is (here at (Absent (key_of entry)) low high p ∷ stops)) (below_is.0 ∷ below_is.1) below_is.2,
+        goes_on ∙ is_on (on q) (λ stops. Is (here dig ps (Absent (key_of entry)) low high p ∷ stops)) (below_is.0 ∷ below_is.1) below_is.2,
         below_is.3,
         ap suc below_is.4 ∙ sym deeper,
-        full-on dig number place p (here at (Absent (key_of entry)) low high p) (below_is.0 ∷ below_is.1) gb grown added refl below_is.5 with_it staged,
+        full-on dig number place p (here dig ps (Absent (key_of entry)) low high p) (below_is.0 ∷ below_is.1) gb grown added refl below_is.5 with_it staged,
       )
 
 -- a fault that is passed on
@@ -164,7 +163,7 @@ pub grown-passed : (level : ℕ) (r : Result Grown TreeFault) (f : TreeFault) (f
 grown-passed level (Ok g) f found is has = absurd is
 grown-passed level (Err e) f found is has = subst (λ (x : TreeFault). AnswersGrown level (Err x) found) (sym is) has
 
-pub as_grown_fault : (level : ℕ) (f : TreeFault) (found : Found (List Stop)) → f ≢ Present → IsFaultOf f found → AnswersGrown level (Err f) found
+pub as_grown_fault : (level : ℕ) (f : TreeFault) (found : Found (List Stop)) → f ≢ Present → Says f found → AnswersGrown level (Err f) found
 as_grown_fault level Present found never is = absurd (never refl)
 as_grown_fault level Untrue found never is = tt
 as_grown_fault level (BadPage page) found never is = is
@@ -182,18 +181,18 @@ rises-at zero (c ∷ cs) (e ∷ es) count rising = (cut c e (woven cs es) rising
 rises-at (suc k) (c ∷ cs) (e ∷ es) count rising = rises-at k cs es (omega (arith, count)) (cut c e (woven cs es) rising).back_rises
 
 -- the child that a way reads is the one that the tree has there
-pub child-same : (at : Reading) (level : ℕ) (low high : Option Entry) (page : ℕ) (q r : TreePage) → at page ≡ Some q → child_in at level low high page ≡ Is r → r ≡ q
+pub child-same : (dig : List ℕ → List ℕ) (ps : Image) (level : ℕ) (low high : Option Entry) (page : ℕ) (q r : TreePage) → node_in dig ps page ≡ Is q → child_in dig ps level low high page ≡ Is r → r ≡ q
 unfolding child_in
-child-same at level low high page q r told found = by (fits level low high q) (ap (passing (fits level low high) page) (sym told) ∙ found)
+child-same dig ps level low high page q r told found = by (fits level low high q) (sym (child-tried dig ps level low high page q told) ∙ found)
   where
     by : (b : Bool) → when b page q ≡ Is r → r ≡ q
     by true e = sym (same_found q r e)
     by false e = cc
 
 -- a page of a tree with fewer keys asked for
-pub less-keys : (dig : List ℕ → List ℕ) (ps : Image) (level least : ℕ) (c : Child) (t : Tree) → 12 ≤ least → IsChildTree dig ps level least c t → IsTreeBelow dig ps (suc level) c t
+pub less-keys : (dig : List ℕ → List ℕ) (Has : OfPage) (ps : Image) (level least : ℕ) (c : Child) (t : Tree) → 12 ≤ least → IsChildTree dig Has ps level least c t → IsTreeBelow dig Has ps (suc level) c t
 unfolding IsTreeBelow
-less-keys dig ps level least c t enough is = (
+less-keys dig Has ps level least c t enough is = (
   is.0,
   record {
     node = is.1.node;
@@ -203,43 +202,44 @@ less-keys dig ps level least c t enough is = (
     trees = is.1.trees;
     are_trees = is.1.are_trees;
     tree_is = is.1.tree_is;
+    has = is.1.has;
   },
 )
 
-pub sides-of : (dig : List ℕ → List ℕ) (ps : Image) (level least : ℕ) (es : List Entry) (g : Grown) → 12 ≤ least → GrownLists dig ps level least es g → SidesList (IsTreeBelow dig ps (suc level)) es g
-sides-of dig ps level least es (One c) enough lists = (lists.0, less-keys dig ps level least c lists.0 enough lists.1, lists.2)
-sides-of dig ps level least es (Two left middle right) enough lists =
-    (lists.0, lists.1, less-keys dig ps level 12 left lists.0 (omega arith) lists.2, less-keys dig ps level 12 right lists.1 (omega arith) lists.3, lists.4)
+pub sides-of : (dig : List ℕ → List ℕ) (Has : OfPage) (ps : Image) (level least : ℕ) (es : List Entry) (g : Grown) → 12 ≤ least → GrownLists dig Has ps level least es g → SidesList (IsTreeBelow dig Has ps (suc level)) es g
+sides-of dig Has ps level least es (One c) enough lists = (lists.0, less-keys dig Has ps level least c lists.0 enough lists.1, lists.2)
+sides-of dig Has ps level least es (Two left middle right) enough lists =
+    (lists.0, lists.1, less-keys dig Has ps level 12 left lists.0 (omega arith) lists.2, less-keys dig Has ps level 12 right lists.1 (omega arith) lists.3, lists.4)
 
-pub leaf-below : (dig : List ℕ → List ℕ) (ps : Image) (level : ℕ) (c : Child) → level ≡ 0 → IsTreeBelow dig ps level c Empty
+pub leaf-below : (dig : List ℕ → List ℕ) (Has : OfPage) (ps : Image) (level : ℕ) (c : Child) → level ≡ 0 → IsTreeBelow dig Has ps level c Empty
 unfolding IsTreeBelow
-leaf-below dig ps zero c z = refl
-leaf-below dig ps (suc level) c z = absurd (omega (arith, z))
+leaf-below dig Has ps zero c z = refl
+leaf-below dig Has ps (suc level) c z = absurd (omega (arith, z))
 
-pub leaf-tree : (dig : List ℕ → List ℕ) (ps : Image) (level : ℕ) (c : Child) (t : Tree) → level ≡ 0 → IsTreeBelow dig ps level c t → t ≡ Empty
+pub leaf-tree : (dig : List ℕ → List ℕ) (Has : OfPage) (ps : Image) (level : ℕ) (c : Child) (t : Tree) → level ≡ 0 → IsTreeBelow dig Has ps level c t → t ≡ Empty
 unfolding IsTreeBelow
-leaf-tree dig ps zero c t z is = is
-leaf-tree dig ps (suc level) c t z is = absurd (omega (arith, z))
+leaf-tree dig Has ps zero c t z is = is
+leaf-tree dig Has ps (suc level) c t z is = absurd (omega (arith, z))
 
 -- a tree below a page above level 0
-pub record BelowAt (dig : List ℕ → List ℕ) (ps : Image) (lower : ℕ) (p : TreePage) (ts : List Tree) (place : ℕ) : Type 0 where
+pub record BelowAt (dig : List ℕ → List ℕ) (Has : OfPage) (ps : Image) (lower : ℕ) (p : TreePage) (ts : List Tree) (place : ℕ) : Type 0 where
   pub child : Child
   pub there : slice_get p.children place ≡ Some child
-  pub page : IsTreePage dig ps (IsTreeBelow dig ps lower) lower 12 child.page (slice_index_or ts place Empty)
+  pub page : IsTreePage dig Has ps (IsTreeBelow dig Has ps lower) lower 12 child.page (slice_index_or ts place Empty)
   pub rising : IsRising (woven (map entries page.trees) page.node.entries)
   pub lists : slice_index_or (map entries ts) place [] ≡ woven (map entries page.trees) page.node.entries
 
-pub below-at : (dig : List ℕ → List ℕ) (ps : Image) (level lower : ℕ) (p : TreePage) (ts : List Tree) (place : ℕ) → level ≡ suc lower → length p.children ≡ length p.entries + 1 → place ≤ length p.entries
-    → AreTrees (IsTreeBelow dig ps level) p.children ts → length (map entries ts) ≡ length p.entries + 1 → IsRising (woven (map entries ts) p.entries) → BelowAt dig ps lower p ts place
+pub below-at : (dig : List ℕ → List ℕ) (Has : OfPage) (ps : Image) (level lower : ℕ) (p : TreePage) (ts : List Tree) (place : ℕ) → level ≡ suc lower → length p.children ≡ length p.entries + 1 → place ≤ length p.entries
+    → AreTrees (IsTreeBelow dig Has ps level) p.children ts → length (map entries ts) ≡ length p.entries + 1 → IsRising (woven (map entries ts) p.entries) → BelowAt dig Has ps lower p ts place
 unfolding IsTreeBelow
-below-at dig ps zero lower p ts place deeper places room are count rising = absurd (omega (arith, deeper))
-below-at dig ps (suc own) lower p ts place deeper places room are count rising =
+below-at dig Has ps zero lower p ts place deeper places room are count rising = absurd (omega (arith, deeper))
+below-at dig Has ps (suc own) lower p ts place deeper places room are count rising =
     let same : own ≡ lower = omega (arith, deeper) in
-    let c = tree-at (IsTreeBelow dig ps (suc own)) p.children ts are place (omega (arith, places, room)) in
-    let page : IsTreePage dig ps (IsTreeBelow dig ps lower) lower 12 c.child.page (slice_index_or ts place Empty) =
-    subst (λ (n : ℕ). IsTreePage dig ps (IsTreeBelow dig ps n) n 12 c.child.page (slice_index_or ts place Empty)) same c.is.1 in
+    let c = tree-at (IsTreeBelow dig Has ps (suc own)) p.children ts are place (omega (arith, places, room)) in
+    let page : IsTreePage dig Has ps (IsTreeBelow dig Has ps lower) lower 12 c.child.page (slice_index_or ts place Empty) =
+    subst (λ (n : ℕ). IsTreePage dig Has ps (IsTreeBelow dig Has ps n) n 12 c.child.page (slice_index_or ts place Empty)) same c.is.1 in
     let inner : entries (slice_index_or ts place Empty) ≡ woven (map entries page.trees) page.node.entries =
-    ap entries page.tree_is ∙ page-list page.node page.trees page.at.may_stand.node (trees-count (IsTreeBelow dig ps lower) page.node.children page.trees page.are_trees) in
+    ap entries page.tree_is ∙ page-list page.node page.trees page.at.may_stand.node (trees-count (IsTreeBelow dig Has ps lower) page.node.children page.trees page.are_trees) in
     let lists : slice_index_or (map entries ts) place [] ≡ woven (map entries page.trees) page.node.entries = list-at ts place ∙ inner in
     record {
       child = c.child;

@@ -10,7 +10,7 @@ use Rattle.tw_rbnode.specs.NodeBytes.{fields_of, node_codec}
 use Rattle.tw_rbnode.specs.Page.{TreePage}
 use Rattle.tw_rbnode.specs.Trees.{page_tree}
 use Rattle.tw_rbtree.specs.Reading.{IsPageAt}
-use Rattle.tw_rbtree.specs.Standing.{AreTrees, IsRootTree, IsTreeBelow, IsTreePage, StandsFor}
+use Rattle.tw_rbtree.specs.Standing.{AreTrees, IsRootTree, IsTreeBelow, IsTreePage, OfPage, StandsFor, StandsWith, any_page}
 use Rattle.tw_rbtree.proofs.PageLaws.{one_page}
 
 pub trees-map : (R S : Child → Tree → Type 0) → ((c : Child) (t : Tree) → R c t → S c t) → (cs : List Child) (ts : List Tree) → AreTrees R cs ts → AreTrees S cs ts
@@ -27,7 +27,7 @@ trees-same R one (c ∷ cs) [] ts a b = absurd a
 trees-same R one (c ∷ cs) (s ∷ ss) [] a b = absurd b
 trees-same R one (c ∷ cs) (s ∷ ss) (t ∷ ts) a b = λ i. one c s t a.0 b.0 i ∷ trees-same R one cs ss ts a.1 b.1 i
 
-module _ (dig : List ℕ → List ℕ) (ps more : Image) where
+module _ (dig : List ℕ → List ℕ) (Has : OfPage) (ps more : Image) where
   pub page-kept : (page : ℕ) (p : TreePage) → IsPageAt dig ps page p → IsPageAt dig (ps ++ more) page p
   page-kept page p is =
       let same : page_at (ps ++ more) (page - 4) ≡ page_at ps (page - 4) = get_or_append_left ps more [] (page - 4) (omega (arith, is.low, is.below)) in
@@ -38,7 +38,7 @@ module _ (dig : List ℕ → List ℕ) (ps more : Image) where
         bytes = subst (λ (b : List ℕ). IsPageOf node_codec b (fields_of p)) (sym same) is.bytes;
       }
 
-  pub tree_page-kept : (R S : Child → Tree → Type 0) → ((c : Child) (t : Tree) → R c t → S c t) → (level least page : ℕ) (t : Tree) → IsTreePage dig ps R level least page t → IsTreePage dig (ps ++ more) S level least page t
+  pub tree_page-kept : (R S : Child → Tree → Type 0) → ((c : Child) (t : Tree) → R c t → S c t) → (level least page : ℕ) (t : Tree) → IsTreePage dig Has ps R level least page t → IsTreePage dig Has (ps ++ more) S level least page t
   tree_page-kept R S f level least page t is = record {
     node = is.node;
     at = page-kept page is.node is.at;
@@ -47,40 +47,68 @@ module _ (dig : List ℕ → List ℕ) (ps more : Image) where
     trees = is.trees;
     are_trees = trees-map R S f is.node.children is.trees is.are_trees;
     tree_is = is.tree_is;
+    has = is.has;
   }
 
-  pub below-kept : (level : ℕ) (c : Child) (t : Tree) → IsTreeBelow dig ps level c t → IsTreeBelow dig (ps ++ more) level c t
+  pub below-kept : (level : ℕ) (c : Child) (t : Tree) → IsTreeBelow dig Has ps level c t → IsTreeBelow dig Has (ps ++ more) level c t
   unfolding IsTreeBelow
   below-kept zero c t is = is
   below-kept (suc level) c t is =
-      (is.0, tree_page-kept (IsTreeBelow dig ps level) (IsTreeBelow dig (ps ++ more) level) (below-kept level) level 12 c.page t is.1)
+      (is.0, tree_page-kept (IsTreeBelow dig Has ps level) (IsTreeBelow dig Has (ps ++ more) level) (below-kept level) level 12 c.page t is.1)
 
-  root-kept : (page : ℕ) (t : Tree) → IsRootTree dig ps page t → IsRootTree dig (ps ++ more) page t
+  root-kept : (page : ℕ) (t : Tree) → IsRootTree dig Has ps page t → IsRootTree dig Has (ps ++ more) page t
   root-kept page t (inl none) = inl none
-  root-kept page t (inr (level, is)) = inr (level, tree_page-kept (IsTreeBelow dig ps level) (IsTreeBelow dig (ps ++ more) level) (below-kept level) level 1 page t is)
+  root-kept page t (inr (level, is)) = inr (level, tree_page-kept (IsTreeBelow dig Has ps level) (IsTreeBelow dig Has (ps ++ more) level) (below-kept level) level 1 page t is)
 
-  pub stands-kept : (root : Root) (t : Tree) → StandsFor dig ps root t → StandsFor dig (ps ++ more) root t
+  pub stands-kept : (root : Root) (t : Tree) → StandsWith dig Has ps root t → StandsWith dig Has (ps ++ more) root t
   stands-kept root t stands = record { rising = stands.rising; label = stands.label; tree = root-kept root.page t stands.tree }
 
-module _ (dig : List ℕ → List ℕ) (ps : Image) where
-  tree_page-once : (R : Child → Tree → Type 0) → ((c : Child) (s t : Tree) → R c s → R c t → s ≡ t) → (level least page : ℕ) (s t : Tree) → IsTreePage dig ps R level least page s → IsTreePage dig ps R level least page t → s ≡ t
+module _ (dig : List ℕ → List ℕ) (Has : OfPage) (ps : Image) where
+  tree_page-once : (R : Child → Tree → Type 0) → ((c : Child) (s t : Tree) → R c s → R c t → s ≡ t) → (level least page : ℕ) (s t : Tree) → IsTreePage dig Has ps R level least page s → IsTreePage dig Has ps R level least page t → s ≡ t
   tree_page-once R one level least page s t a b =
       let same : a.node ≡ b.node = one_page dig ps page a.node b.node a.at b.at in
       let trees : a.trees ≡ b.trees = trees-same R one b.node.children a.trees b.trees (subst (λ (p : TreePage). AreTrees R p.children a.trees) same a.are_trees) b.are_trees in
       a.tree_is ∙ (λ i. page_tree (same i) (trees i)) ∙ sym b.tree_is
 
-  below-once : (level : ℕ) (c : Child) (s t : Tree) → IsTreeBelow dig ps level c s → IsTreeBelow dig ps level c t → s ≡ t
+  below-once : (level : ℕ) (c : Child) (s t : Tree) → IsTreeBelow dig Has ps level c s → IsTreeBelow dig Has ps level c t → s ≡ t
   unfolding IsTreeBelow
   below-once zero c s t a b = a ∙ sym b
-  below-once (suc level) c s t a b = tree_page-once (IsTreeBelow dig ps level) (below-once level) level 12 c.page s t a.1 b.1
+  below-once (suc level) c s t a b = tree_page-once (IsTreeBelow dig Has ps level) (below-once level) level 12 c.page s t a.1 b.1
 
-  root-once : (page : ℕ) (s t : Tree) → IsRootTree dig ps page s → IsRootTree dig ps page t → s ≡ t
+  pub root-once : (page : ℕ) (s t : Tree) → IsRootTree dig Has ps page s → IsRootTree dig Has ps page t → s ≡ t
   root-once page s t (inl a) (inl b) = a.1 ∙ sym b.1
   root-once page s t (inl a) (inr (level, b)) = absurd (omega (arith, a.0, b.at.low))
   root-once page s t (inr (level, a)) (inl b) = absurd (omega (arith, b.0, a.at.low))
   root-once page s t (inr (level, a)) (inr (other, b)) =
       let same : other ≡ level = sym b.level_is ∙ ap (λ (p : TreePage). p.level) (one_page dig ps page b.node a.node b.at a.at) ∙ a.level_is in
-      tree_page-once (IsTreeBelow dig ps level) (below-once level) level 1 page s t a (subst (λ (n : ℕ). IsTreePage dig ps (IsTreeBelow dig ps n) n 1 page t) same b)
+      tree_page-once (IsTreeBelow dig Has ps level) (below-once level) level 1 page s t a (subst (λ (n : ℕ). IsTreePage dig Has ps (IsTreeBelow dig Has ps n) n 1 page t) same b)
 
-  pub stands-once : (root : Root) (s t : Tree) → StandsFor dig ps root s → StandsFor dig ps root t → s ≡ t
+  pub stands-once : (root : Root) (s t : Tree) → StandsWith dig Has ps root s → StandsWith dig Has ps root t → s ≡ t
   stands-once root s t a b = root-once root.page s t a.tree b.tree
+
+-- where something holds of each page of a tree, the pages stand for it anyhow
+module _ (dig : List ℕ → List ℕ) (Has : OfPage) (ps : Image) where
+  tree_page-any : (R S : Child → Tree → Type 0) → ((c : Child) (t : Tree) → R c t → S c t) → (level least page : ℕ) (t : Tree) → IsTreePage dig Has ps R level least page t → IsTreePage dig any_page ps S level least page t
+  tree_page-any R S f level least page t is = record {
+    node = is.node;
+    at = is.at;
+    level_is = is.level_is;
+    least_keys = is.least_keys;
+    trees = is.trees;
+    are_trees = trees-map R S f is.node.children is.trees is.are_trees;
+    tree_is = is.tree_is;
+    has = tt;
+  }
+
+  pub below-any : (level : ℕ) (c : Child) (t : Tree) → IsTreeBelow dig Has ps level c t → IsTreeBelow dig any_page ps level c t
+  unfolding IsTreeBelow
+  below-any zero c t is = is
+  below-any (suc level) c t is =
+      (is.0, tree_page-any (IsTreeBelow dig Has ps level) (IsTreeBelow dig any_page ps level) (below-any level) level 12 c.page t is.1)
+
+  root-any : (page : ℕ) (t : Tree) → IsRootTree dig Has ps page t → IsRootTree dig any_page ps page t
+  root-any page t (inl none) = inl none
+  root-any page t (inr (level, is)) = inr (level, tree_page-any (IsTreeBelow dig Has ps level) (IsTreeBelow dig any_page ps level) (below-any level) level 1 page t is)
+
+  pub stands-any : (root : Root) (t : Tree) → StandsWith dig Has ps root t → StandsFor dig ps root t
+  stands-any root t stands = record { rising = stands.rising; label = stands.label; tree = root-any root.page t stands.tree }

@@ -15,4 +15,6 @@ pub mod RootGrowing
 pub mod ShowLaws
 pub mod ListLaws
 pub mod Plantings
-pub mod Readings
+pub mod Fullness
+pub mod StandingLaws
+pub mod Besides

@@ -1,4 +1,5 @@
 -- Listing the nodes of a page, part by part.
+use Rattle.tw_disk.specs.Image.{Image}
 use Rattle.std.proofs.Common.{◌≡◌, ◌≢◌, ℕ, suc, zero, ◌+◌, ◌-◌, ◌<◌, ◌≤◌, List, [], Bool, true, false, refl, ap, sym, ◌∙◌, subst, arith, slice_get, Result, Ok, Err}
 use Rattle.std.specs.Prelude.{◌==◌, ◌||◌, nat_lt, Option, Some, None, if◌then◌else◌}
 use Rattle.std.specs.Result.{IsErrAnd}
@@ -15,10 +16,10 @@ use Rattle.tw_rbtree.specs.declared.fault.TreeFault.{TreeFault}
 use Rattle.tw_rbtree.specs.declared.new_node.NewNode.{NewNode}
 use Rattle.tw_rbtree.specs.declared.new_node.Side.{Side}
 use Rattle.tw_rbtree.specs.declared.new_node.Side.TheVariants.{Empty as NoTree, Old}
-use Rattle.tw_rbtree.specs.Answers.{IsFaultOf}
 use Rattle.tw_rbtree.specs.Listing.{AnswersListed, IsPartAt, Listed, ListsAt, child_listed, listed, listed_at, node_behind}
-use Rattle.tw_rbtree.specs.Reading.{Reading, child_in, root_in}
+use Rattle.tw_rbtree.specs.Reading.{child_in, node_in}
 use Rattle.tw_rbtree.specs.Ways.{child_page}
+use Rattle.tw_rbtree.proofs.FoundLaws.{Says}
 
 -- ---- parts of a page's tree
 
@@ -100,46 +101,46 @@ module _ (child : ListsAt) (es : List Entry) (page : ℕ) (low high : Option Ent
         ∙ ap (λ (o : Option Entry). listed_at child es 0 low o base l nodes >>= (λ left. listed_at child es 0 o high (base + size l + 1) r left.nodes >>= (λ right. Is (node_behind o page left.side right)))) here
         ∙ ap (λ (n : ℕ). listed_at child es 0 low (Some e) base l nodes >>= (λ left. listed_at child es 0 (Some e) high n r left.nodes >>= (λ right. Is (node_behind (Some e) page left.side right)))) (sym at)
 
-module _ (at : Reading) (since : ℕ) (p : TreePage) (low high : Option Entry) (place : ℕ) (nodes : List NewNode) where
-  pub listed-leaf : (level : ℕ) → level ≡ 0 → child_listed at since level p low high place nodes ≡ Is (record { nodes = nodes; side = NoTree })
+module _ (dig : List ℕ → List ℕ) (ps : Image) (since : ℕ) (p : TreePage) (low high : Option Entry) (place : ℕ) (nodes : List NewNode) where
+  pub listed-leaf : (level : ℕ) → level ≡ 0 → child_listed dig ps since level p low high place nodes ≡ Is (record { nodes = nodes; side = NoTree })
   unfolding child_listed
   listed-leaf zero e = refl
   listed-leaf (suc level) e = absurd (omega (arith, e))
 
   abbrev pub below_found : (below : ℕ) → TreePage → Found Listed
-  below_found below q = listed_at (child_listed at since below q) q.entries (child_page p place) low high 0 q.shape nodes
+  below_found below q = listed_at (child_listed dig ps since below q) q.entries (child_page p place) low high 0 q.shape nodes
 
   by_age : (below : ℕ) → Bool → Found Listed
   by_age below b =
-      if b then Is (record { nodes = nodes; side = Old (child_page p place) }) else (child_in at below low high (child_page p place) >>= below_found below)
+      if b then Is (record { nodes = nodes; side = Old (child_page p place) }) else (child_in dig ps below low high (child_page p place) >>= below_found below)
 
-  pub listed-old : (level below : ℕ) → level ≡ suc below → child_page p place < since → child_listed at since level p low high place nodes ≡ Is (record { nodes = nodes; side = Old (child_page p place) })
+  pub listed-old : (level below : ℕ) → level ≡ suc below → child_page p place < since → child_listed dig ps since level p low high place nodes ≡ Is (record { nodes = nodes; side = Old (child_page p place) })
   unfolding child_listed by_age
   listed-old zero below e old = absurd (omega (arith, e))
   listed-old (suc level) below e old = ap (by_age level) (lt-ltb (child_page p place) since old)
 
-  pub listed-on : (level below : ℕ) → level ≡ suc below → since ≤ child_page p place → child_listed at since level p low high place nodes ≡ (child_in at below low high (child_page p place) >>= below_found below)
+  pub listed-on : (level below : ℕ) → level ≡ suc below → since ≤ child_page p place → child_listed dig ps since level p low high place nodes ≡ (child_in dig ps below low high (child_page p place) >>= below_found below)
   unfolding child_listed by_age
   listed-on zero below e new = absurd (omega (arith, e))
   listed-on (suc level) below e new =
       let deeper : level ≡ below = omega (arith, e) in
-      ap (by_age level) (le-ltb (child_page p place) since new) ∙ ap (λ (n : ℕ). child_in at n low high (child_page p place) >>= below_found n) deeper
+      ap (by_age level) (le-ltb (child_page p place) since new) ∙ ap (λ (n : ℕ). child_in dig ps n low high (child_page p place) >>= below_found n) deeper
 
-pub listed-passed : (r : Result Side TreeFault) (f : TreeFault) (now : List NewNode) (found : Found Listed) → IsErrAnd r (λ e. e ≡ f) → IsFaultOf f found → AnswersListed r now found
+pub listed-passed : (r : Result Side TreeFault) (f : TreeFault) (now : List NewNode) (found : Found Listed) → IsErrAnd r (λ e. e ≡ f) → Says f found → AnswersListed r now found
 listed-passed (Ok g) f now found is has = absurd is
-listed-passed (Err e) f now found is has = subst (λ (x : TreeFault). IsFaultOf x found) (sym is) has
+listed-passed (Err e) f now found is has = subst (λ (x : TreeFault). Says x found) (sym is) has
 
 -- under a root
-module _ (at : Reading) (since : ℕ) (root : Root) where
+module _ (dig : List ℕ → List ℕ) (ps : Image) (since : ℕ) (root : Root) where
   abbrev from_root : Bool → Found (List NewNode)
   from_root b =
-      if b then Is [] else (root_in at root.page >>= (λ p. listed_at (child_listed at since p.level p) p.entries root.page None None 0 p.shape [] >>= (λ all. Is all.nodes)))
+      if b then Is [] else (node_in dig ps root.page >>= (λ p. listed_at (child_listed dig ps since p.level p) p.entries root.page None None 0 p.shape [] >>= (λ all. Is all.nodes)))
 
-  pub listed-none : ((root.page == 0) || nat_lt root.page since) ≡ true → listed at since root ≡ Is []
+  pub listed-none : ((root.page == 0) || nat_lt root.page since) ≡ true → listed dig ps since root ≡ Is []
   unfolding listed
   listed-none e = ap from_root e
 
-  pub listed-root : ((root.page == 0) || nat_lt root.page since) ≡ false → listed at since root
-      ≡ (root_in at root.page >>= (λ p. listed_at (child_listed at since p.level p) p.entries root.page None None 0 p.shape [] >>= (λ all. Is all.nodes)))
+  pub listed-root : ((root.page == 0) || nat_lt root.page since) ≡ false → listed dig ps since root
+      ≡ (node_in dig ps root.page >>= (λ p. listed_at (child_listed dig ps since p.level p) p.entries root.page None None 0 p.shape [] >>= (λ all. Is all.nodes)))
   unfolding listed
   listed-root e = ap from_root e

@@ -1,74 +1,97 @@
--- The tree pages that a reading tells.
-use Rattle.std.proofs.Common.{◌≡◌, ℕ, suc, zero, ◌+◌, ◌<◌, ◌≤◌, List, [], ◌∷◌, drop, length, Bool, true, false, refl, ap, ◌∙◌, arith, slice_get}
-use Rattle.std.specs.Prelude.{◌&&◌, Option, Some, None, MatchOption, if◌then◌else◌}
+-- The tree pages that are found, and where a question leads in one.
+use Rattle.std.proofs.Common.{◌≡◌, ℕ, suc, zero, ◌+◌, ◌<◌, ◌≤◌, List, [], ◌∷◌, drop, length, Bool, true, false, refl, ap, sym, ◌∙◌, subst, arith, ◌⊎◌, inl, inr, slice_get, ◌-◌}
+use Rattle.std.specs.Prelude.{◌&&◌, Option, Some, None, if◌then◌else◌}
 use Rattle.std.proofs.lemmas.Option.{none-some, same_Some}
 use Rattle.tw_base.specs.declared.history.thread.Entry.{Entry}
 use Rattle.tw_base.specs.declared.history.tree_proof.Ask.{Ask}
-use Rattle.tw_disk.specs.Found.{when}
+use Rattle.tw_disk.specs.Found.{Found, bytes_in, spelled, when, ◌>>=◌}
 use Rattle.tw_disk.specs.Found.Found.{Is, Bad}
-use Rattle.tw_disk.specs.Image.{Image}
-use Rattle.tw_disk.proofs.FoundLaws.{same_found}
+use Rattle.tw_disk.specs.Image.{Image, page_at}
+use Rattle.tw_disk.proofs.FoundLaws.{bytes_in-out, bytes_in-within, is_on, same_found}
 use Rattle.tw_rbnode.specs.Page.{TreePage}
 use Rattle.tw_rbnode.proofs.PageOnce.{once}
 use Rattle.tw_rbnode.specs.declared.node.Found.{Found as Spot}
 use Rattle.tw_rbnode.specs.declared.node.Found.TheVariants.{At, Between}
 use Rattle.tw_treeproof.specs.Ways.{has_asked_key, is_left}
 use Rattle.tw_rbtree.specs.declared.seeking.Sought.{Sought}
-use Rattle.tw_rbtree.specs.Reading.{IsPageAt, IsReading, Reading, child_in, fits, is_above, is_below, lie_between, passing, root_in}
+use Rattle.tw_base.specs.declared.kinds.limits.TheConstants.{PAGE_SIZE}
+use Rattle.tw_base.specs.format.PageBytes.{IsPageOf}
+use Rattle.tw_disk.proofs.SpelledLaws.{Spelt, is-spelled, page-is, spelled-bad}
+use Rattle.tw_rbnode.specs.NodeBytes.{Held, MayStand, fields_of, node_codec}
+use Rattle.tw_rbnode.specs.Tests.{may_stand, page_of}
+use Rattle.tw_rbnode.proofs.NodeCodecs.{node-lawful}
+use Rattle.tw_rbnode.proofs.Tests.{passed-stands, stands-passed}
+use Rattle.tw_rbtree.specs.Reading.{IsPageAt, child_in, fits, is_above, is_below, lie_between, node_from, node_in}
 use Rattle.tw_rbtree.specs.Ways.{seek}
 
-module _ (dig : List ℕ → List ℕ) (ps : Image) where
-  pub one_page : (page : ℕ) (p q : TreePage) → IsPageAt dig ps page p → IsPageAt dig ps page q → p ≡ q
-  one_page page p q is other = once _ p q is.may_stand.node other.may_stand.node is.bytes other.bytes
+module _ (dig : List ℕ → List ℕ) where
+  pub bytes-are : (page : ℕ) (bytes : List ℕ) (p : TreePage) → MayStand dig page p → IsPageOf node_codec bytes (fields_of p) → node_from dig page bytes ≡ Is p
+  unfolding node_from
+  bytes-are page bytes p stands is =
+      let own = stands-passed dig page p stands in
+      is_on (spelled page PAGE_SIZE node_codec bytes) (λ f. when (may_stand dig page f) page (page_of f)) (fields_of p) (page-is page node_codec node-lawful bytes (fields_of p) is)
+      ∙ ap (λ (b : Bool). when b page (page_of (fields_of p))) own.1 ∙ ap (λ (q : TreePage). Is q) own.0
 
-  told : (page : ℕ) (p : TreePage) (o : Option TreePage) → MatchOption o ((q : TreePage) → IsPageAt dig ps page q → ⊥) (λ q. IsPageAt dig ps page q) → IsPageAt dig ps page p → o ≡ Some p
-  told page p None none is = absurd (none p is)
-  told page p (Some q) other is = ap (λ (r : TreePage). Some r) (one_page page q p other is)
+  pub bytes-none : (page : ℕ) (bytes : List ℕ) → ((p : TreePage) → MayStand dig page p → IsPageOf node_codec bytes (fields_of p) → ⊥) → node_from dig page bytes ≡ Bad page
+  unfolding node_from
+  bytes-none page bytes none = by (spelled page PAGE_SIZE node_codec bytes) refl
+    where
+      test : (f : ℕ × Held) → Spelt PAGE_SIZE node_codec bytes f → (b : Bool) → may_stand dig page f ≡ b → when b page (page_of f) ≡ Bad page
+      test f spelt false e = refl
+      test f spelt true e =
+          let own = passed-stands dig page f spelt.fits e in
+          absurd (none (page_of f) own.0 (subst (λ (g : ℕ × Held). IsPageOf node_codec bytes g) (sym own.1) (record { bytes = spelt.bytes_are; fits = spelt.fits })))
 
-  untold : (page : ℕ) (o : Option TreePage) → MatchOption o ((q : TreePage) → IsPageAt dig ps page q → ⊥) (λ q. IsPageAt dig ps page q) → ((p : TreePage) → IsPageAt dig ps page p → ⊥) → o ≡ None
-  untold page None none never = refl
-  untold page (Some q) other never = absurd (never q other)
+      by : (found : Found (ℕ × Held)) → spelled page PAGE_SIZE node_codec bytes ≡ found → (found >>= (λ f. when (may_stand dig page f) page (page_of f))) ≡ Bad page
+      by (Bad q) e = ap (λ (s : Found (ℕ × Held)). s >>= (λ f. when (may_stand dig page f) page (page_of f))) (sym e ∙ spelled-bad page PAGE_SIZE node_codec node-lawful bytes q e)
+      by (Is f) e = test f (is-spelled page PAGE_SIZE node_codec node-lawful bytes f e) (may_stand dig page f) refl
 
-  module _ (at : Reading) (reads : IsReading dig ps at) where
-    -- the page that stands there is told
-    pub reading-is : (page : ℕ) (p : TreePage) → IsPageAt dig ps page p → at page ≡ Some p
-    reading-is page p = told page p (at page) (reads page)
+  pub are-bytes : (page : ℕ) (bytes : List ℕ) (p : TreePage) → node_from dig page bytes ≡ Is p → MayStand dig page p × IsPageOf node_codec bytes (fields_of p)
+  unfolding node_from
+  are-bytes page bytes p found = by (spelled page PAGE_SIZE node_codec bytes) refl found
+    where
+      test : (f : ℕ × Held) → Spelt PAGE_SIZE node_codec bytes f → (b : Bool) → may_stand dig page f ≡ b → when b page (page_of f) ≡ Is p → MayStand dig page p × IsPageOf node_codec bytes (fields_of p)
+      test f spelt false e is = cc
+      test f spelt true e is =
+          let own = passed-stands dig page f spelt.fits e in
+          subst (λ (q : TreePage). MayStand dig page q × IsPageOf node_codec bytes (fields_of q)) (same_found (page_of f) p is)
+          (own.0, subst (λ (g : ℕ × Held). IsPageOf node_codec bytes g) (sym own.1) (record { bytes = spelt.bytes_are; fits = spelt.fits }))
 
-    pub reading-none : (page : ℕ) → ((p : TreePage) → IsPageAt dig ps page p → ⊥) → at page ≡ None
-    reading-none page = untold page (at page) (reads page)
+      by : (s : Found (ℕ × Held)) → spelled page PAGE_SIZE node_codec bytes ≡ s → (s >>= (λ f. when (may_stand dig page f) page (page_of f))) ≡ Is p → MayStand dig page p × IsPageOf node_codec bytes (fields_of p)
+      by (Bad q) e is = cc
+      by (Is f) e is = test f (is-spelled page PAGE_SIZE node_codec node-lawful bytes f e) (may_stand dig page f) refl is
 
-    pub root-is : (page : ℕ) (p : TreePage) → IsPageAt dig ps page p → root_in at page ≡ Is p
-    unfolding root_in
-    root-is page p is = ap (passing (λ _. true) page) (reading-is page p is)
+  module _ (ps : Image) where
+    pub one_page : (page : ℕ) (p q : TreePage) → IsPageAt dig ps page p → IsPageAt dig ps page q → p ≡ q
+    one_page page p q is other = once _ p q is.may_stand.node other.may_stand.node is.bytes other.bytes
 
-    pub root-none : (page : ℕ) → ((p : TreePage) → IsPageAt dig ps page p → ⊥) → root_in at page ≡ Bad page
-    unfolding root_in
-    root-none page never = ap (passing (λ _. true) page) (reading-none page never)
+    -- the page that stands there is found
+    pub root-is : (page : ℕ) (p : TreePage) → IsPageAt dig ps page p → node_in dig ps page ≡ Is p
+    unfolding node_in
+    root-is page p is =
+        is_on (bytes_in ps page) (node_from dig page) (page_at ps (page - 4)) (bytes_in-within ps page is.low is.below)
+        ∙ bytes-are page (page_at ps (page - 4)) p is.may_stand is.bytes
 
-    pub child-is : (level : ℕ) (low high : Option Entry) (page : ℕ) (p : TreePage) → IsPageAt dig ps page p → fits level low high p ≡ true → child_in at level low high page ≡ Is p
+    -- and what is found stands there
+    pub is-root : (page : ℕ) (p : TreePage) → node_in dig ps page ≡ Is p → IsPageAt dig ps page p
+    unfolding node_in
+    is-root page p found = by found (let cases : ((page < 4) ⊎ (4 + length ps ≤ page)) ⊎ ((4 ≤ page) × (page < 4 + length ps)) = grind arith in cases)
+      where
+        by : (bytes_in ps page >>= node_from dig page) ≡ Is p → ((page < 4) ⊎ (4 + length ps ≤ page)) ⊎ ((4 ≤ page) × (page < 4 + length ps)) → IsPageAt dig ps page p
+        by found (inl out) = absurd (let bad : Bad page ≡ Is p = sym (ap (λ (f : Found (List ℕ)). f >>= node_from dig page) (bytes_in-out ps page out)) ∙ found in cc)
+        by found (inr within) =
+            let stands = are-bytes page (page_at ps (page - 4)) p (sym (is_on (bytes_in ps page) (node_from dig page) (page_at ps (page - 4)) (bytes_in-within ps page within.0 within.1)) ∙ found) in
+            record { low = within.0; below = within.1; may_stand = stands.0; bytes = stands.1 }
+
+    pub child-is : (level : ℕ) (low high : Option Entry) (page : ℕ) (p : TreePage) → IsPageAt dig ps page p → fits level low high p ≡ true → child_in dig ps level low high page ≡ Is p
     unfolding child_in
-    child-is level low high page p is fit = ap (passing (fits level low high) page) (reading-is page p is) ∙ ap (λ (b : Bool). when b page p) fit
+    child-is level low high page p is fit =
+        is_on (node_in dig ps page) (λ (q : TreePage). when (fits level low high q) page q) p (root-is page p is) ∙ ap (λ (b : Bool). when b page p) fit
 
-module _ (at : Reading) (level : ℕ) (low high : Option Entry) (page : ℕ) where
-  test_of : TreePage → Bool
-  test_of = fits level low high
-
-  by_test : (p : TreePage) (o : Option TreePage) → passing (λ _. true) page o ≡ Is p → passing (fits level low high) page o ≡ when (fits level low high p) page p
-  by_test p None e = cc
-  by_test p (Some q) e = ap (λ (r : TreePage). when (fits level low high r) page r) (same_found q p e)
-
-  -- a page that is told is tried
-  pub child-tried : (p : TreePage) → root_in at page ≡ Is p → child_in at level low high page ≡ when (fits level low high p) page p
-  unfolding root_in child_in
-  child-tried p = by_test p (at page)
-
-  bad_test : (q : ℕ) (o : Option TreePage) → passing (λ _. true) page o ≡ Bad q → passing (fits level low high) page o ≡ Bad q
-  bad_test q None e = e
-  bad_test q (Some p) e = cc
-
-  pub child-bad : (q : ℕ) → root_in at page ≡ Bad q → child_in at level low high page ≡ Bad q
-  unfolding root_in child_in
-  child-bad q = bad_test q (at page)
+    -- a page that is found is tried
+    pub child-tried : (level : ℕ) (low high : Option Entry) (page : ℕ) (p : TreePage) → node_in dig ps page ≡ Is p → child_in dig ps level low high page ≡ when (fits level low high p) page p
+    unfolding child_in
+    child-tried level low high page p found = is_on (node_in dig ps page) (λ (q : TreePage). when (fits level low high q) page q) p found
 
 -- a list from an index on
 drop-here : {X : Type 0} (xs : List X) (i : ℕ) (x : X) → slice_get xs i ≡ Some x → drop i xs ≡ x ∷ drop (suc i) xs

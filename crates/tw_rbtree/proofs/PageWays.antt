@@ -36,7 +36,7 @@ use Rattle.tw_rbtree.proofs.Weaving.{seek-cons, step_by, met_here, left_here}
 
 -- ---- the mark of a question among rising entries
 
--- where the way goes at the entry of this index
+-- where the way goes dig ps the entry of this index
 pub record Guide (ask : Ask) (mark index : ℕ) (e : Entry) : Type 0 where
   pub here : mark ≡ 2 * (index + 1) → has_asked_key ask e ≡ true
   pub left : mark < 2 * (index + 1) → (has_asked_key ask e ≡ false) × (is_left ask e ≡ true)

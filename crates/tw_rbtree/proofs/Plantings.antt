@@ -20,14 +20,15 @@ use Rattle.tw_rbnode.specs.Page.{TreePage}
 use Rattle.tw_rbnode.specs.Shape.{Shape, Empty, Node, size}
 use Rattle.tw_rbnode.specs.Trees.{page_tree, tree_at}
 use Rattle.tw_rbnode.proofs.TreeLists.{get-some}
-use Rattle.tw_tree.proofs.Asked.{cut}
+use Rattle.tw_base.proofs.lemmas.history.Asked.{cut}
 use Rattle.tw_rbtree.specs.declared.new_node.NewNode.{NewNode}
 use Rattle.tw_rbtree.specs.declared.new_node.Side.{Side}
 use Rattle.tw_rbtree.specs.declared.new_node.Side.TheVariants.{Empty as NoTree, New, Old}
 use Rattle.tw_rbtree.specs.Listing.{Listed, ListsAt, child_listed, listed, listed_at, node_behind}
-use Rattle.tw_rbtree.specs.Planting.{AreNodeTrees, IsSideTree}
-use Rattle.tw_rbtree.specs.Reading.{IsPageAt, IsReading, Reading, child_in, root_in}
-use Rattle.tw_rbtree.specs.Standing.{AreTrees, IsRootTree, IsTreeBelow, IsTreePage, StandsFor}
+use Rattle.tw_rbtree.specs.Planting.{AreNodeTrees, IsMarkOf, IsSideTree}
+use Rattle.tw_rbtree.specs.Reading.{IsPageAt, child_in, node_in}
+use Rattle.tw_rbtree.specs.Standing.{AreTrees, IsRootTree, IsTreeBelow, IsTreePage, OfPage, StandsWith, any_page}
+use Rattle.tw_rbtree.proofs.Keeping.{below-any, trees-map}
 use Rattle.tw_rbtree.specs.Ways.{child_page}
 use Rattle.tw_rbtree.proofs.ListLaws.{below_found, listed-empty, listed-leaf, listed-node, listed-old, listed-on, listed-root}
 use Rattle.tw_rbtree.proofs.PageLaws.{child-is, root-is}
@@ -49,25 +50,26 @@ get-last : (ts : List Tree) (t : Tree) → slice_get (ts ++ t ∷ []) (length ts
 get-last [] t = refl
 get-last (x ∷ ts) t = get-last ts t
 
-module _ (dig : List ℕ → List ℕ) (ps : Image) where
-  side-more : (ts more : List Tree) (s : Side) (t : Tree) → IsSideTree dig ps ts s t → IsSideTree dig ps (ts ++ more) s t
+module _ (dig : List ℕ → List ℕ) (Has : OfPage) (ps : Image) (since : ℕ) where
+  side-more : (ts more : List Tree) (s : Side) (t : Tree) → IsSideTree dig Has ps since ts s t → IsSideTree dig Has ps since (ts ++ more) s t
   side-more ts more NoTree t is = is
   side-more ts more (New number) t is = (is.0, get-more ts more (number - 1) t is.1)
   side-more ts more (Old page) t is = is
 
   -- one node more
-  more-planted : (before : List Tree) (ns : List NewNode) (ts : List Tree) (n : NewNode) (l r : Tree) → AreNodeTrees dig ps before ns ts → IsSideTree dig ps (before ++ ts) n.left l → IsSideTree dig ps (before ++ ts) n.right r
-      → AreNodeTrees dig ps before (ns ++ n ∷ []) (ts ++ Branch l n.entry r ∷ [])
-  more-planted before [] [] n l r are left right =
+  more-planted : (before : List Tree) (ns : List NewNode) (ts : List Tree) (n : NewNode) (l r : Tree) → AreNodeTrees dig Has ps since before ns ts → IsSideTree dig Has ps since (before ++ ts) n.left l → IsSideTree dig Has ps since (before ++ ts) n.right r
+      → IsMarkOf dig Has ps since n.page (Branch l n.entry r) → IsRising (entries (Branch l n.entry r))
+      → AreNodeTrees dig Has ps since before (ns ++ n ∷ []) (ts ++ Branch l n.entry r ∷ [])
+  more-planted before [] [] n l r are left right marked rising =
       let same = append-nil before in
-      ((l, r, subst (λ (xs : List Tree). IsSideTree dig ps xs n.left l) same left, subst (λ (xs : List Tree). IsSideTree dig ps xs n.right r) same right, refl), tt)
-  more-planted before [] (t ∷ ts) n l r are left right = absurd are
-  more-planted before (m ∷ ns) [] n l r are left right = absurd are
-  more-planted before (m ∷ ns) (t ∷ ts) n l r are left right =
+      ((l, r, subst (λ (xs : List Tree). IsSideTree dig Has ps since xs n.left l) same left, subst (λ (xs : List Tree). IsSideTree dig Has ps since xs n.right r) same right, refl, marked, rising), tt)
+  more-planted before [] (t ∷ ts) n l r are left right marked rising = absurd are
+  more-planted before (m ∷ ns) [] n l r are left right marked rising = absurd are
+  more-planted before (m ∷ ns) (t ∷ ts) n l r are left right marked rising =
       let same = sym (append_assoc before (t ∷ []) ts) in
-      (are.0, more-planted (before ++ t ∷ []) ns ts n l r are.1 (subst (λ (xs : List Tree). IsSideTree dig ps xs n.left l) same left) (subst (λ (xs : List Tree). IsSideTree dig ps xs n.right r) same right))
+      (are.0, more-planted (before ++ t ∷ []) ns ts n l r are.1 (subst (λ (xs : List Tree). IsSideTree dig Has ps since xs n.left l) same left) (subst (λ (xs : List Tree). IsSideTree dig Has ps since xs n.right r) same right) marked rising)
 
-  planted-count : (before : List Tree) (ns : List NewNode) (ts : List Tree) → AreNodeTrees dig ps before ns ts → length ns ≡ length ts
+  planted-count : (before : List Tree) (ns : List NewNode) (ts : List Tree) → AreNodeTrees dig Has ps since before ns ts → length ns ≡ length ts
   planted-count before [] [] are = refl
   planted-count before [] (t ∷ ts) are = absurd are
   planted-count before (n ∷ ns) [] are = absurd are
@@ -78,30 +80,31 @@ module _ (dig : List ℕ → List ℕ) (ps : Image) where
     pub all : Listed
     pub more : List Tree
     pub found_is : found ≡ Is all
-    pub are : AreNodeTrees dig ps [] all.nodes (ts ++ more)
-    pub side : IsSideTree dig ps (ts ++ more) all.side t
+    pub are : AreNodeTrees dig Has ps since [] all.nodes (ts ++ more)
+    pub side : IsSideTree dig Has ps since (ts ++ more) all.side t
 
   same-found : (ts : List Tree) (found other : Found Listed) (t : Tree) → found ≡ other → Plants ts other t → Plants ts found t
   same-found ts found other t e p = record { all = p.all; more = p.more; found_is = e ∙ p.found_is; are = p.are; side = p.side }
 
-  none-more : (ts : List Tree) (nodes : List NewNode) (s : Side) (t : Tree) → AreNodeTrees dig ps [] nodes ts → IsSideTree dig ps ts s t → Plants ts (Is (record { nodes = nodes; side = s })) t
+  none-more : (ts : List Tree) (nodes : List NewNode) (s : Side) (t : Tree) → AreNodeTrees dig Has ps since [] nodes ts → IsSideTree dig Has ps since ts s t → Plants ts (Is (record { nodes = nodes; side = s })) t
   none-more ts nodes s t are side = record {
     all = record { nodes = nodes; side = s };
     more = [];
     found_is = refl;
-    are = subst (AreNodeTrees dig ps [] nodes) (sym (append-nil ts)) are;
-    side = subst (λ (xs : List Tree). IsSideTree dig ps xs s t) (sym (append-nil ts)) side;
+    are = subst (AreNodeTrees dig Has ps since [] nodes) (sym (append-nil ts)) are;
+    side = subst (λ (xs : List Tree). IsSideTree dig Has ps since xs s t) (sym (append-nil ts)) side;
   }
 
   -- a node over its two sides
   node-plants : (ts : List Tree) (page : ℕ) (e : Entry) (l r : Tree) (one : Found Listed) (two : Listed → Found Listed) → (p : Plants ts one l) → Plants (ts ++ p.more) (two p.all) r
+      → IsMarkOf dig Has ps since page (Branch l e r) → IsRising (entries (Branch l e r))
       → Plants ts (one >>= (λ left. two left >>= (λ right. Is (node_behind (Some e) page left.side right)))) (Branch l e r)
-  node-plants ts page e l r one two p q =
+  node-plants ts page e l r one two p q marked rising =
       let n : NewNode = record { left = p.all.side; entry = e; right = q.all.side; page = page } in
       let trees : List Tree = (ts ++ p.more) ++ q.more in
       let whole : trees ++ Branch l e r ∷ [] ≡ ts ++ (p.more ++ (q.more ++ Branch l e r ∷ [])) =
       append_assoc (ts ++ p.more) q.more (Branch l e r ∷ []) ∙ append_assoc ts p.more (q.more ++ Branch l e r ∷ []) in
-      let planted = more-planted [] q.all.nodes trees n l r q.are (side-more (ts ++ p.more) q.more p.all.side l p.side) q.side in
+      let planted = more-planted [] q.all.nodes trees n l r q.are (side-more (ts ++ p.more) q.more p.all.side l p.side) q.side marked rising in
       let count : length q.all.nodes ≡ length trees = planted-count [] q.all.nodes trees q.are in
       let number : length q.all.nodes + 1 - 1 ≡ length trees = omega (arith, count) in
       record {
@@ -110,7 +113,7 @@ module _ (dig : List ℕ → List ℕ) (ps : Image) where
         found_is =
             is_on one (λ left. two left >>= (λ right. Is (node_behind (Some e) page left.side right))) p.all p.found_is
             ∙ is_on (two p.all) (λ right. Is (node_behind (Some e) page p.all.side right)) q.all q.found_is;
-        are = subst (AreNodeTrees dig ps [] (q.all.nodes ++ n ∷ [])) whole planted;
+        are = subst (AreNodeTrees dig Has ps since [] (q.all.nodes ++ n ∷ [])) whole planted;
         side = (omega arith, ap (λ (xs : List Tree). slice_get xs (length q.all.nodes + 1 - 1)) (sym whole) ∙ ap (slice_get (trees ++ Branch l e r ∷ [])) number ∙ get-last trees (Branch l e r));
       }
 
@@ -118,7 +121,7 @@ module _ (dig : List ℕ → List ℕ) (ps : Image) where
 
   abbrev pub PlantsAt : ListsAt → (es : List Entry) → List Tree → Type 0
   PlantsAt child es us =
-      (low high : Option Entry) (place : ℕ) (nodes : List NewNode) (ts : List Tree) → place ≤ length es → AreNodeTrees dig ps [] nodes ts → IsRising (entries (slice_index_or us place NoEntry))
+      (low high : Option Entry) (place : ℕ) (nodes : List NewNode) (ts : List Tree) → place ≤ length es → AreNodeTrees dig Has ps since [] nodes ts → IsRising (entries (slice_index_or us place NoEntry))
       → Each (LiesBetween low high) (entries (slice_index_or us place NoEntry)) → Plants ts (child low high place nodes) (slice_index_or us place NoEntry)
 
   both : (low high : Option Entry) (e : Entry) (xs : List Entry) → Each (LiesBetween low high) xs → Each (λ f. KeyBelow (key_of f) (key_of e)) xs → Each (LiesBetween low (Some e)) xs
@@ -129,13 +132,13 @@ module _ (dig : List ℕ → List ℕ) (ps : Image) where
   other low high e [] lie over = tt
   other low high e (x ∷ xs) lie over = ((lt-below (key_of e) (key_of x) over.0, lie.0.1), other low high e xs lie.1 over.1)
 
-  module _ (at : Reading) (child : ListsAt) (es : List Entry) (us : List Tree) (plants : PlantsAt child es us) where
-    pub shape-plants : (page : ℕ) (low high : Option Entry) (base : ℕ) (s : Shape) (nodes : List NewNode) (ts : List Tree) → base + size s ≤ length es → AreNodeTrees dig ps [] nodes ts
-        → IsRising (entries (tree_at es us base s)) → Each (LiesBetween low high) (entries (tree_at es us base s)) → Plants ts (listed_at child es page low high base s nodes) (tree_at es us base s)
+  module _ (child : ListsAt) (es : List Entry) (us : List Tree) (plants : PlantsAt child es us) where
+    pub shape-plants : (page : ℕ) (low high : Option Entry) (base : ℕ) (s : Shape) (nodes : List NewNode) (ts : List Tree) → base + size s ≤ length es → AreNodeTrees dig Has ps since [] nodes ts
+        → IsRising (entries (tree_at es us base s)) → Each (LiesBetween low high) (entries (tree_at es us base s)) → IsMarkOf dig Has ps since page (tree_at es us base s) → Plants ts (listed_at child es page low high base s nodes) (tree_at es us base s)
     unfolding tree_at
-    shape-plants page low high base Empty nodes ts room are rising lie =
+    shape-plants page low high base Empty nodes ts room are rising lie marked =
         same-found ts _ _ (slice_index_or us base NoEntry) (listed-empty child es page low high base nodes Empty refl) (plants low high base nodes ts (omega (arith, room)) are rising lie)
-    shape-plants page low high base (Node red l r) nodes ts room are rising lie =
+    shape-plants page low high base (Node red l r) nodes ts room are rising lie marked =
         let here = get-some es us es (base + size l) (omega (arith, room)) in
         let e : Entry = here.0 in
         let left : Tree = tree_at es us base l in
@@ -145,43 +148,43 @@ module _ (dig : List ℕ → List ℕ) (ps : Image) where
         let lies : Each (LiesBetween low high) (entries left ++ e ∷ entries right) = subst (λ (t : Tree). Each (LiesBetween low high) (entries t)) is lie in
         let parts = cut (entries left) e (entries right) rises in
         let sides = Each-parts (LiesBetween low high) (entries left) (e ∷ entries right) lies in
-        let one = shape-plants 0 low (Some e) base l nodes ts (omega (arith, room)) are parts.front_rises (both low high e (entries left) sides.0 parts.lower) in
-        let two = shape-plants 0 (Some e) high (base + size l + 1) r one.all.nodes (ts ++ one.more) (omega (arith, room)) one.are parts.back_rises (other low high e (entries right) sides.1.1 parts.upper) in
+        let one = shape-plants 0 low (Some e) base l nodes ts (omega (arith, room)) are parts.front_rises (both low high e (entries left) sides.0 parts.lower) (inl refl) in
+        let two = shape-plants 0 (Some e) high (base + size l + 1) r one.all.nodes (ts ++ one.more) (omega (arith, room)) one.are parts.back_rises (other low high e (entries right) sides.1.1 parts.upper) (inl refl) in
         let there : slice_get es (base + size l + 1 - 1) ≡ Some e = ap (slice_get es) (let n : base + size l + 1 - 1 ≡ base + size l = omega arith in n) ∙ here.1 in
         subst (Plants ts (listed_at child es page low high base (Node red l r) nodes)) (sym is)
         (same-found ts _ _ (Branch left e right) (listed-node child es page low high base nodes red l r (base + size l + 1) e refl there (Node red l r) refl)
-        (node-plants ts page e left right (listed_at child es 0 low (Some e) base l nodes) (λ left. listed_at child es 0 (Some e) high (base + size l + 1) r left.nodes) one two))
+        (node-plants ts page e left right (listed_at child es 0 low (Some e) base l nodes) (λ left. listed_at child es 0 (Some e) high (base + size l + 1) r left.nodes) one two (subst (IsMarkOf dig Has ps since page) is marked) rises))
 
   -- ---- level by level
 
-  module _ (at : Reading) (reads : IsReading dig ps at) (since : ℕ) where
-    pub level-plants : (level page : ℕ) (p : TreePage) (us : List Tree) → IsPageAt dig ps page p → p.level ≡ level → AreTrees (IsTreeBelow dig ps level) p.children us → PlantsAt (child_listed at since level p) p.entries us
-    unfolding IsTreeBelow
-    level-plants zero page p us there is are = λ low high place nodes ts room planted rising lie.
-        let c = tree-at (IsTreeBelow dig ps zero) p.children us are place (omega (arith, room, there.may_stand.node.places)) in
-        same-found ts _ _ (slice_index_or us place NoEntry) (listed-leaf at since p low high place nodes zero refl) (none-more ts nodes NoTree (slice_index_or us place NoEntry) planted c.is)
-    level-plants (suc level) page p us there is are = λ low high place nodes ts room planted rising lie.
-        let c = tree-at (IsTreeBelow dig ps (suc level)) p.children us are place (omega (arith, room, there.may_stand.node.places)) in
-        let b = c.is.1 in
-        let q = b.node in
-        let number : child_page p place ≡ c.child.page = child_page-get p place c.child c.there in
-        let cases : (child_page p place < since) ⊎ (since ≤ child_page p place) = grind arith in
-        let rises = subst (λ (t : Tree). IsRising (entries t)) b.tree_is rising in
-        let lies = subst (λ (t : Tree). Each (LiesBetween low high) (entries t)) b.tree_is lie in
-        elim cases [
-          | inl old ↦
-              same-found ts _ _ (slice_index_or us place NoEntry) (listed-old at since p low high place nodes (suc level) level refl old)
-              (none-more ts nodes (Old (child_page p place)) (slice_index_or us place NoEntry) planted
-              (level, 12, subst (λ (n : ℕ). IsTreePage dig ps (IsTreeBelow dig ps level) level 12 n (slice_index_or us place NoEntry)) (sym number) b))
-          | inr new ↦
-              let fit = fits-true level low high q b.level_is b.least_keys (own_between dig ps at reads any_ask level low high c.child.page q b.trees b.at b.level_is b.are_trees rises lies) in
-              let found : child_in at level low high (child_page p place) ≡ Is q = ap (child_in at level low high) number ∙ child-is dig ps at reads level low high c.child.page q b.at fit in
-              let inner = shape-plants at (child_listed at since level q) q.entries b.trees (level-plants level c.child.page q b.trees b.at b.level_is b.are_trees) (child_page p place) low high 0 q.shape nodes ts
-              (omega (arith, b.at.may_stand.node.sized)) planted rises lies in
-              subst (Plants ts (child_listed at since (suc level) p low high place nodes)) (sym b.tree_is)
-              (same-found ts _ _ (page_tree q b.trees)
-              (listed-on at since p low high place nodes (suc level) level refl new ∙ is_on (child_in at level low high (child_page p place)) (below_found at since p low high place nodes level) q found) inner)
-        ]
+  pub level-plants : (level page : ℕ) (p : TreePage) (us : List Tree) → IsPageAt dig ps page p → p.level ≡ level → AreTrees (IsTreeBelow dig Has ps level) p.children us → PlantsAt (child_listed dig ps since level p) p.entries us
+  unfolding IsTreeBelow
+  level-plants zero page p us there is are = λ low high place nodes ts room planted rising lie.
+      let c = tree-at (IsTreeBelow dig Has ps zero) p.children us are place (omega (arith, room, there.may_stand.node.places)) in
+      same-found ts _ _ (slice_index_or us place NoEntry) (listed-leaf dig ps since p low high place nodes zero refl) (none-more ts nodes NoTree (slice_index_or us place NoEntry) planted c.is)
+  level-plants (suc level) page p us there is are = λ low high place nodes ts room planted rising lie.
+      let c = tree-at (IsTreeBelow dig Has ps (suc level)) p.children us are place (omega (arith, room, there.may_stand.node.places)) in
+      let b = c.is.1 in
+      let q = b.node in
+      let number : child_page p place ≡ c.child.page = child_page-get p place c.child c.there in
+      let cases : (child_page p place < since) ⊎ (since ≤ child_page p place) = grind arith in
+      let rises = subst (λ (t : Tree). IsRising (entries t)) b.tree_is rising in
+      let lies = subst (λ (t : Tree). Each (LiesBetween low high) (entries t)) b.tree_is lie in
+      elim cases [
+        | inl old ↦
+            same-found ts _ _ (slice_index_or us place NoEntry) (listed-old dig ps since p low high place nodes (suc level) level refl old)
+            (none-more ts nodes (Old (child_page p place)) (slice_index_or us place NoEntry) planted
+            (omega (arith, number, b.at.low), old, (level, 12, subst (λ (n : ℕ). IsTreePage dig Has ps (IsTreeBelow dig Has ps level) level 12 n (slice_index_or us place NoEntry)) (sym number) b)))
+        | inr new ↦
+            let fit = fits-true level low high q b.level_is b.least_keys (own_between dig ps any_ask level low high c.child.page q b.trees b.at b.level_is (trees-map (IsTreeBelow dig Has ps level) (IsTreeBelow dig any_page ps level) (below-any dig Has ps level) q.children b.trees b.are_trees) rises lies) in
+            let found : child_in dig ps level low high (child_page p place) ≡ Is q = ap (child_in dig ps level low high) number ∙ child-is dig ps level low high c.child.page q b.at fit in
+            let inner = shape-plants (child_listed dig ps since level q) q.entries b.trees (level-plants level c.child.page q b.trees b.at b.level_is b.are_trees) (child_page p place) low high 0 q.shape nodes ts
+            (omega (arith, b.at.may_stand.node.sized)) planted rises lies
+            (inr (new, (level, 12, subst (λ (n : ℕ). IsTreePage dig Has ps (IsTreeBelow dig Has ps level) level 12 n (page_tree q b.trees)) (sym number) (subst (IsTreePage dig Has ps (IsTreeBelow dig Has ps level) level 12 c.child.page) b.tree_is b)))) in
+            subst (Plants ts (child_listed dig ps since (suc level) p low high place nodes)) (sym b.tree_is)
+            (same-found ts _ _ (page_tree q b.trees)
+            (listed-on dig ps since p low high place nodes (suc level) level refl new ∙ is_on (child_in dig ps level low high (child_page p place)) (below_found dig ps since p low high place nodes level) q found) inner)
+      ]
 
 -- the node of a page's root is the last one
 from_last : {X Y : Type 0} (one : Found X) (f : X → Found Y) (y : Y) → (one >>= f) ≡ Is y → (x : X) × (f x ≡ Is y)
@@ -204,43 +207,44 @@ root-last child es page low high (Node red l r) all some room found =
     let count : length (right.0.nodes ++ n ∷ []) ≡ length right.0.nodes + 1 = omega (arith, length-append right.0.nodes (n ∷ [])) in
     subst IsLastNode (same_found (node_behind (Some e) page left.0.side right.0) all right.1) (omega (arith, count), ap (λ (k : ℕ). New k) (sym count))
 
-side-is : (dig : List ℕ → List ℕ) (ps : Image) (ts : List Tree) (s : Side) (number : ℕ) (t : Tree) → s ≡ New number → IsSideTree dig ps ts s t → slice_get ts (number - 1) ≡ Some t
-side-is dig ps ts s number t e is = let own = subst (λ (x : Side). IsSideTree dig ps ts x t) e is in own.1
+side-is : (dig : List ℕ → List ℕ) (Has : OfPage) (ps : Image) (since : ℕ) (ts : List Tree) (s : Side) (number : ℕ) (t : Tree) → s ≡ New number → IsSideTree dig Has ps since ts s t → slice_get ts (number - 1) ≡ Some t
+side-is dig Has ps since ts s number t e is = let own = subst (λ (x : Side). IsSideTree dig Has ps since ts x t) e is in own.1
 
 -- of a root
-pub record RootPlants (dig : List ℕ → List ℕ) (ps : Image) (found : Found (List NewNode)) (t : Tree) : Type 0 where
+pub record RootPlants (dig : List ℕ → List ℕ) (Has : OfPage) (ps : Image) (since : ℕ) (found : Found (List NewNode)) (t : Tree) : Type 0 where
   pub nodes : List NewNode
   pub trees : List Tree
   pub found_is : found ≡ Is nodes
-  pub are : AreNodeTrees dig ps [] nodes trees
+  pub are : AreNodeTrees dig Has ps since [] nodes trees
   pub last : (0 < length nodes) × (slice_get trees (length nodes - 1) ≡ Some t)
 
-pub root-plants : (dig : List ℕ → List ℕ) (ps : Image) (at : Reading) (root : Root) (t : Tree) (since : ℕ) → IsReading dig ps at → StandsFor dig ps root t → root.page ≢ 0 → since ≤ root.page
-    → RootPlants dig ps (listed at since root) t
-root-plants dig ps at root t since reads stands some new = by stands.tree
+pub root-plants : (dig : List ℕ → List ℕ) (Has : OfPage) (ps : Image) (root : Root) (t : Tree) (since : ℕ) → StandsWith dig Has ps root t → root.page ≢ 0 → since ≤ root.page
+    → RootPlants dig Has ps since (listed dig ps since root) t
+root-plants dig Has ps root t since stands some new = by stands.tree
   where
     older : ((root.page == 0) || nat_lt root.page since) ≡ false
     older = grind arith
 
-    by : IsRootTree dig ps root.page t → RootPlants dig ps (listed at since root) t
+    by : IsRootTree dig Has ps root.page t → RootPlants dig Has ps since (listed dig ps since root) t
     by (inl none) = absurd (some none.0)
     by (inr (level, is)) =
         let p = is.node in
         let node = is.at.may_stand.node in
         let rises = subst (λ (x : Tree). IsRising (entries x)) is.tree_is stands.rising in
-        let found : root_in at root.page ≡ Is p = root-is dig ps at reads root.page p is.at in
-        let plants = shape-plants dig ps at (child_listed at since level p) p.entries is.trees (level-plants dig ps at reads since level root.page p is.trees is.at is.level_is is.are_trees)
-        root.page None None 0 p.shape [] [] (omega (arith, node.sized)) tt rises (all_between (entries (page_tree p is.trees))) in
-        let on : listed at since root ≡ Is plants.all.nodes =
-        listed-root at since root older
-        ∙ is_on (root_in at root.page) (λ p. listed_at (child_listed at since p.level p) p.entries root.page None None 0 p.shape [] >>= (λ (all : Listed). Is all.nodes)) p found
-        ∙ ap (λ (n : ℕ). listed_at (child_listed at since n p) p.entries root.page None None 0 p.shape [] >>= (λ (all : Listed). Is all.nodes)) is.level_is
-        ∙ is_on (listed_at (child_listed at since level p) p.entries root.page None None 0 p.shape []) (λ (all : Listed). Is all.nodes) plants.all plants.found_is in
-        let end = root-last (child_listed at since level p) p.entries root.page None None p.shape plants.all (omega (arith, node.sized, node.some)) (omega (arith, node.sized)) plants.found_is in
+        let found : node_in dig ps root.page ≡ Is p = root-is dig ps root.page p is.at in
+        let plants = shape-plants dig Has ps since (child_listed dig ps since level p) p.entries is.trees (level-plants dig Has ps since level root.page p is.trees is.at is.level_is is.are_trees)
+        root.page None None 0 p.shape [] [] (omega (arith, node.sized)) tt rises (all_between (entries (page_tree p is.trees)))
+        (inr (new, (level, 1, subst (IsTreePage dig Has ps (IsTreeBelow dig Has ps level) level 1 root.page) is.tree_is is))) in
+        let on : listed dig ps since root ≡ Is plants.all.nodes =
+        listed-root dig ps since root older
+        ∙ is_on (node_in dig ps root.page) (λ p. listed_at (child_listed dig ps since p.level p) p.entries root.page None None 0 p.shape [] >>= (λ (all : Listed). Is all.nodes)) p found
+        ∙ ap (λ (n : ℕ). listed_at (child_listed dig ps since n p) p.entries root.page None None 0 p.shape [] >>= (λ (all : Listed). Is all.nodes)) is.level_is
+        ∙ is_on (listed_at (child_listed dig ps since level p) p.entries root.page None None 0 p.shape []) (λ (all : Listed). Is all.nodes) plants.all plants.found_is in
+        let end = root-last (child_listed dig ps since level p) p.entries root.page None None p.shape plants.all (omega (arith, node.sized, node.some)) (omega (arith, node.sized)) plants.found_is in
         record {
           nodes = plants.all.nodes;
           trees = plants.more;
           found_is = on;
           are = plants.are;
-          last = (end.0, side-is dig ps plants.more plants.all.side (length plants.all.nodes) t end.1 (subst (IsSideTree dig ps plants.more plants.all.side) (sym is.tree_is) plants.side));
+          last = (end.0, side-is dig Has ps since plants.more plants.all.side (length plants.all.nodes) t end.1 (subst (IsSideTree dig Has ps since plants.more plants.all.side) (sym is.tree_is) plants.side));
         }

@@ -15,7 +15,7 @@ use Rattle.tw_rbnode.specs.Trees.{woven}
 use Rattle.tw_rbtree.specs.declared.inserting.Grown.{Grown}
 use Rattle.tw_rbtree.specs.declared.inserting.Grown.TheVariants.{One, Two}
 use Rattle.tw_rbtree.specs.Growing.{AddedAreNodes, AddedLists, IsOver, IsWith}
-use Rattle.tw_rbtree.specs.Standing.{AreTrees, IsTreeBelow}
+use Rattle.tw_rbtree.specs.Standing.{AreTrees, IsTreeBelow, OfPage}
 use Rattle.tw_rbtree.proofs.Adding.{cut-woven, two-children, with-child}
 use Rattle.tw_rbtree.proofs.Standings.{map-count, trees-count}
 
@@ -83,10 +83,10 @@ abbrev pub SidesList : (R : Child → Tree → Type 0) → List Entry → Grown 
 SidesList R es (One c) = (t : Tree) × R c t × (entries t ≡ es)
 SidesList R es (Two left middle right) = (l : Tree) × (r : Tree) × R left l × R right r × (entries l ++ middle ∷ entries r ≡ es)
 
-module _ (dig : List ℕ → List ℕ) (now : Image) (level : ℕ) (p : TreePage) (node : IsNode p) (level_is : p.level ≡ level) (ts : List Tree) (are : AreTrees (IsTreeBelow dig now level) p.children ts)
+module _ (dig : List ℕ → List ℕ) (Has : OfPage) (now : Image) (level : ℕ) (p : TreePage) (node : IsNode p) (level_is : p.level ≡ level) (ts : List Tree) (are : AreTrees (IsTreeBelow dig Has now level) p.children ts)
     (rising : IsRising (woven (map entries ts) p.entries)) (place : ℕ) (entry : Entry) (between : IsBetween p.entries place (key_of entry)) where
   count : length (map entries ts) ≡ length p.entries + 1
-  count = map-count entries ts ∙ trees-count (IsTreeBelow dig now level) p.children ts are ∙ node.places
+  count = map-count entries ts ∙ trees-count (IsTreeBelow dig Has now level) p.children ts are ∙ node.places
 
   place_on : {X : Type 0} (xs : List X) → drop (place + 1) xs ≡ drop (suc place) xs
   place_on xs = ap (λ (n : ℕ). drop n xs) (let e : place + 1 ≡ suc place = omega arith in e)
@@ -97,25 +97,25 @@ module _ (dig : List ℕ → List ℕ) (now : Image) (level : ℕ) (p : TreePage
       ap (λ (xs : List (List Entry)). woven ((take place (map entries ts) ++ with_entry (slice_index_or (map entries ts) place []) entry ∷ []) ++ xs) p.entries) (place_on (map entries ts))
       ∙ sym (with-child entry place (map entries ts) p.entries count rising between.above between.below between.there)
 
-  module _ (c : Child) (t : Tree) (is : IsTreeBelow dig now level c t) (lists : entries t ≡ with_entry (slice_index_or (map entries ts) place []) entry)
+  module _ (c : Child) (t : Tree) (is : IsTreeBelow dig Has now level c t) (lists : entries t ≡ with_entry (slice_index_or (map entries ts) place []) entry)
       (new : TreePage) (new_level : new.level ≡ p.level) (new_entries : new.entries ≡ p.entries) (new_children : new.children ≡ (take place p.children ++ c ∷ []) ++ drop (place + 1) p.children) where
-    pub one-over : IsOver dig now level (length p.entries) new (with_entry (woven (map entries ts) p.entries) entry)
+    pub one-over : IsOver dig Has now level (length p.entries) new (with_entry (woven (map entries ts) p.entries) entry)
     one-over = record {
       level_is = new_level ∙ level_is;
       least_keys = omega (arith, ap length new_entries);
       trees = (take place ts ++ t ∷ []) ++ drop (place + 1) ts;
       are_trees =
-          subst (λ (cs : List Child). AreTrees (IsTreeBelow dig now level) cs ((take place ts ++ t ∷ []) ++ drop (place + 1) ts)) (sym new_children)
-          (trees-replaced (IsTreeBelow dig now level) place (place + 1) p.children (c ∷ []) ts (t ∷ []) are (is, tt));
+          subst (λ (cs : List Child). AreTrees (IsTreeBelow dig Has now level) cs ((take place ts ++ t ∷ []) ++ drop (place + 1) ts)) (sym new_children)
+          (trees-replaced (IsTreeBelow dig Has now level) place (place + 1) p.children (c ∷ []) ts (t ∷ []) are (is, tt));
       lists =
           (λ i. woven (lists-replaced place (place + 1) ts (t ∷ []) i) (new_entries i))
           ∙ ap (λ (xs : List Entry). woven ((take place (map entries ts) ++ xs ∷ []) ++ drop (place + 1) (map entries ts)) p.entries) lists ∙ inner;
     }
 
-  module _ (left right : Child) (middle : Entry) (l r : Tree) (is_left : IsTreeBelow dig now level left l) (is_right : IsTreeBelow dig now level right r)
+  module _ (left right : Child) (middle : Entry) (l r : Tree) (is_left : IsTreeBelow dig Has now level left l) (is_right : IsTreeBelow dig Has now level right r)
       (lists : entries l ++ middle ∷ entries r ≡ with_entry (slice_index_or (map entries ts) place []) entry) where
-    are_all : AreTrees (IsTreeBelow dig now level) (more_children p.children place left right) ((take place ts ++ l ∷ r ∷ []) ++ drop (place + 1) ts)
-    are_all = trees-replaced (IsTreeBelow dig now level) place (place + 1) p.children (left ∷ right ∷ []) ts (l ∷ r ∷ []) are (is_left, (is_right, tt))
+    are_all : AreTrees (IsTreeBelow dig Has now level) (more_children p.children place left right) ((take place ts ++ l ∷ r ∷ []) ++ drop (place + 1) ts)
+    are_all = trees-replaced (IsTreeBelow dig Has now level) place (place + 1) p.children (left ∷ right ∷ []) ts (l ∷ r ∷ []) are (is_left, (is_right, tt))
 
     all_lists : woven (map entries ((take place ts ++ l ∷ r ∷ []) ++ drop (place + 1) ts)) (more_entries p.entries place middle) ≡ with_entry (woven (map entries ts) p.entries) entry
     all_lists =
@@ -124,19 +124,19 @@ module _ (dig : List ℕ → List ℕ) (now : Image) (level : ℕ) (p : TreePage
         ∙ ap (λ (xs : List (List Entry)). woven ((take place (map entries ts) ++ (entries l ++ middle ∷ entries r) ∷ []) ++ xs) p.entries) (sym (place_on (map entries ts)))
         ∙ ap (λ (xs : List Entry). woven ((take place (map entries ts) ++ xs ∷ []) ++ drop (place + 1) (map entries ts)) p.entries) lists ∙ inner
 
-    pub two-over : (added : Added) → IsAdded p place middle left right added → AddedAreNodes added → AddedLists dig now level (length p.entries) (with_entry (woven (map entries ts) p.entries) entry) added
+    pub two-over : (added : Added) → IsAdded p place middle left right added → AddedAreNodes added → AddedLists dig Has now level (length p.entries) (with_entry (woven (map entries ts) p.entries) entry) added
     two-over (OnePage new) is nodes = record {
       level_is = is.level ∙ level_is;
       least_keys = omega (arith, ap length is.entries, length-append (take place p.entries ++ middle ∷ []) (drop place p.entries), length-append (take place p.entries) (middle ∷ []), length-take place p.entries, length-drop place p.entries);
       trees = (take place ts ++ l ∷ r ∷ []) ++ drop (place + 1) ts;
-      are_trees = subst (λ (cs : List Child). AreTrees (IsTreeBelow dig now level) cs ((take place ts ++ l ∷ r ∷ []) ++ drop (place + 1) ts)) (sym is.children) are_all;
+      are_trees = subst (λ (cs : List Child). AreTrees (IsTreeBelow dig Has now level) cs ((take place ts ++ l ∷ r ∷ []) ++ drop (place + 1) ts)) (sym is.children) are_all;
       lists = ap (woven (map entries ((take place ts ++ l ∷ r ∷ []) ++ drop (place + 1) ts))) is.entries ∙ all_lists;
     }
     two-over (TwoPages first m second) is nodes =
-        let parts = parted (IsTreeBelow dig now level) first.children second.children ((take place ts ++ l ∷ r ∷ []) ++ drop (place + 1) ts)
-        (subst (λ (cs : List Child). AreTrees (IsTreeBelow dig now level) cs ((take place ts ++ l ∷ r ∷ []) ++ drop (place + 1) ts)) (sym is.children) are_all) in
+        let parts = parted (IsTreeBelow dig Has now level) first.children second.children ((take place ts ++ l ∷ r ∷ []) ++ drop (place + 1) ts)
+        (subst (λ (cs : List Child). AreTrees (IsTreeBelow dig Has now level) cs ((take place ts ++ l ∷ r ∷ []) ++ drop (place + 1) ts)) (sym is.children) are_all) in
         let own_count : length (map entries parts.first) ≡ length first.entries + 1 =
-        map-count entries parts.first ∙ trees-count (IsTreeBelow dig now level) first.children parts.first parts.are_first ∙ nodes.0.places in
+        map-count entries parts.first ∙ trees-count (IsTreeBelow dig Has now level) first.children parts.first parts.are_first ∙ nodes.0.places in
         let whole : woven (map entries parts.first) first.entries ++ m ∷ woven (map entries parts.second) second.entries ≡ with_entry (woven (map entries ts) p.entries) entry =
         sym (cut-woven (map entries parts.first) (map entries parts.second) first.entries second.entries m own_count)
         ∙ (λ i. woven ((sym (lists-append parts.first parts.second) ∙ ap (map entries) (sym parts.whole)) i) (is.entries i)) ∙ all_lists in (
@@ -148,8 +148,8 @@ module _ (dig : List ℕ → List ℕ) (now : Image) (level : ℕ) (p : TreePage
         )
 
   -- the page with what its child has become
-  pub with-lists : (grown : Grown) → SidesList (IsTreeBelow dig now level) (with_entry (slice_index_or (map entries ts) place []) entry) grown → (added : Added) → IsWith p place grown added → AddedAreNodes added
-      → AddedLists dig now level (length p.entries) (with_entry (woven (map entries ts) p.entries) entry) added
+  pub with-lists : (grown : Grown) → SidesList (IsTreeBelow dig Has now level) (with_entry (slice_index_or (map entries ts) place []) entry) grown → (added : Added) → IsWith p place grown added → AddedAreNodes added
+      → AddedLists dig Has now level (length p.entries) (with_entry (woven (map entries ts) p.entries) entry) added
   with-lists (One c) sides (OnePage new) is nodes = one-over c sides.0 sides.1 sides.2 new is.0 is.1 is.2
   with-lists (One c) sides (TwoPages first m second) is nodes = absurd is
   with-lists (Two left middle right) sides added is nodes = two-over left right middle sides.0 sides.1 sides.2 sides.3 sides.4 added is nodes

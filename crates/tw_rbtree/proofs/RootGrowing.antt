@@ -17,17 +17,18 @@ use Rattle.tw_rbnode.specs.declared.child.Child.{Child}
 use Rattle.tw_rbnode.specs.Page.{TreePage}
 use Rattle.tw_rbnode.specs.Trees.{woven}
 use Rattle.tw_rbnode.proofs.TreeLists.{page-list}
-use Rattle.tw_tree.specs.Inserting.{with_leaf}
-use Rattle.tw_tree.proofs.Leaves.{has-leaf}
+use Rattle.tw_base.specs.history.WithLeaf.{with_leaf}
+use Rattle.tw_base.proofs.lemmas.history.Leaves.{has-leaf}
 use Rattle.tw_rbtree.specs.declared.fault.TreeFault.{TreeFault}
 use Rattle.tw_rbtree.specs.declared.fault.TreeFault.TheVariants.{BadPage, DiskFault, NoMemory, Present, Untrue}
 use Rattle.tw_rbtree.specs.declared.inserting.Grown.TheVariants.{One, Two}
-use Rattle.tw_rbtree.specs.Answers.{AnswersInsert, IsFaultOf}
+use Rattle.tw_rbtree.specs.Answers.{AnswersInsert}
 use Rattle.tw_rbtree.specs.Growing.{AnswersGrown, IsChildTree}
-use Rattle.tw_rbtree.specs.Reading.{IsReading, Reading, lie_between, root_in}
-use Rattle.tw_rbtree.specs.Standing.{AreTrees, IsRootTree, IsTreeBelow, IsTreePage, StandsFor}
+use Rattle.tw_rbtree.specs.Reading.{lie_between, node_in}
+use Rattle.tw_rbtree.specs.Standing.{AreTrees, IsRootTree, IsTreeBelow, IsTreePage, OfPage, StandsWith}
 use Rattle.tw_rbtree.specs.Ways.{Stop, end_of, nowhere, way, way_from}
-use Rattle.tw_rbtree.proofs.FoundLaws.{bad_on}
+use Rattle.tw_rbtree.proofs.FoundLaws.{Says, bad_on}
+use Rattle.tw_rbtree.proofs.Keeping.{stands-any}
 use Rattle.tw_rbtree.proofs.PageLaws.{root-is}
 use Rattle.tw_rbtree.proofs.RootWays.{all_between, root-way}
 use Rattle.tw_rbtree.proofs.Standings.{trees-count}
@@ -37,40 +38,40 @@ use Rattle.tw_rbtree.proofs.Weaving.{between-all}
 pub all-lie_between : (es : List Entry) → lie_between None None es ≡ true
 all-lie_between es = between-all None None es (all_between es)
 
-module _ (at : Reading) (entry : Entry) (root : Root) where
+module _ (dig : List ℕ → List ℕ) (ps : Image) (entry : Entry) (root : Root) where
   abbrev whole : Found (List Stop)
-  whole = way at (Absent (key_of entry)) root
+  whole = way dig ps (Absent (key_of entry)) root
 
-  pub insert-empty : (new : Root) → root.page ≡ 0 → AnswersInsert root (Ok new) (way at (Absent (key_of entry)) root)
-  insert-empty new none = ([], way-empty at (Absent (key_of entry)) root none, refl, λ over. (let levels : 0 ≡ 11 = over.levels in omega (arith, levels)))
+  pub insert-empty : (new : Root) → root.page ≡ 0 → AnswersInsert root (Ok new) (way dig ps (Absent (key_of entry)) root)
+  insert-empty new none = ([], way-empty dig ps (Absent (key_of entry)) root none, refl, λ over. (let levels : 0 ≡ 11 = over.levels in omega (arith, levels)))
 
   module _ (some : root.page ≢ 0) where
     -- a bad root page
-    pub insert-bad : (f : TreeFault) → IsFaultOf f (root_in at root.page) → IsFaultOf f (way at (Absent (key_of entry)) root)
+    pub insert-bad : (f : TreeFault) → Says f (node_in dig ps root.page) → Says f (way dig ps (Absent (key_of entry)) root)
     insert-bad f bad =
-        subst (λ (w : Found (List Stop)). IsFaultOf f w) (sym (way-root at (Absent (key_of entry)) root some))
-        (bad_on f (root_in at root.page) (λ q. way_from at (Absent (key_of entry)) q.level None None q) bad)
+        subst (λ (w : Found (List Stop)). Says f w) (sym (way-root dig ps (Absent (key_of entry)) root some))
+        (bad_on f (node_in dig ps root.page) (λ q. way_from dig ps (Absent (key_of entry)) q.level None None q) bad)
 
-    module _ (p : TreePage) (found : root_in at root.page ≡ Is p) where
-      way_is : way at (Absent (key_of entry)) root ≡ way_from at (Absent (key_of entry)) p.level None None p
-      way_is = way-root at (Absent (key_of entry)) root some ∙ is_on (root_in at root.page) (λ q. way_from at (Absent (key_of entry)) q.level None None q) p found
+    module _ (p : TreePage) (found : node_in dig ps root.page ≡ Is p) where
+      way_is : way dig ps (Absent (key_of entry)) root ≡ way_from dig ps (Absent (key_of entry)) p.level None None p
+      way_is = way-root dig ps (Absent (key_of entry)) root some ∙ is_on (node_in dig ps root.page) (λ q. way_from dig ps (Absent (key_of entry)) q.level None None q) p found
 
-      pub insert-fault : (f : TreeFault) → AnswersGrown p.level (Err f) (way_from at (Absent (key_of entry)) p.level None None p) → AnswersInsert root (Err f) (way at (Absent (key_of entry)) root)
+      pub insert-fault : (f : TreeFault) → AnswersGrown p.level (Err f) (way_from dig ps (Absent (key_of entry)) p.level None None p) → AnswersInsert root (Err f) (way dig ps (Absent (key_of entry)) root)
       insert-fault Present grown = (grown.0 ∷ grown.1, grown.2, way_is ∙ grown.3, grown.4)
       insert-fault Untrue grown = tt
       insert-fault (BadPage page) grown = inl (way_is ∙ grown)
       insert-fault DiskFault grown = tt
       insert-fault NoMemory grown = tt
 
-      pub insert-one : (new : Root) (c : Child) → AnswersGrown p.level (Ok (One c)) (way_from at (Absent (key_of entry)) p.level None None p) → AnswersInsert root (Ok new) (way at (Absent (key_of entry)) root)
+      pub insert-one : (new : Root) (c : Child) → AnswersGrown p.level (Ok (One c)) (way_from dig ps (Absent (key_of entry)) p.level None None p) → AnswersInsert root (Ok new) (way dig ps (Absent (key_of entry)) root)
       insert-one new c grown = (grown.0 ∷ grown.1, way_is ∙ grown.2, grown.3, λ over. grown.5 over.full)
 
-      pub insert-two : (new : Root) (left right : Child) (middle : Entry) → p.level ≢ 10 → AnswersGrown p.level (Ok (Two left middle right)) (way_from at (Absent (key_of entry)) p.level None None p)
-          → AnswersInsert root (Ok new) (way at (Absent (key_of entry)) root)
+      pub insert-two : (new : Root) (left right : Child) (middle : Entry) → p.level ≢ 10 → AnswersGrown p.level (Ok (Two left middle right)) (way_from dig ps (Absent (key_of entry)) p.level None None p)
+          → AnswersInsert root (Ok new) (way dig ps (Absent (key_of entry)) root)
       insert-two new left right middle low grown = (grown.0 ∷ grown.1, way_is ∙ grown.2, grown.3, λ over. low (omega (arith, over.levels, grown.4)))
 
-      pub insert-over : (left right : Child) (middle : Entry) → p.level ≡ 10 → AnswersGrown p.level (Ok (Two left middle right)) (way_from at (Absent (key_of entry)) p.level None None p)
-          → AnswersInsert root (Err (BadPage root.page)) (way at (Absent (key_of entry)) root)
+      pub insert-over : (left right : Child) (middle : Entry) → p.level ≡ 10 → AnswersGrown p.level (Ok (Two left middle right)) (way_from dig ps (Absent (key_of entry)) p.level None None p)
+          → AnswersInsert root (Err (BadPage root.page)) (way dig ps (Absent (key_of entry)) root)
       insert-over left right middle top grown =
           inr (grown.0 ∷ grown.1, way_is ∙ grown.2, grown.3, record { levels = omega (arith, grown.4, top); full = grown.5 }, refl)
 
@@ -78,7 +79,7 @@ pub insert-passed : (root : Root) (r : Result Root TreeFault) (f : TreeFault) (f
 insert-passed root (Ok new) f found is has = absurd is
 insert-passed root (Err e) f found is has = subst (λ (x : TreeFault). AnswersInsert root (Err x) found) (sym is) has
 
-pub as_insert_fault : (root : Root) (f : TreeFault) (found : Found (List Stop)) → f ≢ Present → IsFaultOf f found → AnswersInsert root (Err f) found
+pub as_insert_fault : (root : Root) (f : TreeFault) (found : Found (List Stop)) → f ≢ Present → Says f found → AnswersInsert root (Err f) found
 as_insert_fault root Present found never is = absurd (never refl)
 as_insert_fault root Untrue found never is = tt
 as_insert_fault root (BadPage page) found never is = inl is
@@ -87,51 +88,51 @@ as_insert_fault root NoMemory found never is = tt
 
 -- ---- where the pages stand for a tree
 
-module _ (dig : List ℕ → List ℕ) (ps : Image) (at : Reading) (reads : IsReading dig ps at) (root : Root) (t : Tree) (stands : StandsFor dig ps root t) where
+module _ (dig : List ℕ → List ℕ) (Has : OfPage) (ps : Image) (root : Root) (t : Tree) (stands : StandsWith dig Has ps root t) where
   -- the page of the root over its children's trees
   pub record OwnTrees (p : TreePage) : Type 0 where
     pub trees : List Tree
-    pub are : AreTrees (IsTreeBelow dig ps p.level) p.children trees
+    pub are : AreTrees (IsTreeBelow dig Has ps p.level) p.children trees
     pub rising : IsRising (woven (map entries trees) p.entries)
     pub lists : woven (map entries trees) p.entries ≡ entries t
     pub keys : 1 ≤ length p.entries
 
-  pub own-trees : (p : TreePage) → root.page ≢ 0 → root_in at root.page ≡ Is p → OwnTrees p
+  pub own-trees : (p : TreePage) → root.page ≢ 0 → node_in dig ps root.page ≡ Is p → OwnTrees p
   own-trees p some found = by stands.tree
     where
-      by : IsRootTree dig ps root.page t → OwnTrees p
+      by : IsRootTree dig Has ps root.page t → OwnTrees p
       by (inl none) = absurd (some none.0)
       by (inr (level, is)) =
-          let q_is : is.node ≡ p = same_found is.node p (sym (root-is dig ps at reads root.page is.node is.at) ∙ found) in
-          let are_at : AreTrees (IsTreeBelow dig ps is.node.level) is.node.children is.trees = subst (λ (n : ℕ). AreTrees (IsTreeBelow dig ps n) is.node.children is.trees) (sym is.level_is) is.are_trees in
-          let count = trees-count (IsTreeBelow dig ps level) is.node.children is.trees is.are_trees in
+          let q_is : is.node ≡ p = same_found is.node p (sym (root-is dig ps root.page is.node is.at) ∙ found) in
+          let are_at : AreTrees (IsTreeBelow dig Has ps is.node.level) is.node.children is.trees = subst (λ (n : ℕ). AreTrees (IsTreeBelow dig Has ps n) is.node.children is.trees) (sym is.level_is) is.are_trees in
+          let count = trees-count (IsTreeBelow dig Has ps level) is.node.children is.trees is.are_trees in
           let lists : woven (map entries is.trees) is.node.entries ≡ entries t = sym (page-list is.node is.trees is.at.may_stand.node count) ∙ ap entries (sym is.tree_is) in
           subst OwnTrees q_is (record { trees = is.trees; are = are_at; rising = subst IsRising (sym lists) stands.rising; lists = lists; keys = is.least_keys })
 
   pub empty-tree : root.page ≡ 0 → t ≡ Empty
   empty-tree none = by stands.tree
     where
-      by : IsRootTree dig ps root.page t → t ≡ Empty
+      by : IsRootTree dig Has ps root.page t → t ≡ Empty
       by (inl is) = is.1
       by (inr (level, is)) = absurd (omega (arith, none, is.at.low))
 
   -- the list with the entry rises, where the way found no entry of its key
-  pub rises-with : (entry : Entry) (stops : List Stop) → way at (Absent (key_of entry)) root ≡ Is stops → (end_of nowhere stops).met ≡ None → IsRising (with_entry (entries t) entry)
+  pub rises-with : (entry : Entry) (stops : List Stop) → way dig ps (Absent (key_of entry)) root ≡ Is stops → (end_of nowhere stops).met ≡ None → IsRising (with_entry (entries t) entry)
   rises-with entry stops found none =
-      let w = root-way dig ps at reads (Absent (key_of entry)) root t stands in
+      let w = root-way dig ps (Absent (key_of entry)) root t (stands-any dig Has ps root t stands) in
       let same : w.stops ≡ stops = same_found w.stops stops (sym w.found ∙ found) in
       let absent : entry_with (entries t) (key_of entry) ≡ None = w.tells ∙ ap (λ (xs : List Stop). (end_of nowhere xs).met) same ∙ none in
       let leaf = has-leaf entry t (with_leaf t entry) stands.rising absent refl in
       subst IsRising leaf.list leaf.rising
 
 -- a child that is a tree, as a root
-pub root-stands : (dig : List ℕ → List ℕ) (now : Image) (level least : ℕ) (c : Child) (t : Tree) (new : Root) → 1 ≤ least → IsChildTree dig now level least c t → IsRising (entries t) → new.page ≡ c.page → new.label ≡ c.label → StandsFor dig now new t
-root-stands dig now level least c t new some is rising page label = record {
+pub root-stands : (dig : List ℕ → List ℕ) (Has : OfPage) (now : Image) (level least : ℕ) (c : Child) (t : Tree) (new : Root) → 1 ≤ least → IsChildTree dig Has now level least c t → IsRising (entries t) → new.page ≡ c.page → new.label ≡ c.label → StandsWith dig Has now new t
+root-stands dig Has now level least c t new some is rising page label = record {
   rising = rising;
   label = label ∙ is.0;
   tree = inr (
     level,
-    subst (λ (n : ℕ). IsTreePage dig now (IsTreeBelow dig now level) level 1 n t) (sym page) (record {
+    subst (λ (n : ℕ). IsTreePage dig Has now (IsTreeBelow dig Has now level) level 1 n t) (sym page) (record {
       node = is.1.node;
       at = is.1.at;
       level_is = is.1.level_is;
@@ -139,6 +140,7 @@ root-stands dig now level least c t new some is rising page label = record {
       trees = is.1.trees;
       are_trees = is.1.are_trees;
       tree_is = is.1.tree_is;
+      has = is.1.has;
     }),
   );
 }

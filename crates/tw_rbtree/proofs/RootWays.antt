@@ -16,13 +16,13 @@ use Rattle.tw_disk.specs.Found.Found.{Is}
 use Rattle.tw_disk.specs.Image.{Image}
 use Rattle.tw_disk.proofs.FoundLaws.{is_on}
 use Rattle.tw_rbnode.specs.Trees.{page_tree}
-use Rattle.tw_tree.proofs.Asked.{or-none}
+use Rattle.tw_base.proofs.lemmas.history.Asked.{or-none}
 use Rattle.tw_treeproof.specs.Making.{IsSo, place_of, proof_at, proof_of, way_up}
 use Rattle.tw_rbtree.specs.declared.seeking.Sought.{Sought}
 use Rattle.tw_rbtree.specs.Answers.{IsSoAt}
 use Rattle.tw_rbtree.specs.Paths.{proof_of_way, way_nodes, way_proof}
-use Rattle.tw_rbtree.specs.Reading.{IsReading, Reading, root_in}
-use Rattle.tw_rbtree.specs.Standing.{IsRootTree, IsTreeBelow, IsTreePage, StandsFor}
+use Rattle.tw_rbtree.specs.Reading.{node_in}
+use Rattle.tw_rbtree.specs.Standing.{IsRootTree, IsTreeBelow, IsTreePage, StandsFor, any_page}
 use Rattle.tw_rbtree.specs.Ways.{Stop, end_of, found_after, found_before, found_with, nowhere, way, way_end, way_from}
 use Rattle.tw_rbtree.proofs.PageLaws.{root-is}
 use Rattle.tw_rbtree.proofs.SizeLaws.{root-count}
@@ -34,11 +34,11 @@ pub all_between : (es : List Entry) → Each (LiesBetween None None) es
 all_between [] = tt
 all_between (e ∷ es) = ((refl, refl), all_between es)
 
-module _ (dig : List ℕ → List ℕ) (ps : Image) (at : Reading) (reads : IsReading dig ps at) (ask : Ask) (root : Root) where
+module _ (dig : List ℕ → List ℕ) (ps : Image) (ask : Ask) (root : Root) where
   -- the way from the root down
   pub record RootWay (t : Tree) : Type 0 where
     pub stops : List Stop
-    pub found : way at ask root ≡ Is stops
+    pub found : way dig ps ask root ≡ Is stops
     pub tells : Tells ask (entries t) None None (end_of nowhere stops)
     pub proof : proof_of_way dig stops ≡ proof_of dig t ask
     pub levels : ℕ
@@ -54,18 +54,18 @@ module _ (dig : List ℕ → List ℕ) (ps : Image) (at : Reading) (reads : IsRe
 
   empty_way : root.page ≡ 0 → RootWay NoEntry
   unfolding way_nodes way_proof way_up place_of
-  empty_way none = record { stops = []; found = way-empty at ask root none; tells = nothing_tells ask; proof = refl; levels = 0; few = omega arith; many = λ (h : 0 < 0). absurd (omega (arith, h)); up = refl }
+  empty_way none = record { stops = []; found = way-empty dig ps ask root none; tells = nothing_tells ask; proof = refl; levels = 0; few = omega arith; many = λ (h : 0 < 0). absurd (omega (arith, h)); up = refl }
 
-  page_way : (t : Tree) → IsRising (entries t) → (level : ℕ) → IsTreePage dig ps (IsTreeBelow dig ps level) level 1 root.page t → RootWay t
+  page_way : (t : Tree) → IsRising (entries t) → (level : ℕ) → IsTreePage dig any_page ps (IsTreeBelow dig any_page ps level) level 1 root.page t → RootWay t
   page_way t rising level is =
       let p = is.node in
       let rises : IsRising (entries (page_tree p is.trees)) = subst (λ (x : Tree). IsRising (entries x)) is.tree_is rising in
-      let w : WayIn dig ps at reads ask level None None p (page_tree p is.trees) =
-      way-in dig ps at reads ask level None None root.page p is.trees is.at is.level_is is.are_trees rises (all_between (entries (page_tree p is.trees))) in
-      let on : way at ask root ≡ Is (w.first ∷ w.rest) =
-      way-root at ask root (λ (e : root.page ≡ 0). omega (arith, e, is.at.low))
-      ∙ is_on (root_in at root.page) (λ q. way_from at ask q.level None None q) p (root-is dig ps at reads root.page p is.at)
-      ∙ ap (λ (n : ℕ). way_from at ask n None None p) is.level_is ∙ w.found in
+      let w : WayIn dig ps ask level None None p (page_tree p is.trees) =
+      way-in dig ps ask level None None root.page p is.trees is.at is.level_is is.are_trees rises (all_between (entries (page_tree p is.trees))) in
+      let on : way dig ps ask root ≡ Is (w.first ∷ w.rest) =
+      way-root dig ps ask root (λ (e : root.page ≡ 0). omega (arith, e, is.at.low))
+      ∙ is_on (node_in dig ps root.page) (λ q. way_from dig ps ask q.level None None q) p (root-is dig ps root.page p is.at)
+      ∙ ap (λ (n : ℕ). way_from dig ps ask n None None p) is.level_is ∙ w.found in
       subst RootWay (sym is.tree_is) (record {
         stops = w.first ∷ w.rest;
         found = on;
@@ -83,37 +83,37 @@ module _ (dig : List ℕ → List ℕ) (ps : Image) (at : Reading) (reads : IsRe
   pub root-way : (t : Tree) → StandsFor dig ps root t → RootWay t
   root-way t stands = by stands.tree
     where
-      by : IsRootTree dig ps root.page t → RootWay t
+      by : IsRootTree dig any_page ps root.page t → RootWay t
       by (inl none) = subst RootWay (sym none.1) (empty_way none.0)
       by (inr (level, is)) = page_way t stands.rising level is
 
-module _ (dig : List ℕ → List ℕ) (ps : Image) (at : Reading) (root : Root) (t : Tree) where
+module _ (dig : List ℕ → List ℕ) (ps : Image) (root : Root) (t : Tree) where
   abbrev Last : List Stop → Found Sought
   Last stops = Is (end_of nowhere stops)
 
-  end-is : (ask : Ask) (stops : List Stop) → way at ask root ≡ Is stops → way_end at ask root ≡ Is (end_of nowhere stops)
+  end-is : (ask : Ask) (stops : List Stop) → way dig ps ask root ≡ Is stops → way_end dig ps ask root ≡ Is (end_of nowhere stops)
   unfolding way_end
-  end-is ask stops found = is_on (way at ask root) Last stops found
+  end-is ask stops found = is_on (way dig ps ask root) Last stops found
 
-  module _ (key : Key) (reads : IsReading dig ps at) (stands : StandsFor dig ps root t) where
-    pub with-found : found_with at root key ≡ Is (entry_with (entries t) key)
+  module _ (key : Key) (stands : StandsFor dig ps root t) where
+    pub with-found : found_with dig ps root key ≡ Is (entry_with (entries t) key)
     unfolding found_with
     with-found =
-        let w = root-way dig ps at reads (Absent key) root t stands in
-        is_on (way_end at (Absent key) root) (λ end. Is end.met) (end_of nowhere w.stops) (end-is (Absent key) w.stops w.found) ∙ ap (λ (o : Option Entry). Is o) (sym w.tells)
+        let w = root-way dig ps (Absent key) root t stands in
+        is_on (way_end dig ps (Absent key) root) (λ end. Is end.met) (end_of nowhere w.stops) (end-is (Absent key) w.stops w.found) ∙ ap (λ (o : Option Entry). Is o) (sym w.tells)
 
-    pub before-found : found_before at root key ≡ Is (last_below (entries t) key)
+    pub before-found : found_before dig ps root key ≡ Is (last_below (entries t) key)
     unfolding found_before
     before-found =
-        let w = root-way dig ps at reads (Below key) root t stands in
-        is_on (way_end at (Below key) root) (λ end. Is end.low) (end_of nowhere w.stops) (end-is (Below key) w.stops w.found)
+        let w = root-way dig ps (Below key) root t stands in
+        is_on (way_end dig ps (Below key) root) (λ end. Is end.low) (end_of nowhere w.stops) (end-is (Below key) w.stops w.found)
         ∙ ap (λ (o : Option Entry). Is o) (sym w.tells ∙ or-none (last_below (entries t) key))
 
-    pub after-found : found_after at root key ≡ Is (first_above (entries t) key)
+    pub after-found : found_after dig ps root key ≡ Is (first_above (entries t) key)
     unfolding found_after
     after-found =
-        let w = root-way dig ps at reads (Above key) root t stands in
-        is_on (way_end at (Above key) root) (λ end. Is end.high) (end_of nowhere w.stops) (end-is (Above key) w.stops w.found)
+        let w = root-way dig ps (Above key) root t stands in
+        is_on (way_end dig ps (Above key) root) (λ end. Is end.high) (end_of nowhere w.stops) (end-is (Above key) w.stops w.found)
         ∙ ap (λ (o : Option Entry). Is o) (sym w.tells ∙ or-none (first_above (entries t) key))
 
   pub so-found : (ask : Ask) (end : Sought) → Tells ask (entries t) None None end → (IsSo (entries t) ask → IsSoAt ask end.met) × (IsSoAt ask end.met → IsSo (entries t) ask)

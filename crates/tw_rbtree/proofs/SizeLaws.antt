@@ -14,7 +14,7 @@ use Rattle.tw_rbnode.specs.Shape.{Shape, Empty, Node, depth, size}
 use Rattle.tw_rbnode.specs.Trees.{above_at, label_at, labels_of, mark_of, node_above, nodes_above, woven}
 use Rattle.tw_rbnode.proofs.RedBlack.{depth_at_most}
 use Rattle.tw_rbnode.proofs.TreeLists.{page-list}
-use Rattle.tw_rbtree.specs.Standing.{AreTrees, IsTreeBelow, IsTreePage}
+use Rattle.tw_rbtree.specs.Standing.{AreTrees, IsTreeBelow, IsTreePage, any_page}
 
 module _ (dig : List ℕ → List ℕ) where
   one_above : (o : Option Entry) (label : List ℕ) → length (node_above dig o label) ≤ 1
@@ -75,7 +75,7 @@ module _ (dig : List ℕ → List ℕ) (ps : Image) where
   all-counts R m least (c ∷ cs) (t ∷ ts) are = let rest = all-counts R m least cs ts are.1 in ((least c t are.0, rest.0), ap suc rest.1)
 
   -- a page with so many keys over children with so many entries
-  page-count : (R : Child → Tree → Type 0) (m level least page : ℕ) (t : Tree) → ((c : Child) (t : Tree) → R c t → m ≤ length (entries t) + 1) → IsTreePage dig ps R level least page t
+  pub page-count : (R : Child → Tree → Type 0) (m level least page : ℕ) (t : Tree) → ((c : Child) (t : Tree) → R c t → m ≤ length (entries t) + 1) → IsTreePage dig any_page ps R level least page t
       → (least + 1) * m ≤ length (entries t) + 1
   page-count R m level least page t below is =
       let counts = all-counts R m below is.node.children is.trees is.are_trees in
@@ -91,11 +91,11 @@ module _ (dig : List ℕ → List ℕ) (ps : Image) where
       map-length [] = refl
       map-length (t ∷ ts) = ap suc (map-length ts)
 
-  below-count : (level : ℕ) (c : Child) (t : Tree) → IsTreeBelow dig ps level c t → 13 ^ level ≤ length (entries t) + 1
+  pub below-count : (level : ℕ) (c : Child) (t : Tree) → IsTreeBelow dig any_page ps level c t → 13 ^ level ≤ length (entries t) + 1
   unfolding IsTreeBelow
   below-count zero c t is = omega arith
   below-count (suc level) c t is =
-      let here = page-count (IsTreeBelow dig ps level) (13 ^ level) level 12 c.page t (below-count level) is.1 in
+      let here = page-count (IsTreeBelow dig any_page ps level) (13 ^ level) level 12 c.page t (below-count level) is.1 in
       let power : 13 ^ suc level ≡ 13 * 13 ^ level = power_more level in
       omega (arith, here, power)
     where
@@ -103,5 +103,5 @@ module _ (dig : List ℕ → List ℕ) (ps : Image) where
       power_more n = grind arith
 
   -- a root page of this level has at least two children
-  pub root-count : (level page : ℕ) (t : Tree) → IsTreePage dig ps (IsTreeBelow dig ps level) level 1 page t → 2 * 13 ^ level ≤ length (entries t) + 1
-  root-count level page t is = page-count (IsTreeBelow dig ps level) (13 ^ level) level 1 page t (below-count level) is
+  pub root-count : (level page : ℕ) (t : Tree) → IsTreePage dig any_page ps (IsTreeBelow dig any_page ps level) level 1 page t → 2 * 13 ^ level ≤ length (entries t) + 1
+  root-count level page t is = page-count (IsTreeBelow dig any_page ps level) (13 ^ level) level 1 page t (below-count level) is

@@ -26,8 +26,8 @@ use Rattle.tw_treeproof.specs.Making.{place_of, proof_at, way_up}
 use Rattle.tw_treeproof.specs.Ways.{has_asked_key, is_left}
 use Rattle.tw_rbtree.specs.declared.seeking.Sought.{Sought}
 use Rattle.tw_rbtree.specs.Paths.{proof_in, way_nodes, way_proof}
-use Rattle.tw_rbtree.specs.Reading.{IsPageAt, IsReading, Reading, child_in, fits, lie_between}
-use Rattle.tw_rbtree.specs.Standing.{AreTrees, IsTreeBelow}
+use Rattle.tw_rbtree.specs.Reading.{IsPageAt, child_in, fits, lie_between}
+use Rattle.tw_rbtree.specs.Standing.{AreTrees, IsTreeBelow, any_page, OfPage}
 use Rattle.tw_rbtree.specs.Ways.{Stop, child_page, end_of, seek, way_from}
 use Rattle.tw_rbtree.proofs.PageLaws.{IsSpotOf, child-is, seek-there}
 use Rattle.tw_rbtree.proofs.PageWays.{Guides, from_first, leads-between, leads-slot, seek-guides}
@@ -79,11 +79,11 @@ leaf-labels dig zero z (c ∷ cs) [] all are = absurd are
 leaf-labels dig zero z (c ∷ cs) (t ∷ ts) all are = λ i. (all.0.1 ∙ ap (tree_label dig) (sym are.0)) i ∷ leaf-labels dig zero z cs ts all.1 are.1 i
 leaf-labels dig (suc level) z cs ts all are = absurd (omega (arith, z))
 
-module _ (dig : List ℕ → List ℕ) (ps : Image) where
-  pub over-labels : (level : ℕ) (p : TreePage) (ts : List Tree) → HasChildren dig p → p.level ≡ level → AreTrees (IsTreeBelow dig ps level) p.children ts → labels_of p.children ≡ map (tree_label dig) ts
+module _ (dig : List ℕ → List ℕ) (Has : OfPage) (ps : Image) where
+  pub over-labels : (level : ℕ) (p : TreePage) (ts : List Tree) → HasChildren dig p → p.level ≡ level → AreTrees (IsTreeBelow dig Has ps level) p.children ts → labels_of p.children ≡ map (tree_label dig) ts
   unfolding IsTreeBelow
   over-labels zero p ts kinds is are = leaf-labels dig p.level is p.children ts kinds are
-  over-labels (suc level) p ts kinds is are = labels-same dig (IsTreeBelow dig ps (suc level)) (λ c t below. below.0) p.children ts are
+  over-labels (suc level) p ts kinds is are = labels-same dig (IsTreeBelow dig Has ps (suc level)) (λ c t below. below.0) p.children ts are
 
 -- a question that leads to a place has met nothing
 pub met-none : (ask : Ask) (base : ℕ) (low high : Option Entry) (es : List Entry) (place : ℕ) → (seek ask base low high es).at ≡ Between place → (seek ask base low high es).met ≡ None
@@ -115,19 +115,19 @@ fits-true level low high p is enough lie =
     ap (λ (b : Bool). (b && nat_le 12 (length p.entries)) && lie_between low high p.entries) (true_level p.level level is)
     ∙ ap (λ (b : Bool). b && lie_between low high p.entries) (le-leb 12 (length p.entries) enough) ∙ lie
 
-module _ (dig : List ℕ → List ℕ) (ps : Image) (at : Reading) (reads : IsReading dig ps at) (ask : Ask) where
+module _ (dig : List ℕ → List ℕ) (ps : Image) (ask : Ask) where
   -- the way from a page that is a tree, what its end tells of the tree's list, and the proof that it shows
   pub record WayIn (level : ℕ) (low high : Option Entry) (p : TreePage) (t : Tree) : Type 0 where
     pub first : Stop
     pub rest : List Stop
-    pub found : way_from at ask level low high p ≡ Is (first ∷ rest)
+    pub found : way_from dig ps ask level low high p ≡ Is (first ∷ rest)
     pub tells : Tells ask (entries t) low high (end_of first.sought rest)
     pub few : length (way_nodes dig (first ∷ rest)) ≤ 9 * (level + 1)
     pub up : way_nodes dig (first ∷ rest) ≡ way_up dig ask t
     pub proof : (above : List Ancestor) → way_proof dig (first ∷ rest) above ≡ proof_at dig (place_of ask t) above
 
   module _ (level : ℕ) (low high : Option Entry) (page : ℕ) (p : TreePage) (ts : List Tree) (there : IsPageAt dig ps page p) (level_is : p.level ≡ level)
-      (are : AreTrees (IsTreeBelow dig ps level) p.children ts) (rising : IsRising (entries (page_tree p ts))) (lie : Each (LiesBetween low high) (entries (page_tree p ts))) where
+      (are : AreTrees (IsTreeBelow dig any_page ps level) p.children ts) (rising : IsRising (entries (page_tree p ts))) (lie : Each (LiesBetween low high) (entries (page_tree p ts))) where
     abbrev t : Tree
     t = page_tree p ts
 
@@ -141,7 +141,7 @@ module _ (dig : List ℕ → List ℕ) (ps : Image) (at : Reading) (reads : IsRe
     node = there.may_stand.node
 
     count : length ts ≡ length p.children
-    count = trees-count (IsTreeBelow dig ps level) p.children ts are
+    count = trees-count (IsTreeBelow dig any_page ps level) p.children ts are
 
     list_is : entries (page_tree p ts) ≡ woven (map entries ts) p.entries
     list_is = page-list p ts node count
@@ -159,7 +159,7 @@ module _ (dig : List ℕ → List ℕ) (ps : Image) (at : Reading) (reads : IsRe
     own_between = between-all low high p.entries (woven-own (LiesBetween low high) (map entries ts) p.entries lists_count lies)
 
     labels : labels_of p.children ≡ map (tree_label dig) ts
-    labels = over-labels dig ps level p ts there.may_stand.children level_is are
+    labels = over-labels dig any_page ps level p ts there.may_stand.children level_is are
 
     spot_there : IsSpotOf 0 (length p.entries) (seek ask 0 low high p.entries).at
     spot_there = seek-there ask 0 low high p.entries
@@ -184,9 +184,9 @@ module _ (dig : List ℕ → List ℕ) (ps : Image) (at : Reading) (reads : IsRe
       pub way_slot : WayIn level low high p (page_tree p ts)
       unfolding way_nodes way_proof
       way_slot = record {
-        first = here at ask low high p;
+        first = here dig ps ask low high p;
         rest = [];
-        found = way-at at ask low high p level slot spot;
+        found = way-at dig ps ask low high p level slot spot;
         tells = tells_of (seek ask 0 low high p.entries) (subst (λ (x : Spot). EndsAt x ask (seek ask 0 low high p.entries) (pick ask p.entries (map entries ts) []) (seek ask 0 low high p.entries)) (sym spot) refl);
         few = omega (arith, page-short dig p (seek ask 0 low high p.entries).at node);
         up = ap (λ (x : Spot). nodes_above dig p x) spot ∙ sym meets.0;
@@ -203,8 +203,8 @@ module _ (dig : List ℕ → List ℕ) (ps : Image) (at : Reading) (reads : IsRe
       picked : pick ask p.entries (map entries ts) [] ≡ entries (slice_index_or ts place NoEntry)
       picked = picked-at ask 0 low high p.entries (map entries ts) [] place lists_count (spot ∙ ap (λ (n : ℕ). Between n) (let e : place ≡ 0 + place = omega arith in e)) ∙ list-at ts place
 
-      pub child_there : IsTreeAt (IsTreeBelow dig ps level) p.children ts place
-      child_there = tree-at (IsTreeBelow dig ps level) p.children ts are place (omega (arith, place_there.1, node.places))
+      pub child_there : IsTreeAt (IsTreeBelow dig any_page ps level) p.children ts place
+      child_there = tree-at (IsTreeBelow dig any_page ps level) p.children ts are place (omega (arith, place_there.1, node.places))
 
       leads : (way_up dig ask (page_tree p ts) ≡ way_up dig ask (slice_index_or ts place NoEntry) ++ nodes_above dig p (Between place))
           × (place_of ask (page_tree p ts) ≡ place_of ask (slice_index_or ts place NoEntry))
@@ -229,9 +229,9 @@ module _ (dig : List ℕ → List ℕ) (ps : Image) (at : Reading) (reads : IsRe
       pub way_empty_place : level ≡ 0 → slice_index_or ts place NoEntry ≡ NoEntry → WayIn level low high p (page_tree p ts)
       unfolding way_nodes way_proof way_up place_of
       way_empty_place leaf none = record {
-        first = here at ask low high p;
+        first = here dig ps ask low high p;
         rest = [];
-        found = way-leaf at ask low high p level leaf;
+        found = way-leaf dig ps ask low high p level leaf;
         tells = tells_below (seek ask 0 low high p.entries)
             (subst (λ (b : Tree). Tells ask (entries b) (seek ask 0 low high p.entries).low (seek ask 0 low high p.entries).high (seek ask 0 low high p.entries)) (sym none)
             (tells-nothing ask (seek ask 0 low high p.entries) (met-none ask 0 low high p.entries place spot)));
@@ -240,17 +240,17 @@ module _ (dig : List ℕ → List ℕ) (ps : Image) (at : Reading) (reads : IsRe
         proof = λ above. ap (λ (x : Spot). proof_in dig p x above) spot ∙ sym (ap (λ (b : Tree). proof_at dig b above) (leads.1 ∙ ap (place_of ask) none));
       }
 
-      pub way_below : (lower : ℕ) → level ≡ suc lower → (q : TreePage) → child_in at lower (seek ask 0 low high p.entries).low (seek ask 0 low high p.entries).high (child_page p place) ≡ Is q
+      pub way_below : (lower : ℕ) → level ≡ suc lower → (q : TreePage) → child_in dig ps lower (seek ask 0 low high p.entries).low (seek ask 0 low high p.entries).high (child_page p place) ≡ Is q
           → WayIn lower (seek ask 0 low high p.entries).low (seek ask 0 low high p.entries).high q (slice_index_or ts place NoEntry) → WayIn level low high p (page_tree p ts)
       unfolding way_nodes way_proof
       way_below lower is q child on = record {
-        first = here at ask low high p;
+        first = here dig ps ask low high p;
         rest = on.first ∷ on.rest;
         found =
-            way-goes at ask low high p level lower place is spot
-            ∙ is_on (child_in at lower (seek ask 0 low high p.entries).low (seek ask 0 low high p.entries).high (child_page p place))
-            (λ r. way_from at ask lower (seek ask 0 low high p.entries).low (seek ask 0 low high p.entries).high r >>= (λ stops. Is (here at ask low high p ∷ stops))) q child
-            ∙ is_on (way_from at ask lower (seek ask 0 low high p.entries).low (seek ask 0 low high p.entries).high q) (λ stops. Is (here at ask low high p ∷ stops)) (on.first ∷ on.rest) on.found;
+            way-goes dig ps ask low high p level lower place is spot
+            ∙ is_on (child_in dig ps lower (seek ask 0 low high p.entries).low (seek ask 0 low high p.entries).high (child_page p place))
+            (λ r. way_from dig ps ask lower (seek ask 0 low high p.entries).low (seek ask 0 low high p.entries).high r >>= (λ stops. Is (here dig ps ask low high p ∷ stops))) q child
+            ∙ is_on (way_from dig ps ask lower (seek ask 0 low high p.entries).low (seek ask 0 low high p.entries).high q) (λ stops. Is (here dig ps ask low high p ∷ stops)) (on.first ∷ on.rest) on.found;
         tells = tells_below (end_of on.first.sought on.rest) on.tells;
         few =
             omega (
@@ -265,7 +265,7 @@ module _ (dig : List ℕ → List ℕ) (ps : Image) (at : Reading) (reads : IsRe
       }
 
   -- from a page of a tree, by its level
-  pub way-in : (level : ℕ) (low high : Option Entry) (page : ℕ) (p : TreePage) (ts : List Tree) → IsPageAt dig ps page p → p.level ≡ level → AreTrees (IsTreeBelow dig ps level) p.children ts
+  pub way-in : (level : ℕ) (low high : Option Entry) (page : ℕ) (p : TreePage) (ts : List Tree) → IsPageAt dig ps page p → p.level ≡ level → AreTrees (IsTreeBelow dig any_page ps level) p.children ts
       → IsRising (entries (page_tree p ts)) → Each (LiesBetween low high) (entries (page_tree p ts)) → WayIn level low high p (page_tree p ts)
   unfolding IsTreeBelow
   way-in zero low high page p ts there is are rising lie = by (seek ask 0 low high p.entries).at refl
@@ -277,7 +277,7 @@ module _ (dig : List ℕ → List ℕ) (ps : Image) (at : Reading) (reads : IsRe
       by (seek ask 0 low high p.entries).at refl (λ low high page q ts. way-in level low high page q ts)
     where
       Below : Type 0
-      Below = (low high : Option Entry) (page : ℕ) (q : TreePage) (ts : List Tree) → IsPageAt dig ps page q → q.level ≡ level → AreTrees (IsTreeBelow dig ps level) q.children ts
+      Below = (low high : Option Entry) (page : ℕ) (q : TreePage) (ts : List Tree) → IsPageAt dig ps page q → q.level ≡ level → AreTrees (IsTreeBelow dig any_page ps level) q.children ts
           → IsRising (entries (page_tree q ts)) → Each (LiesBetween low high) (entries (page_tree q ts)) → WayIn level low high q (page_tree q ts)
 
       by : (x : Spot) → (seek ask 0 low high p.entries).at ≡ x → Below → WayIn (suc level) low high p (page_tree p ts)
@@ -292,7 +292,7 @@ module _ (dig : List ℕ → List ℕ) (ps : Image) (at : Reading) (reads : IsRe
           let lies = subst (λ (b : Tree). Each (LiesBetween s.low s.high) (entries b)) tree sides.0 in
           let rises = subst (λ (b : Tree). IsRising (entries b)) tree sides.1 in
           let fit = fits-true level s.low s.high q below.level_is below.least_keys (own_between level s.low s.high child.child.page q below.trees below.at below.level_is below.are_trees rises lies) in
-          let found : child_in at level s.low s.high (child_page p place) ≡ Is q =
-          ap (child_in at level s.low s.high) (child_page-get p place child.child child.there) ∙ child-is dig ps at reads level s.low s.high child.child.page q below.at fit in
+          let found : child_in dig ps level s.low s.high (child_page p place) ≡ Is q =
+          ap (child_in dig ps level s.low s.high) (child_page-get p place child.child child.there) ∙ child-is dig ps level s.low s.high child.child.page q below.at fit in
           way_below (suc level) low high page p ts there is are rising lie place spot level refl q found
           (subst (λ (b : Tree). WayIn level s.low s.high q b) (sym tree) (on s.low s.high child.child.page q below.trees below.at below.level_is below.are_trees rises lies))

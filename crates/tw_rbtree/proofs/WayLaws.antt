@@ -1,4 +1,5 @@
 -- The way down, page by page.
+use Rattle.tw_disk.specs.Image.{Image}
 use Rattle.std.proofs.Common.{◌≡◌, ℕ, suc, zero, List, [], ◌∷◌, refl, ap, sym, ◌∙◌, arith, slice_get}
 use Rattle.std.specs.Prelude.{◌==◌, Bool, true, false, Option, Some, None, map, slice_index_or, if◌then◌else◌}
 use Rattle.std.proofs.lemmas.Option.{none-some, same_Some}
@@ -13,7 +14,7 @@ use Rattle.tw_rbnode.specs.declared.node.Found.{Found as Spot}
 use Rattle.tw_rbnode.specs.declared.node.Found.TheVariants.{At, Between}
 use Rattle.tw_rbnode.specs.Page.{TreePage}
 use Rattle.tw_rbtree.specs.declared.seeking.Sought.{Sought}
-use Rattle.tw_rbtree.specs.Reading.{Reading, child_in, root_in}
+use Rattle.tw_rbtree.specs.Reading.{child_in, node_in}
 use Rattle.tw_rbtree.specs.Ways.{Stop, child_page, end_from, end_of, nowhere, seek, stop_in, way, way_end, way_from, way_on}
 
 module _ {X Y : Type 0} where
@@ -29,47 +30,47 @@ children_page-get (x ∷ cs) (suc place) c e = children_page-get cs place c e
 pub child_page-get : (p : TreePage) (place : ℕ) (c : Child) → slice_get p.children place ≡ Some c → child_page p place ≡ c.page
 child_page-get p place c e = children_page-get p.children place c e
 
-module _ (at : Reading) (ask : Ask) where
+module _ (dig : List ℕ → List ℕ) (ps : Image) (ask : Ask) where
   -- what goes on from a page at a place
   abbrev pub into : (below : ℕ) → Sought → (page : ℕ) → Found (List Stop)
-  into below s page = child_in at below s.low s.high page >>= way_from at ask below s.low s.high
+  into below s page = child_in dig ps below s.low s.high page >>= way_from dig ps ask below s.low s.high
 
   module _ (low high : Option Entry) (p : TreePage) where
     abbrev pub sought : Sought
     sought = seek ask 0 low high p.entries
 
     abbrev pub here : Stop
-    here = stop_in at ask low high p
+    here = stop_in dig ps ask low high p
 
-    pub way-at : (level slot : ℕ) → sought.at ≡ At slot → way_from at ask level low high p ≡ Is (here ∷ [])
+    pub way-at : (level slot : ℕ) → sought.at ≡ At slot → way_from dig ps ask level low high p ≡ Is (here ∷ [])
     unfolding way_from
     way-at zero slot e = refl
-    way-at (suc level) slot e = ap (way_on at ask here (into level)) e
+    way-at (suc level) slot e = ap (way_on dig ps ask here (into level)) e
 
-    pub way-leaf : (level : ℕ) → level ≡ 0 → way_from at ask level low high p ≡ Is (here ∷ [])
+    pub way-leaf : (level : ℕ) → level ≡ 0 → way_from dig ps ask level low high p ≡ Is (here ∷ [])
     unfolding way_from
     way-leaf zero e = refl
     way-leaf (suc level) e = absurd (omega (arith, e))
 
     pub way-goes : (level below place : ℕ) → level ≡ suc below → sought.at ≡ Between place
-        → way_from at ask level low high p ≡ (child_in at below sought.low sought.high (child_page p place) >>= (λ q. way_from at ask below sought.low sought.high q >>= (λ stops. Is (here ∷ stops))))
+        → way_from dig ps ask level low high p ≡ (child_in dig ps below sought.low sought.high (child_page p place) >>= (λ q. way_from dig ps ask below sought.low sought.high q >>= (λ stops. Is (here ∷ stops))))
     unfolding way_from
     way-goes zero below place l e = absurd (omega (arith, l))
     way-goes (suc n) below place l e =
         let same : n ≡ below = omega (arith, l) in
-        ap (λ (m : ℕ). way_from at ask (suc m) low high p) same
-        ∙ ap (way_on at ask here (into below)) e
-        ∙ in_turn (child_in at below sought.low sought.high (child_page p place)) (way_from at ask below sought.low sought.high) (λ stops. Is (here ∷ stops))
+        ap (λ (m : ℕ). way_from dig ps ask (suc m) low high p) same
+        ∙ ap (way_on dig ps ask here (into below)) e
+        ∙ in_turn (child_in dig ps below sought.low sought.high (child_page p place)) (way_from dig ps ask below sought.low sought.high) (λ stops. Is (here ∷ stops))
 
   -- a way has a first stop
   module _ {Y : Type 0} (f g : List Stop → Found Y) (same : (s : Stop) (stops : List Stop) → f (s ∷ stops) ≡ g (s ∷ stops)) where
-    on_stop : (stop : Stop) (to : Sought → (page : ℕ) → Found (List Stop)) (spot : Spot) → (way_on at ask stop to spot >>= f) ≡ (way_on at ask stop to spot >>= g)
+    on_stop : (stop : Stop) (to : Sought → (page : ℕ) → Found (List Stop)) (spot : Spot) → (way_on dig ps ask stop to spot >>= f) ≡ (way_on dig ps ask stop to spot >>= g)
     on_stop stop to (At slot) = same stop []
     on_stop stop to (Between place) =
         let first = to stop.sought (child_page stop.page place) in
         in_turn first (λ stops. Is (stop ∷ stops)) f ∙ on_each first (λ stops. f (stop ∷ stops)) (λ stops. g (stop ∷ stops)) (same stop) ∙ sym (in_turn first (λ stops. Is (stop ∷ stops)) g)
 
-    pub on_way : (level : ℕ) (low high : Option Entry) (p : TreePage) → (way_from at ask level low high p >>= f) ≡ (way_from at ask level low high p >>= g)
+    pub on_way : (level : ℕ) (low high : Option Entry) (p : TreePage) → (way_from dig ps ask level low high p >>= f) ≡ (way_from dig ps ask level low high p >>= g)
     unfolding way_from
     on_way zero low high p = same (here low high p) []
     on_way (suc level) low high p = on_stop (here low high p) (into level) (sought low high p).at
@@ -78,41 +79,44 @@ module _ (at : Reading) (ask : Ask) where
     abbrev last : List Stop → Found Sought
     last stops = Is (end_of nowhere stops)
 
-    pub end-at : (level slot : ℕ) → (sought low high p).at ≡ At slot → end_from at ask level low high p ≡ Is (sought low high p)
+    pub end-at : (level slot : ℕ) → (sought low high p).at ≡ At slot → end_from dig ps ask level low high p ≡ Is (sought low high p)
     unfolding end_from
     end-at level slot e = is_on _ last (here low high p ∷ []) (way-at low high p level slot e)
 
-    pub end-leaf : (level : ℕ) → level ≡ 0 → end_from at ask level low high p ≡ Is (sought low high p)
+    pub end-leaf : (level : ℕ) → level ≡ 0 → end_from dig ps ask level low high p ≡ Is (sought low high p)
     unfolding end_from
     end-leaf level e = is_on _ last (here low high p ∷ []) (way-leaf low high p level e)
 
     pub end-goes : (level below place : ℕ) → level ≡ suc below → (sought low high p).at ≡ Between place
-        → end_from at ask level low high p ≡ (child_in at below (sought low high p).low (sought low high p).high (child_page p place) >>= end_from at ask below (sought low high p).low (sought low high p).high)
+        → end_from dig ps ask level low high p ≡ (child_in dig ps below (sought low high p).low (sought low high p).high (child_page p place) >>= end_from dig ps ask below (sought low high p).low (sought low high p).high)
     unfolding end_from
     end-goes level below place l e =
         let s = sought low high p in
-        let child = child_in at below s.low s.high (child_page p place) in
-        let rest : TreePage → Found (List Stop) = way_from at ask below s.low s.high in
+        let child = child_in dig ps below s.low s.high (child_page p place) in
+        let rest : TreePage → Found (List Stop) = way_from dig ps ask below s.low s.high in
         ap (λ (found : Found (List Stop)). found >>= last) (way-goes low high p level below place l e)
         ∙ in_turn child (λ q. rest q >>= (λ stops. Is (here low high p ∷ stops))) last
         ∙ on_each child (λ q. (rest q >>= (λ stops. Is (here low high p ∷ stops))) >>= last) (λ q. rest q >>= last) (λ q.
         in_turn (rest q) (λ stops. Is (here low high p ∷ stops)) last
         ∙ on_way (λ stops. last (here low high p ∷ stops)) last (λ t stops. refl) below s.low s.high q)
 
-  pub way-empty : (root : Root) → root.page ≡ 0 → way at ask root ≡ Is []
+  pub way-empty : (root : Root) → root.page ≡ 0 → way dig ps ask root ≡ Is []
   unfolding way
-  way-empty root e = ap (λ (b : Bool). if b then Is [] else (root_in at root.page >>= (λ p. way_from at ask p.level None None p))) (let t : (root.page == 0) ≡ true = grind arith in t)
+  way-empty root e = ap (λ (b : Bool). if b then Is [] else (node_in dig ps root.page >>= (λ p. way_from dig ps ask p.level None None p))) (let t : (root.page == 0) ≡ true = grind arith in t)
 
-  pub way-root : (root : Root) → (root.page ≡ 0 → ⊥) → way at ask root ≡ (root_in at root.page >>= (λ p. way_from at ask p.level None None p))
+  pub way-root : (root : Root) → (root.page ≡ 0 → ⊥) → way dig ps ask root ≡ (node_in dig ps root.page >>= (λ p. way_from dig ps ask p.level None None p))
   unfolding way
-  way-root root e = ap (λ (b : Bool). if b then Is [] else (root_in at root.page >>= (λ p. way_from at ask p.level None None p))) (let t : (root.page == 0) ≡ false = grind arith in t)
+  way-root root e = ap (λ (b : Bool). if b then Is [] else (node_in dig ps root.page >>= (λ p. way_from dig ps ask p.level None None p))) (let t : (root.page == 0) ≡ false = grind arith in t)
 
-  pub end-empty : (root : Root) → root.page ≡ 0 → way_end at ask root ≡ Is nowhere
+  pub end-empty : (root : Root) → root.page ≡ 0 → way_end dig ps ask root ≡ Is nowhere
   unfolding way_end
-  end-empty root e = is_on (way at ask root) (λ stops. Is (end_of nowhere stops)) [] (way-empty root e)
+  end-empty root e = is_on (way dig ps ask root) (λ stops. Is (end_of nowhere stops)) [] (way-empty root e)
 
-  pub end-root : (root : Root) → (root.page ≡ 0 → ⊥) → way_end at ask root ≡ (root_in at root.page >>= (λ p. end_from at ask p.level None None p))
+  pub end-root : (root : Root) → (root.page ≡ 0 → ⊥) → way_end dig ps ask root ≡ (node_in dig ps root.page >>= (λ p. end_from dig ps ask p.level None None p))
   unfolding way_end end_from
   end-root root e =
       ap (λ (found : Found (List Stop)). found >>= (λ stops. Is (end_of nowhere stops))) (way-root root e)
-      ∙ in_turn (root_in at root.page) (λ p. way_from at ask p.level None None p) (λ stops. Is (end_of nowhere stops))
+      ∙ in_turn (node_in dig ps root.page) (λ p. way_from dig ps ask p.level None None p) (λ stops. Is (end_of nowhere stops))
+
+-- where the way from a root ends, for the function that goes it
+pub ruleset root_ends = (end-empty, end-root)

@@ -22,9 +22,10 @@ use Rattle.tw_rbtree.specs.declared.fault.TreeFault.TheVariants.{Present}
 use Rattle.tw_rbtree.specs.declared.inserting.Grown.{Grown}
 use Rattle.tw_rbtree.specs.declared.inserting.Grown.TheVariants.{One, Two}
 use Rattle.tw_rbtree.specs.declared.limits.TheConstants.{LEAST_KEYS}
-use Rattle.tw_rbtree.specs.Answers.{IsFaultOf}
+use Rattle.tw_disk.specs.Answers.{SaysOf}
+use Rattle.tw_rbtree.specs.FaultWords.{tree_faults}
 use Rattle.tw_rbtree.specs.Reading.{is_above, is_below}
-use Rattle.tw_rbtree.specs.Standing.{AreTrees, IsTreeBelow, IsTreePage}
+use Rattle.tw_rbtree.specs.Standing.{AreTrees, IsTreeBelow, IsTreePage, OfPage}
 use Rattle.tw_rbtree.specs.Ways.{Stop, end_of}
 
 -- the page is full
@@ -41,7 +42,7 @@ abbrev pub AnswersGrown : (level : ℕ) → Result Grown TreeFault → Found (Li
 AnswersGrown level (Ok grown) found =
     (first : Stop) × (rest : List Stop) × (found ≡ Is (first ∷ rest)) × ((end_of first.sought rest).met ≡ None) × (length rest ≡ level) × IsTwoIfFull grown (first ∷ rest)
 AnswersGrown level (Err Present) found = (first : Stop) × (rest : List Stop) × (e : Entry) × (found ≡ Is (first ∷ rest)) × ((end_of first.sought rest).met ≡ Some e)
-AnswersGrown level (Err fault) found = IsFaultOf fault found
+AnswersGrown level (Err fault) found = SaysOf tree_faults (tree_faults fault) found
 
 -- children are pages, and an entry between two is a possible one between these two
 abbrev pub IsGrownIn : (low high : Option Entry) → Grown → Type 0
@@ -84,10 +85,10 @@ IsLast used (Two left middle right) = Unit {0}
 
 -- ---- what it is, where the pages stand for trees
 
-module _ (dig : List ℕ → List ℕ) (pages : Image) where
+module _ (dig : List ℕ → List ℕ) (Has : OfPage) (pages : Image) where
   -- a child of a page above this level is this tree, whose page has at least so many keys
   abbrev pub IsChildTree : (level least : ℕ) → Child → Tree → Type 0
-  IsChildTree level least c t = (c.label ≡ tree_label dig t) × IsTreePage dig pages (IsTreeBelow dig pages level) level least c.page t
+  IsChildTree level least c t = (c.label ≡ tree_label dig t) × IsTreePage dig Has pages (IsTreeBelow dig Has pages level) level least c.page t
 
   -- it lists these entries
   abbrev pub GrownLists : (level least : ℕ) → List Entry → Grown → Type 0
@@ -100,7 +101,7 @@ module _ (dig : List ℕ → List ℕ) (pages : Image) where
     pub level_is : p.level ≡ level
     pub least_keys : least ≤ length p.entries
     pub trees : List Tree
-    pub are_trees : AreTrees (IsTreeBelow dig pages level) p.children trees
+    pub are_trees : AreTrees (IsTreeBelow dig Has pages level) p.children trees
     pub lists : woven (map entries trees) p.entries ≡ listed
 
   abbrev pub AddedLists : (level least : ℕ) → List Entry → Added → Type 0

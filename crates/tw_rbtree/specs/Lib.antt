@@ -8,3 +8,4 @@ pub mod Planting
 pub mod Answers
 pub mod Growing
 pub mod Showing
+pub mod Beside

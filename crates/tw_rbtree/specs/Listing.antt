@@ -2,6 +2,7 @@
 use Rattle.std.specs.Prelude.{◌≡◌, ℕ, suc, zero, ◌+◌, ◌<◌, ◌≤◌, ◌==◌, ◌||◌, List, [], ◌∷◌, ◌++◌, length, nat_lt, slice_get, Option, Some, None, Result, Ok, Err, if◌then◌else◌}
 use Rattle.tw_base.specs.declared.history.root.Root.{Root}
 use Rattle.tw_base.specs.declared.history.thread.Entry.{Entry}
+use Rattle.tw_disk.specs.Image.{Image}
 use Rattle.tw_disk.specs.Found.{Found, ◌>>=◌}
 use Rattle.tw_disk.specs.Found.Found.{Is}
 use Rattle.tw_rbnode.specs.Page.{TreePage}
@@ -11,8 +12,9 @@ use Rattle.tw_rbtree.specs.declared.fault.TreeFault.{TreeFault}
 use Rattle.tw_rbtree.specs.declared.new_node.NewNode.{NewNode}
 use Rattle.tw_rbtree.specs.declared.new_node.Side.{Side}
 use Rattle.tw_rbtree.specs.declared.new_node.Side.TheVariants.{Empty as NoTree, New, Old}
-use Rattle.tw_rbtree.specs.Answers.{IsFaultOf}
-use Rattle.tw_rbtree.specs.Reading.{Reading, child_in, root_in}
+use Rattle.tw_disk.specs.Answers.{SaysOf}
+use Rattle.tw_rbtree.specs.FaultWords.{tree_faults}
+use Rattle.tw_rbtree.specs.Reading.{child_in, node_in}
 use Rattle.tw_rbtree.specs.Ways.{child_page}
 
 -- the nodes that are listed, and the side that the tree listed last is
@@ -39,19 +41,19 @@ listed_at child es page low high base (Node red l r) nodes =
     >>= (λ left. listed_at child es 0 (slice_get es (base + size l)) high (base + size l + 1) r left.nodes
     >>= (λ right. Is (node_behind (slice_get es (base + size l)) page left.side right)))
 
-module _ (at : Reading) (since : ℕ) where
+module _ (dig : List ℕ → List ℕ) (pages : Image) (since : ℕ) where
   -- the nodes of what stands at a place of a page of this level, between these two entries; older pages are named and not read
   unfoldable pub child_listed : (level : ℕ) → TreePage → ListsAt
   child_listed zero p low high place nodes = Is (record { nodes = nodes; side = NoTree })
   child_listed (suc level) p low high place nodes =
       if nat_lt (child_page p place) since then Is (record { nodes = nodes; side = Old (child_page p place) })
-      else (child_in at level low high (child_page p place) >>= (λ q. listed_at (child_listed level q) q.entries (child_page p place) low high 0 q.shape nodes))
+      else (child_in dig pages level low high (child_page p place) >>= (λ q. listed_at (child_listed level q) q.entries (child_page p place) low high 0 q.shape nodes))
 
   -- the nodes of the tree's pages whose numbers are at least this one
   unfoldable pub listed : Root → Found (List NewNode)
   listed root =
       if (root.page == 0) || nat_lt root.page since then Is []
-      else (root_in at root.page >>= (λ p. listed_at (child_listed p.level p) p.entries root.page None None 0 p.shape [] >>= (λ all. Is all.nodes)))
+      else (node_in dig pages root.page >>= (λ p. listed_at (child_listed p.level p) p.entries root.page None None 0 p.shape [] >>= (λ all. Is all.nodes)))
 
 -- the tree behind base is a part of the page's tree
 abbrev pub IsPartOf : Shape → (base : ℕ) → Shape → Type 0
@@ -67,4 +69,4 @@ pub record IsPartAt (p : TreePage) (base end top : ℕ) (t : Shape) : Type 0 whe
 -- the nodes that are there now, and the side, are what is found
 abbrev pub AnswersListed : Result Side TreeFault → (now : List NewNode) → Found Listed → Type 0
 AnswersListed (Ok side) now found = found ≡ Is (record { nodes = now; side = side })
-AnswersListed (Err fault) now found = IsFaultOf fault found
+AnswersListed (Err fault) now found = SaysOf tree_faults (tree_faults fault) found

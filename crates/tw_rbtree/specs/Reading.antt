@@ -1,15 +1,16 @@
 -- Which tree pages stand in a list of pages, and which of them fit a way down.
-use Rattle.std.specs.Prelude.{ℕ, ◌+◌, ◌-◌, ◌<◌, ◌≤◌, ◌==◌, ◌&&◌, List, [], ◌∷◌, length, nat_le, Bool, true, Option, Some, None, MatchOption}
+use Rattle.std.specs.Prelude.{ℕ, ◌+◌, ◌-◌, ◌<◌, ◌≤◌, ◌==◌, ◌&&◌, List, [], ◌∷◌, length, nat_le, Bool, true, Option, Some, None}
 use Rattle.std.specs.Ordering.{is_lt}
 use Rattle.tw_base.specs.declared.history.thread.Entry.{Entry}
 use Rattle.tw_base.specs.history.Entries.{key_cmp, key_of}
 use Rattle.tw_disk.specs.declared.limits.TheConstants.{FIRST_PAGE}
-use Rattle.tw_disk.specs.Found.{Found, when}
-use Rattle.tw_disk.specs.Found.Found.{Bad}
+use Rattle.tw_disk.specs.Found.{Found, bytes_in, spelled, when, ◌>>=◌}
 use Rattle.tw_disk.specs.Image.{Image, page_at}
+use Rattle.tw_base.specs.declared.kinds.limits.TheConstants.{PAGE_SIZE}
 use Rattle.tw_base.specs.format.PageBytes.{IsPageOf}
 use Rattle.tw_rbnode.specs.NodeBytes.{MayStand, fields_of, node_codec}
 use Rattle.tw_rbnode.specs.Page.{TreePage}
+use Rattle.tw_rbnode.specs.Tests.{may_stand, page_of}
 use Rattle.tw_rbtree.specs.declared.limits.TheConstants.{LEAST_KEYS}
 
 -- the page of this number is there, and its bytes are those of a tree page that may stand under the number
@@ -18,14 +19,6 @@ pub record IsPageAt (dig : List ℕ → List ℕ) (pages : Image) (page : ℕ) (
   pub below : page < FIRST_PAGE + length pages
   pub may_stand : MayStand dig page p
   pub bytes : IsPageOf node_codec (page_at pages (page - FIRST_PAGE)) (fields_of p)
-
--- the tree page of each number, where there is one
-abbrev pub Reading : Type 0
-Reading = ℕ → Option TreePage
-
--- what is told of each number is so of the pages; there is one such reading of any pages
-abbrev pub IsReading : (dig : List ℕ → List ℕ) → Image → Reading → Type 0
-IsReading dig pages at = (page : ℕ) → MatchOption (at page) ((p : TreePage) → IsPageAt dig pages page p → ⊥) (λ p. IsPageAt dig pages page p)
 
 -- the entry lies above this one; above none all do
 abbrev pub is_above : Option Entry → Entry → Bool
@@ -45,15 +38,15 @@ lie_between low high (e ∷ es) = (is_above low e && is_below high e) && lie_bet
 abbrev pub fits : (level : ℕ) → (low high : Option Entry) → TreePage → Bool
 fits level low high p = (p.level == level && nat_le LEAST_KEYS (length p.entries)) && lie_between low high p.entries
 
--- the tree page of this number, where there is one, if it passes the test
-abbrev pub passing : (TreePage → Bool) → (page : ℕ) → Option TreePage → Found TreePage
-passing test page None = Bad page
-passing test page (Some p) = when (test p) page p
+-- the tree page whose fields these bytes spell, if it may stand under this number
+unfoldable pub node_from : (dig : List ℕ → List ℕ) → (page : ℕ) → List ℕ → Found TreePage
+node_from dig page bytes = spelled page PAGE_SIZE node_codec bytes >>= (λ f. when (may_stand dig page f) page (page_of f))
 
-module _ (at : Reading) where
-  -- any tree page may be a root page
-  unfoldable pub root_in : (page : ℕ) → Found TreePage
-  root_in page = passing (λ p. true) page (at page)
+module _ (dig : List ℕ → List ℕ) (pages : Image) where
+  -- the tree page of this number; any may be a root page
+  unfoldable pub node_in : (page : ℕ) → Found TreePage
+  node_in page = bytes_in pages page >>= node_from dig page
 
+  -- the same, if it fits the way to it
   unfoldable pub child_in : (level : ℕ) → (low high : Option Entry) → (page : ℕ) → Found TreePage
-  child_in level low high page = passing (fits level low high) page (at page)
+  child_in level low high page = node_in page >>= (λ p. when (fits level low high p) page p)

@@ -7,7 +7,9 @@ use Rattle.tw_disk.specs.Found.Found.{Is}
 use Rattle.tw_rbtree.specs.declared.fault.TreeFault.{TreeFault}
 use Rattle.tw_rbtree.specs.declared.fault.TreeFault.TheVariants.{Untrue}
 use Rattle.tw_rbtree.specs.declared.proving.Shown.{Shown}
-use Rattle.tw_rbtree.specs.Answers.{IsFaultOf, IsSoAt}
+use Rattle.tw_disk.specs.Answers.{SaysOf}
+use Rattle.tw_rbtree.specs.Answers.{IsSoAt}
+use Rattle.tw_rbtree.specs.FaultWords.{tree_faults}
 use Rattle.tw_rbtree.specs.Paths.{shown_proof, way_nodes, way_proof}
 use Rattle.tw_rbtree.specs.Ways.{Stop, end_of}
 
@@ -17,4 +19,4 @@ AnswersShown dig ask (Ok shown) found =
     (first : Stop) × (rest : List Stop) × (found ≡ Is (first ∷ rest)) × IsSoAt ask (end_of first.sought rest).met × (shown.ancestors ≡ way_nodes dig (first ∷ rest))
     × ((up : List Ancestor) → shown_proof shown.sides up ≡ way_proof dig (first ∷ rest) up)
 AnswersShown dig ask (Err Untrue) found = (first : Stop) × (rest : List Stop) × (found ≡ Is (first ∷ rest)) × (IsSoAt ask (end_of first.sought rest).met → ⊥)
-AnswersShown dig ask (Err fault) found = IsFaultOf fault found
+AnswersShown dig ask (Err fault) found = SaysOf tree_faults (tree_faults fault) found

@@ -1,5 +1,5 @@
 -- When pages stand for a tree.
-use Rattle.std.specs.Prelude.{◌≡◌, ◌⊎◌, ℕ, suc, zero, ◌≤◌, List, [], ◌∷◌, length}
+use Rattle.std.specs.Prelude.{◌≡◌, ◌⊎◌, ℕ, suc, zero, ◌≤◌, List, [], ◌∷◌, length, ◌<◌}
 use Rattle.tw_base.specs.declared.history.root.Root.{Root}
 use Rattle.tw_base.specs.history.Auth.{tree_label}
 use Rattle.tw_base.specs.history.Tree.{Tree, IsRising, entries}
@@ -18,7 +18,22 @@ AreTrees Is [] (t ∷ ts) = ⊥
 AreTrees Is (c ∷ cs) [] = ⊥
 AreTrees Is (c ∷ cs) (t ∷ ts) = Is c t × AreTrees Is cs ts
 
-module _ (dig : List ℕ → List ℕ) (pages : Image) where
+-- what holds of a page and the tree that it is
+abbrev pub OfPage : Type 1
+OfPage = (page : ℕ) → Tree → Type 0
+
+abbrev pub any_page : OfPage
+any_page page t = Unit {0}
+
+-- the trees that pages below a number are to be
+pub record Named : Type 0 where
+  pub below : ℕ
+  pub tree : ℕ → Tree
+
+abbrev pub HasNamed : Named → OfPage
+HasNamed named page t = page < named.below → named.tree page ≡ t
+
+module _ (dig : List ℕ → List ℕ) (Has : OfPage) (pages : Image) where
   -- the page of this number has the level and at least so many keys, and is this tree over those of its children
   pub record IsTreePage (IsBelow : Child → Tree → Type 0) (level least page : ℕ) (t : Tree) : Type 0 where
     pub node : TreePage
@@ -28,6 +43,7 @@ module _ (dig : List ℕ → List ℕ) (pages : Image) where
     pub trees : List Tree
     pub are_trees : AreTrees IsBelow node.children trees
     pub tree_is : t ≡ page_tree node trees
+    pub has : Has page t
 
   -- the child of a page of this level is this tree: the empty one below level 0, else that of a page of the level one lower
   unfoldable pub IsTreeBelow : (level : ℕ) → Child → Tree → Type 0
@@ -39,7 +55,10 @@ module _ (dig : List ℕ → List ℕ) (pages : Image) where
   IsRootTree page t = ((page ≡ 0) × (t ≡ Empty)) ⊎ ((level : ℕ) × IsTreePage (IsTreeBelow level) level 1 page t)
 
   -- the pages stand for this tree under the root: its keys rise, its label is the root's, and the root's page is the tree
-  pub record StandsFor (root : Root) (t : Tree) : Type 0 where
+  pub record StandsWith (root : Root) (t : Tree) : Type 0 where
     pub rising : IsRising (entries t)
     pub label : root.label ≡ tree_label dig t
     pub tree : IsRootTree root.page t
+
+abbrev pub StandsFor : (dig : List ℕ → List ℕ) → Image → Root → Tree → Type 0
+StandsFor dig pages root t = StandsWith dig any_page pages root t

@@ -5,6 +5,7 @@ use Rattle.tw_base.specs.declared.history.thread.Entry.{Entry}
 use Rattle.tw_base.specs.declared.history.thread.Key.{Key}
 use Rattle.tw_base.specs.declared.history.tree_proof.Ask.{Ask}
 use Rattle.tw_base.specs.declared.history.tree_proof.Ask.TheVariants.{Absent, Above, Below}
+use Rattle.tw_disk.specs.Image.{Image}
 use Rattle.tw_disk.specs.Found.{Found, ◌>>=◌}
 use Rattle.tw_disk.specs.Found.Found.{Is}
 use Rattle.tw_rbnode.specs.declared.child.Child.{Child}
@@ -13,7 +14,7 @@ use Rattle.tw_rbnode.specs.declared.node.Found.TheVariants.{At, Between}
 use Rattle.tw_rbnode.specs.Page.{TreePage}
 use Rattle.tw_treeproof.specs.Ways.{has_asked_key, is_left}
 use Rattle.tw_rbtree.specs.declared.seeking.Sought.{Sought}
-use Rattle.tw_rbtree.specs.Reading.{Reading, child_in, root_in}
+use Rattle.tw_rbtree.specs.Reading.{child_in, node_in}
 
 -- where the question leads among entries in order, of which the first has this number: to the slot of the asked key, or to the
 -- place before the first entry at which the way goes left; and the entries on either side of the way
@@ -41,7 +42,7 @@ end_of here (s ∷ stops) = end_of s.sought stops
 abbrev pub child_page : TreePage → (place : ℕ) → ℕ
 child_page p place = slice_index_or (map (λ (c : Child). c.page) p.children) place 0
 
-module _ (at : Reading) (ask : Ask) where
+module _ (dig : List ℕ → List ℕ) (pages : Image) (ask : Ask) where
   -- on from a stop in a page, into the page at the place to which the way leads
   abbrev pub way_on : Stop → (Sought → (page : ℕ) → Found (List Stop)) → Spot → Found (List Stop)
   way_on stop into (At slot) = Is (stop ∷ [])
@@ -54,11 +55,11 @@ module _ (at : Reading) (ask : Ask) where
   unfoldable pub way_from : (level : ℕ) → (low high : Option Entry) → TreePage → Found (List Stop)
   way_from zero low high p = Is (stop_in low high p ∷ [])
   way_from (suc level) low high p =
-      way_on (stop_in low high p) (λ s page. child_in at level s.low s.high page >>= way_from level s.low s.high) (seek ask 0 low high p.entries).at
+      way_on (stop_in low high p) (λ s page. child_in dig pages level s.low s.high page >>= way_from level s.low s.high) (seek ask 0 low high p.entries).at
 
   -- the stops of the way from the root down; the empty tree has none
   unfoldable pub way : Root → Found (List Stop)
-  way root = if root.page == 0 then Is [] else (root_in at root.page >>= (λ p. way_from p.level None None p))
+  way root = if root.page == 0 then Is [] else (node_in dig pages root.page >>= (λ p. way_from p.level None None p))
 
   -- where the way from a page down ends, and where the way from the root does
   unfoldable pub end_from : (level : ℕ) → (low high : Option Entry) → TreePage → Found Sought
@@ -68,12 +69,12 @@ module _ (at : Reading) (ask : Ask) where
   way_end root = way root >>= (λ stops. Is (end_of nowhere stops))
 
 -- ---- what is found of a key: its entry where the way to it ends, and the nearest entries on the left and on the right of the ways beside it
-module _ (at : Reading) (root : Root) (key : Key) where
+module _ (dig : List ℕ → List ℕ) (pages : Image) (root : Root) (key : Key) where
   unfoldable pub found_with : Found (Option Entry)
-  found_with = way_end at (Absent key) root >>= (λ end. Is end.met)
+  found_with = way_end dig pages (Absent key) root >>= (λ end. Is end.met)
 
   unfoldable pub found_before : Found (Option Entry)
-  found_before = way_end at (Below key) root >>= (λ end. Is end.low)
+  found_before = way_end dig pages (Below key) root >>= (λ end. Is end.low)
 
   unfoldable pub found_after : Found (Option Entry)
-  found_after = way_end at (Above key) root >>= (λ end. Is end.high)
+  found_after = way_end dig pages (Above key) root >>= (λ end. Is end.high)

@@ -1,17 +1,19 @@
 // What a tree in pages has of a key, and next to it.
 
-ghost use Rattle.std.specs.Prelude.{◌≡◌, ℕ, ◌-◌, None, Option, Some};
+ghost use Rattle.std.specs.Prelude.{◌≡◌, Some, false, IfOk, IfSome};
+ghost use Rattle.tw_base.specs.history.Entries.{KeyBelow, key_of};
+ghost use Rattle.tw_base.specs.history.Limits.{IsEntryInRange};
+ghost use Rattle.tw_disk.specs.Answers.{AnswersAs, FaultsRise, NeverRefuses, ReadsPages, has_failed};
 ghost use Rattle.tw_disk.specs.Image.{Image};
 ghost use Rattle.tw_disk.specs.Pages.{OnlyReads};
-ghost use Rattle.tw_rbtree.specs.Answers.{NotFaultOnWay, WalkAnswersAs, WalkFaultsRise};
-ghost use Rattle.tw_rbtree.specs.Reading.{IsReading, Reading};
+ghost use Rattle.tw_disk.specs.WalkFaults.{walk_faults};
+ghost use Rattle.tw_rbtree.specs.Beside.{AreBeside, IsSoughtBy};
 ghost use Rattle.tw_rbtree.specs.Ways.{end_from, found_after, found_before, found_with, way_end};
 
-use crate::fault::WalkFault;
-use crate::reading::{read_child, read_root};
+use crate::reading::{read_child, read_root, see_node};
 use crate::seeking::{Sought, seek};
 use tw_base::{Ask, Entry, Hasher, Key, Root};
-use tw_disk::Pages;
+use tw_disk::{Pages, WalkFault};
 use tw_rbnode::{Found, RbNode, child_at, level};
 
 /// Where the way from this page down ends, which lies between these two entries. Calls itself once a level.
@@ -22,11 +24,15 @@ fn end_below<P: Pages, H: Hasher>(
     low: &Option<Entry>,
     high: &Option<Entry>,
 ) -> Result<Sought, WalkFault>
-    ensures answer { (ps : Image) → P.list pages.old ≡ Some ps → (at : Reading) → IsReading H.dig ps at →
-        WalkAnswersAs (λ s. s) result (end_from at ask.now node.now.level low.now high.now node.now) }
-    ensures kept { OnlyReads P.used_count P.list P.same P.unbroken pages.old pages.new (NotFaultOnWay result) }
-    ensures faults { WalkFaultsRise (P.faults pages.old) (P.faults pages.new) result }
+    requires beside { AreBeside ask.now low.now high.now }
+    ensures tells { IfOk result (λ s. IsSoughtBy ask.now s) }
+    ensures answer { (ps : Image) → (P.view pages.old).list ≡ Some ps →
+        AnswersAs walk_faults (λ s. s) result (end_from H.dig ps ask.now node.now.level low.now high.now node.now) }
+    ensures own { NeverRefuses walk_faults result }
+    ensures kept { OnlyReads P.view P.same pages.old pages.new (has_failed walk_faults result ≡ false) }
+    ensures faults { FaultsRise walk_faults P.view P.same pages.old pages.new result }
 {
+    see_node(node);
     let here = seek(node, ask, low, high);
     let Found::Between(place) = here.at else {
         return Ok(here);
@@ -40,11 +46,10 @@ fn end_below<P: Pages, H: Hasher>(
 }
 
 /// Where the way from the root down ends.
+#[tactic(auto, using(crate::proofs::WayLaws::root_ends))]
 fn find_end<P: Pages, H: Hasher>(pages: &mut P, root: &Root, ask: &Ask) -> Result<Sought, WalkFault>
-    ensures answer { (ps : Image) → P.list pages.old ≡ Some ps → (at : Reading) → IsReading H.dig ps at →
-        WalkAnswersAs (λ s. s) result (way_end at ask.now root.now) }
-    ensures kept { OnlyReads P.used_count P.list P.same P.unbroken pages.old pages.new (NotFaultOnWay result) }
-    ensures faults { WalkFaultsRise (P.faults pages.old) (P.faults pages.new) result }
+    ensures tells { IfOk result (λ s. IsSoughtBy ask.now s) }
+    ensures reads { ReadsPages walk_faults P.view P.same pages.old pages.new (λ s. s) result (λ ps. way_end H.dig ps ask.now root.now) }
 {
     if root.page == 0 {
         return Ok(Sought {
@@ -60,19 +65,18 @@ fn find_end<P: Pages, H: Hasher>(pages: &mut P, root: &Root, ask: &Ask) -> Resul
 
 /// The entry of the key, or none where the tree under the root has no entry of it. Reads the pages on one way down, and takes no
 /// memory.
+#[tactic(auto, unfolding(crate::specs::Ways::found_with))]
 pub fn get<P: Pages, H: Hasher>(
     pages: &mut P,
     root: &Root,
     key: &Key,
 ) -> Result<Option<Entry>, WalkFault>
-    // Over told pages the answer is what is found in them, whatever they keep, a disk fault excepted: the entry of the key at the
+    // It changes nothing of what the pages tell, and `DiskFault` comes only where the count of faults rose. Over told pages the
+    // answer is what is found in them, whatever they keep, a disk fault excepted: the entry of the key at the
     // end of the way down, or `BadPage` with the first page met that doesn't fit the way.
-    ensures answer { (ps : Image) → P.list pages.old ≡ Some ps → (at : Reading) → IsReading H.dig ps at →
-        WalkAnswersAs (λ e. e) result (found_with at root.now key.now) }
-    // Reading changes nothing of what the pages tell.
-    ensures kept { OnlyReads P.used_count P.list P.same P.unbroken pages.old pages.new (NotFaultOnWay result) }
-    // `DiskFault` comes only where the count of faults rose.
-    ensures faults { WalkFaultsRise (P.faults pages.old) (P.faults pages.new) result }
+    ensures reads { ReadsPages walk_faults P.view P.same pages.old pages.new (λ e. e) result (λ ps. found_with H.dig ps root.now key.now) }
+    // Over any pages, told or not, an entry that is answered has the asked key, and its steps are within 1 to 2^40 - 1.
+    ensures key { IfOk result (λ o. IfSome o (λ e. (key_of e ≡ key.now) × IsEntryInRange e)) }
 {
     let end = find_end::<P, H>(pages, root, &Ask::Absent(*key))?;
     Ok(end.met)
@@ -80,19 +84,18 @@ pub fn get<P: Pages, H: Hasher>(
 
 /// The entry with the greatest key below this one, or none where no key of the tree under the root is below it. Reads the pages on
 /// one way down to a leaf page, and takes no memory.
+#[tactic(auto, unfolding(crate::specs::Ways::found_before))]
 pub fn before<P: Pages, H: Hasher>(
     pages: &mut P,
     root: &Root,
     key: &Key,
 ) -> Result<Option<Entry>, WalkFault>
-    // Over told pages the answer is what is found in them, whatever they keep, a disk fault excepted: the nearest entry on the
+    // It changes nothing of what the pages tell, and `DiskFault` comes only where the count of faults rose. Over told pages the
+    // answer is what is found in them, whatever they keep, a disk fault excepted: the nearest entry on the
     // left of the way down, or `BadPage` with the first page met that doesn't fit the way.
-    ensures answer { (ps : Image) → P.list pages.old ≡ Some ps → (at : Reading) → IsReading H.dig ps at →
-        WalkAnswersAs (λ e. e) result (found_before at root.now key.now) }
-    // Reading changes nothing of what the pages tell.
-    ensures kept { OnlyReads P.used_count P.list P.same P.unbroken pages.old pages.new (NotFaultOnWay result) }
-    // `DiskFault` comes only where the count of faults rose.
-    ensures faults { WalkFaultsRise (P.faults pages.old) (P.faults pages.new) result }
+    ensures reads { ReadsPages walk_faults P.view P.same pages.old pages.new (λ e. e) result (λ ps. found_before H.dig ps root.now key.now) }
+    // Over any pages, told or not, an entry that is answered is below the key, and its steps are within 1 to 2^40 - 1.
+    ensures key { IfOk result (λ o. IfSome o (λ e. KeyBelow (key_of e) key.now × IsEntryInRange e)) }
 {
     let end = find_end::<P, H>(pages, root, &Ask::Below(*key))?;
     Ok(end.low)
@@ -100,19 +103,18 @@ pub fn before<P: Pages, H: Hasher>(
 
 /// The entry with the least key above this one, or none where no key of the tree under the root is above it. Reads the pages on
 /// one way down to a leaf page, and takes no memory.
+#[tactic(auto, unfolding(crate::specs::Ways::found_after))]
 pub fn after<P: Pages, H: Hasher>(
     pages: &mut P,
     root: &Root,
     key: &Key,
 ) -> Result<Option<Entry>, WalkFault>
-    // Over told pages the answer is what is found in them, whatever they keep, a disk fault excepted: the nearest entry on the
+    // It changes nothing of what the pages tell, and `DiskFault` comes only where the count of faults rose. Over told pages the
+    // answer is what is found in them, whatever they keep, a disk fault excepted: the nearest entry on the
     // right of the way down, or `BadPage` with the first page met that doesn't fit the way.
-    ensures answer { (ps : Image) → P.list pages.old ≡ Some ps → (at : Reading) → IsReading H.dig ps at →
-        WalkAnswersAs (λ e. e) result (found_after at root.now key.now) }
-    // Reading changes nothing of what the pages tell.
-    ensures kept { OnlyReads P.used_count P.list P.same P.unbroken pages.old pages.new (NotFaultOnWay result) }
-    // `DiskFault` comes only where the count of faults rose.
-    ensures faults { WalkFaultsRise (P.faults pages.old) (P.faults pages.new) result }
+    ensures reads { ReadsPages walk_faults P.view P.same pages.old pages.new (λ e. e) result (λ ps. found_after H.dig ps root.now key.now) }
+    // Over any pages, told or not, an entry that is answered is above the key, and its steps are within 1 to 2^40 - 1.
+    ensures key { IfOk result (λ o. IfSome o (λ e. KeyBelow key.now (key_of e) × IsEntryInRange e)) }
 {
     let end = find_end::<P, H>(pages, root, &Ask::Above(*key))?;
     Ok(end.high)

@@ -1,16 +1,7 @@
 // Why a call on a tree in pages has no answer.
 
 use tw_base::NoMemory;
-
-/// Why a walk down a tree has no answer.
-#[derive(Clone, Copy, Debug, PartialEq, Eq, Drop)]
-pub enum WalkFault {
-    /// The page of this number doesn't fit the walk: it is none of the pages, or no tree page of the wanted level, or has too few
-    /// keys, or one that doesn't lie between those on either side of the way down to it.
-    BadPage { page: u64 },
-    /// A read failed; the count of faults of the pages rose in this call.
-    DiskFault,
-}
+use tw_disk::WalkFault;
 
 /// Why a call that takes memory has no answer.
 #[derive(Clone, Copy, Debug, PartialEq, Eq, Drop)]
@@ -19,7 +10,8 @@ pub enum TreeFault {
     Present,
     /// `path`: what is asked isn't so of the tree.
     Untrue,
-    /// The page of this number doesn't fit the walk; or it is the root's page, of the greatest level, which an insert would split.
+    /// The page of this number doesn't fit the walk: it is none of the pages, or no tree page of the wanted level, or has too few
+    /// keys, or one that doesn't lie between those on either side of the way down to it; or it is the root's page, of the greatest level, which an insert would split.
     BadPage { page: u64 },
     /// A read failed; the count of faults of the pages rose in this call.
     DiskFault,

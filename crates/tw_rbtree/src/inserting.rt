@@ -1,6 +1,6 @@
 // One entry more.
 
-ghost use Rattle.std.specs.Prelude.{◌≡◌, ℕ, ◌+◌, ◌*◌, ◌-◌, ◌<◌, ◌≤◌, ◌^◌, ◌++◌, ◌∷◌, [], List, true, IfOk, Some, length, map};
+ghost use Rattle.std.specs.Prelude.{◌≡◌, false, ℕ, ◌+◌, ◌*◌, ◌-◌, ◌<◌, ◌≤◌, ◌^◌, ◌++◌, ◌∷◌, [], List, true, IfOk, Some, length, map};
 ghost use Rattle.std.specs.Option.{option_map};
 ghost use Rattle.tw_base.specs.declared.history.tree_proof.Ask.TheVariants.{Absent};
 ghost use Rattle.tw_base.specs.history.Asking.{with_entry};
@@ -8,28 +8,30 @@ ghost use Rattle.tw_base.specs.history.Entries.{key_of};
 ghost use Rattle.tw_base.specs.history.Limits.{IsEntryInRange};
 ghost use Rattle.tw_base.specs.format.PageBytes.{IsPageOf};
 ghost use Rattle.tw_base.specs.history.Tree.{Tree, IsRising, entries};
+ghost use Rattle.tw_disk.specs.Answers.{FaultsRise, has_failed};
 ghost use Rattle.tw_disk.specs.Image.{Image};
 ghost use Rattle.tw_disk.specs.Pages.{OnlyAdds};
 ghost use Rattle.tw_rbnode.specs.Children.{AddedHasChildren, HasChildren, IsChildAt};
 ghost use Rattle.tw_rbnode.specs.NodeBytes.{fields_of, node_codec};
 ghost use Rattle.tw_rbnode.specs.Page.{IsNode};
 ghost use Rattle.tw_rbnode.specs.Trees.{woven};
-ghost use Rattle.tw_rbtree.specs.Answers.{AnswersInsert, FaultsRise, NeverUntrue, NotDiskFault};
+ghost use Rattle.tw_rbtree.specs.Answers.{AnswersInsert, NeverUntrue};
+ghost use Rattle.tw_rbtree.specs.FaultWords.{tree_faults};
 ghost use Rattle.tw_rbtree.specs.Growing.{AddedAreNodes, AddedLists, AnswersGrown, GrownLists, IsGrownIn, IsLast, IsStaged, IsStagedAs, IsWith, MayGoInto};
-ghost use Rattle.tw_rbtree.specs.Reading.{IsReading, Reading, is_above, is_below, lie_between};
-ghost use Rattle.tw_rbtree.specs.Standing.{AreTrees, IsTreeBelow, StandsFor};
+ghost use Rattle.tw_rbtree.specs.Reading.{is_above, is_below, lie_between};
+ghost use Rattle.tw_rbtree.specs.Standing.{AreTrees, IsTreeBelow, HasNamed, Named, StandsWith};
 ghost use Rattle.tw_rbtree.specs.Ways.{way, way_from};
 ghost use Rattle.tw_rbtree.specs.declared.limits.TheConstants.{MOST_STAGED};
 
 use crate::fault::TreeFault;
-use crate::reading::{read_child, read_root};
+use crate::reading::{read_child, read_root, see_node};
 use crate::seeking::seek;
 use std::alloc::Global;
 use tw_base::{Ask, Entry, Hasher, NoMemory, Root, empty_tree, entry_key};
 use tw_disk::Pages;
 use tw_rbnode::limits::TOP_LEVEL;
 use tw_rbnode::{
-    Added, Child, Found, RbNode, add, child_at, keys, label, level, put_child, single, write_node,
+    Added, Child, Found, RbNode, add, child_at, label, level, put_child, single, write_node,
 };
 
 /// What a part of the tree has become: one child in its place, or two with an entry between them.
@@ -41,13 +43,6 @@ pub(crate) enum Grown {
         middle: Entry,
         right: Child,
     },
-}
-
-/// Tells that a page is a page.
-fn see_node(node: &RbNode)
-    ensures { IsNode node.now }
-{
-    let _count = keys(node);
 }
 
 /// Tells that pages are pages.
@@ -65,15 +60,15 @@ fn see_added(added: &Added)
 
 /// Stages the page, and answers the child that it is.
 fn stage_node<P: Pages, H: Hasher>(pages: &mut P, node: &RbNode) -> Result<Child, NoMemory>
-    requires { P.used_count pages.old < 2 ^ 48 - 4 }
+    requires { (P.view pages.old).used < 2 ^ 48 - 4 }
     ensures node { IsNode node.now }
-    ensures staged { IfOk result (λ c. IsStaged H.dig (P.used_count pages.old) node.now c) }
+    ensures staged { IfOk result (λ c. IsStaged H.dig ((P.view pages.old).used) node.now c) }
     ensures put { IfOk result (λ c. (bytes : List ℕ) × IsPageOf node_codec bytes (fields_of node.now)
-        × (P.list pages.new ≡ option_map (λ ps. ps ++ bytes ∷ []) (P.list pages.old))) }
-    ensures used { IfOk result (λ c. P.used_count pages.new ≡ P.used_count pages.old + 1) }
-    ensures few { P.used_count pages.new ≤ P.used_count pages.old + 1 }
-    ensures kept { OnlyAdds P.used_count P.list P.same P.unbroken pages.old pages.new (Unit {0}) }
-    ensures faults { P.faults pages.new ≡ P.faults pages.old }
+        × ((P.view pages.new).list ≡ option_map (λ ps. ps ++ bytes ∷ []) (P.view pages.old).list)) }
+    ensures used { IfOk result (λ c. (P.view pages.new).used ≡ (P.view pages.old).used + 1) }
+    ensures few { (P.view pages.new).used ≤ (P.view pages.old).used + 1 }
+    ensures kept { OnlyAdds P.view P.same pages.old pages.new (Unit {0}) }
+    ensures faults { (P.view pages.new).faults ≡ (P.view pages.old).faults }
 {
     see_node(node);
     let page = pages.stage(&write_node(node))?;
@@ -83,15 +78,16 @@ fn stage_node<P: Pages, H: Hasher>(pages: &mut P, node: &RbNode) -> Result<Child
 
 /// Stages the one page, or the two from left to right.
 fn stage_added<P: Pages, H: Hasher>(pages: &mut P, added: Added) -> Result<Grown, NoMemory>
-    requires { P.used_count pages.old < 2 ^ 48 - 5 }
-    ensures lists { (ps : Image) → P.list pages.old ≡ Some ps → AddedHasChildren H.dig added →
-        (own least : ℕ) (es : List Entry) → AddedLists H.dig ps own least es added →
-        IfOk result (λ g. (now : Image) × (P.list pages.new ≡ Some now) × GrownLists H.dig now own least es g) }
-    ensures staged { IfOk result (λ g. IsStagedAs H.dig (P.used_count pages.old) added g) }
-    ensures last { IfOk result (λ g. IsLast (P.used_count pages.new) g) }
-    ensures few { P.used_count pages.new ≤ P.used_count pages.old + 2 }
-    ensures kept { OnlyAdds P.used_count P.list P.same P.unbroken pages.old pages.new (Unit {0}) }
-    ensures faults { P.faults pages.new ≡ P.faults pages.old }
+    requires { (P.view pages.old).used < 2 ^ 48 - 5 }
+    ensures lists { (ps : Image) → (P.view pages.old).list ≡ Some ps → AddedHasChildren H.dig added →
+        (named : Named) → named.below ≤ (P.view pages.old).used →
+        (own least : ℕ) (es : List Entry) → AddedLists H.dig (HasNamed named) ps own least es added →
+        IfOk result (λ g. (now : Image) × ((P.view pages.new).list ≡ Some now) × GrownLists H.dig (HasNamed named) now own least es g) }
+    ensures staged { IfOk result (λ g. IsStagedAs H.dig ((P.view pages.old).used) added g) }
+    ensures last { IfOk result (λ g. IsLast ((P.view pages.new).used) g) }
+    ensures few { (P.view pages.new).used ≤ (P.view pages.old).used + 2 }
+    ensures kept { OnlyAdds P.view P.same pages.old pages.new (Unit {0}) }
+    ensures faults { (P.view pages.new).faults ≡ (P.view pages.old).faults }
 {
     match added {
         Added::One(node) => Ok(Grown::One(stage_node::<P, H>(pages, &node)?)),
@@ -136,25 +132,25 @@ fn grow_below<P: Pages, H: Hasher>(
     high: &Option<Entry>,
     entry: &Entry,
 ) -> Result<Grown, TreeFault>
-    requires used { P.used_count pages.old < 2 ^ 47 }
-    requires some { 0 < P.used_count pages.old }
+    requires used { (P.view pages.old).used < 2 ^ 47 }
     requires kinds { HasChildren H.dig node.now }
     requires range { IsEntryInRange entry.now }
     requires lie { lie_between low.now high.now node.now.entries ≡ true }
     requires above { is_above low.now entry.now ≡ true }
     requires below { is_below high.now entry.now ≡ true }
-    ensures answer { (ps : Image) → P.list pages.old ≡ Some ps → (at : Reading) → IsReading H.dig ps at →
-        AnswersGrown node.now.level result (way_from at (Absent (key_of entry.now)) node.now.level low.now high.now node.now) }
-    ensures lists { (ps : Image) → P.list pages.old ≡ Some ps → (ts : List Tree) → AreTrees (IsTreeBelow H.dig ps node.now.level) node.now.children ts →
+    ensures answer { (ps : Image) → (P.view pages.old).list ≡ Some ps →
+        AnswersGrown node.now.level result (way_from H.dig ps (Absent (key_of entry.now)) node.now.level low.now high.now node.now) }
+    ensures lists { (ps : Image) → (P.view pages.old).list ≡ Some ps → (named : Named) → named.below ≤ (P.view pages.old).used →
+        (ts : List Tree) → AreTrees (IsTreeBelow H.dig (HasNamed named) ps node.now.level) node.now.children ts →
         IsRising (woven (map entries ts) node.now.entries) →
-        IfOk result (λ g. (now : Image) × (P.list pages.new ≡ Some now)
-        × GrownLists H.dig now node.now.level (length node.now.entries) (with_entry (woven (map entries ts) node.now.entries) entry.now) g) }
+        IfOk result (λ g. (now : Image) × ((P.view pages.new).list ≡ Some now)
+        × GrownLists H.dig (HasNamed named) now node.now.level (length node.now.entries) (with_entry (woven (map entries ts) node.now.entries) entry.now) g) }
     ensures grown { IfOk result (λ g. IsGrownIn low.now high.now g) }
-    ensures last { IfOk result (λ g. IsLast (P.used_count pages.new) g) }
-    ensures few { P.used_count pages.new ≤ P.used_count pages.old + 2 * (node.now.level + 1) }
+    ensures last { IfOk result (λ g. IsLast ((P.view pages.new).used) g) }
+    ensures few { (P.view pages.new).used ≤ (P.view pages.old).used + 2 * (node.now.level + 1) }
     ensures never { NeverUntrue result }
-    ensures kept { OnlyAdds P.used_count P.list P.same P.unbroken pages.old pages.new (NotDiskFault result) }
-    ensures faults { FaultsRise (P.faults pages.old) (P.faults pages.new) result }
+    ensures kept { OnlyAdds P.view P.same pages.old pages.new (has_failed tree_faults result ≡ false) }
+    ensures faults { FaultsRise tree_faults P.view P.same pages.old pages.new result }
 {
     see_node(node);
     let here = seek(node, &Ask::Absent(entry_key(entry)), low, high);
@@ -202,18 +198,19 @@ fn stage_single<P: Pages, H: Hasher>(
     middle: Entry,
     right: Child,
 ) -> Result<Root, NoMemory>
-    requires used { P.used_count pages.old < 2 ^ 48 - 4 }
+    requires used { (P.view pages.old).used < 2 ^ 48 - 4 }
     requires level { own ≤ 10 }
     requires range { IsEntryInRange middle }
     requires left { IsChildAt H.dig own left }
     requires right { IsChildAt H.dig own right }
-    ensures lists { (ps : Image) → P.list pages.old ≡ Some ps → (ts : List Tree) → AreTrees (IsTreeBelow H.dig ps own) (left ∷ right ∷ []) ts →
+    ensures lists { (ps : Image) → (P.view pages.old).list ≡ Some ps → (named : Named) → named.below ≤ (P.view pages.old).used →
+        (ts : List Tree) → AreTrees (IsTreeBelow H.dig (HasNamed named) ps own) (left ∷ right ∷ []) ts →
         IsRising (woven (map entries ts) (middle ∷ [])) →
-        IfOk result (λ new. (now : Image) × (t : Tree) × (P.list pages.new ≡ Some now) × StandsFor H.dig now new t × (entries t ≡ woven (map entries ts) (middle ∷ []))) }
-    ensures page { IfOk result (λ new. P.used_count pages.new ≡ new.page + 1) }
-    ensures few { P.used_count pages.new ≤ P.used_count pages.old + 1 }
-    ensures kept { OnlyAdds P.used_count P.list P.same P.unbroken pages.old pages.new (Unit {0}) }
-    ensures faults { P.faults pages.new ≡ P.faults pages.old }
+        IfOk result (λ new. (now : Image) × (t : Tree) × ((P.view pages.new).list ≡ Some now) × StandsWith H.dig (HasNamed named) now new t × (entries t ≡ woven (map entries ts) (middle ∷ []))) }
+    ensures page { IfOk result (λ new. (P.view pages.new).used ≡ new.page + 1) }
+    ensures few { (P.view pages.new).used ≤ (P.view pages.old).used + 1 }
+    ensures kept { OnlyAdds P.view P.same pages.old pages.new (Unit {0}) }
+    ensures faults { (P.view pages.new).faults ≡ (P.view pages.old).faults }
 {
     let node = single::<H>(own, middle, left, right);
     Ok(root_of(stage_node::<P, H>(pages, &node)?))
@@ -231,28 +228,29 @@ pub fn insert<P: Pages, H: Hasher>(
     root: &Root,
     entry: Entry,
 ) -> Result<Root, TreeFault>
-    requires used { P.used_count pages.old < 2 ^ 47 }
+    requires used { (P.view pages.old).used < 2 ^ 47 }
     requires range { IsEntryInRange entry }
     // Over told pages the answer is what is found in them, whatever they keep, a disk fault and want of memory excepted: there is
     // a new root where the way down ends at an empty place, `Present` where it meets the key, and `BadPage` with the first page
     // met that doesn't fit the way, or with the root's page where all pages of eleven levels are full.
-    ensures answer { (ps : Image) → P.list pages.old ≡ Some ps → (at : Reading) → IsReading H.dig ps at →
-        AnswersInsert root.now result (way at (Absent (key_of entry)) root.now) }
+    ensures answer { (ps : Image) → (P.view pages.old).list ≡ Some ps →
+        AnswersInsert root.now result (way H.dig ps (Absent (key_of entry)) root.now) }
     // Where the pages stand for a tree under the root, those told then stand under the new root for a tree that lists the same
     // entries and the new one in its place.
-    ensures inserted { (ps : Image) → P.list pages.old ≡ Some ps → (t : Tree) → StandsFor H.dig ps root.now t →
-        IfOk result (λ new. (now : Image) × (grown : Tree) × (P.list pages.new ≡ Some now)
-        × StandsFor H.dig now new grown × (entries grown ≡ with_entry (entries t) entry)) }
+    ensures inserted { (ps : Image) → (P.view pages.old).list ≡ Some ps → (named : Named) → named.below ≤ (P.view pages.old).used →
+        (t : Tree) → StandsWith H.dig (HasNamed named) ps root.now t →
+        IfOk result (λ new. (now : Image) × (grown : Tree) × ((P.view pages.new).list ≡ Some now)
+        × StandsWith H.dig (HasNamed named) now new grown × (entries grown ≡ with_entry (entries t) entry)) }
     // The new root's page is the last one.
-    ensures page { IfOk result (λ new. P.used_count pages.new ≡ new.page + 1) }
+    ensures page { IfOk result (λ new. (P.view pages.new).used ≡ new.page + 1) }
     // At most 23 pages are staged.
-    ensures few { P.used_count pages.new ≤ P.used_count pages.old + MOST_STAGED }
+    ensures few { (P.view pages.new).used ≤ (P.view pages.old).used + MOST_STAGED }
     // `Untrue` is never answered.
     ensures never { NeverUntrue result }
     // The pages that were told stay, whatever is answered; new ones may stand behind them.
-    ensures kept { OnlyAdds P.used_count P.list P.same P.unbroken pages.old pages.new (NotDiskFault result) }
+    ensures kept { OnlyAdds P.view P.same pages.old pages.new (has_failed tree_faults result ≡ false) }
     // `DiskFault` comes only where the count of faults rose.
-    ensures faults { FaultsRise (P.faults pages.old) (P.faults pages.new) result }
+    ensures faults { FaultsRise tree_faults P.view P.same pages.old pages.new result }
 {
     if root.page == 0 {
         let empty = Child {

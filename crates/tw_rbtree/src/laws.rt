@@ -1,9 +1,14 @@
 // What holds of pages that stand for trees, whatever the calls do.
 
-ghost use Rattle.std.specs.Prelude.{◌≡◌, ◌≢◌, [], Some, slice_get, ℕ, ◌+◌, ◌-◌, ◌*◌, ◌^◌, ◌<◌, ◌≤◌, ◌++◌, List, length};
+ghost use Rattle.std.specs.Prelude.{◌≡◌, ◌≢◌, [], Some, slice_get, ℕ, ◌+◌, ◌-◌, ◌*◌, ◌^◌, ◌<◌, ◌≤◌, ◌++◌, List, length, ◌⊎◌, Err};
 ghost use Rattle.tw_base.specs.declared.history.root.Root.{Root};
+ghost use Rattle.tw_base.specs.declared.history.thread.Entry.{Entry};
 ghost use Rattle.tw_base.specs.declared.history.thread.Key.{Key};
 ghost use Rattle.tw_base.specs.declared.history.tree_proof.Ask.{Ask};
+ghost use Rattle.tw_base.specs.declared.history.tree_proof.Ask.TheVariants.{Absent, Present};
+ghost use Rattle.tw_base.specs.history.Entries.{key_of};
+ghost use Rattle.tw_base.specs.history.Limits.{IsEntryInRange};
+ghost use Rattle.tw_base.specs.kinds.Lists.{Each};
 ghost use Rattle.tw_base.specs.history.Asking.{entry_with, first_above, last_below};
 ghost use Rattle.tw_base.specs.history.Tree.{Tree, entries};
 ghost use Rattle.tw_disk.specs.Found.Found.{Is};
@@ -11,11 +16,13 @@ ghost use Rattle.tw_disk.specs.Image.{Image};
 ghost use Rattle.tw_rbtree.specs.declared.new_node.NewNode.{NewNode};
 ghost use Rattle.tw_rbtree.specs.Listing.{listed};
 ghost use Rattle.tw_rbtree.specs.Planting.{AreNodeTrees};
-ghost use Rattle.tw_rbtree.specs.Reading.{IsReading, Reading};
-ghost use Rattle.tw_rbtree.specs.Standing.{StandsFor};
+ghost use Rattle.tw_rbnode.specs.Page.{TreePage};
+ghost use Rattle.tw_rbtree.specs.Reading.{IsPageAt, node_in};
+ghost use Rattle.tw_rbtree.specs.Standing.{HasNamed, IsRootTree, Named, StandsFor, StandsWith, any_page};
 ghost use Rattle.tw_rbtree.specs.Ways.{Stop, end_of, found_after, found_before, found_with, nowhere, way};
 ghost use Rattle.tw_rbtree.specs.Paths.{proof_of_way};
-ghost use Rattle.tw_rbtree.specs.Answers.{IsSoAt};
+ghost use Rattle.tw_rbtree.specs.Answers.{AnswersInsert, IsSoAt};
+ghost use Rattle.tw_rbtree.specs.declared.fault.TreeFault.TheVariants.{BadPage};
 ghost use Rattle.tw_treeproof.specs.Answers.{ancestors_of};
 ghost use Rattle.tw_treeproof.specs.Making.{IsSo, proof_of};
 
@@ -23,22 +30,30 @@ use tw_base::Hasher;
 
 /// What is found in pages that stand for a tree; its clauses are the theorem. The function itself does nothing.
 pub fn standing_laws<H: Hasher>()
-    // There is a reading of any pages.
-    ensures reading { (ps : Image) → (at : Reading) × IsReading H.dig ps at }
+    // The tree page of a number that is found is one whose bytes stand there, and that may stand there; and each such page is found.
+    ensures page { (ps : Image) (page : ℕ) (p : TreePage) →
+        (node_in H.dig ps page ≡ Is p → IsPageAt H.dig ps page p) × (IsPageAt H.dig ps page p → node_in H.dig ps page ≡ Is p) }
     // The entry of a key that is found is the tree's, and none where it has none.
-    ensures get { (ps : Image) (at : Reading) (root : Root) (t : Tree) (key : Key) → IsReading H.dig ps at → StandsFor H.dig ps root t →
-        found_with at root key ≡ Is (entry_with (entries t) key) }
+    ensures get { (ps : Image) (root : Root) (t : Tree) (key : Key) → StandsFor H.dig ps root t →
+        found_with H.dig ps root key ≡ Is (entry_with (entries t) key) }
     // The entry before a key that is found is the last one below it of the tree's list.
-    ensures before { (ps : Image) (at : Reading) (root : Root) (t : Tree) (key : Key) → IsReading H.dig ps at → StandsFor H.dig ps root t →
-        found_before at root key ≡ Is (last_below (entries t) key) }
+    ensures before { (ps : Image) (root : Root) (t : Tree) (key : Key) → StandsFor H.dig ps root t →
+        found_before H.dig ps root key ≡ Is (last_below (entries t) key) }
     // The entry after a key that is found is the first one above it of the tree's list.
-    ensures after { (ps : Image) (at : Reading) (root : Root) (t : Tree) (key : Key) → IsReading H.dig ps at → StandsFor H.dig ps root t →
-        found_after at root key ≡ Is (first_above (entries t) key) }
+    ensures after { (ps : Image) (root : Root) (t : Tree) (key : Key) → StandsFor H.dig ps root t →
+        found_after H.dig ps root key ≡ Is (first_above (entries t) key) }
     // What is asked is so at the end of the way where it is so of the tree's entries, and the proof that the way shows is the
     // tree's own.
-    ensures path { (ps : Image) (at : Reading) (root : Root) (t : Tree) (ask : Ask) → IsReading H.dig ps at → StandsFor H.dig ps root t →
-        (stops : List Stop) × (way at ask root ≡ Is stops) × ((IsSo (entries t) ask → IsSoAt ask (end_of nowhere stops).met)
+    ensures path { (ps : Image) (root : Root) (t : Tree) (ask : Ask) → StandsFor H.dig ps root t →
+        (stops : List Stop) × (way H.dig ps ask root ≡ Is stops) × ((IsSo (entries t) ask → IsSoAt ask (end_of nowhere stops).met)
         × (IsSoAt ask (end_of nowhere stops).met → IsSo (entries t) ask)) × (proof_of_way H.dig stops ≡ proof_of H.dig t ask) }
+    // The way of an entry is that of its key.
+    ensures present { (ps : Image) (root : Root) (e : Entry) → way H.dig ps (Present e) root ≡ way H.dig ps (Absent (key_of e)) root }
+    // Each entry of the tree has its steps within 1 to 2^40 - 1.
+    ensures ranges { (ps : Image) (root : Root) (t : Tree) → StandsFor H.dig ps root t → Each IsEntryInRange (entries t) }
+    // Where the tree has fewer than 2^40 entries, an insert tells no bad page.
+    ensures room { (ps : Image) (root : Root) (t : Tree) (entry : Entry) (page : ℕ) → StandsFor H.dig ps root t → length (entries t) < 2 ^ 40 →
+        AnswersInsert root (Err (BadPage page)) (way H.dig ps (Absent (key_of entry)) root) → ⊥ }
 {}
 
 /// What stands in pages stays as they grow; its clauses are the theorem. The function itself does nothing.
@@ -47,15 +62,24 @@ pub fn keeping_laws<H: Hasher>()
     ensures kept { (ps more : Image) (root : Root) (t : Tree) → StandsFor H.dig ps root t → StandsFor H.dig (ps ++ more) root t }
     // Pages stand for one tree under a root.
     ensures once { (ps : Image) (root : Root) (s t : Tree) → StandsFor H.dig ps root s → StandsFor H.dig ps root t → s ≡ t }
+    // A page is one tree, whatever its label and the order of its entries.
+    ensures page { (ps : Image) (page : ℕ) (s t : Tree) → IsRootTree H.dig any_page ps page s → IsRootTree H.dig any_page ps page t → s ≡ t }
 {}
 
 /// What is listed of pages that stand for a tree; its clauses are the theorem. The function itself does nothing.
 pub fn listing_laws<H: Hasher>()
     // Where the root isn't older than the number, there is a tree for each node listed: its entry over the trees of its sides,
-    // which are the empty one, those of nodes before it, and those of the older pages that are named. The last one is the tree.
-    ensures fresh { (ps : Image) (at : Reading) (root : Root) (t : Tree) (since : ℕ) → IsReading H.dig ps at → StandsFor H.dig ps root t → root.page ≢ 0 → since ≤ root.page →
-        (nodes : List NewNode) × (trees : List Tree) × (listed at since root ≡ Is nodes) × AreNodeTrees H.dig ps [] nodes trees
+    // which are the empty one, those of nodes before it, and those of pages of the tree from 4 to below the number. It rises, and
+    // the node's mark is 0, or the number of the page whose tree it is, which isn't older. The last one is the tree.
+    ensures fresh { (ps : Image) (root : Root) (t : Tree) (since : ℕ) → StandsFor H.dig ps root t → root.page ≢ 0 → since ≤ root.page →
+        (nodes : List NewNode) × (trees : List Tree) × (listed H.dig ps since root ≡ Is nodes) × AreNodeTrees H.dig any_page ps since [] nodes trees
         × (0 < length nodes) × (slice_get trees (length nodes - 1) ≡ Some t) }
+    // The same where the pages of the tree below a number are to be named trees: so are then the older pages that are named.
+    ensures named { (ps : Image) (named : Named) (root : Root) (t : Tree) (since : ℕ) → StandsWith H.dig (HasNamed named) ps root t → root.page ≢ 0 →
+        since ≤ root.page → (nodes : List NewNode) × (trees : List Tree) × (listed H.dig ps since root ≡ Is nodes)
+        × AreNodeTrees H.dig (HasNamed named) ps since [] nodes trees × (0 < length nodes) × (slice_get trees (length nodes - 1) ≡ Some t) }
+    // Where the root has no page, or an older one, nothing is listed.
+    ensures none { (ps : Image) (root : Root) (since : ℕ) → (root.page ≡ 0) ⊎ (root.page < since) → listed H.dig ps since root ≡ Is [] }
 {}
 
 /// How long proofs of pages that stand for a tree are; its clauses are the theorem. The function itself does nothing.

@@ -14,10 +14,11 @@ mod reading;
 mod seeking;
 
 pub use asking::{after, before, get};
-pub use fault::{TreeFault, WalkFault};
+pub use fault::TreeFault;
 pub use inserting::insert;
 pub use laws::{keeping_laws, listing_laws, size_laws, standing_laws};
 pub use listing::fresh;
 pub use new_node::{NewNode, NewNodes, Side};
 pub use proving::path;
 pub use tw_base::{Ask, Entry, Hasher, Key, NoMemory, Root, TreeProof};
+pub use tw_disk::WalkFault;

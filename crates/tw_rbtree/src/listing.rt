@@ -1,12 +1,13 @@
 // The nodes of a tree that are new since a page.
 
-ghost use Rattle.std.specs.Prelude.{◌≡◌, ℕ, ◌-◌, ◌<◌, ◌≤◌, ◌==◌, ◌||◌, List, Some, length, nat_lt, slice_get};
+ghost use Rattle.std.specs.Prelude.{◌≡◌, false, ℕ, ◌-◌, ◌<◌, ◌≤◌, ◌==◌, ◌||◌, List, Some, length, nat_lt, slice_get};
+ghost use Rattle.tw_disk.specs.Answers.{AnswersAs, FaultsRise, has_failed};
 ghost use Rattle.tw_disk.specs.Image.{Image};
 ghost use Rattle.tw_disk.specs.Pages.{OnlyReads};
 ghost use Rattle.tw_rbnode.specs.Shape.{Shape};
-ghost use Rattle.tw_rbtree.specs.Answers.{AnswersAs, FaultsRise, NeverPresent, NeverUntrue, NotDiskFault};
+ghost use Rattle.tw_rbtree.specs.Answers.{NeverPresent, NeverUntrue};
+ghost use Rattle.tw_rbtree.specs.FaultWords.{tree_faults};
 ghost use Rattle.tw_rbtree.specs.Listing.{AnswersListed, IsPartAt, child_listed, listed, listed_at};
-ghost use Rattle.tw_rbtree.specs.Reading.{IsReading, Reading};
 
 use crate::fault::TreeFault;
 use crate::new_node::{NewNode, NewNodes, Side};
@@ -65,12 +66,12 @@ fn list_part<P: Pages, H: Hasher>(
     high: &Option<Entry>,
 ) -> Result<Side, TreeFault>
     requires { (t : Shape) × IsPartAt node.now part.base part.end part.top t }
-    ensures answer { (ps : Image) → P.list pages.old ≡ Some ps → (at : Reading) → IsReading H.dig ps at → (t : Shape) → IsPartAt node.now part.base part.end part.top t →
-        AnswersListed result nodes.new (listed_at (child_listed at since node.now.level node.now) node.now.entries page low.now high.now part.base t nodes.old) }
+    ensures answer { (ps : Image) → (P.view pages.old).list ≡ Some ps → (t : Shape) → IsPartAt node.now part.base part.end part.top t →
+        AnswersListed result nodes.new (listed_at (child_listed H.dig ps since node.now.level node.now) node.now.entries page low.now high.now part.base t nodes.old) }
     ensures present { NeverPresent result }
     ensures untrue { NeverUntrue result }
-    ensures kept { OnlyReads P.used_count P.list P.same P.unbroken pages.old pages.new (NotDiskFault result) }
-    ensures faults { FaultsRise (P.faults pages.old) (P.faults pages.new) result }
+    ensures kept { OnlyReads P.view P.same pages.old pages.new (has_failed tree_faults result ≡ false) }
+    ensures faults { FaultsRise tree_faults P.view P.same pages.old pages.new result }
 {
     if part.top == 0 {
         if level(node) == 0 {
@@ -118,15 +119,15 @@ pub fn fresh<P: Pages, H: Hasher>(
 ) -> Result<NewNodes, TreeFault>
     // Over told pages the answer is what is found in them, whatever they keep, a disk fault and want of memory excepted: the nodes
     // of the pages from this number on, or `BadPage` with the first page met that doesn't fit its place.
-    ensures answer { (ps : Image) → P.list pages.old ≡ Some ps → (at : Reading) → IsReading H.dig ps at →
-        AnswersAs (λ nodes. nodes) result (listed at since root.now) }
+    ensures answer { (ps : Image) → (P.view pages.old).list ≡ Some ps →
+        AnswersAs tree_faults (λ nodes. nodes) result (listed H.dig ps since root.now) }
     // `Present` and `Untrue` are never answered.
     ensures present { NeverPresent result }
     ensures untrue { NeverUntrue result }
     // Reading changes nothing of what the pages tell.
-    ensures kept { OnlyReads P.used_count P.list P.same P.unbroken pages.old pages.new (NotDiskFault result) }
+    ensures kept { OnlyReads P.view P.same pages.old pages.new (has_failed tree_faults result ≡ false) }
     // `DiskFault` comes only where the count of faults rose.
-    ensures faults { FaultsRise (P.faults pages.old) (P.faults pages.new) result }
+    ensures faults { FaultsRise tree_faults P.view P.same pages.old pages.new result }
 {
     let mut nodes = NewNodes::new(alloc);
     if is_older(root, since) {

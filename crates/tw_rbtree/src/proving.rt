@@ -1,15 +1,16 @@
 // The proof of what a tree in pages has.
 
-ghost use Rattle.std.specs.Prelude.{◌≡◌, ℕ, ◌+◌, ◌*◌, ◌≤◌, ◌++◌, ◌↔◌, IfOk, IsTrue, List, OnOk, Some, length, take};
+ghost use Rattle.std.specs.Prelude.{◌≡◌, false, ℕ, ◌+◌, ◌*◌, ◌≤◌, ◌++◌, ◌↔◌, IfOk, IsTrue, List, OnOk, Some, length, take};
+ghost use Rattle.tw_disk.specs.Answers.{FaultsRise, has_failed};
 ghost use Rattle.tw_disk.specs.Image.{Image};
 ghost use Rattle.tw_disk.specs.Pages.{OnlyReads};
 ghost use Rattle.tw_rbnode.specs.Answers.{IsThere};
 ghost use Rattle.tw_rbnode.specs.Trees.{nodes_above};
 ghost use Rattle.tw_treeproof.specs.Answers.{ancestors_of};
 ghost use Rattle.tw_base.specs.declared.history.tree_proof.Ancestor.{Ancestor};
-ghost use Rattle.tw_rbtree.specs.Answers.{AnswersPath, FaultsRise, IsSoAt, NeverPresent, NotDiskFault, UntrueUnless};
+ghost use Rattle.tw_rbtree.specs.Answers.{AnswersPath, IsSoAt, NeverPresent, UntrueUnless};
+ghost use Rattle.tw_rbtree.specs.FaultWords.{tree_faults};
 ghost use Rattle.tw_rbtree.specs.Paths.{proof_in, shown_proof};
-ghost use Rattle.tw_rbtree.specs.Reading.{IsReading, Reading};
 ghost use Rattle.tw_rbtree.specs.Showing.{AnswersShown};
 ghost use Rattle.tw_rbtree.specs.Ways.{seek as seek_in, way as way_down, way_from};
 
@@ -120,12 +121,12 @@ fn shown_below<P: Pages, H: Hasher>(
     low: &Option<Entry>,
     high: &Option<Entry>,
 ) -> Result<Shown, TreeFault>
-    ensures answer { (ps : Image) → P.list pages.old ≡ Some ps → (at : Reading) → IsReading H.dig ps at →
-        AnswersShown H.dig ask.now result (way_from at ask.now node.now.level low.now high.now node.now) }
+    ensures answer { (ps : Image) → (P.view pages.old).list ≡ Some ps →
+        AnswersShown H.dig ask.now result (way_from H.dig ps ask.now node.now.level low.now high.now node.now) }
     ensures few { IfOk result (λ shown. length shown.ancestors ≤ 9 * (node.now.level + 1)) }
     ensures never { NeverPresent result }
-    ensures kept { OnlyReads P.used_count P.list P.same P.unbroken pages.old pages.new (NotDiskFault result) }
-    ensures faults { FaultsRise (P.faults pages.old) (P.faults pages.new) result }
+    ensures kept { OnlyReads P.view P.same pages.old pages.new (has_failed tree_faults result ≡ false) }
+    ensures faults { FaultsRise tree_faults P.view P.same pages.old pages.new result }
 {
     let here = seek(node, ask, low, high);
     let Found::Between(place) = here.at else {
@@ -166,16 +167,16 @@ pub fn path<P: Pages, H: Hasher>(
     // Over told pages the answer is what is found in them, whatever they keep, a disk fault and want of memory excepted: the nodes
     // above the end of the way down and what is there, `Untrue` where what is asked isn't so there, or `BadPage` with the first
     // page met that doesn't fit the way.
-    ensures answer { (ps : Image) → P.list pages.old ≡ Some ps → (at : Reading) → IsReading H.dig ps at →
-        AnswersPath H.dig ask.now result (way_down at ask.now root.now) }
+    ensures answer { (ps : Image) → (P.view pages.old).list ≡ Some ps →
+        AnswersPath H.dig ask.now result (way_down H.dig ps ask.now root.now) }
     // Over any pages, told or not, a proof has at most 99 nodes above its place.
     ensures few { IfOk result (λ proof. length (ancestors_of proof) ≤ 99) }
     // `Present` is never answered.
     ensures never { NeverPresent result }
     // Reading changes nothing of what the pages tell.
-    ensures kept { OnlyReads P.used_count P.list P.same P.unbroken pages.old pages.new (NotDiskFault result) }
+    ensures kept { OnlyReads P.view P.same pages.old pages.new (has_failed tree_faults result ≡ false) }
     // `DiskFault` comes only where the count of faults rose.
-    ensures faults { FaultsRise (P.faults pages.old) (P.faults pages.new) result }
+    ensures faults { FaultsRise tree_faults P.view P.same pages.old pages.new result }
 {
     if root.page == 0 {
         if !is_so(ask, &None) {

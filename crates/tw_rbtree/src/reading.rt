@@ -1,38 +1,47 @@
 // Reading the pages of a tree.
 
-ghost use Rattle.std.specs.Prelude.{◌≡◌, ℕ, ◌<◌, true, ◌&&◌, Some, Option, IfOk, IsTrue, MatchOption};
-ghost use Rattle.tw_disk.specs.Image.{Image};
-ghost use Rattle.tw_disk.specs.Pages.{OnlyReads};
+ghost use Rattle.std.specs.Prelude.{◌≡◌, true, ◌&&◌, IfErr, IfOk};
+ghost use Rattle.tw_disk.specs.Answers.{AnswersAs, ReadsPages};
+ghost use Rattle.tw_disk.specs.WalkFaults.{walk_faults};
+ghost use Rattle.tw_disk.specs.declared.walk_fault.WalkFault.TheVariants.{BadPage};
 ghost use Rattle.tw_rbnode.specs.Children.{HasChildren};
-ghost use Rattle.tw_rbtree.specs.Answers.{NotFaultOnWay, WalkAnswersAs, WalkFaultsRise};
-ghost use Rattle.tw_rbtree.specs.Reading.{IsReading, Reading, child_in, fits as fits_there, is_above as is_above_of, is_below as is_below_of, lie_between, passing, root_in};
+ghost use Rattle.tw_rbnode.specs.Page.{IsNode};
+ghost use Rattle.tw_rbtree.specs.Reading.{child_in, fits as fits_there, is_above as is_above_of, is_below as is_below_of, lie_between, node_from as node_from_bytes, node_in};
 
-use crate::fault::WalkFault;
 use crate::limits::LEAST_KEYS;
-use tw_base::{Entry, Hasher, entry_key, is_below};
-use tw_disk::Pages;
-use tw_disk::limits::FIRST_PAGE;
+use tw_base::limits::PAGE_SIZE;
+use tw_base::{Entry, Hasher, Page, entry_key, is_below};
+use tw_disk::{Pages, WalkFault, read_page};
 use tw_rbnode::{RbNode, entry_at, keys, level, read_node};
 
-/// Reads the tree page of this number; any may be a root page.
-pub(crate) fn read_root<P: Pages, H: Hasher>(pages: &mut P, page: u64) -> Result<RbNode, WalkFault>
-    ensures answer { (ps : Image) → P.list pages.old ≡ Some ps → (at : Reading) → IsReading H.dig ps at → WalkAnswersAs (λ n. n) result (root_in at page) }
-    ensures kinds { IfOk result (λ n. HasChildren H.dig n) }
-    ensures some { IfOk result (λ n. 0 < P.used_count pages.old) }
-    ensures kept { OnlyReads P.used_count P.list P.same P.unbroken pages.old pages.new (NotFaultOnWay result) }
-    ensures faults { WalkFaultsRise (P.faults pages.old) (P.faults pages.new) result }
+/// Tells that a page is a page.
+pub(crate) fn see_node(node: &RbNode)
+    ensures { IsNode node.now }
 {
-    if page < FIRST_PAGE || page >= pages.used() {
-        return Err(WalkFault::BadPage { page });
+    let _count = keys(node);
+}
+
+/// The tree page that the bytes of the page of this number are.
+fn node_from<H: Hasher>(bytes: &Page, page: u64) -> Result<RbNode, WalkFault>
+    ensures answer { AnswersAs walk_faults (λ n. n) result (node_from_bytes H.dig page bytes.now) }
+    ensures kinds { IfOk result (λ n. HasChildren H.dig n) }
+    ensures bad { IfErr result (λ fault. fault ≡ BadPage page) }
+{
+    match read_node::<H>(bytes, page) {
+        Some(node) => Ok(node),
+        None => Err(WalkFault::BadPage { page }),
     }
-    let mut bytes = [0; 4096];
-    match pages.read(page, &mut bytes) {
-        Err(_) => Err(WalkFault::DiskFault),
-        Ok(()) => match read_node::<H>(&bytes, page) {
-            Some(node) => Ok(node),
-            None => Err(WalkFault::BadPage { page }),
-        },
-    }
+}
+
+/// Reads the tree page of this number; any may be a root page.
+#[tactic(auto, unfolding(crate::specs::Reading::node_in))]
+pub(crate) fn read_root<P: Pages, H: Hasher>(pages: &mut P, page: u64) -> Result<RbNode, WalkFault>
+    ensures reads { ReadsPages walk_faults P.view P.same pages.old pages.new (λ n. n) result (λ ps. node_in H.dig ps page) }
+    ensures kinds { IfOk result (λ n. HasChildren H.dig n) }
+{
+    let mut bytes = [0; PAGE_SIZE];
+    read_page(pages, page, &mut bytes)?;
+    node_from::<H>(&bytes, page)
 }
 
 /// Whether the entry lies above this one.
@@ -83,6 +92,7 @@ fn fits(node: &RbNode, wanted: u8, low: &Option<Entry>, high: &Option<Entry>) ->
 }
 
 /// Reads the tree page of this number, of this level and between these two entries.
+#[tactic(auto, unfolding(crate::specs::Reading::child_in))]
 pub(crate) fn read_child<P: Pages, H: Hasher>(
     pages: &mut P,
     page: u64,
@@ -90,13 +100,10 @@ pub(crate) fn read_child<P: Pages, H: Hasher>(
     low: &Option<Entry>,
     high: &Option<Entry>,
 ) -> Result<RbNode, WalkFault>
-    ensures answer { (ps : Image) → P.list pages.old ≡ Some ps → (at : Reading) → IsReading H.dig ps at → WalkAnswersAs (λ n. n) result (child_in at wanted low.now high.now page) }
+    ensures reads { ReadsPages walk_faults P.view P.same pages.old pages.new (λ n. n) result (λ ps. child_in H.dig ps wanted low.now high.now page) }
     ensures level { IfOk result (λ n. n.level ≡ wanted) }
     ensures lie { IfOk result (λ n. lie_between low.now high.now n.entries ≡ true) }
     ensures kinds { IfOk result (λ n. HasChildren H.dig n) }
-    ensures some { IfOk result (λ n. 0 < P.used_count pages.old) }
-    ensures kept { OnlyReads P.used_count P.list P.same P.unbroken pages.old pages.new (NotFaultOnWay result) }
-    ensures faults { WalkFaultsRise (P.faults pages.old) (P.faults pages.new) result }
 {
     let node = read_root::<P, H>(pages, page)?;
     if !fits(&node, wanted, low, high) {

@@ -18,13 +18,12 @@ use Rattle.tw_skiplist.specs.declared.head.StepRef.{StepRef}
 use Rattle.tw_skiplist.specs.declared.fields.StepFields.{StepFields}
 use Rattle.tw_skiplist.specs.Keeping.{KeepsStep, KeepsSteps, Place, fields_at, link_to, links_at, links_to, place_of}
 use Rattle.tw_skiplist.specs.StepBytes.{ref_codec, step_codec, stream}
-use Rattle.tw_disk.specs.Found.{Found, when, ◌>>=◌}
-use Rattle.tw_skiplist.specs.Found.{spelled}
+use Rattle.tw_disk.specs.Found.{Found, when, ◌>>=◌, spelled}
 use Rattle.tw_disk.specs.Found.Found.{Is}
 use Rattle.tw_skiplist.specs.StepPages.{lies_below, link_of, no_ref, step_in, page_of_step}
 use Rattle.tw_skiplist.specs.Walks.{link_in}
-use Rattle.tw_disk.proofs.FoundLaws.{is_on}
-use Rattle.tw_skiplist.proofs.FoundLaws.{bytes_in-within, page-is}
+use Rattle.tw_disk.proofs.FoundLaws.{is_on, bytes_in-within}
+use Rattle.tw_disk.proofs.SpelledLaws.{page-is}
 use Rattle.tw_skiplist.proofs.Rules.{below_where, both_true, link_rules-all}
 use Rattle.tw_skiplist.proofs.StepCodecs.{fields-fit, ref-fits, step-fits, step-lawful}
 use Rattle.tw_skiplist.proofs.Streams.{length-stream}

@@ -21,7 +21,8 @@ use Rattle.tw_base.proofs.lemmas.history.Plus.{auths-plus}
 use Rattle.tw_skiplist.specs.declared.head.Head.{Head}
 use Rattle.tw_skiplist.specs.declared.head.StepRef.{StepRef}
 use Rattle.tw_skiplist.specs.declared.fields.StepFields.{StepFields}
-use Rattle.tw_skiplist.specs.Appended.{Next, appended, first_page, new_auth, new_fields, next_of}
+use Rattle.tw_disk.specs.Answers.{Next}
+use Rattle.tw_skiplist.specs.Appended.{appended, first_page, new_labels, next_of}
 use Rattle.tw_skiplist.specs.Events.{piece_count}
 use Rattle.tw_disk.specs.Found.{◌>>=◌}
 use Rattle.tw_disk.specs.Found.Found.{Is}
@@ -90,7 +91,7 @@ module _ (dig : List ℕ → List ℕ) (size : (text : List ℕ) → IsDigest (d
 pub record Grown (dig : List ℕ → List ℕ) (ps : Image) (h : History) (head : Head) (events : List (List ℕ)) (archive : Root) : Type 0 where
   pub more : Image
   pub new : Head
-  pub is : appended dig ps head events archive ≡ Is (record { pages = ps ++ more; head = new })
+  pub is : appended dig ps head events archive ≡ Is (record { pages = ps ++ more; value = new })
   pub keeps : archive ≡ archive_at dig h (length h.steps) → Keeps dig (ps ++ more) (with_events h events) new
 
 module _ (dig : List ℕ → List ℕ) (size : (text : List ℕ) → IsDigest (dig text)) (ps : Image) (h : History) (head : Head) (keeps : Keeps dig ps h head)
@@ -113,14 +114,20 @@ module _ (dig : List ℕ → List ℕ) (size : (text : List ℕ) → IsDigest (d
   abbrev links : List StepRef
   links = links_to dig h places (head.step + 1) (suc (top_level (head.step + 1)))
 
-  abbrev next : Next
+  abbrev next : Next Head
   next = next_of dig ps head events archive links
 
   abbrev new_label : List ℕ
-  new_label = new_auth dig ps head events archive links
+  new_label = dig (authenticator_text (head.step + 1) (new_labels dig ps head events archive links))
 
   abbrev f : StepFields
-  f = new_fields dig ps head events archive new_label
+  f = record {
+    count = length events;
+    stream = record { page = first_page ps (length bytes); size = length bytes };
+    event_root = event_root dig events;
+    archive = archive;
+    auth = new_label;
+  }
 
   next_is : head.step + 1 ≡ suc n
   next_is = omega (arith, keeps.step)
@@ -135,7 +142,7 @@ module _ (dig : List ℕ → List ℕ) (size : (text : List ℕ) → IsDigest (d
   is_next = is_on (next_links ps head) (λ links. Is (next_of dig ps head events archive links)) links links_found
 
   abbrev place : Place
-  place = record { page = next.head.page; first = first_page ps (length bytes) }
+  place = record { page = next.value.page; first = first_page ps (length bytes) }
 
   abbrev more_places : List Place
   more_places = places ++ place ∷ []
@@ -191,7 +198,7 @@ module _ (dig : List ℕ → List ℕ) (size : (text : List ℕ) → IsDigest (d
           auth = label_of j;
         })
 
-    put_keeps : Keeps dig (ps ++ (pieces ++ page ∷ [])) longer next.head
+    put_keeps : Keeps dig (ps ++ (pieces ++ page ∷ [])) longer next.value
     put_keeps =
         let longer_is : length longer.steps ≡ suc n = length_push h.steps last ∙ omega arith in
         let under = below_head dig ps h places keeps.keeps in
@@ -208,8 +215,8 @@ module _ (dig : List ℕ → List ℕ) (size : (text : List ℕ) → IsDigest (d
   pub grown : Grown dig ps h head events archive
   grown = record {
     more = pieces ++ page ∷ [];
-    new = next.head;
-    is = is_next ∙ (λ j. Is (record { pages = (ps ++ event_pages (next_is j) bytes (piece_count (length bytes))) ++ step_page_bytes (next_is j) f links ∷ []; head = next.head }))
-        ∙ ap (λ (x : Image). Is (record { pages = x; head = next.head })) (append_assoc ps pieces (page ∷ []));
+    new = next.value;
+    is = is_next ∙ (λ j. Is (record { pages = (ps ++ event_pages (next_is j) bytes (piece_count (length bytes))) ++ step_page_bytes (next_is j) f links ∷ []; value = next.value }))
+        ∙ ap (λ (x : Image). Is (record { pages = x; value = next.value })) (append_assoc ps pieces (page ∷ []));
     keeps = put_keeps;
   }

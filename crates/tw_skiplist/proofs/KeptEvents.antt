@@ -15,14 +15,13 @@ use Rattle.tw_base.specs.format.PageBytes.{IsPageOf}
 use Rattle.tw_skiplist.specs.declared.info.StepInfo.{StepInfo}
 use Rattle.tw_skiplist.specs.declared.limits.TheConstants.{MOST_PIECE_BYTES, MOST_STREAM_BYTES}
 use Rattle.tw_skiplist.specs.Events.{events_in, events_of_info, last_page, piece_count, piece_in, piece_size, pieces_below}
-use Rattle.tw_disk.specs.Found.{Found, ◌>>=◌}
-use Rattle.tw_skiplist.specs.Found.{spelled}
+use Rattle.tw_disk.specs.Found.{Found, ◌>>=◌, spelled}
 use Rattle.tw_disk.specs.Found.Found.{Is, Bad}
 use Rattle.tw_skiplist.specs.Infos.{IsInfoOf}
 use Rattle.tw_skiplist.specs.StepBytes.{event_page_bytes, piece, piece_codec, stream}
 use Rattle.tw_skiplist.proofs.EventWords.{found-events}
-use Rattle.tw_disk.proofs.FoundLaws.{is_on}
-use Rattle.tw_skiplist.proofs.FoundLaws.{bytes_in-within, page-is}
+use Rattle.tw_disk.proofs.FoundLaws.{is_on, bytes_in-within}
+use Rattle.tw_disk.proofs.SpelledLaws.{page-is}
 use Rattle.tw_skiplist.proofs.Growing.{has_bytes}
 use Rattle.tw_skiplist.proofs.PieceCounts.{count_all, count_needed, pieces-more, pieces-none}
 use Rattle.tw_skiplist.proofs.Spelling.{take_on}

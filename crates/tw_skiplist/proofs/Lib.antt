@@ -2,7 +2,6 @@ pub mod Appending
 pub mod EventHistories
 pub mod EventWords
 pub mod FewEvents
-pub mod FoundLaws
 pub mod Growing
 pub mod Kept
 pub mod KeptAppended

@@ -3,7 +3,7 @@ use Rattle.std.proofs.Common.{◌≡◌, ℕ, suc, zero, ◌+◌, ◌*◌, ◌<�
 use Rattle.tw_disk.specs.Image.{Image}
 use Rattle.tw_skiplist.specs.declared.info.StepInfo.{StepInfo}
 use Rattle.tw_skiplist.specs.declared.limits.TheConstants.{MOST_PIECE_BYTES}
-use Rattle.tw_skiplist.specs.Events.{piece_count, piece_in, pieces_below}
+use Rattle.tw_skiplist.specs.Events.{piece_behind, piece_count, pieces_below}
 use Rattle.tw_disk.specs.Found.{Found, ◌>>=◌}
 use Rattle.tw_disk.specs.Found.Found.{Is, Bad}
 
@@ -25,13 +25,13 @@ module _ (ps : Image) (info : StepInfo) where
   unfolding pieces_below
   pieces-none = refl
 
-  pub pieces-more : (number : ℕ) → pieces_below ps info (number + 1) ≡ (pieces_below ps info number >>= (λ before. piece_in ps info number >>= (λ piece. Is (before ++ piece))))
+  pub pieces-more : (number : ℕ) → pieces_below ps info (number + 1) ≡ (pieces_below ps info number >>= piece_behind ps info number)
   unfolding pieces_below
   pieces-more number = ap (pieces_below ps info) (let e : number + 1 ≡ suc number = omega arith in e)
 
   pieces-suc : (number page : ℕ) → pieces_below ps info number ≡ Bad page → pieces_below ps info (suc number) ≡ Bad page
   unfolding pieces_below
-  pieces-suc number page e = ap (λ (f : Found (List ℕ)). f >>= (λ before. piece_in ps info number >>= (λ piece. Is (before ++ piece)))) e
+  pieces-suc number page e = ap (λ (f : Found (List ℕ)). f >>= piece_behind ps info number) e
 
   pub pieces-bad : (number d page : ℕ) → pieces_below ps info number ≡ Bad page → pieces_below ps info (number + d) ≡ Bad page
   pieces-bad number zero page e = ap (pieces_below ps info) (let s : number + 0 ≡ number = omega arith in s) ∙ e

@@ -30,11 +30,11 @@ pub ref-fits : (l : StepRef) → l.page < 2 ^ 64 → HasBytes 32 l.auth → ref_
 unfolding ref_codec seen pair number_codec bytes_codec
 ref-fits l small auth = ((omega arith, omega (arith, small)), auth)
 
-pub fields-fit : (f : StepFields) → f.count < 2 ^ 32 → f.stream.size ≤ 69632 → f.stream.page < 2 ^ 64 → HasBytes 32 f.event_root → HasBytes 32 f.archive.label → f.archive.page < 2 ^ 64 → HasBytes 32 f.auth
+pub fields-fit : (f : StepFields) → f.count ≤ 1024 → f.stream.size ≤ 69632 → f.stream.page < 2 ^ 64 → HasBytes 32 f.event_root → HasBytes 32 f.archive.label → f.archive.page < 2 ^ 64 → HasBytes 32 f.auth
     → fields_codec.Fits f
 unfolding fields_codec seen pair behind number_codec bytes_codec
 fields-fit f count size first root label archive auth =
-    ((omega arith, omega (arith, count)), ((omega arith, size), ((omega arith, omega (arith, first)), (root, (label, ((omega arith, omega (arith, archive)), auth))))))
+    ((omega arith, count), ((omega arith, size), ((omega arith, omega (arith, first)), (root, (label, ((omega arith, omega (arith, archive)), auth))))))
 
 module _ (step : ℕ) (f : StepFields) (links : List StepRef) where
   pub step-fits : fields_codec.Fits f → length links ≡ suc (top_level step) → Each ref_codec.Fits links → (step_codec step).Fits (f, links)
@@ -46,9 +46,9 @@ module _ (step : ℕ) (f : StepFields) (links : List StepRef) where
     unfolding step_codec behind pair links_codec many
     links-count = fits.1.0
 
-    pub events-few : f.count < 2 ^ 32
+    pub events-few : f.count ≤ 1024
     unfolding step_codec behind pair fields_codec seen number_codec
-    events-few = let most = fits.0.0.1 in omega (arith, most)
+    events-few = fits.0.0.1
 
     pub stream-short : f.stream.size ≤ 69632
     unfolding step_codec behind pair fields_codec seen number_codec

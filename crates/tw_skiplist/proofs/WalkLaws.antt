@@ -3,6 +3,8 @@ use Rattle.std.proofs.Common.{◌≡◌, ℕ, suc, zero, ◌+◌, ◌-◌, ◌^�
 use Rattle.tw_disk.specs.Image.{Image}
 use Rattle.tw_skipproof.specs.declared.path.Link.{Link}
 use Rattle.tw_skipproof.specs.Paths.{hop, hop_level}
+use Rattle.tw_base.proofs.lemmas.kinds.Levels.{top_level-below}
+use Rattle.tw_skipproof.proofs.Hops.{hop_level-le, hop_level-short}
 use Rattle.tw_skipproof.proofs.GreedySteps.{greedy_steps-more, greedy_steps-none}
 use Rattle.tw_skiplist.specs.declared.collecting.Collected.{Collected}
 use Rattle.tw_skiplist.specs.declared.head.StepRef.{StepRef}
@@ -29,6 +31,9 @@ module _ (ps : Image) (link : StepRef) (at to : ℕ) where
   unfolding collect_along
   collected-on dig under = ap (λ (steps : List ℕ). collect_along dig ps to steps link) (greedy_steps-more at to under)
 
+-- the way down, and the levels of its links
+pub ruleset walks = (walk-here, walk-on, hop_level-le, hop_level-short, top_level-below)
+
 -- links that were collected, in front of the others
 abbrev pub ahead : List Link → Collected → Found Collected
 ahead links rest = Is (record { links = links ++ rest.links; last = rest.last })
@@ -40,6 +45,8 @@ ahead-none (Bad page) = refl
 pub ahead-more : (dig : List ℕ → List ℕ) (ps : Image) (links : List Link) (link : Link) (found : Found Collected) → ((found >>= link_before dig ps link) >>= ahead links) ≡ (found >>= ahead (links ++ link ∷ []))
 ahead-more dig ps links link (Is way) = ap (λ (ls : List Link). Is (record { links = ls; last = way.last })) (sym (append_assoc links (link ∷ []) way.links))
 ahead-more dig ps links link (Bad page) = refl
+
+pub ruleset collects = (collected-here, collected-on, ahead-none, ahead-more, hop_level-le, hop_level-short, top_level-below)
 
 -- ---- the links of one more step
 

@@ -1,6 +1,7 @@
 -- What one more step puts behind the pages.
-use Rattle.std.specs.Prelude.{◌≡◌, ℕ, ◌+◌, ◌==◌, List, [], ◌∷◌, ◌++◌, length, Option, Some, if◌then◌else◌}
+use Rattle.std.specs.Prelude.{ℕ, ◌+◌, ◌==◌, List, [], ◌∷◌, ◌++◌, length, if◌then◌else◌}
 use Rattle.tw_disk.specs.declared.limits.TheConstants.{FIRST_PAGE}
+use Rattle.tw_disk.specs.Answers.{Next}
 use Rattle.tw_disk.specs.Image.{Image}
 use Rattle.tw_base.specs.declared.history.root.Root.{Root}
 use Rattle.tw_base.specs.events.EventTree.{event_root}
@@ -23,37 +24,33 @@ with_step pages step bytes f links = (pages ++ event_pages step bytes (piece_cou
 abbrev pub first_page : Image → (size : ℕ) → ℕ
 first_page pages size = if size == 0 then 0 else FIRST_PAGE + length pages
 
--- the pages and the head after one more step
-pub record Next : Type 0 where
-  pub pages : Image
-  pub head : Head
+-- so many event pages of a step with this stream behind the pages
+abbrev pub with_pieces : Image → (step : ℕ) → (bytes : List ℕ) → Next ℕ
+with_pieces pages step bytes = record { pages = pages ++ event_pages step bytes (piece_count (length bytes)); value = piece_count (length bytes) }
+
+-- A step behind the pages, with this stream and these links, and its head: its event pages and then its own page. Its authenticator
+-- is that of its links' labels.
+abbrev pub next_at : (dig : List ℕ → List ℕ) → Image → (step count : ℕ) → (bytes event_root : List ℕ) → (archive : Root) → List StepRef → (labels : List (List ℕ)) → Next Head
+next_at dig pages step count bytes event_root archive links labels = record {
+  pages = with_step pages step bytes (record {
+    count = count;
+    stream = record { page = first_page pages (length bytes); size = length bytes };
+    event_root = event_root;
+    archive = archive;
+    auth = dig (authenticator_text step labels);
+  }) links;
+  value = record { step = step; auth = dig (authenticator_text step labels); page = FIRST_PAGE + length pages + piece_count (length bytes) };
+}
 
 module _ (dig : List ℕ → List ℕ) (pages : Image) (head : Head) (events : List (List ℕ)) (archive : Root) where
-  -- the fields of the step with this authenticator
-  abbrev pub new_fields : (auth : List ℕ) → StepFields
-  new_fields auth = record {
-    count = length events;
-    stream = record { page = first_page pages (length (stream events)); size = length (stream events) };
-    event_root = event_root dig events;
-    archive = archive;
-    auth = auth;
-  }
+  -- the labels of these links of the step after the head's, of these events
+  abbrev pub new_labels : List StepRef → List (List ℕ)
+  new_labels links = page_labels dig (head.step + 1) (dig (datum_text (event_root dig events) archive.label (length events))) links (length links)
 
-  -- its authenticator, from the labels of its links
-  abbrev pub new_auth : List StepRef → List ℕ
-  new_auth links = dig (authenticator_text (head.step + 1) (page_labels dig (head.step + 1) (dig (datum_text (event_root dig events) archive.label (length events))) links (length links)))
-
-  abbrev pub next_of : List StepRef → Next
-  next_of links = record {
-    pages = with_step pages (head.step + 1) (stream events) (new_fields (new_auth links)) links;
-    head = record { step = head.step + 1; auth = new_auth links; page = FIRST_PAGE + length pages + piece_count (length (stream events)) };
-  }
+  -- that step
+  abbrev pub next_of : List StepRef → Next Head
+  next_of links = next_at dig pages (head.step + 1) (length events) (stream events) (event_root dig events) archive links (new_labels links)
 
   -- the step after the head's, of these events and with this archive: its links are read, and it is put behind the pages
-  unfoldable pub appended : Found Next
+  unfoldable pub appended : Found (Next Head)
   appended = next_links pages head >>= (λ links. Is (next_of links))
-
--- the pages told now are the earlier ones, and perhaps more behind them
-pub record Extends (before : Image) (now : Option Image) : Type 0 where
-  pub more : Image
-  pub told : now ≡ Some (before ++ more)

@@ -6,8 +6,7 @@ use Rattle.tw_base.specs.declared.kinds.limits.TheConstants.{PAGE_SIZE}
 use Rattle.tw_disk.specs.Image.{Image}
 use Rattle.tw_skiplist.specs.declared.info.StepInfo.{StepInfo}
 use Rattle.tw_skiplist.specs.declared.limits.TheConstants.{MOST_PIECE_BYTES, MOST_STREAM_BYTES}
-use Rattle.tw_disk.specs.Found.{Found, when, ◌>>=◌}
-use Rattle.tw_skiplist.specs.Found.{bytes_in, spelled}
+use Rattle.tw_disk.specs.Found.{Found, when, ◌>>=◌, bytes_in, spelled}
 use Rattle.tw_disk.specs.Found.Found.{Is, Bad}
 use Rattle.tw_skiplist.specs.StepBytes.{piece_codec}
 
@@ -26,10 +25,14 @@ module _ (pages : Image) (info : StepInfo) where
       bytes_in pages (info.stream.page + number)
       >>= spelled (info.stream.page + number) PAGE_SIZE (piece_codec info.step number (piece_size info.stream.size number))
 
+  -- the same behind what is before it
+  abbrev pub piece_behind : (number : ℕ) → (before : List ℕ) → Found (List ℕ)
+  piece_behind number before = piece_in number >>= (λ piece. Is (before ++ piece))
+
   -- the pieces of the numbers below this count
   unfoldable pub pieces_below : (count : ℕ) → Found (List ℕ)
   pieces_below zero = Is []
-  pieces_below (suc number) = pieces_below number >>= (λ before. piece_in number >>= (λ piece. Is (before ++ piece)))
+  pieces_below (suc number) = pieces_below number >>= piece_behind number
 
 -- the page that is read last: the step's own where its stream has no bytes
 abbrev pub last_page : StepInfo → (pieces : ℕ) → ℕ

@@ -6,7 +6,6 @@ pub mod Records
 pub mod Appended
 pub mod Events
 pub mod Infos
-pub mod Answers
+pub mod ListFaults
 pub mod ScanSteps
-pub mod Found
 pub mod Readings

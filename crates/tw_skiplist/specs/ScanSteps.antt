@@ -1,12 +1,8 @@
 -- Steps of the proofs that a step's stream is read from its event pages, and its events where it spells some.
-use Rattle.std.specs.Prelude.{◌≡◌, ℕ, ◌+◌, ◌≤◌, List, ◌++◌, length, take, drop, Result, Ok, Err}
+use Rattle.std.specs.Prelude.{◌≡◌, ℕ, ◌+◌, ◌≤◌, List, ◌++◌, length, take, drop}
 use Rattle.std.specs.Int.{to_be_bytes, w32}
 use Rattle.tw_base.specs.declared.kinds.limits.TheConstants.{MOST_EVENT_BYTES}
 use Rattle.tw_base.specs.history.Limits.{MayRecord}
-use Rattle.tw_skiplist.specs.declared.fault.ListFault.{ListFault}
-use Rattle.tw_skiplist.specs.Answers.{IsFaultOf}
-use Rattle.tw_disk.specs.Found.{Found}
-use Rattle.tw_disk.specs.Found.Found.{Is}
 use Rattle.tw_skiplist.specs.StepBytes.{stream}
 
 -- the events are spelled by the bytes, as many as the count, within the limits of a step
@@ -23,8 +19,3 @@ pub record HasEventAt (bytes : List ℕ) (at size : ℕ) : Type 0 where
 
 abbrev pub IsNoEventAt : (bytes : List ℕ) → (at : ℕ) → Type 0
 IsNoEventAt bytes at = (event rest : List ℕ) → drop at bytes ≡ to_be_bytes w32 (length event) ++ (event ++ rest) → length event ≤ MOST_EVENT_BYTES → ⊥
-
--- the piece that is found was put behind what was there, or the page that is found is told
-abbrev pub AddsPiece : (before after : List ℕ) → Result (Unit {0}) ListFault → Found (List ℕ) → Type 0
-AddsPiece before after (Ok done) found = (piece : List ℕ) × (after ≡ before ++ piece) × (found ≡ Is piece)
-AddsPiece before after (Err fault) found = IsFaultOf fault found

@@ -3,6 +3,7 @@ use Rattle.std.specs.Prelude.{ℕ, suc, zero, ◌-◌, ◌*◌, ◌^◌, List, [
 use Rattle.std.specs.Int.{to_be_bytes, w16, w32, w64}
 use Rattle.tw_base.specs.format.Codecs.{Codec, behind, bytes_codec, digest_codec, many, number_codec, pair, seen}
 use Rattle.tw_base.specs.kinds.Levels.{top_level}
+use Rattle.tw_base.specs.declared.kinds.limits.TheConstants.{MOST_EVENTS}
 use Rattle.tw_base.specs.format.PageBytes.{padded}
 use Rattle.tw_skiplist.specs.declared.head.StepRef.{StepRef}
 use Rattle.tw_skiplist.specs.declared.fields.StepFields.{StepFields}
@@ -16,7 +17,7 @@ page_codec = number_codec 8 0 (2 ^ 64 - 1)
 unfoldable pub ref_codec : Codec StepRef
 ref_codec = seen (λ t. record { page = t.0; auth = t.1 }) (λ l. (l.page, l.auth)) (pair page_codec (λ page. digest_codec))
 
--- what a step of events has behind its kind: the number of events, the length of their stream, the first event page, the root
+-- what a step of events has behind its kind: the number of events (at most 1,024), the length of their stream, the first event page, the root
 -- of the events, the label of the archive and the page of its root, no received thread, and the authenticator
 unfoldable pub fields_codec : Codec StepFields
 fields_codec =
@@ -28,7 +29,7 @@ fields_codec =
       auth = t.1.1.1.1.1.1;
     })
     (λ f. (f.count, (f.stream.size, (f.stream.page, (f.event_root, (f.archive.label, (f.archive.page, f.auth)))))))
-    (pair (number_codec 4 0 (2 ^ 32 - 1)) (λ count. pair (number_codec 4 0 MOST_STREAM_BYTES) (λ size. pair page_codec (λ first.
+    (pair (number_codec 4 0 MOST_EVENTS) (λ count. pair (number_codec 4 0 MOST_STREAM_BYTES) (λ size. pair page_codec (λ first.
     pair digest_codec (λ event_root. pair digest_codec (λ label. pair page_codec (λ archive. behind (replicate 56 0) digest_codec)))))))
 
 -- the number of a step's links, and the links from level 0 on

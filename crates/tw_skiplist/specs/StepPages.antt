@@ -4,8 +4,7 @@ use Rattle.tw_base.specs.declared.kinds.limits.TheConstants.{PAGE_SIZE}
 use Rattle.tw_disk.specs.Image.{Image}
 use Rattle.tw_skiplist.specs.declared.head.StepRef.{StepRef}
 use Rattle.tw_skiplist.specs.declared.fields.StepFields.{StepFields}
-use Rattle.tw_disk.specs.Found.{Found, when, ◌>>=◌}
-use Rattle.tw_skiplist.specs.Found.{bytes_in, spelled}
+use Rattle.tw_disk.specs.Found.{Found, when, ◌>>=◌, bytes_in, spelled}
 use Rattle.tw_skiplist.specs.StepBytes.{step_codec}
 
 abbrev pub no_ref : StepRef

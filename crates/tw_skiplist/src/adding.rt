@@ -1,16 +1,16 @@
 // One more step.
 
-ghost use Rattle.std.specs.Prelude.{◌≡◌, ℕ, suc, ◌+◌, ◌<◌, ◌≤◌, ◌^◌, ◌++◌, ◌∷◌, [], length, Some, IfOk, OnErr};
-ghost use Rattle.tw_disk.specs.Image.{Image};
-ghost use Rattle.tw_disk.specs.Pages.{OnlyReads};
+ghost use Rattle.std.specs.Prelude.{◌≡◌, ℕ, suc, ◌+◌, ◌<◌, ◌≤◌, ◌^◌, ◌++◌, ◌∷◌, [], length, IfOk};
 ghost use Rattle.tw_base.specs.history.Limits.{MayRecord};
 ghost use Rattle.tw_base.specs.kinds.Levels.{top_level as top_level_of};
-ghost use Rattle.tw_base.specs.kinds.Texts.{authenticator_text, link_text};
-ghost use Rattle.tw_skiplist.specs.Answers.{AnswersAs, AnswersNext, FaultsRise, NeverNoStep, NotDiskFault};
-ghost use Rattle.tw_skiplist.specs.Appended.{Extends, appended, first_page as first_page_of, with_step};
-ghost use Rattle.tw_skiplist.specs.Events.{piece_count};
+ghost use Rattle.tw_base.specs.kinds.Texts.{link_text};
+ghost use Rattle.tw_disk.specs.Answers.{AddsPages, ReadsPages};
+ghost use Rattle.tw_disk.specs.Found.Found.{Is};
+ghost use Rattle.tw_disk.specs.WalkFaults.{memory_alone, walk_faults};
+ghost use Rattle.tw_skiplist.specs.Appended.{appended, next_at};
+ghost use Rattle.tw_skiplist.specs.ListFaults.{list_faults};
 ghost use Rattle.tw_skiplist.specs.Records.{page_labels};
-ghost use Rattle.tw_skiplist.specs.Walks.{head_ref, links_up_to};
+ghost use Rattle.tw_skiplist.specs.Walks.{links_up_to};
 
 use crate::fault::ListFault;
 use crate::fields::{StepFields, StreamRef};
@@ -26,7 +26,7 @@ use tw_base::{
     Bytes, Digest, EventList, Hasher, NoMemory, Root, authenticator, datum, link_label,
     power_of_two, top_level,
 };
-use tw_disk::Pages;
+use tw_disk::{Pages, WalkFault};
 use tw_events::event_root;
 
 // A step's links, with their labels.
@@ -68,16 +68,12 @@ fn gather<P: Pages, H: Hasher>(
     first: &StepRef,
     from: u64,
     datum: &Digest,
-) -> Result<Links, ListFault>
+) -> Result<Links, WalkFault>
     requires step { from + 1 < 2 ^ 40 }
-    ensures answer { (ps : Image) → P.list pages.old ≡ Some ps →
-        AnswersAs (λ l. l.links.items) result (links_up_to ps first.now from (top_level_of (from + 1))) }
+    ensures reads { ReadsPages walk_faults P.view P.same pages.old pages.new (λ l. l.links.items) result (λ ps. links_up_to ps first.now from (top_level_of (from + 1))) }
     ensures count { IfOk result (λ l. length l.links.items ≡ suc (top_level_of (from + 1))) }
     ensures labels { IfOk result (λ l. l.labels.items ≡ page_labels H.dig (from + 1) datum.now l.links.items (length l.links.items)) }
     ensures sizes { IfOk result (λ l. (length l.links.items ≤ MOST_LINKS) × (length l.labels.items ≤ MOST_LINKS)) }
-    ensures no_step { NeverNoStep result }
-    ensures kept { OnlyReads P.used_count P.list P.same P.unbroken pages.old pages.new (NotDiskFault result) }
-    ensures faults { FaultsRise (P.faults pages.old) (P.faults pages.new) result }
 {
     let step = from + 1;
     let top = top_level(step);
@@ -115,29 +111,16 @@ fn put_step<P: Pages, H: Hasher>(
     recorded: &Recorded,
     links: &Links,
 ) -> Result<Head, NoMemory>
-    requires used { P.used_count pages.old < 2 ^ 47 }
+    requires used { (P.view pages.old).used < 2 ^ 47 }
     requires size { length recorded.now.stream ≤ MOST_STREAM_BYTES }
     requires links { length links.now.links.items ≤ MOST_LINKS }
     requires labels { length links.now.labels.items ≤ MOST_LINKS }
     requires count { length links.now.links.items ≡ suc (top_level_of step) }
-    ensures put { IfOk result (λ new. (ps : Image) → P.list pages.old ≡ Some ps →
-        P.list pages.new ≡ Some (with_step ps step recorded.now.stream (record {
-          count = recorded.now.count;
-          stream = record { page = first_page_of ps (length recorded.now.stream); size = length recorded.now.stream };
-          event_root = recorded.now.event_root;
-          archive = recorded.now.archive;
-          auth = new.auth;
-        }) links.now.links.items)) }
-    ensures at { IfOk result (λ new. new.page ≡ P.used_count pages.old + piece_count (length recorded.now.stream)) }
-    ensures left { OnErr result ((ps : Image) → P.list pages.old ≡ Some ps → Extends ps (P.list pages.new)) }
-    ensures auth { IfOk result (λ new. new.auth ≡ H.dig (authenticator_text step links.now.labels.items)) }
+    ensures adds { AddsPages memory_alone P.view P.same pages.old pages.new (λ new. new) result
+        (λ ps. Is (next_at H.dig ps step recorded.now.count recorded.now.stream recorded.now.event_root recorded.now.archive links.now.links.items links.now.labels.items)) }
     ensures step { IfOk result (λ new. new.step ≡ step) }
-    ensures page { IfOk result (λ new. P.used_count pages.new ≡ new.page + 1) }
-    ensures used { P.used_count pages.old ≤ P.used_count pages.new }
-    ensures few { P.used_count pages.new ≤ P.used_count pages.old + 19 }
-    ensures same { P.same pages.old pages.new }
-    ensures unbroken { P.unbroken pages.old → P.unbroken pages.new }
-    ensures faults { P.faults pages.new ≡ P.faults pages.old }
+    ensures page { IfOk result (λ new. (P.view pages.new).used ≡ new.page + 1) }
+    ensures few { (P.view pages.new).used ≤ (P.view pages.old).used + 19 }
 {
     let auth = authenticator::<H>(step, links.labels.as_slice());
     let stream = recorded.stream.as_slice();
@@ -168,6 +151,7 @@ fn put_step<P: Pages, H: Hasher>(
 /// After a refusal pages of the call may stay staged, behind those that were there. Where the pages
 /// are told, BadPage tells the page of a link that isn't the page of its step; it never comes where
 /// they keep a history under the head. NoStep never comes.
+#[tactic(auto, unfolding(crate::specs::Appended::appended))]
 pub fn append<P: Pages, H: Hasher>(
     alloc: Global,
     pages: &mut P,
@@ -176,29 +160,21 @@ pub fn append<P: Pages, H: Hasher>(
     archive: &Root,
 ) -> Result<Head, ListFault>
     requires step { head.now.step < LAST_STEP }
-    requires used { P.used_count pages.old < 2 ^ 47 }
+    requires used { (P.view pages.old).used < 2 ^ 47 }
     requires limits { MayRecord events.now }
     // Over told pages the answer is what is found in them, whatever they keep, a disk fault and want of memory
     // excepted: the pages then told have the step's event pages and its page behind the earlier ones, with the links
     // that these lead to from the head and the authenticator of their labels, and the answer is that step's head; or
-    // `BadPage` tells the first page met for the links that isn't of its kind.
-    ensures answer { (ps : Image) → P.list pages.old ≡ Some ps →
-        AnswersNext result (P.list pages.new) (appended H.dig ps head.now events.now archive.now) }
-    // A refusal may leave some pages behind those that were there, which stay.
-    ensures left { OnErr result ((ps : Image) → P.list pages.old ≡ Some ps → Extends ps (P.list pages.new)) }
+    // `BadPage` tells the first page met for the links that isn't of its kind. Over any pages, told or not, `NoStep` is
+    // never answered; pages are only added behind those that were there, which stay, also where it refuses; and
+    // `DiskFault` comes only where the count of faults rose.
+    ensures adds { AddsPages list_faults P.view P.same pages.old pages.new (λ new. new) result (λ ps. appended H.dig ps head.now events.now archive.now) }
     // The new head's step is the next one.
     ensures step { IfOk result (λ new. new.step ≡ head.now.step + 1) }
     // The new head's page is the last one.
-    ensures page { IfOk result (λ new. P.used_count pages.new ≡ new.page + 1) }
-    ensures used { P.used_count pages.old ≤ P.used_count pages.new }
+    ensures page { IfOk result (λ new. (P.view pages.new).used ≡ new.page + 1) }
     // At most 19 pages are staged.
-    ensures few { P.used_count pages.new ≤ P.used_count pages.old + 19 }
-    // `NoStep` is never answered.
-    ensures no_step { NeverNoStep result }
-    ensures same { P.same pages.old pages.new }
-    ensures unbroken { NotDiskFault result → P.unbroken pages.old → P.unbroken pages.new }
-    // `DiskFault` comes only where the count of faults rose.
-    ensures faults { FaultsRise (P.faults pages.old) (P.faults pages.new) result }
+    ensures few { (P.view pages.new).used ≤ (P.view pages.old).used + 19 }
 {
     let stream = stream_of(alloc, events)?;
     let recorded = Recorded {

@@ -1,11 +1,10 @@
 // Collecting what a proof needs, on the way down.
 
-ghost use Rattle.std.specs.Prelude.{◌≡◌, ◌<◌, ◌≤◌, ◌^◌, length, Some, IfOk};
-ghost use Rattle.tw_disk.specs.Image.{Image};
-ghost use Rattle.tw_disk.specs.Pages.{OnlyReads};
+ghost use Rattle.std.specs.Prelude.{◌≡◌, ◌<◌, ◌≤◌, ◌^◌, length, IfOk};
 ghost use Rattle.tw_base.specs.kinds.Levels.{top_level};
 ghost use Rattle.tw_skipproof.specs.Paths.{HasShape};
-ghost use Rattle.tw_skiplist.specs.Answers.{Answers, FaultsRise, NeverNoStep, NotDiskFault};
+ghost use Rattle.tw_disk.specs.Answers.{ReadsPages};
+ghost use Rattle.tw_skiplist.specs.ListFaults.{list_faults};
 ghost use Rattle.tw_skiplist.specs.Walks.{collected, hop_in, info_in};
 
 use crate::fault::ListFault;
@@ -35,11 +34,8 @@ fn hop_at<P: Pages, H: Hasher>(
 ) -> Result<Hop, ListFault>
     requires step { at < 2 ^ 40 }
     requires level { level ≤ top_level at }
-    ensures answer { (ps : Image) → P.list pages.old ≡ Some ps → Answers result (hop_in H.dig ps link.now.page at level) }
+    ensures reads { ReadsPages list_faults P.view P.same pages.old pages.new (λ x. x) result (λ ps. hop_in H.dig ps link.now.page at level) }
     ensures others { IfOk result (λ hop. length hop.link.others ≡ top_level at) }
-    ensures no_step { NeverNoStep result }
-    ensures kept { OnlyReads P.used_count P.list P.same P.unbroken pages.old pages.new (NotDiskFault result) }
-    ensures faults { FaultsRise (P.faults pages.old) (P.faults pages.new) result }
 {
     let page = read_step(pages, link.page, at)?;
     let next = link_at(page.links.as_slice(), level);
@@ -55,6 +51,7 @@ pub(crate) struct Collected {
 }
 
 /// Walks as `descend` does, and makes a path of it.
+#[tactic(auto, using(crate::proofs::WalkLaws::collects))]
 pub(crate) fn collect<P: Pages, H: Hasher>(
     alloc: Global,
     pages: &mut P,
@@ -65,10 +62,7 @@ pub(crate) fn collect<P: Pages, H: Hasher>(
     requires below { to ≤ from }
     requires step { from < 2 ^ 40 }
     ensures shape { IfOk result (λ c. HasShape c.links from to) }
-    ensures answer { (ps : Image) → P.list pages.old ≡ Some ps → Answers result (collected H.dig ps first.now from to) }
-    ensures no_step { NeverNoStep result }
-    ensures kept { OnlyReads P.used_count P.list P.same P.unbroken pages.old pages.new (NotDiskFault result) }
-    ensures faults { FaultsRise (P.faults pages.old) (P.faults pages.new) result }
+    ensures reads { ReadsPages list_faults P.view P.same pages.old pages.new (λ x. x) result (λ ps. collected H.dig ps first.now from to) }
 {
     let mut links = LinkList::new(alloc);
     let mut last = *first;
@@ -84,6 +78,7 @@ pub(crate) fn collect<P: Pages, H: Hasher>(
 }
 
 /// What the page of a step from 1 on (below 2^40) tells of it.
+#[tactic(auto, unfolding(crate::specs::Walks::info_in))]
 pub(crate) fn read_info<P: Pages, H: Hasher>(
     alloc: Global,
     pages: &mut P,
@@ -91,10 +86,7 @@ pub(crate) fn read_info<P: Pages, H: Hasher>(
     step: u64,
 ) -> Result<StepInfo, ListFault>
     requires { step < 2 ^ 40 }
-    ensures answer { (ps : Image) → P.list pages.old ≡ Some ps → Answers result (info_in H.dig ps link.now.page step) }
-    ensures no_step { NeverNoStep result }
-    ensures kept { OnlyReads P.used_count P.list P.same P.unbroken pages.old pages.new (NotDiskFault result) }
-    ensures faults { FaultsRise (P.faults pages.old) (P.faults pages.new) result }
+    ensures reads { ReadsPages list_faults P.view P.same pages.old pages.new (λ x. x) result (λ ps. info_in H.dig ps link.now.page step) }
 {
     let page = read_step(pages, link.page, step)?;
     let info = info_of_page::<H>(alloc, link.page, step, &page)?;

@@ -1,24 +1,22 @@
 // Reading the stream of a step's events.
 
-ghost use Rattle.std.specs.Prelude.{◌≡◌, ℕ, ◌+◌, ◌*◌, ◌<◌, ◌≤◌, ◌^◌, length, take, drop, Some, IfOk, IfSome, OnOk, MatchOption};
+ghost use Rattle.std.specs.Prelude.{◌≡◌, ℕ, ◌+◌, ◌*◌, ◌<◌, ◌≤◌, ◌^◌, length, take, drop, IfOk, IfSome, OnOk, MatchOption};
 ghost use Rattle.std.specs.Int.{from_be_bytes, w32};
-ghost use Rattle.tw_disk.specs.Image.{Image};
-ghost use Rattle.tw_disk.specs.Pages.{OnlyReads};
-ghost use Rattle.tw_skiplist.specs.Answers.{AnswersAs, FaultsRise, NeverNoStep, NotDiskFault};
+ghost use Rattle.tw_disk.specs.Answers.{ReadsPages};
+ghost use Rattle.tw_skiplist.specs.ListFaults.{list_faults};
 ghost use Rattle.tw_base.specs.history.Limits.{MayRecord};
-ghost use Rattle.tw_skiplist.specs.ScanSteps.{AddsPiece, HasEventAt, IsNoEventAt};
+ghost use Rattle.tw_skiplist.specs.ScanSteps.{HasEventAt, IsNoEventAt};
 ghost use Rattle.tw_disk.specs.Found.Found.{Is, Bad};
-ghost use Rattle.tw_skiplist.specs.Events.{events_in, last_page, piece_count, piece_in, pieces_below};
+ghost use Rattle.tw_skiplist.specs.Events.{events_in, last_page, piece_behind, piece_count, pieces_below};
 
 use crate::fault::ListFault;
 use crate::info::StepInfo;
 use crate::limits::{MOST_PIECE_BYTES, MOST_STREAM_BYTES};
 use crate::page::is_event_page;
 use std::alloc::Global;
-use tw_base::limits::{MOST_EVENT_BYTES, MOST_EVENTS, MOST_STEP_BYTES};
+use tw_base::limits::{MOST_EVENT_BYTES, MOST_EVENTS, MOST_STEP_BYTES, PAGE_SIZE};
 use tw_base::{Bytes, EventList, NoMemory};
-use tw_disk::Pages;
-use tw_disk::limits::FIRST_PAGE;
+use tw_disk::{Pages, read_page};
 
 // Reads the event page of this number of the step, and appends its piece of a stream of this size.
 fn add_piece<P: Pages>(
@@ -30,29 +28,18 @@ fn add_piece<P: Pages>(
 ) -> Result<(), ListFault>
     requires page { page ≡ info.now.stream.page + number }
     requires more { MOST_PIECE_BYTES * number < info.now.stream.size }
-    ensures answer { (ps : Image) → P.list pages.old ≡ Some ps → AddsPiece into.old into.new result (piece_in ps info.now number) }
+    ensures reads { ReadsPages list_faults P.view P.same pages.old pages.new (λ _. into.new) result (λ ps. piece_behind ps info.now number into.old) }
     ensures next { OnOk result (page + 1 < 2 ^ 64) }
-    ensures no_step { NeverNoStep result }
-    ensures kept { OnlyReads P.used_count P.list P.same P.unbroken pages.old pages.new (NotDiskFault result) }
-    ensures faults { FaultsRise (P.faults pages.old) (P.faults pages.new) result }
 {
-    if page < FIRST_PAGE || page >= pages.used() {
-        return Err(ListFault::BadPage { page });
-    }
     let left = info.stream.size as u64 - MOST_PIECE_BYTES * number as u64;
     let count = left.min(MOST_PIECE_BYTES) as usize;
-    let mut bytes = [0; 4096];
-    match pages.read(page, &mut bytes) {
-        Err(_) => Err(ListFault::DiskFault),
-        Ok(()) => {
-            if is_event_page(&bytes, info.step, number, count) {
-                into.extend_from_slice(&bytes[11..11 + count])?;
-                Ok(())
-            } else {
-                Err(ListFault::BadPage { page })
-            }
-        }
+    let mut bytes = [0; PAGE_SIZE];
+    read_page(pages, page, &mut bytes)?;
+    if !is_event_page(&bytes, info.step, number, count) {
+        return Err(ListFault::BadPage { page });
     }
+    into.extend_from_slice(&bytes[11..11 + count])?;
+    Ok(())
 }
 
 /// The bytes that the event pages of a step have, and the page that was read last before them or
@@ -70,12 +57,8 @@ pub(crate) fn read_stream<P: Pages>(
     info: &StepInfo,
 ) -> Result<StreamRead, ListFault>
     requires { info.now.stream.size ≤ MOST_STREAM_BYTES }
-    ensures answer { (ps : Image) → P.list pages.old ≡ Some ps →
-        AnswersAs (λ r. r.bytes) result (pieces_below ps info.now (piece_count info.now.stream.size)) }
+    ensures reads { ReadsPages list_faults P.view P.same pages.old pages.new (λ r. r.bytes) result (λ ps. pieces_below ps info.now (piece_count info.now.stream.size)) }
     ensures last { IfOk result (λ r. r.last ≡ last_page info.now (piece_count info.now.stream.size)) }
-    ensures no_step { NeverNoStep result }
-    ensures kept { OnlyReads P.used_count P.list P.same P.unbroken pages.old pages.new (NotDiskFault result) }
-    ensures faults { FaultsRise (P.faults pages.old) (P.faults pages.new) result }
 {
     let size = info.stream.size as u64;
     let mut bytes = Bytes::new(alloc);

@@ -3,6 +3,7 @@
 ghost use Rattle.std.specs.Prelude.{◌≡◌};
 
 use tw_base::NoMemory;
+use tw_disk::WalkFault;
 
 /// Why a call on a list of steps has no answer.
 #[derive(Clone, Copy, Debug, PartialEq, Eq, Drop)]
@@ -26,5 +27,18 @@ impl From<NoMemory> for ListFault {
 
     fn from(_none: NoMemory) -> Self {
         ListFault::NoMemory
+    }
+}
+
+impl From<WalkFault> for ListFault {
+    ghost use Rattle.tw_skiplist.specs.ListFaults.{list_fault};
+
+    ghost from_gives = { λ walk fault. fault ≡ list_fault walk };
+
+    fn from(fault: WalkFault) -> Self {
+        match fault {
+            WalkFault::BadPage { page } => ListFault::BadPage { page },
+            WalkFault::DiskFault => ListFault::DiskFault,
+        }
     }
 }

@@ -73,6 +73,6 @@ pub fn reading_laws<H: Hasher>()
     // archive, they keep under its head the history with one more step of these events.
     ensures appended { (ps : Image) (h : History) (head : Head) (events : List (List ℕ)) (archive : Root) → Keeps H.dig ps h head → head.step < LAST_STEP →
         MayRecord events → FIRST_PAGE + length ps < 2 ^ 47 →
-        (more : Image) × (new : Head) × (appended H.dig ps head events archive ≡ Is (record { pages = ps ++ more; head = new }))
+        (more : Image) × (new : Head) × (appended H.dig ps head events archive ≡ Is (record { pages = ps ++ more; value = new }))
         × (archive ≡ archive_at H.dig h (length h.steps) → Keeps H.dig (ps ++ more) (with_events h events) new) }
 {}

@@ -14,6 +14,7 @@ use crate::fields::{StepFields, StreamRef};
 use crate::head::StepRef;
 use crate::limits::{MOST_LINKS, MOST_PIECE_BYTES, MOST_STREAM_BYTES};
 use arrayvec::ArrayVec;
+use tw_base::limits::MOST_EVENTS;
 use tw_base::{
     Page, PageFront, ReadFault, Root, page_to, power_of_two, take_digest, take_number, take_text,
     top_level,
@@ -133,7 +134,7 @@ fn take_fields(bytes: &[u8], at: &mut u64) -> Result<StepFields, ReadFault>
     ensures takes { Takes fields_codec (λ f. f) bytes.now at.old at.new result }
     ensures memory { IfErr result (λ fault. fault ≢ ReadFault.NoMemory) }
 {
-    let count = take_number(bytes, at, 4, 0, u32::MAX as u64)? as u32;
+    let count = take_number(bytes, at, 4, 0, MOST_EVENTS)? as u32;
     let size = take_number(bytes, at, 4, 0, MOST_STREAM_BYTES)? as u32;
     let first = take_number(bytes, at, 8, 0, u64::MAX)?;
     let event_root = take_digest(bytes, at)?;

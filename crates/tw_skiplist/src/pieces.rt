@@ -1,14 +1,15 @@
 // The stream of a step's events, and its pieces.
 
-ghost use Rattle.std.specs.Prelude.{◌≡◌, ℕ, ◌+◌, ◌*◌, ◌<◌, ◌≤◌, ◌^◌, ◌++◌, List, length, Some, IfOk, OnOk, OnErr};
+ghost use Rattle.std.specs.Prelude.{◌≡◌, ℕ, ◌+◌, ◌*◌, ◌<◌, ◌≤◌, ◌^◌, ◌++◌, List, length, IfOk, OnOk};
 ghost use Rattle.std.specs.Int.{to_be_bytes, w32};
-ghost use Rattle.std.specs.Option.{option_map};
 ghost use Rattle.tw_base.specs.kinds.Lists.{Each};
-ghost use Rattle.tw_disk.specs.Image.{Image};
-ghost use Rattle.tw_skiplist.specs.Appended.{Extends};
+ghost use Rattle.tw_disk.specs.Answers.{AddsPages};
+ghost use Rattle.tw_disk.specs.Found.Found.{Is};
+ghost use Rattle.tw_disk.specs.WalkFaults.{memory_alone};
+ghost use Rattle.tw_skiplist.specs.Appended.{with_pieces};
 ghost use Rattle.tw_skiplist.specs.Events.{piece_count};
 ghost use Rattle.tw_base.specs.history.Limits.{MayRecord};
-ghost use Rattle.tw_skiplist.specs.StepBytes.{event_page_bytes, event_pages, piece, stream};
+ghost use Rattle.tw_skiplist.specs.StepBytes.{event_page_bytes, piece, stream};
 
 use crate::limits::{MOST_EVENT_PAGES, MOST_PIECE_BYTES, MOST_STREAM_BYTES};
 use crate::page::event_page;
@@ -64,17 +65,12 @@ pub(crate) fn stage_pieces<P: Pages>(
     step: u64,
     stream: &[u8],
 ) -> Result<u16, NoMemory>
-    requires used { P.used_count pages.old < 2 ^ 47 }
+    requires used { (P.view pages.old).used < 2 ^ 47 }
     requires size { length stream.now ≤ MOST_STREAM_BYTES }
-    ensures list { IfOk result (λ count. P.list pages.new ≡ option_map (λ ps. ps ++ event_pages step stream.now count) (P.list pages.old)) }
-    ensures left { OnErr result ((ps : Image) → P.list pages.old ≡ Some ps → Extends ps (P.list pages.new)) }
+    ensures adds { AddsPages memory_alone P.view P.same pages.old pages.new (λ count. count) result (λ ps. Is (with_pieces ps step stream.now)) }
     ensures count { IfOk result (λ count. count ≡ piece_count (length stream.now)) }
-    ensures used { IfOk result (λ count. P.used_count pages.new ≡ P.used_count pages.old + count) }
-    ensures few { P.used_count pages.new ≤ P.used_count pages.old + MOST_EVENT_PAGES }
-    ensures grown { P.used_count pages.old ≤ P.used_count pages.new }
-    ensures same { P.same pages.old pages.new }
-    ensures unbroken { P.unbroken pages.old → P.unbroken pages.new }
-    ensures faults { P.faults pages.new ≡ P.faults pages.old }
+    ensures used { IfOk result (λ count. (P.view pages.new).used ≡ (P.view pages.old).used + count) }
+    ensures few { (P.view pages.new).used ≤ (P.view pages.old).used + MOST_EVENT_PAGES }
 {
     let mut count = 0u16;
     while MOST_PIECE_BYTES * (count as u64) < stream.len() as u64 {

@@ -1,10 +1,9 @@
 // Reading steps.
 
-ghost use Rattle.std.specs.Prelude.{◌≡◌, ℕ, ◌*◌, ◌<◌, ◌≤◌, ◌^◌, length, Some, IfOk};
-ghost use Rattle.tw_disk.specs.Image.{Image};
-ghost use Rattle.tw_disk.specs.Pages.{OnlyReads};
+ghost use Rattle.std.specs.Prelude.{◌≡◌, ℕ, ◌*◌, ◌<◌, ◌≤◌, ◌^◌, length, IfOk};
 ghost use Rattle.tw_base.specs.history.Limits.{MayRecord};
-ghost use Rattle.tw_skiplist.specs.Answers.{Answers, FaultsRise, NeverNoStep, NoStepUnless, NotDiskFault};
+ghost use Rattle.tw_disk.specs.Answers.{ReadsPages, ReadsWhere};
+ghost use Rattle.tw_skiplist.specs.ListFaults.{NoStepUnless, list_faults};
 ghost use Rattle.tw_skiplist.specs.Events.{events_of_info};
 ghost use Rattle.tw_skiplist.specs.Readings.{found_events, found_path, found_proof, found_step};
 ghost use Rattle.tw_skiplist.specs.Walks.{head_ref};
@@ -38,6 +37,7 @@ fn link_to_head(head: &Head) -> StepRef
 /// NoStep exactly where i isn't within 1 and the head's step. Where the pages are told, BadPage tells
 /// the first page of the way that isn't the page of its step; it never comes where they keep
 /// a history under the head.
+#[tactic(auto, unfolding(crate::specs::Readings::found_step))]
 pub fn step<P: Pages, H: Hasher>(
     alloc: Global,
     pages: &mut P,
@@ -47,14 +47,10 @@ pub fn step<P: Pages, H: Hasher>(
     requires { head.now.step ≤ LAST_STEP }
     // Over told pages the answer is what is found in them, whatever they keep, `NoStep`, a disk fault and want of
     // memory excepted: what the page tells of the step to which the walk from the head leads, or `BadPage` with the
-    // first page met that isn't of its kind.
-    ensures answer { (ps : Image) → P.list pages.old ≡ Some ps → Answers result (found_step H.dig ps head.now i) }
-    // `NoStep` exactly where there is no such step.
-    ensures no_step { NoStepUnless result head.now.step ((1 ≤ i) × (i ≤ head.now.step)) }
-    // Reading changes nothing of what the pages tell.
-    ensures kept { OnlyReads P.used_count P.list P.same P.unbroken pages.old pages.new (NotDiskFault result) }
-    // `DiskFault` comes only where the count of faults rose.
-    ensures faults { FaultsRise (P.faults pages.old) (P.faults pages.new) result }
+    // first page met that isn't of its kind. Over any pages, told or not, `NoStep` comes exactly where there is no such
+    // step; reading changes nothing of what the pages tell; and `DiskFault` comes only where the count of faults rose.
+    ensures reads { ReadsWhere list_faults P.view P.same pages.old pages.new (λ x. x) result (NoStepUnless result head.now.step ((1 ≤ i) × (i ≤ head.now.step)))
+        (λ ps. found_step H.dig ps head.now i) }
 {
     let last = head.step;
     if i == 0 || i > last {
@@ -73,6 +69,7 @@ pub fn step<P: Pages, H: Hasher>(
 /// BadPage tells the first page that isn't the page of its step, of the steps above n on the way from
 /// the head to n and of those above i from there on: the page of i isn't asked for. It never comes
 /// where the pages keep a history under the head.
+#[tactic(auto, unfolding(crate::specs::Readings::found_path))]
 pub fn path<P: Pages, H: Hasher>(
     alloc: Global,
     pages: &mut P,
@@ -84,16 +81,13 @@ pub fn path<P: Pages, H: Hasher>(
     // Over told pages the answer is what is found in them, whatever they keep, `NoStep`, a disk fault and want of
     // memory excepted: the records of the links that the walk from the head follows from the upper step down to the
     // lower one, or `BadPage` with the first page met that isn't of its kind. Of the lower step's page nothing is
-    // asked.
-    ensures answer { (ps : Image) → P.list pages.old ≡ Some ps → Answers result (found_path H.dig ps head.now n i) }
+    // asked. Over any pages, told or not, `NoStep` comes exactly where the steps asked for aren't there, or
+    // not in their order; reading changes nothing of what the pages tell; and `DiskFault` comes only where the count of
+    // faults rose.
+    ensures reads { ReadsWhere list_faults P.view P.same pages.old pages.new (λ x. x) result (NoStepUnless result head.now.step ((i ≤ n) × (n ≤ head.now.step)))
+        (λ ps. found_path H.dig ps head.now n i) }
     // Over any pages, told or not, a path has at most twice as many links as its upper step has binary digits.
     ensures bound { IfOk result (λ path. (digits : ℕ) → n < 2 ^ digits → length path.links ≤ 2 * digits) }
-    // `NoStep` exactly where the steps asked for aren't there, or not in their order.
-    ensures no_step { NoStepUnless result head.now.step ((i ≤ n) × (n ≤ head.now.step)) }
-    // Reading changes nothing of what the pages tell.
-    ensures kept { OnlyReads P.used_count P.list P.same P.unbroken pages.old pages.new (NotDiskFault result) }
-    // `DiskFault` comes only where the count of faults rose.
-    ensures faults { FaultsRise (P.faults pages.old) (P.faults pages.new) result }
 {
     let last = head.step;
     if i > n || n > last {
@@ -111,6 +105,7 @@ pub fn path<P: Pages, H: Hasher>(
 /// NoStep exactly where 1 <= i <= top <= the head's step doesn't hold. Where the pages are told,
 /// BadPage tells the first page of the way that isn't the page of its step; it never comes where they
 /// keep a history under the head.
+#[tactic(auto, unfolding(crate::specs::Readings::found_proof))]
 pub fn prove<P: Pages, H: Hasher>(
     alloc: Global,
     pages: &mut P,
@@ -121,16 +116,13 @@ pub fn prove<P: Pages, H: Hasher>(
     requires { head.now.step ≤ LAST_STEP }
     // Over told pages the answer is what is found in them, whatever they keep, `NoStep`, a disk fault and want of
     // memory excepted: by the walk from the head, the path from the top down to the step and what the step's page
-    // tells, or `BadPage` with the first page met that isn't of its kind.
-    ensures answer { (ps : Image) → P.list pages.old ≡ Some ps → Answers result (found_proof H.dig ps head.now top i) }
+    // tells, or `BadPage` with the first page met that isn't of its kind. Over any pages, told or not, `NoStep` comes exactly where the steps asked for aren't there, or
+    // not in their order; reading changes nothing of what the pages tell; and `DiskFault` comes only where the count of
+    // faults rose.
+    ensures reads { ReadsWhere list_faults P.view P.same pages.old pages.new (λ x. x) result (NoStepUnless result head.now.step ((1 ≤ i) × (i ≤ top) × (top ≤ head.now.step)))
+        (λ ps. found_proof H.dig ps head.now top i) }
     // Over any pages, told or not, a path has at most twice as many links as its upper step has binary digits.
     ensures bound { IfOk result (λ proof. (digits : ℕ) → top < 2 ^ digits → length proof.path.links ≤ 2 * digits) }
-    // `NoStep` exactly where the steps asked for aren't there, or not in their order.
-    ensures no_step { NoStepUnless result head.now.step ((1 ≤ i) × (i ≤ top) × (top ≤ head.now.step)) }
-    // Reading changes nothing of what the pages tell.
-    ensures kept { OnlyReads P.used_count P.list P.same P.unbroken pages.old pages.new (NotDiskFault result) }
-    // `DiskFault` comes only where the count of faults rose.
-    ensures faults { FaultsRise (P.faults pages.old) (P.faults pages.new) result }
 {
     let last = head.step;
     if i == 0 || i > top || top > last {
@@ -152,6 +144,7 @@ pub fn prove<P: Pages, H: Hasher>(
 /// step's, else the first event page that isn't of its kind, or, if their stream spells no such
 /// events, the last of them (the step's page if there is none). It never comes where the info is of
 /// a step that the pages keep, and NoStep never comes.
+#[tactic(auto, unfolding(crate::specs::Events::events_of_info))]
 pub fn events_of<P: Pages>(
     alloc: Global,
     pages: &mut P,
@@ -160,16 +153,12 @@ pub fn events_of<P: Pages>(
     // Over told pages the answer is what is found in them, whatever they keep, a disk fault and want of memory
     // excepted: the events that the step's event pages spell, or `BadPage` with the first event page that isn't of its
     // kind, or with the last one of a stream that spells no such events (the step's page, where the stream has no
-    // bytes), or with the step's page, where it is told a stream longer than any step's.
-    ensures answer { (ps : Image) → P.list pages.old ≡ Some ps → Answers result (events_of_info ps info.now) }
+    // bytes), or with the step's page, where it is told a stream longer than any step's. Over any pages, told or not,
+    // `NoStep` is never answered; reading changes nothing of what the pages tell; and `DiskFault` comes only where the
+    // count of faults rose.
+    ensures reads { ReadsPages list_faults P.view P.same pages.old pages.new (λ x. x) result (λ ps. events_of_info ps info.now) }
     // Over any pages, told or not, the events of a step are within the limits and as many as it counts.
     ensures counted { IfOk result (λ events. MayRecord events × (length events ≡ info.now.count)) }
-    // `NoStep` is never answered.
-    ensures no_step { NeverNoStep result }
-    // Reading changes nothing of what the pages tell.
-    ensures kept { OnlyReads P.used_count P.list P.same P.unbroken pages.old pages.new (NotDiskFault result) }
-    // `DiskFault` comes only where the count of faults rose.
-    ensures faults { FaultsRise (P.faults pages.old) (P.faults pages.new) result }
 {
     if info.stream.size as u64 > MOST_STREAM_BYTES {
         return Err(ListFault::BadPage { page: info.page });
@@ -186,6 +175,7 @@ pub fn events_of<P: Pages>(
 ///
 /// NoStep exactly where i isn't within 1 and the head's step. BadPage comes as of these two, and
 /// never where the pages keep a history under the head.
+#[tactic(auto, unfolding(crate::specs::Readings::found_events))]
 pub fn events<P: Pages, H: Hasher>(
     alloc: Global,
     pages: &mut P,
@@ -195,14 +185,11 @@ pub fn events<P: Pages, H: Hasher>(
     requires { head.now.step ≤ LAST_STEP }
     // Over told pages the answer is what is found in them, whatever they keep, `NoStep`, a disk fault and want of
     // memory excepted: the events of the step to which the walk from the head leads, or `BadPage` with the first page
-    // met on the way that isn't of its kind, or with the one that the step's events fail at.
-    ensures answer { (ps : Image) → P.list pages.old ≡ Some ps → Answers result (found_events H.dig ps head.now i) }
-    // `NoStep` exactly where there is no such step.
-    ensures no_step { NoStepUnless result head.now.step ((1 ≤ i) × (i ≤ head.now.step)) }
-    // Reading changes nothing of what the pages tell.
-    ensures kept { OnlyReads P.used_count P.list P.same P.unbroken pages.old pages.new (NotDiskFault result) }
-    // `DiskFault` comes only where the count of faults rose.
-    ensures faults { FaultsRise (P.faults pages.old) (P.faults pages.new) result }
+    // met on the way that isn't of its kind, or with the one that the step's events fail at. Over any pages, told or not,
+    // `NoStep` comes exactly where there is no such step; reading changes nothing of what the pages tell; and `DiskFault`
+    // comes only where the count of faults rose.
+    ensures reads { ReadsWhere list_faults P.view P.same pages.old pages.new (λ x. x) result (NoStepUnless result head.now.step ((1 ≤ i) × (i ≤ head.now.step)))
+        (λ ps. found_events H.dig ps head.now i) }
 {
     let info = step::<P, H>(alloc, pages, head, i)?;
     events_of(alloc, pages, &info)

@@ -1,6 +1,7 @@
 -- What an opening of a step computes, and what it binds.
 use Rattle.std.specs.Prelude.{◌≡◌, ℕ, ◌-◌, ◌<◌, ◌^◌, List, [], ◌∷◌, length, IfSome}
 use Rattle.tw_base.specs.kinds.Texts.{step_datum_text, link_text, authenticator_text}
+use Rattle.tw_base.specs.kinds.Bytes.{HasBytes}
 use Rattle.tw_base.specs.kinds.Digests.{AllDigests}
 use Rattle.tw_base.specs.events.EventTree.{event_root}
 use Rattle.tw_base.specs.history.History.{History, events_at, time_at}
@@ -39,11 +40,11 @@ pub record Binds (dig : List ℕ → List ℕ) (h : History) (step : ℕ) (o : O
   pub time : time_at h step ≡ o.time
   pub prev : auth dig h (step - 1) ≡ o.prev
 
--- the widths that the fields of an opening have
+-- the widths that the fields of an opening have; its digests are bytes
 pub record HasSizes (o : Opening) : Type 0 where
-  pub event_root : length o.event_root ≡ 32
-  pub archive_root : length o.archive_root ≡ 32
+  pub event_root : HasBytes 32 o.event_root
+  pub archive_root : HasBytes 32 o.archive_root
   pub count : o.count < 2 ^ 32
   pub time : IfSome o.time (λ time. time < 2 ^ 64)
-  pub prev : length o.prev ≡ 32
+  pub prev : HasBytes 32 o.prev
   pub others : AllDigests o.others

@@ -1,6 +1,7 @@
 -- The greedy path from a step down to an earlier one, and what climbing it computes.
 use Rattle.std.specs.Prelude.{◌≡◌, ℕ, suc, zero, ◌-◌, ◌%◌, ◌<◌, ◌≤◌, ◌^◌, List, [], ◌∷◌, ◌++◌, length, take, drop, nat_le, if◌then◌else◌}
 use Rattle.tw_base.specs.kinds.Texts.{link_text, authenticator_text}
+use Rattle.tw_base.specs.kinds.Bytes.{HasBytes}
 use Rattle.tw_base.specs.kinds.Digests.{AllDigests}
 use Rattle.tw_base.specs.kinds.Levels.{top_level}
 use Rattle.tw_skipproof.specs.declared.path.Link.{Link}
@@ -74,7 +75,7 @@ module _ (dig : List ℕ → List ℕ) where
     pub shape : HasShape links from to
     pub reaches : climbed links from to bottom ≡ upper
 
--- the widths that the fields of links have
+-- the digests of links are 32 bytes
 abbrev pub HasLinkSizes : List Link → Type 0
 HasLinkSizes [] = Unit {0}
-HasLinkSizes (link ∷ links) = (length link.datum ≡ 32) × AllDigests link.others × HasLinkSizes links
+HasLinkSizes (link ∷ links) = HasBytes 32 link.datum × AllDigests link.others × HasLinkSizes links

@@ -3,6 +3,7 @@
 ghost use Rattle.std.specs.Prelude.{◌≡◌, ℕ, ◌+◌, ◌-◌, ◌^◌, ◌<◌, ◌≤◌, List, ◌++◌, length, MatchOption, IfSome};
 ghost use Rattle.tw_base.specs.declared.kinds.limits.TheConstants.{LAST_STEP};
 ghost use Rattle.tw_base.specs.history.Auth.{auth};
+ghost use Rattle.tw_base.specs.kinds.Bytes.{HasBytes};
 ghost use Rattle.tw_base.specs.kinds.Clash.{OrClash};
 ghost use Rattle.tw_base.specs.kinds.Digests.{AllDigests};
 ghost use Rattle.tw_base.specs.history.History.{History};
@@ -13,16 +14,19 @@ ghost use Rattle.tw_skipproof.specs.Paths.{HasLinkSizes, HasShape, climb_auth_te
 use crate::hop::level_of_hop;
 use crate::path::{Link, Path};
 use arrayvec::ArrayVec;
-use tw_base::{Digest, Hasher, authenticator, link_label, power_of_two, put, top_level};
+use tw_base::{
+    Digest, Hasher, authenticator, link_label, power_of_two, put, see_digest, top_level,
+};
 
 /// The authenticator of the step that the link leaves.
 fn link_authenticator<H: Hasher>(link: &Link, step: u64, level: u8, below: &Digest) -> Digest
     requires count { length link.now.others < 40 }
     requires level { level ≤ length link.now.others }
     ensures value { result ≡ H.dig (climb_auth_text H.dig link.now step level below.now) }
-    ensures datum_size { length link.now.datum ≡ 32 }
+    ensures datum_size { HasBytes 32 link.now.datum }
     ensures sizes { AllDigests link.now.others }
 {
+    see_digest(&link.datum);
     let label = link_label::<H>(step, level, &link.datum, below);
     let (lower, upper) = link.others.as_slice().split_at(level as usize);
     let mut labels: ArrayVec<Digest, 40> = ArrayVec::new();
@@ -72,5 +76,6 @@ pub fn climb<H: Hasher>(path: &Path, from: u64, to: u64, bottom: &Digest) -> Opt
     ensures binds { IfSome result (λ d. (h : History) → IsSound h → to ≤ from → from ≤ length h.steps → d ≡ auth H.dig h from →
         OrClash H.dig (history_texts H.dig h ++ path_texts H.dig path.now.links from to bottom.now) (bottom.now ≡ auth H.dig h to)) }
 {
+    see_digest(bottom);
     climb_links::<H>(path.links.as_slice(), from, to, bottom)
 }

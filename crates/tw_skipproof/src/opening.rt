@@ -10,7 +10,9 @@ ghost use Rattle.tw_base.specs.history.Sound.{IsSound};
 ghost use Rattle.tw_skipproof.specs.Openings.{Binds, HasSizes, IsOpeningAt, opening_auth, opening_texts};
 
 use arrayvec::ArrayVec;
-use tw_base::{Digest, Hasher, Labels, authenticator, link_label, put, step_datum, top_level};
+use tw_base::{
+    Digest, Hasher, Labels, authenticator, link_label, put, see_digest, step_datum, top_level,
+};
 
 /// The fields behind the authenticator of a step from 1 on: the root of its events, the label of
 /// its archive, its count of events, the time in seconds that its maker claims, if any, the
@@ -37,6 +39,9 @@ fn computed<H: Hasher>(opening: &Opening, step: u64) -> Option<Digest>
     if step == 0 || opening.others.len() != top_level(step) as usize {
         return None;
     }
+    see_digest(&opening.event_root);
+    see_digest(&opening.archive_root);
+    see_digest(&opening.prev);
     let datum = step_datum::<H>(
         &opening.event_root,
         &opening.archive_root,

@@ -10,7 +10,7 @@ use Rattle.tw_base.specs.history.Asking.{entry_with, first_above, last_below}
 use Rattle.tw_base.specs.history.Entries.{key_cmp, key_of}
 use Rattle.tw_base.specs.history.Tree.{Tree, IsRising, entries}
 use Rattle.tw_base.specs.history.Tree.Tree.{Branch}
-use Rattle.tw_tree.proofs.Asked.{above-left, above-right, below-left, below-right, cut, with-equal, with-less, with-more}
+use Rattle.tw_base.proofs.lemmas.history.Asked.{above-left, above-right, below-left, below-right, cut, with-equal, with-less, with-more}
 
 -- the side rises, and an answer over it and what was met before is that over the tree and what was met before it
 abbrev pub Down : (answer : List Entry → Option Entry) (t side : Tree) (before after : Option Entry) → Type 0

@@ -1,28 +1,14 @@
--- What a tree is with one more entry.
-use Rattle.std.specs.Prelude.{◌≡◌, Some, None, Result, Ok, Err, if◌then◌else◌}
-use Rattle.std.specs.Ordering.{is_lt}
+-- What putting an entry into a tree of the code gives.
+use Rattle.std.specs.Prelude.{◌≡◌, Some, Result, Ok, Err}
 use Rattle.tw_base.specs.declared.history.thread.Entry.{Entry}
-use Rattle.tw_base.specs.history.Asking.{entry_with, with_entry}
-use Rattle.tw_base.specs.history.Entries.{key_cmp, key_of}
-use Rattle.tw_base.specs.history.Tree.{Tree as TreeOfEntries, IsRising, entries}
-use Rattle.tw_base.specs.history.Tree.Tree.{Empty, Branch}
+use Rattle.tw_base.specs.history.Asking.{entry_with}
+use Rattle.tw_base.specs.history.Entries.{key_of}
+use Rattle.tw_base.specs.history.Tree.{Tree as TreeOfEntries, entries}
+use Rattle.tw_base.specs.history.WithLeaf.{HasLeaf}
 use Rattle.tw_tree.specs.declared.inserting.InsertFault.{InsertFault}
 use Rattle.tw_tree.specs.declared.inserting.InsertFault.TheVariants.{Present, NoMemory}
 use Rattle.tw_tree.specs.declared.tree.Tree.{Tree}
 use Rattle.tw_tree.specs.TreeMeaning.{tree_of}
-
--- the tree with the entry at the empty place to which its key leads
-unfoldable pub with_leaf : TreeOfEntries → Entry → TreeOfEntries
-with_leaf Empty e = Branch Empty e Empty
-with_leaf (Branch left f right) e =
-    if is_lt (key_cmp (key_of e) (key_of f)) then Branch (with_leaf left e) f right else Branch left f (with_leaf right e)
-
--- the new tree has the entry at its empty place
-pub record HasLeaf (t : TreeOfEntries) (e : Entry) (new : TreeOfEntries) : Type 0 where
-  pub absent : entry_with (entries t) (key_of e) ≡ None
-  pub tree : new ≡ with_leaf t e
-  pub list : entries new ≡ with_entry (entries t) e
-  pub rising : IsRising (entries new)
 
 -- the entry was put into the tree, or its key is there. Want of memory is free
 abbrev pub Inserts : TreeOfEntries → Entry → Result Tree InsertFault → Type 0

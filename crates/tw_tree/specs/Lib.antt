@@ -1,2 +1,3 @@
 pub mod TreeMeaning
 pub mod Inserting
+pub mod Proving

@@ -3,7 +3,8 @@
 ghost use Rattle.std.specs.Prelude.{◌≡◌, IfOk};
 ghost use Rattle.std.specs.Ordering.{is_lt};
 ghost use Rattle.tw_base.specs.history.Tree.{IsRising, entries};
-ghost use Rattle.tw_tree.specs.Inserting.{Inserts, with_leaf};
+ghost use Rattle.tw_base.specs.history.WithLeaf.{with_leaf};
+ghost use Rattle.tw_tree.specs.Inserting.{Inserts};
 ghost use Rattle.tw_tree.specs.TreeMeaning.{tree_of};
 
 use crate::searching::get;
@@ -47,7 +48,7 @@ fn copy(alloc: Global, tree: &Tree) -> Result<Tree, NoMemory>
 
 /// A copy of the tree, with the entry at the empty place to which its key leads. Calls itself as
 /// deep as the tree is high.
-#[tactic(auto, unfolding(crate::specs::Inserting::with_leaf))]
+#[tactic(auto, unfolding(tw_base::specs::history::WithLeaf::with_leaf))]
 fn grown(alloc: Global, tree: &Tree, entry: &Entry) -> Result<Tree, NoMemory>
     ensures { IfOk result (λ new. tree_of new ≡ with_leaf (tree_of tree.now) entry.now) }
 {

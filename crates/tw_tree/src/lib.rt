@@ -1,11 +1,13 @@
-// The archive's tree in memory: its label, its entries in order, what it has of a key, and one
-// more entry.
+// The archive's tree in memory: its label, its entries in order, what it has of a key, one more
+// entry, and its own proofs.
 #![tactic(auto)]
 
 mod inserting;
+mod proving;
 mod searching;
 mod tree;
 
 pub use inserting::{InsertFault, insert_plain};
+pub use proving::{ProveFault, prove};
 pub use searching::{after, before, get};
 pub use tree::{Tree, label, list};

@@ -12,6 +12,7 @@ use Rattle.tw_base.specs.declared.history.tree_proof.Ask.TheVariants.{Present, A
 use Rattle.tw_base.specs.declared.history.tree_proof.TreeProof.{TreeProof}
 use Rattle.tw_base.specs.declared.history.tree_proof.TreeProof.TheVariants.{Present as OfEntry, Gap}
 use Rattle.tw_base.specs.history.Auth.{tree_label}
+use Rattle.tw_base.specs.kinds.Bytes.{AreBytes, HasBytes}
 use Rattle.tw_base.specs.kinds.Clash.{Among, OrClash, Within}
 use Rattle.tw_base.specs.history.Entries.{IsFit, entry_text, key_of}
 use Rattle.tw_base.specs.history.HistoryTexts.{tree_texts}
@@ -20,14 +21,15 @@ use Rattle.tw_base.specs.kinds.Texts.{empty_tree_text, tree_node_text}
 use Rattle.tw_base.specs.history.Tree.{Tree, IsRisingTree, entries}
 use Rattle.tw_base.specs.history.Tree.Tree.{Empty, Branch}
 use Rattle.tw_base.proofs.lemmas.kinds.Clashes.{Among-left, Among-right, and_then, same_text}
-use Rattle.tw_base.proofs.lemmas.kinds.ListLemmas.{Each-parts}
+use Rattle.tw_base.proofs.lemmas.kinds.ListLemmas.{Each-append, Each-parts}
 use Rattle.tw_base.proofs.lemmas.kinds.TextFields.{halves}
 use Rattle.tw_base.proofs.lemmas.history.KeyTests.{same_key}
+use Rattle.tw_base.proofs.lemmas.history.TextBytes.{empty_tree_text-bytes, entry_text-bytes, tree_texts-bytes}
 use Rattle.tw_treeproof.specs.declared.shown.Shown.{Shown}
 use Rattle.tw_treeproof.specs.declared.shown.Shown.TheVariants.{Present as IsThere, Absent as IsNotThere, Nearest, Wrong}
-use Rattle.tw_treeproof.specs.Answers.{Checks, IsAnswer, Shows, ancestors_of, answer_of, proof_texts}
+use Rattle.tw_treeproof.specs.Answers.{Checks, IsAnswer, Shows, ancestors_of, answer_of, place_text, proof_texts}
 use Rattle.tw_treeproof.specs.Making.{ancestor, place_of, way_up}
-use Rattle.tw_treeproof.specs.Sizes.{HasProofSizes, HasSizes}
+use Rattle.tw_treeproof.specs.Sizes.{HasPlaceSizes, HasProofSizes, HasSizes}
 use Rattle.tw_treeproof.specs.Ways.{IsNotAsked, climbed, climb_texts, is_left, over_text}
 use Rattle.tw_treeproof.proofs.OwnProofs.{way-answers}
 use Rattle.tw_treeproof.proofs.Places.{IsAt, so-at}
@@ -47,9 +49,9 @@ tree_node-fields : (l r l' r' : List ℕ) (e e' : Entry) → length l ≡ length
 unfolding tree_node_text
 tree_node-fields l r l' r' e e' n f g same =
     let one = halves l l' _ _ n (ap (drop 1) same) in
-    let two = halves e.thread.from e'.thread.from _ _ (f.from ∙ sym g.from) one.1 in
+    let two = halves e.thread.from e'.thread.from _ _ (f.from.0 ∙ sym g.from.0) one.1 in
     let three = halves (to_be_bytes w64 e.thread.step) (to_be_bytes w64 e'.thread.step) _ _ refl two.1 in
-    let four = halves e.thread.auth e'.thread.auth _ _ (f.auth ∙ sym g.auth) three.1 in
+    let four = halves e.thread.auth e'.thread.auth _ _ (f.auth.0 ∙ sym g.auth.0) three.1 in
     let five = halves (to_be_bytes w64 e.archived) (to_be_bytes w64 e'.archived) _ _ refl four.1 in
     let step : e.thread.step ≡ e'.thread.step = sym (from_be_bytes-to_be_bytes_8 e.thread.step f.step) ∙ ap (from_be_bytes w64) three.0 ∙ from_be_bytes-to_be_bytes_8 e'.thread.step g.step in
     let archived : e.archived ≡ e'.archived = sym (from_be_bytes-to_be_bytes_8 e.archived f.archived) ∙ ap (from_be_bytes w64) five.0 ∙ from_be_bytes-to_be_bytes_8 e'.archived g.archived in
@@ -95,7 +97,7 @@ module _ (dig : List ℕ → List ℕ) where
           over (Branch hangs.0 a.entry s) (way-right dig ask hangs.0 a.entry s free.0 way)
           (subst (λ b. Own (if b then Branch s a.entry hangs.0 else Branch hangs.0 a.entry s)) way all)
 
-  module _ (size : (text : List ℕ) → length (dig text) ≡ 32) (texts : List (List ℕ)) where
+  module _ (size : (text : List ℕ) → length (dig text) ≡ 32) (texts : List (List ℕ)) (texts-are : Each AreBytes texts) where
     tree_label-size : (t : Tree) → length (tree_label dig t) ≡ 32
     unfolding tree_label
     tree_label-size Empty = size _
@@ -112,12 +114,12 @@ module _ (dig : List ℕ → List ℕ) where
         → OrClash dig texts ((lt : Tree) × (rt : Tree) × (Branch lt e rt ≡ t) × IsPart l lt × IsPart r rt)
     unfolding tree_label tree_texts
     opened l r e Empty n fit among part =
-        and_then dig texts _ _ (same_text dig texts empty_tree_text (entry_text l e r) (part.within _ (inl refl)) among part.label_is)
+        and_then dig texts _ _ (same_text dig texts texts-are empty_tree_text (entry_text l e r) (part.within _ (inl refl)) among part.label_is)
         (λ same. absurd (not_leaf l r e same))
     opened l r e (Branch lt f rt) n fit among part =
         let parts = Each-parts IsFit (entries lt) (f ∷ entries rt) part.fits in
         and_then dig texts _ _
-        (same_text dig texts (entry_text (tree_label dig lt) f (tree_label dig rt)) (entry_text l e r)
+        (same_text dig texts texts-are (entry_text (tree_label dig lt) f (tree_label dig rt)) (entry_text l e r)
         (part.within _ (Among-right _ (tree_texts dig lt) _ (Among-right _ (tree_texts dig rt) _ (inl refl)))) among part.label_is)
         (λ same.
         let fields = tree_node-fields _ _ _ _ f e (tree_label-size lt ∙ sym n) parts.1.0 fit same in
@@ -134,7 +136,7 @@ module _ (dig : List ℕ → List ℕ) where
     unfolding tree_label tree_texts
     emptied Empty among part = inl refl
     emptied (Branch l e r) among part =
-        and_then dig texts _ _ (same_text dig texts empty_tree_text (entry_text (tree_label dig l) e (tree_label dig r)) among
+        and_then dig texts _ _ (same_text dig texts texts-are empty_tree_text (entry_text (tree_label dig l) e (tree_label dig r)) among
         (part.within _ (Among-right _ (tree_texts dig l) _ (Among-right _ (tree_texts dig r) _ (inl refl)))) (sym part.label_is))
         (λ same. absurd (not_leaf (tree_label dig l) (tree_label dig r) e same))
 
@@ -154,7 +156,7 @@ module _ (dig : List ℕ → List ℕ) where
             (λ o. inl (o.0, (o.1, sym (o.4).label_is, subst (λ x. Hangs ask up x t) (sym o.2 ∙ ap (λ b. if b then Branch o.0 a.entry o.1 else Branch o.1 a.entry o.0) (sym e)) hangs), o.3))
         step s hangs is false e =
             let text_is : over_text (is_left ask) a below ≡ entry_text a.other a.entry below = ap (λ b. if b then entry_text below a.entry a.other else entry_text a.other a.entry below) e in
-            and_then dig texts _ _ (opened a.other below a.entry s sizes.0.0 sizes.0.1 (subst (λ x. Among x texts) text_is (within _ (inl refl))) (subst (λ x. IsPart (dig x) s) text_is is))
+            and_then dig texts _ _ (opened a.other below a.entry s sizes.0.0.0 sizes.0.1 (subst (λ x. Among x texts) text_is (within _ (inl refl))) (subst (λ x. IsPart (dig x) s) text_is is))
             (λ o. inl (o.1, (o.0, sym (o.3).label_is, subst (λ x. Hangs ask up x t) (sym o.2 ∙ ap (λ b. if b then Branch o.1 a.entry o.0 else Branch o.0 a.entry o.1) (sym e)) hangs), o.4))
 
     -- the proof's nodes are those above the tree's own place, which is one that what is asked leads to
@@ -187,7 +189,7 @@ module _ (dig : List ℕ → List ℕ) where
         → Within (tree_texts dig t) texts → Within (proof_texts dig ask proof) texts → OrClash dig texts (IsOwn t ask proof)
     unfolding proof_texts
     checked-own (Present e) (OfEntry l r up) root t sizes checks fits at of_tree of_proof =
-        present-own e l r up t sizes.0.0 sizes.0.2 sizes.1 checks.free (record { label_is = at ∙ sym checks.label; fits = fits; within = of_tree }) of_proof
+        present-own e l r up t sizes.0.0.0 sizes.0.2 sizes.1 checks.free (record { label_is = at ∙ sym checks.label; fits = fits; within = of_tree }) of_proof
     checked-own (Present e) (Gap up) root t sizes checks fits at of_tree of_proof = absurd (let never = checks.kind in cc)
     checked-own (Absent key) (OfEntry l r up) root t sizes checks fits at of_tree of_proof = absurd (let never = checks.kind in cc)
     checked-own (Below key) (OfEntry l r up) root t sizes checks fits at of_tree of_proof = absurd (let never = checks.kind in cc)
@@ -199,10 +201,30 @@ module _ (dig : List ℕ → List ℕ) where
     checked-own (Above key) (Gap up) root t sizes checks fits at of_tree of_proof =
         gap-own (Above key) up t tt sizes.1 checks.free (record { label_is = at ∙ sym checks.label; fits = fits; within = of_tree }) of_proof
 
+  -- what a proof hashes is bytes
+  pub proof_texts-bytes : (are : (text : List ℕ) → AreBytes (dig text)) (ask : Ask) (proof : TreeProof) → HasProofSizes ask proof → Each AreBytes (proof_texts dig ask proof)
+  unfolding proof_texts climb_texts
+  proof_texts-bytes are ask proof sizes = (at_place ask proof sizes.0, above (ancestors_of proof) (dig (place_text ask proof)) (are _) sizes.1)
+    where
+      at_place : (a : Ask) (p : TreeProof) → HasPlaceSizes a p → AreBytes (place_text a p)
+      at_place (Present e) (OfEntry l r up) sizes = entry_text-bytes l e r sizes.0.1 sizes.2 sizes.1.1
+      at_place (Present e) (Gap up) sizes = empty_tree_text-bytes
+      at_place (Absent key) p sizes = empty_tree_text-bytes
+      at_place (Below key) p sizes = empty_tree_text-bytes
+      at_place (Above key) p sizes = empty_tree_text-bytes
+
+      over : (b : Bool) (a : Ancestor) (below : List ℕ) → AreBytes below → HasBytes 32 a.other → IsFit a.entry → AreBytes (if b then entry_text below a.entry a.other else entry_text a.other a.entry below)
+      over true a below is other fit = entry_text-bytes below a.entry a.other is fit other.1
+      over false a below is other fit = entry_text-bytes a.other a.entry below other.1 fit is
+
+      above : (up : List Ancestor) (below : List ℕ) → AreBytes below → HasSizes up → Each AreBytes (climb_texts dig (is_left ask) up below)
+      above [] below is sizes = tt
+      above (a ∷ up) below is sizes = (over (is_left ask a.entry) a below is sizes.0.0 sizes.0.1, above up _ (are _) sizes.1)
+
   -- what is shown is so of each rising tree of that label
-  pub check-binds : (size : (text : List ℕ) → length (dig text) ≡ 32) (root : List ℕ) (ask : Ask) (proof : TreeProof) (shown : Shown) → Shows dig root ask proof shown → (shown ≢ Wrong → HasProofSizes ask proof)
+  pub check-binds : (size : (text : List ℕ) → length (dig text) ≡ 32) (are : (text : List ℕ) → AreBytes (dig text)) (root : List ℕ) (ask : Ask) (proof : TreeProof) (shown : Shown) → Shows dig root ask proof shown → (shown ≢ Wrong → HasProofSizes ask proof)
       → (t : Tree) → IsRisingTree t → tree_label dig t ≡ root → OrClash dig (tree_texts dig t ++ proof_texts dig ask proof) (IsAnswer (entries t) ask shown)
-  check-binds size root ask proof shown shows sizes t rising at = cases shown shows sizes
+  check-binds size are root ask proof shown shows sizes t rising at = cases shown shows sizes
     where
       texts : List (List ℕ)
       texts = tree_texts dig t ++ proof_texts dig ask proof
@@ -216,7 +238,7 @@ module _ (dig : List ℕ → List ℕ) where
       right : (s : Shown) → Checks dig root ask proof → HasProofSizes ask proof → s ≡ answer_of ask (ancestors_of proof) → OrClash dig texts (IsAnswer (entries t) ask s)
       right s checks has is =
           and_then dig texts _ _
-          (checked-own size texts ask proof root t has checks rising.fits at (λ text a. Among-left text (tree_texts dig t) _ a) (λ text a. Among-right text (tree_texts dig t) _ a))
+          (checked-own size texts (Each-append AreBytes (tree_texts dig t) _ (tree_texts-bytes dig size are t rising.fits) (proof_texts-bytes are ask proof has)) ask proof root t has checks rising.fits at (λ text a. Among-left text (tree_texts dig t) _ a) (λ text a. Among-right text (tree_texts dig t) _ a))
           (λ own. inl (subst (IsAnswer (entries t) ask) (ap (answer_of ask) (sym own.1) ∙ sym is) (way-answers dig t ask rising.rising (so-at t ask rising.rising own.0))))
 
       cases : (s : Shown) → Shows dig root ask proof s → (s ≢ Wrong → HasProofSizes ask proof) → OrClash dig texts (IsAnswer (entries t) ask s)

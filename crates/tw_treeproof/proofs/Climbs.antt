@@ -4,6 +4,7 @@ use Rattle.std.proofs.lemmas.List.{drop_all, drop_more}
 use Rattle.tw_base.specs.declared.history.tree_proof.Ancestor.{Ancestor}
 use Rattle.tw_base.specs.declared.history.tree_proof.Ask.{Ask}
 use Rattle.tw_base.specs.history.Entries.{IsFit}
+use Rattle.tw_base.specs.kinds.Bytes.{HasBytes}
 use Rattle.tw_base.specs.kinds.Lists.{Each}
 use Rattle.tw_treeproof.specs.Sizes.{HasSizes}
 use Rattle.tw_treeproof.specs.Ways.{IsNotAsked, climbed, is_left, over_text}
@@ -26,7 +27,7 @@ module _ (dig : List ℕ → List ℕ) (ask : Ask) (up : List Ancestor) (place :
     pub not_free : (IsNotAsked ask a → ⊥) → Each (IsNotAsked ask) up → ⊥
     not_free never all = never (let P : List Ancestor → Type 0 = Each (IsNotAsked ask) in subst P rest (so_far.each all)).0
 
-    pub climbs : (above : List ℕ) → IsNotAsked ask a → length a.other ≡ 32 → IsFit a.entry → above ≡ dig (over_text (is_left ask) a label) → Climbing (i + 1) above
+    pub climbs : (above : List ℕ) → IsNotAsked ask a → HasBytes 32 a.other → IsFit a.entry → above ≡ dig (over_text (is_left ask) a label) → Climbing (i + 1) above
     unfolding climbed
     climbs above free other fits made =
         let P : List Ancestor → Type 0 = Each (IsNotAsked ask) in

@@ -12,7 +12,7 @@ use Rattle.tw_base.specs.history.Asking.{entry_with}
 use Rattle.tw_base.specs.history.Entries.{key_cmp, key_of}
 use Rattle.tw_base.specs.history.Tree.{Tree, IsRising, entries}
 use Rattle.tw_base.specs.history.Tree.Tree.{Empty, Branch}
-use Rattle.tw_tree.proofs.Asked.{cut, with-equal, with-less, with-more}
+use Rattle.tw_base.proofs.lemmas.history.Asked.{cut, with-equal, with-less, with-more}
 use Rattle.tw_treeproof.specs.Making.{IsSo, place_of}
 use Rattle.tw_treeproof.specs.Ways.{has_asked_key, is_left}
 

@@ -15,7 +15,7 @@ use Rattle.tw_base.specs.kinds.Lists.{Each}
 use Rattle.tw_base.specs.history.Tree.{Tree, IsRising, entries}
 use Rattle.tw_base.specs.history.Tree.Tree.{Empty, Branch}
 use Rattle.tw_base.proofs.lemmas.kinds.ListLemmas.{Each-append}
-use Rattle.tw_tree.proofs.Asked.{above-left, above-right, below-left, below-right, cut, or-none}
+use Rattle.tw_base.proofs.lemmas.history.Asked.{above-left, above-right, below-left, below-right, cut, or-none}
 use Rattle.tw_treeproof.specs.Making.{ancestor, place_of, way_up}
 use Rattle.tw_treeproof.specs.Ways.{IsNotAsked, climbed, has_asked_key, is_left, nearest_left, nearest_right, over_text}
 use Rattle.tw_treeproof.proofs.Places.{down-here, down-left, down-right}

@@ -1,5 +1,5 @@
 -- The proof that a tree itself has of the answer to a question.
-use Rattle.std.specs.Prelude.{◌≡◌, ℕ, suc, max, List, [], ◌∷◌, ◌++◌, Result, Ok, Err, if◌then◌else◌}
+use Rattle.std.specs.Prelude.{◌≡◌, ℕ, suc, max, List, [], ◌∷◌, ◌++◌, if◌then◌else◌}
 use Rattle.tw_base.specs.declared.history.thread.Entry.{Entry}
 use Rattle.tw_base.specs.declared.history.tree_proof.Ancestor.{Ancestor}
 use Rattle.tw_base.specs.declared.history.tree_proof.Ask.{Ask}
@@ -7,10 +7,8 @@ use Rattle.tw_base.specs.declared.history.tree_proof.Ask.TheVariants.{Present, A
 use Rattle.tw_base.specs.declared.history.tree_proof.TreeProof.{TreeProof}
 use Rattle.tw_base.specs.declared.history.tree_proof.TreeProof.TheVariants.{Present as OfEntry, Gap}
 use Rattle.tw_base.specs.history.Auth.{tree_label}
-use Rattle.tw_base.specs.history.Tree.{Tree, entries}
+use Rattle.tw_base.specs.history.Tree.{Tree}
 use Rattle.tw_base.specs.history.Tree.Tree.{Empty, Branch}
-use Rattle.tw_treeproof.specs.declared.making.ProveFault.{ProveFault}
-use Rattle.tw_treeproof.specs.declared.making.ProveFault.TheVariants.{Untrue, NoMemory}
 use Rattle.tw_treeproof.specs.declared.shown.Shown.TheVariants.{Present as IsThere, Absent as IsNotThere}
 use Rattle.tw_treeproof.specs.Answers.{IsAnswer}
 use Rattle.tw_treeproof.specs.Ways.{has_asked_key, is_left}
@@ -53,9 +51,3 @@ IsSo es (Present e) = IsAnswer es (Present e) IsThere
 IsSo es (Absent key) = IsAnswer es (Absent key) IsNotThere
 IsSo es (Below key) = Unit {0}
 IsSo es (Above key) = Unit {0}
-
--- what is asked is so, and this is the tree's proof; or it isn't so. Want of memory is free
-abbrev pub Proves : (dig : List ℕ → List ℕ) → Tree → Ask → Result TreeProof ProveFault → Type 0
-Proves dig t ask (Ok proof) = IsSo (entries t) ask × (proof ≡ proof_of dig t ask)
-Proves dig t ask (Err Untrue) = IsSo (entries t) ask → ⊥
-Proves dig t ask (Err NoMemory) = Unit {0}

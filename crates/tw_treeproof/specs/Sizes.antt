@@ -1,19 +1,20 @@
 -- What the types of a tree proof keep: digests of 32 bytes, and fields that fit the text of a node.
-use Rattle.std.specs.Prelude.{◌≡◌, List, length}
+use Rattle.std.specs.Prelude.{List}
 use Rattle.tw_base.specs.declared.history.tree_proof.Ancestor.{Ancestor}
 use Rattle.tw_base.specs.declared.history.tree_proof.Ask.{Ask}
 use Rattle.tw_base.specs.declared.history.tree_proof.Ask.TheVariants.{Present}
 use Rattle.tw_base.specs.declared.history.tree_proof.TreeProof.{TreeProof}
 use Rattle.tw_base.specs.declared.history.tree_proof.TreeProof.TheVariants.{Present as OfEntry}
 use Rattle.tw_base.specs.history.Entries.{IsFit}
+use Rattle.tw_base.specs.kinds.Bytes.{HasBytes}
 use Rattle.tw_base.specs.kinds.Lists.{Each}
 use Rattle.tw_treeproof.specs.Answers.{ancestors_of}
 
 abbrev pub HasSizes : List Ancestor → Type 0
-HasSizes = Each (λ a. (length a.other ≡ 32) × IsFit a.entry)
+HasSizes = Each (λ a. HasBytes 32 a.other × IsFit a.entry)
 
 abbrev pub HasPlaceSizes : Ask → TreeProof → Type 0
-HasPlaceSizes (Present e) (OfEntry left right up) = (length left ≡ 32) × (length right ≡ 32) × IsFit e
+HasPlaceSizes (Present e) (OfEntry left right up) = HasBytes 32 left × HasBytes 32 right × IsFit e
 HasPlaceSizes ask proof = Unit {0}
 
 abbrev pub HasProofSizes : Ask → TreeProof → Type 0

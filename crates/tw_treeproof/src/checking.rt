@@ -2,6 +2,7 @@
 
 ghost use Rattle.std.specs.Prelude.{◌≡◌, ◌≢◌, ℕ, List, ◌++◌, length, MatchOption, IfSome, IsTrue, ◌↔◌};
 ghost use Rattle.tw_base.specs.history.Auth.{tree_label};
+ghost use Rattle.tw_base.specs.kinds.Bytes.{HasBytes};
 ghost use Rattle.tw_base.specs.kinds.Clash.{OrClash};
 ghost use Rattle.tw_base.specs.history.Entries.{IsFit};
 ghost use Rattle.tw_base.specs.history.HistoryTexts.{tree_texts};
@@ -19,7 +20,7 @@ use tw_base::{Ancestor, Ask, Digest, Entry, Hasher, TreeProof, empty_tree, tree_
 /// The label of the ancestor's node, over that of the side that the way takes.
 fn label_over<H: Hasher>(ask: &Ask, ancestor: &Ancestor, below: &Digest) -> Digest
     ensures label { result ≡ H.dig (over_text (is_left ask.now) ancestor.now below.now) }
-    ensures other { length ancestor.now.other ≡ 32 }
+    ensures other { HasBytes 32 ancestor.now.other }
     ensures fits { IsFit ancestor.now.entry }
 {
     if goes_left(ask, &ancestor.entry) {

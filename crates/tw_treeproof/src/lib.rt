@@ -5,7 +5,6 @@
 mod checking;
 mod laws;
 mod limits;
-mod making;
 mod reading;
 mod shown;
 mod way;
@@ -14,7 +13,6 @@ mod writing;
 pub use checking::check;
 pub use laws::{tree_proof_laws, tree_proof_spelling_laws};
 pub use limits::{MOST_ABOVE_ENTRY, MOST_ABOVE_PLACE};
-pub use making::{ProveFault, prove};
 pub use reading::{take_ancestor, take_gap, take_present};
 pub use shown::Shown;
 pub use tw_base::{Ancestor, AncestorList, Ask, TreeProof};

@@ -14,19 +14,13 @@ use Rattle.tw_verifier.specs.declared.judgement.Judgement.{Judgement}
 use Rattle.tw_chain.specs.declared.proof.HopPart.{HopPart}
 use Rattle.tw_chain.specs.declared.proof.Tail.{Tail}
 use Rattle.tw_chain.specs.Accepting.{hops_to}
-use Rattle.tw_verifier.specs.Chaining.{behind_checks, closed, found_with, with_hop}
+use Rattle.tw_chain.specs.Finding.{found_in, found_with, lower_of, passes}
+use Rattle.tw_verifier.specs.Chaining.{behind_checks, closed, with_hop}
 use Rattle.tw_chain.specs.Checks.{Check, hop_checks, hops_checks, last_thread, root_of, tail_checks}
-use Rattle.tw_verifier.specs.Judgements.{found_in, lower_of, passes}
 use Rattle.tw_chain.specs.Passing.{carried_by, reason_of}
-use Rattle.tw_verifier.proofs.LowerSteps.{lower-assoc}
+use Rattle.tw_chain.proofs.LowerSteps.{lower-assoc}
 
 module _ (dig : List ℕ → List ℕ) (anchors : List Thread) where
-  pub found-append : (xs ys : List Check) → found_in dig anchors (xs ++ ys) ≡ lower_of (found_in dig anchors xs) (found_in dig anchors ys)
-  found-append [] ys = refl
-  found-append (c ∷ xs) ys =
-      let own : Option Reason = if passes dig anchors c then None else Some (reason_of c) in
-      ap (lower_of own) (found-append xs ys) ∙ sym (lower-assoc own (found_in dig anchors xs) (found_in dig anchors ys))
-
   module _ (c : Chain) (hop : HopPart) (hops : List HopPart) (tail : Tail) (more : ℕ) where
     abbrev here : List Check
     here = hop_checks c.part c.known.step (root_of c.opening) hop

@@ -9,14 +9,15 @@ use Rattle.tw_base.specs.declared.history.thread.Thread.{Thread}
 use Rattle.tw_skipproof.specs.declared.opening.Opening.{Opening}
 use Rattle.tw_chain.specs.declared.proof.PrecedenceProof.{PrecedenceProof}
 use Rattle.tw_chain.specs.declared.proof.Proof.TheVariants.{Precedes}
-use Rattle.tw_verifier.specs.Chaining.{behind_checks, chain_of, closed, found_with}
+use Rattle.tw_chain.specs.Finding.{found_in, found_with, lower_of}
+use Rattle.tw_verifier.specs.Chaining.{behind_checks, chain_of, closed}
 use Rattle.tw_chain.specs.Checks.{Check, checks, end_of, head_checks, hops_checks, opening_checks, root_of, start_of, tail_checks}
-use Rattle.tw_verifier.specs.Judgements.{found_in, judgement_of, lower_of}
+use Rattle.tw_verifier.specs.Judgements.{judgement_of}
 use Rattle.tw_chain.specs.Passing.{carried_by}
 use Rattle.tw_base.specs.declared.history.report.Hop.{Hop}
 use Rattle.tw_verifier.specs.declared.judgement.Judgement.{Judgement}
 use Rattle.tw_chain.specs.Accepting.{claim_of, hops_to}
-use Rattle.tw_verifier.proofs.ChainSteps.{found-append}
+use Rattle.tw_chain.proofs.FoundSteps.{found-append}
 
 pub carried-opening : (part : ℕ) (t : Thread) (o : Option Opening) → flat_map carried_by (opening_checks part t o) ≡ []
 carried-opening part t None = refl

@@ -1,12 +1,8 @@
-pub mod LowerSteps
 pub mod ChainSteps
 pub mod HeadStep
-pub mod PassesLaws
-pub mod Lowest
 pub mod JudgedFronts
 pub mod CarriedCounts
 pub mod Verdicts
 pub mod StageForms
 pub mod StageLaws
-pub mod FoundSteps
 pub mod NoRoot

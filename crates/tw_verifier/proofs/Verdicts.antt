@@ -17,13 +17,14 @@ use Rattle.tw_chain.specs.declared.verdict.Verdict.TheVariants.{Yes, No}
 use Rattle.tw_chain.specs.Accepting.{IsAccepted, carried, report_of}
 use Rattle.tw_chain.specs.Checks.{Check, checks}
 use Rattle.tw_chain.specs.Checks.Check.{InOrder, NeedsAnchor, CarriesThread, PathOf, LinkOf, OpeningOf, EventOf, AnswerOf}
-use Rattle.tw_verifier.specs.Judgements.{found_in, judged_layout, judgement_of, unfound, verdict_of}
+use Rattle.tw_chain.specs.Finding.{found_in}
+use Rattle.tw_verifier.specs.Judgements.{judged_layout, judgement_of, unfound, verdict_of}
 use Rattle.tw_chain.specs.Passing.{Passes, reason_of}
 use Rattle.tw_chain.specs.Proofs.{proof_layout}
 use Rattle.tw_chain.specs.Reasons.{Fails, IsLowest, IsVerdict, StandsAgainst}
 use Rattle.tw_verifier.proofs.CarriedCounts.{few-carried}
 use Rattle.tw_verifier.proofs.JudgedFronts.{judged-word}
-use Rattle.tw_verifier.proofs.Lowest.{IsLeast, first-fails, found-lowest, found-none, no_higher-self, passing-fails}
+use Rattle.tw_chain.proofs.Lowest.{IsLeast, first-fails, found-lowest, found-none, no_higher-self, passing-fails}
 
 one_place : (f : Format Proof) (bytes : List ℕ) (one other : ℕ) → IsPlace f bytes one → IsPlace f bytes other → one ≡ other
 one_place f bytes one other first second =

@@ -15,7 +15,7 @@ use Rattle.tw_chain.specs.declared.proof.PrecedenceProof.{PrecedenceProof}
 use Rattle.tw_chain.specs.declared.proof.Tail.{Tail}
 use Rattle.tw_chain.specs.Accepting.{hop_from, hops_to, seen_at}
 use Rattle.tw_chain.specs.Checks.{Check, head_checks, hop_checks, hops_checks, last_thread, root_of, start_of, tail_at, tail_checks}
-use Rattle.tw_verifier.specs.Judgements.{found_in, lower_of}
+use Rattle.tw_chain.specs.Finding.{found_in, found_with}
 use Rattle.tw_chain.specs.Proofs.{following, hop_bytes, hop_codec, tail_codec}
 use Rattle.tw_chain.specs.Passing.{carried_by}
 
@@ -25,10 +25,6 @@ behind_checks c hops tail =
     hops_checks c.part c.known.step (root_of c.opening) hops ++ tail_checks (c.part + length hops) (last_thread c.known hops) tail
 
 module _ (dig : List ℕ → List ℕ) (anchors : List Thread) where
-  -- the lowest reason so far, with those of more checks
-  abbrev pub found_with : Option Reason → List Check → Option Reason
-  found_with found more = lower_of found (found_in dig anchors more)
-
   -- the chain of a proof whose head was judged, before its hops
   abbrev pub chain_of : PrecedenceProof → Chain
   chain_of p = record {
@@ -50,7 +46,7 @@ module _ (dig : List ℕ → List ℕ) (anchors : List Thread) where
         opening = hop.opening;
         part = suc c.part;
         more = more;
-        found = found_with c.found here;
+        found = found_with dig anchors c.found here;
         hops = c.hops ++ hop_from c.known.from hop ∷ [];
         carried = c.carried ++ flat_map carried_by here;
         second = c.second;
@@ -59,7 +55,7 @@ module _ (dig : List ℕ → List ℕ) (anchors : List Thread) where
   -- the judgement of the proof that has these hops and this tail behind the chain
   abbrev pub closed : Chain → List HopPart → Tail → Judgement
   closed c hops tail = record {
-    found = found_with c.found (behind_checks c hops tail);
+    found = found_with dig anchors c.found (behind_checks c hops tail);
     report = record {
       claim = claims.Precedes (seen_at (tail_at (last_thread c.known hops) tail) tail.event) c.second;
       hops = hops_to c.known.from hops ++ reverse c.hops;

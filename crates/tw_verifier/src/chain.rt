@@ -7,24 +7,24 @@ ghost use Rattle.tw_base.specs.declared.history.thread.Thread.{Thread as Anchor}
 ghost use Rattle.tw_chain.specs.declared.proof.HopPart.{HopPart as AnyHop};
 ghost use Rattle.tw_chain.specs.declared.proof.Tail.{Tail as AnyTail};
 ghost use Rattle.tw_chain.specs.Accepting.{hop_from as hop_from_of};
-ghost use Rattle.tw_verifier.specs.Chaining.{chain_of, closed, found_with, with_hop as with_hop_of};
+ghost use Rattle.tw_chain.specs.Finding.{found_with};
+ghost use Rattle.tw_verifier.specs.Chaining.{chain_of, closed, with_hop as with_hop_of};
 ghost use Rattle.tw_chain.specs.Checks.{bind_checks, hop_checks, root_of};
 ghost use Rattle.tw_chain.specs.Checks.Check.{AnswerOf, EventOf, InOrder, PathOf};
 ghost use Rattle.tw_chain.specs.Checks.Upper.{Known};
 ghost use Rattle.tw_chain.specs.Passing.{carried_by};
 ghost use Rattle.tw_base.specs.declared.history.tree_proof.Ask.TheVariants.{Present};
 
-use crate::finding::{
-    under_anchor, with_answer, with_event, with_link, with_opening, with_order, with_path,
-    without_answer,
-};
 use crate::judgement::{Judgement, seen};
 use std::alloc::Global;
 use tw_base::{
     Ask, Claim, Digest, EventPart, Hasher, Hop, HopList, NoMemory, Reason, Report, Seen, Thread,
     Threads,
 };
-use tw_chain::{HopPart, Tail};
+use tw_chain::{
+    HopPart, Tail, under_anchor, with_answer, with_event, with_link, with_opening, with_order,
+    with_path, without_answer,
+};
 use tw_skipproof::{Opening, Part};
 
 /// What the verifier holds of a proof from event to event between two of its hops: the thread that the

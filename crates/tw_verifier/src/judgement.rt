@@ -5,14 +5,17 @@ ghost use Rattle.tw_base.specs.declared.kinds.limits.TheConstants.{LAST_STEP, MO
 ghost use Rattle.tw_chain.specs.declared.proof.Proof.TheVariants.{Absent, Archived, Exists, Linked};
 ghost use Rattle.tw_chain.specs.Accepting.{seen_at};
 ghost use Rattle.tw_chain.specs.Checks.{checks};
-ghost use Rattle.tw_verifier.specs.Judgements.{found_in, judgement_of, verdict_of};
+ghost use Rattle.tw_chain.specs.Finding.{found_in};
+ghost use Rattle.tw_verifier.specs.Judgements.{judgement_of, verdict_of};
 
-use crate::finding::{under_anchor, with_answer, with_event, with_link, with_order};
 use std::alloc::Global;
 use tw_base::{
     Ask, Claim, EventPart, Hasher, HopList, Place, Reason, Report, Seen, Thread, Threads,
 };
-use tw_chain::{AbsenceProof, LinkProof, ThreadProof, Verdict};
+use tw_chain::{
+    AbsenceProof, LinkProof, ThreadProof, Verdict, under_anchor, with_answer, with_event,
+    with_link, with_order,
+};
 use tw_skipproof::{ExistenceProof, Part};
 
 /// The lowest reason against a proof but that threads are carried, where one stands, and the report

@@ -4,12 +4,10 @@
 
 mod attempts;
 mod chain;
-mod finding;
 mod following;
 mod heads;
 mod judgement;
 mod judging;
-mod passing;
 mod stage;
 mod tree_attempts;
 mod verifier;

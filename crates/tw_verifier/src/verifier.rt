@@ -102,8 +102,8 @@ impl<H: Hasher> Verifier<H> {
 
 /// The verdict on the bytes of a proof under the anchors: Yes exactly where the bytes spell a proof
 /// that is accepted and, in the strict form, carries no thread, with its report; else No with the
-/// lowest reason that stands. Each text is hashed once, and one segment of the proof is held at a
-/// time, with what the report needs.
+/// lowest reason that stands. Each text is hashed once, and one part of the proof (its head, a hop
+/// or its tail) is held at a time, with what the report needs.
 ///
 /// Where it is Yes, in every family of sound histories that has the held threads the report's claim
 /// holds, by the report's own hops, or two different texts of the histories and of the proof have one

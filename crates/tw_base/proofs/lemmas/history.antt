@@ -1,12 +1,17 @@
 -- Lemmas about histories, archives, trees and authenticators.
 pub mod Keys
 pub mod KeyTests
+pub mod Asked
+pub mod Members
+pub mod Leaves
+pub mod AskedLists
 pub mod Trees
 pub mod Archives
 pub mod SoundEvents
 pub mod Times
 pub mod Auths
 pub mod ArchiveTexts
+pub mod TextBytes
 pub mod Families
 pub mod Plus
 pub mod Leads

@@ -1,9 +1,9 @@
 -- Codecs. One declaration of a format: which bytes spell what, which values have a spelling and which one, and how a
 -- reader goes over the bytes field by field. The laws that join the four are in proofs/lemmas/format/CodecLaws.
-use Rattle.std.specs.Prelude.{◌≡◌, ℕ, ◌≤◌, List, [], ◌∷◌, ◌++◌, length, flat_map, Bool, true, false, Option, Some, None, MatchOption, Result, Ok, if◌then◌else◌}
+use Rattle.std.specs.Prelude.{◌≡◌, ℕ, ◌≤◌, List, [], ◌∷◌, ◌++◌, length, flat_map, Bool, true, false, Option, Some, None, MatchOption, Result, Ok, Err, if◌then◌else◌}
 use Rattle.std.specs.Option.{option_map_or}
-use Rattle.tw_base.specs.kinds.Bytes.{AreBytes}
-use Rattle.tw_base.specs.format.Formats.{Format, OneSpelling, Placed, Spells, WrittenAs, then_by, read_at, ◌>>=◌}
+pub use Rattle.tw_base.specs.kinds.Bytes.{HasBytes}
+use Rattle.tw_base.specs.format.Formats.{Format, IsPlace, OneSpelling, Placed, Spells, SpellsNothing, WrittenAs, then_by, read_at, ◌>>=◌}
 use Rattle.tw_base.specs.format.Formats.Format.{Done}
 use Rattle.tw_base.specs.format.Fields.{bytes, flag, name, number, number_bytes, repeated, text}
 use Rattle.tw_base.specs.kinds.Lists.{Each}
@@ -18,7 +18,8 @@ pub record Codec (X : Type 0) : Type 1 where
   pub read : List ℕ → ℕ → Result (Placed X) ℕ
 
 -- the laws of a format: the words are the written bytes of the values that fit; a word has one value, a value one
--- spelling, and no word is the front of a longer one
+-- spelling, and no word is the front of a longer one; reading field by field is reading the format, and where it stops it
+-- tells the place of the first bad byte, and the bytes are no word
 pub record IsUnambiguous {X : Type 0} (c : Codec X) : Type 0 where
   pub written : WrittenAs c.format c.write
   pub fits : (word : List ℕ) (x : X) → Spells c.format word x → c.Fits x
@@ -26,6 +27,8 @@ pub record IsUnambiguous {X : Type 0} (c : Codec X) : Type 0 where
   pub one_value : (word : List ℕ) (x y : X) → Spells c.format word x → Spells c.format word y → x ≡ y
   pub one_spelling : OneSpelling c.format
   pub no_longer : (word rest : List ℕ) (x y : X) → Spells c.format word x → Spells c.format (word ++ rest) y → rest ≡ []
+  pub reads : (bytes : List ℕ) (at : ℕ) → c.read bytes at ≡ read_at c.format bytes at
+  pub stops : (bytes : List ℕ) (place : ℕ) → c.read bytes 0 ≡ Err place → SpellsNothing c.format bytes × IsPlace c.format bytes place
 
 -- ---- fields
 
@@ -37,10 +40,6 @@ number_codec width least most = record {
   write = number_bytes width;
   read = read_at (number width least most);
 }
-
--- so many bytes
-abbrev pub HasBytes : ℕ → List ℕ → Type 0
-HasBytes n bs = (length bs ≡ n) × AreBytes bs
 
 unfoldable pub bytes_codec : ℕ → Codec (List ℕ)
 bytes_codec n = record {

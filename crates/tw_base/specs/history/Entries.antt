@@ -1,11 +1,12 @@
 -- Threads, the entries of an archive, and their order: by name and then step.
-use Rattle.std.specs.Prelude.{◌≡◌, ℕ, ◌<◌, ◌^◌, List, length}
+use Rattle.std.specs.Prelude.{◌≡◌, ℕ, ◌<◌, ◌^◌, List}
 use Rattle.std.specs.declared.cmp.Ordering.{Ordering}
 use Rattle.std.specs.declared.cmp.Ordering.TheVariants.{Less}
 use Rattle.std.specs.Ordering.{ordering_then, nat_cmp}
 use Rattle.std.specs.Cmp.Lexicographic.{slice_cmp}
 use Rattle.tw_base.specs.declared.history.thread.Entry.{Entry}
 use Rattle.tw_base.specs.declared.history.thread.Key.{Key}
+use Rattle.tw_base.specs.kinds.Bytes.{HasBytes}
 use Rattle.tw_base.specs.kinds.Texts.{tree_node_text}
 
 abbrev pub key_of : Entry → Key
@@ -17,11 +18,11 @@ key_cmp a b = ordering_then (slice_cmp nat_cmp a.from b.from) (nat_cmp a.step b.
 abbrev pub KeyBelow : Key → Key → Type 0
 KeyBelow a b = key_cmp a b ≡ Less
 
--- the fields have the widths that the text of a tree node gives them
+-- the fields have the widths that the text of a tree node gives them, and those of bytes are bytes
 pub record IsFit (e : Entry) : Type 0 where
-  pub from : length e.thread.from ≡ 16
+  pub from : HasBytes 16 e.thread.from
   pub step : e.thread.step < 2 ^ 64
-  pub auth : length e.thread.auth ≡ 32
+  pub auth : HasBytes 32 e.thread.auth
   pub archived : e.archived < 2 ^ 64
 
 -- the text of a tree whose root has the entry

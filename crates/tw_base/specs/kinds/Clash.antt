@@ -1,7 +1,8 @@
--- Two different texts of one list with one digest: what every binding theorem leaves as the only way out.
+-- Two different texts of bytes of one list with one digest: what every binding theorem leaves as the only way out.
 use Rattle.std.specs.Prelude.{◌≡◌, ◌≢◌, ℕ, List, [], ◌∷◌, ◌++◌, ◌⊎◌, Option, Some, None, Bool, not, ◌&&◌, find}
 use Rattle.std.specs.Option.{option_map_or}
 use Rattle.std.specs.Str.{bytes_eq}
+use Rattle.tw_base.specs.kinds.Bytes.{AreBytes}
 
 abbrev pub Among : List ℕ → List (List ℕ) → Type 0
 Among text [] = ⊥
@@ -11,11 +12,14 @@ Among text (first ∷ rest) = (text ≡ first) ⊎ Among text rest
 abbrev pub Within : List (List ℕ) → List (List ℕ) → Type 0
 Within xs ys = (text : List ℕ) → Among text xs → Among text ys
 
+-- two texts of the list, each of bytes, that differ and have one digest
 pub record Clash (dig : List ℕ → List ℕ) (texts : List (List ℕ)) : Type 0 where
   pub one : List ℕ
   pub other : List ℕ
   pub has_one : Among one texts
   pub has_other : Among other texts
+  pub one_bytes : AreBytes one
+  pub other_bytes : AreBytes other
   pub differ : one ≢ other
   pub one_digest : dig one ≡ dig other
 

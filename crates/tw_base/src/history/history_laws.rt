@@ -1,15 +1,18 @@
 // The laws of histories, of their archives and of clashes.
 
-ghost use Rattle.std.specs.Prelude.{◌≡◌, ℕ, ◌≤◌, ◌↔◌, List, [], ◌++◌, length, IsSome, None, Some};
+ghost use Rattle.std.specs.Prelude.{◌≡◌, ◌⊎◌, ℕ, suc, ◌≤◌, ◌↔◌, List, [], ◌++◌, length, IsSome, None, Some};
 ghost use Rattle.tw_base.specs.history.Auth.{auth};
 ghost use Rattle.tw_base.specs.kinds.Clash.{Clash, Pair, Within, clash_pair};
-ghost use Rattle.tw_base.specs.history.Entries.{KeyBelow};
+ghost use Rattle.tw_base.specs.history.Asking.{IsGreatestBelow, IsLeastAbove, entry_with, first_above, last_below, with_entry};
+ghost use Rattle.tw_base.specs.history.Entries.{KeyBelow, key_of};
+ghost use Rattle.tw_base.specs.history.Family.{AllSound, family_texts};
 ghost use Rattle.tw_base.specs.history.History.{History, Step, plus, received, time_at, times};
 ghost use Rattle.tw_base.specs.history.HistoryTexts.{history_texts, tree_texts};
 ghost use Rattle.tw_base.specs.history.Limits.{IsTimeWithinLimits};
-ghost use Rattle.tw_base.specs.kinds.Lists.{In};
+ghost use Rattle.tw_base.specs.kinds.Bytes.{AreBytes};
+ghost use Rattle.tw_base.specs.kinds.Lists.{Each, In};
 ghost use Rattle.tw_base.specs.history.Sound.{IsSound};
-ghost use Rattle.tw_base.specs.history.Tree.{IsRisingTree, Tree, entries, tree};
+ghost use Rattle.tw_base.specs.history.Tree.{IsRising, IsRisingTree, Tree, entries, tree};
 ghost use Rattle.tw_base.specs.history.Tree.Tree.{Empty};
 ghost use Rattle.tw_base.specs.declared.history.thread.Entry.{Entry};
 ghost use Rattle.tw_base.specs.declared.history.thread.Key.{Key};
@@ -29,6 +32,34 @@ pub fn archive_laws<H: Hasher>()
     ensures texts { (h : History) (i : ℕ) → i ≤ length h.steps → Within (tree_texts H.dig (tree h i)) (history_texts H.dig h) }
     // Before the first step the archive is empty.
     ensures first { (h : History) → tree h 0 ≡ Empty }
+{}
+
+/// What the list of an archive's entries answers, where their keys rise.
+pub fn asking_laws()
+    // A list with one more entry has one more.
+    ensures size { (es : List Entry) (e : Entry) → length (with_entry es e) ≡ suc (length es) }
+    // It has that entry and those of the list, and no others.
+    ensures members { (es : List Entry) (e f : Entry) → In f (with_entry es e) ↔ ((f ≡ e) ⊎ In f es) }
+    // Where no entry of a rising list has its key, the list with it rises.
+    ensures order { (es : List Entry) (e : Entry) → IsRising es → entry_with es (key_of e) ≡ None → IsRising (with_entry es e) }
+    // The last entry below a key is in the list, is below it, and is the greatest that is.
+    ensures below { (es : List Entry) (key : Key) (e : Entry) → IsRising es → last_below es key ≡ Some e → IsGreatestBelow es key e }
+    // Where there is none, no entry of the list is below the key.
+    ensures none_below { (es : List Entry) (key : Key) → IsRising es → last_below es key ≡ None →
+        (f : Entry) → In f es → KeyBelow (key_of f) key → ⊥ }
+    // The first entry above a key is in the list, is above it, and is the least that is.
+    ensures above { (es : List Entry) (key : Key) (e : Entry) → IsRising es → first_above es key ≡ Some e → IsLeastAbove es key e }
+    // Where there is none, no entry of the list is above the key.
+    ensures none_above { (es : List Entry) (key : Key) → first_above es key ≡ None →
+        (f : Entry) → In f es → KeyBelow key (key_of f) → ⊥ }
+{}
+
+/// All that the authenticators of sound histories hash is bytes.
+pub fn text_laws<H: Hasher>()
+    // Each text of a sound history is bytes.
+    ensures history { (h : History) → IsSound h → Each AreBytes (history_texts H.dig h) }
+    // So is each text of a family of sound histories.
+    ensures family { (family : List History) → AllSound family → Each AreBytes (family_texts H.dig family) }
 {}
 
 /// One more step changes no tree, no time and no authenticator of an earlier step, of any history, sound or
@@ -53,12 +84,14 @@ pub fn time_laws()
         time_at h i ≡ Some earlier → time_at h j ≡ Some later → earlier ≤ later }
 {}
 
-/// The ordered pair of a list of texts is there exactly where two texts of the list clash, and is two
+/// The ordered pair of a list of texts, each of bytes, is there exactly where two texts of the list clash, and is two
 /// such texts.
 pub fn clash_laws<H: Hasher>()
-    // A pair that is picked of a list of texts clashes.
-    ensures some { (texts : List (List ℕ)) (p : Pair) → clash_pair H.dig texts ≡ Some p →
+    // A pair that is picked of a list of texts, each of bytes, clashes.
+    ensures some { (texts : List (List ℕ)) → Each AreBytes texts → (p : Pair) → clash_pair H.dig texts ≡ Some p →
         (c : Clash H.dig texts) × (c.one ≡ p.one) × (c.other ≡ p.other) }
+    // Texts that clash are bytes.
+    ensures bytes { (texts : List (List ℕ)) (c : Clash H.dig texts) → AreBytes c.one × AreBytes c.other }
     // Where none is picked, no two texts of the list clash.
     ensures none { (texts : List (List ℕ)) → clash_pair H.dig texts ≡ None → Clash H.dig texts → ⊥ }
 {}

@@ -6,10 +6,11 @@ ghost use Rattle.arrayvec.specs.ArrayVec.{array_vec_len};
 ghost use Rattle.tw_base.specs.declared.kinds.limits.TheConstants.{MOST_EVENT_BYTES};
 ghost use Rattle.tw_base.specs.kinds.Texts.{authenticator_text, datum_text, empty_tree_text, event_leaf_text, event_node_text, genesis_text, link_text, no_events_text, step_datum_text, timed_datum_text};
 ghost use Rattle.tw_base.specs.history.Entries.{IsFit, entry_text};
+ghost use Rattle.tw_base.specs.kinds.Bytes.{HasBytes};
 ghost use Rattle.tw_base.specs.kinds.Digests.{AllDigests};
 
 use crate::history::thread::Entry;
-use crate::kinds::digest::Digest;
+use crate::kinds::digest::{Digest, see_digest};
 use crate::kinds::fixed_list::put;
 use crate::kinds::hasher::Hasher;
 use crate::kinds::name::Name;
@@ -19,9 +20,11 @@ use arrayvec::ArrayVec;
 fn put_digest<const N: usize>(text: &mut ArrayVec<u8, N>, digest: &Digest)
     requires { array_vec_len text.old + 32 ≤ N }
     ensures size { length digest.now ≡ 32 }
+    ensures bytes { HasBytes 32 digest.now }
     ensures items { text.new.items ≡ text.old.items ++ digest.now }
     ensures len { array_vec_len text.new ≡ array_vec_len text.old + 32 }
 {
+    see_digest(digest);
     put(text, &digest.0);
 }
 
@@ -160,10 +163,13 @@ pub fn empty_tree<H: Hasher>() -> Digest
 pub fn tree_node<H: Hasher>(left: &Digest, entry: &Entry, right: &Digest) -> Digest
     // The label is the digest of the text of the node.
     ensures label { result ≡ H.dig (entry_text left.now entry.now right.now) }
-    ensures left_size { length left.now ≡ 32 }
-    ensures right_size { length right.now ≡ 32 }
+    ensures left_size { HasBytes 32 left.now }
+    ensures right_size { HasBytes 32 right.now }
     ensures fits { IsFit entry.now }
 {
+    see_digest(left);
+    see_digest(right);
+    see_digest(&entry.thread.auth);
     let mut text: ArrayVec<u8, 129> = ArrayVec::new();
     text.push(0x15);
     put(&mut text, &left.0);

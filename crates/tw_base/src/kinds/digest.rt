@@ -1,6 +1,7 @@
 // Digests.
 
 ghost use Rattle.std.specs.Prelude.{◌≡◌, ◌↔◌, IsTrue};
+ghost use Rattle.tw_base.specs.kinds.Bytes.{AreBytes, HasBytes};
 
 use std::marker::Model;
 
@@ -19,6 +20,20 @@ impl Model for Digest {
     ghost invariant = { λ d. length d.0 ≡ 32 };
 
     ghost inverse = { λ bytes. record { 0 = bytes } };
+}
+
+/// Tells a proof that bytes are below 256.
+pub fn see_bytes(bytes: &[u8])
+    ensures { AreBytes bytes.now }
+{
+    let _count = bytes.len();
+}
+
+/// Tells a proof that a digest is 32 bytes.
+pub fn see_digest(digest: &Digest)
+    ensures { HasBytes 32 digest.now }
+{
+    see_bytes(&digest.0);
 }
 
 /// Whether two digests are one.

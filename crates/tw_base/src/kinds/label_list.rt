@@ -3,7 +3,7 @@
 ghost use Rattle.std.specs.Prelude.{◌≡◌, [], ◌∷◌, ◌++◌, length, IfOk, OnOk, OnErr};
 ghost use Rattle.tw_base.specs.kinds.Digests.{AllDigests};
 
-use crate::kinds::digest::Digest;
+use crate::kinds::digest::{Digest, see_digest};
 use crate::kinds::failure::NoMemory;
 use std::alloc::Global;
 use std::marker::Model;
@@ -81,7 +81,7 @@ impl Labels {
         ensures ok { OnOk result (self.new ≡ self.old ++ label ∷ []) }
         ensures err { OnErr result (self.new ≡ self.old) }
     {
-        let _bytes = &label.0;
+        see_digest(&label);
         match self.items.push(label) {
             Ok(()) => Ok(()),
             Err(_) => Err(NoMemory),
@@ -95,6 +95,6 @@ fn see_sizes(digests: &[Digest])
     ensures { AllDigests digests.now }
 {
     for digest in digests {
-        let _bytes = &digest.0;
+        see_digest(digest);
     }
 }

@@ -2,9 +2,11 @@
 
 ghost use Rattle.std.specs.Prelude.{◌≡◌, ◌↔◌, ◌==◌, length, position, IsTrue, IsSome, IfSome};
 ghost use Rattle.std.specs.List.{list_all};
+ghost use Rattle.tw_base.specs.kinds.Bytes.{AreBytes};
 ghost use Rattle.tw_base.specs.kinds.Names.{IsName, is_name_text, name_text, padded_name};
 ghost use Rattle.tw_base.specs.kinds.Names.{is_name_byte as is_name_byte_of};
 
+use crate::kinds::digest::see_bytes;
 use std::marker::Model;
 
 /// A service's name: 1 to 16 bytes of `a-z`, `0-9` and `-`, padded with zeros to 16 bytes, by
@@ -63,8 +65,10 @@ impl Name {
     pub fn as_bytes(&self) -> &[u8; 16]
         ensures value { result.now ≡ self.now }
         ensures size { length result.now ≡ 16 }
+        ensures bytes { AreBytes result.now }
         ensures name { IsName self.now }
     {
+        see_bytes(&self.bytes);
         &self.bytes
     }
 }

@@ -1,16 +1,14 @@
 -- The equations of the sides of an audit path, without the bound on splits.
-use Rattle.std.proofs.Common.{◌≡◌, ℕ, suc, zero, ◌+◌, ◌-◌, ◌<◌, ◌≤◌, ◌^◌, List, [], ◌∷◌, ◌++◌, length, refl, ap, sym, ◌∙◌, subst, arith, lit<, inl, inr}
+use Rattle.std.proofs.Common.{◌≡◌, ℕ, suc, zero, ◌+◌, ◌-◌, ◌<◌, ◌≤◌, ◌^◌, List, [], ◌∷◌, ◌++◌, length, refl, ap, sym, ◌∙◌, arith, lit<, inl, inr}
 use Rattle.std.specs.Prelude.{nat_lt, if◌then◌else◌}
 use Rattle.std.proofs.lemmas.Bool.{cases_lt, le-leb, lt-leb, lt-ltb, le-ltb}
 use Rattle.std.proofs.lemmas.List.{length-append}
 use Rattle.std.proofs.Math.Nat.{pow-le-pow_right}
 use Rattle.tw_base.specs.declared.events.side.Side.{Side}
 use Rattle.tw_base.specs.declared.events.side.Side.TheVariants.{Left, Right}
-use Rattle.tw_base.specs.kinds.Digests.{AllDigests}
 use Rattle.tw_base.specs.events.AuditPath.{path_length, path_sides, sides_within}
-use Rattle.tw_base.specs.events.EventTree.{audit_path, event_root, largest_power_below, left_half, right_half}
-use Rattle.tw_base.proofs.lemmas.kinds.Joined.{AllDigests-push}
-use Rattle.tw_base.proofs.lemmas.events.EventTrees.{audit_path-left, audit_path-none, audit_path-one, audit_path-right, by_halves, largest_power_below-is, largest_power_below-less, largest_power_below-some, length-event_root, length-left_half, length-right_half}
+use Rattle.tw_base.specs.events.EventTree.{audit_path, largest_power_below, left_half, right_half}
+use Rattle.tw_base.proofs.lemmas.events.EventTrees.{audit_path-left, audit_path-none, audit_path-one, audit_path-right, by_halves, largest_power_below-is, largest_power_below-less, largest_power_below-some, length-left_half, length-right_half}
 
 module _ (count : ℕ) where
   sides_of : ℕ → (index : ℕ) → List Side
@@ -154,27 +152,4 @@ module _ (dig : List ℕ → List ℕ) where
             | inr past ↦ ap length (audit_path-right dig events index more' (omega arith)) ∙ one_more _ _
                 ∙ ap suc (right (right_half events) (index - largest_power_below (length events)) rest)
                 ∙ ap (λ x. suc (path_length (n - largest_power_below n) (index - x))) same ∙ sym (path_length-right n index more past)
-          ]
-
-  pub AllDigests-audit_path : (size : (text : List ℕ) → length (dig text) ≡ 32) (events : List (List ℕ)) (index : ℕ) → AllDigests (audit_path dig events index)
-  AllDigests-audit_path size events index = by_halves P small large (length events) events index refl
-    where
-      P : ℕ → Type 0
-      P n = (events : List (List ℕ)) (index : ℕ) → length events ≡ n → AllDigests (audit_path dig events index)
-
-      small : (n : ℕ) → n ≤ 1 → P n
-      small n few events index e = subst AllDigests (sym (few-events events index (omega arith))) tt
-
-      large : (n : ℕ) → 1 < n → P (largest_power_below n) → P (n - largest_power_below n) → P n
-      large n more left right events index e =
-          let more' : 1 < length events = omega arith in
-          let same : largest_power_below (length events) ≡ largest_power_below n = ap largest_power_below e in
-          let rest : length (right_half events) ≡ n - largest_power_below n = length-right_half events ∙ ap (λ x. x - largest_power_below (length events)) e ∙ ap (λ x. n - x) same in
-          elim (cases_lt index (largest_power_below n)) [
-            | inl less ↦ subst AllDigests (sym (audit_path-left dig events index more' (omega arith)))
-                (AllDigests-push (audit_path dig (left_half events) index) (event_root dig (right_half events))
-                (left (left_half events) index (length-left_half events more' ∙ same)) (length-event_root dig size (right_half events)))
-            | inr past ↦ subst AllDigests (sym (audit_path-right dig events index more' (omega arith)))
-                (AllDigests-push (audit_path dig (right_half events) (index - largest_power_below (length events))) (event_root dig (left_half events))
-                (right (right_half events) (index - largest_power_below (length events)) rest) (length-event_root dig size (left_half events)))
           ]

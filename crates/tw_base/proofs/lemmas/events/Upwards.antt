@@ -1,6 +1,7 @@
 -- Going up a path: its highest label last.
 use Rattle.std.proofs.Common.{◌≡◌, ℕ, suc, zero, List, [], ◌∷◌, ◌++◌, length, refl, ap, arith}
 use Rattle.tw_base.specs.declared.events.side.Side.{Side}
+use Rattle.tw_base.specs.kinds.Bytes.{HasBytes}
 use Rattle.tw_base.specs.kinds.Digests.{AllDigests}
 use Rattle.tw_base.specs.events.AuditPath.{node_text_beside, node_texts_above, root_above}
 
@@ -20,7 +21,7 @@ has_last (x ∷ y ∷ path) (suc n) e =
     let size : length rest.front ≡ n = rest.size in
     record { front = x ∷ rest.front; last = rest.last; whole = ap (λ p. x ∷ p) rest.whole; size = omega arith }
 
-pub AllDigests-front : (front : List (List ℕ)) (last : List ℕ) → AllDigests (front ++ last ∷ []) → AllDigests front × (length last ≡ 32)
+pub AllDigests-front : (front : List (List ℕ)) (last : List ℕ) → AllDigests (front ++ last ∷ []) → AllDigests front × HasBytes 32 last
 AllDigests-front [] last sizes = (tt, sizes.0)
 AllDigests-front (x ∷ front) last sizes = let rest = AllDigests-front front last sizes.1 in ((sizes.0, rest.0), rest.1)
 

@@ -12,7 +12,7 @@ use Rattle.tw_base.specs.format.Fields.{bytes, flag, repeated, text}
 use Rattle.tw_base.specs.kinds.Lists.{Each}
 use Rattle.tw_base.specs.kinds.Names.{IsName}
 use Rattle.tw_base.proofs.lemmas.kinds.ByteLemmas.{AreBytes-at}
-use Rattle.tw_base.proofs.lemmas.format.FormatLaws.{AllWords, all_words-done, all_words-then, goes_on-then, no_longer_word, one_spelling, one_value, read_at-done, read_at-spells, read_at-then, spells_then}
+use Rattle.tw_base.proofs.lemmas.format.FormatLaws.{AllWords, all_words-done, all_words-then, goes_on-then, no_longer_word, one_spelling, one_value, read_at-done, read_at-spells, read_at-then, spells_then, whole-stops}
 use Rattle.tw_base.proofs.lemmas.format.NumberLaws.{goes_on-number, number_spelled, number_spells}
 use Rattle.tw_base.proofs.lemmas.format.FieldLaws.{byte_then-parts, bytes-spells, bytes-written, goes_on-bytes, goes_on-name, goes_on-repeated, goes_on-text, length-bytes, name-spells, name-word, name-written, repeated-cons, repeated-nil, text-spells, text-word, text-written}
 
@@ -42,6 +42,8 @@ module _ {X : Type 0} (c : Codec X) (l : Lawful c) where
     one_value = one_value c.format;
     one_spelling = one_spelling c.format c.write written-as;
     no_longer = no_longer_word c.format;
+    reads = λ bytes at. sym (l.reads bytes at);
+    stops = λ bytes place e. whole-stops c.format l.goes bytes place (l.reads bytes 0 ∙ e);
   }
 
 pub lawful-number : (width least most : ℕ) → least ≤ most → most < 256 ^ width → Lawful (number_codec width least most)

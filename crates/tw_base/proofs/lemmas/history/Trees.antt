@@ -16,7 +16,7 @@ use Rattle.tw_base.specs.history.Sound.{IsSound}
 use Rattle.tw_base.specs.declared.history.content.Content.{Content}
 use Rattle.tw_base.specs.declared.history.content.Content.TheVariants.{Events, Received}
 use Rattle.tw_base.proofs.lemmas.kinds.ListLemmas.{Each-append, Each-get_or, Each-map}
-use Rattle.tw_base.proofs.lemmas.kinds.Naming.{IsName-size}
+use Rattle.tw_base.proofs.lemmas.kinds.Naming.{IsName-bytes}
 
 -- an entry of the steps up to i is one of a step at or below i
 pub entry_to-at : (h : History) (i k : ℕ) (e : Entry) → entry_to h i k ≡ Some e → (k ≤ i) × (entry_at h k ≡ Some e)
@@ -114,7 +114,15 @@ module _ (h : History) where
       let parts = entry_at-parts a.0 e a.2 in
       let got = received-sound sound a.0 e.thread parts.1 in
       let small = sound.length in
-      record { from = IsName-size e.thread.from got.0.0; step = omega (arith, got.0.2); auth = got.0.3; archived = omega (arith, got.2, parts.0, small) }
+      record { from = IsName-bytes e.thread.from got.0.0; step = omega (arith, got.0.2); auth = (got.0.3, got.0.4); archived = omega (arith, got.2, parts.0, small) }
+
+  -- the entries of each new tree of a sound history are fit
+  pub new_trees-fit : IsSound h → (i : ℕ) → Each (λ t. Each IsFit (entries t)) (new_trees h i)
+  new_trees-fit sound i =
+      let before = Each-map (Archived i) (Archived (suc i)) (forest h i) (later i) (forest-archived i) in
+      Each-map (Archived (suc i)) (λ t. Each IsFit (entries t)) (new_trees h i)
+      (λ t all. Each-map (IsArchived h (suc i)) IsFit (entries t) (archived-fit sound (suc i)) all)
+      (planted-archived (suc i) (forest h i) (fresh_of (step_at h (suc i))) before)
 
   -- each archive of a sound history is a rising tree
   pub tree-rising : IsSound h → (i : ℕ) → IsRisingTree (tree h i)

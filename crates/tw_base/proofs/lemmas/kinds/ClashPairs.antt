@@ -6,8 +6,10 @@ use Rattle.std.specs.Str.{bytes_eq}
 use Rattle.std.proofs.lemmas.Bool.{and_parts}
 use Rattle.std.proofs.lemmas.List.{append-nil}
 use Rattle.std.proofs.lemmas.Slice.Eq.{bytes_eq-Decides}
+use Rattle.tw_base.specs.kinds.Bytes.{AreBytes}
 use Rattle.tw_base.specs.kinds.Clash.{Among, Clash, Pair, clash_pair, clashes, pair_after}
-use Rattle.tw_base.proofs.lemmas.kinds.Clashes.{Among-left, Among-right}
+use Rattle.tw_base.specs.kinds.Lists.{Each}
+use Rattle.tw_base.proofs.lemmas.kinds.Clashes.{Among-bytes, Among-left, Among-right}
 
 same_some : (p q : Pair) → Some p ≡ Some q → p ≡ q
 same_some p q e = cc
@@ -111,11 +113,23 @@ module _ (dig : List ℕ → List ℕ) where
       ]
       in cases (find (clashes dig text) before) refl e
 
-  -- the pair of a list clashes
-  pub clash_pair-clashes : (texts : List (List ℕ)) (p : Pair) → clash_pair dig texts ≡ Some p → (c : Clash dig texts) × (c.one ≡ p.one) × (c.other ≡ p.other)
-  clash_pair-clashes texts p e =
-      let facts = pair_clashes [] texts p e in
-      (record { one = p.one; other = p.other; has_one = facts.0; has_other = facts.1; differ = facts.2; one_digest = facts.3 }, refl, refl)
+  -- the pair of a list of bytes clashes
+  pub clash_pair-clashes : (texts : List (List ℕ)) → Each AreBytes texts → (p : Pair) → clash_pair dig texts ≡ Some p → (c : Clash dig texts) × (c.one ≡ p.one) × (c.other ≡ p.other)
+  clash_pair-clashes texts are p e =
+      let facts = pair_clashes [] texts p e in (
+        record {
+          one = p.one;
+          other = p.other;
+          has_one = facts.0;
+          has_other = facts.1;
+          one_bytes = Among-bytes texts p.one are facts.0;
+          other_bytes = Among-bytes texts p.other are facts.1;
+          differ = facts.2;
+          one_digest = facts.3;
+        },
+        refl,
+        refl,
+      )
 
   -- a list without one has no clash
   pub clash_pair-none : (texts : List (List ℕ)) → clash_pair dig texts ≡ None → Clash dig texts → ⊥

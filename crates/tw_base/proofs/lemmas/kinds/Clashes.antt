@@ -1,8 +1,10 @@
 -- What holds unless two texts clash.
-use Rattle.std.proofs.Common.{◌≡◌, ◌≢◌, ℕ, List, [], ◌∷◌, ◌++◌, Bool, true, false, refl, sym, ◌∙◌, ◌⊎◌, inl, inr}
+use Rattle.std.proofs.Common.{◌≡◌, ◌≢◌, ℕ, List, [], ◌∷◌, ◌++◌, Bool, true, false, refl, sym, ◌∙◌, ◌⊎◌, inl, inr, subst}
 use Rattle.std.proofs.lemmas.Slice.Eq.{bytes_eq-Decides}
 use Rattle.std.specs.Str.{bytes_eq}
+use Rattle.tw_base.specs.kinds.Bytes.{AreBytes}
 use Rattle.tw_base.specs.kinds.Clash.{Among, Clash, OrClash, Within}
+use Rattle.tw_base.specs.kinds.Lists.{Each}
 
 pub same_or_other : (x y : List ℕ) → (x ≡ y) ⊎ (x ≢ y)
 same_or_other x y =
@@ -13,12 +15,23 @@ same_or_other x y =
     ]
     in cases (bytes_eq x y) refl
 
--- two texts of a list that have one digest are one text, or the list clashes
-pub same_text : (dig : List ℕ → List ℕ) (texts : List (List ℕ)) (x y : List ℕ) → Among x texts → Among y texts → dig x ≡ dig y → OrClash dig texts (x ≡ y)
-same_text dig texts x y p q e =
+-- a text of a list of which each is bytes
+pub Among-bytes : (texts : List (List ℕ)) (text : List ℕ) → Each AreBytes texts → Among text texts → AreBytes text
+Among-bytes [] text are p = absurd p
+Among-bytes (x ∷ xs) text are (inl e) = subst AreBytes (sym e) are.0
+Among-bytes (x ∷ xs) text are (inr p) = Among-bytes xs text are.1 p
+
+-- texts of such a list
+pub Within-bytes : (xs ys : List (List ℕ)) → Within xs ys → Each AreBytes ys → Each AreBytes xs
+Within-bytes [] ys within are = tt
+Within-bytes (x ∷ xs) ys within are = (Among-bytes ys x are (within x (inl refl)), Within-bytes xs ys (λ t p. within t (inr p)) are)
+
+-- two texts of a list of bytes that have one digest are one text, or the list clashes
+pub same_text : (dig : List ℕ → List ℕ) (texts : List (List ℕ)) → Each AreBytes texts → (x y : List ℕ) → Among x texts → Among y texts → dig x ≡ dig y → OrClash dig texts (x ≡ y)
+same_text dig texts are x y p q e =
     elim (same_or_other x y) [
       | inl same ↦ inl same
-      | inr other ↦ inr (record { one = x; other = y; has_one = p; has_other = q; differ = other; one_digest = e })
+      | inr other ↦ inr (record { one = x; other = y; has_one = p; has_other = q; one_bytes = Among-bytes texts x are p; other_bytes = Among-bytes texts y are q; differ = other; one_digest = e })
     ]
 
 pub Among-left : (text : List ℕ) (xs ys : List (List ℕ)) → Among text xs → Among text (xs ++ ys)
@@ -36,6 +49,8 @@ Clash-wider dig xs ys within c = record {
   other = c.other;
   has_one = within c.one c.has_one;
   has_other = within c.other c.has_other;
+  one_bytes = c.one_bytes;
+  other_bytes = c.other_bytes;
   differ = c.differ;
   one_digest = c.one_digest;
 }

@@ -3,7 +3,7 @@ use Rattle.std.proofs.Common.{◌≡◌, ℕ, suc, zero, ◌-◌, ◌<◌, ◌�
 use Rattle.std.specs.Prelude.{map, drop, remove}
 use Rattle.std.proofs.lemmas.Bool.{cases_lt}
 use Rattle.tw_base.specs.history.Auth.{auth, auths, tree_label}
-use Rattle.tw_base.specs.kinds.Bytes.{AreBytes}
+use Rattle.tw_base.specs.kinds.Bytes.{AreBytes, HasBytes}
 use Rattle.tw_base.specs.events.EventTree.{audit_path, event_root, largest_power_below, left_half, right_half}
 use Rattle.tw_base.specs.history.History.{History}
 use Rattle.tw_base.specs.kinds.Lists.{Each}
@@ -15,7 +15,7 @@ use Rattle.tw_base.proofs.lemmas.events.EventTrees.{audit_path-left, audit_path-
 use Rattle.tw_base.proofs.lemmas.kinds.ListLemmas.{Each-append}
 
 abbrev pub IsDigest : List ℕ → Type 0
-IsDigest d = (length d ≡ 32) × AreBytes d
+IsDigest d = HasBytes 32 d
 
 pub Each-drop : {X : Type 0} (P : X → Type 0) (n : ℕ) (xs : List X) → Each P xs → Each P (drop n xs)
 Each-drop P zero xs all = all

@@ -1,7 +1,5 @@
 -- Digests have 32 bytes.
-use Rattle.std.proofs.Common.{◌≡◌, ℕ, suc, zero, List, [], ◌∷◌, length, ap, ◌∙◌}
-use Rattle.std.specs.Prelude.{map}
-use Rattle.tw_base.specs.kinds.Digests.{AllDigests}
+use Rattle.std.proofs.Common.{◌≡◌, ℕ, suc, zero, List, length, ap, ◌∙◌}
 use Rattle.tw_base.specs.history.History.{History}
 use Rattle.tw_base.specs.history.Tree.{Tree}
 use Rattle.tw_base.specs.history.Tree.Tree.{Empty, Branch}
@@ -9,10 +7,6 @@ use Rattle.tw_base.specs.history.Auth.{auth, auths, tree_label}
 use Rattle.tw_base.proofs.lemmas.history.Auths.{auth-suc}
 
 module _ (dig : List ℕ → List ℕ) (size : (text : List ℕ) → length (dig text) ≡ 32) where
-  pub AllDigests-map : (texts : List (List ℕ)) → AllDigests (map dig texts)
-  AllDigests-map [] = tt
-  AllDigests-map (text ∷ texts) = (size text, AllDigests-map texts)
-
   pub tree_label-size : (t : Tree) → length (tree_label dig t) ≡ 32
   unfolding tree_label
   tree_label-size Empty = size _

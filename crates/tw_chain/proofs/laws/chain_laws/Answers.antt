@@ -1,9 +1,11 @@
 use Rattle.tw_chain.proofs.Headline.{headline}
 use Rattle.tw_chain.proofs.HeldServices.{held-suffices}
+use Rattle.tw_chain.proofs.ProofTextBytes.{proof_texts-bytes}
 use Rattle.tw_chain.proofs.laws.chain_laws.Goals as goal
 
-pub returns-clause-headline : goal.returns-clause-headline
-returns-clause-headline g c = λ bytes p anchors. headline g.H.Hasher.dig g.met.H.Hasher.size anchors bytes p
-
-pub returns-clause-held_suffices : goal.returns-clause-held_suffices
-returns-clause-held_suffices g c = λ p anchors. held-suffices g.H.Hasher.dig anchors p
+pub returns : goal.returns
+returns g c = record {
+  headline = λ bytes p anchors. headline g.H.Hasher.dig g.met.H.Hasher.size g.met.H.Hasher.bytes anchors bytes p;
+  texts = proof_texts-bytes g.H.Hasher.dig g.met.H.Hasher.size g.met.H.Hasher.bytes;
+  held_suffices = λ p anchors. held-suffices g.H.Hasher.dig anchors p;
+}

@@ -4,30 +4,30 @@ use Rattle.tw_base.specs.history.Tree.{IsRising, entries}
 use Rattle.tw_rbnode.specs.declared.child.Child.{Child}
 use Rattle.tw_rbnode.specs.Trees.{woven}
 use Rattle.tw_rbtree.specs.Growing.{IsOver}
-use Rattle.tw_rbtree.specs.Standing.{AreTrees, IsTreeBelow}
+use Rattle.tw_rbtree.specs.Standing.{AreTrees, IsTreeBelow, HasNamed}
 use Rattle.tw_rbtree.proofs.RootGrowing.{root-stands}
-use Rattle.tw_rbtree.proofs.Staging.{put_behind, staged-tree}
+use Rattle.tw_rbtree.proofs.Staging.{above-named, put_behind, staged-tree}
 use Rattle.tw_rbtree.proofs.inserting.stage_single.Goals as goal
 
 pub returns-clause-lists : goal.returns-clause-lists
-returns-clause-lists g c = λ ps told ts are rising.
+returns-clause-lists g c = λ ps told named under ts are rising.
     let dig = g.H.Hasher.dig in
     let used = g.met.P.Pages.told_count c.args.pages.now ps told in
     let node = c.single-node in
     let ok = c.in_ok-stage_node in
     let put = ok.ensures.put in
-    let over : IsOver dig ps c.args.own 1 node.result (woven (map entries ts) (c.args.middle ∷ [])) = record {
+    let over : IsOver dig (HasNamed named) ps c.args.own 1 node.result (woven (map entries ts) (c.args.middle ∷ [])) = record {
       level_is = node.ensures.level;
       least_keys = omega (arith, ap length node.ensures.entries);
       trees = ts;
-      are_trees = subst (λ (cs : List Child). AreTrees (IsTreeBelow dig ps c.args.own) cs ts) (sym node.ensures.children) are;
+      are_trees = subst (λ (cs : List Child). AreTrees (IsTreeBelow dig (HasNamed named) ps c.args.own) cs ts) (sym node.ensures.children) are;
       lists = ap (woven (map entries ts)) node.ensures.entries;
     } in
-    let tree = staged-tree dig ps put.0 (g.P.Pages.used_count c.args.pages.now) c.args.own 1 node.result ok.field-0 (woven (map entries ts) (c.args.middle ∷ [])) used
+    let tree = staged-tree dig (HasNamed named) ps put.0 ((g.P.Pages.view c.args.pages.now).used) c.args.own 1 node.result ok.field-0 (woven (map entries ts) (c.args.middle ∷ [])) (above-named named _ under) used
     ok.ensures.staged put.1 ok.ensures.node node.ensures.kinds over in (
       ps ++ put.0 ∷ [],
       tree.0,
       put_behind _ ps put.0 _ told put.2,
-      root-stands dig (ps ++ put.0 ∷ []) c.args.own 1 ok.field-0 tree.0 c.root_of.result (omega arith) tree.1 (subst IsRising (sym tree.2) rising) c.root_of.ensures.page c.root_of.ensures.label,
+      root-stands dig (HasNamed named) (ps ++ put.0 ∷ []) c.args.own 1 ok.field-0 tree.0 c.root_of.result (omega arith) tree.1 (subst IsRising (sym tree.2) rising) c.root_of.ensures.page c.root_of.ensures.label,
       tree.2,
     )

@@ -1,8 +1,19 @@
+use Rattle.std.proofs.Common.{◌≡◌, ℕ, ◌<◌, true, inl, inr, ◌⊎◌}
+use Rattle.std.specs.Prelude.{◌==◌, ◌||◌, nat_lt}
+use Rattle.tw_rbtree.specs.Standing.{HasNamed, any_page}
+use Rattle.tw_rbtree.proofs.ListLaws.{listed-none}
 use Rattle.tw_rbtree.proofs.Plantings.{root-plants}
 use Rattle.tw_rbtree.proofs.laws.listing_laws.Goals as goal
 
+older : (page since : ℕ) → (page ≡ 0) ⊎ (page < since) → ((page == 0) || nat_lt page since) ≡ true
+older page since (inl none) = grind arith
+older page since (inr below) = grind arith
+
 pub returns : goal.returns
 returns g c = record {
-  fresh = λ ps at root t since reads stands some new.
-      let p = root-plants g.H.Hasher.dig ps at root t since reads stands some new in (p.nodes, p.trees, p.found_is, p.are, p.last.0, p.last.1);
+  fresh = λ ps root t since stands some new.
+      let p = root-plants g.H.Hasher.dig any_page ps root t since stands some new in (p.nodes, p.trees, p.found_is, p.are, p.last.0, p.last.1);
+  named = λ ps named root t since stands some new.
+      let p = root-plants g.H.Hasher.dig (HasNamed named) ps root t since stands some new in (p.nodes, p.trees, p.found_is, p.are, p.last.0, p.last.1);
+  none = λ ps root since old. listed-none g.H.Hasher.dig ps since root (older root.page since old);
 }

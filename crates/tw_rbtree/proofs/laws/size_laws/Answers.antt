@@ -2,7 +2,6 @@ use Rattle.std.proofs.Common.{◌*◌, ◌≤◌, List, length, sym, ◌∙◌, 
 use Rattle.tw_base.specs.declared.history.tree_proof.Ancestor.{Ancestor}
 use Rattle.tw_treeproof.specs.Making.{place_of, way_up}
 use Rattle.tw_treeproof.proofs.OwnProofs.{at-ancestors}
-use Rattle.tw_rbtree.proofs.Readings.{reading}
 use Rattle.tw_rbtree.proofs.RootWays.{root-way}
 use Rattle.tw_rbtree.proofs.laws.size_laws.Goals as goal
 
@@ -10,7 +9,7 @@ pub returns : goal.returns
 returns g c = record {
   size = λ ps root t ask stands.
       let dig = g.H.Hasher.dig in
-      let w = root-way dig ps (reading dig ps).0 (reading dig ps).1 ask root t stands in
+      let w = root-way dig ps ask root t stands in
       let same = w.up ∙ sym (at-ancestors dig (place_of ask t) (way_up dig ask t)) in
       (w.levels, subst (λ (xs : List Ancestor). length xs ≤ 9 * w.levels) same w.few, w.many);
 }

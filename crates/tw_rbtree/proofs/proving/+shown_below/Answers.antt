@@ -7,7 +7,6 @@ use Rattle.tw_rbnode.specs.Answers.{IsThere}
 use Rattle.tw_rbnode.specs.Page.{TreePage}
 use Rattle.tw_rbnode.specs.Trees.{nodes_above}
 use Rattle.tw_rbtree.specs.declared.seeking.Sought.{Sought}
-use Rattle.tw_rbtree.specs.Answers.{IsWalkFaultOf}
 use Rattle.tw_rbtree.specs.FaultWords.{tree_fault}
 use Rattle.tw_rbtree.specs.Reading.{child_in}
 use Rattle.tw_rbtree.specs.Showing.{AnswersShown}
@@ -16,6 +15,8 @@ use Rattle.tw_rbtree.proofs.FoundLaws.{as_tree_fault}
 use Rattle.tw_rbtree.proofs.ShowLaws.{end-shown, shown-bad, shown-fault, shown-passed, shown-up, sought-there, walk-shown}
 use Rattle.tw_rbtree.proofs.WayLaws.{child_page-get, way-at, way-leaf}
 use Rattle.tw_rbtree.proofs.proving.+shown_below.Goals as goal
+use Rattle.tw_disk.specs.Answers.{SaysOf}
+use Rattle.tw_disk.specs.WalkFaults.{walk_faults}
 
 pub end_in-requires : goal.end_in-requires
 end_in-requires g t c = sought-there c.args.ask.now c.args.low.now c.args.high.now c.args.node.now.entries c.seek-here.result c.seek-here.ensures
@@ -32,32 +33,32 @@ child_at-page-requires g t c =
     subst (IsThere c.args.node.now.entries) c.in-Between.is (sought-there c.args.ask.now c.args.low.now c.args.high.now c.args.node.now.entries c.seek-here.result c.seek-here.ensures) in there
 
 pub returns-in_default-clause-answer : goal.returns-in_default-clause-answer
-returns-in_default-clause-answer g t c = λ ps told at reads.
+returns-in_default-clause-answer g t c = λ ps told.
     let p = c.args.node.now in
     let ask = c.args.ask.now in
     let low = c.args.low.now in
     let high = c.args.high.now in
     let stop : Stop = record { page = p; sought = c.seek-here.result } in
     let same : c.seek-here.result ≡ seek ask 0 low high p.entries = c.seek-here.ensures in
-    let found = way-at at ask low high p p.level c.in_default.field-0 (ap (λ (s : Sought). s.at) (sym same) ∙ c.in_default.is)
+    let found = way-at g.H.Hasher.dig ps ask low high p p.level c.in_default.field-0 (ap (λ (s : Sought). s.at) (sym same) ∙ c.in_default.is)
     ∙ (λ i. let stops : Found (List Stop) = Is ((record { page = p; sought = sym same i }) ∷ []) in stops) in
-    end-shown g.H.Hasher.dig ask c.end_in.result stop (way_from at ask p.level low high p) found c.end_in.ensures.so c.end_in.ensures.ancestors c.end_in.ensures.sides c.end_in.ensures.untrue
+    end-shown g.H.Hasher.dig ask c.end_in.result stop (way_from g.H.Hasher.dig ps ask p.level low high p) found c.end_in.ensures.so c.end_in.ensures.ancestors c.end_in.ensures.sides c.end_in.ensures.untrue
 
 pub returns-then-level-eq0-clause-answer : goal.returns-then-level-eq0-clause-answer
-returns-then-level-eq0-clause-answer g t c = λ ps told at reads.
+returns-then-level-eq0-clause-answer g t c = λ ps told.
     let p = c.args.node.now in
     let ask = c.args.ask.now in
     let low = c.args.low.now in
     let high = c.args.high.now in
     let stop : Stop = record { page = p; sought = c.seek-here.result } in
     let same : c.seek-here.result ≡ seek ask 0 low high p.entries = c.seek-here.ensures in
-    let found = way-leaf at ask low high p p.level (omega (arith, c.if-level-eq0.true, c.level.ensures))
+    let found = way-leaf g.H.Hasher.dig ps ask low high p p.level (omega (arith, c.if-level-eq0.true, c.level.ensures))
     ∙ (λ i. let stops : Found (List Stop) = Is ((record { page = p; sought = sym same i }) ∷ []) in stops) in
     let end = c.end_in-then-level-eq0 in
-    end-shown g.H.Hasher.dig ask end.result stop (way_from at ask p.level low high p) found end.ensures.so end.ensures.ancestors end.ensures.sides end.ensures.untrue
+    end-shown g.H.Hasher.dig ask end.result stop (way_from g.H.Hasher.dig ps ask p.level low high p) found end.ensures.so end.ensures.ancestors end.ensures.sides end.ensures.untrue
 
 pub returns-in_err-child-clause-answer : goal.returns-in_err-child-clause-answer
-returns-in_err-child-clause-answer g t c = λ ps told at reads.
+returns-in_err-child-clause-answer g t c = λ ps told.
     let dig = g.H.Hasher.dig in
     let p = c.args.node.now in
     let ask = c.args.ask.now in
@@ -72,14 +73,14 @@ returns-in_err-child-clause-answer g t c = λ ps told at reads.
     let page : child_page p place ≡ c.child_at-page.result.page = child_page-get p place c.child_at-page.result c.child_at-page.ensures in
     let lower : c.level-2.result - 1 ≡ below = ap (λ (n : ℕ). n - 1) c.level-2.ensures in
     let fault = c.in_err-child.field-0.0 in
-    let told_as : child_in at (c.level-2.result - 1) c.seek-here.result.low c.seek-here.result.high c.child_at-page.result.page ≡ child_in at below own.low own.high (child_page p place) =
-    λ i. child_in at (lower i) (same i).low (same i).high (sym page i) in
-    let bad : IsWalkFaultOf fault (child_in at below own.low own.high (child_page p place)) = subst (λ (f : Found TreePage). IsWalkFaultOf fault f) told_as (c.in_err-child.ensures.answer ps told at reads) in
-    shown-passed dig ask c.from_residual.result (tree_fault fault) (way_from at ask p.level low high p) c.from_residual.ensures.1
-    (walk-shown dig ask fault _ (shown-bad dig ask at low high p p.level below place deeper spot (tree_fault fault) (as_tree_fault fault _ bad)))
+    let told_as : child_in g.H.Hasher.dig ps (c.level-2.result - 1) c.seek-here.result.low c.seek-here.result.high c.child_at-page.result.page ≡ child_in g.H.Hasher.dig ps below own.low own.high (child_page p place) =
+    λ i. child_in g.H.Hasher.dig ps (lower i) (same i).low (same i).high (sym page i) in
+    let bad : SaysOf walk_faults (walk_faults fault) (child_in g.H.Hasher.dig ps below own.low own.high (child_page p place)) = subst (λ (f : Found TreePage). SaysOf walk_faults (walk_faults fault) f) told_as (c.in_err-child.ensures.reads.answer ps told) in
+    shown-passed dig ask c.from_residual.result (tree_fault fault) (way_from g.H.Hasher.dig ps ask p.level low high p) c.from_residual.ensures.1
+    (walk-shown dig ask fault _ (shown-bad dig ask ps low high p p.level below place deeper spot (tree_fault fault) (as_tree_fault fault _ bad)))
 
 pub returns-in_err-shown-clause-answer : goal.returns-in_err-shown-clause-answer
-returns-in_err-shown-clause-answer g t c = λ ps told at reads.
+returns-in_err-shown-clause-answer g t c = λ ps told.
     let dig = g.H.Hasher.dig in
     let p = c.args.node.now in
     let ask = c.args.ask.now in
@@ -94,19 +95,19 @@ returns-in_err-shown-clause-answer g t c = λ ps told at reads.
     let deeper : p.level ≡ suc below = omega (arith, c.if-level-eq0.false, c.level.ensures) in
     let page : child_page p place ≡ c.child_at-page.result.page = child_page-get p place c.child_at-page.result c.child_at-page.ensures in
     let lower : c.level-2.result - 1 ≡ below = ap (λ (n : ℕ). n - 1) c.level-2.ensures in
-    let told_as : child_in at (c.level-2.result - 1) c.seek-here.result.low c.seek-here.result.high c.child_at-page.result.page ≡ child_in at below own.low own.high (child_page p place) =
-    λ i. child_in at (lower i) (same i).low (same i).high (sym page i) in
-    let found = sym told_as ∙ c.in_ok-child.ensures.answer ps told at reads in
+    let told_as : child_in g.H.Hasher.dig ps (c.level-2.result - 1) c.seek-here.result.low c.seek-here.result.high c.child_at-page.result.page ≡ child_in g.H.Hasher.dig ps below own.low own.high (child_page p place) =
+    λ i. child_in g.H.Hasher.dig ps (lower i) (same i).low (same i).high (sym page i) in
+    let found = sym told_as ∙ c.in_ok-child.ensures.reads.answer ps told in
     let level_is : q.level ≡ below = c.in_ok-child.ensures.level ∙ lower in
     let fault = c.in_err-shown.field-0.0 in
-    let answer = c.in_err-shown.ensures.answer ps (c.in_ok-child.ensures.kept.list_kept ∙ told) at reads in
-    let moved = subst (λ (n : ℕ). AnswersShown dig ask (Err fault) (way_from at ask n own.low own.high q)) level_is
-    (subst (λ (s : Sought). AnswersShown dig ask (Err fault) (way_from at ask q.level s.low s.high q)) same answer) in
-    shown-passed dig ask c.from_residual-in_err-shown.result fault (way_from at ask p.level low high p) c.from_residual-in_err-shown.ensures.1
-    (shown-fault dig ask at low high p p.level below place deeper spot q found fault moved)
+    let answer = c.in_err-shown.ensures.answer ps (c.in_ok-child.ensures.reads.kept.list_kept ∙ told) in
+    let moved = subst (λ (n : ℕ). AnswersShown dig ask (Err fault) (way_from g.H.Hasher.dig ps ask n own.low own.high q)) level_is
+    (subst (λ (s : Sought). AnswersShown dig ask (Err fault) (way_from g.H.Hasher.dig ps ask q.level s.low s.high q)) same answer) in
+    shown-passed dig ask c.from_residual-in_err-shown.result fault (way_from g.H.Hasher.dig ps ask p.level low high p) c.from_residual-in_err-shown.ensures.1
+    (shown-fault dig ask ps low high p p.level below place deeper spot q found fault moved)
 
 pub returns-clause-answer : goal.returns-clause-answer
-returns-clause-answer g t c = λ ps told at reads.
+returns-clause-answer g t c = λ ps told.
     let dig = g.H.Hasher.dig in
     let p = c.args.node.now in
     let ask = c.args.ask.now in
@@ -121,14 +122,14 @@ returns-clause-answer g t c = λ ps told at reads.
     let deeper : p.level ≡ suc below = omega (arith, c.if-level-eq0.false, c.level.ensures) in
     let page : child_page p place ≡ c.child_at-page.result.page = child_page-get p place c.child_at-page.result c.child_at-page.ensures in
     let lower : c.level-2.result - 1 ≡ below = ap (λ (n : ℕ). n - 1) c.level-2.ensures in
-    let told_as : child_in at (c.level-2.result - 1) c.seek-here.result.low c.seek-here.result.high c.child_at-page.result.page ≡ child_in at below own.low own.high (child_page p place) =
-    λ i. child_in at (lower i) (same i).low (same i).high (sym page i) in
-    let found = sym told_as ∙ c.in_ok-child.ensures.answer ps told at reads in
+    let told_as : child_in g.H.Hasher.dig ps (c.level-2.result - 1) c.seek-here.result.low c.seek-here.result.high c.child_at-page.result.page ≡ child_in g.H.Hasher.dig ps below own.low own.high (child_page p place) =
+    λ i. child_in g.H.Hasher.dig ps (lower i) (same i).low (same i).high (sym page i) in
+    let found = sym told_as ∙ c.in_ok-child.ensures.reads.answer ps told in
     let level_is : q.level ≡ below = c.in_ok-child.ensures.level ∙ lower in
     let old = c.in_ok-shown.shown in
     let new = c.in_ok-with_way.field-0 in
-    let answer = c.in_ok-shown.ensures.answer ps (c.in_ok-child.ensures.kept.list_kept ∙ told) at reads in
-    let moved = subst (λ (n : ℕ). AnswersShown dig ask (Ok old) (way_from at ask n own.low own.high q)) level_is
-    (subst (λ (s : Sought). AnswersShown dig ask (Ok old) (way_from at ask q.level s.low s.high q)) same answer) in
-    shown-up dig ask at low high p p.level below place deeper spot q found old new moved
+    let answer = c.in_ok-shown.ensures.answer ps (c.in_ok-child.ensures.reads.kept.list_kept ∙ told) in
+    let moved = subst (λ (n : ℕ). AnswersShown dig ask (Ok old) (way_from g.H.Hasher.dig ps ask n own.low own.high q)) level_is
+    (subst (λ (s : Sought). AnswersShown dig ask (Ok old) (way_from g.H.Hasher.dig ps ask q.level s.low s.high q)) same answer) in
+    shown-up dig ask ps low high p p.level below place deeper spot q found old new moved
     (c.in_ok-with_way.ensures.ancestors ∙ ap (λ (s : Sought). old.ancestors ++ nodes_above dig p s.at) same) c.in_ok-with_way.ensures.sides

@@ -4,12 +4,11 @@ use Rattle.tw_base.proofs.lemmas.format.PageLaws.{takes-page}
 use Rattle.tw_skiplist.specs.declared.fields.StepFields.{StepFields}
 use Rattle.tw_skiplist.specs.declared.head.StepRef.{StepRef}
 use Rattle.tw_skiplist.specs.declared.page.StepPage.{StepPage}
-use Rattle.tw_disk.specs.Found.{Found, when, ◌>>=◌}
-use Rattle.tw_skiplist.specs.Found.{spelled}
+use Rattle.tw_disk.specs.Found.{Found, when, ◌>>=◌, spelled}
 use Rattle.tw_skiplist.specs.StepBytes.{step_codec}
 use Rattle.tw_skiplist.specs.StepPages.{keeps_field_rules, keeps_link_rules, step_in}
 use Rattle.tw_disk.proofs.FoundLaws.{is_on}
-use Rattle.tw_skiplist.proofs.FoundLaws.{page-is, page-none}
+use Rattle.tw_disk.proofs.SpelledLaws.{page-is, page-none}
 use Rattle.tw_skiplist.proofs.StepCodecs.{links-count, step-lawful}
 use Rattle.tw_skiplist.proofs.page.read_step_page.Goals as goal
 

@@ -7,7 +7,7 @@ use Rattle.tw_skiplist.specs.declared.limits.TheConstants.{MOST_PIECE_BYTES}
 
 pub loop-count-init : goal.loop-count-init
 loop-count-init g c = record {
-  list = option_same (g.P.Pages.list c.args.pages.now) (event_pages c.args.step c.args.stream.now 0) (event_pages-first c.args.step c.args.stream.now);
+  list = option_same (g.P.Pages.view c.args.pages.now).list (event_pages c.args.step c.args.stream.now 0) (event_pages-first c.args.step c.args.stream.now);
   needed = λ number l. absurd (omega arith);
   used = omega arith;
   few = omega arith;
@@ -22,8 +22,8 @@ loop-count-preserved g c =
     let count = c.loop-count.count in
     record {
       list = c.in_ok-stage.ensures.list
-          ∙ option_more (g.P.Pages.list c.args.pages.now) (g.P.Pages.list c.loop-count.pages) (event_pages c.args.step c.args.stream.now count) c.piece_page.result inv.list
-          ∙ option_ap (g.P.Pages.list c.args.pages.now) (ap (λ (p : List ℕ). event_pages c.args.step c.args.stream.now count ++ p ∷ []) c.piece_page.ensures ∙ sym (event_pages-more c.args.step c.args.stream.now count));
+          ∙ option_more (g.P.Pages.view c.args.pages.now).list (g.P.Pages.view c.loop-count.pages).list (event_pages c.args.step c.args.stream.now count) c.piece_page.result inv.list
+          ∙ option_ap (g.P.Pages.view c.args.pages.now).list (ap (λ (p : List ℕ). event_pages c.args.step c.args.stream.now count ++ p ∷ []) c.piece_page.ensures ∙ sym (event_pages-more c.args.step c.args.stream.now count));
       needed = λ number l. elim (cases_lt number count) [
         | inl less ↦ inv.needed number less
         | inr more ↦ (let e : count ≡ number = omega (arith, l, more) in subst (λ (k : ℕ). MOST_PIECE_BYTES * k < length c.args.stream.now) e (omega (arith, c.loop-count-test.true)))

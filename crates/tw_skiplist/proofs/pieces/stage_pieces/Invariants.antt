@@ -6,13 +6,13 @@ use Rattle.tw_skiplist.specs.declared.limits.TheConstants.{MOST_PIECE_BYTES}
 
 abbrev pub invariant-loop-count : goal.invariant-loop-count
 invariant-loop-count g l = record {
-  list : g.P.Pages.list l.pages ≡ option_map (λ ps. ps ++ event_pages l.step l.stream l.count) (g.P.Pages.list l.initial.pages);
+  list : (g.P.Pages.view l.pages).list ≡ option_map (λ ps. ps ++ event_pages l.step l.stream l.count) (g.P.Pages.view l.initial.pages).list;
   needed : (number : ℕ) → number < l.count → MOST_PIECE_BYTES * number < length l.stream;
-  used : g.P.Pages.used_count l.pages ≡ g.P.Pages.used_count l.initial.pages + l.count;
+  used : (g.P.Pages.view l.pages).used ≡ (g.P.Pages.view l.initial.pages).used + l.count;
   few : l.count ≤ 18;
   same : g.P.Pages.same l.initial.pages l.pages;
-  unbroken : g.P.Pages.unbroken l.initial.pages → g.P.Pages.unbroken l.pages;
-  faults : g.P.Pages.faults l.pages ≡ g.P.Pages.faults l.initial.pages;
+  unbroken : (g.P.Pages.view l.initial.pages).unbroken → (g.P.Pages.view l.pages).unbroken;
+  faults : (g.P.Pages.view l.pages).faults ≡ (g.P.Pages.view l.initial.pages).faults;
 }
 
 abbrev pub decreases-loop-count : goal.decreases-loop-count

@@ -3,7 +3,7 @@ use Rattle.std.specs.Prelude.{is_some}
 use Rattle.tw_base.specs.history.Asking.{entry_with}
 use Rattle.tw_base.specs.history.Tree.{entries}
 use Rattle.tw_tree.specs.TreeMeaning.{tree_of}
-use Rattle.tw_tree.proofs.Leaves.{has-leaf, none_is, some_is}
+use Rattle.tw_base.proofs.lemmas.history.Leaves.{has-leaf, none_is, some_is}
 use Rattle.tw_tree.proofs.inserting.insert_plain.Goals as goal
 
 pub returns-then-is_some : goal.returns-then-is_some

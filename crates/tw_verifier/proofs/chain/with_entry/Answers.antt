@@ -2,7 +2,7 @@ use Rattle.std.proofs.Common.{[], ◌∙◌}
 use Rattle.std.specs.Prelude.{false}
 use Rattle.tw_base.specs.declared.history.tree_proof.Ask.TheVariants.{Present}
 use Rattle.tw_chain.specs.Checks.Check.{AnswerOf}
-use Rattle.tw_verifier.proofs.FoundSteps.{found-one}
+use Rattle.tw_chain.proofs.FoundSteps.{found-one}
 use Rattle.tw_verifier.proofs.NoRoot.{no-root}
 use Rattle.tw_verifier.proofs.chain.with_entry.Goals as goal
 

@@ -1,7 +1,7 @@
 use Rattle.std.proofs.Common.{◌∙◌}
 use Rattle.tw_chain.specs.Checks.Check.{EventOf, InOrder, PathOf}
 use Rattle.tw_chain.specs.Checks.Upper.{Known}
-use Rattle.tw_verifier.proofs.FoundSteps.{found-three}
+use Rattle.tw_chain.proofs.FoundSteps.{found-three}
 use Rattle.tw_verifier.proofs.chain.with_first.Goals as goal
 
 pub returns : goal.returns

@@ -2,7 +2,7 @@ use Rattle.std.proofs.Common.{◌∙◌}
 use Rattle.tw_base.specs.declared.history.tree_proof.Ask.TheVariants.{Present}
 use Rattle.tw_chain.specs.Checks.{bind_checks, opening_checks, root_of}
 use Rattle.tw_chain.specs.Checks.Check.{AnswerOf, InOrder}
-use Rattle.tw_verifier.proofs.FoundSteps.{found-four}
+use Rattle.tw_chain.proofs.FoundSteps.{found-four}
 use Rattle.tw_verifier.proofs.chain.with_hop_checks.Goals as goal
 
 pub returns : goal.returns

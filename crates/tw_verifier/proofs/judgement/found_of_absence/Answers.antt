@@ -3,7 +3,7 @@ use Rattle.std.specs.Prelude.{None}
 use Rattle.tw_base.specs.declared.history.tree_proof.Ask.TheVariants.{Absent}
 use Rattle.tw_chain.specs.Checks.{Check, under_anchor}
 use Rattle.tw_chain.specs.Checks.Check.{AnswerOf}
-use Rattle.tw_verifier.proofs.FoundSteps.{found-onto}
+use Rattle.tw_chain.proofs.FoundSteps.{found-onto}
 use Rattle.tw_verifier.proofs.judgement.found_of_absence.Goals as goal
 
 pub returns : goal.returns

@@ -1,6 +1,7 @@
-use Rattle.tw_base.proofs.lemmas.events.AuditPaths.{AllDigests-audit_path, length-audit_path, path_length-le}
+use Rattle.tw_base.proofs.lemmas.events.AuditPaths.{length-audit_path, path_length-le}
 use Rattle.tw_base.proofs.lemmas.events.AuditShown.{ChecksEvent-audit_path}
 use Rattle.tw_base.proofs.lemmas.events.EventTrees.{audit_path-left, audit_path-one, audit_path-right}
+use Rattle.tw_base.proofs.lemmas.kinds.DigestBytes.{audit_path-digests}
 use Rattle.tw_base.proofs.events.event_tree.audit_path_laws.Goals as goal
 
 pub returns-clause-one : goal.returns-clause-one
@@ -19,7 +20,7 @@ pub returns-clause-few : goal.returns-clause-few
 returns-clause-few g c = path_length-le
 
 pub returns-clause-digests : goal.returns-clause-digests
-returns-clause-digests g c = AllDigests-audit_path g.H.Hasher.dig g.met.H.Hasher.size
+returns-clause-digests g c = audit_path-digests g.H.Hasher.dig g.met.H.Hasher.size g.met.H.Hasher.bytes
 
 pub returns-clause-checks : goal.returns-clause-checks
 returns-clause-checks g c = ChecksEvent-audit_path g.H.Hasher.dig

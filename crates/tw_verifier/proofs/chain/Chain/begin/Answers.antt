@@ -1,11 +1,10 @@
 use Rattle.std.proofs.Common.{◌≡◌, ◌-◌, List, [], ◌∷◌, ◌++◌, ◌∙◌, refl, subst}
 use Rattle.std.specs.Prelude.{None}
 use Rattle.tw_base.specs.declared.history.thread.Thread.{Thread}
-use Rattle.tw_verifier.specs.Chaining.{found_with}
+use Rattle.tw_chain.specs.Finding.{found_in, found_with}
 use Rattle.tw_chain.specs.Checks.{Check, opening_checks, under_anchor}
 use Rattle.tw_chain.specs.Checks.Check.{EventOf}
-use Rattle.tw_verifier.specs.Judgements.{found_in}
-use Rattle.tw_verifier.proofs.FoundSteps.{found-onto}
+use Rattle.tw_chain.proofs.FoundSteps.{found-onto}
 use Rattle.tw_verifier.proofs.chain.Chain.begin.Goals as goal
 
 pub returns : goal.returns

@@ -3,8 +3,8 @@ use Rattle.std.specs.Prelude.{None}
 use Rattle.tw_chain.specs.declared.proof.Proof.TheVariants.{Exists}
 use Rattle.tw_chain.specs.Checks.{Check, checks, under_anchor}
 use Rattle.tw_chain.specs.Checks.Check.{EventOf}
-use Rattle.tw_verifier.specs.Judgements.{found_in}
-use Rattle.tw_verifier.proofs.FoundSteps.{found-onto}
+use Rattle.tw_chain.specs.Finding.{found_in}
+use Rattle.tw_chain.proofs.FoundSteps.{found-onto}
 use Rattle.tw_verifier.proofs.judgement.Judgement.of_event.Goals as goal
 
 pub returns : goal.returns

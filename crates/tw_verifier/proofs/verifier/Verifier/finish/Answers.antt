@@ -20,7 +20,7 @@ returns-in-Ok-clause-verdict g c = λ anchors strict pieces is.
 
 pub returns-in-Ok-clause-binds : goal.returns-in-Ok-clause-binds
 returns-in-Ok-clause-binds g c = λ anchors strict pieces is.
-    verdict-binds g.H.Hasher.dig g.met.H.Hasher.size anchors strict pieces c.verdict.result (returns-in-Ok-clause-verdict g c anchors strict pieces is)
+    verdict-binds g.H.Hasher.dig g.met.H.Hasher.size g.met.H.Hasher.bytes anchors strict pieces c.verdict.result (returns-in-Ok-clause-verdict g c anchors strict pieces is)
 
 pub returns-in-Err-Malformed-clause-verdict : goal.returns-in-Err-Malformed-clause-verdict
 returns-in-Err-Malformed-clause-verdict g c = λ anchors strict pieces is.

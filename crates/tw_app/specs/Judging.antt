@@ -1,0 +1,25 @@
+-- Runs that judge a proof, where the inputs tell the bytes of both files.
+use Rattle.std.specs.Prelude.{◌≡◌, ℕ, List, Bool, true, false, Some}
+use Rattle.tw_base.specs.kinds.Faults.{Rose}
+use Rattle.tw_outside.specs.Files.{Tells}
+use Rattle.tw_text.specs.CommandLine.{command_of}
+use Rattle.tw_text.specs.declared.command.Command.{Command}
+use Rattle.tw_text.specs.declared.command.Command.TheVariants.{VerifyFile, Strict}
+use Rattle.tw_app.specs.Around.{Around}
+
+-- the command that judges a proof under the anchors of a file, in the form that allows carried threads, or in the strict one
+abbrev pub judging : (strict : Bool) (proof_file file : List ℕ) → Command
+judging false proof_file file = VerifyFile proof_file file
+judging true proof_file file = Strict proof_file file
+
+-- the words are of that command, and these are the bytes of both files
+pub record Judges {D : Type 0} (a : Around D) (strict : Bool) (file proof anchors : List ℕ) : Type 0 where
+  pub proof_file : List ℕ
+  pub is_command : command_of a.words ≡ Some (judging strict proof_file file)
+  pub proof_told : Tells a.outside.inputs.told proof_file proof
+  pub anchors_told : Tells a.outside.inputs.told file anchors
+
+-- neither the inputs nor the sink failed
+pub record NoneFailed {D : Type 0} (a : Around D) : Type 0 where
+  pub inputs : Rose a.outside.inputs.before a.outside.inputs.after → ⊥
+  pub sink : Rose a.sink_faults.before a.sink_faults.after → ⊥

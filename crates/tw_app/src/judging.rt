@@ -1,0 +1,20 @@
+// A run of `verify` or `strict` tells what is told of the bytes of its files.
+
+ghost use Rattle.std.specs.Prelude.{ℕ, List, Bool};
+ghost use Rattle.tw_judge.specs.Told.{IsTold};
+ghost use Rattle.tw_app.specs.Around.{Around, Writes};
+ghost use Rattle.tw_app.specs.Judging.{Judges, NoneFailed};
+ghost use Rattle.tw_app.specs.Running.{Ends, IsUntouched};
+
+use tw_disk::Disk;
+
+/// What is told of a proof by the bytes of its file and of the anchors file is what a run tells that judges it.
+pub fn judging_laws<D: Disk>()
+    // A run of `verify` or `strict` over files whose bytes are told, whose inputs and sink didn't fail, ends with a status
+    // and a text, written whole, that are told of these bytes under the anchors file's name.
+    ensures told { (a : Around D) (strict : Bool) (file proof anchors : List ℕ) (status : ℕ) → Judges a strict file proof anchors → NoneFailed a
+        → Ends D.view a status → (text : List ℕ) × IsTold file strict proof anchors status text × Writes a text }
+    // And each status and text that are told of these bytes are those with which such a run may end.
+    ensures ends { (a : Around D) (strict : Bool) (file proof anchors : List ℕ) (status : ℕ) (text : List ℕ) → Judges a strict file proof anchors
+        → IsUntouched D.view a.outside → IsTold file strict proof anchors status text → Writes a text → Ends D.view a status }
+{}

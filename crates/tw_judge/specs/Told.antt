@@ -1,0 +1,51 @@
+-- With which status and text the bytes of a proof are judged under the bytes of an anchors file.
+use Rattle.std.specs.Prelude.{◌≡◌, ◌⊎◌, ℕ, List, map, Bool}
+use Rattle.sha2.specs.Sha256.{sha256}
+use Rattle.tw_chain.specs.declared.verdict.Verdict.{Verdict}
+use Rattle.tw_chain.specs.declared.verdict.Verdict.TheVariants.{Yes, No}
+use Rattle.tw_chain.specs.Binding.{BindsHistories}
+use Rattle.tw_chain.specs.Reasons.{IsVerdict}
+use Rattle.tw_msg.specs.AnchorsFile.{AllGood, IsFirstBadLine, anchor, lines}
+use Rattle.tw_text.specs.declared.fault.CommandFault.{CommandFault}
+use Rattle.tw_text.specs.declared.fault.CommandFault.TheVariants.{NoMemory, Unreadable}
+use Rattle.tw_text.specs.declared.refusal.BadInput.TheVariants.{BadLine}
+use Rattle.tw_text.specs.Faults.{fault_status, fault_text}
+use Rattle.tw_text.specs.Reports.{rejected_text, report_text}
+
+abbrev pub verdict_status : Verdict → ℕ
+verdict_status (Yes report) = 0
+verdict_status (No reason) = 1
+
+abbrev pub verdict_text : Verdict → List ℕ
+verdict_text (Yes report) = report_text report
+verdict_text (No reason) = rejected_text reason
+
+-- each line of the anchors is good, and this is the verdict on the proof under their anchors, with its theorem
+pub record IsJudged (strict : Bool) (proof anchors : List ℕ) (verdict : Verdict) : Type 0 where
+  pub good : AllGood (lines anchors)
+  pub is_verdict : IsVerdict sha256 (map anchor (lines anchors)) strict proof verdict
+  pub binds : BindsHistories sha256 (map anchor (lines anchors)) proof verdict
+
+-- why there is no verdict: the first bad line of the anchors, which the text names by their file; or want of memory, which is free
+abbrev pub IsUnjudged : (file anchors : List ℕ) → CommandFault → Type 0
+IsUnjudged file anchors (Unreadable (BadLine named number)) = (named ≡ file) × IsFirstBadLine (lines anchors) number
+IsUnjudged file anchors NoMemory = Unit {0}
+IsUnjudged file anchors _ = ⊥
+
+-- the status and the text of the verdict
+pub record TellsVerdict (strict : Bool) (proof anchors : List ℕ) (status : ℕ) (text : List ℕ) : Type 0 where
+  pub verdict : Verdict
+  pub judged : IsJudged strict proof anchors verdict
+  pub status_is : status ≡ verdict_status verdict
+  pub text_is : text ≡ verdict_text verdict
+
+-- those of why there is none
+pub record TellsFault (file anchors : List ℕ) (status : ℕ) (text : List ℕ) : Type 0 where
+  pub fault : CommandFault
+  pub unjudged : IsUnjudged file anchors fault
+  pub status_is : status ≡ fault_status fault
+  pub text_is : text ≡ fault_text fault
+
+-- what is told of a proof under the anchors of a file of that name, in the form that allows carried threads, or in the strict one
+abbrev pub IsTold : (file : List ℕ) (strict : Bool) (proof anchors : List ℕ) → (status : ℕ) (text : List ℕ) → Type 0
+IsTold file strict proof anchors status text = TellsVerdict strict proof anchors status text ⊎ TellsFault file anchors status text

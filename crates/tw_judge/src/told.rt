@@ -1,0 +1,84 @@
+// What is told of a proof.
+
+ghost use Rattle.std.specs.Prelude.{◌≡◌, IfOk};
+ghost use Rattle.tw_judge.specs.Told.{IsTold, verdict_status, verdict_text};
+ghost use Rattle.tw_text.specs.declared.fault.CommandFault.TheVariants.{Unreadable};
+ghost use Rattle.tw_text.specs.declared.refusal.BadInput.TheVariants.{BadLine};
+
+use std::alloc::Global;
+use tw_base::{Bytes, NoMemory, Sha};
+use tw_chain::Verdict;
+use tw_msg::{AnchorFault, read_anchors};
+use tw_text::{BadInput, CommandFault, fault_status, print_fault, print_rejected, print_report};
+use tw_verifier::verify;
+
+/// A status of the program, 0, 1 or 9, with its text.
+#[derive(Drop, Debug)]
+pub struct Told {
+    pub status: u8,
+    pub text: Bytes,
+}
+
+/// Judges the bytes of a proof under those of an anchors file of this name; the strict form allows no
+/// carried thread. The status and the text are those of the program's `verify` and `strict`: 0 with the
+/// report, 1 with the lowest reason that stands, 9 with the first bad line of the anchors, which is told
+/// by the file's name. `NoMemory` where no memory was left, for which the program ends with 6 and the
+/// line `no memory`.
+pub fn judge(
+    alloc: Global,
+    file: &str,
+    proof: &[u8],
+    anchors: &[u8],
+    strict: bool,
+) -> Result<Told, NoMemory>
+    // What is told of a proof is the status and the text of the verdict on its bytes in that form under the anchors of the
+    // lines, with the verdict's theorem, where each line is good; else those of the first bad line.
+    ensures { IfOk result (λ told. IsTold file.now strict proof.now anchors.now told.status told.text) }
+{
+    match read_anchors(alloc, anchors) {
+        Ok(held) => {
+            let verdict = verify::<Sha>(alloc, proof, held.as_slice(), strict)?;
+            let text = print_verdict(alloc, &verdict)?;
+            Ok(Told {
+                status: status_of(&verdict),
+                text,
+            })
+        }
+        Err(AnchorFault::BadLine { line }) => {
+            let fault = bad_line(alloc, file, line)?;
+            Ok(Told {
+                status: fault_status(&fault),
+                text: print_fault(alloc, &fault)?,
+            })
+        }
+        Err(AnchorFault::NoMemory) => Err(NoMemory),
+    }
+}
+
+/// The status of a verdict.
+fn status_of(verdict: &Verdict) -> u8
+    ensures { result ≡ verdict_status verdict.now }
+{
+    match verdict {
+        Verdict::Yes(_) => 0,
+        Verdict::No(_) => 1,
+    }
+}
+
+/// The text of a verdict.
+fn print_verdict(alloc: Global, verdict: &Verdict) -> Result<Bytes, NoMemory>
+    ensures { IfOk result (λ text. text ≡ verdict_text verdict.now) }
+{
+    match verdict {
+        Verdict::Yes(report) => print_report(alloc, report),
+        Verdict::No(reason) => print_rejected(alloc, reason),
+    }
+}
+
+/// The fault of an anchors file of this name with this first bad line.
+fn bad_line(alloc: Global, file: &str, line: u64) -> Result<CommandFault, NoMemory>
+    ensures { IfOk result (λ fault. fault ≡ Unreadable (BadLine file.now line)) }
+{
+    let file = Bytes::from_slice(alloc, file.as_bytes())?;
+    Ok(CommandFault::Unreadable(BadInput::BadLine { file, line }))
+}

@@ -1,0 +1,23 @@
+-- What each fault of the list says, which fault of a walk becomes which, and when there are no such steps.
+use Rattle.std.specs.Prelude.{◌≡◌, ℕ, Result, Ok, Err}
+use Rattle.tw_disk.specs.declared.walk_fault.WalkFault.{WalkFault}
+use Rattle.tw_disk.specs.declared.walk_fault.WalkFault.TheVariants as walk
+use Rattle.tw_disk.specs.Answers.{FaultSort}
+use Rattle.tw_disk.specs.Answers.FaultSort.{OfPage, OfDisk, OfMemory, OfCall}
+use Rattle.tw_skiplist.specs.declared.fault.ListFault.{ListFault}
+use Rattle.tw_skiplist.specs.declared.fault.ListFault.TheVariants.{NoStep, BadPage, DiskFault, NoMemory}
+
+abbrev pub list_faults : ListFault → FaultSort
+list_faults (BadPage page) = OfPage page
+list_faults DiskFault = OfDisk
+list_faults NoMemory = OfMemory
+list_faults (NoStep last) = OfCall
+
+abbrev pub list_fault : WalkFault → ListFault
+list_fault (walk.BadPage page) = BadPage page
+list_fault walk.DiskFault = DiskFault
+
+-- NoStep with this last step where the fact doesn't hold, and any other answer only where it does
+abbrev pub NoStepUnless : {T : Type 0} → Result T ListFault → (last : ℕ) → Type 0 → Type 0
+NoStepUnless (Err (NoStep n)) last P = (n ≡ last) × (P → ⊥)
+NoStepUnless _ last P = P
