@@ -26,17 +26,17 @@ use Rattle.tw_skipproof.specs.HistoryProofs.{IsPartOf}
 use Rattle.tw_skipproof.proofs.ExistenceOf.{spelled-made}
 use Rattle.tw_skipproof.proofs.LawfulCodecs.{existence-lawful}
 use Rattle.tw_skipproof.proofs.PartOf.{part-fits-made, part_in_range-made, part_shaped-made, path-fits-made}
-use Rattle.tw_treeproof.specs.declared.limits.TheConstants.{MOST_ABOVE_PLACE}
 use Rattle.tw_treeproof.specs.Answers.{asks_entry}
 use Rattle.tw_treeproof.specs.Codecs.{gap_codec, present_codec, tree_proof_codec}
-use Rattle.tw_treeproof.specs.Making.{IsSo, height, proof_of}
-use Rattle.tw_treeproof.proofs.OwnProofs.{own-fits}
+use Rattle.tw_treeproof.specs.Limits.{IsShort}
+use Rattle.tw_treeproof.specs.Making.{IsSo, proof_of}
+use Rattle.tw_treeproof.proofs.OwnProofs.{short-fits}
 use Rattle.tw_chain.specs.declared.proof.AbsenceProof.{AbsenceProof}
 use Rattle.tw_chain.specs.declared.proof.LinkProof.{LinkProof}
 use Rattle.tw_chain.specs.declared.proof.Proof.{Proof}
 use Rattle.tw_chain.specs.declared.proof.Proof.TheVariants.{Exists, Precedes, Archived, Absent, Linked}
 use Rattle.tw_chain.specs.declared.proof.ThreadProof.{ThreadProof}
-use Rattle.tw_chain.specs.OwnProofs.{IsAbsenceProofOf, IsLinkProofOf, IsOwnProof, IsThreadProofOf}
+use Rattle.tw_chain.specs.OwnProofs.{HasShortTreeProof, IsAbsenceProofOf, IsLinkProofOf, IsOwnProof, IsThreadProofOf}
 use Rattle.tw_chain.specs.Proofs.{absence_body, key_codec, kinds_codec, link_body, proof_bytes, proof_codec, proof_layout, thread_body}
 use Rattle.tw_chain.proofs.ArchiveAnswers.{lacks-is_so, received-is_so}
 use Rattle.tw_chain.proofs.Completeness.{from_1_of_entry}
@@ -59,25 +59,25 @@ module _ (dig : List ℕ → List ℕ) (h : History) (step top : ℕ) (size : (t
           let short = sound.length in
           entry-fits e got.0 (omega (arith, got.1, parts.0)) (omega (arith, got.2, parts.0, short))
 
-  tree_fits : (asked : Ask) → height (tree h step) ≤ MOST_ABOVE_PLACE → IsSo (entries (tree h step)) asked → (tree_proof_codec (asks_entry asked)).Fits (proof_of dig (tree h step) asked)
-  tree_fits asked low so = own-fits dig size are (tree h step) asked (tree-rises h sound step) so low entries_fit
+  tree_fits : (asked : Ask) → IsShort (proof_of dig (tree h step) asked) → IsSo (entries (tree h step)) asked → (tree_proof_codec (asks_entry asked)).Fits (proof_of dig (tree h step) asked)
+  tree_fits asked short so = short-fits dig size are (tree h step) asked (tree-rises h sound step) so short entries_fit
 
-  thread_fits : (p : ThreadProof) → height (tree h step) ≤ MOST_ABOVE_PLACE → IsThreadProofOf dig h step top p → thread_body.Fits p
+  thread_fits : (p : ThreadProof) → IsShort p.shown → IsThreadProofOf dig h step top p → thread_body.Fits p
   unfolding thread_body seen pair
-  thread_fits p low is =
+  thread_fits p short is =
       let so = received-is_so h step sound (omega (arith, order, has)) p.entry is.received is.before in (
         part_fits p.at is.at (omega (arith, from_1_of_entry h p.entry.archived p.entry is.received, is.before)),
         (
           Each-in entry_codec.Fits (entries (tree h step)) p.entry entries_fit (in-with (entries (tree h step)) (key_of p.entry) p.entry so),
-          subst present_codec.Fits (sym is.shown) (tree_fits (ask.Present p.entry) low so),
+          subst present_codec.Fits (sym is.shown) (tree_fits (ask.Present p.entry) (subst IsShort is.shown short) so),
         ),
       )
 
-  absence_fits : (p : AbsenceProof) → height (tree h step) ≤ MOST_ABOVE_PLACE → IsAbsenceProofOf dig h step top p → absence_body.Fits p
+  absence_fits : (p : AbsenceProof) → IsShort p.shown → IsAbsenceProofOf dig h step top p → absence_body.Fits p
   unfolding absence_body key_codec seen pair name_codec number_codec
-  absence_fits p low is = (
+  absence_fits p short is = (
     part_fits p.at is.at is.from_1,
-    ((is.name, (omega (arith, is.key), is.key.1)), subst gap_codec.Fits (sym is.shown) (tree_fits (ask.Absent p.key) low (lacks-is_so h step p.key is.none))),
+    ((is.name, (omega (arith, is.key), is.key.1)), subst gap_codec.Fits (sym is.shown) (tree_fits (ask.Absent p.key) (subst IsShort is.shown short) (lacks-is_so h step p.key is.none))),
   )
 
   link_fits : (p : LinkProof) → 0 < top → IsLinkProofOf dig h step top p → link_body.Fits p
@@ -98,15 +98,15 @@ module _ (dig : List ℕ → List ℕ) (h : History) (step top : ℕ) (size : (t
         ),
       )
 
-  own_fits : (p : Proof) → 0 < top → height (tree h step) ≤ MOST_ABOVE_PLACE → IsOwnProof dig h step top p → proof_codec.Fits p
+  own_fits : (p : Proof) → 0 < top → HasShortTreeProof p → IsOwnProof dig h step top p → proof_codec.Fits p
   unfolding proof_codec kinds_codec behind by_kind variant number_codec
-  own_fits (Exists p) some low is =
+  own_fits (Exists p) some short is =
       to_fits p (spelled-fits existence_codec existence-lawful (existence_bytes p) p (spelled-made dig h step is.0 top p is.1 size are sound order has))
-  own_fits (Precedes p) some low is = absurd is
-  own_fits (Archived p) some low is = ((lit≤ tt, lit≤ tt), (refl, thread_fits p low is))
-  own_fits (Absent p) some low is = ((lit≤ tt, lit≤ tt), (refl, absence_fits p low is))
-  own_fits (Linked p) some low is = ((lit≤ tt, lit≤ tt), (refl, link_fits p some is))
+  own_fits (Precedes p) some short is = absurd is
+  own_fits (Archived p) some short is = ((lit≤ tt, lit≤ tt), (refl, thread_fits p short is))
+  own_fits (Absent p) some short is = ((lit≤ tt, lit≤ tt), (refl, absence_fits p short is))
+  own_fits (Linked p) some short is = ((lit≤ tt, lit≤ tt), (refl, link_fits p some is))
 
   -- what is written of a proof that the history has spells it
-  pub own-spelled : (p : Proof) → 0 < top → height (tree h step) ≤ MOST_ABOVE_PLACE → IsOwnProof dig h step top p → Spells proof_layout (proof_bytes p) p
-  own-spelled p some low is = proof-lawful.spells p (own_fits p some low is)
+  pub own-spelled : (p : Proof) → 0 < top → HasShortTreeProof p → IsOwnProof dig h step top p → Spells proof_layout (proof_bytes p) p
+  own-spelled p some short is = proof-lawful.spells p (own_fits p some short is)

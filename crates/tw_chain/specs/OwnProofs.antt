@@ -9,6 +9,7 @@ use Rattle.tw_base.specs.kinds.Lists.{Each}
 use Rattle.tw_base.specs.kinds.Names.{IsName}
 use Rattle.tw_base.specs.history.Tree.{tree}
 use Rattle.tw_skipproof.specs.HistoryProofs.{IsExistenceOf, IsPartOf, IsPathOf}
+use Rattle.tw_treeproof.specs.Limits.{IsShort}
 use Rattle.tw_treeproof.specs.Making.{proof_of}
 use Rattle.tw_chain.specs.declared.proof.AbsenceProof.{AbsenceProof}
 use Rattle.tw_chain.specs.declared.proof.LinkProof.{LinkProof}
@@ -49,3 +50,9 @@ module _ (dig : List ℕ → List ℕ) (h : History) (step top : ℕ) where
   IsOwnProof (Archived p) = IsThreadProofOf p
   IsOwnProof (Absent p) = IsAbsenceProofOf p
   IsOwnProof (Linked p) = IsLinkProofOf p
+
+-- where the proof has one of a tree, that one has no more nodes than the format has room for
+abbrev pub HasShortTreeProof : Proof → Type 0
+HasShortTreeProof (Archived p) = IsShort p.shown
+HasShortTreeProof (Absent p) = IsShort p.shown
+HasShortTreeProof _ = Unit {0}

@@ -10,12 +10,9 @@ ghost use Rattle.tw_base.specs.kinds.Lists.{Each};
 ghost use Rattle.tw_base.specs.format.Formats.{Spells};
 ghost use Rattle.tw_base.specs.history.History.{History, events_at};
 ghost use Rattle.tw_base.specs.history.Sound.{IsSound};
-ghost use Rattle.tw_base.specs.history.Tree.{tree};
 ghost use Rattle.tw_skipproof.specs.declared.existence.ExistenceProof.{ExistenceProof};
 ghost use Rattle.tw_skipproof.specs.HistoryProofs.{IsExistenceOf, MakesExistence};
 ghost use Rattle.tw_skipproof.specs.Existence.{existence_bytes};
-ghost use Rattle.tw_treeproof.specs.declared.limits.TheConstants.{MOST_ABOVE_PLACE};
-ghost use Rattle.tw_treeproof.specs.Making.{height};
 ghost use Rattle.tw_chain.specs.declared.proof.Proof.{Proof};
 ghost use Rattle.tw_chain.specs.declared.proof.Proof.TheVariants.{Exists};
 ghost use Rattle.tw_chain.specs.Accepting.{Accepts, IsAccepted, claim_of, proof_texts, report_of};
@@ -23,7 +20,7 @@ ghost use Rattle.tw_chain.specs.Binding.{BindsReport};
 ghost use Rattle.tw_chain.specs.Claiming.{ClaimsOf, claim_at};
 ghost use Rattle.tw_chain.specs.HeldServices.{HeldSuffices};
 ghost use Rattle.tw_chain.specs.OwnExistence.{HasOwnProofs};
-ghost use Rattle.tw_chain.specs.OwnProofs.{IsOwnProof};
+ghost use Rattle.tw_chain.specs.OwnProofs.{HasShortTreeProof, IsOwnProof};
 ghost use Rattle.tw_chain.specs.Proofs.{proof_bytes, proof_codec, proof_layout};
 
 use tw_base::Hasher;
@@ -35,8 +32,8 @@ use tw_base::Hasher;
 /// `write_existence` writes of it, and these bytes are accepted there.
 ///
 /// A sound history's proofs of a thread that was received, of a key of which none was, and of a step's
-/// authenticator are accepted in the same way, claim what they are of, and are spelled where no way
-/// down the archive's tree has more than 128 nodes.
+/// authenticator are accepted in the same way, claim what they are of, and are spelled where their tree
+/// proof, if any, has at most 128 nodes. Each history has such proofs.
 pub fn completeness_laws<H: Hasher>()
     // The proof that a history has of one of its events, under a top that isn't below its step, is accepted wherever
     // the anchor that is held of the service and top has the history's authenticator of the top.
@@ -65,10 +62,10 @@ pub fn completeness_laws<H: Hasher>()
         IsAccepted H.dig anchors p }
     // It claims that thread, that there is none of that key, or that authenticator, at the history's step.
     ensures own_claims { (h : History) (step top : ℕ) (p : Proof) → IsOwnProof H.dig h step top p → ClaimsOf H.dig h step top p }
-    // Where the history has the top, and no way down the tree of the step's archive has more than 128 nodes, the bytes
-    // that are written of such a proof spell it.
+    // Where the history has the top, the bytes that are written of such a proof spell it; of one with a proof of a tree, where
+    // that has at most 128 nodes.
     ensures own_spelled { (h : History) (step top : ℕ) (p : Proof) →
-        IsSound h → step ≤ top → 0 < top → top ≤ length h.steps → height (tree h step) ≤ MOST_ABOVE_PLACE → IsOwnProof H.dig h step top p →
+        IsSound h → step ≤ top → 0 < top → top ≤ length h.steps → HasShortTreeProof p → IsOwnProof H.dig h step top p →
         Spells proof_layout (proof_bytes p) p }
     // A history has such proofs, under each top: of each event of the step, of each thread that was received up to the step, of
     // each key of which none was received up to the step, from step 1 on, and of the step's authenticator.

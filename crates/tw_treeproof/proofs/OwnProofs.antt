@@ -18,6 +18,7 @@ use Rattle.tw_base.specs.history.EntryCodec.{entry_codec}
 use Rattle.tw_treeproof.specs.declared.limits.TheConstants.{MOST_ABOVE_PLACE}
 use Rattle.tw_treeproof.specs.Answers.{Checks, IsAnswer, ancestors_of, answer_of, asks_entry, is_of_entry, place_text}
 use Rattle.tw_treeproof.specs.Codecs.{ancestor_codec, gap_codec, present_codec, tree_proof_codec}
+use Rattle.tw_treeproof.specs.Limits.{IsShort}
 use Rattle.tw_treeproof.specs.Making.{IsSo, ancestor, height, place_of, proof_at, proof_of, way_up}
 use Rattle.tw_treeproof.specs.Ways.{IsNotAsked, climbed, has_asked_key, is_left}
 use Rattle.tw_treeproof.proofs.Places.{IsAt, at-place}
@@ -119,8 +120,8 @@ module _ (dig : List ℕ → List ℕ) where
         by false true is way one other here = subst Fit (sym (way-left dig ask l e r is way).0) (Each-append ancestor_codec.Fits (way_up dig ask l) (ancestor dig e r ∷ []) one (node-fits e r here, tt))
         by false false is way one other here = subst Fit (sym (way-right dig ask l e r is way).0) (Each-append ancestor_codec.Fits (way_up dig ask r) (ancestor dig e l ∷ []) other (node-fits e l here, tt))
 
-    at-fits : (ask : Ask) (place : Tree) (up : List Ancestor) → IsAt ask place → length up + height place ≤ MOST_ABOVE_PLACE → Each ancestor_codec.Fits up → (tree_proof_codec (asks_entry ask)).Fits (proof_at dig place up)
-    unfolding present_codec gap_codec variant by_kind counted pair many number_codec bytes_codec height
+    at-fits : (ask : Ask) (place : Tree) (up : List Ancestor) → IsAt ask place → IsShort (proof_at dig place up) → Each ancestor_codec.Fits up → (tree_proof_codec (asks_entry ask)).Fits (proof_at dig place up)
+    unfolding present_codec gap_codec variant by_kind counted pair many number_codec bytes_codec
     at-fits (Present e) Empty up at short all = absurd at
     at-fits (Present e) (Branch l f r) up at short all = (refl, ((omega arith, omega (arith, short)), (label-fits l, (label-fits r, (refl, all)))))
     at-fits (Absent key) Empty up at short all = (refl, ((omega arith, omega (arith, short)), (refl, all)))
@@ -130,7 +131,18 @@ module _ (dig : List ℕ → List ℕ) where
     at-fits (Above key) Empty up at short all = (refl, ((omega arith, omega (arith, short)), (refl, all)))
     at-fits (Above key) (Branch l f r) up at short all = absurd at
 
+    -- a proof of no more nodes than there is room for fits
+    pub short-fits : (t : Tree) (ask : Ask) → IsRising (entries t) → IsSo (entries t) ask → IsShort (proof_of dig t ask) → Each entry_codec.Fits (entries t)
+        → (tree_proof_codec (asks_entry ask)).Fits (proof_of dig t ask)
+    short-fits t ask rising so short all = at-fits ask (place_of ask t) (way_up dig ask t) (at-place t ask rising so) short (way-fits ask t all)
+
+    -- of a tree that isn't higher than that each proof does
+    short-at : (place : Tree) (up : List Ancestor) → length up + height place ≤ MOST_ABOVE_PLACE → IsShort (proof_at dig place up)
+    unfolding height
+    short-at Empty up short = omega (arith, short)
+    short-at (Branch l e r) up short = omega (arith, short)
+
     pub own-fits : (t : Tree) (ask : Ask) → IsRising (entries t) → IsSo (entries t) ask → height t ≤ MOST_ABOVE_PLACE → Each entry_codec.Fits (entries t)
         → (tree_proof_codec (asks_entry ask)).Fits (proof_of dig t ask)
     own-fits t ask rising so low all =
-        at-fits ask (place_of ask t) (way_up dig ask t) (at-place t ask rising so) (omega (arith, way-short ask t, low)) (way-fits ask t all)
+        short-fits t ask rising so (short-at (place_of ask t) (way_up dig ask t) (omega (arith, way-short ask t, low))) all

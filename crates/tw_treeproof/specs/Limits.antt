@@ -16,6 +16,10 @@ abbrev pub most_above : TreeProof → ℕ
 most_above (Present left right up) = MOST_ABOVE_ENTRY
 most_above (Gap up) = MOST_ABOVE_PLACE
 
+-- it has no more than these
+abbrev pub IsShort : TreeProof → Type 0
+IsShort proof = length (ancestors_of proof) ≤ most_above proof
+
 pub record IsProofInRange (proof : TreeProof) : Type 0 where
-  pub count : length (ancestors_of proof) ≤ most_above proof
+  pub count : IsShort proof
   pub entries : Each IsAncestorInRange (ancestors_of proof)
