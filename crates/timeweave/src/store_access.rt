@@ -1,12 +1,11 @@
-// How the file of a store is opened.
+// What a command does with the store.
 
-use tw_app::StoreAccess;
 use tw_hostio::Access;
 
-/// How the file of a store is opened with which a command does this.
-pub fn access_of(access: StoreAccess) -> Access {
-    match access {
-        StoreAccess::Read => Access::Read,
-        StoreAccess::Write => Access::Write,
+/// Whether the command of these words writes to the store, as `init` and `append` do, or only reads it.
+pub fn access_of(words: &[String]) -> Access {
+    match words.first() {
+        Some(word) if ["init", "append"].contains(&word.as_str()) => Access::Write,
+        _ => Access::Read,
     }
 }

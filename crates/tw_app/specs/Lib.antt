@@ -4,4 +4,3 @@ pub mod Judging
 pub mod Outcomes
 pub mod Running
 pub mod Statuses
-pub mod Stores

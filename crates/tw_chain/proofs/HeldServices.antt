@@ -1,5 +1,5 @@
 -- Of each accepted proof, each service of the claim and of a hop is the service of a thread that is held.
-use Rattle.std.proofs.Common.{◌≡◌, ℕ, suc, List, [], ◌∷◌, ◌++◌, length, refl, sym, subst, inl, inr, ◌⊎◌}
+use Rattle.std.proofs.Common.{◌≡◌, ℕ, suc, List, [], ◌∷◌, ◌++◌, length, refl, sym, subst, inl, inr}
 use Rattle.std.specs.Prelude.{Bool, true, false, Option, Some, None, IsSome, ◌==◌, if◌then◌else◌}
 use Rattle.std.specs.List.{flat_map}
 use Rattle.std.specs.Option.{option_to_list}

@@ -7,8 +7,12 @@ pub returns-then-is_some : goal.returns-then-is_some
 returns-then-is_some c told files there read are =
     read-told told files c.args.self.now.proofs c.args.self.now.bad c.args.file.now (sym c.is_some.ensures ∙ c.if-is_some.true) there are
 
-kept-proof : (told : Option Files) (files : List (List ℕ)) (kept : List Proof) → ℕ
-kept-proof told files kept = 0
+pub returns-in_ok-push-in-Ok : goal.returns-in_ok-push-in-Ok
+returns-in_ok-push-in-Ok c told files there read are =
+    subst (λ parts. AreRead told (files ++ c.args.file.now ∷ []) parts c.args.self.now.bad) (sym c.in_ok-push-in-Ok.ensures.ok) (
+    read-proof told files c.args.self.now.proofs c.args.self.now.bad c.args.file.now c.in-Ok.proof (sym c.is_some.ensures ∙ c.if-is_some.false)
+    (is_proof told c.args.file.now c.args.bytes.now there read c.in-Ok.proof c.in-Ok.ensures) are
+    )
 
 pub returns-in_ok-bad_byte-in-Err-Malformed : goal.returns-in_ok-bad_byte-in-Err-Malformed
 returns-in_ok-bad_byte-in-Err-Malformed c told files there read are =
