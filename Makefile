@@ -81,8 +81,8 @@ lib:
 $(LIBRARY):
 	$(MAKE) lib
 
-# Where there is a C compiler, the acceptance run tries the library too, and it is installed.
-check: | $(if $(HAS_C),$(LIBRARY))
+# Where there is a C compiler, the acceptance run tries the library too, it is measured, and it is installed.
+check bench: | $(if $(HAS_C),$(LIBRARY))
 
 install: $(if $(HAS_C),install-lib)
 

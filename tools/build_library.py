@@ -33,6 +33,7 @@ def archive(copy):
         words += ["-L", f"dependency={rlib(name).parent}"]
     words += ["--antt-project", KIT / "rattle/logic/antt-project.json", "--logic-built", KIT / "logic_built", "--jobs", "2"]
     words += ["--toolchain", KIT / "toolchain", "--backend", "llvm", "-o", f"out/lib{NAME}.a"]
+    (folder / "out").mkdir(exist_ok=True)
     subprocess.run(words, cwd=folder, check=True)
     return folder / f"out/lib{NAME}.a"
 

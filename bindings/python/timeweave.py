@@ -182,7 +182,8 @@ class Library:
 
     def version(self):
         out = ctypes.create_string_buffer(64)
-        return out.raw[: self.functions.timeweave_version(out, 64)].decode()
+        size = self.functions.timeweave_version(out, 64)
+        return out.raw[:size].decode()
 
 
 LOADED = []

@@ -23,9 +23,10 @@ def step_pages(room):
     """step pages that aren't of their kind"""
     four_steps(room)
     good = room.store()
-    # the links of step 4 stand from place 187 on, of 40 bytes each: to step 3, to step 2 and to step 0
+    # the links of step 4 stand from place 187 on, of 40 bytes each: to step 3, to step 2 and to step 0; the number of events from place 10
+    # on, of which there are at most 1,024: it goes into the proofs of other steps too
     for place, new in (
-        (0, b"\x02"), (1, be(5, 8)), (9, b"\x02"), (14, be(69633, 4)), (18, bytes(8)), (18, be(11, 8)),
+        (0, b"\x02"), (1, be(5, 8)), (9, b"\x02"), (10, be(1025, 4)), (10, be(2**32 - 1, 4)), (14, be(69633, 4)), (18, bytes(8)), (18, be(11, 8)),
         (90, be(11, 8)), (90, be(2**63, 8)), (98, b"a"), (121, b"\x01"), (153, b"\x01"), (186, b"\x04"),
         (187, bytes(8)), (187, be(11, 8)), (227, bytes(8)), (267, be(1, 8)), (267, be(5, 8)), (307, b"\x01"), (4095, b"\x01"),
     ):
@@ -33,7 +34,7 @@ def step_pages(room):
         for words in ("prove d event 4 0", "prove d event 1 0"):
             room.expect(words, 8, b"store BadPage 11\n")
     # a number of events that the stream doesn't have is found out where the stream is read
-    for count in (2, 1025, 2**32 - 1):
+    for count in (2, 1024):
         (room.folder / "d/timeline.tw").write_bytes(changed(good, 11, 10, be(count, 4)))
         room.expect("prove d event 4 0", 8, b"store BadPage 10\n")
         room.expect(f"prove d event 4 {count}", 7, f"refused NoEvent {count}\n".encode())

@@ -7,25 +7,23 @@ use Rattle.tw_base.specs.kinds.Faults.{Rose}
 use Rattle.tw_disk.specs.Disk.{DiskView}
 use Rattle.tw_outside.specs.Files.{Files, IsThere, Tells, bytes_of}
 use Rattle.tw_outside.specs.Asked.{Asked}
-use Rattle.tw_text.specs.CommandLine.{command_of}
 use Rattle.tw_text.specs.declared.command.Command.{Command}
 use Rattle.tw_text.specs.declared.fault.CommandFault.{CommandFault}
 use Rattle.tw_text.specs.declared.fault.CommandFault.TheVariants.{InputFault, DiskFault, NoMemory, Refused, Unserved, Unreadable}
-use Rattle.tw_text.specs.declared.refusal.BadInput.{BadInput}
 use Rattle.tw_text.specs.declared.refusal.BadInput.TheVariants.{BadByte, BadLine, Unsound}
 use Rattle.tw_chain.specs.declared.verdict.Verdict.{Verdict}
 use Rattle.tw_chain.specs.declared.verdict.Verdict.TheVariants.{Yes, No}
 use Rattle.tw_chain.specs.Binding.{BindsHistories}
 use Rattle.tw_chain.specs.Reasons.{IsVerdict}
 use Rattle.tw_msg.specs.AnchorsFile.{AllGood, IsFirstBadLine, anchor, lines}
-use Rattle.tw_filecmd.specs.Verifying.{HasAnchors, HasBadLine, IsJudged as IsJudgedFile, VerifyFileComes}
+use Rattle.tw_filecmd.specs.Verifying.{HasAnchors, VerifyFileComes}
 use Rattle.tw_judge.specs.Told.{IsJudged, IsTold, IsUnjudged, TellsFault, TellsVerdict, verdict_status, verdict_text}
 use Rattle.tw_app.specs.declared.outcome.Outcome.{Outcome}
 use Rattle.tw_app.specs.declared.outcome.Outcome.TheVariants.{Judged, Undone}
 use Rattle.tw_app.specs.Around.{Around, Outside, Writes}
 use Rattle.tw_app.specs.Judging.{Judges, NoneFailed, judging}
 use Rattle.tw_app.specs.Outcomes.{outcome_by, status_of, text_of}
-use Rattle.tw_app.specs.Running.{Ends, EndsAs, EndsWith, HasOutcome, HaveNoForm, IsOutcomeOf, IsUntouched, over_files, work}
+use Rattle.tw_app.specs.Running.{Ends, EndsWith, HasOutcome, HaveNoForm, IsOutcomeOf, IsUntouched, work}
 
 -- ---- the outcome of a verdict, and of a fault
 

@@ -1,6 +1,6 @@
--- Of each accepted proof, each service of the claim and of a hop is the service of a thread that is held.
-use Rattle.std.proofs.Common.{◌≡◌, ℕ, suc, List, [], ◌∷◌, ◌++◌, length, refl, sym, subst, inl, inr}
-use Rattle.std.specs.Prelude.{Bool, true, false, Option, Some, None, IsSome, ◌==◌, if◌then◌else◌}
+-- Of each service of whose history an accepted proof speaks a thread is held.
+use Rattle.std.proofs.Common.{◌≡◌, ℕ, suc, List, [], ◌∷◌, ◌++◌, length, Bool, true, false, refl, ap, sym, ◌∙◌, subst, append_assoc, inl, inr}
+use Rattle.std.specs.Prelude.{Option, Some, None, IsSome, ◌==◌, if◌then◌else◌}
 use Rattle.std.specs.List.{flat_map}
 use Rattle.std.specs.Option.{option_to_list}
 use Rattle.tw_base.specs.declared.history.report.Hop.{Hop}
@@ -9,7 +9,7 @@ use Rattle.tw_base.specs.declared.history.thread.Thread.{Thread}
 use Rattle.tw_base.specs.declared.history.tree_proof.Ask.TheVariants as ask
 use Rattle.tw_base.specs.kinds.Lists.{Each, In}
 use Rattle.tw_base.proofs.lemmas.history.Anchoring.{anchor_of-is}
-use Rattle.tw_base.proofs.lemmas.kinds.ListLemmas.{Each-append, Each-parts, In-cases_append, In-left, In-right}
+use Rattle.tw_base.proofs.lemmas.kinds.ListLemmas.{Each-append, Each-map, Each-parts, In-left, In-right}
 use Rattle.tw_skipproof.specs.declared.existence.Part.{Part}
 use Rattle.tw_chain.specs.declared.proof.HopPart.{HopPart}
 use Rattle.tw_chain.specs.declared.proof.LinkProof.{LinkProof}
@@ -18,118 +18,111 @@ use Rattle.tw_chain.specs.declared.proof.Proof.{Proof}
 use Rattle.tw_chain.specs.declared.proof.Proof.TheVariants.{Exists, Precedes, Archived, Absent, Linked}
 use Rattle.tw_chain.specs.Accepting.{IsAccepted, hop_from, hops_to}
 use Rattle.tw_chain.specs.Checks.{Check, bind_checks, bind_of, checks, end_of, head_checks, hop_checks, hops_checks, last_thread, link_checks, link_top, opening_checks, root_of, start_of, tail_checks, top_of, under_anchor}
-use Rattle.tw_chain.specs.Checks.Check.{AnswerOf, CarriesThread, EventOf, InOrder, LinkOf, NeedsAnchor, PathOf}
+use Rattle.tw_chain.specs.Checks.Check.{InOrder, NeedsAnchor, CarriesThread, PathOf, LinkOf, EventOf, AnswerOf}
 use Rattle.tw_chain.specs.Checks.Upper.{AtAnchor}
-use Rattle.tw_chain.specs.HeldServices.{AreServicesOf, HeldSuffices, IsServiceOf}
 use Rattle.tw_chain.specs.Passing.{Passes, anchor_at, held_by}
+use Rattle.tw_chain.specs.Services.{HasThreadOf, HoldsItsServices}
 
-module _ (dig : List ℕ → List ℕ) (anchors : List Thread) where
-  abbrev Pass : List Check → Type 0
-  Pass = Each (Passes dig anchors)
+module _ (anchors : List Thread) where
+  -- what the verifier holds for these checks
+  abbrev held_for : List Check → List Thread
+  held_for cs = flat_map (held_by anchors) cs
 
-  -- a thread that is held of these checks is of the service
+  -- a thread of the service is held for them
   abbrev Held : List Check → List ℕ → Type 0
-  Held cs service = IsServiceOf (flat_map (held_by anchors) cs) service
+  Held cs service = HasThreadOf (held_for cs) service
 
-  -- ---- more checks
+  both : (cs ds : List Check) → held_for (cs ++ ds) ≡ held_for cs ++ held_for ds
+  both [] ds = refl
+  both (c ∷ cs) ds = ap (λ ts. held_by anchors c ++ ts) (both cs ds) ∙ sym (append_assoc (held_by anchors c) (held_for cs) (held_for ds))
 
-  in-more : (t : Thread) (cs ds : List Check) → In t (flat_map (held_by anchors) cs) → In t (flat_map (held_by anchors) (cs ++ ds))
-  in-more t [] ds there = absurd there
-  in-more t (c ∷ cs) ds there =
-      elim (In-cases_append t (held_by anchors c) (flat_map (held_by anchors) cs) there) [
-        | inl here ↦ In-left t (held_by anchors c) (flat_map (held_by anchors) (cs ++ ds)) here
-        | inr later ↦ In-right t (held_by anchors c) (flat_map (held_by anchors) (cs ++ ds)) (in-more t cs ds later)
-      ]
+  held-left : (cs ds : List Check) (service : List ℕ) → Held cs service → Held (cs ++ ds) service
+  held-left cs ds service is = (is.0, subst (In is.0) (sym (both cs ds)) (In-left is.0 (held_for cs) (held_for ds) is.1), is.2)
 
-  in-behind : (t : Thread) (cs ds : List Check) → In t (flat_map (held_by anchors) ds) → In t (flat_map (held_by anchors) (cs ++ ds))
-  in-behind t [] ds there = there
-  in-behind t (c ∷ cs) ds there = In-right t (held_by anchors c) (flat_map (held_by anchors) (cs ++ ds)) (in-behind t cs ds there)
+  held-right : (cs ds : List Check) (service : List ℕ) → Held ds service → Held (cs ++ ds) service
+  held-right cs ds service is = (is.0, subst (In is.0) (sym (both cs ds)) (In-right is.0 (held_for cs) (held_for ds) is.1), is.2)
 
-  more : (cs ds : List Check) (service : List ℕ) → Held cs service → Held (cs ++ ds) service
-  more cs ds service held = (held.0, in-more held.0 cs ds held.1, held.2)
-
-  behind : (cs ds : List Check) (service : List ℕ) → Held ds service → Held (cs ++ ds) service
-  behind cs ds service held = (held.0, in-behind held.0 cs ds held.1, held.2)
-
-  -- ---- what a check holds
-
-  anchored : (key : Key) (cs : List Check) → Passes dig anchors (NeedsAnchor key) → Held (NeedsAnchor key ∷ cs) key.from
-  anchored key cs some = by (anchor_at anchors key) refl some
+  -- of an anchor that is needed and there
+  needed-held : (key : Key) (cs : List Check) → IsSome (anchor_at anchors key) → Held (NeedsAnchor key ∷ cs) key.from
+  needed-held key cs some = by (anchor_at anchors key) refl some
     where
       by : (o : Option Thread) → anchor_at anchors key ≡ o → IsSome o → Held (NeedsAnchor key ∷ cs) key.from
-      by None is some = cc
-      by (Some t) is some =
-          (t, subst (λ (o : Option Thread). In t (option_to_list o ++ flat_map (held_by anchors) cs)) (sym is) (inl refl), (anchor_of-is anchors key.from key.step t is).0)
+      by None is there = cc
+      by (Some t) is there = (t, subst (λ (o : Option Thread). In t (option_to_list o ++ held_for cs)) (sym is) (inl refl), (anchor_of-is anchors key.from key.step t is).0)
 
-  under : (part : ℕ) (at : Part) → Pass (under_anchor part at) → Held (under_anchor part at) at.service
-  under part at pass = anchored (top_of at) (PathOf part at (AtAnchor (top_of at)) ∷ []) pass.1.0
+  module _ (dig : List ℕ → List ℕ) where
+    abbrev Pass : List Check → Type 0
+    Pass cs = Each (Passes dig anchors) cs
 
-  linked : (part : ℕ) (l : LinkProof) → Pass (link_checks part l) → Held (link_checks part l) l.service
-  linked part l pass = anchored (link_top l) (LinkOf part l ∷ []) pass.1.0
+    parted : (cs ds : List Check) → Pass (cs ++ ds) → Pass cs × Pass ds
+    parted cs ds pass = Each-parts (Passes dig anchors) cs ds pass
 
-  bound : (part : ℕ) (hop : HopPart) (carries : Bool)
-      → Pass (if carries then CarriesThread hop.entry.thread ∷ [] else link_checks part (bind_of hop))
-      → Held (if carries then CarriesThread hop.entry.thread ∷ [] else link_checks part (bind_of hop)) hop.entry.thread.from
-  bound part hop true pass = (hop.entry.thread, inl refl, refl)
-  bound part hop false pass = linked part (bind_of hop) pass
+    under-held : (p : Part) (onward : List Check) → Pass (under_anchor 0 p ++ onward) → Held (under_anchor 0 p ++ onward) p.service
+    under-held p onward pass = needed-held (top_of p) (PathOf 0 p (AtAnchor (top_of p)) ∷ onward) pass.1.0
 
-  hop-held : (part step : ℕ) (root : List ℕ) (hop : HopPart) → Pass (hop_checks part step root hop) → Held (hop_checks part step root hop) hop.entry.thread.from
-  hop-held part step root hop pass =
-      let opening = opening_checks part hop.entry.thread hop.opening in
-      more (bind_checks part hop) opening hop.entry.thread.from
-      (bound part hop (hop.bind == 0) (Each-parts (Passes dig anchors) (bind_checks part hop) opening pass.1.1).0)
+    link-held : (part : ℕ) (l : LinkProof) → Pass (link_checks part l) → Held (link_checks part l) l.service
+    link-held part l pass = needed-held (link_top l) (LinkOf part l ∷ []) pass.1.0
 
-  -- ---- hops, of checks among which theirs are
+    -- the thread of a hop is carried, or an anchor of its service is there
+    bind-held : (part : ℕ) (hop : HopPart) → Pass (bind_checks part hop) → Held (bind_checks part hop) hop.entry.thread.from
+    bind-held part hop = by (hop.bind == 0)
+      where
+        by : (carried : Bool) → let cs : List Check = if carried then CarriesThread hop.entry.thread ∷ [] else link_checks part (bind_of hop) in
+            Pass cs → Held cs hop.entry.thread.from
+        by true pass = (hop.entry.thread, inl refl, refl)
+        by false pass = link-held part (bind_of hop) pass
 
-  module _ (all : List Check) where
-    hops-held : (part step : ℕ) (root : List ℕ) (hops : List HopPart) → Pass (hops_checks part step root hops)
-        → ((service : List ℕ) → Held (hops_checks part step root hops) service → Held all service) → Each (λ (hop : HopPart). Held all hop.entry.thread.from) hops
-    hops-held part step root [] pass among = tt
-    hops-held part step root (hop ∷ hops) pass among =
-        let first = hop_checks part step root hop in
-        let rest = hops_checks (suc part) hop.entry.thread.step (root_of hop.opening) hops in
-        let parts = Each-parts (Passes dig anchors) first rest pass in (
-          among hop.entry.thread.from (more first rest hop.entry.thread.from (hop-held part step root hop parts.0)),
-          hops-held (suc part) hop.entry.thread.step (root_of hop.opening) hops parts.1 (λ service held. among service (behind first rest service held)),
+    hop-held : (part step : ℕ) (root : List ℕ) (hop : HopPart) → Pass (hop_checks part step root hop) → Held (hop_checks part step root hop) hop.entry.thread.from
+    hop-held part step root hop pass =
+        let bind : List Check = bind_checks part hop in
+        let opening : List Check = opening_checks part hop.entry.thread hop.opening in
+        held-left bind opening hop.entry.thread.from (bind-held part hop (parted bind opening pass.1.1).0)
+
+    hops-held : (hops : List HopPart) (part step : ℕ) (root : List ℕ) → Pass (hops_checks part step root hops)
+        → Each (λ (hop : HopPart). Held (hops_checks part step root hops) hop.entry.thread.from) hops
+    hops-held [] part step root pass = tt
+    hops-held (hop ∷ hops) part step root pass =
+        let one : List Check = hop_checks part step root hop in
+        let rest : List Check = hops_checks (suc part) hop.entry.thread.step (root_of hop.opening) hops in
+        let parts = parted one rest pass in (
+          held-left one rest hop.entry.thread.from (hop-held part step root hop parts.0),
+          Each-map (λ (h : HopPart). Held rest h.entry.thread.from) (λ (h : HopPart). Held (one ++ rest) h.entry.thread.from) hops
+          (λ h is. held-right one rest h.entry.thread.from is) (hops-held hops (suc part) hop.entry.thread.step (root_of hop.opening) parts.1),
         )
 
-    abbrev Both : Hop → Type 0
-    Both = AreServicesOf (flat_map (held_by anchors) all)
+    -- ---- what holds of the services of hops, and of where they start
 
-    hops-told : (by : List ℕ) (hops : List HopPart) → Held all by → Each (λ (hop : HopPart). Held all hop.entry.thread.from) hops → Each Both (hops_to by hops)
-    hops-told by [] held each = tt
-    hops-told by (hop ∷ hops) held each =
-        Each-append Both (hops_to hop.entry.thread.from hops) (hop_from by hop ∷ []) (hops-told hop.entry.thread.from hops each.0 each.1) ((each.0, held), tt)
+    module _ (P : List ℕ → Type 0) where
+      last-has : (t : Thread) (hops : List HopPart) → P t.from → Each (λ (hop : HopPart). P hop.entry.thread.from) hops → P (last_thread t hops).from
+      last-has t [] start all = start
+      last-has t (hop ∷ hops) start all = last-has hop.entry.thread hops all.0 all.1
 
-    last-held : (t : Thread) (hops : List HopPart) → Held all t.from → Each (λ (hop : HopPart). Held all hop.entry.thread.from) hops → Held all (last_thread t hops).from
-    last-held t [] held each = held
-    last-held t (hop ∷ hops) held each = last-held hop.entry.thread hops each.0 each.1
+      told-have : (by : List ℕ) (hops : List HopPart) → P by → Each (λ (hop : HopPart). P hop.entry.thread.from) hops
+          → Each (λ (hop : Hop). P hop.from × P hop.by) (hops_to by hops)
+      told-have by [] start all = tt
+      told-have by (hop ∷ hops) start all =
+          Each-append (λ (h : Hop). P h.from × P h.by) (hops_to hop.entry.thread.from hops) (hop_from by hop ∷ []) (told-have hop.entry.thread.from hops all.0 all.1) ((all.0, start), tt)
 
-  precedes : (p : PrecedenceProof) → IsAccepted dig anchors (Precedes p) → HeldSuffices anchors (Precedes p)
-  precedes p pass =
-      let head = head_checks p in
-      let hops = hops_checks 1 (start_of p).step (root_of p.before) p.hops in
-      let tail = tail_checks (suc (length p.hops)) (end_of p) p.tail in
-      let all : List Check = checks (Precedes p) in
-      let parts = Each-parts (Passes dig anchors) head (hops ++ tail) pass in
-      let onward : List Check = EventOf 0 p.head.opening p.event ∷ opening_checks 0 (start_of p) p.before in
-      let second : Held all p.head.service =
-      more head (hops ++ tail) p.head.service
-      (more (under_anchor 0 p.head) onward p.head.service (under 0 p.head (Each-parts (Passes dig anchors) (under_anchor 0 p.head) onward parts.0).0)) in
-      let each : Each (λ (hop : HopPart). Held all hop.entry.thread.from) p.hops =
-      hops-held all 1 (start_of p).step (root_of p.before) p.hops (Each-parts (Passes dig anchors) hops tail parts.1).0
-      (λ service held. behind head (hops ++ tail) service (more hops tail service held)) in
-      ((last-held all (start_of p) p.hops second each, (second, tt)), hops-told all p.head.service p.hops second each)
+    -- ---- each kind
 
-  pub held-suffices : (p : Proof) → IsAccepted dig anchors p → HeldSuffices anchors p
-  held-suffices (Exists p) pass =
-      let onward : List Check = EventOf 0 p.at.opening p.event ∷ [] in
-      ((more (under_anchor 0 p.at) onward p.at.service (under 0 p.at (Each-parts (Passes dig anchors) (under_anchor 0 p.at) onward pass).0), tt), tt)
-  held-suffices (Precedes p) pass = precedes p pass
-  held-suffices (Archived p) pass =
-      let onward : List Check = InOrder p.entry.archived p.at.step ∷ AnswerOf 0 p.at.opening.archive_root (ask.Present p.entry) p.shown ∷ [] in
-      ((more (under_anchor 0 p.at) onward p.at.service (under 0 p.at (Each-parts (Passes dig anchors) (under_anchor 0 p.at) onward pass).0), tt), tt)
-  held-suffices (Absent p) pass =
-      let onward : List Check = AnswerOf 0 p.at.opening.archive_root (ask.Absent p.key) p.shown ∷ [] in
-      ((more (under_anchor 0 p.at) onward p.at.service (under 0 p.at (Each-parts (Passes dig anchors) (under_anchor 0 p.at) onward pass).0), tt), tt)
-  held-suffices (Linked p) pass = ((linked 0 p pass, tt), tt)
+    precedes-holds : (p : PrecedenceProof) → IsAccepted dig anchors (Precedes p) → HoldsItsServices anchors (Precedes p)
+    precedes-holds p pass =
+        let events : List Check = EventOf 0 p.head.opening p.event ∷ opening_checks 0 (start_of p) p.before in
+        let hops : List Check = hops_checks 1 (start_of p).step (root_of p.before) p.hops in
+        let tail : List Check = tail_checks (suc (length p.hops)) (end_of p) p.tail in
+        let parts = parted (head_checks p) (hops ++ tail) pass in
+        let P : List ℕ → Type 0 = Held (checks (Precedes p)) in
+        let head : P p.head.service = held-left (head_checks p) (hops ++ tail) p.head.service (under-held p.head events parts.0) in
+        let all : Each (λ (hop : HopPart). P hop.entry.thread.from) p.hops =
+        Each-map (λ (h : HopPart). Held hops h.entry.thread.from) (λ (h : HopPart). P h.entry.thread.from) p.hops
+        (λ h is. held-right (head_checks p) (hops ++ tail) h.entry.thread.from (held-left hops tail h.entry.thread.from is))
+        (hops-held p.hops 1 (start_of p).step (root_of p.before) (parted hops tail parts.1).0) in
+        record { claim = (last-has P (start_of p) p.hops head all, (head, tt)); hops = told-have P p.head.service p.hops head all }
+
+    pub accepted-holds : (p : Proof) → IsAccepted dig anchors p → HoldsItsServices anchors p
+    accepted-holds (Exists p) pass = record { claim = (under-held p.at (EventOf 0 p.at.opening p.event ∷ []) pass, tt); hops = tt }
+    accepted-holds (Precedes p) pass = precedes-holds p pass
+    accepted-holds (Archived p) pass =
+        record { claim = (under-held p.at (InOrder p.entry.archived p.at.step ∷ AnswerOf 0 p.at.opening.archive_root (ask.Present p.entry) p.shown ∷ []) pass, tt); hops = tt }
+    accepted-holds (Absent p) pass = record { claim = (under-held p.at (AnswerOf 0 p.at.opening.archive_root (ask.Absent p.key) p.shown ∷ []) pass, tt); hops = tt }
+    accepted-holds (Linked p) pass = record { claim = (link-held 0 p pass, tt); hops = tt }

@@ -4,8 +4,8 @@ pub mod Passing
 pub mod Finding
 pub mod Accepting
 pub mod Claiming
+pub mod Services
 pub mod OwnProofs
 pub mod OwnExistence
-pub mod HeldServices
 pub mod Reasons
 pub mod Binding

@@ -18,10 +18,10 @@ ghost use Rattle.tw_chain.specs.declared.proof.Proof.TheVariants.{Exists};
 ghost use Rattle.tw_chain.specs.Accepting.{Accepts, IsAccepted, claim_of, proof_texts, report_of};
 ghost use Rattle.tw_chain.specs.Binding.{BindsReport};
 ghost use Rattle.tw_chain.specs.Claiming.{ClaimsOf, claim_at};
-ghost use Rattle.tw_chain.specs.HeldServices.{HeldSuffices};
 ghost use Rattle.tw_chain.specs.OwnExistence.{HasOwnProofs};
 ghost use Rattle.tw_chain.specs.OwnProofs.{HasShortTreeProof, IsOwnProof};
 ghost use Rattle.tw_chain.specs.Proofs.{proof_bytes, proof_codec, proof_layout};
+ghost use Rattle.tw_chain.specs.Services.{HoldsItsServices};
 
 use tw_base::Hasher;
 
@@ -90,7 +90,7 @@ pub fn chain_laws<H: Hasher>()
         Spells proof_layout bytes p → IsAccepted H.dig anchors p → BindsReport H.dig anchors p (report_of p) }
     // Where bytes spell a proof, each of the texts that checking it hashes is bytes.
     ensures texts { (bytes : List ℕ) (p : Proof) → Spells proof_layout bytes p → Each AreBytes (proof_texts H.dig p) }
-    // Each service that the claim of an accepted proof is about, and each service of a hop, is the service of a thread that is held
-    // of the proof.
-    ensures held_suffices { (p : Proof) (anchors : List Thread) → IsAccepted H.dig anchors p → HeldSuffices anchors p }
+    // What is held suffices: of each service of whose history the claim of an accepted proof speaks, and of both services of
+    // each of its hops, a thread is held, whose anchor the verifier has, or which the proof carries.
+    ensures held { (p : Proof) (anchors : List Thread) → IsAccepted H.dig anchors p → HoldsItsServices anchors p }
 {}

@@ -1,7 +1,7 @@
 -- A reading that stops at a fault, behind others.
 use Rattle.std.specs.Prelude.{Result, Ok, Err, IsErrAnd}
 use Rattle.std.proofs.Common.{◌≡◌, ℕ, ◌≤◌, ◌∙◌, Bool, true, false, Some, ap, sym, subst, arith}
-use Rattle.tw_disk.specs.Answers.{FaultSort, IsShared, ReadsPages, SaysOf, is_of_disk}
+use Rattle.tw_disk.specs.Answers.{FaultSort, IsShared, ReadsOr, ReadsPages, RefusesAs, SaysOf, is_of_disk}
 use Rattle.tw_disk.specs.Answers.FaultSort.{OfPage, OfDisk, OfMemory, OfCall}
 use Rattle.tw_disk.specs.Found.{Found}
 use Rattle.tw_disk.specs.Found.Found.{Bad}
@@ -32,3 +32,17 @@ module _ {F G T U X Y P : Type 0} (sort : F → FaultSort) (wide : G → FaultSo
           rose = λ failed. let rose = reads.faults.rose (ap is_of_disk (sym same_sort) ∙ failed) in omega (arith, later, rose);
         };
       }
+
+module _ {G Z : Type 0} (wide : G → FaultSort) where
+  or_says : (s : FaultSort) (e : G) (found : Found (Result Z G)) → IsShared s → SaysOf wide s found → RefusesAs wide s e found
+  or_says (OfPage page) e found shared is = is
+  or_says OfCall e found shared is = absurd shared
+  or_says _ e found shared is = tt
+
+module _ {G U Z P : Type 0} (wide : G → FaultSort) (view : P → PagesView) (same : P → P → Type 0) where
+  -- a fault that is no refusal of the call's own answers a call that has some, too
+  pub as_or : (start new : P) (any : U → Result Z G) (value : U → Z) (result : Result U G) (Is : G → Type 0) (all : Image → Found (Result Z G)) (Own : Type 0)
+      → IsErrAnd result Is → Own → ReadsPages wide view same start new any result all → ReadsOr wide view same start new value result Own all
+  as_or start new any value (Ok x) Is all Own is own reads = absurd is
+  as_or start new any value (Err e) Is all Own is own reads =
+      record { answer = λ ps told. or_says wide (wide e) e (all ps) reads.own (reads.answer ps told); own = own; kept = reads.kept; faults = reads.faults }

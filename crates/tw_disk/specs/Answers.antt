@@ -100,9 +100,9 @@ module _ {F : Type 0} (sort : F → FaultSort) where
         abbrev pub ReadsWhere : (Own : Type 0) → (Image → Found X) → Type 0
         ReadsWhere Own found = ReadsBy result Own (AnswersAs value) found
 
-        -- a call that reads, and whose refusals are found too
-        abbrev pub ReadsOr : (Image → Found (Result X F)) → Type 0
-        ReadsOr found = ReadsBy result (Unit {0}) (AnswersOr value) found
+        -- a call that reads, and whose refusals are found too; over any pages this holds of them
+        abbrev pub ReadsOr : (Own : Type 0) → (Image → Found (Result X F)) → Type 0
+        ReadsOr Own found = ReadsBy result Own (AnswersOr value) found
 
         -- a call that reads and adds pages, and never has a refusal of its own
         abbrev pub AddsPages : (Image → Found (Next X)) → Type 0

@@ -36,7 +36,7 @@ fn spoil(pages: &mut Vec<Page>, calls: &mut Vec<Call>, bytes: &Page)
 }
 
 // Leaves the outcome of this choice.
-pub fn leave(pages: &mut Vec<Page>, calls: &mut Vec<Call>, choice: u8)
+pub(crate) fn leave(pages: &mut Vec<Page>, calls: &mut Vec<Call>, choice: u8)
     requires fits { AllFit calls.old.items pages.old.items }
     requires choice { choice ≤ 3 }
     ensures { pages.new.items ≡ outcome choice (written_of calls.old.items pages.old.items) }

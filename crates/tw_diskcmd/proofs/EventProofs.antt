@@ -107,7 +107,7 @@ module _ (h : History) (step index top : ℕ) (sound : IsSound h) where
 
 -- ---- what the pages have of an event of an index of more than 32 bits
 
--- a step's page counts fewer events, so such an index is past them all
+-- a step's page counts at most 1,024 events, so such an index is past them all
 module _ (pages : Image) (name : List ℕ) (head : Head) (step index top : ℕ) where
   past : (count i : ℕ) → count ≤ i → event_refusal count i ≡ Some (service.NoEvent count)
   unfolding event_refusal
@@ -121,7 +121,7 @@ module _ (pages : Image) (name : List ℕ) (head : Head) (step index top : ℕ) 
   rest_past i proof more =
       ap (λ (o : Option Refusal). unless o (events_of_info pages proof.info >>= (λ events. Is (Ok (proof_bytes sha256 name top i proof events))))) (past proof.info.count i more)
 
-  same_rest : (proof : StepProof) → proof.info.count < 4294967296 → rest_at (min index 4294967295) proof ≡ rest_at index proof
+  same_rest : (proof : StepProof) → proof.info.count ≤ 1024 → rest_at (min index 4294967295) proof ≡ rest_at index proof
   same_rest proof few =
       elim (cases_lt index proof.info.count) [
         | inl less ↦ ap (λ (i : ℕ). rest_at i proof) (let e : min index 4294967295 ≡ index = omega (arith, less, few) in e)

@@ -3,8 +3,9 @@
 use std::alloc::Global;
 use std::test::Fail;
 use tw_base::{Failed, NoMemory};
-use tw_cache::Cached;
-use tw_disk::{MemPages, Pages};
+use tw_cache::{Cached, Room};
+use tw_disk::{MemDisk, MemPages, Pages};
+use tw_pages::Store;
 
 // Stages a page full of this byte.
 fn stage_byte<P: Pages>(pages: &mut P, byte: u8) -> Result<u64, NoMemory> {
@@ -54,6 +55,30 @@ fn what_is_kept_is_forgotten_where_the_inner_pages_are_lent(rt: HostRuntime) -> 
     Ok(())
 }
 
+// A new store in memory, behind a cache.
+fn cached_store(alloc: Global) -> Option<Cached<Store<MemDisk>>> {
+    let store = Store::init(alloc, MemDisk::new(alloc), &[1]).ok()?;
+    Cached::new(alloc, store).ok()
+}
+
+// Commits this byte as the root record of the store behind the cache.
+fn commit_byte(pages: &mut Cached<Store<MemDisk>>, byte: u8) -> bool {
+    let store = pages.inner_mut();
+    store.generation() < (1 << 48) - 1 && store.commit(&[byte]).is_ok()
+}
+
+#[test]
+fn a_page_staged_through_the_cache_is_committed_behind_it(rt: HostRuntime) -> Result<(), Fail> {
+    let mut pages = cached_store(rt.alloc()).ok_or("no store")?;
+    assert_eq!(rt; stage_byte(&mut pages, 7)?, 4);
+    assert!(rt; commit_byte(&mut pages, 2));
+    assert_eq!(rt; last_byte(&mut pages, 4)?, Some(7));
+    let disk = pages.close().close();
+    let mut store = Store::open(rt.alloc(), disk).map_err(|(_disk, _fault)| "no store")?;
+    assert_eq!(rt; last_byte(&mut store, 4)?, Some(7));
+    Ok(())
+}
+
 #[test]
 fn the_page_used_longest_ago_makes_room_for_the_65th(rt: HostRuntime) -> Result<(), Fail> {
     let mut pages = cached_pages(rt.alloc(), 69)?;
@@ -76,5 +101,16 @@ fn a_failed_read_is_tried_again(rt: HostRuntime) -> Result<(), Fail> {
     assert_eq!(rt; last_byte(&mut pages, 4)?, Some(4));
     assert_eq!(rt; last_byte(&mut pages, 4)?, Some(4));
     assert_eq!(rt; pages.close().reads(), 2);
+    Ok(())
+}
+
+#[test]
+fn a_page_over_a_room_made_before_is_read_once_below(rt: HostRuntime) -> Result<(), Fail> {
+    let room = Room::new(rt.alloc())?;
+    let mut pages = Cached::over(room, MemPages::new(rt.alloc())?);
+    assert_eq!(rt; stage_byte(&mut pages, 4)?, 4);
+    assert_eq!(rt; last_byte(&mut pages, 4)?, Some(4));
+    assert_eq!(rt; last_byte(&mut pages, 4)?, Some(4));
+    assert_eq!(rt; pages.close().reads(), 1);
     Ok(())
 }

@@ -73,3 +73,15 @@ fn a_staged_page_is_read(rt: HostRuntime) -> Result<(), Fail> {
     assert_eq!(rt; last_byte(&mut pages, 4)?, Some(5));
     Ok(())
 }
+
+#[test]
+fn a_stopped_disk_tells_so_until_it_crashes(rt: HostRuntime) -> Result<(), Fail> {
+    let mut disk = MemDisk::new(rt.alloc());
+    disk.stop_at(1);
+    assert!(rt; !disk.is_stopped());
+    assert!(rt; disk.barrier().is_err());
+    assert!(rt; disk.is_stopped());
+    disk.crash(0);
+    assert!(rt; !disk.is_stopped());
+    Ok(())
+}

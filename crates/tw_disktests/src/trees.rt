@@ -141,6 +141,18 @@ fn a_key_takes_a_read_a_level(rt: HostRuntime) -> Result<(), Fail> {
 }
 
 #[test]
+fn no_key_of_two_levels_takes_more_than_two_reads(rt: HostRuntime) -> Result<(), Fail> {
+    let mut pages = MemPages::new(rt.alloc())?;
+    let root = up_to(rt.alloc(), &mut pages, 25)?;
+    for step in 1..=25 {
+        let start = pages.reads();
+        assert_eq!(rt; found(&mut pages, &root, step)?, Some(step));
+        assert!(rt; pages.reads() <= start.saturating_add(2));
+    }
+    Ok(())
+}
+
+#[test]
 fn what_is_so_is_shown(rt: HostRuntime) -> Result<(), Fail> {
     let mut pages = MemPages::new(rt.alloc())?;
     let root = up_to(rt.alloc(), &mut pages, 25)?;

@@ -97,6 +97,23 @@ fn sides(leaf: &Leaf, slot: u8) -> Option<(u8, u8)> {
     Some(below(&leaf.page, slot))
 }
 
+/// The colours of the slots of a page in the order of its keys, 0 black and 1 red, and 2 behind them.
+fn colours(page: &RbNode) -> [u8; 24] {
+    let bytes = write_node(page);
+    let mut colours = [2; 24];
+    for slot in 0..24 {
+        if slot < keys(page) as usize {
+            colours[slot] = bytes[4 + 67 * slot];
+        }
+    }
+    colours
+}
+
+/// Whether the colours of a page begin so.
+fn is_coloured(page: &RbNode, wanted: &[u8]) -> bool {
+    colours(page).starts_with(wanted)
+}
+
 #[test]
 fn three_keys_have_the_middle_one_on_top(rt: HostRuntime) {
     let first = one(&rt, 1);
@@ -127,6 +144,34 @@ fn a_full_page_becomes_two(rt: HostRuntime) {
         Added::Two { left, middle, .. } => {
             assert_eq!(rt; middle.thread.step, 13);
             assert_eq!(rt; top(&left), 7);
+        }
+    }
+}
+
+#[test]
+fn few_keys_are_black_and_red_so(rt: HostRuntime) {
+    assert!(rt; is_coloured(&up_to(&rt, 1).page, &[0, 2]));
+    assert!(rt; is_coloured(&up_to(&rt, 2).page, &[0, 1, 2]));
+    assert!(rt; is_coloured(&up_to(&rt, 3).page, &[1, 0, 1, 2]));
+    assert!(rt; is_coloured(&up_to(&rt, 5).page, &[0, 0, 1, 0, 1, 2]));
+}
+
+#[test]
+fn the_most_keys_are_black_and_red_so(rt: HostRuntime) {
+    let wanted = [
+        0, 0, 0, 0, 0, 0, 0, 0, 0, 0, 0, 0, 0, 0, 0, 1, 0, 1, 0, 0, 0, 1, 0, 1,
+    ];
+    assert!(rt; is_coloured(&up_to(&rt, 24).page, &wanted));
+}
+
+#[test]
+fn the_halves_of_25_keys_are_black_and_red_so(rt: HostRuntime) {
+    let wanted = [1, 0, 1, 0, 1, 0, 0, 1, 0, 0, 1, 0, 2];
+    match with(&rt, &up_to(&rt, 24), 25) {
+        Added::One(_) => panic!(rt; "one page of 25 keys"),
+        Added::Two { left, right, .. } => {
+            assert!(rt; is_coloured(&left, &wanted));
+            assert!(rt; is_coloured(&right, &wanted));
         }
     }
 }

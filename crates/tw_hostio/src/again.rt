@@ -3,7 +3,7 @@
 use std::io::{self, ErrorKind};
 
 /// What a call answers that is made again as often as a signal interrupts it.
-pub fn again<T: Drop, F: FnMut() -> io::Result<T> + Drop>(call: F) -> io::Result<T>
+pub(crate) fn again<T: Drop, F: FnMut() -> io::Result<T> + Drop>(call: F) -> io::Result<T>
     requires { F.IsAlwaysCallable call }
 {
     let mut call = call;

@@ -9,7 +9,7 @@ use std::rt::Files;
 
 /// Opens the file to read it, and waits while another program holds its lock to write. None where its folder has no such file.
 /// What isn't a regular file is an error, and so is a file that lost its name to another one meanwhile.
-pub fn open_to_read<R: Files<File = File>>(rt: &R, path: &str) -> io::Result<Option<File>> {
+pub(crate) fn open_to_read<R: Files<File = File>>(rt: &R, path: &str) -> io::Result<Option<File>> {
     refuse_others(rt, path)?;
     match fs::open(rt, path) {
         Ok(file) => {
@@ -29,7 +29,7 @@ pub fn open_to_read<R: Files<File = File>>(rt: &R, path: &str) -> io::Result<Opt
 /// is synced each time, so that nothing is written into a file whose name a crash might still take away, as that of a copy; of
 /// a symbolic link the folder of its target is synced too. What isn't a regular file is an error, and so is a file that lost
 /// its name to another one meanwhile.
-pub fn open_to_write<R: Files<File = File> + Alloc>(rt: &R, path: &str) -> io::Result<File> {
+pub(crate) fn open_to_write<R: Files<File = File> + Alloc>(rt: &R, path: &str) -> io::Result<File> {
     refuse_others(rt, path)?;
     let file = OpenOptions::new()
         .read(true)

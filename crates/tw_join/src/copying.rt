@@ -14,7 +14,7 @@ fn copy_labels(alloc: Global, labels: &Labels) -> Result<Labels, NoMemory>
 }
 
 /// A copy of the event with its audit path.
-pub fn copy_event(alloc: Global, event: &EventPart) -> Result<EventPart, NoMemory>
+pub(crate) fn copy_event(alloc: Global, event: &EventPart) -> Result<EventPart, NoMemory>
     ensures { IfOk result (λ copy. copy ≡ event.now) }
 {
     Ok(EventPart {
@@ -25,7 +25,7 @@ pub fn copy_event(alloc: Global, event: &EventPart) -> Result<EventPart, NoMemor
 }
 
 /// A copy of the opening.
-pub fn copy_opening(alloc: Global, opening: &Opening) -> Result<Opening, NoMemory>
+pub(crate) fn copy_opening(alloc: Global, opening: &Opening) -> Result<Opening, NoMemory>
     ensures { IfOk result (λ copy. copy ≡ opening.now) }
 {
     Ok(Opening {
@@ -39,7 +39,7 @@ pub fn copy_opening(alloc: Global, opening: &Opening) -> Result<Opening, NoMemor
 }
 
 /// A copy of the path.
-pub fn copy_path(alloc: Global, path: &Path) -> Result<Path, NoMemory>
+pub(crate) fn copy_path(alloc: Global, path: &Path) -> Result<Path, NoMemory>
     ensures { IfOk result (λ copy. copy ≡ path.now) }
 {
     let mut links = LinkList::with_capacity(alloc, path.links.len())?;
@@ -53,7 +53,7 @@ pub fn copy_path(alloc: Global, path: &Path) -> Result<Path, NoMemory>
 }
 
 /// A copy of the step under a top.
-pub fn copy_part(alloc: Global, at: &Part) -> Result<Part, NoMemory>
+pub(crate) fn copy_part(alloc: Global, at: &Part) -> Result<Part, NoMemory>
     ensures { IfOk result (λ copy. copy ≡ at.now) }
 {
     Ok(Part {
@@ -66,7 +66,7 @@ pub fn copy_part(alloc: Global, at: &Part) -> Result<Part, NoMemory>
 }
 
 /// A copy of the tree proof.
-pub fn copy_tree_proof(alloc: Global, proof: &TreeProof) -> Result<TreeProof, NoMemory>
+pub(crate) fn copy_tree_proof(alloc: Global, proof: &TreeProof) -> Result<TreeProof, NoMemory>
     ensures { IfOk result (λ copy. copy ≡ proof.now) }
 {
     match proof {

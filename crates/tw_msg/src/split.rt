@@ -5,7 +5,7 @@ ghost use Rattle.std.specs.List.{after_first, before_first};
 
 /// What stands before the first separator, and what follows it: all and nothing where there is
 /// none.
-pub fn split_at_first(bytes: &[u8], separator: u8) -> (&[u8], &[u8])
+pub(crate) fn split_at_first(bytes: &[u8], separator: u8) -> (&[u8], &[u8])
     ensures before { result.0.now ≡ before_first (λ b. b == separator) bytes.now }
     ensures after { result.1.now ≡ after_first (λ b. b == separator) bytes.now }
 {

@@ -14,7 +14,11 @@ use tw_base::{Failed, Page};
 use tw_disk::Disk;
 
 // Closes the spare gate where it reads open.
-pub fn see_spare_gate_closed<D: Disk>(disk: &mut D, spare: u64, is_open: bool) -> Result<(), Failed>
+pub(crate) fn ensure_spare_gate_closed<D: Disk>(
+    disk: &mut D,
+    spare: u64,
+    is_open: bool,
+) -> Result<(), Failed>
     requires low { spare < 2 }
     requires room { IsSomeAnd (D.view disk.old).count (λ n. FIRST_PAGE ≤ n) }
     ensures closed { OnOk result ((o : Opening) → spare ≡ spare_of o
@@ -32,7 +36,7 @@ pub fn see_spare_gate_closed<D: Disk>(disk: &mut D, spare: u64, is_open: bool) -
 }
 
 // All but the opening of the gate.
-pub fn prepare<D: Disk>(
+pub(crate) fn prepare<D: Disk>(
     disk: &mut D,
     spare: u64,
     is_open: bool,
@@ -57,7 +61,7 @@ pub fn prepare<D: Disk>(
     ensures grown { OnOk result (IsSomeAnd (D.view disk.new).count (λ n. used + length staged.now ≤ n)) }
     ensures run { IsRun (D.view disk.old) (D.view disk.new) result }
 {
-    see_spare_gate_closed(disk, spare, is_open)?;
+    ensure_spare_gate_closed(disk, spare, is_open)?;
     write_staged(disk, used, staged)?;
     write_spare_body(
         disk,
@@ -70,7 +74,7 @@ pub fn prepare<D: Disk>(
 }
 
 // Makes the staged pages and the root the store's.
-pub fn commit_to<D: Disk>(
+pub(crate) fn commit_to<D: Disk>(
     disk: &mut D,
     spare: u64,
     is_open: bool,

@@ -12,7 +12,7 @@ use tw_base::limits::PAGE_SIZE;
 use tw_disk::Disk;
 
 // Whether the gate of a slot reads open.
-pub fn is_gate_open<D: Disk>(disk: &mut D, slot: u64) -> Result<bool, Failed>
+pub(crate) fn is_gate_open<D: Disk>(disk: &mut D, slot: u64) -> Result<bool, Failed>
     requires low { slot < 2 }
     requires room { IsSomeAnd (D.view disk.old).count (λ n. FIRST_PAGE ≤ n) }
     ensures gate { IfOk result (λ b. (c : Image) → (D.view disk.old).content ≡ Some c → (IsTrue b ↔ IsOpen slot c)) }

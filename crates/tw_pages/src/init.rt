@@ -21,7 +21,7 @@ use tw_disk::Disk;
 use tw_disk::limits::FIRST_PAGE;
 
 // Writes both gates closed, for good.
-pub fn write_closed_gates<D: Disk>(disk: &mut D) -> Result<(), Failed>
+pub(crate) fn write_closed_gates<D: Disk>(disk: &mut D) -> Result<(), Failed>
     requires { IsSomeAnd (D.view disk.old).count (λ n. 0 ≤ n) }
     ensures closed { OnOk result (IsAtRest (D.view disk.old) (λ c. length c < FIRST_PAGE)
         → IsAtRest (D.view disk.new) BothClosed) }
@@ -35,7 +35,7 @@ pub fn write_closed_gates<D: Disk>(disk: &mut D) -> Result<(), Failed>
 }
 
 // Writes both bodies, for good.
-pub fn write_bodies<D: Disk>(disk: &mut D, root: &[u8]) -> Result<(), Failed>
+pub(crate) fn write_bodies<D: Disk>(disk: &mut D, root: &[u8]) -> Result<(), Failed>
     requires room { IsSomeAnd (D.view disk.old).count (λ n. 2 ≤ n) }
     requires root { length root.now ≤ MOST_ROOT_BYTES }
     ensures ready { OnOk result (IsAtRest (D.view disk.old) BothClosed
@@ -56,7 +56,7 @@ pub fn write_bodies<D: Disk>(disk: &mut D, root: &[u8]) -> Result<(), Failed>
 }
 
 // Writes both gates open, for good, which makes the store.
-pub fn write_open_gates<D: Disk>(disk: &mut D) -> Result<(), Failed>
+pub(crate) fn write_open_gates<D: Disk>(disk: &mut D) -> Result<(), Failed>
     requires { IsSomeAnd (D.view disk.old).count (λ n. FIRST_PAGE ≤ n) }
     ensures grown { OnOk result (IsSomeAnd (D.view disk.new).count (λ n. FIRST_PAGE ≤ n)) }
     ensures opened { OnOk result ((root : List ℕ)
@@ -72,7 +72,7 @@ pub fn write_open_gates<D: Disk>(disk: &mut D) -> Result<(), Failed>
 }
 
 // Makes what was written stable, refuses a store that is there, and tells whether there are too few pages for one.
-pub fn look<D: Disk>(disk: &mut D) -> Result<bool, StoreFault>
+pub(crate) fn look<D: Disk>(disk: &mut D) -> Result<bool, StoreFault>
     ensures unmade { IfOk result (λ short. (c : Image) → (D.view disk.old).content ≡ Some c
         → IsAtRest (D.view disk.new) (λ i. (i ≡ c) × IsUnmade short i)) }
     ensures images { LeavesOnly (D.view disk.old) (D.view disk.new) (D.view disk.old).may_leave }
@@ -97,7 +97,7 @@ pub fn look<D: Disk>(disk: &mut D) -> Result<bool, StoreFault>
 }
 
 // Sees that both gates are closed.
-pub fn see_gates_closed<D: Disk>(disk: &mut D, short: bool) -> Result<(), Failed>
+pub(crate) fn ensure_gates_closed<D: Disk>(disk: &mut D, short: bool) -> Result<(), Failed>
     requires { IsSomeAnd (D.view disk.old).count (λ n. (if short then 0 else 2) ≤ n) }
     ensures closed { OnOk result (IsAtRest (D.view disk.old) (IsUnmade short)
         → IsAtRest (D.view disk.new) BothClosed) }
@@ -113,7 +113,7 @@ pub fn see_gates_closed<D: Disk>(disk: &mut D, short: bool) -> Result<(), Failed
 }
 
 // Writes a store where there is none.
-pub fn make<D: Disk>(disk: &mut D, short: bool, root: &[u8]) -> Result<(), Failed>
+pub(crate) fn make<D: Disk>(disk: &mut D, short: bool, root: &[u8]) -> Result<(), Failed>
     requires room { IsSomeAnd (D.view disk.old).count (λ n. (if short then 0 else 2) ≤ n) }
     requires root { length root.now ≤ MOST_ROOT_BYTES }
     ensures made { OnOk result (IsAtRest (D.view disk.old) (IsUnmade short)
@@ -123,7 +123,7 @@ pub fn make<D: Disk>(disk: &mut D, short: bool, root: &[u8]) -> Result<(), Faile
     ensures room { OnOk result (IsSomeAnd (D.view disk.new).count (λ n. FIRST_PAGE ≤ n)) }
     ensures run { IsRun (D.view disk.old) (D.view disk.new) result }
 {
-    see_gates_closed(disk, short)?;
+    ensure_gates_closed(disk, short)?;
     write_bodies(disk, root)?;
     write_open_gates(disk)?;
     Ok(())

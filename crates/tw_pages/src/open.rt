@@ -29,7 +29,7 @@ pub enum Slot {
 }
 
 // Reads a slot: its gate, and its body where the gate reads open.
-pub fn read_slot<D: Disk>(disk: &mut D, slot: u64, count: u64) -> Result<Slot, Failed>
+pub(crate) fn read_slot<D: Disk>(disk: &mut D, slot: u64, count: u64) -> Result<Slot, Failed>
     requires low { slot < 2 }
     requires count { (D.view disk.old).count ≡ Some count }
     requires room { FIRST_PAGE ≤ count }
@@ -77,7 +77,7 @@ pub struct Found {
 }
 
 // Chooses the slot that counts: the one with an open gate, or of two the one of the higher generation.
-pub fn choose(first: Slot, second: Slot) -> Result<Found, StoreFault>
+pub(crate) fn choose(first: Slot, second: Slot) -> Result<Found, StoreFault>
     ensures found { (c : Image) → HoldsSlot (length c) 0 c first → HoldsSlot (length c) 1 c second
         → IfOk result (IsFoundIn c) }
     ensures slot { IfOk result (λ f. f.slot < 2) }
@@ -144,7 +144,7 @@ impl From<Failed> for StoreFault {
 }
 
 // The first barrier of `init` and `open`, which makes what the disk reads stable, and the page count.
-pub fn settle<D: Disk>(disk: &mut D) -> Result<u64, Failed>
+pub(crate) fn settle<D: Disk>(disk: &mut D) -> Result<u64, Failed>
     ensures count { IfOk result (λ n. (D.view disk.new).count ≡ Some n) }
     ensures durable { OnOk result (IfSome (D.view disk.old).content (λ c. Only c (D.view disk.new).may_leave)) }
     ensures content { (D.view disk.new).content ≡ (D.view disk.old).content }
@@ -158,7 +158,7 @@ pub fn settle<D: Disk>(disk: &mut D) -> Result<u64, Failed>
 }
 
 // Makes what was written stable, and finds the slot that counts.
-pub fn find<D: Disk>(disk: &mut D) -> Result<Found, StoreFault>
+pub(crate) fn find<D: Disk>(disk: &mut D) -> Result<Found, StoreFault>
     ensures found { IfOk result (λ f. (c : Image) → (D.view disk.old).content ≡ Some c
         → IsAtRest (D.view disk.new) (λ i. (i ≡ c) × IsFoundIn i f)) }
     ensures refused { IfErr result (λ e. (c : Image) → (D.view disk.old).content ≡ Some c

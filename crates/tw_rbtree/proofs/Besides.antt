@@ -1,6 +1,6 @@
 -- What is found over any pages: an entry of the asked key, or one on the asked side of it.
-use Rattle.std.proofs.Common.{◌≡◌, ℕ, ◌+◌, List, [], ◌∷◌, Bool, true, false, refl, sym}
-use Rattle.std.specs.Prelude.{Option, Some, None, IfSome, not, if◌then◌else◌}
+use Rattle.std.proofs.Common.{◌≡◌, ℕ, suc, zero, ◌+◌, ◌*◌, List, [], ◌∷◌, ◌++◌, Bool, true, false, refl, sym, subst, slice_get, Result, Ok, Err}
+use Rattle.std.specs.Prelude.{Option, Some, None, IfOk, IfSome, not, ◌==◌, nat_lt, if◌then◌else◌}
 use Rattle.tw_base.specs.declared.history.thread.Entry.{Entry}
 use Rattle.tw_base.specs.declared.history.thread.Key.{Key}
 use Rattle.tw_base.specs.declared.history.tree_proof.Ask.{Ask}
@@ -14,8 +14,20 @@ use Rattle.std.specs.declared.cmp.Ordering.{Ordering}
 use Rattle.std.specs.declared.cmp.Ordering.TheVariants.{Less, Equal, Greater}
 use Rattle.std.specs.Cmp.Lexicographic.{slice_cmp}
 use Rattle.std.specs.Ordering.{is_eq, nat_cmp, ordering_then}
+use Rattle.tw_base.specs.declared.history.tree_proof.Ancestor.{Ancestor}
+use Rattle.tw_base.specs.declared.history.tree_proof.TreeProof.{TreeProof}
+use Rattle.tw_base.proofs.lemmas.kinds.ListLemmas.{Each-append}
+use Rattle.tw_rbnode.specs.declared.node.Found.{Found as Spot}
 use Rattle.tw_rbnode.specs.declared.node.Found.TheVariants.{At, Between}
-use Rattle.tw_rbtree.specs.declared.seeking.Sought.{Sought}
+use Rattle.tw_rbnode.specs.Page.{IsNode, TreePage}
+use Rattle.tw_rbnode.specs.Shape.{Shape, Empty, Node, size}
+use Rattle.tw_rbnode.specs.Trees.{above_at, label_at, labels_of, mark_of, node_above, nodes_above}
+use Rattle.tw_treeproof.specs.Answers.{ancestors_of}
+use Rattle.tw_treeproof.specs.Limits.{IsAncestorInRange}
+use Rattle.tw_rbtree.specs.declared.fault.TreeFault.{TreeFault}
+use Rattle.tw_rbtree.specs.declared.proving.Shown.{Shown}
+use Rattle.tw_rbtree.specs.declared.proving.Sides.{Sides}
+use Rattle.tw_rbtree.specs.Paths.{shown_proof}
 use Rattle.tw_treeproof.specs.Ways.{has_asked_key, is_left}
 use Rattle.tw_rbtree.specs.Beside.{AreBeside, IsHigh, IsLow, IsMet, IsSoughtBy}
 use Rattle.tw_rbtree.specs.Ways.{seek}
@@ -28,7 +40,7 @@ seek-beside ask base low high (e ∷ es) beside ranges =
   where
     by : (meets left : Bool) → has_asked_key ask e ≡ meets → is_left ask e ≡ left → (is_left ask e ≡ false → IsSoughtBy ask (seek ask (base + 1) (Some e) high es))
         → IsSoughtBy ask (if meets then record { at = At (base + 1); low = low; met = Some e; high = high }
-            else (if left then record { at = Between base; low = low; met = None; high = Some e } else seek ask (base + 1) (Some e) high es))
+        else (if left then record { at = Between base; low = low; met = None; high = Some e } else seek ask (base + 1) (Some e) high es))
     by true left m l rest = ((m, ranges.0), beside)
     by false true m l rest = (tt, (beside.0, (l, ranges.0)))
     by false false m l rest = rest l
@@ -65,3 +77,39 @@ low-below key (Some e) is = (below-lt (key_of e) key (turned _ is.0), is.1)
 pub high-above : (key : Key) (o : Option Entry) → IfSome o (IsHigh (Above key)) → IfSome o (λ e. KeyBelow key (key_of e) × IsEntryInRange e)
 high-above key None is = tt
 high-above key (Some e) is = (below-lt key (key_of e) is.0, is.1)
+
+-- ---- the nodes above a slot or a place
+
+get-range : (es : List Entry) (k : ℕ) → Each IsEntryInRange es → IfSome (slice_get es k) IsEntryInRange
+get-range [] k ranges = tt
+get-range (e ∷ es) zero ranges = ranges.0
+get-range (e ∷ es) (suc k) ranges = get-range es k ranges.1
+
+module _ (dig : List ℕ → List ℕ) where
+  one-range : (o : Option Entry) (other : List ℕ) → IfSome o IsEntryInRange → Each IsAncestorInRange (node_above dig o other)
+  one-range None other is = tt
+  one-range (Some e) other is = (is, tt)
+
+  above-ranges : (es : List Entry) (labels : List (List ℕ)) (mark base : ℕ) (s : Shape) → Each IsEntryInRange es → Each IsAncestorInRange (above_at dig es labels mark base s)
+  unfolding above_at
+  above-ranges es labels mark base Empty ranges = tt
+  above-ranges es labels mark base (Node red l r) ranges =
+      by (mark == 2 * (base + size l + 1)) (nat_lt mark (2 * (base + size l + 1))) (above-ranges es labels mark base l ranges) (above-ranges es labels mark (base + size l + 1) r ranges)
+    where
+      by : (here left : Bool) → Each IsAncestorInRange (above_at dig es labels mark base l) → Each IsAncestorInRange (above_at dig es labels mark (base + size l + 1) r)
+          → Each IsAncestorInRange (if here then [] else (if left then above_at dig es labels mark base l ++ node_above dig (slice_get es (base + size l)) (label_at dig es labels (base + size l + 1) r)
+          else above_at dig es labels mark (base + size l + 1) r ++ node_above dig (slice_get es (base + size l)) (label_at dig es labels base l)))
+      by true left one two = tt
+      by false true one two = Each-append IsAncestorInRange (above_at dig es labels mark base l) _ one (one-range (slice_get es (base + size l)) _ (get-range es (base + size l) ranges))
+      by false false one two = Each-append IsAncestorInRange (above_at dig es labels mark (base + size l + 1) r) _ two (one-range (slice_get es (base + size l)) _ (get-range es (base + size l) ranges))
+
+  pub nodes-ranges : (p : TreePage) (at : Spot) → IsNode p → Each IsAncestorInRange (nodes_above dig p at)
+  nodes-ranges p at node = above-ranges p.entries (labels_of p.children) (mark_of at) 0 p.shape node.ranges
+
+pub shown-ranges : (r : Result Shown TreeFault) (more : List Ancestor) → IfOk r (λ s. s.ancestors ≡ more) → Each IsAncestorInRange more → IfOk r (λ s. Each IsAncestorInRange s.ancestors)
+shown-ranges (Ok s) more is ranges = subst (Each IsAncestorInRange) (sym is) ranges
+shown-ranges (Err fault) more is ranges = tt
+
+pub proof-ranges : (sides : Option Sides) (up : List Ancestor) (proof : TreeProof) → proof ≡ shown_proof sides up → Each IsAncestorInRange up → Each IsAncestorInRange (ancestors_of proof)
+proof-ranges None up proof is ranges = subst (λ (p : TreeProof). Each IsAncestorInRange (ancestors_of p)) (sym is) ranges
+proof-ranges (Some s) up proof is ranges = subst (λ (p : TreeProof). Each IsAncestorInRange (ancestors_of p)) (sym is) ranges

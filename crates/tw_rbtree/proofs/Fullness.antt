@@ -1,5 +1,5 @@
 -- A tree of fewer than 2^40 entries is never full.
-use Rattle.std.proofs.Common.{◌≡◌, ◌≢◌, ℕ, suc, zero, ◌+◌, ◌*◌, ◌^◌, ◌<◌, ◌≤◌, List, [], ◌∷◌, length, refl, sym, ap, ◌∙◌, subst, arith, inl, inr}
+use Rattle.std.proofs.Common.{◌≡◌, ℕ, suc, zero, ◌+◌, ◌*◌, ◌^◌, ◌<◌, ◌≤◌, List, [], ◌∷◌, length, refl, sym, ap, ◌∙◌, subst, arith, inl, inr}
 use Rattle.std.specs.Prelude.{Option, None, Err}
 use Rattle.tw_base.specs.declared.history.root.Root.{Root}
 use Rattle.tw_base.specs.declared.history.thread.Entry.{Entry}
@@ -15,7 +15,6 @@ use Rattle.tw_rbnode.specs.declared.node.Found.{Found as Spot}
 use Rattle.tw_rbnode.specs.declared.node.Found.TheVariants.{At, Between}
 use Rattle.tw_rbnode.specs.Page.{TreePage}
 use Rattle.tw_rbtree.specs.declared.fault.TreeFault.TheVariants.{BadPage}
-use Rattle.tw_rbtree.specs.declared.seeking.Sought.{Sought}
 use Rattle.tw_rbtree.specs.Answers.{AnswersInsert, Overflows}
 use Rattle.tw_rbtree.specs.Reading.{child_in, node_in}
 use Rattle.tw_rbtree.specs.Standing.{IsRootTree, IsTreeBelow, IsTreePage, StandsFor, any_page}

@@ -18,3 +18,4 @@ pub mod Plantings
 pub mod Fullness
 pub mod StandingLaws
 pub mod Besides
+pub mod TreeHeights

@@ -1,9 +1,8 @@
 -- What holds of the entries of a tree in pages, and of the way to an entry.
-use Rattle.std.proofs.Common.{◌≡◌, ℕ, suc, zero, ◌+◌, List, [], ◌∷◌, ◌++◌, length, refl, sym, ap, ◌∙◌, subst, inl, inr}
+use Rattle.std.proofs.Common.{◌≡◌, ℕ, suc, zero, ◌+◌, List, [], ◌∷◌, refl, sym, ap, ◌∙◌, subst, inl, inr}
 use Rattle.std.specs.Prelude.{Option, Some, None, map, ◌==◌, if◌then◌else◌}
 use Rattle.tw_base.specs.declared.history.root.Root.{Root}
 use Rattle.tw_base.specs.declared.history.thread.Entry.{Entry}
-use Rattle.tw_base.specs.declared.history.tree_proof.Ask.{Ask}
 use Rattle.tw_base.specs.declared.history.tree_proof.Ask.TheVariants.{Absent, Present}
 use Rattle.tw_base.specs.history.Entries.{key_of}
 use Rattle.tw_base.specs.history.Limits.{IsEntryInRange}

@@ -24,7 +24,7 @@ ghost use Rattle.tw_rbtree.specs.Paths.{proof_of_way};
 ghost use Rattle.tw_rbtree.specs.Answers.{AnswersInsert, IsSoAt};
 ghost use Rattle.tw_rbtree.specs.declared.fault.TreeFault.TheVariants.{BadPage};
 ghost use Rattle.tw_treeproof.specs.Answers.{ancestors_of};
-ghost use Rattle.tw_treeproof.specs.Making.{IsSo, proof_of};
+ghost use Rattle.tw_treeproof.specs.Making.{IsSo, height, proof_of};
 
 use tw_base::Hasher;
 
@@ -82,10 +82,12 @@ pub fn listing_laws<H: Hasher>()
     ensures none { (ps : Image) (root : Root) (since : ℕ) → (root.page ≡ 0) ⊎ (root.page < since) → listed H.dig ps since root ≡ Is [] }
 {}
 
-/// How long proofs of pages that stand for a tree are; its clauses are the theorem. The function itself does nothing.
+/// How long proofs of pages that stand for a tree are, and how high the tree is; its clauses are the theorem. The function itself does nothing.
 pub fn size_laws<H: Hasher>()
     // The tree's own proof of an answer has at most 9 nodes a level of pages above its place, and a tree of some entries has
     // so many levels of pages only where it has at least 2 * 13^(levels - 1) - 1 entries.
     ensures size { (ps : Image) (root : Root) (t : Tree) (ask : Ask) → StandsFor H.dig ps root t →
         (levels : ℕ) × (length (ancestors_of (proof_of H.dig t ask)) ≤ 9 * levels) × (0 < levels → 2 * 13 ^ (levels - 1) ≤ length (entries t) + 1) }
+    // The tree is at most 99 high.
+    ensures height { (ps : Image) (root : Root) (t : Tree) → StandsFor H.dig ps root t → height t ≤ 99 }
 {}

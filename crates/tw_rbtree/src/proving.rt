@@ -6,7 +6,9 @@ ghost use Rattle.tw_disk.specs.Image.{Image};
 ghost use Rattle.tw_disk.specs.Pages.{OnlyReads};
 ghost use Rattle.tw_rbnode.specs.Answers.{IsThere};
 ghost use Rattle.tw_rbnode.specs.Trees.{nodes_above};
+ghost use Rattle.tw_base.specs.kinds.Lists.{Each};
 ghost use Rattle.tw_treeproof.specs.Answers.{ancestors_of};
+ghost use Rattle.tw_treeproof.specs.Limits.{IsAncestorInRange};
 ghost use Rattle.tw_base.specs.declared.history.tree_proof.Ancestor.{Ancestor};
 ghost use Rattle.tw_rbtree.specs.Answers.{AnswersPath, IsSoAt, NeverPresent, UntrueUnless};
 ghost use Rattle.tw_rbtree.specs.FaultWords.{tree_faults};
@@ -15,7 +17,7 @@ ghost use Rattle.tw_rbtree.specs.Showing.{AnswersShown};
 ghost use Rattle.tw_rbtree.specs.Ways.{seek as seek_in, way as way_down, way_from};
 
 use crate::fault::TreeFault;
-use crate::reading::{read_child, read_root};
+use crate::reading::{read_child, read_root, see_node};
 use crate::seeking::{Sought, seek};
 use std::alloc::Global;
 use tw_base::{AncestorList, Ask, Digest, Entry, Hasher, NoMemory, Root, TreeProof};
@@ -124,10 +126,12 @@ fn shown_below<P: Pages, H: Hasher>(
     ensures answer { (ps : Image) → (P.view pages.old).list ≡ Some ps →
         AnswersShown H.dig ask.now result (way_from H.dig ps ask.now node.now.level low.now high.now node.now) }
     ensures few { IfOk result (λ shown. length shown.ancestors ≤ 9 * (node.now.level + 1)) }
+    ensures ranges { IfOk result (λ shown. Each IsAncestorInRange shown.ancestors) }
     ensures never { NeverPresent result }
     ensures kept { OnlyReads P.view P.same pages.old pages.new (has_failed tree_faults result ≡ false) }
     ensures faults { FaultsRise tree_faults P.view P.same pages.old pages.new result }
 {
+    see_node(node);
     let here = seek(node, ask, low, high);
     let Found::Between(place) = here.at else {
         return end_in::<H>(alloc, node, ask, &here);
@@ -171,6 +175,8 @@ pub fn path<P: Pages, H: Hasher>(
         AnswersPath H.dig ask.now result (way_down H.dig ps ask.now root.now) }
     // Over any pages, told or not, a proof has at most 99 nodes above its place.
     ensures few { IfOk result (λ proof. length (ancestors_of proof) ≤ 99) }
+    // Their entries have steps within 1 to 2^40 - 1.
+    ensures ranges { IfOk result (λ proof. Each IsAncestorInRange (ancestors_of proof)) }
     // `Present` is never answered.
     ensures never { NeverPresent result }
     // Reading changes nothing of what the pages tell.

@@ -1,33 +1,41 @@
 -- Answers and refusals as what is found in pages.
-use Rattle.std.proofs.Common.{◌≡◌, ◌⊎◌, ℕ, ap, sym, ◌∙◌, subst, inl, inr}
-use Rattle.std.specs.Prelude.{Result, Ok, Err, IsErrAnd}
+use Rattle.std.proofs.Common.{◌≡◌, ◌⊎◌, ℕ, true, ap, refl, sym, ◌∙◌, subst, inl, inr}
+use Rattle.std.specs.Prelude.{Result, Ok, Err, IfErr, IsErrAnd}
 use Rattle.tw_skiplist.specs.declared.fault.ListFault.{ListFault}
 use Rattle.tw_skiplist.specs.declared.fault.ListFault.TheVariants as list
-use Rattle.tw_skiplist.specs.Answers.{IsFaultOf, NeverNoStep, NoStepUnless}
+use Rattle.tw_disk.specs.Answers.{IsShared, SaysOf, is_of_disk}
+use Rattle.tw_skiplist.specs.ListFaults.{list_faults}
 use Rattle.tw_disk.specs.Found.{Found, ◌>>=◌}
 use Rattle.tw_disk.specs.Found.Found.{Is, Bad}
-use Rattle.tw_service.specs.Finds.{IsAnswer, IsRefusalOf}
-use Rattle.tw_service.specs.Refusals.{IsBadPage, IsFault, IsNoEvent, OfBadPage, refusal_of}
+use Rattle.tw_service.specs.Finds.{IsRefusalOf}
+use Rattle.tw_service.specs.Refusals.{IsBadPage, IsFault, IsNoEvent, OfBadPage, refusal_of, refusals}
 use Rattle.tw_service.specs.declared.refusal.Refusal.{Refusal}
 use Rattle.tw_service.specs.declared.refusal.Refusal.TheVariants.{NoEvent, BadPage, DiskFault, NoMemory}
 
 -- ---- faults of the list
 
-pub never_no_step : (A : Type 0) (fault : ListFault) (last : ℕ) (P : Type 0) → P → NoStepUnless {T = A} (Err fault) last P → NeverNoStep {T = A} (Err fault)
-never_no_step A (list.NoStep n) last P there gone = absurd (gone.1 there)
-never_no_step A _ last P there gone = tt
+-- what a fault of the list says, it says as a refusal
+pub same_sort : (fault : ListFault) → refusals (refusal_of fault) ≡ list_faults fault
+same_sort (list.NoStep n) = refl
+same_sort (list.BadPage page) = refl
+same_sort list.DiskFault = refl
+same_sort list.NoMemory = refl
 
-module _ {X Y : Type 0} where
-  -- a fault that `?` hands on ends the reading
-  pub fault_found : (A : Type 0) (result : Result Y Refusal) (fault : ListFault) (one : Found X) (next : X → Found (Result Y Refusal)) → IsErrAnd result (λ refusal. refusal ≡ refusal_of fault)
-      → NeverNoStep {T = A} (Err fault) → IsFaultOf fault one → IsAnswer result (one >>= next)
-  fault_found A (Ok _) fault one next is never there = absurd is
-  fault_found A (Err refusal) fault one next is never there = subst (λ (r : Refusal). IsRefusalOf r (one >>= next)) (sym is) (of fault never there)
-    where
-      of : (f : ListFault) → NeverNoStep {T = A} (Err f) → IsFaultOf f one → IsRefusalOf (refusal_of f) (one >>= next)
-      of (list.NoStep n) never there = absurd never
-      of (list.BadPage page) never there = ap (λ (f : Found X). f >>= next) there
-      of _ never there = tt
+-- one that isn't of the arguments is a fault of the service
+pub fault_own : {T : Type 0} (result : Result T Refusal) (fault : ListFault) → IsErrAnd result (λ r. r ≡ refusal_of fault) → IsShared (list_faults fault) → IfErr result (λ r. IsFault r ⊎ IsNoEvent r)
+fault_own (Ok x) fault is shared = absurd is
+fault_own (Err r) fault is shared = inl (subst IsFault (sym is) (of fault shared))
+  where
+    of : (f : ListFault) → IsShared (list_faults f) → IsFault (refusal_of f)
+    of (list.NoStep n) shared = absurd shared
+    of _ shared = tt
+
+-- a refusal that tells of the disk is a fault
+pub of_disk : (r : Refusal) → is_of_disk (refusals r) ≡ true → IsFault r
+of_disk (BadPage page) is = tt
+of_disk DiskFault is = tt
+of_disk NoMemory is = tt
+of_disk _ is = absurd cc
 
 module _ {X Y : Type 0} where
   -- a bad page ends the reading
@@ -37,10 +45,10 @@ module _ {X Y : Type 0} where
 
 module _ {X : Type 0} where
   -- the page of a fault
-  pub page_found : (fault : ListFault) (refusal : Refusal) (found : Found X) → refusal ≡ refusal_of fault → IsFaultOf fault found → OfBadPage refusal (λ page. found ≡ Bad page)
+  pub page_found : (fault : ListFault) (refusal : Refusal) (found : Found X) → refusal ≡ refusal_of fault → SaysOf list_faults (list_faults fault) found → OfBadPage refusal (λ page. found ≡ Bad page)
   page_found fault refusal found is there = subst (λ (r : Refusal). OfBadPage r (λ page. found ≡ Bad page)) (sym is) (of fault there)
     where
-      of : (f : ListFault) → IsFaultOf f found → OfBadPage (refusal_of f) (λ page. found ≡ Bad page)
+      of : (f : ListFault) → SaysOf list_faults (list_faults f) found → OfBadPage (refusal_of f) (λ page. found ≡ Bad page)
       of (list.BadPage page) there = there
       of _ there = tt
 

@@ -45,8 +45,8 @@ kept_thread dig size ps h head events keeps room limits none short =
     let archive : Root = archive_at dig h (length h.steps) in
     let more = grown dig size ps h head keeps events archive short limits room in
     let new = more.keeps refl in
-    ap (λ (o : Option Refusal). unless o (appended dig ps head events archive >>= (λ next. Is (Ok (thread_at h.name next.head))))) none
-    ∙ is_on (appended dig ps head events archive) (λ next. Is (Ok (thread_at h.name next.head))) _ more.is
+    ap (λ (o : Option Refusal). unless o (appended dig ps head events archive >>= (λ next. Is (Ok (thread_at h.name next.value))))) none
+    ∙ is_on (appended dig ps head events archive) (λ next. Is (Ok (thread_at h.name next.value))) _ more.is
     ∙ (λ j. Is (Ok (record { from = h.name; step = new.step j; auth = new.auth j })))
 
 -- ---- an event of a step

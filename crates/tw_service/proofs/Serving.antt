@@ -19,7 +19,8 @@ use Rattle.tw_pages.specs.Store.{IsAbove, Opening, OpensAs, OpensAsEither, used_
 use Rattle.tw_pages.specs.declared.store.Store.{Store}
 use Rattle.tw_pages.proofs.StillKept.{kept_opens, same_leaves as store_leaves, same_opens}
 use Rattle.tw_skiplist.specs.declared.head.Head.{Head}
-use Rattle.tw_skiplist.specs.Appended.{Next, appended}
+use Rattle.tw_disk.specs.Answers.{Next}
+use Rattle.tw_skiplist.specs.Appended.{appended}
 use Rattle.tw_disk.specs.Found.Found.{Is}
 use Rattle.tw_skiplist.specs.Keeping.{Keeps, archive_at, event_step}
 use Rattle.tw_skiplist.proofs.EventHistories.{same_tree}
@@ -48,14 +49,14 @@ pub record Added (dig : List ℕ → List ℕ) (before : Image) (longer : Histor
 -- where the step that was found was put, and the pages kept a history
 pub added_to : (dig : List ℕ → List ℕ) (size : (text : List ℕ) → IsDigest (dig text)) (ps : Image) (h : History) (head : Head) (events : List (List ℕ)) (archive : Root) (now : Option Image) (new : Head)
     → Keeps dig ps h head → archive ≡ archive_at dig h (length h.steps) → head.step < LAST_STEP → MayRecord events → 4 + length ps < 2 ^ 47
-    → (pages : Image) → now ≡ Some pages → appended dig ps head events archive ≡ Is (record { pages = pages; head = new }) → Added dig ps (with_events h events) now new
+    → (pages : Image) → now ≡ Some pages → appended dig ps head events archive ≡ Is (record { pages = pages; value = new }) → Added dig ps (with_events h events) now new
 added_to dig size ps h head events archive now new keeps archived short limits room pages told is =
     let own = grown dig size ps h head keeps events archive short limits room in
-    let same : ◌≡◌ {A = Next} (record { pages = ps ++ own.more; head = own.new }) (record { pages = pages; head = new }) = same_found _ _ (sym own.is ∙ is) in
-    let heads : own.new ≡ new = ap (λ (n : Next). n.head) same in
+    let same : ◌≡◌ {A = Next Head} (record { pages = ps ++ own.more; value = own.new }) (record { pages = pages; value = new }) = same_found _ _ (sym own.is ∙ is) in
+    let heads : own.new ≡ new = ap (λ (n : Next Head). n.value) same in
     record {
       more = own.more;
-      told = told ∙ ap (λ (n : Next). Some n.pages) (sym same);
+      told = told ∙ ap (λ (n : Next Head). Some n.pages) (sym same);
       keeps = subst (λ (x : Head). Keeps dig (ps ++ own.more) (with_events h events) x) heads (own.keeps archived);
     }
 

@@ -1,5 +1,5 @@
 -- What the calls of a service find in its pages, whether or not these keep a history.
-use Rattle.std.specs.Prelude.{◌≡◌, ℕ, List, Bool, Option, Some, None, Result, Ok, Err}
+use Rattle.std.specs.Prelude.{ℕ, List, Bool, Option, Some, None, Result, Ok, Err}
 use Rattle.tw_base.specs.declared.history.root.Root.{Root}
 use Rattle.tw_base.specs.declared.history.thread.Thread.{Thread}
 use Rattle.tw_disk.specs.Image.{Image}
@@ -9,11 +9,12 @@ use Rattle.tw_skiplist.specs.declared.head.Head.{Head}
 use Rattle.tw_skiplist.specs.declared.info.StepProof.{StepProof}
 use Rattle.tw_skiplist.specs.Appended.{appended}
 use Rattle.tw_skiplist.specs.Events.{events_of_info}
+use Rattle.tw_disk.specs.Answers.{AnswersOr, RefusesAs}
 use Rattle.tw_disk.specs.Found.{Found, ◌>>=◌}
-use Rattle.tw_disk.specs.Found.Found.{Is, Bad}
+use Rattle.tw_disk.specs.Found.Found.{Is}
 use Rattle.tw_skiplist.specs.Readings.{found_proof}
 use Rattle.tw_service.specs.declared.refusal.Refusal.{Refusal}
-use Rattle.tw_service.specs.declared.refusal.Refusal.TheVariants.{BadPage, DiskFault, NoMemory}
+use Rattle.tw_service.specs.Refusals.{refusals}
 use Rattle.tw_service.specs.Limits.{append_refusal, event_refusal, order_refusal}
 
 module _ {X : Type 0} where
@@ -24,15 +25,11 @@ module _ {X : Type 0} where
 
   -- a refusal is what is found, and BadPage tells the page that is; a failed device call and want of memory are excepted
   abbrev pub IsRefusalOf : Refusal → Found (Result X Refusal) → Type 0
-  IsRefusalOf (BadPage page) found = found ≡ Bad page
-  IsRefusalOf DiskFault found = Unit {0}
-  IsRefusalOf NoMemory found = Unit {0}
-  IsRefusalOf refusal found = found ≡ Is (Err refusal)
+  IsRefusalOf refusal found = RefusesAs refusals (refusals refusal) refusal found
 
   -- an answer is what is found, with these exceptions
   abbrev pub IsAnswer : Result X Refusal → Found (Result X Refusal) → Type 0
-  IsAnswer (Ok value) found = found ≡ Is (Ok value)
-  IsAnswer (Err refusal) found = IsRefusalOf refusal found
+  IsAnswer result found = AnswersOr refusals (λ value. value) result found
 
 -- the thread that ends with a head
 abbrev pub thread_at : (name : List ℕ) → Head → Thread
@@ -50,7 +47,7 @@ module _ (dig : List ℕ → List ℕ) (pages : Image) (name : List ℕ) (head :
   -- the thread of one more step, of these events and with this archive
   unfoldable pub found_thread : (is_broken : Bool) → (events : List (List ℕ)) → (archive : Root) → Found (Result Thread Refusal)
   found_thread is_broken events archive =
-      unless (append_refusal is_broken head.step events) (appended dig pages head events archive >>= (λ next. Is (Ok (thread_at name next.head))))
+      unless (append_refusal is_broken head.step events) (appended dig pages head events archive >>= (λ next. Is (Ok (thread_at name next.value))))
 
   module _ (step index top : ℕ) where
     -- the step under the top is read; where its page tells of an event at the index, so are its events

@@ -1,9 +1,18 @@
 -- What kinds of refusals there are, and which one a fault of the list of steps becomes.
 use Rattle.std.specs.Prelude.{ℕ}
+use Rattle.tw_disk.specs.Answers.{FaultSort}
+use Rattle.tw_disk.specs.Answers.FaultSort.{OfPage, OfDisk, OfMemory, OfCall}
 use Rattle.tw_skiplist.specs.declared.fault.ListFault.{ListFault}
 use Rattle.tw_skiplist.specs.declared.fault.ListFault.TheVariants as list
 use Rattle.tw_service.specs.declared.refusal.Refusal.{Refusal}
 use Rattle.tw_service.specs.declared.refusal.Refusal.TheVariants.{NoStep, NoEvent, BadPage, DiskFault, NoMemory}
+
+-- what each refusal says: of a page, of the disk, of memory, and all others of a table
+abbrev pub refusals : Refusal → FaultSort
+refusals (BadPage page) = OfPage page
+refusals DiskFault = OfDisk
+refusals NoMemory = OfMemory
+refusals _ = OfCall
 
 -- what a list's fault is to the service
 abbrev pub refusal_of : ListFault → Refusal

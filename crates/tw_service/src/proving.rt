@@ -1,12 +1,10 @@
 // The existence proof of an event of a history that pages keep.
 
-ghost use Rattle.std.specs.Prelude.{◌≡◌, ◌⊎◌, ◌<◌, ◌≤◌, ◌^◌, length, IfOk, IfErr, Some, Err};
+ghost use Rattle.std.specs.Prelude.{◌≡◌, ◌⊎◌, ◌<◌, ◌≤◌, ◌^◌, length, IfOk, IfErr};
 ghost use Rattle.tw_base.specs.history.Limits.{MayRecord};
-ghost use Rattle.tw_base.specs.kinds.Faults.{Rose};
-ghost use Rattle.tw_disk.specs.Image.{Image};
-ghost use Rattle.tw_disk.specs.Pages.{OnlyReads};
-ghost use Rattle.tw_service.specs.Refusals.{IsFault, IsNoEvent};
-ghost use Rattle.tw_service.specs.Finds.{IsAnswer, event_proof, part_of, proof_bytes};
+ghost use Rattle.tw_disk.specs.Answers.{ReadsOr};
+ghost use Rattle.tw_service.specs.Refusals.{IsFault, IsNoEvent, refusals};
+ghost use Rattle.tw_service.specs.Finds.{event_proof, part_of, proof_bytes};
 
 use crate::limits::event_refusal;
 use crate::refusal::Refusal;
@@ -53,6 +51,7 @@ fn write_proof<H: Hasher>(
 }
 
 /// The proof of the event at that index of a step, under that top.
+#[tactic(auto, unfolding(crate::specs::Finds::event_proof))]
 pub(crate) fn make_proof<P: Pages, H: Hasher>(
     alloc: Global,
     pages: &mut P,
@@ -66,11 +65,8 @@ pub(crate) fn make_proof<P: Pages, H: Hasher>(
     requires from { 1 ≤ step }
     requires order { step ≤ top }
     requires last { top ≤ head.now.step }
-    ensures answer { (ps : Image) → P.list pages.old ≡ Some ps → IsAnswer result (event_proof H.dig ps name.now head.now step index top) }
-    ensures answers { IfErr result (λ refusal. IsFault refusal ⊎ IsNoEvent refusal) }
-    ensures kept { OnlyReads P.used_count P.list P.same P.unbroken pages.old pages.new (result ≡ Err Refusal.DiskFault → ⊥) }
-    ensures fault { result ≡ Err Refusal.DiskFault → Rose (P.faults pages.old) (P.faults pages.new) }
-    ensures later { P.faults pages.old ≤ P.faults pages.new }
+    ensures reads { ReadsOr refusals P.view P.same pages.old pages.new (λ bytes. bytes) result (IfErr result (λ refusal. IsFault refusal ⊎ IsNoEvent refusal))
+        (λ ps. event_proof H.dig ps name.now head.now step index top) }
 {
     let proof = prove::<P, H>(alloc, pages, head, top, step)?;
     if let Some(refusal) = event_refusal(proof.info.count, index) {

@@ -16,7 +16,7 @@ use tw_base::{NoMemory, Sequence, Thread};
 
 /// `show HISTORY STEP INDEX`
 #[tactic(auto, unfolding(crate::specs::CommandLine::show))]
-pub fn show(alloc: Global, mut words: Words<'_>) -> Result<Command, Stop>
+pub(crate) fn show(alloc: Global, mut words: Words<'_>) -> Result<Command, Stop>
     ensures { Makes (forms.show (map string_bytes words.entry.left.now)) result }
 {
     let history = words.path()?;
@@ -33,7 +33,7 @@ pub fn show(alloc: Global, mut words: Words<'_>) -> Result<Command, Stop>
 
 /// `join FILE FILE ..`
 #[tactic(auto, unfolding(crate::specs::CommandLine::join))]
-pub fn join(alloc: Global, mut words: Words<'_>) -> Result<Command, Stop>
+pub(crate) fn join(alloc: Global, mut words: Words<'_>) -> Result<Command, Stop>
     ensures { Makes (forms.join (map string_bytes words.entry.left.now)) result }
 {
     let one = words.path()?;
@@ -48,7 +48,7 @@ pub fn join(alloc: Global, mut words: Words<'_>) -> Result<Command, Stop>
 
 /// `verify PROOF ANCHORS`, and else `verify PROOF NAME POS HEX`
 #[tactic(auto, unfolding(crate::specs::CommandLine::verify))]
-pub fn verify(alloc: Global, mut words: Words<'_>) -> Result<Command, Stop>
+pub(crate) fn verify(alloc: Global, mut words: Words<'_>) -> Result<Command, Stop>
     ensures { Makes (forms.verify (map string_bytes words.entry.left.now)) result }
 {
     let proof = words.path()?;
@@ -86,7 +86,7 @@ fn verify_one(alloc: Global, proof: &str, mut words: Words<'_>) -> Result<Comman
 
 /// `strict PROOF ANCHORS`
 #[tactic(auto, unfolding(crate::specs::CommandLine::strict))]
-pub fn strict(alloc: Global, mut words: Words<'_>) -> Result<Command, Stop>
+pub(crate) fn strict(alloc: Global, mut words: Words<'_>) -> Result<Command, Stop>
     ensures { Makes (forms.strict (map string_bytes words.entry.left.now)) result }
 {
     let proof = words.path()?;
@@ -99,7 +99,7 @@ pub fn strict(alloc: Global, mut words: Words<'_>) -> Result<Command, Stop>
 
 /// `checkmap LOW HIGH ANCHORS`
 #[tactic(auto, unfolding(crate::specs::CommandLine::check_map))]
-pub fn check_map(alloc: Global, mut words: Words<'_>) -> Result<Command, Stop>
+pub(crate) fn check_map(alloc: Global, mut words: Words<'_>) -> Result<Command, Stop>
     ensures { Makes (forms.check_map (map string_bytes words.entry.left.now)) result }
 {
     let low = words.path()?;
@@ -115,7 +115,7 @@ pub fn check_map(alloc: Global, mut words: Words<'_>) -> Result<Command, Stop>
 
 /// `audit PROOF ANCHORS HISTORY ..`
 #[tactic(auto, unfolding(crate::specs::CommandLine::audit))]
-pub fn audit(alloc: Global, mut words: Words<'_>) -> Result<Command, Stop>
+pub(crate) fn audit(alloc: Global, mut words: Words<'_>) -> Result<Command, Stop>
     ensures { Makes (forms.audit (map string_bytes words.entry.left.now)) result }
 {
     let proof = words.path()?;
@@ -134,7 +134,7 @@ pub fn audit(alloc: Global, mut words: Words<'_>) -> Result<Command, Stop>
 
 /// `replay FILE`
 #[tactic(auto, unfolding(crate::specs::CommandLine::replay))]
-pub fn replay(alloc: Global, mut words: Words<'_>) -> Result<Command, Stop>
+pub(crate) fn replay(alloc: Global, mut words: Words<'_>) -> Result<Command, Stop>
     ensures { Makes (forms.replay (map string_bytes words.entry.left.now)) result }
 {
     let file = words.path()?;
@@ -145,7 +145,7 @@ pub fn replay(alloc: Global, mut words: Words<'_>) -> Result<Command, Stop>
 
 /// `generate NUMBER STEPS`
 #[tactic(auto, unfolding(crate::specs::CommandLine::generate))]
-pub fn generate(mut words: Words<'_>) -> Result<Command, Stop>
+pub(crate) fn generate(mut words: Words<'_>) -> Result<Command, Stop>
     ensures { Makes (forms.generate (map string_bytes words.entry.left.now)) result }
 {
     let number = words.number(0, u64::MAX)?;

@@ -48,7 +48,7 @@ fn put_field(alloc: Global, text: &mut Bytes, field: &Field) -> Result<(), NoMem
 }
 
 /// Puts a blank and the bytes at the text's end.
-pub fn put_word(text: &mut Bytes, bytes: &[u8]) -> Result<(), NoMemory>
+pub(crate) fn put_word(text: &mut Bytes, bytes: &[u8]) -> Result<(), NoMemory>
     ensures { OnOk result (text.new ≡ text.old ++ fields_text (Word bytes.now ∷ [])) }
 {
     text.extend_from_slice(b" ")?;
@@ -56,7 +56,7 @@ pub fn put_word(text: &mut Bytes, bytes: &[u8]) -> Result<(), NoMemory>
 }
 
 /// Puts a blank and the number at the text's end.
-pub fn put_number(text: &mut Bytes, number: u64) -> Result<(), NoMemory>
+pub(crate) fn put_number(text: &mut Bytes, number: u64) -> Result<(), NoMemory>
     ensures { OnOk result (text.new ≡ text.old ++ fields_text (Number number ∷ [])) }
 {
     let mut buffer = Buffer::new();
@@ -64,14 +64,14 @@ pub fn put_number(text: &mut Bytes, number: u64) -> Result<(), NoMemory>
 }
 
 /// Puts a blank and the name at the text's end.
-pub fn put_name(text: &mut Bytes, name: &Name) -> Result<(), NoMemory>
+pub(crate) fn put_name(text: &mut Bytes, name: &Name) -> Result<(), NoMemory>
     ensures { OnOk result (text.new ≡ text.old ++ fields_text (Named name.now ∷ [])) }
 {
     put_word(text, name.text())
 }
 
 /// Puts a blank and the bytes in hexadecimal at the text's end.
-pub fn put_hex(alloc: Global, text: &mut Bytes, bytes: &[u8]) -> Result<(), NoMemory>
+pub(crate) fn put_hex(alloc: Global, text: &mut Bytes, bytes: &[u8]) -> Result<(), NoMemory>
     ensures { OnOk result (text.new ≡ text.old ++ fields_text (Hex bytes.now ∷ [])) }
 {
     if bytes.is_empty() {

@@ -51,7 +51,7 @@ pub fn read_digest(text: &[u8]) -> Option<Digest>
 }
 
 /// The number that the text is, if it is one within the range.
-pub fn number_within(text: &[u8], least: u64, most: u64) -> Option<u64>
+pub(crate) fn number_within(text: &[u8], least: u64, most: u64) -> Option<u64>
     ensures { result ≡ number_value least most text.now }
 {
     read_number(text).filter(|n| least <= *n && *n <= most)

@@ -13,7 +13,7 @@ use tw_base::limits::LAST_STEP;
 
 /// `init DIR NAME`
 #[tactic(auto, unfolding(crate::specs::CommandLine::init))]
-pub fn init(mut words: Words<'_>) -> Result<Command, Stop>
+pub(crate) fn init(mut words: Words<'_>) -> Result<Command, Stop>
     ensures { Makes (forms.init (map string_bytes words.entry.left.now)) result }
 {
     words.path()?;
@@ -24,7 +24,7 @@ pub fn init(mut words: Words<'_>) -> Result<Command, Stop>
 
 /// `append DIR FILE`
 #[tactic(auto, unfolding(crate::specs::CommandLine::append))]
-pub fn append(alloc: Global, mut words: Words<'_>) -> Result<Command, Stop>
+pub(crate) fn append(alloc: Global, mut words: Words<'_>) -> Result<Command, Stop>
     ensures { Makes (forms.append (map string_bytes words.entry.left.now)) result }
 {
     words.path()?;
@@ -36,7 +36,7 @@ pub fn append(alloc: Global, mut words: Words<'_>) -> Result<Command, Stop>
 
 /// `thread DIR SINCE`
 #[tactic(auto, unfolding(crate::specs::CommandLine::thread))]
-pub fn thread(mut words: Words<'_>) -> Result<Command, Stop>
+pub(crate) fn thread(mut words: Words<'_>) -> Result<Command, Stop>
     ensures { Makes (forms.thread (map string_bytes words.entry.left.now)) result }
 {
     words.path()?;
@@ -47,7 +47,7 @@ pub fn thread(mut words: Words<'_>) -> Result<Command, Stop>
 
 /// `receive DIR FILE`
 #[tactic(auto, unfolding(crate::specs::CommandLine::receive))]
-pub fn receive(alloc: Global, mut words: Words<'_>) -> Result<Command, Stop>
+pub(crate) fn receive(alloc: Global, mut words: Words<'_>) -> Result<Command, Stop>
     ensures { Makes (forms.receive (map string_bytes words.entry.left.now)) result }
 {
     words.path()?;
@@ -59,7 +59,7 @@ pub fn receive(alloc: Global, mut words: Words<'_>) -> Result<Command, Stop>
 
 /// `prove DIR event`, `thread`, `absent` or `link`, each with what its kind has
 #[tactic(auto, unfolding(crate::specs::CommandLine::prove, crate::specs::Forms::next))]
-pub fn prove(mut words: Words<'_>) -> Result<Command, Stop>
+pub(crate) fn prove(mut words: Words<'_>) -> Result<Command, Stop>
     ensures { Makes (forms.prove (map string_bytes words.entry.left.now)) result }
 {
     words.path()?;
@@ -122,7 +122,7 @@ fn prove_link(mut words: Words<'_>) -> Result<Command, Stop>
 
 /// `map DIR low` or `high`, each with what its bound has
 #[tactic(auto, unfolding(crate::specs::CommandLine::map, crate::specs::Forms::next))]
-pub fn map(mut words: Words<'_>) -> Result<Command, Stop>
+pub(crate) fn map(mut words: Words<'_>) -> Result<Command, Stop>
     ensures { Makes (forms.map (map string_bytes words.entry.left.now)) result }
 {
     words.path()?;
@@ -160,7 +160,7 @@ fn map_high(mut words: Words<'_>) -> Result<Command, Stop>
 
 /// `export DIR`
 #[tactic(auto, unfolding(crate::specs::CommandLine::export))]
-pub fn export(mut words: Words<'_>) -> Result<Command, Stop>
+pub(crate) fn export(mut words: Words<'_>) -> Result<Command, Stop>
     ensures { Makes (forms.export (map string_bytes words.entry.left.now)) result }
 {
     words.path()?;

@@ -3,6 +3,7 @@ use Rattle.tw_base.specs.declared.history.tree_proof.Ancestor.{Ancestor}
 use Rattle.tw_treeproof.specs.Making.{place_of, way_up}
 use Rattle.tw_treeproof.proofs.OwnProofs.{at-ancestors}
 use Rattle.tw_rbtree.proofs.RootWays.{root-way}
+use Rattle.tw_rbtree.proofs.TreeHeights.{stands-height}
 use Rattle.tw_rbtree.proofs.laws.size_laws.Goals as goal
 
 pub returns : goal.returns
@@ -12,4 +13,5 @@ returns g c = record {
       let w = root-way dig ps ask root t stands in
       let same = w.up ∙ sym (at-ancestors dig (place_of ask t) (way_up dig ask t)) in
       (w.levels, subst (λ (xs : List Ancestor). length xs ≤ 9 * w.levels) same w.few, w.many);
+  height = λ ps root t stands. stands-height g.H.Hasher.dig ps root t stands;
 }

@@ -14,6 +14,10 @@ use Rattle.tw_rbtree.specs.Ways.{Stop, child_page, seek, way_from}
 use Rattle.tw_rbtree.proofs.FoundLaws.{as_tree_fault}
 use Rattle.tw_rbtree.proofs.ShowLaws.{end-shown, shown-bad, shown-fault, shown-passed, shown-up, sought-there, walk-shown}
 use Rattle.tw_rbtree.proofs.WayLaws.{child_page-get, way-at, way-leaf}
+use Rattle.tw_base.specs.kinds.Lists.{Each}
+use Rattle.tw_base.proofs.lemmas.kinds.ListLemmas.{Each-append}
+use Rattle.tw_treeproof.specs.Limits.{IsAncestorInRange}
+use Rattle.tw_rbtree.proofs.Besides.{nodes-ranges, shown-ranges}
 use Rattle.tw_rbtree.proofs.proving.+shown_below.Goals as goal
 use Rattle.tw_disk.specs.Answers.{SaysOf}
 use Rattle.tw_disk.specs.WalkFaults.{walk_faults}
@@ -133,3 +137,20 @@ returns-clause-answer g t c = λ ps told.
     (subst (λ (s : Sought). AnswersShown dig ask (Ok old) (way_from g.H.Hasher.dig ps ask q.level s.low s.high q)) same answer) in
     shown-up dig ask ps low high p p.level below place deeper spot q found old new moved
     (c.in_ok-with_way.ensures.ancestors ∙ ap (λ (s : Sought). old.ancestors ++ nodes_above dig p s.at) same) c.in_ok-with_way.ensures.sides
+
+pub returns-in_default-clause-ranges : goal.returns-in_default-clause-ranges
+returns-in_default-clause-ranges g t c =
+    shown-ranges c.end_in.result (nodes_above g.H.Hasher.dig c.args.node.now c.seek-here.result.at) c.end_in.ensures.ancestors
+    (nodes-ranges g.H.Hasher.dig c.args.node.now c.seek-here.result.at c.see_node.ensures)
+
+pub returns-then-level-eq0-clause-ranges : goal.returns-then-level-eq0-clause-ranges
+returns-then-level-eq0-clause-ranges g t c =
+    shown-ranges c.end_in-then-level-eq0.result (nodes_above g.H.Hasher.dig c.args.node.now c.seek-here.result.at) c.end_in-then-level-eq0.ensures.ancestors
+    (nodes-ranges g.H.Hasher.dig c.args.node.now c.seek-here.result.at c.see_node.ensures)
+
+pub returns-clause-ranges : goal.returns-clause-ranges
+returns-clause-ranges g t c =
+    let old = c.in_ok-shown.shown.ancestors in
+    let more = nodes_above g.H.Hasher.dig c.args.node.now c.seek-here.result.at in
+    subst (Each IsAncestorInRange) (sym c.in_ok-with_way.ensures.ancestors)
+    (Each-append IsAncestorInRange old more c.in_ok-shown.ensures.ranges (nodes-ranges g.H.Hasher.dig c.args.node.now c.seek-here.result.at c.see_node.ensures))

@@ -1,9 +1,12 @@
-use Rattle.std.proofs.Common.{[], refl, ◌∙◌, arith}
+use Rattle.std.proofs.Common.{[], refl, ◌∙◌, arith, sym, subst}
 use Rattle.tw_rbtree.specs.FaultWords.{tree_fault}
 use Rattle.tw_rbtree.specs.Ways.{way}
 use Rattle.tw_rbtree.proofs.FoundLaws.{as_tree_fault}
 use Rattle.tw_rbtree.proofs.ShowLaws.{empty-proof, path-bad, path-fault, path-is, path-passed, walk-path}
 use Rattle.tw_rbtree.proofs.WayLaws.{way-empty}
+use Rattle.tw_base.specs.kinds.Lists.{Each}
+use Rattle.tw_treeproof.specs.Limits.{IsAncestorInRange}
+use Rattle.tw_rbtree.proofs.Besides.{proof-ranges}
 use Rattle.tw_rbtree.proofs.proving.path.Goals as goal
 
 pub returns-then-not-is_so-clause-answer : goal.returns-then-not-is_so-clause-answer
@@ -50,3 +53,10 @@ returns-clause-answer g c = λ ps told.
     let ask = c.args.ask.now in
     path-is dig ask ps root c.if-root-eq0.false c.in_ok-first.first (c.in_ok-first.ensures.reads.answer ps told) c.in_ok-shown.shown c.proof_of.result
     (c.in_ok-shown.ensures.answer ps (c.in_ok-first.ensures.reads.kept.list_kept ∙ told)) c.proof_of.ensures
+
+pub returns-then-root-eq0-clause-ranges : goal.returns-then-root-eq0-clause-ranges
+returns-then-root-eq0-clause-ranges g c = subst (Each IsAncestorInRange) (sym c.new.ensures) tt
+
+pub returns-clause-ranges : goal.returns-clause-ranges
+returns-clause-ranges g c =
+    proof-ranges c.in_ok-shown.shown.sides c.in_ok-shown.shown.ancestors c.proof_of.result c.proof_of.ensures c.in_ok-shown.ensures.ranges

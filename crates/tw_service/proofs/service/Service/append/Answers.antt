@@ -14,7 +14,8 @@ use Rattle.tw_service.proofs.Answering.{IsTold, NoFault, answers_fault, answers_
 use Rattle.tw_base.specs.declared.history.root.Root.{Root}
 use Rattle.tw_disk.specs.Image.{Image}
 use Rattle.tw_skiplist.specs.declared.head.Head.{Head}
-use Rattle.tw_skiplist.specs.Appended.{Next, appended}
+use Rattle.tw_disk.specs.Answers.{Next}
+use Rattle.tw_skiplist.specs.Appended.{appended}
 use Rattle.tw_disk.specs.Found.{Found, ◌>>=◌}
 use Rattle.tw_disk.specs.Found.Found.{Is}
 use Rattle.tw_disk.proofs.FoundLaws.{is_on}
@@ -51,13 +52,13 @@ returns-in-Some-clause-answer g c = λ ps list.
     let is = sym c.in-Some.is ∙ c.append_refusal.ensures.answer in
     let no_fault = of_some NoFault _ c.in-Some.refusal is (append_no_fault s.is_broken s.root.head.step events) in
     table_found c.in-Some.refusal (found_thread g.H.Hasher.dig ps s.root.name s.root.head s.is_broken events s.root.archive) no_fault
-    (ap (λ (o : Option Refusal). unless o (appended g.H.Hasher.dig ps s.root.head events s.root.archive >>= (λ next. Is (Ok (thread_at s.root.name next.head))))) (sym is))
+    (ap (λ (o : Option Refusal). unless o (appended g.H.Hasher.dig ps s.root.head events s.root.archive >>= (λ next. Is (Ok (thread_at s.root.name next.value))))) (sym is))
 
 -- where the table refuses nothing, the step is what is found
 thread_found : (dig : List ℕ → List ℕ) (ps : Image) (name : List ℕ) (head : Head) (broken : Bool) (events : List (List ℕ)) (archive : Root) → append_refusal broken head.step events ≡ None
-    → found_thread dig ps name head broken events archive ≡ (appended dig ps head events archive >>= (λ next. Is (Ok (thread_at name next.head))))
+    → found_thread dig ps name head broken events archive ≡ (appended dig ps head events archive >>= (λ next. Is (Ok (thread_at name next.value))))
 unfolding found_thread
-thread_found dig ps name head broken events archive none = ap (λ (o : Option Refusal). unless o (appended dig ps head events archive >>= (λ next. Is (Ok (thread_at name next.head))))) none
+thread_found dig ps name head broken events archive none = ap (λ (o : Option Refusal). unless o (appended dig ps head events archive >>= (λ next. Is (Ok (thread_at name next.value))))) none
 
 pub returns-in-Ok-clause-answer : goal.returns-in-Ok-clause-answer
 returns-in-Ok-clause-answer g c = λ ps list.
@@ -66,7 +67,7 @@ returns-in-Ok-clause-answer g c = λ ps list.
     let own = c.in-Ok.ensures.answer ps list in
     let dig = g.H.Hasher.dig in
     thread_found dig ps s.root.name s.root.head s.is_broken events s.root.archive (sym (sym c.in_default.is ∙ c.append_refusal.ensures.answer))
-    ∙ is_on (appended dig ps s.root.head events s.root.archive) (λ next. Is (Ok (thread_at s.root.name next.head))) _ own.1
+    ∙ is_on (appended dig ps s.root.head events s.root.archive) (λ next. Is (Ok (thread_at s.root.name next.value))) _ own.1
     ∙ ap (λ (n : List ℕ). Is (Ok (thread_at n c.in-Ok.next.head))) (sym c.in-Ok.ensures.rest.0) ∙ ap (λ (t : Thread). Is (Ok t)) (sym c.head.ensures.value)
 
 pub returns-in-Err-clause-answer : goal.returns-in-Err-clause-answer
@@ -74,7 +75,7 @@ returns-in-Err-clause-answer g c = λ ps list.
     let s = c.args.self.now in
     let events = c.args.events.now in
     let dig = g.H.Hasher.dig in
-    let next : Next → Found (Result Thread Refusal) = λ next. Is (Ok (thread_at s.root.name next.head)) in
+    let next : Next Head → Found (Result Thread Refusal) = λ next. Is (Ok (thread_at s.root.name next.value)) in
     let whole : Found (Result Thread Refusal) = appended dig ps s.root.head events s.root.archive >>= next in
     subst (λ (f : Found (Result Thread Refusal)). IsRefusalOf c.in-Err.refusal f) (sym (thread_found dig ps s.root.name s.root.head s.is_broken events s.root.archive (sym (sym c.in_default.is ∙ c.append_refusal.ensures.answer))))
     (fault_page c.in-Err.refusal whole c.in-Err.ensures.answers (page_on c.in-Err.refusal (appended dig ps s.root.head events s.root.archive) next (c.in-Err.ensures.answer ps list)))

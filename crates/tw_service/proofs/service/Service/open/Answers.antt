@@ -11,14 +11,14 @@ pub returns-in-None-clause-served : goal.returns-in-None-clause-served
 returns-in-None-clause-served g c = λ i of h told stands.
     let at = c.in-Ok.ensures.opened i told in
     let told_now = at.told ∙ ap (λ (j : Image). Some j) at.has.0 in
-    let used = c.used.ensures ∙ counted g.D.Disk.view c.in-Ok.store _ i (λ j is. g.met.D.Disk.count_is_told _ j is) c.in-Ok.store.room told_now c.in-Ok.ensures.clean.0 in
+    let used = c.used.ensures.count ∙ counted g.D.Disk.view c.in-Ok.store _ i (λ j is. g.met.D.Disk.count_is_told _ j is) c.in-Ok.store.room told_now c.in-Ok.ensures.clean.0 in
     absurd (stands_for_none g.D.Disk.view g.H.Hasher.dig c.in-Ok.store i at _ c.root.ensures _ used _ c.generation.ensures c.in-None.ensures.root of h stands)
 
 pub returns-in-None-clause-refused : goal.returns-in-None-clause-refused
 returns-in-None-clause-refused g c = λ i told.
     let at = c.in-Ok.ensures.opened i told in
     let told_now = at.told ∙ ap (λ (j : Image). Some j) at.has.0 in
-    let used = c.used.ensures ∙ counted g.D.Disk.view c.in-Ok.store _ i (λ j is. g.met.D.Disk.count_is_told _ j is) c.in-Ok.store.room told_now c.in-Ok.ensures.clean.0 in
+    let used = c.used.ensures.count ∙ counted g.D.Disk.view c.in-Ok.store _ i (λ j is. g.met.D.Disk.count_is_told _ j is) c.in-Ok.store.room told_now c.in-Ok.ensures.clean.0 in
     inr (subst (λ (slot : ℕ). IsNotOpenedFor i (NotAStore slot)) (sym c.slot-slot.ensures) (refused g.D.Disk.view g.H.Hasher.dig c.in-Ok.store i at _ c.root.ensures _ used _ c.generation.ensures c.in-None.ensures.root))
 
 pub returns-in-None-clause-unchanged : goal.returns-in-None-clause-unchanged
@@ -31,26 +31,26 @@ pub returns-in-Some-clause-served : goal.returns-in-Some-clause-served
 returns-in-Some-clause-served g c = λ i of h told stands.
     let at = c.in-Ok.ensures.opened i told in
     let told_now = at.told ∙ ap (λ (j : Image). Some j) at.has.0 in
-    let used = c.used.ensures ∙ counted g.D.Disk.view c.in-Ok.store _ i (λ j is. g.met.D.Disk.count_is_told _ j is) c.in-Ok.store.room told_now c.in-Ok.ensures.clean.0 in
+    let used = c.used.ensures.count ∙ counted g.D.Disk.view c.in-Ok.store _ i (λ j is. g.met.D.Disk.count_is_told _ j is) c.in-Ok.store.room told_now c.in-Ok.ensures.clean.0 in
     served g.D.Disk.view g.H.Hasher.dig c.in-Ok.store i at _ c.root.ensures _ used _ c.generation.ensures c.in-Some.root c.in-Some.ensures.root.0 c.in-Some.ensures.root.1 of h stands c.in-Ok.ensures.clean.0
 
 pub returns-in-Some-clause-stable : goal.returns-in-Some-clause-stable
 returns-in-Some-clause-stable g c = λ i told.
     let at = c.in-Ok.ensures.opened i told in
     let told_now = at.told ∙ ap (λ (j : Image). Some j) at.has.0 in
-    let used = c.used.ensures ∙ counted g.D.Disk.view c.in-Ok.store _ i (λ j is. g.met.D.Disk.count_is_told _ j is) c.in-Ok.store.room told_now c.in-Ok.ensures.clean.0 in
+    let used = c.used.ensures.count ∙ counted g.D.Disk.view c.in-Ok.store _ i (λ j is. g.met.D.Disk.count_is_told _ j is) c.in-Ok.store.room told_now c.in-Ok.ensures.clean.0 in
     stable g.D.Disk.view g.H.Hasher.dig c.in-Ok.store i at _ c.root.ensures _ used _ c.generation.ensures
 
 pub returns-in-Some-clause-exact : goal.returns-in-Some-clause-exact
 returns-in-Some-clause-exact g c = λ i fault told why.
     let at = c.in-Ok.ensures.opened i told in
     let told_now = at.told ∙ ap (λ (j : Image). Some j) at.has.0 in
-    let used = c.used.ensures ∙ counted g.D.Disk.view c.in-Ok.store _ i (λ j is. g.met.D.Disk.count_is_told _ j is) c.in-Ok.store.room told_now c.in-Ok.ensures.clean.0 in
+    let used = c.used.ensures.count ∙ counted g.D.Disk.view c.in-Ok.store _ i (λ j is. g.met.D.Disk.count_is_told _ j is) c.in-Ok.store.room told_now c.in-Ok.ensures.clean.0 in
     never_refused g.D.Disk.view g.H.Hasher.dig c.in-Ok.store i at _ c.root.ensures _ used _ c.generation.ensures c.in-Some.root c.in-Some.ensures.root.0 c.in-Some.ensures.root.1 fault why
 
 pub returns-in-Some-clause-opened : goal.returns-in-Some-clause-opened
 returns-in-Some-clause-opened g c = λ i told.
     let at = c.in-Ok.ensures.opened i told in
     let told_now = at.told ∙ ap (λ (j : Image). Some j) at.has.0 in
-    let used = c.used.ensures ∙ counted g.D.Disk.view c.in-Ok.store _ i (λ j is. g.met.D.Disk.count_is_told _ j is) c.in-Ok.store.room told_now c.in-Ok.ensures.clean.0 in
+    let used = c.used.ensures.count ∙ counted g.D.Disk.view c.in-Ok.store _ i (λ j is. g.met.D.Disk.count_is_told _ j is) c.in-Ok.store.room told_now c.in-Ok.ensures.clean.0 in
     opens_with g.D.Disk.view g.H.Hasher.dig c.in-Ok.store i at _ c.root.ensures _ used _ c.generation.ensures c.in-Some.root c.in-Some.ensures.root.0 c.in-Some.ensures.root.1 c.in-Ok.ensures.clean.0
