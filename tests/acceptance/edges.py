@@ -100,7 +100,7 @@ def syncs_before_writes(calls, folder):
 
 
 def folder_synced(room):
-    """`init` and each `append` sync the folder before they write, and other commands sync nothing"""
+    """`init` and each `append` sync the folder before they write, and `prove` syncs no folder"""
     (room.folder / "d").mkdir()
     room.put("e", events_file([b"x"]))
     for words in ("init d name", "append d e", "append d e"):
@@ -109,7 +109,8 @@ def folder_synced(room):
         expect(found, (0, True), f"the status of timeweave {words}, and whether it syncs the folder first")
     for words in ("prove d event 1 0", "prove d event 9 0"):
         _, _, calls = calls_of(room.program, words.split(), room.folder)
-        expect([call.name for call in calls if "sync" in call.name], [], f"the syncs of timeweave {words}")
+        synced = [os.path.basename(call.path) for call in calls if "sync" in call.name]
+        expect(synced, ["timeline.tw"], f"what timeweave {words} syncs")
 
 
 def linked_store(room):

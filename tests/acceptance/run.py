@@ -6,7 +6,8 @@
 The cases stand in cases/*.json, those that are counted off in generated.py, those of proofs over archives and of links in archives.py,
 those of proofs that an event precedes another and of joining in precedence.py, those of the scripts that one copies in entries.py and daily.py,
 those of services in steps.py, pages.py and failing.py, those of an archive's tree in pages in tree_runs.py, which run a program of their
-own, those of the program's edge to the system in edges.py, of programs at one time in beside.py, and of lost power and failing system calls in power.py and faults.py; documents.py and cited.py check the documents,
+own, those of the program's edge to the system in edges.py, of programs at one time in beside.py, what it keeps itself from in guarded.py,
+and of lost power and failing system calls in power.py and faults.py; documents.py and cited.py check the documents,
 installed.py what `make install` copies, library.py the library for C and Python over the proofs of all of them, shown.py the examples to copy, and sources.py the sources.
 A case has
 
@@ -46,6 +47,7 @@ import entries
 import failing
 import faults
 import generated
+import guarded
 import installed
 import library
 import pages
@@ -168,6 +170,7 @@ def all_cases():
     yield from tree_runs.cases()
     yield from edges.cases()
     yield from beside.cases()
+    yield from guarded.cases()
     yield from power.cases()
     yield from faults.cases()
     yield from documents.cases()

@@ -23,10 +23,11 @@ const PAGE: u64 = 4096;
 /// 4,096 and rounded down, and one more after each good write at the count. An error of the file, or its end within a page, counts
 /// as a fault. The disk tells no content.
 ///
-/// By `Access::Write` the file is made where there is none, its folder is synced as it is opened, and a barrier syncs the file.
-/// By `Access::Read` a file that isn't there has no pages, a write counts a fault, and a barrier does nothing. The disk holds the
-/// file's advisory lock from its opening until the disk is dropped, alone or together with others that read, and waits for it; where
-/// the lock can't be had for another reason, that counts as a fault.
+/// By `Access::Write` the file is made where there is none, and its folder is synced as it is opened. By `Access::Read` a file that
+/// isn't there has no pages, and a write counts a fault. A barrier syncs the file by either, so that what is read behind it is what
+/// a loss of power leaves, though another program that wrote it ended before its own sync. The disk holds the file's advisory lock
+/// from its opening until the disk is dropped, alone or together with others that read, and waits for it; where the lock can't be
+/// had for another reason, that counts as a fault, and so does a path at which something else than a regular file is.
 ///
 /// That a real file behaves as the disk model says, and that nobody else writes it who doesn't take the lock, is trusted.
 #[derive(Drop)]
@@ -79,7 +80,7 @@ impl<R: Files<File = File> + Alloc> FileDisk<'_, R> {
         Ok(())
     }
 
-    /// How many whole pages the file has; an error where it is a folder.
+    /// How many whole pages the file has.
     fn count_pages(&mut self) -> io::Result<u64>
         ensures count { self.new.count ≡ self.old.count }
         ensures faults { self.new.faults ≡ self.old.faults }
@@ -88,11 +89,7 @@ impl<R: Files<File = File> + Alloc> FileDisk<'_, R> {
         let Some(file) = &self.file else {
             return Ok(0);
         };
-        let metadata = again(|| file.metadata())?;
-        if metadata.is_dir() {
-            return Err(io::Error::from(io::ErrorKind::IsADirectory));
-        }
-        Ok(metadata.len() / PAGE)
+        Ok(again(|| file.metadata())?.len() / PAGE)
     }
 
     /// Reads a page whole.
@@ -123,15 +120,19 @@ impl<R: Files<File = File> + Alloc> FileDisk<'_, R> {
         }
     }
 
-    /// Makes stable what was written to the file; where it is only read, nothing was.
+    /// Makes stable what was written to the file, by whomever. Where it is only read, its file system may be one that is never
+    /// written; Linux then tells that it can't be synced, and nothing is to be made stable.
     fn sync(&mut self) -> io::Result<()>
         ensures count { self.new.count ≡ self.old.count }
         ensures faults { self.new.faults ≡ self.old.faults }
     {
         self.open()?;
-        match (self.access, &self.file) {
-            (Access::Write, Some(file)) => file.sync_all(),
-            _ => Ok(()),
+        let Some(file) = &self.file else {
+            return Ok(());
+        };
+        match (self.access, file.sync_all()) {
+            (Access::Read, Err(error)) if error.kind() == io::ErrorKind::InvalidInput => Ok(()),
+            (_, answer) => answer,
         }
     }
 }

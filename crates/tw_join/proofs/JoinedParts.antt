@@ -30,7 +30,7 @@ key-parts key service step is =
     let both = and_parts (bytes_eq key.from service) (key.step == step) is in
     (same-bytes key.from service both.0, eqb-true key.step step both.1)
 
-only-if : (fits : Bool) (taken next : Taken) → only_if fits taken ≡ Some next → (fits ≡ true) × (taken ≡ next)
+pub only-if : (fits : Bool) (taken next : Taken) → only_if fits taken ≡ Some next → (fits ≡ true) × (taken ≡ next)
 only-if true taken next is = (refl, cc)
 only-if false taken next is = cc
 

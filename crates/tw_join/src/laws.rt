@@ -1,17 +1,19 @@
 // The laws of joining: what joined proofs are, and where they are accepted.
 
-ghost use Rattle.std.specs.Prelude.{◌≡◌, ℕ, List, reverse, Ok};
+ghost use Rattle.std.specs.Prelude.{◌≡◌, ◌+◌, ℕ, List, Result, reverse, take, Ok};
 ghost use Rattle.tw_base.specs.format.Formats.{Spells};
 ghost use Rattle.tw_base.specs.kinds.Lists.{Each};
 ghost use Rattle.tw_chain.specs.declared.proof.PrecedenceProof.{PrecedenceProof};
 ghost use Rattle.tw_chain.specs.declared.proof.Proof.{Proof};
 ghost use Rattle.tw_chain.specs.declared.proof.Proof.TheVariants.{Precedes};
 ghost use Rattle.tw_chain.specs.Accepting.{report_of};
-ghost use Rattle.tw_join.specs.Joining.{joined, shown_hops};
+ghost use Rattle.tw_join.specs.declared.joining.JoinFault.{JoinFault};
+ghost use Rattle.tw_join.specs.Joining.{Joins, joined, shown_hops};
 ghost use Rattle.tw_join.specs.Joining.Taken.{Nothing};
 ghost use Rattle.tw_join.specs.OwnParts.{JoinedBytesAreAccepted, JoinedIsAccepted};
 ghost use Rattle.tw_chain.specs.Proofs.{proof_bytes, proof_layout};
 
+use crate::limits::MOST_PARTS;
 use tw_base::Hasher;
 
 /// What parts join to: a proof that has a spelling where they have, that tells the hops that they show,
@@ -29,4 +31,6 @@ pub fn joining_laws<H: Hasher>()
     // The hops of its report are those that the parts show, from the first event to the second.
     ensures joined_hops { (parts : List Proof) (p : PrecedenceProof) →
         joined Nothing 1 parts ≡ Ok p → (report_of (Precedes p)).hops ≡ reverse (shown_hops parts) }
+    // No more than 130 parts join: what the first 131 of some come to, all of them come to.
+    ensures front_decides { (parts : List Proof) (result : Result Proof JoinFault) → Joins (take (MOST_PARTS + 1) parts) result → Joins parts result }
 {}

@@ -4,6 +4,8 @@
 mod copying;
 mod joining;
 mod laws;
+mod limits;
 
 pub use joining::{JoinFault, join};
 pub use laws::joining_laws;
+pub use limits::MOST_PARTS;

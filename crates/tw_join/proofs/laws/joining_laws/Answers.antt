@@ -1,6 +1,7 @@
 -- Each law, from what the parts are.
 use Rattle.tw_chain.specs.declared.proof.Proof.TheVariants.{Precedes}
 use Rattle.tw_join.proofs.JoinedAccepted.{joined-accepted}
+use Rattle.tw_join.proofs.JoinedFronts.{joins-front}
 use Rattle.tw_join.proofs.JoinedHops.{joined-hops}
 use Rattle.tw_join.proofs.JoinedSpelling.{joined-spelled}
 use Rattle.tw_join.proofs.laws.joining_laws.Goals as goal
@@ -18,3 +19,6 @@ returns-clause-joined_accepts g c = λ family parts p anchors sound made stand s
 
 pub returns-clause-joined_hops : goal.returns-clause-joined_hops
 returns-clause-joined_hops g c = joined-hops
+
+pub returns-clause-front_decides : goal.returns-clause-front_decides
+returns-clause-front_decides g c = joins-front
