@@ -24,7 +24,7 @@ LARGE = {
     "tw_history": (2002, 106),
     "tw_rbnode": (1522, 100),
     "tw_text": (1518, 100),
-    "tw_verifier": (1871, 100),
+    "tw_verifier": (1889, 100),
 }
 
 

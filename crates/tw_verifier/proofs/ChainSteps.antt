@@ -18,6 +18,7 @@ use Rattle.tw_chain.specs.Finding.{found_in, found_with, lower_of, passes}
 use Rattle.tw_verifier.specs.Chaining.{behind_checks, closed, with_hop}
 use Rattle.tw_chain.specs.Checks.{Check, hop_checks, hops_checks, last_thread, root_of, tail_checks}
 use Rattle.tw_chain.specs.Passing.{carried_by, reason_of}
+use Rattle.tw_chain.proofs.FoundSteps.{found-append}
 use Rattle.tw_chain.proofs.LowerSteps.{lower-assoc}
 
 module _ (dig : List ℕ → List ℕ) (anchors : List Thread) where
@@ -37,7 +38,7 @@ module _ (dig : List ℕ → List ℕ) (anchors : List Thread) where
         ≡ found_with dig anchors (found_with dig anchors c.found here) (behind_checks (with_hop dig anchors c hop more) hops tail)
     found-hop =
         ap (found_with dig anchors c.found) behind-hop
-        ∙ ap (lower_of c.found) (found-append here (behind_checks (with_hop dig anchors c hop more) hops tail))
+        ∙ ap (lower_of c.found) (found-append dig anchors here (behind_checks (with_hop dig anchors c hop more) hops tail))
         ∙ sym (lower-assoc c.found (found_in dig anchors here) (found_in dig anchors (behind_checks (with_hop dig anchors c hop more) hops tail)))
 
     hops-hop : (one : Hop) (onward : List Hop) → (onward ++ one ∷ []) ++ reverse c.hops ≡ onward ++ reverse (c.hops ++ one ∷ [])

@@ -122,7 +122,25 @@ pub fn verify<H: Hasher>(
     // times rise; or two different texts of these histories and of the proof have one digest.
     ensures binds { IfOk result (BindsHistories H.dig anchors.now bytes.now) }
 {
+    fed_whole::<H>(alloc, bytes, anchors, strict)?.finish()
+}
+
+/// A verifier that was fed these bytes in one piece.
+fn fed_whole<H: Hasher>(
+    alloc: Global,
+    bytes: &[u8],
+    anchors: &[Thread],
+    strict: bool,
+) -> Result<Verifier<H>, NoMemory>
+    ensures { IfOk result (λ v. IsFed H.dig anchors.now strict v bytes.now) }
+{
     let mut verifier = Verifier::<H>::new(alloc, anchors, strict)?;
-    verifier.feed(bytes)?;
-    verifier.finish()
+    match verifier.feed(bytes) {
+        Ok(()) => Ok(verifier),
+        // Not by `?`: a verifier that goes out of scope is looked at part by part, and proved slowly.
+        Err(fault) => {
+            drop(verifier);
+            Err(fault)
+        }
+    }
 }
