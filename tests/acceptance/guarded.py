@@ -1,9 +1,10 @@
 """Acceptance cases of what the program keeps itself from: devices and pipes where a store should be, a store that another file took the place
-of, and showing what a loss of power takes."""
+of, showing what a loss of power takes, ending without a word, and holding more proofs than can join."""
 
 import contextlib
 import os
 import random
+import resource
 import shutil
 import socket
 import subprocess
@@ -11,10 +12,14 @@ import subprocess
 import power
 import reference
 from beside import ended, locked, started, waits
-from edges import expect
+from edges import LEAST, expect
 from steps import Skipped, Wrong, case
 from stores import Store, events_file
 from tracing import calls_of
+
+# Least size, greatest size, and step of the memory in which the program's start is tried.
+LITTLE, MUCH, MORE = 3 << 20, 48 << 20, 1 << 18
+
 
 # ---- what isn't a regular file
 
@@ -124,6 +129,40 @@ def shown_stays(room):
         room.expect(f"prove d event {last_step} 0", 0, proof)
 
 
+# ---- memory
+
+
+def in_memory(size):
+    return lambda: resource.setrlimit(resource.RLIMIT_AS, (size, size))
+
+
+def no_memory_for_words(room):
+    """where there is no memory for the words, that is told"""
+    words = ["verify", *["x" * 130000] * 12]
+    for size in range(LITTLE, MUCH, MORE):
+        # (below some size the system doesn't start the program)
+        with contextlib.suppress(OSError, subprocess.SubprocessError):
+            found = room.run(*words, limit=in_memory(size))
+            if found[0] in range(10):
+                expect(found, (6, b"no memory\n", b""), f"timeweave with long words, in {size} bytes of memory, the least that it starts in")
+                with open("/dev/full", "wb") as full:
+                    expect(room.run(*words, limit=in_memory(size), to=full), (4, b"", b""), "the same to a full device")
+                return
+    raise Skipped("the program doesn't start in little memory here")
+
+
+def many_parts(room):
+    """`join` reads any number of files, and holds no more proofs than decide"""
+    room.put("p", reference.proof_bytes(reference.Timeline("a", [[bytes(60000)]]), 1, 0, 1))
+    room.put("q", LEAST[:-1])
+    parts = ["p"] * 3000
+    limit = in_memory(64 << 20)
+    for words, wanted in ((parts, (1, b"rejected Gap 2\n", b"")), ([*parts, "q"], (9, f"unreadable q byte {len(LEAST) - 1}\n".encode(), b""))):
+        expect(room.run("join", *words, limit=limit), wanted, f"timeweave join of {len(words)} files, in 64 MiB of memory")
+
+
 def cases():
-    works = (devices, block_device, pipes_and_others, put_back, syncs, shown_stays)
+    works = (
+        devices, block_device, pipes_and_others, put_back, syncs, shown_stays, no_memory_for_words, many_parts,
+    )
     return [case(work, "guarded") for work in works]

@@ -1,11 +1,12 @@
-// What a command does with the store.
+// How the file of a store is opened.
 
+use tw_app::StoreAccess;
 use tw_hostio::Access;
 
-/// Whether the command of these words writes to the store, as `init` and `append` do, or only reads it.
-pub fn access_of(words: &[String]) -> Access {
-    match words.first() {
-        Some(word) if ["init", "append"].contains(&word.as_str()) => Access::Write,
-        _ => Access::Read,
+/// How the file of a store is opened with which a command does this.
+pub fn access_of(access: StoreAccess) -> Access {
+    match access {
+        StoreAccess::Read => Access::Read,
+        StoreAccess::Write => Access::Write,
     }
 }

@@ -1,6 +1,6 @@
 -- What is known of each command's work.
 use Rattle.std.proofs.Common.{◌≡◌, ◌∙◌, ℕ, false, List, [], ◌∷◌, refl, ap, sym, subst, arith, inl, inr, ◌⊎◌}
-use Rattle.std.specs.Prelude.{Option, Some, MatchOption, Result, Ok, Err}
+use Rattle.std.specs.Prelude.{Option, Some, None, MatchOption, Result, Ok, Err}
 use Rattle.tw_base.specs.declared.history.thread.Thread.{Thread}
 use Rattle.tw_base.specs.kinds.Faults.{Rose}
 use Rattle.tw_base.specs.history.History.{History}
@@ -27,10 +27,12 @@ use Rattle.tw_diskcmd.proofs.AtRest.{left_keeps, untouched_left}
 use Rattle.tw_diskcmd.proofs.CommandLaws.{HasCauses, IsSafe, append_causes, append_is_safe, init_causes, init_is_safe, prove_causes, reading_is_safe}
 use Rattle.tw_app.specs.declared.outcome.Outcome.{Outcome}
 use Rattle.tw_app.specs.declared.outcome.Outcome.TheVariants.{Judged, Proof, Joined, Made, BadWords, Undone}
+use Rattle.tw_app.specs.declared.store.StoreAccess.{StoreAccess}
+use Rattle.tw_app.specs.declared.store.StoreAccess.TheVariants.{Read, Write}
 use Rattle.tw_app.specs.Around.{Outside, found_of}
 use Rattle.tw_app.specs.Commands.{IsSomeFile, NamesFile}
 use Rattle.tw_app.specs.Outcomes.{TakesMemory, outcome_by, status_of, text_of}
-use Rattle.tw_app.specs.Running.{IsDoneBy, IsOutcomeOf, IsUnbuilt, IsUntouched, Work, by_results, over_files, reading, unbuilt, work, writing}
+use Rattle.tw_app.specs.Running.{IsDoneBy, IsOutcomeOf, IsUnbuilt, IsUntouched, UsesDisk, Work, by_results, over_files, reading, unbuilt, work, writing}
 use Rattle.tw_app.specs.Statuses.{AreOf, GivesAnchors, IsBuilt, IsVerify, is_strict, proof_file}
 
 pub of_option : (P : Command → Type 0) (words : List (List ℕ)) (c : Command) → command_of words ≡ Some c → P c → AreOf P words
@@ -185,8 +187,8 @@ module _ {D : Type 0} (view : D → DiskView)
     joining = λ place came. absurd came.0;
   }
 
-  module _ {X : Type 0} (c : Command) (of : X → Outcome) (tells : Tells of) (Comes Leaves : Result X CommandFault → Type 0) (Safe UsesDisk : Type 0)
-      (causes : HasCauses o.inputs (found_of view o) (NamesFile c) UsesDisk Comes) (built : IsBuilt view c) where
+  module _ {X : Type 0} (c : Command) (of : X → Outcome) (tells : Tells of) (Comes Leaves : Result X CommandFault → Type 0) (Safe : Type 0) (access : Option StoreAccess)
+      (causes : HasCauses o.inputs (found_of view o) (NamesFile c) (UsesDisk access) Comes) (built : IsBuilt view c) where
     abbrev May : Result X CommandFault → Type 0
     May r = Comes r × Leaves r
 
@@ -196,7 +198,7 @@ module _ {D : Type 0} (view : D → DiskView)
         → ((r : Result X CommandFault) → Leaves r → Safe)
         → ((x : X) (v : Verdict) → Judged v ≡ of x → Comes (Ok x) → Judges o.inputs.told c v)
         → ((x : X) (place : ℕ) → Joined (Unfit place) ≡ of x → Comes (Ok x) → LeavesGap o.inputs c place)
-        → Row c (by_results of (λ r. Comes r × Leaves r) Safe UsesDisk)
+        → Row c (by_results of (λ r. Comes r × Leaves r) Safe access)
     row memory untouched idle safe judging joining = record {
       built = inl built;
       usage = λ n came. absurd (no_usage of tells n came.0 came.2);
@@ -224,7 +226,7 @@ module _ {D : Type 0} (view : D → DiskView)
         joined_by place (Ok x) may is = joining x place is may.0
         joined_by place (Err f) may is = absurd (not_joined (Unfit place) f is)
 
-    disk_row : TellsOfDisk of → IsSafe view o.disk.before o.disk.after Leaves Safe → Row c (by_results of (λ r. Comes r × Leaves r) Safe UsesDisk)
+    disk_row : TellsOfDisk of → IsSafe view o.disk.before o.disk.after Leaves Safe → Row c (by_results of (λ r. Comes r × Leaves r) Safe access)
     disk_row of_disk is_safe =
         row (λ r takes left. is_safe.no_memory (is_safe.idle r left (quiet_text of of_disk r takes))) (λ is. is_safe.no_memory (same_left is))
         (λ r zeroth fifth left. is_safe.idle r left (quiet_status of of_disk r zeroth fifth)) is_safe.safe
@@ -235,18 +237,18 @@ module _ {D : Type 0} (view : D → DiskView)
       → ((x : X) (v : Verdict) → Judged v ≡ of x → Comes (Ok x) → Judges o.inputs.told c v)
       → ((x : X) (place : ℕ) → Joined (Unfit place) ≡ of x → Comes (Ok x) → LeavesGap o.inputs c place) → Row c (over_files view o of Comes)
   files_row c of tells Comes causes built judging joining =
-      row c of tells Comes (λ r. IsUntouched view o) (IsUntouched view o × Keeps view o.disk.before o.disk.after) ⊥ causes built
+      row c of tells Comes (λ r. IsUntouched view o) (IsUntouched view o × Keeps view o.disk.before o.disk.after) None causes built
       (λ r takes same. same) (λ is. is) (λ r zeroth fifth same. same_left same) (λ r same. same_safe same) judging joining
 
   -- one that makes a service or a step, and one that reads a proof from a disk
   made_row : {Comes Leaves : Result Thread CommandFault → Type 0} {Safe : Type 0} → (c : Command) → IsBuilt view c
       → HasCauses o.inputs (found_of view o) (NamesFile c) (Unit {0}) Comes → IsSafe view o.disk.before o.disk.after Leaves Safe → Row c (writing view o Made Comes Leaves Safe)
-  made_row {Comes} {Leaves} {Safe} c built causes is_safe = disk_row c Made made_tells Comes Leaves Safe (Unit {0}) causes built made_of_disk is_safe
+  made_row {Comes} {Leaves} {Safe} c built causes is_safe = disk_row c Made made_tells Comes Leaves Safe (Some Write) causes built made_of_disk is_safe
 
   proof_row : {Comes : Result (List ℕ) CommandFault → Type 0} → (c : Command) → IsBuilt view c
       → HasCauses o.inputs (found_of view o) (NamesFile c) (Unit {0}) Comes → Row c (reading view o Proof Comes)
   proof_row {Comes} c built causes =
-      disk_row c Proof proof_tells Comes (ReadLeaves view o.disk.before o.disk.after) (Left × Keeps view o.disk.before o.disk.after) (Unit {0}) causes built
+      disk_row c Proof proof_tells Comes (ReadLeaves view o.disk.before o.disk.after) (Left × Keeps view o.disk.before o.disk.after) (Some Read) causes built
       proof_of_disk (reading_is_safe view o.disk.before o.disk.after)
 
   show_row : (history : List ℕ) (step index : ℕ) → Row (Show history step index) (work view o (Show history step index))

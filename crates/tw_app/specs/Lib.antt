@@ -4,3 +4,4 @@ pub mod Judging
 pub mod Outcomes
 pub mod Running
 pub mod Statuses
+pub mod Stores

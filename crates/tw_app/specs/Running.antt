@@ -1,5 +1,5 @@
 -- What each command does, what a run of the program comes to, and how it ends.
-use Rattle.std.specs.Prelude.{◌≡◌, ◌⊎◌, ℕ, List, true, false, Option, Result, Ok, Err, MatchOption}
+use Rattle.std.specs.Prelude.{◌≡◌, ◌⊎◌, ℕ, List, true, false, Option, Some, None, Result, Ok, Err, MatchOption}
 use Rattle.tw_base.specs.kinds.Faults.{Rose}
 use Rattle.tw_disk.specs.Disk.{DiskView}
 use Rattle.tw_outside.specs.TakenBytes.{Appends, AppendsPart}
@@ -17,6 +17,8 @@ use Rattle.tw_diskcmd.specs.Making.{InitComes, InitLeaves, InitSafe}
 use Rattle.tw_diskcmd.specs.Proving.{ProveComes}
 use Rattle.tw_app.specs.declared.outcome.Outcome.{Outcome}
 use Rattle.tw_app.specs.declared.outcome.Outcome.TheVariants.{Judged, Proof, Joined, Made, BadWords, Undone}
+use Rattle.tw_app.specs.declared.store.StoreAccess.{StoreAccess}
+use Rattle.tw_app.specs.declared.store.StoreAccess.TheVariants.{Read, Write}
 use Rattle.tw_app.specs.Around.{Around, Outside, Span, found_of}
 use Rattle.tw_app.specs.Outcomes.{outcome_by, status_of, text_of}
 
@@ -32,6 +34,8 @@ pub record Work : Type 1 where
   pub undone : CommandFault → Type 0
   -- whatever it comes to, this holds of the disk
   pub safe : Type 0
+  -- what it does with the store of a folder, where it works on one
+  pub access : Option StoreAccess
   -- it works on the disk of a folder
   pub uses_disk : Type 0
 
@@ -49,14 +53,20 @@ IsUnbuilt (BadWords number) = number ≡ 0
 IsUnbuilt (Undone NoMemory) = Unit {0}
 IsUnbuilt _ = ⊥
 
+-- one that reads or writes the store of a folder works on a disk
+abbrev pub UsesDisk : Option StoreAccess → Type 0
+UsesDisk None = ⊥
+UsesDisk (Some access) = Unit {0}
+
 -- a command with results of its own, of which May holds
-abbrev pub by_results : {X : Type 0} → (of : X → Outcome) → (May : Result X CommandFault → Type 0) → (Safe UsesDisk : Type 0) → Work
-by_results of May Safe UsesDisk = record {
+abbrev pub by_results : {X : Type 0} → (of : X → Outcome) → (May : Result X CommandFault → Type 0) → (Safe : Type 0) → Option StoreAccess → Work
+by_results of May Safe access = record {
   does = IsOutcomeOf of May;
   done = IsDoneBy of May;
   undone = λ fault. May (Err fault);
   safe = Safe;
-  uses_disk = UsesDisk;
+  access = access;
+  uses_disk = UsesDisk access;
 }
 
 module _ {D : Type 0} (view : D → DiskView) (o : Outside D) where
@@ -70,22 +80,23 @@ module _ {D : Type 0} (view : D → DiskView) (o : Outside D) where
     done = λ text. ⊥;
     undone = λ fault. IsUnbuilt (Undone fault) × IsUntouched;
     safe = IsUntouched × Keeps view o.disk.before o.disk.after;
+    access = None;
     uses_disk = ⊥;
   }
 
   -- a command without a folder
   abbrev pub over_files : {X : Type 0} → (of : X → Outcome) → (Comes : Result X CommandFault → Type 0) → Work
-  over_files of Comes = by_results of (λ result. Comes result × IsUntouched) (IsUntouched × Keeps view o.disk.before o.disk.after) ⊥
+  over_files of Comes = by_results of (λ result. Comes result × IsUntouched) (IsUntouched × Keeps view o.disk.before o.disk.after) None
 
   -- a command that reads the disk of a folder, and writes nothing
   abbrev pub reading : {X : Type 0} → (of : X → Outcome) → (Comes : Result X CommandFault → Type 0) → Work
   reading of Comes =
       by_results of (λ result. Comes result × ReadLeaves view o.disk.before o.disk.after result)
-      (IsLeft view o.disk.before o.disk.after × Keeps view o.disk.before o.disk.after) (Unit {0})
+      (IsLeft view o.disk.before o.disk.after × Keeps view o.disk.before o.disk.after) (Some Read)
 
   -- one that writes it
   abbrev pub writing : {X : Type 0} → (of : X → Outcome) → (Comes Leaves : Result X CommandFault → Type 0) → (Safe : Type 0) → Work
-  writing of Comes Leaves Safe = by_results of (λ result. Comes result × Leaves result) Safe (Unit {0})
+  writing of Comes Leaves Safe = by_results of (λ result. Comes result × Leaves result) Safe (Some Write)
 
   -- what each command does
   abbrev pub work : Command → Work

@@ -7,7 +7,7 @@ ghost use Rattle.tw_diskcmd.specs.Disks.{IsLeft};
 ghost use Rattle.tw_outside.specs.Asked.{asked};
 ghost use Rattle.tw_outside.specs.TakenBytes.{Appends, AppendsPart};
 ghost use Rattle.tw_text.specs.CommandLine.{command_of};
-ghost use Rattle.tw_text.specs.Lines.{anchor_text};
+ghost use Rattle.tw_text.specs.Lines.{anchor_text, no_memory_text};
 ghost use Rattle.tw_app.specs.declared.outcome.Outcome.TheVariants.{Undone};
 ghost use Rattle.tw_text.specs.declared.fault.CommandFault.TheVariants.{NoMemory as NoMemoryFault};
 ghost use Rattle.tw_app.specs.Around.{around, outside, span};
@@ -49,6 +49,16 @@ fn tell_thread<S: Sink>(out: &mut S, status: u8, thread: &Thread) -> u8
 {
     let line = anchor_line(thread);
     tell(out, status, &line.bytes[..line.count as usize])
+}
+
+/// Ends a run for whose words there was no memory, and answers its status: 6, or 4 where the sink failed. It takes no memory.
+pub fn end_without_memory<S: Sink>(out: &mut S) -> u8
+    // `no memory` was written whole, and the status is 6; or the sink's count of faults rose, a part of the text was written, and
+    // the status is 4.
+    ensures { ((result ≡ 6) × Appends (S.taken out.old) (S.taken out.new) no_memory_text)
+        ⊎ ((result ≡ 4) × AppendsPart (S.taken out.old) (S.taken out.new) no_memory_text × Rose (S.faults out.old) (S.faults out.new)) }
+{
+    tell(out, fault_status(&CommandFault::NoMemory), no_memory())
 }
 
 /// The status of an outcome whose text could be written.

@@ -7,8 +7,10 @@ mod judging;
 mod laws;
 mod outcome;
 mod printing;
+mod store;
 
-pub use ending::{Ran, run};
+pub use ending::{Ran, end_without_memory, run};
 pub use judging::judging_laws;
 pub use laws::status_laws;
 pub use outcome::Outcome;
+pub use store::{Store, StoreAccess, store_laws, store_of};

@@ -1,8 +1,8 @@
 -- What was read of the files of parts, file after file.
-use Rattle.std.proofs.Common.{◌≡◌, ℕ, List, [], ◌∷◌, ◌++◌, length, drop, ap, ◌∙◌, refl, sym, subst, arith, inl, inr}
+use Rattle.std.proofs.Common.{◌≡◌, ℕ, ◌+◌, ◌<◌, ◌≤◌, List, [], ◌∷◌, ◌++◌, length, take, drop, ap, ◌∙◌, refl, sym, subst, arith, inl, inr}
 use Rattle.std.specs.Prelude.{Option, Some, None, Ok, Err, true, false, is_some}
 use Rattle.std.proofs.lemmas.Bool.{cases_lt}
-use Rattle.std.proofs.lemmas.List.{length-take-le, take-append-drop, take_all}
+use Rattle.std.proofs.lemmas.List.{length-append, length-take, length-take-le, take-append-drop, take-append-le, take_all}
 use Rattle.tw_base.specs.kinds.Faults.{Rose}
 use Rattle.tw_base.specs.format.Formats.{IsFront, IsPlace, Spells, SpellsNothing}
 use Rattle.tw_base.specs.kinds.Lists.{Each}
@@ -18,13 +18,16 @@ use Rattle.tw_text.specs.declared.refusal.BadInput.{BadInput}
 use Rattle.tw_text.specs.declared.refusal.BadInput.TheVariants.{BadByte, BadLine, Unsound}
 use Rattle.tw_chain.specs.declared.proof.Proof.{Proof}
 use Rattle.tw_chain.specs.declared.proof.Proof.TheVariants.{Precedes}
+use Rattle.tw_join.specs.declared.joining.JoinFault.TheVariants.{Gap}
 use Rattle.tw_join.specs.Joining.{Joins}
+use Rattle.tw_join.proofs.JoinedFronts.{joins-front}
 use Rattle.tw_chain.specs.Proofs.{proof_bytes, proof_layout}
 use Rattle.tw_join.proofs.JoinedSpelling.{joined-spelled}
 use Rattle.tw_chain.proofs.ProofSizes.{proof-size}
 use Rattle.tw_filecmd.specs.Joining.{AreProofsOf, HasBadPart, IsNoProof, IsProofOf, JoinComes}
-use Rattle.tw_filecmd.specs.Parts.{AreRead, PartsCome}
-use Rattle.tw_filecmd.specs.declared.joining.Joined.TheVariants.{Whole}
+use Rattle.tw_filecmd.specs.Parts.{AreFirstOf, AreRead, PartsCome}
+use Rattle.tw_filecmd.specs.declared.parts.TheConstants.{MOST_KEPT}
+use Rattle.tw_filecmd.specs.declared.joining.Joined.TheVariants.{Whole, Unfit}
 use Rattle.tw_filecmd.proofs.AnchorFronts.{file_limit}
 use Rattle.tw_filecmd.proofs.ProofFronts.{front-size, nothing_behind, place_behind, whole_below}
 
@@ -78,26 +81,48 @@ module _ (told : Option Files) where
     }
 
   -- one file more, behind one that holds no proof
-  pub read-told : (files : List (List ℕ)) (parts : List Proof) (bad : Option BadInput) (file : List ℕ) → is_some bad ≡ true → IsThere told file
-      → AreRead told files parts bad → AreRead told (files ++ file ∷ []) parts bad
-  read-told files parts None file is there are = cc
-  read-told files parts (Some (BadByte named place)) file is there are = bad-more files file named place are there
-  read-told files parts (Some (BadLine named number)) file is there are = absurd are
-  read-told files parts (Some (Unsound named step rule)) file is there are = absurd are
+  pub read-told : (files : List (List ℕ)) (kept : List Proof) (bad : Option BadInput) (file : List ℕ) → is_some bad ≡ true → IsThere told file
+      → AreRead told files kept bad → AreRead told (files ++ file ∷ []) kept bad
+  read-told files kept None file is there are = cc
+  read-told files kept (Some (BadByte named place)) file is there are = bad-more files file named place are there
+  read-told files kept (Some (BadLine named number)) file is there are = absurd are
+  read-told files kept (Some (Unsound named step rule)) file is there are = absurd are
 
-  -- one that holds a proof, behind others that do
-  pub read-proof : (files : List (List ℕ)) (parts : List Proof) (bad : Option BadInput) (file : List ℕ) (p : Proof) → is_some bad ≡ false
-      → IsProofOf told file p → AreRead told files parts bad → AreRead told (files ++ file ∷ []) (parts ++ p ∷ []) bad
-  read-proof files parts None file p is holds are = proofs-snoc files parts file p are holds
-  read-proof files parts (Some bad) file p is holds are = cc
+  kept-more : (files : List (List ℕ)) (kept : List Proof) (file : List ℕ) (p : Proof) → length kept < MOST_KEPT → IsProofOf told file p
+      → AreFirstOf told files kept → AreFirstOf told (files ++ file ∷ []) (kept ++ p ∷ [])
+  kept-more files kept file p few holds are =
+      let parts = are.0 in
+      let short : length parts < MOST_KEPT = omega (arith, ap length are.2, length-take MOST_KEPT parts) in
+      let all : take MOST_KEPT parts ≡ parts = take_all MOST_KEPT parts (omega (arith, short)) in
+      let size : length (parts ++ p ∷ []) ≡ length parts + 1 = length-append parts (p ∷ []) in
+      let more : take MOST_KEPT (parts ++ p ∷ []) ≡ parts ++ p ∷ [] = take_all MOST_KEPT (parts ++ p ∷ []) (omega (arith, short, size)) in
+      (parts ++ p ∷ [], proofs-snoc files parts file p are.1 holds, ap (λ front. front ++ p ∷ []) (are.2 ∙ all) ∙ sym more)
+
+  kept-full : (files : List (List ℕ)) (kept : List Proof) (file : List ℕ) (p : Proof) → MOST_KEPT ≤ length kept → IsProofOf told file p
+      → AreFirstOf told files kept → AreFirstOf told (files ++ file ∷ []) kept
+  kept-full files kept file p full holds are =
+      let parts = are.0 in
+      let long : MOST_KEPT ≤ length parts = omega (arith, ap length are.2, length-take MOST_KEPT parts) in
+      (parts ++ p ∷ [], proofs-snoc files parts file p are.1 holds, are.2 ∙ sym (take-append-le MOST_KEPT parts (p ∷ []) long))
+
+  -- one that holds a proof, behind others that do: it is kept where there is room, and else not
+  pub read-kept : (files : List (List ℕ)) (kept : List Proof) (bad : Option BadInput) (file : List ℕ) (p : Proof) → is_some bad ≡ false
+      → length kept < MOST_KEPT → IsProofOf told file p → AreRead told files kept bad → AreRead told (files ++ file ∷ []) (kept ++ p ∷ []) bad
+  read-kept files kept None file p is few holds are = kept-more files kept file p few holds are
+  read-kept files kept (Some bad) file p is few holds are = cc
+
+  pub read-full : (files : List (List ℕ)) (kept : List Proof) (bad : Option BadInput) (file : List ℕ) (p : Proof) → is_some bad ≡ false
+      → MOST_KEPT ≤ length kept → IsProofOf told file p → AreRead told files kept bad → AreRead told (files ++ file ∷ []) kept bad
+  read-full files kept None file p is full holds are = kept-full files kept file p full holds are
+  read-full files kept (Some bad) file p is full holds are = cc
 
   -- the first that holds none
-  pub read-none : (files : List (List ℕ)) (parts : List Proof) (bad : Option BadInput) (file : List ℕ) (place : ℕ) (came : BadInput)
-      → is_some bad ≡ false → IsNoProof told file place → came ≡ BadByte file place → AreRead told files parts bad
-      → AreRead told (files ++ file ∷ []) parts (Some came)
-  read-none files parts None file place came is none told_as are =
-      subst (λ (b : BadInput). AreRead told (files ++ file ∷ []) parts (Some b)) (sym told_as) (bad-snoc files parts file place are none)
-  read-none files parts (Some bad) file place came is none told_as are = cc
+  pub read-none : (files : List (List ℕ)) (kept : List Proof) (bad : Option BadInput) (file : List ℕ) (place : ℕ) (came : BadInput)
+      → is_some bad ≡ false → IsNoProof told file place → came ≡ BadByte file place → AreRead told files kept bad
+      → AreRead told (files ++ file ∷ []) kept (Some came)
+  read-none files kept None file place came is none told_as are =
+      subst (λ (b : BadInput). AreRead told (files ++ file ∷ []) kept (Some b)) (sym told_as) (bad-snoc files are.0 file place are.1 none)
+  read-none files kept (Some bad) file place came is none told_as are = cc
 
 -- ---- from the files to what joining them comes to
 
@@ -109,11 +134,11 @@ module _ (a : Asked) where
   refuses_input files NoMemory came some rose is = subst (λ (f : CommandFault). PartsCome a files (Err f)) (sym is) tt
 
   -- one that holds no proof
-  pub refuses_part : (files : List (List ℕ)) (parts : List Proof) (bad : BadInput) → AreRead a.told files parts (Some bad)
+  pub refuses_part : (files : List (List ℕ)) (kept : List Proof) (bad : BadInput) → AreRead a.told files kept (Some bad)
       → PartsCome a files (Err (Unreadable bad))
-  refuses_part files parts (BadByte named place) read = read
-  refuses_part files parts (BadLine named number) read = absurd read
-  refuses_part files parts (Unsound named step rule) read = absurd read
+  refuses_part files kept (BadByte named place) read = read
+  refuses_part files kept (BadLine named number) read = absurd read
+  refuses_part files kept (Unsound named step rule) read = absurd read
 
   spelled_parts : (files : List (List ℕ)) (parts : List Proof) → AreProofsOf a.told files parts
       → Each (λ part. (bytes : List ℕ) × Spells proof_layout bytes part) parts
@@ -123,10 +148,18 @@ module _ (a : Asked) where
   spelled_parts (file ∷ files) (p ∷ parts) are = ((are.0.bytes, are.0.spelled), spelled_parts files parts are.1)
 
   -- the bytes of the proof that they join to
-  pub joins_parts : (files : List (List ℕ)) (parts : List Proof) (p : Proof) (bytes : List ℕ) → AreProofsOf a.told files parts
-      → Joins parts (Ok p) → bytes ≡ proof_bytes p → JoinComes a files (Ok (Whole bytes))
-  joins_parts files parts p bytes are joins written =
+  pub joins_parts : (files : List (List ℕ)) (kept : List Proof) (p : Proof) (bytes : List ℕ) → AreFirstOf a.told files kept
+      → Joins kept (Ok p) → bytes ≡ proof_bytes p → JoinComes a files (Ok (Whole bytes))
+  joins_parts files kept p bytes are kept_join written =
+      let parts = are.0 in
+      let joins : Joins parts (Ok p) = joins-front parts (Ok p) (subst (λ ps. Joins ps (Ok p)) are.2 kept_join) in
       let whole : Spells proof_layout (proof_bytes (Precedes joins.0)) (Precedes joins.0) =
-      joined-spelled parts joins.0 (spelled_parts files parts are) joins.1 in
+      joined-spelled parts joins.0 (spelled_parts files parts are.1) joins.1 in
       let of_p : Spells proof_layout (proof_bytes p) p = subst (λ q. Spells proof_layout (proof_bytes q) q) (sym joins.2) whole in
-      (parts, are, (p, joins, subst (λ b. Spells proof_layout b p) (sym written) of_p))
+      (parts, are.1, (p, joins, subst (λ b. Spells proof_layout b p) (sym written) of_p))
+
+  -- the first of them that doesn't fit
+  pub leaves_gap : (files : List (List ℕ)) (kept : List Proof) (place : ℕ) → AreFirstOf a.told files kept → Joins kept (Err (Gap place))
+      → JoinComes a files (Ok (Unfit place))
+  leaves_gap files kept place are kept_join =
+      let parts = are.0 in (parts, are.1, joins-front parts (Err (Gap place)) (subst (λ ps. Joins ps (Err (Gap place))) are.2 kept_join))

@@ -11,19 +11,23 @@ use crate::limits::FILE_READ;
 use std::alloc::Global;
 use tw_base::{NoMemory, ReadFault, Sequence};
 use tw_chain::{Proof, read_proof};
+use tw_join::MOST_PARTS;
 use tw_outside::{Inputs, read_all};
 use tw_text::{BadInput, CommandFault, FilePath};
 
-/// What was read of files: the proofs of those before the first that holds none, and what is told of
-/// that one.
+/// As many parts as decide what all of them join to: one more than ever join.
+const MOST_KEPT: usize = MOST_PARTS + 1;
+
+/// What was read of files: the first proofs of those before the first that holds none, and what is told
+/// of that one.
 #[derive(Drop)]
 struct Parts {
     proofs: Sequence<Proof>,
     bad: Option<BadInput>,
 }
 
-/// Reads the files, each to its end or to the limit, and answers the proofs that they hold; or, once all
-/// are read, tells the first that holds none.
+/// Reads the files, each to its end or to the limit, and answers the proofs that they hold, and no more of
+/// them than decide what all join to; or, once all are read, tells the first that holds none.
 pub(crate) fn read_parts<I: Inputs>(
     alloc: Global,
     inputs: &mut I,
@@ -48,7 +52,8 @@ pub(crate) fn read_parts<I: Inputs>(
 }
 
 impl Parts {
-    /// Adds what these bytes of the named file hold, unless a file before held no proof.
+    /// Adds what these bytes of the named file hold, unless a file before held no proof. Of more proofs than
+    /// decide none is kept.
     fn add(&mut self, alloc: Global, file: &str, bytes: &[u8]) -> Result<(), NoMemory>
         ensures { OnOk result ((told : Option Files) (files : List (List ℕ)) → IsThere told file.now → IsReadTo told file.now FILE_READ bytes.now →
             AreRead told files self.old.proofs self.old.bad → AreRead told (files ++ file.now ∷ []) self.new.proofs self.new.bad) }
@@ -57,7 +62,11 @@ impl Parts {
             return Ok(());
         }
         match read_proof(alloc, bytes) {
-            Ok(proof) => self.proofs.push(proof)?,
+            Ok(proof) => {
+                if self.proofs.len() < MOST_KEPT {
+                    self.proofs.push(proof)?;
+                }
+            }
             Err(ReadFault::Malformed { place }) => self.bad = Some(bad_byte(alloc, file, place)?),
             Err(ReadFault::NoMemory) => return Err(NoMemory),
         }

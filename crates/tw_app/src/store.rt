@@ -1,0 +1,79 @@
+// Which store the words ask for.
+
+ghost use Rattle.std.specs.Prelude.{◌≡◌, [], map, slice_index_or, string_bytes, IfOk};
+ghost use Rattle.tw_text.specs.declared.command.Command.{Command as AnyCommand};
+ghost use Rattle.tw_app.specs.Around.{Outside};
+ghost use Rattle.tw_app.specs.Running.{work};
+ghost use Rattle.tw_app.specs.Stores.{IsStoreOf, access_of as access_of_command};
+
+use std::alloc::Global;
+use tw_base::NoMemory;
+use tw_disk::Disk;
+use tw_text::{Command, WordFault, read_words};
+
+/// What a command does with the store of a folder.
+#[derive(Clone, Copy, PartialEq, Eq, Debug, Drop)]
+pub enum StoreAccess {
+    /// It reads it, and writes nothing.
+    Read,
+    /// It reads and writes it.
+    Write,
+}
+
+/// The store that words ask for.
+#[derive(Clone, Copy, Debug, Drop)]
+pub struct Store<'a> {
+    /// The folder that the store lies in, as its word names it.
+    pub folder: &'a str,
+    /// What their command does with it.
+    pub access: StoreAccess,
+}
+
+/// What the command does with the store of its folder; none where it works on no folder, or isn't built.
+fn access_of(command: &Command) -> Option<StoreAccess>
+    ensures { result ≡ access_of_command command.now }
+{
+    match command {
+        Command::Init { .. } | Command::Append { .. } => Some(StoreAccess::Write),
+        Command::ProveEvent { .. } => Some(StoreAccess::Read),
+        _ => None,
+    }
+}
+
+/// The word of the folder: the second one, or the empty one where there is none.
+fn folder_of(words: &[String]) -> &str
+    ensures { result.now ≡ slice_index_or (map string_bytes words.now) 1 [] }
+{
+    match words.get(1) {
+        Some(word) => word.as_str(),
+        None => "",
+    }
+}
+
+/// The store that the words ask for, which don't hold the program's own name. None where they have no form, or one whose command
+/// works on no folder or isn't built.
+pub fn store_of(alloc: Global, words: &[String]) -> Result<Option<Store<'_>>, NoMemory>
+    // The store is that of the words' command, with what it does with it, in the folder that the second word names; and none is
+    // answered where the words have no form, or their command works on no folder.
+    ensures { IfOk result (IsStoreOf (map string_bytes words.now)) }
+{
+    let command = match read_words(alloc, words) {
+        Ok(command) => command,
+        Err(WordFault::BadWord { .. }) => return Ok(None),
+        Err(WordFault::NoMemory) => return Err(NoMemory),
+    };
+    match access_of(&command) {
+        Some(access) => Ok(Some(Store {
+            folder: folder_of(words),
+            access,
+        })),
+        None => Ok(None),
+    }
+}
+
+/// What a command does with a store is what its work does with the disk.
+pub fn store_laws<D: Disk>()
+    // Exactly the commands whose work may write the disk write the store, and exactly those whose work reads it and writes nothing
+    // read it; all others work on no folder, or aren't built.
+    ensures { (o : Outside D) (command : AnyCommand) → (work D.view o command).access ≡ access_of_command command }
+{}
