@@ -83,7 +83,7 @@ is_strict _ = false
 -- status 0 of words that ask for a verdict: the proof file is there. Where the inputs tell its bytes, they spell a proof that
 -- is accepted under the command's anchors, and its report was written whole; of `strict` the proof carries no thread; and in every
 -- family of sound histories that has the held threads the report's claim holds, by the report's own hops, and where it has no hops
--- the times rise, or two different texts of the histories and of the proof have one SHA-256 digest
+-- the times rise, or two different texts of the histories and of the proof, both of bytes, have one SHA-256 digest
 pub record IsAcceptedRun (told : Option Files) (words : List (List ℕ)) (taken_before taken_after : Option (List ℕ)) : Type 0 where
   pub command : Command
   pub file : List ℕ

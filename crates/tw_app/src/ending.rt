@@ -164,7 +164,7 @@ pub fn run<D: Disk, I: Inputs, S: Sink>(
     // command's anchors. These are the one of its words, or those of the anchors file, which is there and has no bad line.
     // Of `strict` the proof carries no thread. The proof's report was written whole. And in every list of sound histories
     // that has the anchors that are held of the services and steps that the proof names, and the threads that it carries,
-    // either two different texts of these histories and of the proof have one SHA-256 digest, or what the report claims
+    // either two different texts of these histories and of the proof, both of bytes, have one SHA-256 digest, or what the report claims
     // is so. Of an event: it stands at the place that is named, and its step has the time that is told, or none where
     // none is told. Of an event before another: both stand so, and the report's own hops lead from the first one's step
     // to the step before the second one's; where there are no hops, and both steps have a time, the first one's isn't

@@ -70,8 +70,8 @@ fn is_shown<H: Hasher>(root: &Digest, count: u32, index: u32, event: &[u8], path
 /// the length of that count and index and leads from the event's leaf to the root (RFC 6962,
 /// section 2.1.1). Takes no memory.
 ///
-/// Where it does, each list of so many events with that root has this event at this index, or two
-/// different texts among those of its tree and those hashed here have one digest.
+/// Where it does, each list of so many events, which are bytes, with that root has this event at this
+/// index, or two different texts among those of its tree and those hashed here, both of bytes, have one digest.
 pub fn check_event<H: Hasher>(
     root: &Digest,
     count: u32,

@@ -106,8 +106,8 @@ impl<H: Hasher> Verifier<H> {
 /// or its tail) is held at a time, with what the report needs.
 ///
 /// Where it is Yes, in every family of sound histories that has the held threads the report's claim
-/// holds, by the report's own hops, or two different texts of the histories and of the proof have one
-/// digest.
+/// holds, by the report's own hops, or two different texts of the histories and of the proof, both of
+/// bytes, have one digest.
 pub fn verify<H: Hasher>(
     alloc: Global,
     bytes: &[u8],
@@ -119,7 +119,7 @@ pub fn verify<H: Hasher>(
     ensures verdict { IfOk result (IsVerdict H.dig anchors.now strict bytes.now) }
     // Where the verdict is `Yes`, the report's claim holds by the report's own hops in every list of sound histories that
     // has the anchors held of those that the proof names and the threads that it carries, and where it has no hops the
-    // times rise; or two different texts of these histories and of the proof have one digest.
+    // times rise; or two different texts of these histories and of the proof, both of bytes, have one digest.
     ensures binds { IfOk result (BindsHistories H.dig anchors.now bytes.now) }
 {
     fed_whole::<H>(alloc, bytes, anchors, strict)?.finish()
