@@ -2,3 +2,4 @@ pub mod JoinedParts
 pub mod JoinedHops
 pub mod JoinedSpelling
 pub mod JoinedAccepted
+pub mod JoinedOwn
