@@ -86,12 +86,14 @@ pub fn completeness_laws<H: Hasher>()
         IsAccepted H.dig anchors p }
     // It claims that thread, that there is none of that key, or that authenticator, at the history's step.
     ensures own_claims { (h : History) (step top : ℕ) (p : Proof) → IsOwnProof H.dig h step top p → ClaimsOf H.dig h step top p }
-    // Where the history has the top, and no more nodes stand above the place of a tree proof in such a proof than its format
-    // has room for, 127 above an entry and 128 above an empty place, the bytes that are written of the proof spell it.
+    // Where the history has the top, which is from 1 on, and no more nodes stand above the place of a tree proof in such a
+    // proof than its format has room for, 127 above an entry and 128 above an empty place, the bytes that are written of the
+    // proof spell it.
     ensures own_spelled { (h : History) (step top : ℕ) (p : Proof) →
         IsSound h → step ≤ top → 0 < top → top ≤ length h.steps → HasFewNodes p → IsOwnProof H.dig h step top p →
         Spells proof_layout (proof_bytes p) p }
-    // No more stand there where no way down the tree of the step's archive has more than 128 nodes.
+    // No more nodes stand there in any of a sound history's proofs of a step where no way down the tree of the step's archive
+    // has more than 128.
     ensures own_few { (h : History) (step top : ℕ) (p : Proof) →
         IsSound h → step ≤ top → top ≤ length h.steps → height (tree h step) ≤ MOST_ABOVE_PLACE → IsOwnProof H.dig h step top p →
         HasFewNodes p }

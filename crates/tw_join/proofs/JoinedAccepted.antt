@@ -38,7 +38,7 @@ use Rattle.tw_chain.proofs.Completeness.{entry-shown, from_1_of_entry, own-accep
 use Rattle.tw_join.proofs.JoinedHops.{come_to, last-thread}
 use Rattle.tw_join.proofs.JoinedParts.{JointFits, JointsFit, LinkFits, WholeFits, joined-fits}
 
-each-both : (P Q : Proof → Type 0) (parts : List Proof) → Each P parts → Each Q parts → Each (λ part. P part × Q part) parts
+pub each-both : (P Q : Proof → Type 0) (parts : List Proof) → Each P parts → Each Q parts → Each (λ part. P part × Q part) parts
 each-both P Q [] ps qs = tt
 each-both P Q (part ∷ parts) ps qs = ((ps.0, qs.0), each-both P Q parts ps.1 qs.1)
 

@@ -32,7 +32,7 @@ use Rattle.tw_join.proofs.JoinedHops.{come_to, hops-count, joints-few, last-step
 use Rattle.tw_join.proofs.JoinedParts.{JointFits, JointsFit, LinkFits, WholeFits, joined-fits}
 use Rattle.tw_chain.proofs.ProofCodec.{proof-lawful}
 
-abbrev FitsPart : Proof → Type 0
+abbrev pub FitsPart : Proof → Type 0
 FitsPart part = proof_codec.Fits part
 
 -- ---- the parts' pieces
@@ -138,7 +138,7 @@ tail-fits upper first is fits =
     let at = at-parts 1 first.at fits.at in
     ((at.from_1, at.step), (subst (λ t. (path_codec t first.at.step).Fits first.at.path.links) (sym is) at.path, (at.opening, fits.event)))
 
-whole-fits : (second : ExistenceProof) (joints : List Joint) (first : ExistenceProof) → WholeFits FitsPart second joints first
+pub whole-fits : (second : ExistenceProof) (joints : List Joint) (first : ExistenceProof) → WholeFits FitsPart second joints first
     → proof_codec.Fits (Precedes (joined_of second joints first))
 unfolding proof_codec kinds_codec precedence_body hops_codec behind_codec behind by_kind variant seen pair number_codec each
 whole-fits second joints first fits =

@@ -3,3 +3,4 @@ pub mod JoinedHops
 pub mod JoinedSpelling
 pub mod JoinedAccepted
 pub mod JoinedFronts
+pub mod JoinedOwn

@@ -12,13 +12,9 @@ use Rattle.tw_chain.specs.declared.proof.Proof.TheVariants.{Precedes, Archived}
 use Rattle.tw_chain.specs.Accepting.{Accepts, IsAccepted, named}
 use Rattle.tw_join.specs.Joining.{joined, shown_hop}
 use Rattle.tw_join.specs.Joining.Taken.{Nothing}
-use Rattle.tw_chain.specs.OwnProofs.{IsOwnProof}
+use Rattle.tw_chain.specs.OwnProofs.{HasFewNodes, IsOwnProof}
 use Rattle.tw_chain.specs.Passing.{anchor_at}
 use Rattle.tw_chain.specs.Proofs.{proof_bytes, proof_layout}
-
--- some bytes spell the proof
-abbrev pub HasSpelling : Proof → Type 0
-HasSpelling part = (bytes : List ℕ) × Spells proof_layout bytes part
 
 module _ (dig : List ℕ → List ℕ) (family : List History) where
   -- a history of the family has this proof itself
@@ -48,10 +44,11 @@ JoinedIsAccepted dig =
     → Each (IsMade dig family) parts → Each (HopOfPartStands dig family) parts → joined Nothing 1 parts ≡ Ok p
     → IsAnchored dig family anchors (Precedes p) → IsAccepted dig anchors (Precedes p)
 
--- the bytes that are written of what such parts join to, each of which has a spelling, spell it, and are accepted there
+-- where no part has more nodes above the place of its tree proof than the format has room for, the bytes that are written of what
+-- such parts join to spell it, and are accepted there
 abbrev pub JoinedBytesAreAccepted : (dig : List ℕ → List ℕ) → Type 0
 JoinedBytesAreAccepted dig =
     (family : List History) (parts : List Proof) (p : PrecedenceProof) (anchors : List Thread) → AllSound family
-    → Each (IsMade dig family) parts → Each (HopOfPartStands dig family) parts → Each HasSpelling parts
+    → Each (IsMade dig family) parts → Each HasFewNodes parts → Each (HopOfPartStands dig family) parts
     → joined Nothing 1 parts ≡ Ok p → IsAnchored dig family anchors (Precedes p)
     → Spells proof_layout (proof_bytes (Precedes p)) (Precedes p) × Accepts dig anchors (proof_bytes (Precedes p))

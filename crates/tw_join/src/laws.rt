@@ -25,8 +25,10 @@ pub fn joining_laws<H: Hasher>()
     // What parts join to, each of which has a spelling, has a spelling itself: what is written of it.
     ensures joined_spelled { (parts : List Proof) (p : PrecedenceProof) →
         Each (λ part. (bytes : List ℕ) × Spells proof_layout bytes part) parts → joined Nothing 1 parts ≡ Ok p → Spells proof_layout (proof_bytes (Precedes p)) (Precedes p) }
-    // Both in one: where such parts have spellings, what is written of what they join to spells it, and these bytes are accepted
-    // wherever those anchors are held.
+    // In one piece: where services of sound histories made the parts, for hops that stand there, and no part has more nodes
+    // above the place of its tree proof than its format has room for, 127 above an entry, the bytes that are written of what
+    // they join to spell it, and are accepted wherever the anchors of the tops that it names are held, and are those of the
+    // histories.
     ensures joined_accepts { JoinedBytesAreAccepted H.dig }
     // The hops of its report are those that the parts show, from the first event to the second.
     ensures joined_hops { (parts : List Proof) (p : PrecedenceProof) →

@@ -1,8 +1,8 @@
 -- Each law, from what the parts are.
-use Rattle.tw_chain.specs.declared.proof.Proof.TheVariants.{Precedes}
 use Rattle.tw_join.proofs.JoinedAccepted.{joined-accepted}
 use Rattle.tw_join.proofs.JoinedFronts.{joins-front}
 use Rattle.tw_join.proofs.JoinedHops.{joined-hops}
+use Rattle.tw_join.proofs.JoinedOwn.{joined-accepts}
 use Rattle.tw_join.proofs.JoinedSpelling.{joined-spelled}
 use Rattle.tw_join.proofs.laws.joining_laws.Goals as goal
 
@@ -13,9 +13,7 @@ pub returns-clause-joined_spelled : goal.returns-clause-joined_spelled
 returns-clause-joined_spelled g c = joined-spelled
 
 pub returns-clause-joined_accepts : goal.returns-clause-joined_accepts
-returns-clause-joined_accepts g c = λ family parts p anchors sound made stand spelled is anchored.
-    let spells = joined-spelled parts p spelled is in
-    (spells, (Precedes p, spells, joined-accepted _ family parts p anchors sound made stand is anchored))
+returns-clause-joined_accepts g c = joined-accepts _ g.met.H.Hasher.size g.met.H.Hasher.bytes
 
 pub returns-clause-joined_hops : goal.returns-clause-joined_hops
 returns-clause-joined_hops g c = joined-hops
