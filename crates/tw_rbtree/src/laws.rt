@@ -60,6 +60,14 @@ pub fn standing_laws<H: Hasher>()
 pub fn keeping_laws<H: Hasher>()
     // Pages that stand for a tree under a root still do with others behind them.
     ensures kept { (ps more : Image) (root : Root) (t : Tree) → StandsFor H.dig ps root t → StandsFor H.dig (ps ++ more) root t }
+    // They do too where the tree's pages below a number are to be named trees.
+    ensures kept_named { (ps more : Image) (named : Named) (root : Root) (t : Tree) → StandsWith H.dig (HasNamed named) ps root t →
+        StandsWith H.dig (HasNamed named) (ps ++ more) root t }
+    // Pages that stand for a tree with named trees stand for it without them.
+    ensures any { (ps : Image) (named : Named) (root : Root) (t : Tree) → StandsWith H.dig (HasNamed named) ps root t → StandsFor H.dig ps root t }
+    // Pages that stand for a tree stand for it with named trees too, where no page is named, the number being 0.
+    ensures unnamed { (ps : Image) (named : Named) (root : Root) (t : Tree) → named.below ≡ 0 → StandsFor H.dig ps root t →
+        StandsWith H.dig (HasNamed named) ps root t }
     // Pages stand for one tree under a root.
     ensures once { (ps : Image) (root : Root) (s t : Tree) → StandsFor H.dig ps root s → StandsFor H.dig ps root t → s ≡ t }
     // A page is one tree, whatever its label and the order of its entries.
