@@ -8,7 +8,7 @@ ghost use Rattle.tw_base.specs.declared.history.tree_proof.Ask.{Ask};
 ghost use Rattle.tw_base.specs.declared.history.tree_proof.Ask.TheVariants.{Absent, Present};
 ghost use Rattle.tw_base.specs.history.Entries.{key_of};
 ghost use Rattle.tw_base.specs.history.Limits.{IsEntryInRange};
-ghost use Rattle.tw_base.specs.kinds.Lists.{Each};
+ghost use Rattle.tw_base.specs.kinds.Lists.{Each, In};
 ghost use Rattle.tw_base.specs.history.Asking.{entry_with, first_above, last_below};
 ghost use Rattle.tw_base.specs.history.Tree.{Tree, entries};
 ghost use Rattle.tw_disk.specs.Found.Found.{Is};
@@ -51,6 +51,11 @@ pub fn standing_laws<H: Hasher>()
     ensures present { (ps : Image) (root : Root) (e : Entry) → way H.dig ps (Present e) root ≡ way H.dig ps (Absent (key_of e)) root }
     // Each entry of the tree has its steps within 1 to 2^40 - 1.
     ensures ranges { (ps : Image) (root : Root) (t : Tree) → StandsFor H.dig ps root t → Each IsEntryInRange (entries t) }
+    // Where an entry of the tree has a name, the last one below the name's key with step 2^40 is an entry of the tree with that
+    // name too, and it is this entry or has a greater step.
+    ensures latest { (ps : Image) (root : Root) (t : Tree) (name : List ℕ) (e : Entry) → StandsFor H.dig ps root t → In e (entries t) → e.thread.from ≡ name →
+        (last : Entry) × (last_below (entries t) (record { from = name; step = 2 ^ 40 }) ≡ Some last) × In last (entries t) × (last.thread.from ≡ name)
+        × ((e ≡ last) ⊎ (e.thread.step < last.thread.step)) }
     // Where the tree has fewer than 2^40 entries, an insert tells no bad page.
     ensures room { (ps : Image) (root : Root) (t : Tree) (entry : Entry) (page : ℕ) → StandsFor H.dig ps root t → length (entries t) < 2 ^ 40 →
         AnswersInsert root (Err (BadPage page)) (way H.dig ps (Absent (key_of entry)) root) → ⊥ }
