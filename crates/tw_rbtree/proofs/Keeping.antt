@@ -1,5 +1,5 @@
 -- Pages that stand for a tree: others behind them, and that there is one tree.
-use Rattle.std.proofs.Common.{◌≡◌, ℕ, suc, zero, ◌-◌, List, [], ◌∷◌, ◌++◌, refl, ap, sym, ◌∙◌, subst, arith, inl, inr, length-append}
+use Rattle.std.proofs.Common.{◌≡◌, ℕ, suc, zero, ◌-◌, ◌<◌, List, [], ◌∷◌, ◌++◌, refl, ap, sym, ◌∙◌, subst, arith, inl, inr, length-append}
 use Rattle.std.proofs.lemmas.List.{get_or_append_left}
 use Rattle.tw_base.specs.declared.history.root.Root.{Root}
 use Rattle.tw_base.specs.format.PageBytes.{IsPageOf}
@@ -10,7 +10,7 @@ use Rattle.tw_rbnode.specs.NodeBytes.{fields_of, node_codec}
 use Rattle.tw_rbnode.specs.Page.{TreePage}
 use Rattle.tw_rbnode.specs.Trees.{page_tree}
 use Rattle.tw_rbtree.specs.Reading.{IsPageAt}
-use Rattle.tw_rbtree.specs.Standing.{AreTrees, IsRootTree, IsTreeBelow, IsTreePage, OfPage, StandsFor, StandsWith, any_page}
+use Rattle.tw_rbtree.specs.Standing.{AreTrees, HasNamed, IsRootTree, IsTreeBelow, IsTreePage, Named, OfPage, StandsFor, StandsWith, any_page}
 use Rattle.tw_rbtree.proofs.PageLaws.{one_page}
 
 pub trees-map : (R S : Child → Tree → Type 0) → ((c : Child) (t : Tree) → R c t → S c t) → (cs : List Child) (ts : List Tree) → AreTrees R cs ts → AreTrees S cs ts
@@ -86,10 +86,10 @@ module _ (dig : List ℕ → List ℕ) (Has : OfPage) (ps : Image) where
   pub stands-once : (root : Root) (s t : Tree) → StandsWith dig Has ps root s → StandsWith dig Has ps root t → s ≡ t
   stands-once root s t a b = root-once root.page s t a.tree b.tree
 
--- where something holds of each page of a tree, the pages stand for it anyhow
-module _ (dig : List ℕ → List ℕ) (Has : OfPage) (ps : Image) where
-  tree_page-any : (R S : Child → Tree → Type 0) → ((c : Child) (t : Tree) → R c t → S c t) → (level least page : ℕ) (t : Tree) → IsTreePage dig Has ps R level least page t → IsTreePage dig any_page ps S level least page t
-  tree_page-any R S f level least page t is = record {
+-- where what holds of each page of a tree gives something else of it, the pages stand for the tree with that
+module _ (dig : List ℕ → List ℕ) (Has Other : OfPage) (ps : Image) (turn : (page : ℕ) (t : Tree) → Has page t → Other page t) where
+  tree_page-turned : (R S : Child → Tree → Type 0) → ((c : Child) (t : Tree) → R c t → S c t) → (level least page : ℕ) (t : Tree) → IsTreePage dig Has ps R level least page t → IsTreePage dig Other ps S level least page t
+  tree_page-turned R S f level least page t is = record {
     node = is.node;
     at = is.at;
     level_is = is.level_is;
@@ -97,18 +97,31 @@ module _ (dig : List ℕ → List ℕ) (Has : OfPage) (ps : Image) where
     trees = is.trees;
     are_trees = trees-map R S f is.node.children is.trees is.are_trees;
     tree_is = is.tree_is;
-    has = tt;
+    has = turn page t is.has;
   }
 
-  pub below-any : (level : ℕ) (c : Child) (t : Tree) → IsTreeBelow dig Has ps level c t → IsTreeBelow dig any_page ps level c t
+  below-turned : (level : ℕ) (c : Child) (t : Tree) → IsTreeBelow dig Has ps level c t → IsTreeBelow dig Other ps level c t
   unfolding IsTreeBelow
-  below-any zero c t is = is
-  below-any (suc level) c t is =
-      (is.0, tree_page-any (IsTreeBelow dig Has ps level) (IsTreeBelow dig any_page ps level) (below-any level) level 12 c.page t is.1)
+  below-turned zero c t is = is
+  below-turned (suc level) c t is =
+      (is.0, tree_page-turned (IsTreeBelow dig Has ps level) (IsTreeBelow dig Other ps level) (below-turned level) level 12 c.page t is.1)
 
-  root-any : (page : ℕ) (t : Tree) → IsRootTree dig Has ps page t → IsRootTree dig any_page ps page t
-  root-any page t (inl none) = inl none
-  root-any page t (inr (level, is)) = inr (level, tree_page-any (IsTreeBelow dig Has ps level) (IsTreeBelow dig any_page ps level) (below-any level) level 1 page t is)
+  root-turned : (page : ℕ) (t : Tree) → IsRootTree dig Has ps page t → IsRootTree dig Other ps page t
+  root-turned page t (inl none) = inl none
+  root-turned page t (inr (level, is)) = inr (level, tree_page-turned (IsTreeBelow dig Has ps level) (IsTreeBelow dig Other ps level) (below-turned level) level 1 page t is)
+
+  stands-turned : (root : Root) (t : Tree) → StandsWith dig Has ps root t → StandsWith dig Other ps root t
+  stands-turned root t stands = record { rising = stands.rising; label = stands.label; tree = root-turned root.page t stands.tree }
+
+-- where something holds of each page of a tree, the pages stand for it anyhow
+module _ (dig : List ℕ → List ℕ) (Has : OfPage) (ps : Image) where
+  pub below-any : (level : ℕ) (c : Child) (t : Tree) → IsTreeBelow dig Has ps level c t → IsTreeBelow dig any_page ps level c t
+  below-any level c t is = below-turned dig Has any_page ps (λ page t has. tt) level c t is
 
   pub stands-any : (root : Root) (t : Tree) → StandsWith dig Has ps root t → StandsFor dig ps root t
-  stands-any root t stands = record { rising = stands.rising; label = stands.label; tree = root-any root.page t stands.tree }
+  stands-any root t stands = stands-turned dig Has any_page ps (λ page t has. tt) root t stands
+
+-- where no page is named, the pages stand with the names for what they stand for
+pub stands-unnamed : (dig : List ℕ → List ℕ) (named : Named) (ps : Image) → named.below ≡ 0 → (root : Root) (t : Tree) → StandsFor dig ps root t → StandsWith dig (HasNamed named) ps root t
+stands-unnamed dig named ps none root t stands =
+    stands-turned dig any_page (HasNamed named) ps (λ page t has. λ (under : page < named.below). absurd (omega (arith, none, under))) root t stands

@@ -13,6 +13,7 @@ pub mod Replacing
 pub mod GrowLaws
 pub mod RootGrowing
 pub mod ShowLaws
+pub mod Latest
 pub mod ListLaws
 pub mod Plantings
 pub mod Fullness

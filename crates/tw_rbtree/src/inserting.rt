@@ -19,7 +19,7 @@ ghost use Rattle.tw_rbtree.specs.Answers.{AnswersInsert, NeverUntrue};
 ghost use Rattle.tw_rbtree.specs.FaultWords.{tree_faults};
 ghost use Rattle.tw_rbtree.specs.Growing.{AddedAreNodes, AddedLists, AnswersGrown, GrownLists, IsGrownIn, IsLast, IsStaged, IsStagedAs, IsWith, MayGoInto};
 ghost use Rattle.tw_rbtree.specs.Reading.{is_above, is_below, lie_between};
-ghost use Rattle.tw_rbtree.specs.Standing.{AreTrees, IsTreeBelow, HasNamed, Named, StandsWith};
+ghost use Rattle.tw_rbtree.specs.Standing.{AreTrees, IsTreeBelow, HasNamed, Named, StandsFor, StandsWith};
 ghost use Rattle.tw_rbtree.specs.Ways.{way, way_from};
 ghost use Rattle.tw_rbtree.specs.declared.limits.TheConstants.{MOST_STAGED};
 
@@ -235,12 +235,16 @@ pub fn insert<P: Pages, H: Hasher>(
     // met that doesn't fit the way, or with the root's page where all pages of eleven levels are full.
     ensures answer { (ps : Image) → (P.view pages.old).list ≡ Some ps →
         AnswersInsert root.now result (way H.dig ps (Absent (key_of entry)) root.now) }
-    // Where the pages stand for a tree under the root, those told then stand under the new root for a tree that lists the same
-    // entries and the new one in its place.
+    // Where the pages stand for a tree under the root, whose pages below a number are to be named trees, those told then stand under
+    // the new root, with the same names, for a tree that lists the same entries and the new one in its place.
     ensures inserted { (ps : Image) → (P.view pages.old).list ≡ Some ps → (named : Named) → named.below ≤ (P.view pages.old).used →
         (t : Tree) → StandsWith H.dig (HasNamed named) ps root.now t →
         IfOk result (λ new. (now : Image) × (grown : Tree) × ((P.view pages.new).list ≡ Some now)
         × StandsWith H.dig (HasNamed named) now new grown × (entries grown ≡ with_entry (entries t) entry)) }
+    // The same where nothing is named: pages that stand for a tree then stand for one with the new entry in its place.
+    ensures plain { (ps : Image) → (P.view pages.old).list ≡ Some ps → (t : Tree) → StandsFor H.dig ps root.now t →
+        IfOk result (λ new. (now : Image) × (grown : Tree) × ((P.view pages.new).list ≡ Some now)
+        × StandsFor H.dig now new grown × (entries grown ≡ with_entry (entries t) entry)) }
     // The new root's page is the last one.
     ensures page { IfOk result (λ new. (P.view pages.new).used ≡ new.page + 1) }
     // At most 23 pages are staged.

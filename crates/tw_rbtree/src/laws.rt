@@ -8,7 +8,7 @@ ghost use Rattle.tw_base.specs.declared.history.tree_proof.Ask.{Ask};
 ghost use Rattle.tw_base.specs.declared.history.tree_proof.Ask.TheVariants.{Absent, Present};
 ghost use Rattle.tw_base.specs.history.Entries.{key_of};
 ghost use Rattle.tw_base.specs.history.Limits.{IsEntryInRange};
-ghost use Rattle.tw_base.specs.kinds.Lists.{Each};
+ghost use Rattle.tw_base.specs.kinds.Lists.{Each, In};
 ghost use Rattle.tw_base.specs.history.Asking.{entry_with, first_above, last_below};
 ghost use Rattle.tw_base.specs.history.Tree.{Tree, entries};
 ghost use Rattle.tw_disk.specs.Found.Found.{Is};
@@ -51,6 +51,11 @@ pub fn standing_laws<H: Hasher>()
     ensures present { (ps : Image) (root : Root) (e : Entry) → way H.dig ps (Present e) root ≡ way H.dig ps (Absent (key_of e)) root }
     // Each entry of the tree has its steps within 1 to 2^40 - 1.
     ensures ranges { (ps : Image) (root : Root) (t : Tree) → StandsFor H.dig ps root t → Each IsEntryInRange (entries t) }
+    // Where an entry of the tree has a name, the last one below the name's key with step 2^40 is an entry of the tree with that
+    // name too, and it is this entry or has a greater step.
+    ensures latest { (ps : Image) (root : Root) (t : Tree) (name : List ℕ) (e : Entry) → StandsFor H.dig ps root t → In e (entries t) → e.thread.from ≡ name →
+        (last : Entry) × (last_below (entries t) (record { from = name; step = 2 ^ 40 }) ≡ Some last) × In last (entries t) × (last.thread.from ≡ name)
+        × ((e ≡ last) ⊎ (e.thread.step < last.thread.step)) }
     // Where the tree has fewer than 2^40 entries, an insert tells no bad page.
     ensures room { (ps : Image) (root : Root) (t : Tree) (entry : Entry) (page : ℕ) → StandsFor H.dig ps root t → length (entries t) < 2 ^ 40 →
         AnswersInsert root (Err (BadPage page)) (way H.dig ps (Absent (key_of entry)) root) → ⊥ }
@@ -60,6 +65,14 @@ pub fn standing_laws<H: Hasher>()
 pub fn keeping_laws<H: Hasher>()
     // Pages that stand for a tree under a root still do with others behind them.
     ensures kept { (ps more : Image) (root : Root) (t : Tree) → StandsFor H.dig ps root t → StandsFor H.dig (ps ++ more) root t }
+    // They do too where the tree's pages below a number are to be named trees.
+    ensures kept_named { (ps more : Image) (named : Named) (root : Root) (t : Tree) → StandsWith H.dig (HasNamed named) ps root t →
+        StandsWith H.dig (HasNamed named) (ps ++ more) root t }
+    // Pages that stand for a tree with named trees stand for it without them.
+    ensures any { (ps : Image) (named : Named) (root : Root) (t : Tree) → StandsWith H.dig (HasNamed named) ps root t → StandsFor H.dig ps root t }
+    // Pages that stand for a tree stand for it with named trees too, where no page is named, the number being 0.
+    ensures unnamed { (ps : Image) (named : Named) (root : Root) (t : Tree) → named.below ≡ 0 → StandsFor H.dig ps root t →
+        StandsWith H.dig (HasNamed named) ps root t }
     // Pages stand for one tree under a root.
     ensures once { (ps : Image) (root : Root) (s t : Tree) → StandsFor H.dig ps root s → StandsFor H.dig ps root t → s ≡ t }
     // A page is one tree, whatever its label and the order of its entries.

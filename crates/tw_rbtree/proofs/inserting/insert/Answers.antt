@@ -10,10 +10,11 @@ use Rattle.tw_rbnode.specs.Trees.{woven}
 use Rattle.tw_rbtree.specs.FaultWords.{tree_fault}
 use Rattle.tw_rbtree.specs.declared.inserting.Grown.{Grown}
 use Rattle.tw_rbtree.specs.Growing.{AnswersGrown, GrownLists}
-use Rattle.tw_rbtree.specs.Standing.{IsTreeBelow, HasNamed}
+use Rattle.tw_rbtree.specs.Standing.{IsTreeBelow, HasNamed, Named}
 use Rattle.tw_rbtree.specs.Ways.{way, way_from}
 use Rattle.tw_rbtree.proofs.FoundLaws.{as_tree_fault}
 use Rattle.tw_rbtree.proofs.GrowLaws.{leaf-below, less-keys, never-present}
+use Rattle.tw_rbtree.proofs.Keeping.{stands-any, stands-unnamed}
 use Rattle.tw_rbtree.proofs.RootGrowing.{all-lie_between, as_insert_fault, empty-tree, insert-bad, insert-empty, insert-fault, insert-one, insert-over, insert-passed, insert-two, own-trees, rises-with, root-stands}
 use Rattle.tw_rbtree.proofs.inserting.insert.Goals as goal
 
@@ -111,3 +112,24 @@ returns-in_ok-stage_single-in-Two-clause-inserted g c = λ ps told named under t
     let right = subst (λ (n : ℕ). IsTreeBelow dig (HasNamed named) lists.0 n c.in-Two.right grown.1) up (less-keys dig (HasNamed named) lists.0 p.level 12 c.in-Two.right grown.1 (omega arith) grown.3) in
     let last = c.in_ok-stage_single-in-Two.ensures.lists lists.0 lists.1 named (omega (arith, under, c.in_ok-first.ensures.reads.kept.used_kept, c.in_ok-child.ensures.kept.used_grows)) (grown.0 ∷ grown.1 ∷ []) (left, (right, tt)) rising in
     (last.0, last.1, last.2, last.3, last.4 ∙ target)
+
+abbrev unnamed : Named
+unnamed = record { below = 0; tree = λ page. Empty }
+
+pub returns-then-root-eq0-clause-plain : goal.returns-then-root-eq0-clause-plain
+returns-then-root-eq0-clause-plain g c = λ ps told t stands.
+    let dig = g.H.Hasher.dig in
+    let all = returns-then-root-eq0-clause-inserted g c ps told unnamed (omega arith) t (stands-unnamed dig unnamed ps refl c.args.root.now t stands) in
+    (all.0, all.1, all.2, stands-any dig (HasNamed unnamed) all.0 _ all.1 all.3, all.4)
+
+pub returns-in-One-clause-plain : goal.returns-in-One-clause-plain
+returns-in-One-clause-plain g c = λ ps told t stands.
+    let dig = g.H.Hasher.dig in
+    let all = returns-in-One-clause-inserted g c ps told unnamed (omega arith) t (stands-unnamed dig unnamed ps refl c.args.root.now t stands) in
+    (all.0, all.1, all.2, stands-any dig (HasNamed unnamed) all.0 _ all.1 all.3, all.4)
+
+pub returns-in_ok-stage_single-in-Two-clause-plain : goal.returns-in_ok-stage_single-in-Two-clause-plain
+returns-in_ok-stage_single-in-Two-clause-plain g c = λ ps told t stands.
+    let dig = g.H.Hasher.dig in
+    let all = returns-in_ok-stage_single-in-Two-clause-inserted g c ps told unnamed (omega arith) t (stands-unnamed dig unnamed ps refl c.args.root.now t stands) in
+    (all.0, all.1, all.2, stands-any dig (HasNamed unnamed) all.0 _ all.1 all.3, all.4)
