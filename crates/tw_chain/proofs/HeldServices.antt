@@ -87,7 +87,7 @@ module _ (anchors : List Thread) where
         let parts = parted one rest pass in (
           held-left one rest hop.entry.thread.from (hop-held part step root hop parts.0),
           Each-map (λ (h : HopPart). Held rest h.entry.thread.from) (λ (h : HopPart). Held (one ++ rest) h.entry.thread.from) hops
-          (λ h is. held-right one rest h.entry.thread.from is) (hops-held hops (suc part) hop.entry.thread.step (root_of hop.opening) parts.1),
+              (λ h is. held-right one rest h.entry.thread.from is) (hops-held hops (suc part) hop.entry.thread.step (root_of hop.opening) parts.1),
         )
 
     -- ---- what holds of the services of hops, and of where they start
