@@ -46,7 +46,7 @@ get-more [] more i t e = absurd (none-some t e)
 get-more (x ∷ ts) more zero t e = e
 get-more (x ∷ ts) more (suc i) t e = get-more ts more i t e
 
-get-last : (ts : List Tree) (t : Tree) → slice_get (ts ++ t ∷ []) (length ts) ≡ Some t
+get-last : {X : Type 0} (ts : List X) (t : X) → slice_get (ts ++ t ∷ []) (length ts) ≡ Some t
 get-last [] t = refl
 get-last (x ∷ ts) t = get-last ts t
 
@@ -191,10 +191,13 @@ from_last : {X Y : Type 0} (one : Found X) (f : X → Found Y) (y : Y) → (one 
 from_last (Is x) f y e = (x, e)
 from_last (Bad page) f y e = cc
 
-abbrev IsLastNode : Listed → Type 0
-IsLastNode all = (0 < length all.nodes) × (all.side ≡ New (length all.nodes))
+abbrev pub IsLastAt : (page : ℕ) → List NewNode → Type 0
+IsLastAt page nodes = (n : NewNode) × (slice_get nodes (length nodes - 1) ≡ Some n) × (n.page ≡ page)
 
-root-last : (child : ListsAt) (es : List Entry) (page : ℕ) (low high : Option Entry) (s : Shape) (all : Listed) → 0 < size s → size s ≤ length es → listed_at child es page low high 0 s [] ≡ Is all → IsLastNode all
+abbrev IsLastNode : (page : ℕ) → Listed → Type 0
+IsLastNode page all = (0 < length all.nodes) × (all.side ≡ New (length all.nodes)) × IsLastAt page all.nodes
+
+root-last : (child : ListsAt) (es : List Entry) (page : ℕ) (low high : Option Entry) (s : Shape) (all : Listed) → 0 < size s → size s ≤ length es → listed_at child es page low high 0 s [] ≡ Is all → IsLastNode page all
 root-last child es page low high Empty all some room found = absurd (omega (arith, some))
 root-last child es page low high (Node red l r) all some room found =
     let here = get-some es [] es (0 + size l) (omega (arith, room)) in
@@ -205,27 +208,30 @@ root-last child es page low high (Node red l r) all some room found =
     let right = from_last (listed_at child es 0 (Some e) high (0 + size l + 1) r left.0.nodes) (λ (right : Listed). Is (node_behind (Some e) page left.0.side right)) all left.1 in
     let n : NewNode = record { left = left.0.side; entry = e; right = right.0.side; page = page } in
     let count : length (right.0.nodes ++ n ∷ []) ≡ length right.0.nodes + 1 = omega (arith, length-append right.0.nodes (n ∷ [])) in
-    subst IsLastNode (same_found (node_behind (Some e) page left.0.side right.0) all right.1) (omega (arith, count), ap (λ (k : ℕ). New k) (sym count))
+    let end : length (right.0.nodes ++ n ∷ []) - 1 ≡ length right.0.nodes = omega (arith, count) in
+    subst (IsLastNode page) (same_found (node_behind (Some e) page left.0.side right.0) all right.1)
+    (omega (arith, count), ap (λ (k : ℕ). New k) (sym count), (n, ap (slice_get (right.0.nodes ++ n ∷ [])) end ∙ get-last right.0.nodes n, refl))
 
 side-is : (dig : List ℕ → List ℕ) (Has : OfPage) (ps : Image) (since : ℕ) (ts : List Tree) (s : Side) (number : ℕ) (t : Tree) → s ≡ New number → IsSideTree dig Has ps since ts s t → slice_get ts (number - 1) ≡ Some t
 side-is dig Has ps since ts s number t e is = let own = subst (λ (x : Side). IsSideTree dig Has ps since ts x t) e is in own.1
 
 -- of a root
-pub record RootPlants (dig : List ℕ → List ℕ) (Has : OfPage) (ps : Image) (since : ℕ) (found : Found (List NewNode)) (t : Tree) : Type 0 where
+pub record RootPlants (dig : List ℕ → List ℕ) (Has : OfPage) (ps : Image) (since page : ℕ) (found : Found (List NewNode)) (t : Tree) : Type 0 where
   pub nodes : List NewNode
   pub trees : List Tree
   pub found_is : found ≡ Is nodes
   pub are : AreNodeTrees dig Has ps since [] nodes trees
   pub last : (0 < length nodes) × (slice_get trees (length nodes - 1) ≡ Some t)
+  pub mark : IsLastAt page nodes
 
 pub root-plants : (dig : List ℕ → List ℕ) (Has : OfPage) (ps : Image) (root : Root) (t : Tree) (since : ℕ) → StandsWith dig Has ps root t → root.page ≢ 0 → since ≤ root.page
-    → RootPlants dig Has ps since (listed dig ps since root) t
+    → RootPlants dig Has ps since root.page (listed dig ps since root) t
 root-plants dig Has ps root t since stands some new = by stands.tree
   where
     older : ((root.page == 0) || nat_lt root.page since) ≡ false
     older = grind arith
 
-    by : IsRootTree dig Has ps root.page t → RootPlants dig Has ps since (listed dig ps since root) t
+    by : IsRootTree dig Has ps root.page t → RootPlants dig Has ps since root.page (listed dig ps since root) t
     by (inl none) = absurd (some none.0)
     by (inr (level, is)) =
         let p = is.node in
@@ -247,4 +253,5 @@ root-plants dig Has ps root t since stands some new = by stands.tree
           found_is = on;
           are = plants.are;
           last = (end.0, side-is dig Has ps since plants.more plants.all.side (length plants.all.nodes) t end.1 (subst (IsSideTree dig Has ps since plants.more plants.all.side) (sym is.tree_is) plants.side));
+          mark = end.2;
         }

@@ -91,6 +91,9 @@ pub fn listing_laws<H: Hasher>()
     ensures named { (ps : Image) (named : Named) (root : Root) (t : Tree) (since : ℕ) → StandsWith H.dig (HasNamed named) ps root t → root.page ≢ 0 →
         since ≤ root.page → (nodes : List NewNode) × (trees : List Tree) × (listed H.dig ps since root ≡ Is nodes)
         × AreNodeTrees H.dig (HasNamed named) ps since [] nodes trees × (0 < length nodes) × (slice_get trees (length nodes - 1) ≡ Some t) }
+    // The last node listed is marked with the root's page.
+    ensures last { (ps : Image) (root : Root) (t : Tree) (since : ℕ) → StandsFor H.dig ps root t → root.page ≢ 0 → since ≤ root.page →
+        (nodes : List NewNode) × (n : NewNode) × (listed H.dig ps since root ≡ Is nodes) × (slice_get nodes (length nodes - 1) ≡ Some n) × (n.page ≡ root.page) }
     // Where the root has no page, or an older one, nothing is listed.
     ensures none { (ps : Image) (root : Root) (since : ℕ) → (root.page ≡ 0) ⊎ (root.page < since) → listed H.dig ps since root ≡ Is [] }
 {}

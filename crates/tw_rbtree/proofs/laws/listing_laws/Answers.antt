@@ -15,5 +15,7 @@ returns g c = record {
       let p = root-plants g.H.Hasher.dig any_page ps root t since stands some new in (p.nodes, p.trees, p.found_is, p.are, p.last.0, p.last.1);
   named = λ ps named root t since stands some new.
       let p = root-plants g.H.Hasher.dig (HasNamed named) ps root t since stands some new in (p.nodes, p.trees, p.found_is, p.are, p.last.0, p.last.1);
+  last = λ ps root t since stands some new.
+      let p = root-plants g.H.Hasher.dig any_page ps root t since stands some new in (p.nodes, p.mark.0, p.found_is, p.mark.1, p.mark.2);
   none = λ ps root since old. listed-none g.H.Hasher.dig ps since root (older root.page since old);
 }
