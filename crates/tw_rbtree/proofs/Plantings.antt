@@ -7,11 +7,11 @@ use Rattle.tw_base.specs.declared.history.thread.Entry.{Entry}
 use Rattle.tw_base.specs.declared.history.tree_proof.Ask.{Ask}
 use Rattle.tw_base.specs.declared.history.tree_proof.Ask.TheVariants.{Absent}
 use Rattle.tw_base.specs.history.Entries.{KeyBelow, key_of}
-use Rattle.tw_base.specs.kinds.Lists.{Each}
+use Rattle.tw_base.specs.kinds.Lists.{Each, In}
 use Rattle.tw_base.specs.history.Tree.{Tree, IsRising, branch, entries}
 use Rattle.tw_base.specs.history.Tree.Tree.{Empty as NoEntry, Branch}
 use Rattle.tw_base.proofs.lemmas.history.KeyTests.{lt-below}
-use Rattle.tw_base.proofs.lemmas.kinds.ListLemmas.{Each-parts}
+use Rattle.tw_base.proofs.lemmas.kinds.ListLemmas.{Each-append, Each-map, Each-parts, In-left, In-right}
 use Rattle.tw_disk.specs.Found.{Found, ◌>>=◌}
 use Rattle.tw_disk.specs.Found.Found.{Is, Bad}
 use Rattle.tw_disk.specs.Image.{Image}
@@ -50,6 +50,16 @@ get-last : {X : Type 0} (ts : List X) (t : X) → slice_get (ts ++ t ∷ []) (le
 get-last [] t = refl
 get-last (x ∷ ts) t = get-last ts t
 
+-- the entries of one tree are entries of another
+abbrev pub IsWithin : (whole t : Tree) → Type 0
+IsWithin whole t = (e : Entry) → In e (entries t) → In e (entries whole)
+
+branch-within : (l : Tree) (e : Entry) (r : Tree) (ls rs : List Tree) → Each (IsWithin l) ls → Each (IsWithin r) rs → Each (IsWithin (Branch l e r)) (ls ++ (rs ++ Branch l e r ∷ []))
+branch-within l e r ls rs left right =
+    let whole : Tree = Branch l e r in
+    Each-append (IsWithin whole) ls (rs ++ whole ∷ []) (Each-map (IsWithin l) (IsWithin whole) ls (λ t has f there. In-left f (entries l) (e ∷ entries r) (has f there)) left)
+    (Each-append (IsWithin whole) rs (whole ∷ []) (Each-map (IsWithin r) (IsWithin whole) rs (λ t has f there. In-right f (entries l) (e ∷ entries r) (inr (has f there))) right) ((λ f there. there), tt))
+
 module _ (dig : List ℕ → List ℕ) (Has : OfPage) (ps : Image) (since : ℕ) where
   side-more : (ts more : List Tree) (s : Side) (t : Tree) → IsSideTree dig Has ps since ts s t → IsSideTree dig Has ps since (ts ++ more) s t
   side-more ts more NoTree t is = is
@@ -82,9 +92,10 @@ module _ (dig : List ℕ → List ℕ) (Has : OfPage) (ps : Image) (since : ℕ)
     pub found_is : found ≡ Is all
     pub are : AreNodeTrees dig Has ps since [] all.nodes (ts ++ more)
     pub side : IsSideTree dig Has ps since (ts ++ more) all.side t
+    pub within : Each (IsWithin t) more
 
   same-found : (ts : List Tree) (found other : Found Listed) (t : Tree) → found ≡ other → Plants ts other t → Plants ts found t
-  same-found ts found other t e p = record { all = p.all; more = p.more; found_is = e ∙ p.found_is; are = p.are; side = p.side }
+  same-found ts found other t e p = record { all = p.all; more = p.more; found_is = e ∙ p.found_is; are = p.are; side = p.side; within = p.within }
 
   none-more : (ts : List Tree) (nodes : List NewNode) (s : Side) (t : Tree) → AreNodeTrees dig Has ps since [] nodes ts → IsSideTree dig Has ps since ts s t → Plants ts (Is (record { nodes = nodes; side = s })) t
   none-more ts nodes s t are side = record {
@@ -93,6 +104,7 @@ module _ (dig : List ℕ → List ℕ) (Has : OfPage) (ps : Image) (since : ℕ)
     found_is = refl;
     are = subst (AreNodeTrees dig Has ps since [] nodes) (sym (append-nil ts)) are;
     side = subst (λ (xs : List Tree). IsSideTree dig Has ps since xs s t) (sym (append-nil ts)) side;
+    within = tt;
   }
 
   -- a node over its two sides
@@ -115,6 +127,7 @@ module _ (dig : List ℕ → List ℕ) (Has : OfPage) (ps : Image) (since : ℕ)
             ∙ is_on (two p.all) (λ right. Is (node_behind (Some e) page p.all.side right)) q.all q.found_is;
         are = subst (AreNodeTrees dig Has ps since [] (q.all.nodes ++ n ∷ [])) whole planted;
         side = (omega arith, ap (λ (xs : List Tree). slice_get xs (length q.all.nodes + 1 - 1)) (sym whole) ∙ ap (slice_get (trees ++ Branch l e r ∷ [])) number ∙ get-last trees (Branch l e r));
+        within = branch-within l e r p.more q.more p.within q.within;
       }
 
   -- ---- through a page
@@ -223,6 +236,7 @@ pub record RootPlants (dig : List ℕ → List ℕ) (Has : OfPage) (ps : Image) 
   pub are : AreNodeTrees dig Has ps since [] nodes trees
   pub last : (0 < length nodes) × (slice_get trees (length nodes - 1) ≡ Some t)
   pub mark : IsLastAt page nodes
+  pub within : Each (IsWithin t) trees
 
 pub root-plants : (dig : List ℕ → List ℕ) (Has : OfPage) (ps : Image) (root : Root) (t : Tree) (since : ℕ) → StandsWith dig Has ps root t → root.page ≢ 0 → since ≤ root.page
     → RootPlants dig Has ps since root.page (listed dig ps since root) t
@@ -254,4 +268,5 @@ root-plants dig Has ps root t since stands some new = by stands.tree
           are = plants.are;
           last = (end.0, side-is dig Has ps since plants.more plants.all.side (length plants.all.nodes) t end.1 (subst (IsSideTree dig Has ps since plants.more plants.all.side) (sym is.tree_is) plants.side));
           mark = end.2;
+          within = subst (λ (x : Tree). Each (IsWithin x) plants.more) (sym is.tree_is) plants.within;
         }

@@ -91,6 +91,10 @@ pub fn listing_laws<H: Hasher>()
     ensures named { (ps : Image) (named : Named) (root : Root) (t : Tree) (since : ℕ) → StandsWith H.dig (HasNamed named) ps root t → root.page ≢ 0 →
         since ≤ root.page → (nodes : List NewNode) × (trees : List Tree) × (listed H.dig ps since root ≡ Is nodes)
         × AreNodeTrees H.dig (HasNamed named) ps since [] nodes trees × (0 < length nodes) × (slice_get trees (length nodes - 1) ≡ Some t) }
+    // The entries of each listed node's tree are entries of the tree.
+    ensures within { (ps : Image) (root : Root) (t : Tree) (since : ℕ) → StandsFor H.dig ps root t → root.page ≢ 0 → since ≤ root.page →
+        (nodes : List NewNode) × (trees : List Tree) × (listed H.dig ps since root ≡ Is nodes) × AreNodeTrees H.dig any_page ps since [] nodes trees
+        × Each (λ s. (e : Entry) → In e (entries s) → In e (entries t)) trees }
     // The last node listed is marked with the root's page.
     ensures last { (ps : Image) (root : Root) (t : Tree) (since : ℕ) → StandsFor H.dig ps root t → root.page ≢ 0 → since ≤ root.page →
         (nodes : List NewNode) × (n : NewNode) × (listed H.dig ps since root ≡ Is nodes) × (slice_get nodes (length nodes - 1) ≡ Some n) × (n.page ≡ root.page) }
