@@ -100,7 +100,7 @@ module _ (dig : List ℕ → List ℕ) (Has Other : OfPage) (ps : Image) (turn :
     has = turn page t is.has;
   }
 
-  below-turned : (level : ℕ) (c : Child) (t : Tree) → IsTreeBelow dig Has ps level c t → IsTreeBelow dig Other ps level c t
+  pub below-turned : (level : ℕ) (c : Child) (t : Tree) → IsTreeBelow dig Has ps level c t → IsTreeBelow dig Other ps level c t
   unfolding IsTreeBelow
   below-turned zero c t is = is
   below-turned (suc level) c t is =

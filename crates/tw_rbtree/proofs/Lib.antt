@@ -15,6 +15,7 @@ pub mod RootGrowing
 pub mod ShowLaws
 pub mod Latest
 pub mod ListLaws
+pub mod Markings
 pub mod Plantings
 pub mod Fullness
 pub mod StandingLaws

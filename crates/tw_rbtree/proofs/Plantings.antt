@@ -7,11 +7,11 @@ use Rattle.tw_base.specs.declared.history.thread.Entry.{Entry}
 use Rattle.tw_base.specs.declared.history.tree_proof.Ask.{Ask}
 use Rattle.tw_base.specs.declared.history.tree_proof.Ask.TheVariants.{Absent}
 use Rattle.tw_base.specs.history.Entries.{KeyBelow, key_of}
-use Rattle.tw_base.specs.kinds.Lists.{Each}
+use Rattle.tw_base.specs.kinds.Lists.{Each, In}
 use Rattle.tw_base.specs.history.Tree.{Tree, IsRising, branch, entries}
 use Rattle.tw_base.specs.history.Tree.Tree.{Empty as NoEntry, Branch}
 use Rattle.tw_base.proofs.lemmas.history.KeyTests.{lt-below}
-use Rattle.tw_base.proofs.lemmas.kinds.ListLemmas.{Each-parts}
+use Rattle.tw_base.proofs.lemmas.kinds.ListLemmas.{Each-append, Each-map, Each-parts, In-left, In-right}
 use Rattle.tw_disk.specs.Found.{Found, ◌>>=◌}
 use Rattle.tw_disk.specs.Found.Found.{Is, Bad}
 use Rattle.tw_disk.specs.Image.{Image}
@@ -46,9 +46,19 @@ get-more [] more i t e = absurd (none-some t e)
 get-more (x ∷ ts) more zero t e = e
 get-more (x ∷ ts) more (suc i) t e = get-more ts more i t e
 
-get-last : (ts : List Tree) (t : Tree) → slice_get (ts ++ t ∷ []) (length ts) ≡ Some t
+get-last : {X : Type 0} (ts : List X) (t : X) → slice_get (ts ++ t ∷ []) (length ts) ≡ Some t
 get-last [] t = refl
 get-last (x ∷ ts) t = get-last ts t
+
+-- the entries of one tree are entries of another
+abbrev pub IsWithin : (whole t : Tree) → Type 0
+IsWithin whole t = (e : Entry) → In e (entries t) → In e (entries whole)
+
+branch-within : (l : Tree) (e : Entry) (r : Tree) (ls rs : List Tree) → Each (IsWithin l) ls → Each (IsWithin r) rs → Each (IsWithin (Branch l e r)) (ls ++ (rs ++ Branch l e r ∷ []))
+branch-within l e r ls rs left right =
+    let whole : Tree = Branch l e r in
+    Each-append (IsWithin whole) ls (rs ++ whole ∷ []) (Each-map (IsWithin l) (IsWithin whole) ls (λ t has f there. In-left f (entries l) (e ∷ entries r) (has f there)) left)
+    (Each-append (IsWithin whole) rs (whole ∷ []) (Each-map (IsWithin r) (IsWithin whole) rs (λ t has f there. In-right f (entries l) (e ∷ entries r) (inr (has f there))) right) ((λ f there. there), tt))
 
 module _ (dig : List ℕ → List ℕ) (Has : OfPage) (ps : Image) (since : ℕ) where
   side-more : (ts more : List Tree) (s : Side) (t : Tree) → IsSideTree dig Has ps since ts s t → IsSideTree dig Has ps since (ts ++ more) s t
@@ -82,9 +92,10 @@ module _ (dig : List ℕ → List ℕ) (Has : OfPage) (ps : Image) (since : ℕ)
     pub found_is : found ≡ Is all
     pub are : AreNodeTrees dig Has ps since [] all.nodes (ts ++ more)
     pub side : IsSideTree dig Has ps since (ts ++ more) all.side t
+    pub within : Each (IsWithin t) more
 
   same-found : (ts : List Tree) (found other : Found Listed) (t : Tree) → found ≡ other → Plants ts other t → Plants ts found t
-  same-found ts found other t e p = record { all = p.all; more = p.more; found_is = e ∙ p.found_is; are = p.are; side = p.side }
+  same-found ts found other t e p = record { all = p.all; more = p.more; found_is = e ∙ p.found_is; are = p.are; side = p.side; within = p.within }
 
   none-more : (ts : List Tree) (nodes : List NewNode) (s : Side) (t : Tree) → AreNodeTrees dig Has ps since [] nodes ts → IsSideTree dig Has ps since ts s t → Plants ts (Is (record { nodes = nodes; side = s })) t
   none-more ts nodes s t are side = record {
@@ -93,6 +104,7 @@ module _ (dig : List ℕ → List ℕ) (Has : OfPage) (ps : Image) (since : ℕ)
     found_is = refl;
     are = subst (AreNodeTrees dig Has ps since [] nodes) (sym (append-nil ts)) are;
     side = subst (λ (xs : List Tree). IsSideTree dig Has ps since xs s t) (sym (append-nil ts)) side;
+    within = tt;
   }
 
   -- a node over its two sides
@@ -115,6 +127,7 @@ module _ (dig : List ℕ → List ℕ) (Has : OfPage) (ps : Image) (since : ℕ)
             ∙ is_on (two p.all) (λ right. Is (node_behind (Some e) page p.all.side right)) q.all q.found_is;
         are = subst (AreNodeTrees dig Has ps since [] (q.all.nodes ++ n ∷ [])) whole planted;
         side = (omega arith, ap (λ (xs : List Tree). slice_get xs (length q.all.nodes + 1 - 1)) (sym whole) ∙ ap (slice_get (trees ++ Branch l e r ∷ [])) number ∙ get-last trees (Branch l e r));
+        within = branch-within l e r p.more q.more p.within q.within;
       }
 
   -- ---- through a page
@@ -191,10 +204,13 @@ from_last : {X Y : Type 0} (one : Found X) (f : X → Found Y) (y : Y) → (one 
 from_last (Is x) f y e = (x, e)
 from_last (Bad page) f y e = cc
 
-abbrev IsLastNode : Listed → Type 0
-IsLastNode all = (0 < length all.nodes) × (all.side ≡ New (length all.nodes))
+abbrev pub IsLastAt : (page : ℕ) → List NewNode → Type 0
+IsLastAt page nodes = (n : NewNode) × (slice_get nodes (length nodes - 1) ≡ Some n) × (n.page ≡ page)
 
-root-last : (child : ListsAt) (es : List Entry) (page : ℕ) (low high : Option Entry) (s : Shape) (all : Listed) → 0 < size s → size s ≤ length es → listed_at child es page low high 0 s [] ≡ Is all → IsLastNode all
+abbrev IsLastNode : (page : ℕ) → Listed → Type 0
+IsLastNode page all = (0 < length all.nodes) × (all.side ≡ New (length all.nodes)) × IsLastAt page all.nodes
+
+root-last : (child : ListsAt) (es : List Entry) (page : ℕ) (low high : Option Entry) (s : Shape) (all : Listed) → 0 < size s → size s ≤ length es → listed_at child es page low high 0 s [] ≡ Is all → IsLastNode page all
 root-last child es page low high Empty all some room found = absurd (omega (arith, some))
 root-last child es page low high (Node red l r) all some room found =
     let here = get-some es [] es (0 + size l) (omega (arith, room)) in
@@ -205,27 +221,31 @@ root-last child es page low high (Node red l r) all some room found =
     let right = from_last (listed_at child es 0 (Some e) high (0 + size l + 1) r left.0.nodes) (λ (right : Listed). Is (node_behind (Some e) page left.0.side right)) all left.1 in
     let n : NewNode = record { left = left.0.side; entry = e; right = right.0.side; page = page } in
     let count : length (right.0.nodes ++ n ∷ []) ≡ length right.0.nodes + 1 = omega (arith, length-append right.0.nodes (n ∷ [])) in
-    subst IsLastNode (same_found (node_behind (Some e) page left.0.side right.0) all right.1) (omega (arith, count), ap (λ (k : ℕ). New k) (sym count))
+    let end : length (right.0.nodes ++ n ∷ []) - 1 ≡ length right.0.nodes = omega (arith, count) in
+    subst (IsLastNode page) (same_found (node_behind (Some e) page left.0.side right.0) all right.1)
+    (omega (arith, count), ap (λ (k : ℕ). New k) (sym count), (n, ap (slice_get (right.0.nodes ++ n ∷ [])) end ∙ get-last right.0.nodes n, refl))
 
 side-is : (dig : List ℕ → List ℕ) (Has : OfPage) (ps : Image) (since : ℕ) (ts : List Tree) (s : Side) (number : ℕ) (t : Tree) → s ≡ New number → IsSideTree dig Has ps since ts s t → slice_get ts (number - 1) ≡ Some t
 side-is dig Has ps since ts s number t e is = let own = subst (λ (x : Side). IsSideTree dig Has ps since ts x t) e is in own.1
 
 -- of a root
-pub record RootPlants (dig : List ℕ → List ℕ) (Has : OfPage) (ps : Image) (since : ℕ) (found : Found (List NewNode)) (t : Tree) : Type 0 where
+pub record RootPlants (dig : List ℕ → List ℕ) (Has : OfPage) (ps : Image) (since page : ℕ) (found : Found (List NewNode)) (t : Tree) : Type 0 where
   pub nodes : List NewNode
   pub trees : List Tree
   pub found_is : found ≡ Is nodes
   pub are : AreNodeTrees dig Has ps since [] nodes trees
   pub last : (0 < length nodes) × (slice_get trees (length nodes - 1) ≡ Some t)
+  pub mark : IsLastAt page nodes
+  pub within : Each (IsWithin t) trees
 
 pub root-plants : (dig : List ℕ → List ℕ) (Has : OfPage) (ps : Image) (root : Root) (t : Tree) (since : ℕ) → StandsWith dig Has ps root t → root.page ≢ 0 → since ≤ root.page
-    → RootPlants dig Has ps since (listed dig ps since root) t
+    → RootPlants dig Has ps since root.page (listed dig ps since root) t
 root-plants dig Has ps root t since stands some new = by stands.tree
   where
     older : ((root.page == 0) || nat_lt root.page since) ≡ false
     older = grind arith
 
-    by : IsRootTree dig Has ps root.page t → RootPlants dig Has ps since (listed dig ps since root) t
+    by : IsRootTree dig Has ps root.page t → RootPlants dig Has ps since root.page (listed dig ps since root) t
     by (inl none) = absurd (some none.0)
     by (inr (level, is)) =
         let p = is.node in
@@ -247,4 +267,6 @@ root-plants dig Has ps root t since stands some new = by stands.tree
           found_is = on;
           are = plants.are;
           last = (end.0, side-is dig Has ps since plants.more plants.all.side (length plants.all.nodes) t end.1 (subst (IsSideTree dig Has ps since plants.more plants.all.side) (sym is.tree_is) plants.side));
+          mark = end.2;
+          within = subst (λ (x : Tree). Each (IsWithin x) plants.more) (sym is.tree_is) plants.within;
         }

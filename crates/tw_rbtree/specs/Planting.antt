@@ -2,6 +2,7 @@
 use Rattle.std.specs.Prelude.{◌≡◌, ℕ, ◌-◌, ◌<◌, ◌≤◌, ◌⊎◌, List, [], ◌∷◌, ◌++◌, slice_get, Some}
 use Rattle.tw_base.specs.history.Tree.{Tree, IsRising, entries}
 use Rattle.tw_base.specs.history.Tree.Tree.{Empty, Branch}
+use Rattle.tw_base.specs.kinds.Lists.{In}
 use Rattle.tw_disk.specs.declared.limits.TheConstants.{FIRST_PAGE}
 use Rattle.tw_disk.specs.Image.{Image}
 use Rattle.tw_rbtree.specs.declared.new_node.NewNode.{NewNode}
@@ -33,3 +34,7 @@ module _ (dig : List ℕ → List ℕ) (Has : OfPage) (pages : Image) (since : �
   AreNodeTrees before (n ∷ ns) (t ∷ ts) =
       ((l : Tree) × (r : Tree) × IsSideTree before n.left l × IsSideTree before n.right r × (t ≡ Branch l n.entry r) × IsMarkOf n.page t × IsRising (entries t))
       × AreNodeTrees (before ++ t ∷ []) ns ts
+
+-- a page from this one on is the mark of a node among these
+abbrev pub IsMarked : (since : ℕ) → List NewNode → OfPage
+IsMarked since nodes page t = since ≤ page → (n : NewNode) × In n nodes × (n.page ≡ page)

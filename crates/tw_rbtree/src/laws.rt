@@ -15,7 +15,7 @@ ghost use Rattle.tw_disk.specs.Found.Found.{Is};
 ghost use Rattle.tw_disk.specs.Image.{Image};
 ghost use Rattle.tw_rbtree.specs.declared.new_node.NewNode.{NewNode};
 ghost use Rattle.tw_rbtree.specs.Listing.{listed};
-ghost use Rattle.tw_rbtree.specs.Planting.{AreNodeTrees};
+ghost use Rattle.tw_rbtree.specs.Planting.{AreNodeTrees, IsMarked};
 ghost use Rattle.tw_rbnode.specs.Page.{TreePage};
 ghost use Rattle.tw_rbtree.specs.Reading.{IsPageAt, node_in};
 ghost use Rattle.tw_rbtree.specs.Standing.{HasNamed, IsRootTree, Named, StandsFor, StandsWith, any_page};
@@ -91,6 +91,16 @@ pub fn listing_laws<H: Hasher>()
     ensures named { (ps : Image) (named : Named) (root : Root) (t : Tree) (since : ℕ) → StandsWith H.dig (HasNamed named) ps root t → root.page ≢ 0 →
         since ≤ root.page → (nodes : List NewNode) × (trees : List Tree) × (listed H.dig ps since root ≡ Is nodes)
         × AreNodeTrees H.dig (HasNamed named) ps since [] nodes trees × (0 < length nodes) × (slice_get trees (length nodes - 1) ≡ Some t) }
+    // The entries of each listed node's tree are entries of the tree.
+    ensures within { (ps : Image) (root : Root) (t : Tree) (since : ℕ) → StandsFor H.dig ps root t → root.page ≢ 0 → since ≤ root.page →
+        (nodes : List NewNode) × (trees : List Tree) × (listed H.dig ps since root ≡ Is nodes) × AreNodeTrees H.dig any_page ps since [] nodes trees
+        × Each (λ s. (e : Entry) → In e (entries s) → In e (entries t)) trees }
+    // Each page of the tree from the number on is the mark of a listed node.
+    ensures marked { (ps : Image) (root : Root) (t : Tree) (since : ℕ) (nodes : List NewNode) → StandsFor H.dig ps root t → root.page ≢ 0 → since ≤ root.page →
+        listed H.dig ps since root ≡ Is nodes → StandsWith H.dig (IsMarked since nodes) ps root t }
+    // The last node listed is marked with the root's page.
+    ensures last { (ps : Image) (root : Root) (t : Tree) (since : ℕ) → StandsFor H.dig ps root t → root.page ≢ 0 → since ≤ root.page →
+        (nodes : List NewNode) × (n : NewNode) × (listed H.dig ps since root ≡ Is nodes) × (slice_get nodes (length nodes - 1) ≡ Some n) × (n.page ≡ root.page) }
     // Where the root has no page, or an older one, nothing is listed.
     ensures none { (ps : Image) (root : Root) (since : ℕ) → (root.page ≡ 0) ⊎ (root.page < since) → listed H.dig ps since root ≡ Is [] }
 {}

@@ -2,6 +2,7 @@ use Rattle.std.proofs.Common.{◌≡◌, ℕ, ◌<◌, true, inl, inr, ◌⊎◌
 use Rattle.std.specs.Prelude.{◌==◌, ◌||◌, nat_lt}
 use Rattle.tw_rbtree.specs.Standing.{HasNamed, any_page}
 use Rattle.tw_rbtree.proofs.ListLaws.{listed-none}
+use Rattle.tw_rbtree.proofs.Markings.{root-marks}
 use Rattle.tw_rbtree.proofs.Plantings.{root-plants}
 use Rattle.tw_rbtree.proofs.laws.listing_laws.Goals as goal
 
@@ -15,5 +16,10 @@ returns g c = record {
       let p = root-plants g.H.Hasher.dig any_page ps root t since stands some new in (p.nodes, p.trees, p.found_is, p.are, p.last.0, p.last.1);
   named = λ ps named root t since stands some new.
       let p = root-plants g.H.Hasher.dig (HasNamed named) ps root t since stands some new in (p.nodes, p.trees, p.found_is, p.are, p.last.0, p.last.1);
+  within = λ ps root t since stands some new.
+      let p = root-plants g.H.Hasher.dig any_page ps root t since stands some new in (p.nodes, p.trees, p.found_is, p.are, p.within);
+  marked = λ ps root t since nodes stands some new found. root-marks g.H.Hasher.dig ps since root t nodes stands some new found;
+  last = λ ps root t since stands some new.
+      let p = root-plants g.H.Hasher.dig any_page ps root t since stands some new in (p.nodes, p.mark.0, p.found_is, p.mark.1, p.mark.2);
   none = λ ps root since old. listed-none g.H.Hasher.dig ps since root (older root.page since old);
 }
