@@ -118,17 +118,19 @@ module _ (dig : List ℕ → List ℕ) (ps : Image) (since : ℕ) where
   old-below ns zero c t lies is = is
   old-below ns (suc level) c t lies is =
       let b = is.1 in
-      let under = subst (λ (n : ℕ). Each (LiesBelow c.page n) b.node.children) b.level_is b.at.may_stand.below in
-      (is.0, record {
-        node = b.node;
-        at = b.at;
-        level_is = b.level_is;
-        least_keys = b.least_keys;
-        trees = b.trees;
-        are_trees = trees-each (IsTreeBelow dig any_page ps level) (Below ns level) (LiesBelow since level) (old-below ns level) b.node.children b.trees (Each-map (LiesBelow c.page level) (LiesBelow since level) b.node.children (lower c.page since level lies) under) b.are_trees;
-        tree_is = b.tree_is;
-        has = λ (new : since ≤ c.page). absurd (omega (arith, new, lies));
-      })
+      let under = subst (λ (n : ℕ). Each (LiesBelow c.page n) b.node.children) b.level_is b.at.may_stand.below in (
+        is.0,
+        record {
+          node = b.node;
+          at = b.at;
+          level_is = b.level_is;
+          least_keys = b.least_keys;
+          trees = b.trees;
+          are_trees = trees-each (IsTreeBelow dig any_page ps level) (Below ns level) (LiesBelow since level) (old-below ns level) b.node.children b.trees (Each-map (LiesBelow c.page level) (LiesBelow since level) b.node.children (lower c.page since level lies) under) b.are_trees;
+          tree_is = b.tree_is;
+          has = λ (new : since ≤ c.page). absurd (omega (arith, new, lies));
+        },
+      )
 
   abbrev Placed : (level : ℕ) → TreePage → List Tree → ℕ → List NewNode → Type 0
   Placed level p us place ns = (c : Child) → slice_get p.children place ≡ Some c → Below ns level c (slice_index_or us place NoEntry)
