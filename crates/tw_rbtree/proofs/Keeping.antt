@@ -64,13 +64,13 @@ module _ (dig : List ℕ → List ℕ) (Has : OfPage) (ps more : Image) where
   stands-kept root t stands = record { rising = stands.rising; label = stands.label; tree = root-kept root.page t stands.tree }
 
 module _ (dig : List ℕ → List ℕ) (Has : OfPage) (ps : Image) where
-  tree_page-once : (R : Child → Tree → Type 0) → ((c : Child) (s t : Tree) → R c s → R c t → s ≡ t) → (level least page : ℕ) (s t : Tree) → IsTreePage dig Has ps R level least page s → IsTreePage dig Has ps R level least page t → s ≡ t
+  pub tree_page-once : (R : Child → Tree → Type 0) → ((c : Child) (s t : Tree) → R c s → R c t → s ≡ t) → (level least page : ℕ) (s t : Tree) → IsTreePage dig Has ps R level least page s → IsTreePage dig Has ps R level least page t → s ≡ t
   tree_page-once R one level least page s t a b =
       let same : a.node ≡ b.node = one_page dig ps page a.node b.node a.at b.at in
       let trees : a.trees ≡ b.trees = trees-same R one b.node.children a.trees b.trees (subst (λ (p : TreePage). AreTrees R p.children a.trees) same a.are_trees) b.are_trees in
       a.tree_is ∙ (λ i. page_tree (same i) (trees i)) ∙ sym b.tree_is
 
-  below-once : (level : ℕ) (c : Child) (s t : Tree) → IsTreeBelow dig Has ps level c s → IsTreeBelow dig Has ps level c t → s ≡ t
+  pub below-once : (level : ℕ) (c : Child) (s t : Tree) → IsTreeBelow dig Has ps level c s → IsTreeBelow dig Has ps level c t → s ≡ t
   unfolding IsTreeBelow
   below-once zero c s t a b = a ∙ sym b
   below-once (suc level) c s t a b = tree_page-once (IsTreeBelow dig Has ps level) (below-once level) level 12 c.page s t a.1 b.1

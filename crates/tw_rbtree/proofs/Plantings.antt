@@ -10,8 +10,9 @@ use Rattle.tw_base.specs.history.Entries.{KeyBelow, key_of}
 use Rattle.tw_base.specs.kinds.Lists.{Each, In}
 use Rattle.tw_base.specs.history.Tree.{Tree, IsRising, branch, entries}
 use Rattle.tw_base.specs.history.Tree.Tree.{Empty as NoEntry, Branch}
+use Rattle.tw_base.proofs.lemmas.history.Keys.{KeyBelow-irrefl, KeyBelow-trans}
 use Rattle.tw_base.proofs.lemmas.history.KeyTests.{lt-below}
-use Rattle.tw_base.proofs.lemmas.kinds.ListLemmas.{Each-append, Each-map, Each-parts, In-left, In-right}
+use Rattle.tw_base.proofs.lemmas.kinds.ListLemmas.{Apart, Each-append, Each-in, Each-map, Each-parts, In-left, In-right}
 use Rattle.tw_disk.specs.Found.{Found, ◌>>=◌}
 use Rattle.tw_disk.specs.Found.Found.{Is, Bad}
 use Rattle.tw_disk.specs.Image.{Image}
@@ -28,10 +29,10 @@ use Rattle.tw_rbtree.specs.Listing.{Listed, ListsAt, child_listed, listed, liste
 use Rattle.tw_rbtree.specs.Planting.{AreNodeTrees, IsMarkOf, IsSideTree}
 use Rattle.tw_rbtree.specs.Reading.{IsPageAt, child_in, node_in}
 use Rattle.tw_rbtree.specs.Standing.{AreTrees, IsRootTree, IsTreeBelow, IsTreePage, OfPage, StandsWith, any_page}
-use Rattle.tw_rbtree.proofs.Keeping.{below-any, trees-map}
+use Rattle.tw_rbtree.proofs.Keeping.{below-any, below-once, tree_page-once, trees-map}
 use Rattle.tw_rbtree.specs.Ways.{child_page}
 use Rattle.tw_rbtree.proofs.ListLaws.{below_found, listed-empty, listed-leaf, listed-node, listed-old, listed-on, listed-root}
-use Rattle.tw_rbtree.proofs.PageLaws.{child-is, root-is}
+use Rattle.tw_rbtree.proofs.PageLaws.{child-is, one_page, root-is}
 use Rattle.tw_rbtree.proofs.RootWays.{all_between}
 use Rattle.tw_rbtree.proofs.Standings.{fits-true, own_between, tree-at}
 use Rattle.tw_rbtree.proofs.WayLaws.{child_page-get}
@@ -53,6 +54,49 @@ get-last (x ∷ ts) t = get-last ts t
 -- the entries of one tree are entries of another
 abbrev pub IsWithin : (whole t : Tree) → Type 0
 IsWithin whole t = (e : Entry) → In e (entries t) → In e (entries whole)
+
+-- a tree of some entries, which are entries of another
+abbrev pub IsPart : (whole t : Tree) → Type 0
+IsPart whole t = ((e : Entry) × In e (entries t)) × IsWithin whole t
+
+apart-append : (xs ys : List Tree) → Apart xs → Apart ys → Each (λ x. Each (λ y. x ≢ y) ys) xs → Apart (xs ++ ys)
+apart-append [] ys one two all = two
+apart-append (x ∷ xs) ys one two all = (Each-append (λ (y : Tree). x ≢ y) xs ys one.0 all.0, apart-append xs ys one.1 two all.1)
+
+module _ (l : Tree) (e : Entry) (r : Tree) (ls rs : List Tree) where
+  branch-parts : Each (IsPart l) ls → Each (IsPart r) rs → Each (IsPart (Branch l e r)) (ls ++ (rs ++ Branch l e r ∷ []))
+  branch-parts left right =
+      let whole : Tree = Branch l e r in
+      Each-append (IsPart whole) ls (rs ++ whole ∷ []) (Each-map (IsPart l) (IsPart whole) ls (λ t has. (has.0, λ f there. In-left f (entries l) (e ∷ entries r) (has.1 f there))) left)
+      (Each-append (IsPart whole) rs (whole ∷ []) (Each-map (IsPart r) (IsPart whole) rs (λ t has. (has.0, λ f there. In-right f (entries l) (e ∷ entries r) (inr (has.1 f there)))) right) (((e, In-right e (entries l) (e ∷ entries r) (inl refl)), λ f there. there), tt))
+
+  module _ (rising : IsRising (entries l ++ e ∷ entries r)) where
+    left-below : (f : Entry) → In f (entries l) → KeyBelow (key_of f) (key_of e)
+    left-below f there = Each-in (λ g. KeyBelow (key_of g) (key_of e)) (entries l) f (cut (entries l) e (entries r) rising).lower there
+
+    right-above : (f : Entry) → In f (entries r) → KeyBelow (key_of e) (key_of f)
+    right-above f there = Each-in (λ g. KeyBelow (key_of e) (key_of g)) (entries r) f (cut (entries l) e (entries r) rising).upper there
+
+    own : In e (entries (Branch l e r))
+    own = In-right e (entries l) (e ∷ entries r) (inl refl)
+
+    left-whole : (s : Tree) → IsPart l s → s ≢ Branch l e r
+    left-whole s part same = KeyBelow-irrefl (key_of e) (left-below e (part.1 e (subst (λ (x : Tree). In e (entries x)) (sym same) own)))
+
+    right-whole : (s : Tree) → IsPart r s → s ≢ Branch l e r
+    right-whole s part same = KeyBelow-irrefl (key_of e) (right-above e (part.1 e (subst (λ (x : Tree). In e (entries x)) (sym same) own)))
+
+    left-right : (s u : Tree) → IsPart l s → IsPart r u → s ≢ u
+    left-right s u one two same =
+        let f : Entry = one.0.0 in
+        KeyBelow-irrefl (key_of f) (KeyBelow-trans (key_of f) (key_of e) (key_of f) (left-below f (one.1 f one.0.1)) (right-above f (two.1 f (subst (λ (x : Tree). In f (entries x)) same one.0.1))))
+
+    branch-apart : Each (IsPart l) ls → Each (IsPart r) rs → Apart ls → Apart rs → Apart (ls ++ (rs ++ Branch l e r ∷ []))
+    branch-apart left right one two =
+        let back : Apart (rs ++ Branch l e r ∷ []) = apart-append rs (Branch l e r ∷ []) two (tt, tt) (Each-map (IsPart r) (λ (s : Tree). Each (λ (y : Tree). s ≢ y) (Branch l e r ∷ [])) rs (λ s part. (right-whole s part, tt)) right) in
+        apart-append ls (rs ++ Branch l e r ∷ []) one back
+        (Each-map (IsPart l) (λ (s : Tree). Each (λ (y : Tree). s ≢ y) (rs ++ Branch l e r ∷ [])) ls
+        (λ s part. Each-append (λ (y : Tree). s ≢ y) rs (Branch l e r ∷ []) (Each-map (IsPart r) (λ (y : Tree). s ≢ y) rs (λ u has. left-right s u part has) right) (left-whole s part, tt)) left)
 
 branch-within : (l : Tree) (e : Entry) (r : Tree) (ls rs : List Tree) → Each (IsWithin l) ls → Each (IsWithin r) rs → Each (IsWithin (Branch l e r)) (ls ++ (rs ++ Branch l e r ∷ []))
 branch-within l e r ls rs left right =
@@ -93,9 +137,11 @@ module _ (dig : List ℕ → List ℕ) (Has : OfPage) (ps : Image) (since : ℕ)
     pub are : AreNodeTrees dig Has ps since [] all.nodes (ts ++ more)
     pub side : IsSideTree dig Has ps since (ts ++ more) all.side t
     pub within : Each (IsWithin t) more
+    pub parts : Each (IsPart t) more
+    pub apart : Apart more
 
   same-found : (ts : List Tree) (found other : Found Listed) (t : Tree) → found ≡ other → Plants ts other t → Plants ts found t
-  same-found ts found other t e p = record { all = p.all; more = p.more; found_is = e ∙ p.found_is; are = p.are; side = p.side; within = p.within }
+  same-found ts found other t e p = record { all = p.all; more = p.more; found_is = e ∙ p.found_is; are = p.are; side = p.side; within = p.within; parts = p.parts; apart = p.apart }
 
   none-more : (ts : List Tree) (nodes : List NewNode) (s : Side) (t : Tree) → AreNodeTrees dig Has ps since [] nodes ts → IsSideTree dig Has ps since ts s t → Plants ts (Is (record { nodes = nodes; side = s })) t
   none-more ts nodes s t are side = record {
@@ -105,6 +151,8 @@ module _ (dig : List ℕ → List ℕ) (Has : OfPage) (ps : Image) (since : ℕ)
     are = subst (AreNodeTrees dig Has ps since [] nodes) (sym (append-nil ts)) are;
     side = subst (λ (xs : List Tree). IsSideTree dig Has ps since xs s t) (sym (append-nil ts)) side;
     within = tt;
+    parts = tt;
+    apart = tt;
   }
 
   -- a node over its two sides
@@ -128,6 +176,8 @@ module _ (dig : List ℕ → List ℕ) (Has : OfPage) (ps : Image) (since : ℕ)
         are = subst (AreNodeTrees dig Has ps since [] (q.all.nodes ++ n ∷ [])) whole planted;
         side = (omega arith, ap (λ (xs : List Tree). slice_get xs (length q.all.nodes + 1 - 1)) (sym whole) ∙ ap (slice_get (trees ++ Branch l e r ∷ [])) number ∙ get-last trees (Branch l e r));
         within = branch-within l e r p.more q.more p.within q.within;
+        parts = branch-parts l e r p.more q.more p.parts q.parts;
+        apart = branch-apart l e r p.more q.more rising p.parts q.parts p.apart q.apart;
       }
 
   -- ---- through a page
@@ -237,6 +287,7 @@ pub record RootPlants (dig : List ℕ → List ℕ) (Has : OfPage) (ps : Image) 
   pub last : (0 < length nodes) × (slice_get trees (length nodes - 1) ≡ Some t)
   pub mark : IsLastAt page nodes
   pub within : Each (IsWithin t) trees
+  pub apart : Apart trees
 
 pub root-plants : (dig : List ℕ → List ℕ) (Has : OfPage) (ps : Image) (root : Root) (t : Tree) (since : ℕ) → StandsWith dig Has ps root t → root.page ≢ 0 → since ≤ root.page
     → RootPlants dig Has ps since root.page (listed dig ps since root) t
@@ -269,4 +320,58 @@ root-plants dig Has ps root t since stands some new = by stands.tree
           last = (end.0, side-is dig Has ps since plants.more plants.all.side (length plants.all.nodes) t end.1 (subst (IsSideTree dig Has ps since plants.more plants.all.side) (sym is.tree_is) plants.side));
           mark = end.2;
           within = subst (λ (x : Tree). Each (IsWithin x) plants.more) (sym is.tree_is) plants.within;
+          apart = plants.apart;
         }
+
+-- ---- no page marks two nodes
+
+some-tree : (x t : Tree) → Some x ≡ Some t → x ≡ t
+some-tree x t e = cc
+
+not-there : (x : Tree) (xs : List Tree) (k : ℕ) (u : Tree) → Each (λ y. x ≢ y) xs → slice_get xs k ≡ Some u → x ≢ u
+not-there x [] k u all is = absurd (none-some u is)
+not-there x (y ∷ ys) zero u all is = λ same. all.0 (same ∙ sym (some-tree y u is))
+not-there x (y ∷ ys) (suc k) u all is = not-there x ys k u all.1 is
+
+apart-index : (ts : List Tree) → Apart ts → (i j : ℕ) (t : Tree) → slice_get ts i ≡ Some t → slice_get ts j ≡ Some t → i ≡ j
+apart-index [] apart i j t a b = absurd (none-some t a)
+apart-index (x ∷ ts) apart zero zero t a b = refl
+apart-index (x ∷ ts) apart zero (suc j) t a b = absurd (not-there x ts j t apart.0 b (some-tree x t a))
+apart-index (x ∷ ts) apart (suc i) zero t a b = absurd (not-there x ts i t apart.0 a (some-tree x t b))
+apart-index (x ∷ ts) apart (suc i) (suc j) t a b = ap suc (apart-index ts apart.1 i j t a b)
+
+module _ (dig : List ℕ → List ℕ) (Has : OfPage) (ps : Image) (since : ℕ) where
+  mark-at : (before : List Tree) (ns : List NewNode) (ts : List Tree) → AreNodeTrees dig Has ps since before ns ts → (i : ℕ) (n : NewNode) → slice_get ns i ≡ Some n
+      → (t : Tree) × (slice_get ts i ≡ Some t) × IsMarkOf dig Has ps since n.page t
+  mark-at before [] ts are i n is = absurd (none-some n is)
+  mark-at before (m ∷ ns) [] are i n is = absurd are
+  mark-at before (m ∷ ns) (t ∷ ts) are zero n is =
+      let same : m ≡ n = cc in (t, refl, subst (λ (x : NewNode). IsMarkOf dig Has ps since x.page t) same are.0.5)
+  mark-at before (m ∷ ns) (t ∷ ts) are (suc i) n is = mark-at (before ++ t ∷ []) ns ts are.1 i n is
+
+  no-least : (level least page : ℕ) (t : Tree) → IsTreePage dig Has ps (IsTreeBelow dig Has ps level) level least page t → IsTreePage dig Has ps (IsTreeBelow dig Has ps level) level 0 page t
+  no-least level least page t is = record {
+    node = is.node;
+    at = is.at;
+    level_is = is.level_is;
+    least_keys = omega arith;
+    trees = is.trees;
+    are_trees = is.are_trees;
+    tree_is = is.tree_is;
+    has = is.has;
+  }
+
+  tree-once : (page : ℕ) (s t : Tree) → page ≢ 0 → IsMarkOf dig Has ps since page s → IsMarkOf dig Has ps since page t → s ≡ t
+  tree-once page s t some (inl none) b = absurd (some none)
+  tree-once page s t some (inr a) (inl none) = absurd (some none)
+  tree-once page s t some (inr (new, (level, least, a))) (inr (more, (other, few, b))) =
+      let same : other ≡ level = sym b.level_is ∙ ap (λ (p : TreePage). p.level) (one_page dig ps page b.node a.node b.at a.at) ∙ a.level_is in
+      tree_page-once dig Has ps (IsTreeBelow dig Has ps level) (below-once dig Has ps level) level 0 page s t (no-least level least page s a)
+      (subst (λ (n : ℕ). IsTreePage dig Has ps (IsTreeBelow dig Has ps n) n 0 page t) same (no-least other few page t b))
+
+  pub marks-apart : (ns : List NewNode) (ts : List Tree) → AreNodeTrees dig Has ps since [] ns ts → Apart ts → (i j : ℕ) (n m : NewNode) → slice_get ns i ≡ Some n → slice_get ns j ≡ Some m → n.page ≡ m.page → n.page ≢ 0 → i ≡ j
+  marks-apart ns ts are apart i j n m a b same some =
+      let one = mark-at [] ns ts are i n a in
+      let two = mark-at [] ns ts are j m b in
+      let tree : two.0 ≡ one.0 = tree-once n.page two.0 one.0 some (subst (λ (k : ℕ). IsMarkOf dig Has ps since k two.0) (sym same) two.2) one.2 in
+      apart-index ts apart i j one.0 one.1 (two.1 ∙ ap (λ (x : Tree). Some x) tree)

@@ -98,6 +98,10 @@ pub fn listing_laws<H: Hasher>()
     // Each page of the tree from the number on is the mark of a listed node.
     ensures marked { (ps : Image) (root : Root) (t : Tree) (since : ℕ) (nodes : List NewNode) → StandsFor H.dig ps root t → root.page ≢ 0 → since ≤ root.page →
         listed H.dig ps since root ≡ Is nodes → StandsWith H.dig (IsMarked since nodes) ps root t }
+    // No page is the mark of two listed nodes.
+    ensures apart { (ps : Image) (root : Root) (t : Tree) (since : ℕ) (nodes : List NewNode) → StandsFor H.dig ps root t → root.page ≢ 0 → since ≤ root.page →
+        listed H.dig ps since root ≡ Is nodes → (i j : ℕ) (n m : NewNode) → slice_get nodes i ≡ Some n → slice_get nodes j ≡ Some m →
+        n.page ≡ m.page → n.page ≢ 0 → i ≡ j }
     // The last node listed is marked with the root's page.
     ensures last { (ps : Image) (root : Root) (t : Tree) (since : ℕ) → StandsFor H.dig ps root t → root.page ≢ 0 → since ≤ root.page →
         (nodes : List NewNode) × (n : NewNode) × (listed H.dig ps since root ≡ Is nodes) × (slice_get nodes (length nodes - 1) ≡ Some n) × (n.page ≡ root.page) }

@@ -1,9 +1,11 @@
-use Rattle.std.proofs.Common.{◌≡◌, ℕ, ◌<◌, true, inl, inr, ◌⊎◌, arith}
+use Rattle.std.proofs.Common.{◌≡◌, ℕ, ◌<◌, true, inl, inr, ◌⊎◌, arith, List, slice_get, sym, ap, ◌∙◌}
 use Rattle.std.specs.Prelude.{◌==◌, ◌||◌, nat_lt}
+use Rattle.tw_disk.proofs.FoundLaws.{same_found}
+use Rattle.tw_rbtree.specs.declared.new_node.NewNode.{NewNode}
 use Rattle.tw_rbtree.specs.Standing.{HasNamed, any_page}
 use Rattle.tw_rbtree.proofs.ListLaws.{listed-none}
 use Rattle.tw_rbtree.proofs.Markings.{root-marks}
-use Rattle.tw_rbtree.proofs.Plantings.{root-plants}
+use Rattle.tw_rbtree.proofs.Plantings.{marks-apart, root-plants}
 use Rattle.tw_rbtree.proofs.laws.listing_laws.Goals as goal
 
 older : (page since : ℕ) → (page ≡ 0) ⊎ (page < since) → ((page == 0) || nat_lt page since) ≡ true
@@ -19,6 +21,10 @@ returns g c = record {
   within = λ ps root t since stands some new.
       let p = root-plants g.H.Hasher.dig any_page ps root t since stands some new in (p.nodes, p.trees, p.found_is, p.are, p.within);
   marked = λ ps root t since nodes stands some new found. root-marks g.H.Hasher.dig ps since root t nodes stands some new found;
+  apart = λ ps root t since nodes stands some new found i j n m a b same page.
+      let p = root-plants g.H.Hasher.dig any_page ps root t since stands some new in
+      let whole : nodes ≡ p.nodes = same_found nodes p.nodes (sym found ∙ p.found_is) in
+      marks-apart g.H.Hasher.dig any_page ps since p.nodes p.trees p.are p.apart i j n m (ap (λ (xs : List NewNode). slice_get xs i) (sym whole) ∙ a) (ap (λ (xs : List NewNode). slice_get xs j) (sym whole) ∙ b) same page;
   last = λ ps root t since stands some new.
       let p = root-plants g.H.Hasher.dig any_page ps root t since stands some new in (p.nodes, p.mark.0, p.found_is, p.mark.1, p.mark.2);
   none = λ ps root since old. listed-none g.H.Hasher.dig ps since root (older root.page since old);
