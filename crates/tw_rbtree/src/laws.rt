@@ -111,8 +111,8 @@ pub fn listing_laws<H: Hasher>()
 
 /// How long proofs of pages that stand for a tree are, and how high the tree is; its clauses are the theorem. The function itself does nothing.
 pub fn size_laws<H: Hasher>()
-    // The tree's own proof of an answer has at most 9 nodes a level of pages above its place, and a tree of some entries has
-    // so many levels of pages only where it has at least 2 * 13^(levels - 1) - 1 entries.
+    // The tree's own proof of an answer has at most 9 times so many nodes above its place as there is a number of levels, which, where it
+    // isn't 0, a tree has only with at least 2 * 13^(levels - 1) - 1 entries.
     ensures size { (ps : Image) (root : Root) (t : Tree) (ask : Ask) → StandsFor H.dig ps root t →
         (levels : ℕ) × (length (ancestors_of (proof_of H.dig t ask)) ≤ 9 * levels) × (0 < levels → 2 * 13 ^ (levels - 1) ≤ length (entries t) + 1) }
     // The tree is at most 99 high.
