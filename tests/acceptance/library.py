@@ -48,7 +48,7 @@ def is_built():
 def asked(words, files):
     """The form, and the bytes of the proof and of the anchors file, of words that ask for a verdict; the anchors of one line are that line."""
     if words[:1] == ["verify"] and len(words) == 5:
-        return "v", files.get(words[1]), " ".join(words[2:]).encode()
+        return "v", files.get(words[1]), " ".join(words[2:]).encode(errors="surrogateescape")
     if words[:1] in (["verify"], ["strict"]) and len(words) == 3:
         return words[0][0], files.get(words[1]), files.get(words[2])
     return None, None, None
