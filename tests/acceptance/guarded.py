@@ -153,9 +153,9 @@ def no_memory_for_words(room):
 
 def many_parts(room):
     """`join` reads any number of files, and holds no more proofs than decide"""
-    room.put("p", reference.proof_bytes(reference.Timeline("a", [[bytes(60000)]]), 1, 0, 1))
+    room.put("p", reference.proof_bytes(reference.Timeline("a", [[bytes(1024)]]), 1, 0, 1))
     room.put("q", LEAST[:-1])
-    parts = ["p"] * 3000
+    parts = ["p"] * 60000
     limit = in_memory(64 << 20)
     for words, wanted in ((parts, (1, b"rejected Gap 2\n", b"")), ([*parts, "q"], (9, f"unreadable q byte {len(LEAST) - 1}\n".encode(), b""))):
         expect(room.run("join", *words, limit=limit), wanted, f"timeweave join of {len(words)} files, in 64 MiB of memory")
