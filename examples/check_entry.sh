@@ -9,6 +9,8 @@
 set -eu
 
 [ $# -eq 2 ] || [ $# -eq 3 ] || { echo "check_entry.sh PROOF ANCHOR [FILE]" >&2; exit 2; }
+command -v timeweave >/dev/null || { echo "check_entry.sh: timeweave isn't on the path" >&2; exit 2; }
+[ $# -eq 2 ] || [ -r "$3" ] || { echo "check_entry.sh: $3 can't be read" >&2; exit 2; }
 
 # Ends the check: the proof is a good one, of something else.
 other() {

@@ -23,12 +23,13 @@ static size_t load(const char *name, uint8_t *bytes, size_t most) {
 
 int main(int count, char **words) {
     static uint8_t proof[5242880], anchors[8192], text[1 << 20];
-    if (count < 3) {
+    char *end = "";
+    unsigned long wanted = count > 3 ? strtoul(words[3], &end, 10) : 100000, accepted = 0;
+    if (count < 3 || wanted == 0 || wanted > 1000000000 || *end) {
         fprintf(stderr, "many_proofs PROOF ANCHORS [COUNT]\n");
         return 2;
     }
     size_t proof_size = load(words[1], proof, sizeof proof), anchors_size = load(words[2], anchors, sizeof anchors);
-    unsigned long wanted = count > 3 ? strtoul(words[3], NULL, 10) : 100000, accepted = 0;
     size_t size = 0;
     clock_t begun = clock();
     for (unsigned long i = 0; i < wanted; i++)
