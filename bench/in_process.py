@@ -1,6 +1,7 @@
 """Proofs checked in one process, by the library from C and from Python, beside a process for each, and beside what vouches for a record
 elsewhere, where it is installed."""
 
+import os
 import re
 import shutil
 import subprocess
@@ -40,6 +41,16 @@ def signatures():
     return float(re.search(r"^\+F2:\d+:2048:[\d.]+:([\d.]+)", told, re.M)[1])
 
 
+def log_checker(folder):
+    """The command that checks a record of a log of Go's sumdb/tlog many times, built, where Go and Debian's package of it are there."""
+    source, kept = TOP / "bench/tlog.go", Path("/usr/share/gocode/src/golang.org/x/mod/sumdb/tlog")
+    if not (shutil.which("go") and kept.exists()):
+        return None
+    command, settings = f"{folder}/tlog", {"GO111MODULE": "off", "GOPATH": "/usr/share/gocode", "GOCACHE": f"{folder}/gocache"}
+    subprocess.run(["go", "build", "-o", command, source], check=True, env={**os.environ, **settings})
+    return command
+
+
 def files(words):
     """The proof's path, and that of an anchors file of the line that the words of `verify` give."""
     anchors = Path(f"{words[2]}.anchors")
@@ -60,6 +71,9 @@ def in_process_lines(bench):
         rows.append((f"the library from C, {name} bytes", best_rate([program, *files(words), str(count)], runs)))
         rows.append((f"the library from Python, {name} bytes", best_rate([*python, *files(words), str(count)], runs)))
     rows.append(("`timeweave verify`, 145 bytes, a process each", 1 / best_times([bench.least], bench.plan.runs)[0]))
+    log = log_checker(bench.folder)
+    if log:
+        rows.append(("Go's `tlog.CheckRecord`, one of 65,536 records, 16 hashes", best_rate([log, "65536", str(count)], runs)))
     if shutil.which("openssl"):
         rows.append(("`openssl speed rsa2048`: one signature verified", signatures()))
     lines = [f"| {label} | {rate:,.0f} | {1e6 / rate:,.1f} |" for label, rate in rows]
