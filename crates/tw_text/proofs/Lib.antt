@@ -1,5 +1,2 @@
 pub mod Numerals
 pub mod FieldLaws
-pub mod FormLaws
-pub mod FrontLaws
-pub mod TableLaws

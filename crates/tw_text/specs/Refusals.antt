@@ -4,7 +4,7 @@ use Rattle.tw_text.specs.Lines.{line}
 use Rattle.tw_text.specs.declared.field.Field.{Field}
 use Rattle.tw_text.specs.declared.field.Field.TheVariants.{Word, Number}
 use Rattle.tw_text.specs.declared.refusal.Refusal.{Refusal}
-use Rattle.tw_text.specs.declared.refusal.Refusal.TheVariants.{NoStep, NoEvent, Taken, Full, TooMany, TooLong}
+use Rattle.tw_text.specs.declared.refusal.Refusal.TheVariants.{NoStep, NoEvent, Taken, Full, TooMany, TooLong, ClockBack}
 use Rattle.tw_text.specs.declared.refusal.StoreCause.{StoreCause}
 use Rattle.tw_text.specs.declared.refusal.StoreCause.TheVariants.{Blank, NotAStore, BadPage}
 use Rattle.tw_text.specs.declared.refusal.BadInput.{BadInput}
@@ -18,6 +18,7 @@ refusal_fields Taken = Word (codes "Taken") ∷ []
 refusal_fields Full = Word (codes "Full") ∷ []
 refusal_fields (TooMany count) = Word (codes "TooMany") ∷ Number count ∷ []
 refusal_fields (TooLong bytes) = Word (codes "TooLong") ∷ Number bytes ∷ []
+refusal_fields (ClockBack last given) = Word (codes "ClockBack") ∷ Number last ∷ Number given ∷ []
 
 abbrev pub refused_text : Refusal → List ℕ
 refused_text refusal = line (codes "refused") (refusal_fields refusal)

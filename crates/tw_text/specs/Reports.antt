@@ -53,17 +53,35 @@ absent_line service step key = line (codes "absent") (Named service ∷ Number s
 abbrev pub link_line : (service : List ℕ) (step top : ℕ) (auth : List ℕ) → List ℕ
 link_line service step top auth = line (codes "link") (Named service ∷ Number step ∷ Number top ∷ Hex auth ∷ [])
 
--- the lines of a claim
+-- the first line of an accepted claim
+abbrev pub accepted_line : Claim → List ℕ
+accepted_line (Exists seen) = line (codes "accepted exists") []
+accepted_line (Precedes first second) = line (codes "accepted precedes") []
+accepted_line (Archived service step entry) = line (codes "accepted thread") []
+accepted_line (Absent service step key) = line (codes "accepted absent") []
+accepted_line (Linked service step top auth) = line (codes "accepted link") []
+
+-- the lines of what is claimed
+abbrev pub claim_lines : Claim → List ℕ
+claim_lines (Exists seen) = event_lines seen
+claim_lines (Precedes first second) = event_lines first ++ event_lines second
+claim_lines (Archived service step entry) = thread_line service step entry
+claim_lines (Absent service step key) = absent_line service step key
+claim_lines (Linked service step top auth) = link_line service step top auth
+
 abbrev pub claim_text : Claim → List ℕ
-claim_text (Exists seen) = line (codes "accepted exists") [] ++ event_lines seen
-claim_text (Precedes first second) = line (codes "accepted precedes") [] ++ (event_lines first ++ event_lines second)
-claim_text (Archived service step entry) = line (codes "accepted thread") [] ++ thread_line service step entry
-claim_text (Absent service step key) = line (codes "accepted absent") [] ++ absent_line service step key
-claim_text (Linked service step top auth) = line (codes "accepted link") [] ++ link_line service step top auth
+claim_text claim = accepted_line claim ++ claim_lines claim
 
 -- the report of an accepted proof: its claim, a line for each hop, and one for each carried thread
 abbrev pub report_text : Report → List ℕ
 report_text report = claim_text report.claim ++ (flat_map hop_line report.hops ++ flat_map carried_line report.carried)
+
+-- ---- proofs that an audit holds against histories
+
+-- an audited proof that stands: the lines of its report from the second on
+abbrev pub stands_text : Report → List ℕ
+stands_text report =
+    line (codes "stands") [] ++ (claim_lines report.claim ++ (flat_map hop_line report.hops ++ flat_map carried_line report.carried))
 
 -- ---- proofs that are not accepted
 

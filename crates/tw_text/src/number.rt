@@ -3,7 +3,6 @@
 ghost use Rattle.std.specs.Prelude.{◌≡◌, ◌↔◌, ◌<◌, ◌^◌, IsTrue, IsSome, IfSome};
 ghost use Rattle.std.specs.Char.{is_ascii_digit};
 ghost use Rattle.std.specs.List.{list_all};
-ghost use Rattle.tw_text.specs.Forms.{number_value};
 ghost use Rattle.tw_text.specs.Words.{word_digest, word_number};
 ghost use Rattle.tw_text.specs.Words.{is_digest as is_digest_of, is_number as is_number_of};
 
@@ -48,11 +47,4 @@ pub fn read_digest(text: &[u8]) -> Option<Digest>
         Ok(bytes) => Some(Digest(bytes)),
         Err(_) => None,
     }
-}
-
-/// The number that the text is, if it is one within the range.
-pub(crate) fn number_within(text: &[u8], least: u64, most: u64) -> Option<u64>
-    ensures { result ≡ number_value least most text.now }
-{
-    read_number(text).filter(|n| least <= *n && *n <= most)
 }

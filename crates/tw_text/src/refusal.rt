@@ -28,6 +28,9 @@ pub enum Refusal {
     /// An event is longer than 1,024 bytes, the first such one this; or, where none is, all together
     /// are longer than 65,536 bytes, and this long.
     TooLong { bytes: u64 },
+    /// The given time is below the greatest time of the steps so far. Both are told, the greatest one
+    /// first.
+    ClockBack { last: u64, given: u64 },
 }
 
 /// Why the disk has no service that can serve the command.
@@ -75,6 +78,10 @@ fn put_refusal(alloc: Global, fields: &mut FieldList, refusal: &Refusal) -> Resu
         Refusal::Full => put_word(alloc, fields, b"Full"),
         Refusal::TooMany { count } => put_number(alloc, fields, b"TooMany", *count),
         Refusal::TooLong { bytes } => put_number(alloc, fields, b"TooLong", *bytes),
+        Refusal::ClockBack { last, given } => {
+            put_number(alloc, fields, b"ClockBack", *last)?;
+            fields.push(Field::Number(*given))
+        }
     }
 }
 

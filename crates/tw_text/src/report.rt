@@ -4,7 +4,8 @@ ghost use Rattle.std.specs.Prelude.{◌≡◌, [], ◌∷◌, ◌++◌, OnOk, If
 ghost use Rattle.tw_text.specs.Lines.{fields_text};
 ghost use Rattle.tw_text.specs.declared.field.Field.TheVariants.{Hex, Named, Number};
 ghost use Rattle.std.specs.List.{flat_map};
-ghost use Rattle.tw_text.specs.Reports.{absent_line, carried_line, claim_text, event_line, event_lines, gap_text, hop_line, link_line, reason_fields, report_text, rejected_text, thread_line, time_line};
+ghost use Rattle.tw_text.specs.Reports.{absent_line, carried_line, claim_lines, claim_text, event_line, event_lines, gap_text, hop_line, link_line, reason_fields, report_text, rejected_text, stands_text, thread_line, time_line};
+ghost use Rattle.tw_text.specs.Reports.{accepted_line as accepted_line_of};
 ghost use Rattle.tw_text.specs.Reports.{reason_name as reason_name_of};
 
 use crate::line::{put_hex, put_name, put_number, put_word};
@@ -22,6 +23,20 @@ pub fn print_report(alloc: Global, report: &Report) -> Result<Bytes, NoMemory>
 {
     let mut text = Bytes::new(alloc);
     put_claim(alloc, &mut text, &report.claim)?;
+    put_hops(&mut text, &report.hops)?;
+    put_carried(alloc, &mut text, &report.carried)?;
+    Ok(text)
+}
+
+/// What is told of a proof that stands when it is held against histories: `stands`, and the lines of
+/// its report behind the first.
+pub fn print_stands(alloc: Global, report: &Report) -> Result<Bytes, NoMemory>
+    // What is told of a proof that stands is exactly the text of the definitions.
+    ensures { IfOk result (λ text. text ≡ stands_text report.now) }
+{
+    let mut text = Bytes::new(alloc);
+    text.extend_from_slice(b"stands\n")?;
+    put_claim_lines(alloc, &mut text, &report.claim)?;
     put_hops(&mut text, &report.hops)?;
     put_carried(alloc, &mut text, &report.carried)?;
     Ok(text)
@@ -60,39 +75,46 @@ pub fn print_gap(alloc: Global, place: u64) -> Result<Bytes, NoMemory>
 fn put_claim(alloc: Global, text: &mut Bytes, claim: &Claim) -> Result<(), NoMemory>
     ensures { OnOk result (text.new ≡ text.old ++ claim_text claim.now) }
 {
+    text.extend_from_slice(accepted_line(claim).as_bytes())?;
+    put_claim_lines(alloc, text, claim)
+}
+
+/// The first line of the report of an accepted claim.
+fn accepted_line(claim: &Claim) -> &'static str
+    ensures { result.now ≡ accepted_line_of claim.now }
+{
     match claim {
-        Claim::Exists(seen) => {
-            text.extend_from_slice(b"accepted exists\n")?;
-            put_seen(alloc, text, seen)?;
-        }
+        Claim::Exists(_) => "accepted exists\n",
+        Claim::Precedes { .. } => "accepted precedes\n",
+        Claim::Archived { .. } => "accepted thread\n",
+        Claim::Absent { .. } => "accepted absent\n",
+        Claim::Linked { .. } => "accepted link\n",
+    }
+}
+
+/// Puts the lines of what is claimed at the text's end.
+fn put_claim_lines(alloc: Global, text: &mut Bytes, claim: &Claim) -> Result<(), NoMemory>
+    ensures { OnOk result (text.new ≡ text.old ++ claim_lines claim.now) }
+{
+    match claim {
+        Claim::Exists(seen) => put_seen(alloc, text, seen),
         Claim::Precedes { first, second } => {
-            text.extend_from_slice(b"accepted precedes\n")?;
             put_seen(alloc, text, first)?;
-            put_seen(alloc, text, second)?;
+            put_seen(alloc, text, second)
         }
         Claim::Archived {
             service,
             step,
             entry,
-        } => {
-            text.extend_from_slice(b"accepted thread\n")?;
-            put_thread(alloc, text, service, *step, entry)?;
-        }
-        Claim::Absent { service, step, key } => {
-            text.extend_from_slice(b"accepted absent\n")?;
-            put_absent(text, service, *step, key)?;
-        }
+        } => put_thread(alloc, text, service, *step, entry),
+        Claim::Absent { service, step, key } => put_absent(text, service, *step, key),
         Claim::Linked {
             service,
             step,
             top,
             auth,
-        } => {
-            text.extend_from_slice(b"accepted link\n")?;
-            put_link(alloc, text, service, *step, *top, auth)?;
-        }
+        } => put_link(alloc, text, service, *step, *top, auth),
     }
-    Ok(())
 }
 
 /// Puts the line of each hop at the text's end.

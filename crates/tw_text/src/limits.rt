@@ -1,7 +1,0 @@
-// The limits of commands.
-
-/// The most histories that one audit compares with a proof.
-pub const MOST_HISTORIES: usize = 64;
-
-/// The most steps that one generated schedule has.
-pub const MOST_GENERATED: u64 = 10_000;

@@ -1,0 +1,153 @@
+-- The forms of the program's command line.
+use Rattle.std.specs.Prelude.{◌≡◌, ℕ, ◌+◌, ◌-◌, ◌≤◌, List, [], ◌∷◌, ◌++◌, length, take, codes, Option, Some, None, IsSome}
+use Rattle.std.specs.Result.{result_ok}
+use Rattle.tw_base.specs.declared.kinds.limits.TheConstants.{LAST_STEP, LAST_TIME}
+use Rattle.tw_words.specs.Forms.{Form, any_paths, at_most_paths, choose, digest, either, end, maybe, maybe_up_to, name, number, path}
+use Rattle.tw_words.specs.declared.command.Command.{Command}
+use Rattle.tw_words.specs.declared.command.Command.TheVariants.{Init, Append, Thread, Receive, ProveEvent, ProveThread, ProveAbsent, ProveLink, MapLow, MapHigh, Export, Show, Join, VerifyFile, VerifyOne, Strict, CheckMap, Audit, Atlas, Accuse, CheckFork, Replay, Generate}
+use Rattle.tw_words.specs.declared.limits.TheConstants.{MOST_GENERATED, MOST_HISTORIES, MOST_RECEIPT_FILES}
+use Rattle.tw_words.specs.declared.words.WordFault.{WordFault}
+use Rattle.tw_words.specs.declared.words.WordFault.TheVariants.{BadWord, NoMemory}
+
+-- ---- parts
+
+-- any number of 64 bits
+abbrev pub any_number : (ℕ → Form) → Form
+any_number = number 0 0xffff_ffff_ffff_ffff
+
+-- the number of a step from 1 on
+abbrev pub step_number : (ℕ → Form) → Form
+step_number = number 1 LAST_STEP
+
+-- ---- forms behind their first word
+
+unfoldable pub init : Form
+init = path (λ dir. name (λ name. end (Init name)))
+
+unfoldable pub append : Form
+append = path (λ dir. path (λ file. maybe_up_to LAST_TIME (λ time. Append file time)))
+
+unfoldable pub thread : Form
+thread = path (λ dir. any_number (λ since. end (Thread since)))
+
+unfoldable pub receive : Form
+receive = path (λ dir. path (λ file. end (Receive file)))
+
+-- `prove DIR event`, and the other kinds of proofs
+unfoldable pub prove_event : Form
+prove_event = any_number (λ step. any_number (λ index. maybe (λ top. ProveEvent step index top)))
+
+unfoldable pub prove_thread : Form
+prove_thread = any_number (λ step. name (λ peer. step_number (λ k. maybe (λ top. ProveThread step peer k top))))
+
+unfoldable pub prove_absent : Form
+prove_absent = any_number (λ step. name (λ peer. step_number (λ k. maybe (λ top. ProveAbsent step peer k top))))
+
+unfoldable pub prove_link : Form
+prove_link = any_number (λ step. maybe (λ top. ProveLink step top))
+
+abbrev pub proofs : List (List ℕ × Form)
+proofs = (codes "event", prove_event) ∷ (codes "thread", prove_thread) ∷ (codes "absent", prove_absent) ∷ (codes "link", prove_link) ∷ []
+
+unfoldable pub prove : Form
+prove = path (λ dir. choose proofs)
+
+-- `map DIR low` and `map DIR high`
+unfoldable pub map_low : Form
+map_low = any_number (λ step. name (λ peer. maybe (λ top. MapLow step peer top)))
+
+unfoldable pub map_high : Form
+map_high = step_number (λ pos. name (λ peer. maybe (λ top. MapHigh pos peer top)))
+
+abbrev pub bounds : List (List ℕ × Form)
+bounds = (codes "low", map_low) ∷ (codes "high", map_high) ∷ []
+
+unfoldable pub map : Form
+map = path (λ dir. choose bounds)
+
+unfoldable pub export : Form
+export = path (λ dir. end Export)
+
+unfoldable pub show : Form
+show = path (λ history. any_number (λ step. any_number (λ index. end (Show history step index))))
+
+-- at least two files
+unfoldable pub join : Form
+join = path (λ one. path (λ two. any_paths (λ more. Join (one ∷ two ∷ more))))
+
+-- `verify PROOF`: then a file of anchors, or one anchor
+unfoldable pub verify_file : (proof : List ℕ) → Form
+verify_file proof = path (λ anchors. end (VerifyFile proof anchors))
+
+unfoldable pub verify_one : (proof : List ℕ) → Form
+verify_one proof =
+    name (λ from. step_number (λ step. digest (λ auth. end (VerifyOne proof (record { from = from; step = step; auth = auth })))))
+
+unfoldable pub verify : Form
+verify = path (λ proof. either (verify_file proof) (verify_one proof))
+
+unfoldable pub strict : Form
+strict = path (λ proof. path (λ anchors. end (Strict proof anchors)))
+
+unfoldable pub check_map : Form
+check_map = path (λ low. path (λ high. path (λ anchors. end (CheckMap low high anchors))))
+
+-- at least one history
+unfoldable pub audit : Form
+audit = path (λ proof. path (λ anchors. path (λ one. at_most_paths (MOST_HISTORIES - 1) (λ more. Audit proof anchors (one ∷ more)))))
+
+-- at least one file
+unfoldable pub atlas : Form
+atlas = name (λ start. step_number (λ pos. path (λ one. at_most_paths (MOST_RECEIPT_FILES - 1) (λ more. Atlas start pos (one ∷ more)))))
+
+-- `accuse PROOF PROOF`, and with a link
+unfoldable pub accuse_two : (first second : List ℕ) → Form
+accuse_two first second = end (Accuse first second None)
+
+unfoldable pub accuse_linked : (first second : List ℕ) → Form
+accuse_linked first second = path (λ link. end (Accuse first second (Some link)))
+
+unfoldable pub accuse : Form
+accuse = path (λ first. path (λ second. either (accuse_two first second) (accuse_linked first second)))
+
+unfoldable pub check_fork : Form
+check_fork = path (λ file. path (λ anchors. end (CheckFork file anchors)))
+
+unfoldable pub replay : Form
+replay = path (λ file. end (Replay file))
+
+unfoldable pub generate : Form
+generate = any_number (λ seed. number 1 MOST_GENERATED (λ steps. end (Generate seed steps)))
+
+-- ---- all forms, by their first word
+
+abbrev pub commands : List (List ℕ × Form)
+commands =
+    (codes "init", init) ∷ (codes "append", append) ∷ (codes "thread", thread) ∷ (codes "receive", receive) ∷ (codes "prove", prove)
+    ∷ (codes "map", map) ∷ (codes "export", export) ∷ (codes "show", show) ∷ (codes "join", join) ∷ (codes "verify", verify)
+    ∷ (codes "strict", strict) ∷ (codes "checkmap", check_map) ∷ (codes "audit", audit) ∷ (codes "atlas", atlas)
+    ∷ (codes "accuse", accuse) ∷ (codes "checkfork", check_fork) ∷ (codes "replay", replay) ∷ (codes "generate", generate) ∷ []
+
+-- ---- the meaning of words
+
+-- the command that the words have a form of
+abbrev pub command_of : List (List ℕ) → Option Command
+command_of words = result_ok (choose commands words)
+
+-- the words are the front of some words that have a form
+abbrev pub IsFront : List (List ℕ) → Type 0
+IsFront words = (rest : List (List ℕ)) × IsSome (command_of (words ++ rest))
+
+-- the number of the first word, counted from 1, at which no form goes on, and one more than there are words where some form
+-- would go on: before it ends the longest front of the words that is the front of a command
+pub record IsFirstBad (words : List (List ℕ)) (number : ℕ) : Type 0 where
+  pub front : ℕ
+  pub next : number ≡ front + 1
+  pub within : front ≤ length words
+  pub good : IsFront (take front words)
+  pub longest : (n : ℕ) → n ≤ length words → IsFront (take n words) → n ≤ front
+
+-- the fault names the first word at which no form goes on
+abbrev pub IsBadWord : List (List ℕ) → WordFault → Type 0
+IsBadWord words (BadWord number) = IsFirstBad words number
+IsBadWord words NoMemory = ⊥

@@ -1,0 +1,130 @@
+// The commands of the program.
+
+use tw_base::{Name, Sequence, Thread};
+use tw_text::{ClaimedTime, FilePath};
+
+/// A command: one variant for each form of the command line, with the values of the form's words in
+/// their order. Its fixed words are left out, and the directory, whose store is opened by itself. A
+/// file is the path as it was given, of at least one byte. Where `top` is None the last step is meant.
+#[derive(Drop, Debug)]
+pub enum Command {
+    /// `init DIR NAME`: makes the store of a new service.
+    Init {
+        name: Name,
+    },
+    /// `append DIR FILE [TIME]`: one more step, with the events of the file, at a claimed time.
+    Append {
+        file: FilePath,
+        time: Option<ClaimedTime>,
+    },
+    /// `thread DIR SINCE`: a message with the last step, linked down to an earlier one.
+    Thread {
+        since: u64,
+    },
+    /// `receive DIR FILE`: archives the thread of a message.
+    Receive {
+        file: FilePath,
+    },
+    /// `prove DIR event STEP INDEX [TOP]`: proves that an event stands in a step.
+    ProveEvent {
+        step: u64,
+        index: u64,
+        top: Option<u64>,
+    },
+    /// `prove DIR thread STEP PEER K [TOP]`: proves that a peer's step is archived by a step.
+    ProveThread {
+        step: u64,
+        peer: Name,
+        k: u64,
+        top: Option<u64>,
+    },
+    /// `prove DIR absent STEP PEER K [TOP]`: proves that a peer's step isn't archived by a step.
+    ProveAbsent {
+        step: u64,
+        peer: Name,
+        k: u64,
+        top: Option<u64>,
+    },
+    /// `prove DIR link STEP [TOP]`: proves the authenticator of a step under a top.
+    ProveLink {
+        step: u64,
+        top: Option<u64>,
+    },
+    /// `map DIR low STEP PEER [TOP]`: the greatest step of a peer that is before a step.
+    MapLow {
+        step: u64,
+        peer: Name,
+        top: Option<u64>,
+    },
+    /// `map DIR high POS PEER [TOP]`: the least step that is after a step of a peer.
+    MapHigh {
+        pos: u64,
+        peer: Name,
+        top: Option<u64>,
+    },
+    /// `export DIR`: writes the history.
+    Export,
+    /// `show HISTORY STEP INDEX`: proves an event from a history.
+    Show {
+        history: FilePath,
+        step: u64,
+        index: u64,
+    },
+    /// `join FILE FILE ..`: joins proofs to one.
+    Join {
+        files: Sequence<FilePath>,
+    },
+    /// `verify PROOF ANCHORS`: judges a proof under the anchors of a file.
+    VerifyFile {
+        proof: FilePath,
+        anchors: FilePath,
+    },
+    /// `verify PROOF NAME POS HEX`: judges a proof under this one anchor.
+    VerifyOne {
+        proof: FilePath,
+        anchor: Thread,
+    },
+    /// `strict PROOF ANCHORS`: judges a proof, and allows no thread that no anchor binds.
+    Strict {
+        proof: FilePath,
+        anchors: FilePath,
+    },
+    /// `checkmap LOW HIGH ANCHORS`: judges two map files.
+    CheckMap {
+        low: FilePath,
+        high: FilePath,
+        anchors: FilePath,
+    },
+    /// `audit PROOF ANCHORS HISTORY ..`: compares a proof with histories.
+    Audit {
+        proof: FilePath,
+        anchors: FilePath,
+        histories: Sequence<FilePath>,
+    },
+    /// `atlas NAME POS FILE ..`: the earliest step of every service to which a step leads, by the receipts of files.
+    Atlas {
+        name: Name,
+        pos: u64,
+        files: Sequence<FilePath>,
+    },
+    /// `accuse PROOF PROOF [LINK]`: makes the evidence of a fork.
+    Accuse {
+        first: FilePath,
+        second: FilePath,
+        link: Option<FilePath>,
+    },
+    /// `checkfork FILE ANCHORS`: judges the evidence of a fork.
+    CheckFork {
+        file: FilePath,
+        anchors: FilePath,
+    },
+    /// `replay FILE`: runs a script.
+    Replay {
+        file: FilePath,
+    },
+    /// `generate NUMBER STEPS`: runs a generated schedule.
+    Generate {
+        number: u64,
+        steps: u64,
+    },
+}

@@ -1,0 +1,181 @@
+// The forms of commands over files alone, behind their first word.
+
+ghost use Rattle.std.specs.Prelude.{◌≡◌, ◌++◌, ℕ, List, map, Err, OnOk};
+ghost use Rattle.std.specs.String.{string_bytes};
+ghost use Rattle.tw_words.specs.CommandLine as forms;
+ghost use Rattle.tw_words.specs.Forms.{Form, either};
+ghost use Rattle.tw_words.specs.Takings.{Makes};
+
+use crate::command::Command;
+use crate::cursor::{Stop, Words};
+use crate::limits::{MOST_GENERATED, MOST_HISTORIES};
+use std::alloc::Global;
+use tw_base::limits::LAST_STEP;
+use tw_base::{NoMemory, Sequence, Thread};
+use tw_text::FilePath;
+
+/// `show HISTORY STEP INDEX`
+#[tactic(auto, unfolding(crate::specs::CommandLine::show))]
+pub(crate) fn show(alloc: Global, mut words: Words<'_>) -> Result<Command, Stop>
+    ensures { Makes (forms.show (map string_bytes words.entry.left.now)) result }
+{
+    let history = words.path()?;
+    let step = words.number(0, u64::MAX)?;
+    let index = words.number(0, u64::MAX)?;
+    words.end()?;
+    let history = FilePath::new(alloc, history)?;
+    Ok(Command::Show {
+        history,
+        step,
+        index,
+    })
+}
+
+/// `join FILE FILE ..`
+#[tactic(auto, unfolding(crate::specs::CommandLine::join))]
+pub(crate) fn join(alloc: Global, mut words: Words<'_>) -> Result<Command, Stop>
+    ensures { Makes (forms.join (map string_bytes words.entry.left.now)) result }
+{
+    let one = words.path()?;
+    let two = words.path()?;
+    let more = words.paths(words.left.len())?;
+    let mut files = Sequence::new(alloc);
+    files.push(FilePath::new(alloc, one)?)?;
+    files.push(FilePath::new(alloc, two)?)?;
+    push_paths(alloc, &mut files, more)?;
+    Ok(Command::Join { files })
+}
+
+/// `verify PROOF ANCHORS`, and else `verify PROOF NAME POS HEX`
+#[tactic(auto, unfolding(crate::specs::CommandLine::verify))]
+pub(crate) fn verify(alloc: Global, mut words: Words<'_>) -> Result<Command, Stop>
+    ensures { Makes (forms.verify (map string_bytes words.entry.left.now)) result }
+{
+    let proof = words.path()?;
+    match verify_file(alloc, proof, words) {
+        Err(Stop::At { left }) => or_further(left, verify_one(alloc, proof, words)),
+        done => done,
+    }
+}
+
+/// `ANCHORS`, behind `verify PROOF`
+#[tactic(auto, unfolding(crate::specs::CommandLine::verify_file))]
+fn verify_file(alloc: Global, proof: &str, mut words: Words<'_>) -> Result<Command, Stop>
+    ensures { Makes (forms.verify_file proof.now (map string_bytes words.entry.left.now)) result }
+{
+    let anchors = words.path()?;
+    words.end()?;
+    let proof = FilePath::new(alloc, proof)?;
+    let anchors = FilePath::new(alloc, anchors)?;
+    Ok(Command::VerifyFile { proof, anchors })
+}
+
+/// `NAME POS HEX`, behind `verify PROOF`
+#[tactic(auto, unfolding(crate::specs::CommandLine::verify_one))]
+fn verify_one(alloc: Global, proof: &str, mut words: Words<'_>) -> Result<Command, Stop>
+    ensures { Makes (forms.verify_one proof.now (map string_bytes words.entry.left.now)) result }
+{
+    let from = words.name()?;
+    let step = words.number(1, LAST_STEP)?;
+    let auth = words.digest()?;
+    words.end()?;
+    let proof = FilePath::new(alloc, proof)?;
+    let anchor = Thread { from, step, auth };
+    Ok(Command::VerifyOne { proof, anchor })
+}
+
+/// `strict PROOF ANCHORS`
+#[tactic(auto, unfolding(crate::specs::CommandLine::strict))]
+pub(crate) fn strict(alloc: Global, mut words: Words<'_>) -> Result<Command, Stop>
+    ensures { Makes (forms.strict (map string_bytes words.entry.left.now)) result }
+{
+    let proof = words.path()?;
+    let anchors = words.path()?;
+    words.end()?;
+    let proof = FilePath::new(alloc, proof)?;
+    let anchors = FilePath::new(alloc, anchors)?;
+    Ok(Command::Strict { proof, anchors })
+}
+
+/// `checkmap LOW HIGH ANCHORS`
+#[tactic(auto, unfolding(crate::specs::CommandLine::check_map))]
+pub(crate) fn check_map(alloc: Global, mut words: Words<'_>) -> Result<Command, Stop>
+    ensures { Makes (forms.check_map (map string_bytes words.entry.left.now)) result }
+{
+    let low = words.path()?;
+    let high = words.path()?;
+    let anchors = words.path()?;
+    words.end()?;
+    Ok(Command::CheckMap {
+        low: FilePath::new(alloc, low)?,
+        high: FilePath::new(alloc, high)?,
+        anchors: FilePath::new(alloc, anchors)?,
+    })
+}
+
+/// `audit PROOF ANCHORS HISTORY ..`
+#[tactic(auto, unfolding(crate::specs::CommandLine::audit))]
+pub(crate) fn audit(alloc: Global, mut words: Words<'_>) -> Result<Command, Stop>
+    ensures { Makes (forms.audit (map string_bytes words.entry.left.now)) result }
+{
+    let proof = words.path()?;
+    let anchors = words.path()?;
+    let one = words.path()?;
+    let more = words.paths(MOST_HISTORIES - 1)?;
+    let mut histories = Sequence::new(alloc);
+    histories.push(FilePath::new(alloc, one)?)?;
+    push_paths(alloc, &mut histories, more)?;
+    Ok(Command::Audit {
+        proof: FilePath::new(alloc, proof)?,
+        anchors: FilePath::new(alloc, anchors)?,
+        histories,
+    })
+}
+
+/// `replay FILE`
+#[tactic(auto, unfolding(crate::specs::CommandLine::replay))]
+pub(crate) fn replay(alloc: Global, mut words: Words<'_>) -> Result<Command, Stop>
+    ensures { Makes (forms.replay (map string_bytes words.entry.left.now)) result }
+{
+    let file = words.path()?;
+    words.end()?;
+    let file = FilePath::new(alloc, file)?;
+    Ok(Command::Replay { file })
+}
+
+/// `generate NUMBER STEPS`
+#[tactic(auto, unfolding(crate::specs::CommandLine::generate))]
+pub(crate) fn generate(mut words: Words<'_>) -> Result<Command, Stop>
+    ensures { Makes (forms.generate (map string_bytes words.entry.left.now)) result }
+{
+    let number = words.number(0, u64::MAX)?;
+    let steps = words.number(1, MOST_GENERATED)?;
+    words.end()?;
+    Ok(Command::Generate { number, steps })
+}
+
+/// What the second of two forms answers, where the first stopped with so many words left.
+pub(crate) fn or_further(left: usize, second: Result<Command, Stop>) -> Result<Command, Stop>
+    ensures { (one other : Form) (words : List (List ℕ)) → one words ≡ Err left → Makes (other words) second → Makes (either one other words) result }
+{
+    match second {
+        Err(Stop::At { left: other }) => Err(Stop::At {
+            left: left.min(other),
+        }),
+        done => done,
+    }
+}
+
+/// Puts the words as paths at the end.
+pub(crate) fn push_paths(
+    alloc: Global,
+    paths: &mut Sequence<FilePath>,
+    words: &[String],
+) -> Result<(), NoMemory>
+    ensures { OnOk result (paths.new ≡ paths.old ++ map string_bytes words.now) }
+{
+    for word in words {
+        paths.push(FilePath::new(alloc, word.as_str())?)?;
+    }
+    Ok(())
+}

@@ -1,0 +1,88 @@
+// The forms of commands over files that reach beyond one proof, behind their first word.
+
+ghost use Rattle.std.specs.Prelude.{map};
+ghost use Rattle.std.specs.String.{string_bytes};
+ghost use Rattle.tw_words.specs.CommandLine as forms;
+ghost use Rattle.tw_words.specs.Takings.{Makes};
+
+use crate::command::Command;
+use crate::cursor::{Stop, Words};
+use crate::file_forms::{or_further, push_paths};
+use crate::limits::MOST_RECEIPT_FILES;
+use std::alloc::Global;
+use tw_base::Sequence;
+use tw_base::limits::LAST_STEP;
+use tw_text::FilePath;
+
+/// `atlas NAME POS FILE ..`
+#[tactic(auto, unfolding(crate::specs::CommandLine::atlas))]
+pub(crate) fn atlas(alloc: Global, mut words: Words<'_>) -> Result<Command, Stop>
+    ensures { Makes (forms.atlas (map string_bytes words.entry.left.now)) result }
+{
+    let name = words.name()?;
+    let pos = words.number(1, LAST_STEP)?;
+    let one = words.path()?;
+    let more = words.paths(MOST_RECEIPT_FILES - 1)?;
+    let mut files = Sequence::new(alloc);
+    files.push(FilePath::new(alloc, one)?)?;
+    push_paths(alloc, &mut files, more)?;
+    Ok(Command::Atlas { name, pos, files })
+}
+
+/// `accuse PROOF PROOF`, and else `accuse PROOF PROOF LINK`
+#[tactic(auto, unfolding(crate::specs::CommandLine::accuse))]
+pub(crate) fn accuse(alloc: Global, mut words: Words<'_>) -> Result<Command, Stop>
+    ensures { Makes (forms.accuse (map string_bytes words.entry.left.now)) result }
+{
+    let first = words.path()?;
+    let second = words.path()?;
+    match accuse_two(alloc, first, second, words) {
+        Err(Stop::At { left }) => or_further(left, accuse_linked(alloc, first, second, words)),
+        done => done,
+    }
+}
+
+/// No more words, behind `accuse PROOF PROOF`
+#[tactic(auto, unfolding(crate::specs::CommandLine::accuse_two))]
+fn accuse_two(alloc: Global, first: &str, second: &str, words: Words<'_>) -> Result<Command, Stop>
+    ensures { Makes (forms.accuse_two first.now second.now (map string_bytes words.entry.left.now)) result }
+{
+    words.end()?;
+    Ok(Command::Accuse {
+        first: FilePath::new(alloc, first)?,
+        second: FilePath::new(alloc, second)?,
+        link: None,
+    })
+}
+
+/// `LINK`, behind `accuse PROOF PROOF`
+#[tactic(auto, unfolding(crate::specs::CommandLine::accuse_linked))]
+fn accuse_linked(
+    alloc: Global,
+    first: &str,
+    second: &str,
+    mut words: Words<'_>,
+) -> Result<Command, Stop>
+    ensures { Makes (forms.accuse_linked first.now second.now (map string_bytes words.entry.left.now)) result }
+{
+    let link = words.path()?;
+    words.end()?;
+    Ok(Command::Accuse {
+        first: FilePath::new(alloc, first)?,
+        second: FilePath::new(alloc, second)?,
+        link: Some(FilePath::new(alloc, link)?),
+    })
+}
+
+/// `checkfork FILE ANCHORS`
+#[tactic(auto, unfolding(crate::specs::CommandLine::check_fork))]
+pub(crate) fn check_fork(alloc: Global, mut words: Words<'_>) -> Result<Command, Stop>
+    ensures { Makes (forms.check_fork (map string_bytes words.entry.left.now)) result }
+{
+    let file = words.path()?;
+    let anchors = words.path()?;
+    words.end()?;
+    let file = FilePath::new(alloc, file)?;
+    let anchors = FilePath::new(alloc, anchors)?;
+    Ok(Command::CheckFork { file, anchors })
+}

@@ -1,0 +1,72 @@
+// Reading the words of the command line.
+
+ghost use Rattle.std.specs.Prelude.{◌≡◌, map, IfNone, IfSome, IsErrAnd, MatchResult};
+ghost use Rattle.std.specs.String.{string_bytes};
+ghost use Rattle.tw_words.specs.CommandLine.{IsBadWord, command_of, commands};
+ghost use Rattle.tw_words.specs.Forms.{choose};
+ghost use Rattle.tw_words.specs.Takings.{Makes};
+
+use crate::command::Command;
+use crate::cursor::{Stop, Words};
+use crate::file_forms::{audit, check_map, generate, join, replay, show, strict, verify};
+use crate::reach_forms::{accuse, atlas, check_fork};
+use crate::store_forms::{append, export, init, map, prove, receive, thread};
+use std::alloc::Global;
+
+/// Why words are no command.
+#[derive(Clone, Copy, PartialEq, Eq, Debug, Drop)]
+pub enum WordFault {
+    /// No form of the command line goes on at this word, counted from 1. It is one more than there
+    /// are words where words are missing.
+    BadWord { number: u64 },
+    /// There was no memory for the command.
+    NoMemory,
+}
+
+/// The command that the words have a form of. NoMemory never comes where they have none.
+pub fn read_words(alloc: Global, words: &[String]) -> Result<Command, WordFault>
+    // Words that have a form are the command of that form.
+    ensures form { IfSome (command_of (map string_bytes words.now)) (λ command. MatchResult result (λ c. c ≡ command) (λ e. e ≡ WordFault.NoMemory)) }
+    // Of words that have none the fault names the first word at which no form goes on.
+    ensures no_form { IfNone (command_of (map string_bytes words.now)) (IsErrAnd result (IsBadWord (map string_bytes words.now))) }
+{
+    match command(alloc, Words { left: words }) {
+        Ok(command) => Ok(command),
+        Err(Stop::NoMemory) => Err(WordFault::NoMemory),
+        Err(Stop::At { left }) => Err(WordFault::BadWord {
+            number: (words.len() - left) as u64 + 1,
+        }),
+    }
+}
+
+/// The command of the form that the first word names.
+#[tactic(auto, unfolding(crate::specs::Forms::next))]
+fn command(alloc: Global, words: Words<'_>) -> Result<Command, Stop>
+    ensures { Makes (choose commands (map string_bytes words.entry.left.now)) result }
+{
+    let Some((word, left)) = words.left.split_first() else {
+        return Err(words.stop());
+    };
+    let behind = Words { left };
+    match word.as_str() {
+        "init" => init(behind),
+        "append" => append(alloc, behind),
+        "thread" => thread(behind),
+        "receive" => receive(alloc, behind),
+        "prove" => prove(behind),
+        "map" => map(behind),
+        "export" => export(behind),
+        "show" => show(alloc, behind),
+        "join" => join(alloc, behind),
+        "verify" => verify(alloc, behind),
+        "strict" => strict(alloc, behind),
+        "checkmap" => check_map(alloc, behind),
+        "audit" => audit(alloc, behind),
+        "atlas" => atlas(alloc, behind),
+        "accuse" => accuse(alloc, behind),
+        "checkfork" => check_fork(alloc, behind),
+        "replay" => replay(alloc, behind),
+        "generate" => generate(behind),
+        _ => Err(words.stop()),
+    }
+}
