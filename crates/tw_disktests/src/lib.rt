@@ -18,11 +18,7 @@ mod folders;
 #[cfg(test)]
 mod runs;
 #[cfg(test)]
-mod services;
-#[cfg(test)]
 mod showing;
-#[cfg(test)]
-mod skip_lists;
 #[cfg(test)]
 mod stores;
 #[cfg(test)]

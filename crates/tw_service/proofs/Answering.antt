@@ -1,18 +1,20 @@
 -- From the answers of a call to steps of the machine.
 use Rattle.std.proofs.Common.{◌≡◌, ◌⊎◌, ℕ, ◌<◌, List, length, refl, ap, sym, ◌∙◌, subst, inl, inr, Bool, true, false}
-use Rattle.std.specs.Prelude.{IfOk, Ok, Option, Some, None, Result, Err, MatchOption, if◌then◌else◌, nat_le, nat_lt}
+use Rattle.std.specs.Prelude.{IfOk, Ok, Option, Some, None, Result, Err, MatchOption, if◌then◌else◌, nat_le, nat_lt, ◌&&◌}
 use Rattle.std.proofs.lemmas.Bool.{lt-ltb}
-use Rattle.tw_base.specs.history.History.{History, events_at, with_events}
-use Rattle.tw_skipproof.specs.HistoryProofs.{MakesExistence}
+use Rattle.tw_base.specs.history.History.{History, events_at}
+use Rattle.tw_skipproof.specs.HistoryProofs.{IsPathOf, MakesExistence}
+use Rattle.tw_skipproof.specs.declared.path.Path.{Path}
 use Rattle.tw_base.specs.declared.history.thread.Thread.{Thread}
 use Rattle.tw_base.specs.declared.kinds.limits.TheConstants.{LAST_STEP, MOST_EVENTS, MOST_STEP_BYTES}
 use Rattle.tw_service.specs.Refusals.{IsBadPage, IsFault, IsNoEvent}
-use Rattle.tw_service.specs.Limits.{append_refusal, bytes_of, event_refusal, first_long, is_in_order, length_refusal, limits_refusal, or_else, order_refusal, proof_refusal}
-use Rattle.tw_service.specs.Machine.{Answers, Call, IsStepOf, Reply, last_thread}
-use Rattle.tw_service.specs.Machine.Call.{Append, ProveEvent}
-use Rattle.tw_service.specs.Machine.Reply.{OfProof, OfThread, Refused}
+use Rattle.tw_service.specs.EventSteps.{with_events}
+use Rattle.tw_service.specs.Limits.{append_refusal, bytes_of, clock_refusal, event_refusal, first_long, full_refusal, is_in_order, length_refusal, limits_refusal, link_refusal, or_else, order_refusal, proof_refusal, thread_refusal}
+use Rattle.tw_service.specs.Machine.{Answers, Call, IsStepOf, MakesLink, Reply, append_table, last_thread}
+use Rattle.tw_service.specs.Machine.Call.{Append, ProveEvent, ProveLink, TellThread}
+use Rattle.tw_service.specs.Machine.Reply.{OfPath, OfProof, OfThread, Refused}
 use Rattle.tw_service.specs.declared.refusal.Refusal.{Refusal}
-use Rattle.tw_service.specs.declared.refusal.Refusal.TheVariants.{NoStep, NoEvent, TooMany, TooLong, Full, BadPage, DiskFault, Reopen, NoMemory}
+use Rattle.tw_service.specs.declared.refusal.Refusal.TheVariants.{NoStep, NoEvent, TooMany, TooLong, Full, ClockBack, BadPage, DiskFault, Reopen, NoMemory}
 
 -- ---- refusals of the tables are no faults
 
@@ -46,20 +48,33 @@ lengths_told : (o : Option (List ℕ)) (bytes : ℕ) → Of IsTold (length_refus
 lengths_told (Some event) bytes = is_told_length (length event)
 lengths_told None bytes = of_if IsTold (nat_lt MOST_STEP_BYTES bytes) (Some (TooLong bytes)) None (is_told_length bytes) tt
 
-pub append_told : (steps : ℕ) (events : List (List ℕ)) → Of IsTold (append_refusal false steps events)
+of_or : (P : Refusal → Type 0) (o q : Option Refusal) → Of P o → Of P q → Of P (or_else o q)
+of_or P None q one other = other
+of_or P (Some r) q one other = one
+
+clock_told : (clock time : Option ℕ) → Of IsTold (clock_refusal clock time)
+clock_told (Some last) (Some given) = of_if IsTold (nat_lt given last) (Some (ClockBack last given)) None ((λ is. is), (λ is. cc)) tt
+clock_told (Some last) None = tt
+clock_told None time = tt
+
+pub append_told : (steps : ℕ) (clock : Option ℕ) (events : List (List ℕ)) (time : Option ℕ) → Of IsTold (append_refusal false steps clock events time)
 unfolding append_refusal limits_refusal
-append_told steps events =
-    of_if IsTold (nat_le LAST_STEP steps) (Some Full) (limits_refusal events) ((λ is. is), (λ is. cc))
+append_told steps clock events time =
+    of_or IsTold (full_refusal steps) _ (of_if IsTold (nat_le LAST_STEP steps) (Some Full) None ((λ is. is), (λ is. cc)) tt)
+    (of_or IsTold (limits_refusal events) _
     (of_if IsTold (nat_lt MOST_EVENTS (length events)) (Some (TooMany (length events))) (length_refusal (first_long events) (bytes_of events)) (is_told_count (length events)) (lengths_told (first_long events) (bytes_of events)))
+    (clock_told clock time))
 
 of_weaker : (P Q : Refusal → Type 0) → ((r : Refusal) → P r → Q r) → (o : Option Refusal) → Of P o → Of Q o
 of_weaker P Q step None all = tt
 of_weaker P Q step (Some r) all = step r all
 
-pub append_no_fault : (broken : Bool) (steps : ℕ) (events : List (List ℕ)) → Of NoFault (append_refusal broken steps events)
+-- ---- the tables after a disk fault
+
+pub append_no_fault : (broken : Bool) (steps : ℕ) (clock : Option ℕ) (events : List (List ℕ)) (time : Option ℕ) → Of NoFault (append_refusal broken steps clock events time)
 unfolding append_refusal
-append_no_fault true steps events = λ is. is
-append_no_fault false steps events = of_weaker IsTold NoFault (λ r is. is.0) _ (append_told steps events)
+append_no_fault true steps clock events time = λ is. is
+append_no_fault false steps clock events time = of_weaker IsTold NoFault (λ r is. is.0) _ (append_told steps clock events time)
 
 pub order_told : (last step top : ℕ) → Of IsTold (order_refusal false last step top)
 unfolding order_refusal
@@ -69,6 +84,24 @@ pub order_no_fault : (broken : Bool) (last step top : ℕ) → Of NoFault (order
 unfolding order_refusal
 order_no_fault true last step top = λ is. is
 order_no_fault false last step top = of_weaker IsTold NoFault (λ r is. is.0) _ (order_told last step top)
+
+pub thread_told : (last since : ℕ) → Of IsTold (thread_refusal false last since)
+unfolding thread_refusal
+thread_told last since = of_if IsTold (nat_lt 0 last && nat_le since last) None (Some (NoStep last)) tt ((λ is. is), (λ is. cc))
+
+pub thread_no_fault : (broken : Bool) (last since : ℕ) → Of NoFault (thread_refusal broken last since)
+unfolding thread_refusal
+thread_no_fault true last since = λ is. is
+thread_no_fault false last since = of_weaker IsTold NoFault (λ r is. is.0) _ (thread_told last since)
+
+pub link_told : (last step top : ℕ) → Of IsTold (link_refusal false last step top)
+unfolding link_refusal
+link_told last step top = of_if IsTold (nat_le step top && (nat_le 1 top && nat_le top last)) None (Some (NoStep last)) tt ((λ is. is), (λ is. cc))
+
+pub link_no_fault : (broken : Bool) (last step top : ℕ) → Of NoFault (link_refusal broken last step top)
+unfolding link_refusal
+link_no_fault true last step top = λ is. is
+link_no_fault false last step top = of_weaker IsTold NoFault (λ r is. is.0) _ (link_told last step top)
 
 -- ---- a bad page and a disk fault are faults
 
@@ -101,14 +134,33 @@ module _ (dig : List ℕ → List ℕ) {T : Type 0} (h : History) (call : Call) 
 
 -- ---- adding a step
 
-module _ (dig : List ℕ → List ℕ) (h : History) (events : List (List ℕ)) where
-  pub append_refused : (r : Refusal) → Some r ≡ append_refusal false (length h.steps) events → IsStepOf dig h (Append events) (Refused r) h
-  append_refused r is = subst (λ o. MatchOption o ((h ≡ with_events h events) × (Refused r ≡ OfThread (last_thread dig h))) (λ refusal. (h ≡ h) × (Refused r ≡ Refused refusal))) is (refl, refl)
+module _ (dig : List ℕ → List ℕ) (h : History) (events : List (List ℕ)) (time : Option ℕ) where
+  pub append_refused : (r : Refusal) → Some r ≡ append_table h events time → IsStepOf dig h (Append events time) (Refused r) h
+  append_refused r is = subst (λ o. MatchOption o ((h ≡ with_events h events time) × (Refused r ≡ OfThread (last_thread dig h))) (λ refusal. (h ≡ h) × (Refused r ≡ Refused refusal))) is (refl, refl)
 
-  pub append_done : (t : Thread) → None ≡ append_refusal false (length h.steps) events → t ≡ last_thread dig (with_events h events) → IsStepOf dig h (Append events) (OfThread t) (with_events h events)
+  pub append_done : (t : Thread) → None ≡ append_table h events time → t ≡ last_thread dig (with_events h events time) → IsStepOf dig h (Append events time) (OfThread t) (with_events h events time)
   append_done t is same =
-      subst (λ o. MatchOption o ((with_events h events ≡ with_events h events) × (OfThread t ≡ OfThread (last_thread dig (with_events h events)))) (λ refusal. (with_events h events ≡ h) × (OfThread t ≡ Refused refusal))) is
+      subst (λ o. MatchOption o ((with_events h events time ≡ with_events h events time) × (OfThread t ≡ OfThread (last_thread dig (with_events h events time)))) (λ refusal. (with_events h events time ≡ h) × (OfThread t ≡ Refused refusal))) is
       (refl, ap OfThread same)
+
+-- ---- telling the last step, and the authenticator of a step
+
+module _ (dig : List ℕ → List ℕ) (h : History) where
+  pub thread_refused : (since : ℕ) (r : Refusal) → Some r ≡ thread_refusal false (length h.steps) since → IsStepOf dig h (TellThread since) (Refused r) h
+  thread_refused since r is =
+      (refl, subst (λ o. MatchOption o ((path : Path) × IsPathOf dig h path.links (length h.steps) since × (Refused r ≡ OfPath path)) (λ refusal. Refused r ≡ Refused refusal)) is refl)
+
+  pub thread_told_so : (since : ℕ) (path : Path) → None ≡ thread_refusal false (length h.steps) since → IsPathOf dig h path.links (length h.steps) since → IsStepOf dig h (TellThread since) (OfPath path) h
+  thread_told_so since path is own =
+      (refl, subst (λ o. MatchOption o ((p : Path) × IsPathOf dig h p.links (length h.steps) since × (OfPath path ≡ OfPath p)) (λ refusal. OfPath path ≡ Refused refusal)) is (path, own, refl))
+
+  pub link_refused : (step top : ℕ) (r : Refusal) → Some r ≡ link_refusal false (length h.steps) step top → IsStepOf dig h (ProveLink step top) (Refused r) h
+  link_refused step top r is =
+      (refl, subst (λ o. MatchOption o ((bytes : List ℕ) × MakesLink dig h step top bytes × (Refused r ≡ OfProof bytes)) (λ refusal. Refused r ≡ Refused refusal)) is refl)
+
+  pub link_made : (step top : ℕ) (bytes : List ℕ) → None ≡ link_refusal false (length h.steps) step top → MakesLink dig h step top bytes → IsStepOf dig h (ProveLink step top) (OfProof bytes) h
+  link_made step top bytes is own =
+      (refl, subst (λ o. MatchOption o ((bs : List ℕ) × MakesLink dig h step top bs × (OfProof bytes ≡ OfProof bs)) (λ refusal. OfProof bytes ≡ Refused refusal)) is (bytes, own, refl))
 
 -- ---- proving an event
 

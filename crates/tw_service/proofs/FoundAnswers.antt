@@ -93,3 +93,12 @@ module _ {X : Type 0} where
   no_event_found NoMemory found n is there of = ((λ bad. bad), (λ none. absurd none))
   no_event_found _ found n is there (inl fault) = absurd fault
   no_event_found _ found n is there (inr none) = absurd none
+
+-- a disk fault tells of the disk
+pub of_disk_fault : (r : Refusal) → r ≡ DiskFault → is_of_disk (refusals r) ≡ true
+of_disk_fault r is = ap (λ (q : Refusal). is_of_disk (refusals q)) is
+
+-- no page is bad where a value is found
+pub no_bad_found : {X : Type 0} (refusal : Refusal) (found : Found (Result X Refusal)) (x : X) → found ≡ Is (Ok x) → IsRefusalOf refusal found → IsBadPage refusal → ⊥
+no_bad_found {X} (BadPage page) found x is there bad = (let both : ◌≡◌ {A = Found (Result X Refusal)} (Is (Ok x)) (Bad page) = sym is ∙ there in absurd cc)
+no_bad_found _ found x is there bad = bad

@@ -3,9 +3,9 @@ use Rattle.std.proofs.Common.{◌≡◌, ◌⊎◌, ℕ, ◌+◌, ◌^◌, ◌<�
 use Rattle.std.specs.Prelude.{Option, Some, None, Result, Ok, Err, if◌then◌else◌, false}
 use Rattle.std.proofs.lemmas.Bool.{cases_lt, le-ltb}
 use Rattle.tw_base.specs.declared.kinds.limits.TheConstants.{LAST_STEP}
-use Rattle.tw_base.specs.declared.history.root.Root.{Root}
-use Rattle.tw_base.specs.history.History.{History, events_at, with_events}
-use Rattle.tw_base.specs.history.Limits.{MayRecord}
+use Rattle.tw_base.specs.declared.history.content.Content.TheVariants.{Events}
+use Rattle.tw_base.specs.history.History.{History, events_at}
+use Rattle.tw_base.specs.history.Limits.{IsTimeWithinLimits, MayRecord}
 use Rattle.tw_base.specs.history.Sound.{IsSound}
 use Rattle.tw_base.proofs.lemmas.kinds.DigestBytes.{IsDigest}
 use Rattle.tw_disk.specs.Image.{Image}
@@ -20,34 +20,95 @@ use Rattle.tw_skiplist.specs.Events.{events_of_info}
 use Rattle.tw_disk.specs.Found.{Found, ◌>>=◌}
 use Rattle.tw_disk.specs.Found.Found.{Is}
 use Rattle.tw_skiplist.specs.Infos.{IsInfoOf}
-use Rattle.tw_skiplist.specs.Keeping.{Keeps, archive_at}
-use Rattle.tw_skiplist.specs.Readings.{found_proof}
+use Rattle.tw_skiplist.specs.Keeping.{Keeps}
+use Rattle.tw_skiplist.specs.Readings.{found_link, found_path, found_proof}
 use Rattle.tw_disk.proofs.FoundLaws.{is_on, same_found}
-use Rattle.tw_skiplist.proofs.KeptAppended.{grown}
 use Rattle.tw_skiplist.proofs.KeptEvents.{events_are}
-use Rattle.tw_skiplist.proofs.KeptReadings.{proof_found}
+use Rattle.tw_skiplist.proofs.KeptReadings.{link_found, path_found, proof_found}
 use Rattle.tw_service.specs.declared.refusal.Refusal.{Refusal}
 use Rattle.tw_service.specs.declared.refusal.Refusal.TheVariants.{NoEvent}
-use Rattle.tw_service.specs.Finds.{IsRefusalOf, event_proof, found_thread, part_of, proof_bytes, thread_at, unless}
+use Rattle.tw_service.specs.Finds.{IsRefusalOf, event_proof, found_thread, link_of, link_proof, part_of, path_down, proof_bytes, thread_at, unless}
 use Rattle.tw_service.specs.Limits.{append_refusal, event_refusal}
-use Rattle.tw_service.specs.Machine.{last_thread}
+use Rattle.tw_service.specs.Machine.{MakesLink, last_thread}
 use Rattle.tw_service.specs.Refusals.{IsBadPage, IsFault, IsNoEvent}
+use Rattle.tw_chain.specs.declared.proof.LinkProof.{LinkProof}
+use Rattle.tw_chain.specs.declared.proof.Proof.TheVariants.{Linked}
+use Rattle.tw_chain.specs.OwnProofs.{IsLinkProofOf}
+use Rattle.tw_chain.specs.Proofs.{proof_bytes as bytes_of_proof}
+use Rattle.tw_chain.proofs.OwnSpelling.{own-spelled}
+use Rattle.tw_skipproof.specs.declared.path.Path.{Path}
+use Rattle.tw_service.specs.declared.root.RootRecord.{RootRecord}
+use Rattle.tw_service.specs.EventSteps.{with_events}
+use Rattle.tw_service.specs.Stands.{KeepsWhole}
+use Rattle.tw_service.proofs.Serving.{added_whole}
 use Rattle.tw_service.proofs.Answering.{has_event}
-use Rattle.tw_service.proofs.FoundAnswers.{no_event_found, value_found}
+use Rattle.tw_service.proofs.FoundAnswers.{no_bad_found, no_event_found, value_found}
 
 -- ---- the thread of the next step
 
-pub kept_thread : (dig : List ℕ → List ℕ) (size : (text : List ℕ) → IsDigest (dig text)) (ps : Image) (h : History) (head : Head) (events : List (List ℕ)) → Keeps dig ps h head → 4 + length ps < 2 ^ 47
-    → MayRecord events → append_refusal false head.step events ≡ None → head.step < LAST_STEP
-    → found_thread dig ps h.name head false events (archive_at dig h (length h.steps)) ≡ Is (Ok (last_thread dig (with_events h events)))
+pub kept_thread : (dig : List ℕ → List ℕ) (size : (text : List ℕ) → IsDigest (dig text)) (ps : Image) (h : History) (r : RootRecord) (events : List (List ℕ)) (time : Option ℕ) → KeepsWhole dig ps h r → 4 + length ps < 2 ^ 47
+    → MayRecord events → IsTimeWithinLimits time → append_refusal false r.head.step r.time events time ≡ None → r.head.step < LAST_STEP
+    → found_thread dig ps h.name r.head false r.time events time r.archive ≡ Is (Ok (last_thread dig (with_events h events time)))
 unfolding found_thread
-kept_thread dig size ps h head events keeps room limits none short =
-    let archive : Root = archive_at dig h (length h.steps) in
-    let more = grown dig size ps h head keeps events archive short limits room in
-    let new = more.keeps refl in
-    ap (λ (o : Option Refusal). unless o (appended dig ps head events archive >>= (λ next. Is (Ok (thread_at h.name next.value))))) none
-    ∙ is_on (appended dig ps head events archive) (λ next. Is (Ok (thread_at h.name next.value))) _ more.is
+kept_thread dig size ps h r events time whole room limits within none short =
+    let added = added_whole dig size ps h r whole events time short limits within room in
+    let new = added.keeps.steps in
+    ap (λ (o : Option Refusal). unless o (appended dig ps r.head (Events events) r.archive time >>= (λ next. Is (Ok (thread_at h.name next.value))))) none
+    ∙ is_on (appended dig ps r.head (Events events) r.archive time) (λ next. Is (Ok (thread_at h.name next.value))) _ added.is
     ∙ (λ j. Is (Ok (record { from = h.name; step = new.step j; auth = new.auth j })))
+
+-- ---- the last step, and the authenticator of a step
+
+pub kept_path : (dig : List ℕ → List ℕ) (size : (text : List ℕ) → IsDigest (dig text)) (ps : Image) (h : History) (head : Head) (since : ℕ) → Keeps dig ps h head → since ≤ head.step
+    → (path : Path) × (path_down dig ps head since ≡ Is (Ok path)) × IsPathOf dig h path.links (length h.steps) since
+unfolding path_down
+kept_path dig size ps h head since keeps order =
+    let told = path_found dig size ps h head keeps head.step since order (omega arith) in
+    (told.0, is_on (found_path dig ps head head.step since) (λ path. Is (Ok path)) told.0 told.1, subst (λ (n : ℕ). IsPathOf dig h told.0.links n since) keeps.step told.2)
+
+pub kept_link : (dig : List ℕ → List ℕ) (size : (text : List ℕ) → IsDigest (dig text)) (ps : Image) (h : History) (head : Head) (step top : ℕ) → Keeps dig ps h head → IsSound h → step ≤ top → 1 ≤ top → top ≤ head.step
+    → (bytes : List ℕ) × (link_proof dig ps h.name head step top ≡ Is (Ok bytes)) × MakesLink dig h step top bytes
+unfolding link_proof
+kept_link dig size ps h head step top keeps sound order some below =
+    let told = link_found dig size ps h head keeps top step order below in
+    let made : LinkProof = link_of h.name step top told.0 in
+    let own : IsLinkProofOf dig h step top made = record { service = refl; at_step = refl; at_top = refl; given = told.3; path = told.2 } in (
+      bytes_of_proof (Linked made),
+      is_on (found_link dig ps head top step) (λ link. Is (Ok (bytes_of_proof (Linked (link_of h.name step top link))))) told.0 told.1,
+      (made, own-spelled dig h step top (λ t. (size t).0) (λ t. (size t).1) sound order (omega (arith, below, keeps.step)) (Linked made) some tt own, own),
+    )
+
+-- what is found of a path is the history's, and no page is bad
+module _ (dig : List ℕ → List ℕ) (size : (text : List ℕ) → IsDigest (dig text)) (ps : Image) (h : History) (head : Head) (since : ℕ) (keeps : Keeps dig ps h head) (order : since ≤ head.step) where
+  same_path : (x y : Path) → ◌≡◌ {A = Result Path Refusal} (Ok x) (Ok y) → x ≡ y
+  same_path x y e = cc
+
+  pub path_answer : (path : Path) → path_down dig ps head since ≡ Is (Ok path) → IsPathOf dig h path.links (length h.steps) since
+  path_answer path is =
+      let own = kept_path dig size ps h head since keeps order in
+      subst (λ (p : Path). IsPathOf dig h p.links (length h.steps) since) (same_path own.0 path (same_found (Ok own.0) (Ok path) (sym own.1 ∙ is))) own.2
+
+  pub path_good : (refusal : Refusal) → IsRefusalOf refusal (path_down dig ps head since) → IsBadPage refusal → ⊥
+  path_good refusal is = let own = kept_path dig size ps h head since keeps order in no_bad_found refusal (path_down dig ps head since) own.0 own.1 is
+
+-- what is found of an authenticator too
+module _ (dig : List ℕ → List ℕ) (size : (text : List ℕ) → IsDigest (dig text)) (ps : Image) (h : History) (head : Head) (keeps : Keeps dig ps h head) (sound : IsSound h) (name : List ℕ) (named : h.name ≡ name)
+    (step top : ℕ) (order : step ≤ top) (some : 1 ≤ top) (below : top ≤ head.step) where
+  same_bytes : (x y : List ℕ) → ◌≡◌ {A = Result (List ℕ) Refusal} (Ok x) (Ok y) → x ≡ y
+  same_bytes x y e = cc
+
+  own_link : (bytes : List ℕ) × (link_proof dig ps name head step top ≡ Is (Ok bytes)) × MakesLink dig h step top bytes
+  own_link =
+      let own = kept_link dig size ps h head step top keeps sound order some below in
+      (own.0, ap (λ (n : List ℕ). link_proof dig ps n head step top) (sym named) ∙ own.1, own.2)
+
+  pub link_answer : (bytes : List ℕ) → link_proof dig ps name head step top ≡ Is (Ok bytes) → MakesLink dig h step top bytes
+  link_answer bytes is =
+      let own = own_link in
+      subst (MakesLink dig h step top) (same_bytes own.0 bytes (same_found (Ok own.0) (Ok bytes) (sym own.1 ∙ is))) own.2
+
+  pub link_good : (refusal : Refusal) → IsRefusalOf refusal (link_proof dig ps name head step top) → IsBadPage refusal → ⊥
+  link_good refusal is = let own = own_link in no_bad_found refusal (link_proof dig ps name head step top) own.0 own.1 is
 
 -- ---- an event of a step
 
@@ -63,7 +124,7 @@ module _ (dig : List ℕ → List ℕ) (size : (text : List ℕ) → IsDigest (d
   abbrev whole : Found (Result (List ℕ) Refusal)
   whole = event_proof dig ps name head step index top
 
-  told : (proof : StepProof) × (found_proof dig ps head top step ≡ Is proof) × IsPathOf dig h proof.path.links top step × IsInfoOf dig ps h step proof.info
+  told : (proof : StepProof) × (found_proof dig ps head top step ≡ Is proof) × IsPathOf dig h proof.path.links top step × IsInfoOf dig ps h keeps.places step proof.info
   told = proof_found dig size ps h head keeps top step some order below
 
   abbrev read : StepProof → Found (Result (List ℕ) Refusal)
@@ -92,7 +153,7 @@ module _ (dig : List ℕ → List ℕ) (size : (text : List ℕ) → IsDigest (d
       record {
         bytes = proof_bytes dig name top index told.0 events;
         is = whole_is None (has_event (length events) index l)
-            ∙ is_on (events_of_info ps told.0.info) (λ es. Is (Ok (proof_bytes dig name top index told.0 es))) events (events_are dig ps h step told.0.info told.3);
+            ∙ is_on (events_of_info ps told.0.info) (λ es. Is (Ok (proof_bytes dig name top index told.0 es))) events (events_are dig ps h keeps.places step told.0.info told.3);
         makes = (
           made,
           spelled-made dig h step index top made existence (λ t. (size t).0) (λ t. (size t).1) sound order (omega (arith, below, keeps.step)),

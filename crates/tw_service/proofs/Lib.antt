@@ -1,7 +1,9 @@
 pub mod EventLimits
 pub mod EventHistories
+pub mod GreatestTimes
 pub mod RootLaws
 pub mod Answering
+pub mod Asked
 pub mod Beginning
 pub mod Counted
 pub mod Opened

@@ -15,11 +15,10 @@ use Rattle.tw_pages.specs.declared.store.Store.{Store}
 use Rattle.tw_pages.proofs.Once.{opens_once}
 use Rattle.tw_pages.proofs.NotRefused.{not_refused}
 use Rattle.tw_pages.proofs.StillKept.{kept_opens}
-use Rattle.tw_skiplist.specs.Keeping.{Keeps}
 use Rattle.tw_service.specs.declared.root.RootRecord.{RootRecord}
 use Rattle.tw_service.specs.Keeps.{KeepsHistory}
 use Rattle.tw_service.specs.Roots.{IsAllowed, root_bytes}
-use Rattle.tw_service.specs.Stands.{HasRoot, IsNotOpenedFor, OpensWith, StandsFor, TellsArchive}
+use Rattle.tw_service.specs.Stands.{HasRoot, IsNotOpenedFor, KeepsWhole, OpensWith, StandsFor}
 use Rattle.tw_service.proofs.RootLaws.{root_once}
 
 module _ {D : Type 0} {g : _} (view : D → DiskView) (dig : List ℕ → List ℕ)
@@ -78,14 +77,13 @@ module _ {D : Type 0} {g : _} (view : D → DiskView) (dig : List ℕ → List �
         let same = opens_once stands.opening here c stands.opens opens in
         let theirs = subst (λ o. HasRoot o stands.root) same stands.has in
         let one : stands.root ≡ r = root_once (used_of here) store.generation here.root stands.root r theirs.bytes theirs.allowed has_root.bytes has_root.allowed in
-        let keeps = subst (λ (x : RootRecord). Keeps dig here.pages h x.head) one (subst (λ (o : Opening). Keeps dig o.pages h stands.root.head) same stands.keeps) in
+        let keeps = subst (λ (x : RootRecord). KeepsWhole dig here.pages h x) one (subst (λ (o : Opening). KeepsWhole dig o.pages h stands.root) same stands.keeps) in
         let now : KeepsHistory dig store r h c = record {
           sound = stands.sound;
           named = stands.named ∙ sym stands.of_name ∙ ap (λ (x : RootRecord). x.name) one;
           kept = kept;
           clean = clean;
           has = has_root;
-          tells = subst (λ (x : RootRecord). TellsArchive dig h x) one stands.tells;
           keeps = keeps;
         } in
         record { image = at.image; told = at.told; only = at.only; has = subst (λ (i : Image). KeepsHistory dig store r h i) (sym at.has.0) now }

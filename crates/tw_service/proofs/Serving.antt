@@ -1,20 +1,23 @@
 -- From what a store says of its images to what they stand for.
-use Rattle.std.proofs.Common.{◌≡◌, ℕ, suc, ◌+◌, ◌*◌, ◌^◌, ◌<◌, ◌≤◌, List, [], ◌∷◌, ◌++◌, length, refl, ap, sym, ◌∙◌, arith, subst, inl, inr, ⊎_elim, Bool}
-use Rattle.std.specs.Prelude.{Option, Some}
+use Rattle.std.proofs.Common.{◌≡◌, ℕ, suc, zero, ◌+◌, ◌*◌, ◌^◌, ◌<◌, ◌≤◌, List, [], ◌∷◌, ◌++◌, length, refl, ap, sym, ◌∙◌, arith, subst, inl, inr, ⊎_elim, Bool}
+use Rattle.std.specs.Prelude.{IfSome, Option, Some, None, is_some}
 use Rattle.std.specs.Option.{option_map}
-use Rattle.std.proofs.lemmas.List.{append-nil, length_push}
+use Rattle.std.proofs.lemmas.Bool.{cases_lt}
+use Rattle.std.proofs.lemmas.List.{append-nil}
 use Rattle.tw_disk.specs.Image.{Image}
 use Rattle.tw_disk.specs.Disk.{DiskView, IsAtRest, LeavesOnly, Reads}
 use Rattle.tw_disk.proofs.Moments.{goes_on, leaves_weaker}
 use Rattle.tw_base.specs.declared.kinds.limits.TheConstants.{LAST_STEP}
 use Rattle.tw_base.specs.declared.history.root.Root.{Root}
 use Rattle.tw_base.specs.history.Auth.{tree_label}
-use Rattle.tw_base.specs.history.History.{History, received, root_of, step_at, with_events}
+use Rattle.tw_base.specs.history.History.{History, Step, plus, received, root_of, step_at}
+use Rattle.tw_base.specs.history.Sound.{IsSound}
 use Rattle.tw_base.specs.kinds.Names.{IsName}
 use Rattle.tw_base.proofs.lemmas.kinds.DigestBytes.{IsDigest, auth-digest, tree_label-digest}
-use Rattle.tw_base.specs.history.Tree.{tree}
+use Rattle.tw_base.specs.history.Tree.{Tree, tree}
+use Rattle.tw_base.specs.declared.history.content.Content.TheVariants.{Events}
 use Rattle.tw_pages.specs.StoreValue.{IsKept, disk_of, next_opening, opening_of, staged_of}
-use Rattle.tw_pages.specs.Same.{IsSameStore, count_of, pages_of}
+use Rattle.tw_pages.specs.Same.{IsSameStore, count_of, list_of, pages_of}
 use Rattle.tw_pages.specs.Store.{IsAbove, Opening, OpensAs, OpensAsEither, used_of}
 use Rattle.tw_pages.specs.declared.store.Store.{Store}
 use Rattle.tw_pages.proofs.StillKept.{kept_opens, same_leaves as store_leaves, same_opens}
@@ -22,42 +25,102 @@ use Rattle.tw_skiplist.specs.declared.head.Head.{Head}
 use Rattle.tw_disk.specs.Answers.{Next}
 use Rattle.tw_skiplist.specs.Appended.{appended}
 use Rattle.tw_disk.specs.Found.Found.{Is}
-use Rattle.tw_skiplist.specs.Keeping.{Keeps, archive_at, event_step}
-use Rattle.tw_skiplist.proofs.EventHistories.{same_tree}
+use Rattle.tw_skiplist.specs.Keeping.{GoOn, Keeps, Place, archive_at, place_of}
 use Rattle.tw_disk.proofs.FoundLaws.{same_found}
 use Rattle.tw_skiplist.proofs.Growing.{head_page}
 use Rattle.tw_skiplist.proofs.KeptAppended.{grown}
-use Rattle.tw_base.specs.history.Limits.{MayRecord}
+use Rattle.tw_base.specs.history.Limits.{IsTimeWithinLimits, MayRecord}
 use Rattle.tw_service.specs.declared.limits.TheConstants.{MOST_PAGES_OF_A_STEP}
 use Rattle.tw_service.specs.declared.root.RootRecord.{RootRecord}
+use Rattle.tw_service.specs.EventSteps.{event_step, with_events}
 use Rattle.tw_service.specs.Keeps.{KeepsHistory}
+use Rattle.tw_service.specs.Limits.{clock_refusal}
+use Rattle.tw_service.specs.NextRecords.{event_record}
 use Rattle.tw_service.specs.Roots.{FitsStore, root_bytes}
-use Rattle.tw_service.specs.Stands.{HasRoot, StandsFor, StandsForOneOf, TellsArchive}
-use Rattle.tw_service.proofs.RootLaws.{root-fits, root-name}
-use Rattle.tw_service.proofs.EventHistories.{same_received, sound_kept}
+use Rattle.tw_service.specs.Stands.{HasRoot, KeepsWhole, StandsFor, StandsForOneOf, greater}
+use Rattle.tw_service.proofs.RootLaws.{root-fits, root-name, root-time}
+use Rattle.tw_service.proofs.EventHistories.{longer-length, longer-time, only_plus, same_received, same_tree, sound_plus}
+use Rattle.tw_service.proofs.GreatestTimes.{greater-within}
 
 no_items : (pages : Image) → length pages ≡ 0 → pages ≡ []
 no_items [] none = refl
 no_items (page ∷ pages) none = absurd (omega (arith, none))
 
--- the pages told now are the earlier ones and more, and keep the longer history under the new head
-pub record Added (dig : List ℕ → List ℕ) (before : Image) (longer : History) (now : Option Image) (new : Head) : Type 0 where
+-- the pages told now are the earlier ones and more, and keep the longer history whole under the next record
+pub record Added (dig : List ℕ → List ℕ) (before : Image) (longer : History) (now : Option Image) (next : RootRecord) : Type 0 where
   pub more : Image
   pub told : now ≡ Some (before ++ more)
-  pub keeps : Keeps dig (before ++ more) longer new
+  pub keeps : KeepsWhole dig (before ++ more) longer next
 
--- where the step that was found was put, and the pages kept a history
-pub added_to : (dig : List ℕ → List ℕ) (size : (text : List ℕ) → IsDigest (dig text)) (ps : Image) (h : History) (head : Head) (events : List (List ℕ)) (archive : Root) (now : Option Image) (new : Head)
-    → Keeps dig ps h head → archive ≡ archive_at dig h (length h.steps) → head.step < LAST_STEP → MayRecord events → 4 + length ps < 2 ^ 47
-    → (pages : Image) → now ≡ Some pages → appended dig ps head events archive ≡ Is (record { pages = pages; value = new }) → Added dig ps (with_events h events) now new
-added_to dig size ps h head events archive now new keeps archived short limits room pages told is =
-    let own = grown dig size ps h head keeps events archive short limits room in
+-- ---- one more step of a history that the pages keep whole
+
+module _ (dig : List ℕ → List ℕ) (ps : Image) (h : History) (r : RootRecord) (whole : KeepsWhole dig ps h r) where
+  abbrev places : List Place
+  places = whole.steps.places
+
+  -- no step has an archive's page
+  no_page_at : (i : ℕ) → i ≤ length h.steps → (place_of places i).archive ≡ 0
+  no_page_at zero l = ap (λ (p : Place). p.archive) whole.steps.keeps.nowhere
+  no_page_at (suc k) l = whole.archives k (omega (arith, l)) ∙ no_page_at k (omega (arith, l))
+
+  pub no_archive_page : r.archive.page ≡ 0
+  no_archive_page = ap (λ (x : Root). x.page) whole.archive ∙ no_page_at (length h.steps) (omega arith)
+
+  module _ (more : Image) (events : List (List ℕ)) (time : Option ℕ) (head : Head) (longer : Keeps dig (ps ++ more) (with_events h events time) head)
+      (on : GoOn places longer.places (length h.steps) r.archive.page) where
+    abbrev n : ℕ
+    n = length h.steps
+
+    archives_on : (k : ℕ) → k < length (with_events h events time).steps → (place_of longer.places (suc k)).archive ≡ (place_of longer.places k).archive
+    archives_on k within = ⊎_elim
+        (λ before. ap (λ (p : Place). p.archive) (on.before (suc k) (omega (arith, before))) ∙ whole.archives k before ∙ sym (ap (λ (p : Place). p.archive) (on.before k (omega (arith, before)))))
+        (λ after.
+        let new : n ≡ k = omega (arith, within, after, longer-length h events time) in
+        subst (λ (i : ℕ). (place_of longer.places (suc i)).archive ≡ (place_of longer.places i).archive) new
+        (on.new ∙ ap (λ (x : Root). x.page) whole.archive ∙ sym (ap (λ (p : Place). p.archive) (on.before n (omega arith)))))
+        (cases_lt k n)
+
+    pub whole_on : KeepsWhole dig (ps ++ more) (with_events h events time) (event_record r head time)
+    whole_on = record {
+      steps = longer;
+      events = only_plus h events time whole.events;
+      archives = archives_on;
+      archive = (λ j. record { page = sym on.new j; label = (ap (λ (x : Root). x.label) whole.archive ∙ ap (λ (t : Tree). tree_label dig t) (sym (same_tree h events time))) j })
+          ∙ ap (λ (i : ℕ). archive_at dig (with_events h events time) longer.places i) (sym (longer-length h events time));
+      threads = whole.threads ∙ ap length (sym (same_received h events time)) ∙ ap (λ (i : ℕ). length (received (with_events h events time) i)) (sym (longer-length h events time));
+      time = ap (λ (clock : Option ℕ). greater clock time) whole.time ∙ sym (longer-time h events time);
+    }
+
+-- the step that is found, and the pages that then keep the longer history whole
+pub record AddedWhole (dig : List ℕ → List ℕ) (ps : Image) (h : History) (r : RootRecord) (events : List (List ℕ)) (time : Option ℕ) : Type 0 where
+  pub more : Image
+  pub new : Head
+  pub is : appended dig ps r.head (Events events) r.archive time ≡ Is (record { pages = ps ++ more; value = new })
+  pub keeps : KeepsWhole dig (ps ++ more) (with_events h events time) (event_record r new time)
+
+pub added_whole : (dig : List ℕ → List ℕ) (size : (text : List ℕ) → IsDigest (dig text)) (ps : Image) (h : History) (r : RootRecord) → KeepsWhole dig ps h r → (events : List (List ℕ)) (time : Option ℕ)
+    → r.head.step < LAST_STEP → MayRecord events → IsTimeWithinLimits time → 4 + length ps < 2 ^ 47 → AddedWhole dig ps h r events time
+added_whole dig size ps h r whole events time short limits within room =
+    let step : Step = event_step (root_of (step_at h (length h.steps))) events time in
+    let none = no_archive_page dig ps h r whole in
+    let own = grown dig size ps h r.head whole.steps (Events events) r.archive time short (record { content = limits.are; together = limits.fit; time = within }) (omega (arith, none)) room in
+    let label : r.archive.label ≡ tree_label dig (tree (plus h step) (suc (length h.steps))) = ap (λ (x : Root). x.label) whole.archive ∙ ap (λ (t : Tree). tree_label dig t) (sym (same_tree h events time)) in
+    let kept = own.keeps step refl refl label in
+    record { more = own.more; new = own.new; is = own.is; keeps = whole_on dig ps h r whole own.more events time own.new kept.0 kept.1 }
+
+-- where that step was put
+pub added_to : (dig : List ℕ → List ℕ) (size : (text : List ℕ) → IsDigest (dig text)) (ps : Image) (h : History) (r : RootRecord) (events : List (List ℕ)) (time : Option ℕ) (now : Option Image) (new : Head)
+    → KeepsWhole dig ps h r → r.head.step < LAST_STEP → MayRecord events → IsTimeWithinLimits time → 4 + length ps < 2 ^ 47
+    → (pages : Image) → now ≡ Some pages → appended dig ps r.head (Events events) r.archive time ≡ Is (record { pages = pages; value = new })
+    → Added dig ps (with_events h events time) now (event_record r new time)
+added_to dig size ps h r events time now new whole short limits within room pages told is =
+    let own = added_whole dig size ps h r whole events time short limits within room in
     let same : ◌≡◌ {A = Next Head} (record { pages = ps ++ own.more; value = own.new }) (record { pages = pages; value = new }) = same_found _ _ (sym own.is ∙ is) in
     let heads : own.new ≡ new = ap (λ (n : Next Head). n.value) same in
     record {
       more = own.more;
       told = told ∙ ap (λ (n : Next Head). Some n.pages) (sym same);
-      keeps = subst (λ (x : Head). Keeps dig (ps ++ own.more) (with_events h events) x) heads (own.keeps archived);
+      keeps = subst (λ (x : Head). KeepsWhole dig (ps ++ own.more) (with_events h events time) (event_record r x time)) heads own.keeps;
     }
 
 module _ {D : Type 0} {g : _} (view : D → DiskView) (only_now : (d : D) (c : Image) → (view d).left_since (view d).moment c → (view d).may_leave c) (dig : List ℕ → List ℕ) where
@@ -76,7 +139,6 @@ module _ {D : Type 0} {g : _} (view : D → DiskView) (only_now : (d : D) (c : I
     root = r;
     has = s.has;
     of_name = refl;
-    tells = s.tells;
     keeps = s.keeps;
   }
 
@@ -115,8 +177,7 @@ module _ {D : Type 0} {g : _} (view : D → DiskView) (only_now : (d : D) (c : I
           kept = same_kept old mid same rest.image rest.has.kept;
           clean = clean;
           has = subst (λ (p : Opening). HasRoot p r) o rest.has.has;
-          tells = rest.has.tells;
-          keeps = subst (λ (p : Opening). Keeps dig p.pages h r.head) o rest.has.keeps;
+          keeps = subst (λ (p : Opening). KeepsWhole dig p.pages h r) o rest.has.keeps;
         };
       }
 
@@ -144,117 +205,137 @@ module _ {D : Type 0} {g : _} (view : D → DiskView) (only_now : (d : D) (c : I
 
   -- ---- one more step
 
-  module _ (old mid : Store D g) (r next : RootRecord) (h : History) (events : List (List ℕ)) (root : List ℕ) (root_is : root ≡ root_bytes next)
-      (size : (text : List ℕ) → IsDigest (dig text)) (same : IsSameStore view old mid) (rest : IsAtRest (view (disk_of old)) (KeepsHistory dig old r h))
-      (added : (ps : Image) (k : History) → option_map (pages_of old) (view (disk_of old)).content ≡ Some ps → Keeps dig ps k r.head → r.archive ≡ archive_at dig k (length k.steps)
-      → Added dig ps (with_events k events) (option_map (pages_of mid) (view (disk_of mid)).content) next.head)
-      (named : next.name ≡ r.name) (archive : next.archive ≡ r.archive) (threads : next.threads ≡ r.threads)
-      (one_more : next.head.step ≡ r.head.step + 1) (room : r.head.step < LAST_STEP) (count : ℕ) (pages : count ≤ 4 + MOST_PAGES_OF_A_STEP * next.head.step)
-      (counted : (ps : Image) → option_map (pages_of mid) (view (disk_of mid)).content ≡ Some ps → count ≡ 4 + length ps)
-      (commits : mid.generation ≤ r.head.step + 1) where
-    abbrev longer : History
-    longer = with_events h events
+  -- behind the pages of a history that is kept more were put, with which they keep a longer one whole under this next record
+  pub record Put (old mid : Store D g) (r next : RootRecord) (h longer : History) : Type 0 where
+    pub same : IsSameStore view old mid
+    pub rest : IsAtRest (view (disk_of old)) (KeepsHistory dig old r h)
+    pub more : Image
+    pub told : list_of view mid ≡ Some ((opening_of old rest.image).pages ++ more)
+    pub keeps : KeepsWhole dig ((opening_of old rest.image).pages ++ more) longer next
+    pub sound : IsSound longer
+    pub on : longer.name ≡ h.name
+    pub named : next.name ≡ r.name
+    pub threads : next.threads ≡ 0
+    pub within : IsTimeWithinLimits next.time
+    pub one_more : next.head.step ≡ r.head.step + 1
+    pub room : r.head.step < LAST_STEP
+    pub pages : length ((opening_of old rest.image).pages ++ more) ≤ MOST_PAGES_OF_A_STEP * next.head.step
+    pub commits : mid.generation ≤ r.head.step + 1
 
+  -- a step of events that was found and put
+  pub put_events : (size : (text : List ℕ) → IsDigest (dig text)) (old mid : Store D g) (r : RootRecord) (head : Head) (h : History) (events : List (List ℕ)) (time : Option ℕ)
+      → IsSameStore view old mid → (rest : IsAtRest (view (disk_of old)) (KeepsHistory dig old r h)) → (pages : Image) → list_of view mid ≡ Some pages
+      → appended dig (opening_of old rest.image).pages r.head (Events events) r.archive time ≡ Is (record { pages = pages; value = head })
+      → MayRecord events → IsTimeWithinLimits time → clock_refusal r.time time ≡ None → r.head.step < LAST_STEP → head.step ≡ r.head.step + 1
+      → 4 + length (opening_of old rest.image).pages < 2 ^ 47 → length pages ≤ MOST_PAGES_OF_A_STEP * head.step → mid.generation ≤ r.head.step + 1
+      → Put old mid r (event_record r head time) h (with_events h events time)
+  put_events size old mid r head h events time same rest pages told is limits within clock short one_more room few commits =
+      let added = added_to dig size (opening_of old rest.image).pages h r events time (list_of view mid) head rest.has.keeps short limits within room pages told is in
+      let all : pages ≡ (opening_of old rest.image).pages ++ added.more = some_same (sym told ∙ added.told) in
+      record {
+        same = same;
+        rest = rest;
+        more = added.more;
+        told = added.told;
+        keeps = added.keeps;
+        sound = sound_plus h events time rest.has.keeps.events rest.has.sound limits within
+            (ap (λ (o : Option ℕ). clock_refusal o time) (sym rest.has.keeps.time) ∙ clock) (omega (arith, short, rest.has.keeps.steps.step));
+        on = refl;
+        named = refl;
+        threads = rest.has.has.allowed.fits.no_threads;
+        within = greater-within r.time time (root-time (is_some r.time) r rest.has.has.allowed.spelled) within;
+        one_more = one_more;
+        room = short;
+        pages = subst (λ (qs : Image). length qs ≤ MOST_PAGES_OF_A_STEP * head.step) all few;
+        commits = commits;
+      }
+    where
+      some_same : {x y : Image} → Some x ≡ Some y → x ≡ y
+      some_same e = cc
+
+  module _ (size : (text : List ℕ) → IsDigest (dig text)) (old mid : Store D g) (r next : RootRecord) (h longer : History) (put : Put old mid r next h longer) (root : List ℕ) (root_is : root ≡ root_bytes next) where
     abbrev ps : Image
-    ps = (opening_of old rest.image).pages
+    ps = (opening_of old put.rest.image).pages
 
     mid_rest : IsAtRest (view (disk_of mid)) (IsKept mid)
     mid_rest = record {
-      image = rest.image;
-      told = same.disk.content ∙ rest.told;
-      only = λ c left. rest.only c ((same.disk.images c).0 left);
-      has = same_kept old mid same rest.image rest.has.kept;
+      image = put.rest.image;
+      told = put.same.disk.content ∙ put.rest.told;
+      only = λ c left. put.rest.only c ((put.same.disk.images c).0 left);
+      has = same_kept old mid put.same put.rest.image put.rest.has.kept;
     }
 
-    more : Added dig ps longer (option_map (pages_of mid) (view (disk_of mid)).content) next.head
-    more = added ps h (told_list old r h rest) rest.has.keeps rest.has.tells.archive
+    new_list : list_of view mid ≡ Some (pages_of mid put.rest.image)
+    new_list = ap (λ (o : Option Image). option_map (pages_of mid) o) (put.same.disk.content ∙ put.rest.told)
 
-    new_list : option_map (pages_of mid) (view (disk_of mid)).content ≡ Some (pages_of mid rest.image)
-    new_list = ap (λ (o : Option Image). option_map (pages_of mid) o) (same.disk.content ∙ rest.told)
-
-    new_pages : pages_of mid rest.image ≡ ps ++ more.more
-    new_pages = let told : Some (pages_of mid rest.image) ≡ Some (ps ++ more.more) = sym new_list ∙ more.told in cc
+    new_pages : pages_of mid put.rest.image ≡ ps ++ put.more
+    new_pages = let told : Some (pages_of mid put.rest.image) ≡ Some (ps ++ put.more) = sym new_list ∙ put.told in cc
 
     abbrev opening : Opening
-    opening = next_opening mid root rest.image
+    opening = next_opening mid root put.rest.image
 
-    new_keeps : Keeps dig opening.pages longer next.head
-    new_keeps = subst (λ (qs : Image). Keeps dig qs longer next.head) (sym new_pages) more.keeps
+    new_keeps : KeepsWhole dig opening.pages longer next
+    new_keeps = subst (λ (qs : Image). KeepsWhole dig qs longer next) (sym new_pages) put.keeps
 
-    is_name : IsName h.name
-    is_name = rest.has.sound.name
+    no_page : next.archive.page ≡ 0
+    no_page = no_archive_page dig opening.pages longer next new_keeps
 
-    -- the archive is that of before
-    last_step : length longer.steps ≡ suc (length h.steps)
-    last_step = length_push h.steps (event_step (root_of (step_at h (length h.steps))) events) ∙ omega arith
-
-    new_tells : TellsArchive dig longer next
-    new_tells = record {
-      archive = archive ∙ rest.has.tells.archive
-          ∙ (λ j. record { page = 0; label = tree_label dig (sym (same_tree h events) j) })
-          ∙ ap (λ (i : ℕ). archive_at dig longer i) (sym last_step);
-      threads = threads ∙ rest.has.tells.threads ∙ ap length (sym (same_received h events)) ∙ ap (λ (i : ℕ). length (received longer i)) (sym last_step);
-    }
+    few_pages : used_of opening ≤ 4 + MOST_PAGES_OF_A_STEP * next.head.step
+    few_pages = subst (λ (qs : Image). 4 + length qs ≤ 4 + MOST_PAGES_OF_A_STEP * next.head.step) (sym new_pages) (omega (arith, put.pages))
 
     new_fits : FitsStore (used_of opening) opening.generation next
-    new_fits =
-        let used : count ≡ used_of opening = counted (pages_of mid rest.image) new_list in
-        let was = rest.has.has.allowed.fits in
-        record {
-          steps = record {
-            none = λ none. absurd (omega (arith, none, one_more));
-            some = λ some. head_page dig opening.pages longer next.head new_keeps some;
-          };
-          threads = record {
-            none = λ none. ap (λ (x : Root). x.page) (archive ∙ rest.has.tells.archive);
-            some = λ some.
-                let no_page : r.archive.page ≡ 0 = ap (λ (x : Root). x.page) rest.has.tells.archive in
-                absurd (let low = (was.threads.some (omega (arith, some, threads))).0 in omega (arith, low, no_page));
-          };
-          few_threads = omega (arith, threads, was.few_threads, one_more);
-          few_pages = omega (arith, used, pages);
-          few_commits = omega (arith, commits, one_more);
-        }
+    new_fits = record {
+      steps = record {
+        none = λ none. absurd (omega (arith, none, put.one_more));
+        some = λ some. head_page dig opening.pages longer next.head new_keeps.steps some;
+      };
+      threads = record { none = λ none. no_page; some = λ some. absurd (omega (arith, some, put.threads)) };
+      no_threads = put.threads;
+      few_pages = few_pages;
+      few_commits = omega (arith, put.commits, put.one_more);
+      timed = some_step next.time;
+    }
+      where
+        some_step : (o : Option ℕ) → IfSome o (λ time. 0 < next.head.step)
+        some_step None = tt
+        some_step (Some t) = omega (arith, put.one_more)
 
     new_root : HasRoot opening next
     new_root = record {
       bytes = root_is;
       allowed = record {
         spelled =
-            let auth = subst IsDigest (sym new_keeps.auth) (auth-digest dig (λ t. (size t).0) (λ t. (size t).1) longer (length longer.steps)) in
-            let label = subst (λ (x : Root). IsDigest x.label) (sym new_tells.archive) (tree_label-digest dig (λ t. (size t).0) (λ t. (size t).1) (tree longer (length longer.steps))) in
-            let used : count ≡ used_of opening = counted (pages_of mid rest.image) new_list in
-            let below = (new_fits.steps.some (omega (arith, one_more))).1 in
-            let no_page : next.archive.page ≡ 0 = ap (λ (x : Root). x.page) new_tells.archive in
-            root-fits next (subst IsName (sym named) (root-name r rest.has.has.allowed.spelled)) (omega (arith, one_more, room)) auth (omega (arith, below, used, pages, one_more, room))
-            (omega (arith, no_page)) label (omega (arith, new_fits.few_threads, one_more, room));
+            let auth = subst IsDigest (sym new_keeps.steps.auth) (auth-digest dig (λ t. (size t).0) (λ t. (size t).1) longer (length longer.steps)) in
+            let label = subst (λ (x : Root). IsDigest x.label) (sym new_keeps.archive) (tree_label-digest dig (λ t. (size t).0) (λ t. (size t).1) (tree longer (length longer.steps))) in
+            let below = (new_fits.steps.some (omega (arith, put.one_more))).1 in
+            root-fits next (subst IsName (sym put.named) (root-name (is_some r.time) r put.rest.has.has.allowed.spelled)) (omega (arith, put.one_more, put.room)) auth
+            (omega (arith, below, few_pages, put.one_more, put.room)) (omega (arith, no_page)) label (omega (arith, put.threads)) put.within;
         fits = new_fits;
       };
     }
 
     new_stands : (c : Image) → OpensAs opening c → StandsFor dig c r.name longer
     new_stands c opens = record {
-      sound = sound_kept dig opening.pages longer next.head is_name new_keeps;
-      named = rest.has.named;
+      sound = put.sound;
+      named = put.on ∙ put.rest.has.named;
       opening = opening;
       opens = opens;
       root = next;
       has = new_root;
-      of_name = named;
-      tells = new_tells;
+      of_name = put.named;
       keeps = new_keeps;
     }
 
-    either : (c : Image) → OpensAsEither (opening_of mid rest.image) opening c → StandsForOneOf dig r.name h longer c
+    either : (c : Image) → OpensAsEither (opening_of mid put.rest.image) opening c → StandsForOneOf dig r.name h longer c
     either c opens = ⊎_elim
-        (λ was. inl (keeps_stands old r h rest.image c rest.has (subst (λ (o : Opening). OpensAs o c) (same_opens view old mid same rest.image) was)))
+        (λ was. inl (keeps_stands old r h put.rest.image c put.rest.has (subst (λ (o : Opening). OpensAs o c) (same_opens view old mid put.same put.rest.image) was)))
         (λ is. inr (new_stands c is)) opens
 
     pub commit_leaves : (new : Store D g) → ((q : IsAtRest (view (disk_of mid)) (IsKept mid)) → LeavesOnly (view (disk_of mid)) (view (disk_of new)) (OpensAsEither (opening_of mid q.image) (next_opening mid root q.image)))
         → LeavesOnly (view (disk_of old)) (view (disk_of new)) (StandsForOneOf dig r.name h longer)
     unfolding mid_rest
     commit_leaves new run = goes_on (view (disk_of old)) (view (disk_of mid)) (view (disk_of new)) (StandsForOneOf dig r.name h longer)
-        (same_leaves old mid (StandsForOneOf dig r.name h longer) same (λ c left. inl (rest_stands old r h rest c left)))
+        (same_leaves old mid (StandsForOneOf dig r.name h longer) put.same (λ c left. inl (rest_stands old r h put.rest c left)))
         (leaves_weaker (view (disk_of mid)) (view (disk_of new)) _ (StandsForOneOf dig r.name h longer) either (run mid_rest))
 
     pub commit_tells : (new : Store D g) → ((q : IsAtRest (view (disk_of mid)) (IsKept mid)) → Reads (view (disk_of new)) (OpensAsEither (opening_of mid q.image) (next_opening mid root q.image)))
@@ -273,12 +354,11 @@ module _ {D : Type 0} {g : _} (view : D → DiskView) (only_now : (d : D) (c : I
           told = at_rest.told;
           only = at_rest.only;
           has = record {
-            sound = sound_kept dig opening.pages longer next.head is_name new_keeps;
-            named = rest.has.named ∙ sym named;
+            sound = put.sound;
+            named = put.on ∙ put.rest.has.named ∙ sym put.named;
             kept = at_rest.has.0;
             clean = clean;
             has = subst (λ (o : Opening). HasRoot o next) is new_root;
-            tells = new_tells;
-            keeps = subst (λ (o : Opening). Keeps dig o.pages longer next.head) is new_keeps;
+            keeps = subst (λ (o : Opening). KeepsWhole dig o.pages longer next) is new_keeps;
           };
         }

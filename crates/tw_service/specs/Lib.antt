@@ -1,10 +1,12 @@
-pub mod EventsOnly
+pub mod EventSteps
 pub mod Roots
 pub mod Stands
 pub mod Refusals
 pub mod Limits
 pub mod Finds
-pub mod AddedSteps
 pub mod Machine
+pub mod NextRecords
 pub mod Keeps
 pub mod Serves
+pub mod Adding
+pub mod Asking

@@ -3,9 +3,22 @@ use Rattle.std.specs.Prelude.{ℕ, List, length, Bool, true, false, ◌&&◌, na
 use Rattle.tw_base.specs.declared.kinds.limits.TheConstants.{LAST_STEP, MOST_EVENTS, MOST_EVENT_BYTES, MOST_STEP_BYTES}
 use Rattle.tw_base.specs.history.History.{History, events_at}
 use Rattle.tw_service.specs.declared.refusal.Refusal.{Refusal}
-use Rattle.tw_service.specs.declared.refusal.Refusal.TheVariants.{NoStep, NoEvent, TooMany, TooLong, Full, Reopen}
+use Rattle.tw_service.specs.declared.refusal.Refusal.TheVariants.{NoStep, NoEvent, TooMany, TooLong, Full, ClockBack, Reopen}
+
+abbrev pub or_else : Option Refusal → Option Refusal → Option Refusal
+or_else (Some refusal) other = Some refusal
+or_else None other = other
+
+-- a call before met a disk fault
+abbrev pub broken_refusal : (is_broken : Bool) → Option Refusal
+broken_refusal true = Some Reopen
+broken_refusal false = None
 
 -- ---- adding a step
+
+-- there is no further step
+abbrev pub full_refusal : (steps : ℕ) → Option Refusal
+full_refusal steps = if nat_le LAST_STEP steps then Some Full else None
 
 -- the first event that is longer than 1,024 bytes
 abbrev pub first_long : List (List ℕ) → Option (List ℕ)
@@ -24,10 +37,29 @@ unfoldable pub limits_refusal : List (List ℕ) → Option Refusal
 limits_refusal events =
     if nat_lt MOST_EVENTS (length events) then Some (TooMany (length events)) else length_refusal (first_long events) (bytes_of events)
 
--- a call before met a disk fault; there is no further step; the events are beyond the limits
-unfoldable pub append_refusal : (is_broken : Bool) → (steps : ℕ) → List (List ℕ) → Option Refusal
-append_refusal true steps events = Some Reopen
-append_refusal false steps events = if nat_le LAST_STEP steps then Some Full else limits_refusal events
+-- the given time is below the greatest one so far
+abbrev pub clock_refusal : (clock time : Option ℕ) → Option Refusal
+clock_refusal (Some last) (Some given) = if nat_lt given last then Some (ClockBack last given) else None
+clock_refusal clock time = None
+
+-- a call before met a disk fault; there is no further step; the events are beyond the limits; the clock went back
+unfoldable pub append_refusal : (is_broken : Bool) → (steps : ℕ) → (clock : Option ℕ) → List (List ℕ) → (time : Option ℕ) → Option Refusal
+append_refusal is_broken steps clock events time =
+    or_else (broken_refusal is_broken) (or_else (full_refusal steps) (or_else (limits_refusal events) (clock_refusal clock time)))
+
+-- ---- telling the last step
+
+-- a call before met a disk fault; there is no step, or the earlier one is above the last
+unfoldable pub thread_refusal : (is_broken : Bool) → (last since : ℕ) → Option Refusal
+thread_refusal is_broken last since =
+    or_else (broken_refusal is_broken) (if nat_lt 0 last && nat_le since last then None else Some (NoStep last))
+
+-- ---- proving the authenticator of a step
+
+-- a call before met a disk fault; the steps aren't in their order, in which the lower one may be 0
+unfoldable pub link_refusal : (is_broken : Bool) → (last step top : ℕ) → Option Refusal
+link_refusal is_broken last step top =
+    or_else (broken_refusal is_broken) (if nat_le step top && (nat_le 1 top && nat_le top last) then None else Some (NoStep last))
 
 -- ---- proving an event
 
@@ -37,16 +69,11 @@ is_in_order last step top = (nat_le 1 step && nat_le step top) && nat_le top las
 
 -- a call before met a disk fault; the steps aren't in their order
 unfoldable pub order_refusal : (is_broken : Bool) → (last step top : ℕ) → Option Refusal
-order_refusal true last step top = Some Reopen
-order_refusal false last step top = if is_in_order last step top then None else Some (NoStep last)
+order_refusal is_broken last step top = or_else (broken_refusal is_broken) (if is_in_order last step top then None else Some (NoStep last))
 
 -- the index isn't below the count of events
 unfoldable pub event_refusal : (count index : ℕ) → Option Refusal
 event_refusal count index = if nat_lt index count then None else Some (NoEvent count)
-
-abbrev pub or_else : Option Refusal → Option Refusal → Option Refusal
-or_else (Some refusal) other = Some refusal
-or_else None other = other
 
 -- the whole table
 abbrev pub proof_refusal : (is_broken : Bool) → History → (step index top : ℕ) → Option Refusal

@@ -1,14 +1,15 @@
 -- Which history an image stands for, and why an image is opened as none.
-use Rattle.std.specs.Prelude.{◌≡◌, ◌⊎◌, ℕ, List, [], length}
-use Rattle.tw_base.specs.history.History.{History, received}
+use Rattle.std.specs.Prelude.{◌≡◌, ◌⊎◌, ℕ, suc, ◌<◌, List, [], ◌∷◌, length, max, Option, Some, None}
+use Rattle.tw_base.specs.history.History.{History, received, times}
 use Rattle.tw_base.specs.history.Sound.{IsSound}
 use Rattle.tw_disk.specs.Image.{Image}
 use Rattle.tw_pages.specs.Store.{Opening, OpensAs, used_of}
 use Rattle.tw_pages.specs.Slots.{IsBlank, IsRefusedFor}
 use Rattle.tw_pages.specs.declared.open.StoreFault.{StoreFault}
 use Rattle.tw_pages.specs.declared.open.StoreFault.TheVariants.{NotAStore}
-use Rattle.tw_skiplist.specs.Keeping.{Keeps, archive_at}
+use Rattle.tw_skiplist.specs.Keeping.{Keeps, archive_at, place_of}
 use Rattle.tw_service.specs.declared.root.RootRecord.{RootRecord}
+use Rattle.tw_service.specs.EventSteps.{HasEventsOnly}
 use Rattle.tw_service.specs.Roots.{IsAllowed, root_bytes}
 
 -- the history of this name that has no step
@@ -46,11 +47,31 @@ IsServed image (Unopened fault) = IsNotOpenedFor image fault
 
 -- ---- images that stand for a history
 
+-- the greater one of two times, of which there may be none
+abbrev pub greater : (clock time : Option ℕ) → Option ℕ
+greater clock None = clock
+greater None (Some given) = Some given
+greater (Some last) (Some given) = Some (max last given)
+
+-- the greatest of these times, and none of none
+abbrev pub greatest : List ℕ → Option ℕ
+greatest [] = None
+greatest (t ∷ ts) = greater (greatest ts) (Some t)
+
+-- the greatest time of the history's steps, where one has a time
+abbrev pub greatest_time : History → Option ℕ
+greatest_time h = greatest (times h (length h.steps))
+
 module _ (dig : List ℕ → List ℕ) where
-  -- the root record tells the history's archive, and how many threads the history received
-  pub record TellsArchive (h : History) (r : RootRecord) : Type 0 where
-    pub archive : r.archive ≡ archive_at dig h (length h.steps)
+  -- the pages keep the history whole: its steps under the head, which are steps of events alone and keep the page of the archive; and
+  -- the root record tells that archive, how many threads the history received, and its greatest time
+  pub record KeepsWhole (pages : Image) (h : History) (r : RootRecord) : Type 0 where
+    pub steps : Keeps dig pages h r.head
+    pub events : HasEventsOnly h
+    pub archives : (k : ℕ) → k < length h.steps → (place_of steps.places (suc k)).archive ≡ (place_of steps.places k).archive
+    pub archive : r.archive ≡ archive_at dig h steps.places (length h.steps)
     pub threads : r.threads ≡ length (received h (length h.steps))
+    pub time : r.time ≡ greatest_time h
 
   -- the image opens as a store that keeps this history of this name
   pub record StandsFor (image : Image) (name : List ℕ) (h : History) : Type 0 where
@@ -61,8 +82,7 @@ module _ (dig : List ℕ → List ℕ) where
     pub root : RootRecord
     pub has : HasRoot opening root
     pub of_name : root.name ≡ name
-    pub tells : TellsArchive h root
-    pub keeps : Keeps dig opening.pages h root.head
+    pub keeps : KeepsWhole opening.pages h root
 
   -- for the history, or for the next one
   abbrev pub StandsForOneOf : (name : List ℕ) → (h next : History) → Image → Type 0

@@ -1,18 +1,21 @@
 // The limits of stores, and the lines of the tables of refusals that need no page.
 
-ghost use Rattle.std.specs.Prelude.{◌≡◌, ◌+◌, ◌≤◌, ◌<◌, ◌^◌, length, false, IsNone};
+ghost use Rattle.std.specs.Prelude.{◌≡◌, ◌+◌, ◌≤◌, ◌<◌, ◌^◌, length, false, IsNone, None};
 ghost use Rattle.std.specs.Option.{option_map};
 ghost use Rattle.tw_base.specs.kinds.Bytes.{AreBytes};
 ghost use Rattle.tw_base.specs.kinds.Lists.{Each};
-ghost use Rattle.tw_service.specs.Limits.{bytes_of, first_long, append_refusal as append_refusal_of, event_refusal as event_refusal_of, limits_refusal as limits_refusal_of, order_refusal as order_refusal_of};
+ghost use Rattle.tw_service.specs.Limits.{bytes_of, clock_refusal as clock_refusal_of, first_long, append_refusal as append_refusal_of, event_refusal as event_refusal_of, limits_refusal as limits_refusal_of, link_refusal as link_refusal_of, order_refusal as order_refusal_of, thread_refusal as thread_refusal_of};
 ghost use Rattle.tw_base.specs.history.Limits.{MayRecord};
 
 use crate::refusal::Refusal;
 use tw_base::limits::{LAST_STEP, MOST_EVENT_BYTES, MOST_EVENTS, MOST_STEP_BYTES};
 use tw_base::{Bytes, EventList};
 
-/// The bytes of a root record.
+/// The bytes of a root record of a history whose steps have no time; one with a time has 8 more.
 pub const ROOT_BYTES: u64 = 112;
+
+/// The bytes of a root record with a time.
+pub const TIMED_ROOT_BYTES: u64 = 120;
 
 /// The most pages that a step adds to a store; one of events adds at most 19.
 pub const MOST_PAGES_OF_A_STEP: u64 = 64;
@@ -71,13 +74,33 @@ pub(crate) fn limits_refusal(events: &EventList) -> Option<Refusal>
     None
 }
 
-/// The refusal of one more step of these events, by the table of `append`.
+/// The refusal of a time that is below the greatest one so far.
+fn clock_refusal(clock: Option<u64>, time: Option<u64>) -> Option<Refusal>
+    ensures { result ≡ clock_refusal_of clock time }
+{
+    let last = clock?;
+    let given = time?;
+    if given < last {
+        return Some(Refusal::ClockBack { last, given });
+    }
+    None
+}
+
+/// The refusal of one more step of these events, with this time or none, by the table of `append`;
+/// `clock` is the greatest time so far.
 #[tactic(auto, unfolding(crate::specs::Limits::append_refusal))]
-pub(crate) fn append_refusal(is_broken: bool, steps: u64, events: &EventList) -> Option<Refusal>
+pub(crate) fn append_refusal(
+    is_broken: bool,
+    steps: u64,
+    clock: Option<u64>,
+    events: &EventList,
+    time: Option<u64>,
+) -> Option<Refusal>
     requires { steps ≤ LAST_STEP }
-    ensures answer { result ≡ append_refusal_of is_broken steps events.now }
+    ensures answer { result ≡ append_refusal_of is_broken steps clock events.now time }
     ensures room { IsNone result → steps < LAST_STEP }
     ensures within { IsNone result → MayRecord events.now }
+    ensures clock { IsNone result → clock_refusal_of clock time ≡ None }
     ensures whole { IsNone result → is_broken ≡ false }
 {
     if is_broken {
@@ -86,7 +109,43 @@ pub(crate) fn append_refusal(is_broken: bool, steps: u64, events: &EventList) ->
     if steps >= LAST_STEP {
         return Some(Refusal::Full);
     }
-    limits_refusal(events)
+    if let Some(refusal) = limits_refusal(events) {
+        return Some(refusal);
+    }
+    clock_refusal(clock, time)
+}
+
+/// The refusal of the message of the last step with a path down to an earlier one, by the table of
+/// `thread_out`.
+#[tactic(auto, unfolding(crate::specs::Limits::thread_refusal))]
+pub(crate) fn thread_refusal(is_broken: bool, last: u64, since: u64) -> Option<Refusal>
+    ensures answer { result ≡ thread_refusal_of is_broken last since }
+    ensures order { IsNone result → (1 ≤ last) × (since ≤ last) }
+    ensures whole { IsNone result → is_broken ≡ false }
+{
+    if is_broken {
+        return Some(Refusal::Reopen);
+    }
+    if 0 < last && since <= last {
+        return None;
+    }
+    Some(Refusal::NoStep { last })
+}
+
+/// The refusal of a proof of a step's authenticator under a top, by the table of `prove_link`.
+#[tactic(auto, unfolding(crate::specs::Limits::link_refusal))]
+pub(crate) fn link_refusal(is_broken: bool, last: u64, step: u64, top: u64) -> Option<Refusal>
+    ensures answer { result ≡ link_refusal_of is_broken last step top }
+    ensures order { IsNone result → (1 ≤ top) × (step ≤ top) × (top ≤ last) }
+    ensures whole { IsNone result → is_broken ≡ false }
+{
+    if is_broken {
+        return Some(Refusal::Reopen);
+    }
+    if step <= top && 1 <= top && top <= last {
+        return None;
+    }
+    Some(Refusal::NoStep { last })
 }
 
 /// The refusal of a proof of a step under a top, by the first two lines of the table of

@@ -1,20 +1,23 @@
-// The existence proof of an event of a history that pages keep.
+// The proofs of a history that pages keep.
 
-ghost use Rattle.std.specs.Prelude.{◌≡◌, ◌⊎◌, ◌<◌, ◌≤◌, ◌^◌, length, IfOk, IfErr};
+ghost use Rattle.std.specs.Prelude.{◌≡◌, ◌⊎◌, ℕ, ◌*◌, ◌<◌, ◌≤◌, ◌^◌, length, IfOk, IfErr};
 ghost use Rattle.tw_base.specs.history.Limits.{MayRecord};
+ghost use Rattle.tw_chain.specs.declared.proof.Proof.TheVariants.{Linked};
+ghost use Rattle.tw_chain.specs.Proofs.{proof_bytes as bytes_of_proof};
 ghost use Rattle.tw_disk.specs.Answers.{ReadsOr};
 ghost use Rattle.tw_service.specs.Refusals.{IsFault, IsNoEvent, refusals};
-ghost use Rattle.tw_service.specs.Finds.{event_proof, part_of, proof_bytes};
+ghost use Rattle.tw_service.specs.Finds.{event_proof, link_of, link_proof as link_proof_of, part_of, path_down as path_down_of, proof_bytes};
 
 use crate::limits::event_refusal;
 use crate::refusal::Refusal;
 use std::alloc::Global;
 use tw_base::limits::LAST_STEP;
 use tw_base::{Bytes, EventList, Hasher, Name, NoMemory};
+use tw_chain::{LinkProof, Proof, write_proof};
 use tw_disk::Pages;
 use tw_events::event_part;
-use tw_skiplist::{Head, StepProof, events_of, prove};
-use tw_skipproof::{ExistenceProof, Part, write_existence};
+use tw_skiplist::{Head, StepLink, StepProof, events_of, link, path, prove};
+use tw_skipproof::{ExistenceProof, Part, Path, write_existence};
 
 /// The part of the step under the top.
 fn part_under(name: &Name, top: u64, proof: StepProof) -> Part
@@ -32,7 +35,7 @@ fn part_under(name: &Name, top: u64, proof: StepProof) -> Part
 
 /// The bytes of the proof of the event at that index among the events of the step, which are as many
 /// as it has, and within the limits of a step.
-fn write_proof<H: Hasher>(
+fn write_event<H: Hasher>(
     alloc: Global,
     name: &Name,
     top: u64,
@@ -73,5 +76,72 @@ pub(crate) fn make_proof<P: Pages, H: Hasher>(
         return Err(refusal);
     }
     let events = events_of(alloc, pages, &proof.info)?;
-    Ok(write_proof::<H>(alloc, name, top, index, proof, &events)?)
+    Ok(write_event::<H>(alloc, name, top, index, proof, &events)?)
+}
+
+/// The proof of the step's authenticator under the top.
+fn link_proof(name: &Name, step: u64, top: u64, link: StepLink) -> LinkProof
+    ensures { result ≡ link_of name.now step top link }
+{
+    let StepLink { path, auth } = link;
+    LinkProof {
+        service: *name,
+        step,
+        top,
+        auth,
+        path,
+    }
+}
+
+/// The bytes of that proof.
+fn write_link(
+    alloc: Global,
+    name: &Name,
+    step: u64,
+    top: u64,
+    link: StepLink,
+) -> Result<Bytes, NoMemory>
+    ensures { IfOk result (λ bytes. bytes ≡ bytes_of_proof (Linked (link_of name.now step top link))) }
+{
+    let proof = Proof::Linked(link_proof(name, step, top, link));
+    let bytes = write_proof(alloc, &proof);
+    drop(proof);
+    bytes
+}
+
+/// The bytes of the proof of a step's authenticator under that top.
+#[tactic(auto, unfolding(crate::specs::Finds::link_proof))]
+pub(crate) fn make_link<P: Pages, H: Hasher>(
+    alloc: Global,
+    pages: &mut P,
+    name: &Name,
+    head: &Head,
+    step: u64,
+    top: u64,
+) -> Result<Bytes, Refusal>
+    requires short { head.now.step ≤ LAST_STEP }
+    requires order { step ≤ top }
+    requires last { top ≤ head.now.step }
+    ensures reads { ReadsOr refusals P.view P.same pages.old pages.new (λ bytes. bytes) result (IfErr result IsFault)
+        (λ ps. link_proof_of H.dig ps name.now head.now step top) }
+{
+    let found = link::<P, H>(alloc, pages, head, top, step)?;
+    Ok(write_link(alloc, name, step, top, found)?)
+}
+
+/// The path from the last step down to an earlier one.
+#[tactic(auto, unfolding(crate::specs::Finds::path_down))]
+pub(crate) fn path_down<P: Pages, H: Hasher>(
+    alloc: Global,
+    pages: &mut P,
+    head: &Head,
+    since: u64,
+) -> Result<Path, Refusal>
+    requires short { head.now.step ≤ LAST_STEP }
+    requires order { since ≤ head.now.step }
+    ensures reads { ReadsOr refusals P.view P.same pages.old pages.new (λ path. path) result (IfErr result IsFault)
+        (λ ps. path_down_of H.dig ps head.now since) }
+    ensures bound { IfOk result (λ path. (digits : ℕ) → head.now.step < 2 ^ digits → length path.links ≤ 2 * digits) }
+{
+    Ok(path::<P, H>(alloc, pages, head, head.step, since)?)
 }

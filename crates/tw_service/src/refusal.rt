@@ -9,7 +9,7 @@ use tw_skiplist::ListFault;
 /// Why a service refuses a call.
 #[derive(Clone, Copy, Debug, PartialEq, Eq, Drop)]
 pub enum Refusal {
-    /// The steps asked for aren't in their order: 1 <= step <= top <= last. The last step is told.
+    /// The steps asked for aren't there, or not in the order of the call. The last step is told.
     NoStep { last: u64 },
     /// The step has no event of that index. The number of its events is told.
     NoEvent { count: u32 },
@@ -20,6 +20,8 @@ pub enum Refusal {
     TooLong { bytes: u64 },
     /// The service has 2^40 - 1 steps.
     Full,
+    /// The given time is below the greatest time of the steps so far. Both are told.
+    ClockBack { last: u64, given: u64 },
     /// The page of this number, the first one met that isn't of its kind; or the one read last, where
     /// the event pages of a step don't spell its events. It never comes over a disk that stands for a
     /// history.

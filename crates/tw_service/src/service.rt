@@ -1,15 +1,10 @@
 // Services.
-ghost use Rattle.std.specs.Prelude.{◌≡◌, ◌<◌, ◌≤◌, ◌+◌, ◌*◌, ◌^◌, ◌⊎◌, [], true, false};
-ghost use Rattle.tw_pages.specs.StoreValue.{generation_of, is_broken as store_is_broken, root_of, staged_of};
-ghost use Rattle.tw_pages.specs.Same.{count_of};
-ghost use Rattle.tw_base.specs.declared.kinds.limits.TheConstants.{LAST_STEP};
-ghost use Rattle.tw_disk.specs.declared.limits.TheConstants.{FIRST_PAGE};
-ghost use Rattle.tw_service.specs.declared.limits.TheConstants.{MOST_PAGES_OF_A_STEP};
-ghost use Rattle.tw_service.specs.Roots.{root_bytes};
+ghost use Rattle.std.specs.Prelude.{◌≡◌, ◌⊎◌, ◌≤◌, ◌*◌, ◌<◌, ◌^◌, ◌+◌, true, false};
+ghost use Rattle.tw_pages.specs.StoreValue.{is_broken as store_is_broken};
 
-use crate::adding::add_step;
-use crate::limits::{append_refusal, order_refusal};
-use crate::proving::make_proof;
+use crate::limits::{append_refusal, link_refusal, order_refusal, thread_refusal};
+use crate::proving::{make_link, make_proof, path_down};
+use crate::recorded::Recorded;
 use crate::refusal::{Refusal, is_disk_fault};
 use crate::root::{RootRecord, read_root, root_record};
 use std::alloc::Global;
@@ -18,44 +13,43 @@ use tw_base::{Bytes, EventList, Hasher, Name, Root, Thread, empty_tree, genesis}
 use tw_disk::{Disk, Pages};
 use tw_pages::{Store, StoreFault};
 use tw_skiplist::Head;
+use tw_skipproof::Path;
 
 /// A service: one sound history on a disk, where its pages keep one.
 #[derive(Drop)]
 pub struct Service<D: Disk, H: Hasher> {
     alloc: Global,
-    store: Store<D>,
-    root: RootRecord,
+    recorded: Recorded<D>,
     is_broken: bool,
     hasher: PhantomData<H>,
-    ghost short: { root.head.step ≤ LAST_STEP },
-    ghost recorded: { root_of store ≡ root_bytes root },
-    ghost few_pages: { count_of store ≤ FIRST_PAGE + MOST_PAGES_OF_A_STEP * root.head.step },
-    ghost few_commits: { generation_of store ≤ root.head.step + 1 },
-    ghost clean: { staged_of store ≡ [] },
-    ghost tells_faults: { is_broken ≡ false → store_is_broken store ≡ false },
+    ghost tells_faults: { is_broken ≡ false → store_is_broken recorded.store ≡ false },
 }
 
 impl<D: Disk, H: Hasher> Service<D, H> {
-    ghost use Rattle.std.specs.Prelude.{◌↔◌, ◌≢◌, ℕ, length, List, Some, None, Ok, Err, IfOk, IfErr, IsErrAnd, IsTrue, OnErr, MatchOption, MatchResult};
+    ghost use Rattle.std.specs.Prelude.{◌↔◌, ◌≢◌, ℕ, [], length, List, Some, None, Ok, Err, IfOk, IfErr, IsErrAnd, IsTrue, OnErr, MatchOption, MatchResult};
     ghost use Rattle.tw_base.specs.history.Anchors.{anchor_of};
     ghost use Rattle.tw_base.specs.history.Auth.{auth};
-    ghost use Rattle.tw_base.specs.history.History.{History, events_at, with_events};
+    ghost use Rattle.tw_base.specs.declared.kinds.limits.TheConstants.{LAST_TIME};
+    ghost use Rattle.tw_base.specs.history.History.{History, events_at};
+    ghost use Rattle.tw_base.specs.history.Limits.{IsTimeWithinLimits};
     ghost use Rattle.tw_base.specs.declared.history.thread.Thread.{Thread as ThreadOf};
     ghost use Rattle.tw_chain.specs.Accepting.{Accepts};
-    ghost use Rattle.tw_skipproof.specs.HistoryProofs.{MakesExistence};
+    ghost use Rattle.tw_skipproof.specs.HistoryProofs.{IsPathOf, MakesExistence};
     ghost use Rattle.tw_base.specs.kinds.Faults.{Rose};
     ghost use Rattle.tw_disk.specs.Disk.{IsAtRest, LeavesOnly, Reads};
     ghost use Rattle.tw_disk.specs.Image.{Image};
     ghost use Rattle.tw_pages.specs.Slots.{IsTaken};
     ghost use Rattle.tw_pages.specs.declared.open.StoreFault.{StoreFault as Fault};
     ghost use Rattle.tw_service.specs.Refusals.{IsFault, IsNoEvent};
-    ghost use Rattle.tw_service.specs.Finds.{IsAnswer, found_event, found_thread};
-    ghost use Rattle.tw_service.specs.Limits.{append_refusal as append_refusal_of, order_refusal as order_refusal_of, proof_refusal};
-    ghost use Rattle.tw_service.specs.Machine.{Answers, IsStepOf, last_thread};
-    ghost use Rattle.tw_service.specs.Machine.Call.{Append, CountSteps, ProveEvent, TellHead, TellName};
-    ghost use Rattle.tw_service.specs.Machine.Reply.{OfName, OfNumber, OfProof, OfThread};
-    ghost use Rattle.tw_service.specs.Serves.{HasSameDisk, Serves, archive_of, disk_of, has_failed, head_of, name_of, pages_of, record_of, steps_of, thread_of, threads_of};
-    ghost use Rattle.tw_service.specs.Stands.{IsBlankOrNew, IsNotOpenedFor, OpensWith, StandsFor, StandsForOneOf, no_history};
+    ghost use Rattle.tw_service.specs.Adding.{Appends, Steps};
+    ghost use Rattle.tw_service.specs.Asking.{Asks};
+    ghost use Rattle.tw_service.specs.Finds.{IsAnswer, found_event, found_link_proof, found_message, found_thread};
+    ghost use Rattle.tw_service.specs.Limits.{append_refusal as append_refusal_of, link_refusal as link_refusal_of, order_refusal as order_refusal_of, proof_refusal, thread_refusal as thread_refusal_of};
+    ghost use Rattle.tw_service.specs.Machine.{Answers, IsStepOf, MakesLink, last_thread};
+    ghost use Rattle.tw_service.specs.Machine.Call.{Append, CountSteps, ProveEvent, ProveLink, TellHead, TellName, TellThread};
+    ghost use Rattle.tw_service.specs.Machine.Reply.{OfName, OfNumber, OfPath, OfProof, OfThread};
+    ghost use Rattle.tw_service.specs.Serves.{HasSameDisk, Serves, archive_of, clock_of, disk_of, has_failed, head_of, name_of, pages_of, record_of, steps_of, thread_of, threads_of};
+    ghost use Rattle.tw_service.specs.Stands.{IsBlankOrNew, IsNotOpenedFor, OpensWith, StandsFor, StandsForOneOf, greater, no_history};
 
     /// Makes a service of this name, without a step, on a disk that has no store.
     ///
@@ -70,6 +64,8 @@ impl<D: Disk, H: Hasher> Service<D, H> {
             → Serves H.dig D.view s (no_history name)) }
         // It has the name that was given, no steps, and has met no disk fault.
         ensures thread { IfOk result (λ s. (name_of s ≡ name) × (steps_of s ≡ 0) × (has_failed s ≡ false)) }
+        // Its record has no page of a step or of an archive, no thread and no time.
+        ensures record { IfOk result (λ s. ((head_of s).page ≡ 0) × ((archive_of s).page ≡ 0) × (threads_of s ≡ 0) × (clock_of s ≡ None)) }
 
         // `Taken` only where a store is there.
         ensures taken { IfErr result (λ e. e.1 ≡ StoreFault.Taken → (c : Image) → (D.view disk).content ≡ Some c
@@ -118,14 +114,14 @@ impl<D: Disk, H: Hasher> Service<D, H> {
                 label: empty_tree::<H>(),
             },
             threads: 0,
+            time: None,
         };
         let bytes = root_record(&root);
         match Store::init(alloc, disk, bytes.as_slice()) {
             Err((disk, fault)) => Err((disk, fault)),
             Ok(store) => Ok(Service {
                 alloc,
-                store,
-                root,
+                recorded: Recorded { store, root },
                 is_broken: false,
                 hasher: PhantomData,
             }),
@@ -181,8 +177,7 @@ impl<D: Disk, H: Hasher> Service<D, H> {
                 }
                 Some(root) => Ok(Service {
                     alloc,
-                    store,
-                    root,
+                    recorded: Recorded { store, root },
                     is_broken: false,
                     hasher: PhantomData,
                 }),
@@ -199,7 +194,7 @@ impl<D: Disk, H: Hasher> Service<D, H> {
         // Telling the number of steps is a step of the machine that changes nothing.
         ensures machine { (h : History) → Serves H.dig D.view self.now h → IsStepOf H.dig h CountSteps (OfNumber result) h }
     {
-        self.root.head.step
+        self.recorded.root.head.step
     }
 
     /// The thread of the last step; where there is no step, step 0 with the authenticator of the name.
@@ -212,9 +207,9 @@ impl<D: Disk, H: Hasher> Service<D, H> {
         ensures machine { (h : History) → Serves H.dig D.view self.now h → IsStepOf H.dig h TellHead (OfThread result) h }
     {
         Thread {
-            from: self.root.name,
-            step: self.root.head.step,
-            auth: self.root.head.auth,
+            from: self.recorded.root.name,
+            step: self.recorded.root.head.step,
+            auth: self.recorded.root.head.auth,
         }
     }
 
@@ -227,7 +222,7 @@ impl<D: Disk, H: Hasher> Service<D, H> {
         // Telling the name is a step of the machine that changes nothing.
         ensures machine { (h : History) → Serves H.dig D.view self.now h → IsStepOf H.dig h TellName (OfName result) h }
     {
-        self.root.name
+        self.recorded.root.name
     }
 
     /// Gives the disk back. Where a history was served, the disk stands for it, at rest.
@@ -240,15 +235,15 @@ impl<D: Disk, H: Hasher> Service<D, H> {
     {
         let Service {
             alloc: _,
-            store,
-            root: _,
+            recorded,
             is_broken: _,
             hasher: _,
         } = self;
+        let Recorded { store, root: _ } = recorded;
         store.close()
     }
 
-    /// Adds a step of these events, and answers its thread.
+    /// Adds a step of these events, which has no time, and answers its thread.
     ///
     /// Refusals, the first that stands: `Reopen` where an earlier call on this value answered
     /// `DiskFault`; `Full` where there are 2^40 - 1 steps; `TooMany` where there are more than 1,024
@@ -260,72 +255,147 @@ impl<D: Disk, H: Hasher> Service<D, H> {
     /// tells its content still, which stands for the history before the call or with the new step;
     /// `open` then serves that one, or meets a disk fault.
     pub fn append(&mut self, events: &EventList) -> Result<Thread, Refusal>
-        // Each refusal of the table comes exactly where its line is the first that stands; else only `DiskFault`,
-        // `BadPage` and `NoMemory` are left.
-        ensures table { MatchOption (append_refusal_of (has_failed self.old) (steps_of self.old) events.now)
-            (IfErr result IsFault) (λ refusal. result ≡ Err refusal) }
-
-        // After `Ok` the history with one more step of these events is served, at rest, and the answer is the thread of
-        // its last step.
-        ensures done { IfOk result (λ thread. (h : History) → Serves H.dig D.view self.old h
-            → Serves H.dig D.view self.new (with_events h events.now)
-            × (thread ≡ last_thread H.dig (with_events h events.now))) }
-        // The answer is the thread of the value's new head.
-        ensures thread { IfOk result (λ thread. thread ≡ thread_of self.new) }
-        // The archive and the number of threads that the root record tells stay as they were, over whatever store.
-        ensures archive { (archive_of self.new ≡ archive_of self.old) × (threads_of self.new ≡ threads_of self.old) }
-        // The answer is of the value's name and its next step.
-        ensures next { IfOk result (λ thread. (thread.from ≡ name_of self.old) × (thread.step ≡ steps_of self.old + 1)) }
-
-        // Every image that a crash since the start may leave stands for the history before or for the longer one.
-        ensures any_moment { (h : History) → Serves H.dig D.view self.old h
-            → LeavesOnly (D.view (disk_of self.old)) (D.view (disk_of self.new))
-            (StandsForOneOf H.dig (name_of self.old) h (with_events h events.now)) }
-
-        // Whatever the answer, after `DiskFault` too, the disk tells its content still, which stands for one of the
-        // two.
-        ensures told { (h : History) → Serves H.dig D.view self.old h
-            → Reads (D.view (disk_of self.new)) (StandsForOneOf H.dig (name_of self.old) h (with_events h events.now)) }
-
-        // After a refusal but `DiskFault` the history is served as before, at rest, and a crash leaves only what stands
-        // for it.
-        ensures refused { IfErr result (λ refusal. (refusal ≡ Refusal.DiskFault)
-            ⊎ ((h : History) → Serves H.dig D.view self.old h → Serves H.dig D.view self.new h
-            × LeavesOnly (D.view (disk_of self.old)) (D.view (disk_of self.new)) (λ i. StandsFor H.dig i (name_of self.old) h))) }
-        // After a refusal but `DiskFault` nothing was written.
-        ensures unwritten { IfErr result (λ refusal. (refusal ≡ Refusal.DiskFault)
-            ⊎ HasSameDisk D.view self.old self.new) }
-
-        // After each refusal name and head, and with them steps and thread, are as before.
-        ensures kept { OnErr result ((head_of self.new ≡ head_of self.old) × (name_of self.new ≡ name_of self.old)) }
-        // The value remembers that a call answered `DiskFault`, and nothing else is remembered so: by the table
-        // `Reopen` is answered exactly after one.
-        ensures broken { IsTrue (has_failed self.new) ↔ (IsTrue (has_failed self.old) ⊎ (result ≡ Err Refusal.DiskFault)) }
-        // `DiskFault` comes only where the disk's count of faults rose.
-        ensures fault { result ≡ Err Refusal.DiskFault → Rose ((D.view (disk_of self.old)).faults) ((D.view (disk_of self.new)).faults) }
-        // The count of faults hasn't fallen.
-        ensures later { (D.view (disk_of self.old)).faults ≤ (D.view (disk_of self.new)).faults }
-
-        // What the answer is, a disk fault and want of memory excepted, whatever the pages keep: the refusal of the
-        // table, where one stands; else the thread of a next step of these events, with the root record's archive and
-        // the links that the pages lead to from the head; or `BadPage` with the first page met for these links that
-        // isn't of its kind.
-        ensures answer { (ps : Image) → pages_of D.view self.old ≡ Some ps
-            → IsAnswer result (found_thread H.dig ps (name_of self.old) (head_of self.old) (has_failed self.old) events.now (archive_of self.old)) }
-
-        // Where a history is served and no earlier call on the value met a disk fault, adding a step is a step of the
-        // machine, a disk fault and want of memory excepted.
-        ensures machine { has_failed self.old ≡ false → (h : History) → Serves H.dig D.view self.old h
-            → Answers H.dig h (Append events.now) (λ thread. OfThread thread) result (Serves H.dig D.view self.new) }
+        // Adding a step of events without a time. Each refusal of the table comes exactly where its line is the first
+        // that stands; else only `DiskFault`, `BadPage` and `NoMemory` are left. Over told pages, whatever they keep,
+        // the answer is what is found in them, a disk fault and want of memory excepted. Where a history is served, the
+        // history with one more step of these events is the next one. Every image that a crash since the start may
+        // leave stands for one of the two, and so does the content, which is told still, after `DiskFault` too; after
+        // `Ok` the next one is served, at rest, and the answer is the thread of its last step; after a refusal but
+        // `DiskFault` nothing was written, and the history is served as before. Where no earlier call met a disk fault,
+        // the call is a step of the machine. The archive and the greatest time that the root record tells stay as they
+        // were, over whatever store; after each refusal name and head do too. The value remembers that a call answered
+        // `DiskFault`, which comes only where the disk's count of faults rose.
+        ensures { Appends H.dig D.view events.now None self.old self.new result }
     {
-        if let Some(refusal) = append_refusal(self.is_broken, self.root.head.step, events) {
+        self.add(events, None)
+    }
+
+    /// Adds a step of these events at this time, in seconds, which is at most 2^40 - 1, and answers its
+    /// thread. The time is what the caller claims: no clock is read.
+    ///
+    /// Refusals are those of `append`, and after them `ClockBack` where the time is below the greatest
+    /// time of the steps so far, with both.
+    pub fn append_at(&mut self, events: &EventList, time: u64) -> Result<Thread, Refusal>
+        requires { time ≤ LAST_TIME }
+        // Adding a step of events at a time does what adding one without a time does; and `ClockBack` is the last line
+        // of its table, which stands exactly where the time is below the greatest one that the root record tells; and
+        // after `Ok` that one is the greater of the two.
+        ensures { Appends H.dig D.view events.now (Some time) self.old self.new result }
+    {
+        self.add(events, Some(time))
+    }
+
+    /// Adds a step of these events, with this time or none.
+    fn add(&mut self, events: &EventList, time: Option<u64>) -> Result<Thread, Refusal>
+        requires { IsTimeWithinLimits time }
+        ensures table { MatchOption (append_refusal_of (has_failed self.old) (steps_of self.old) (clock_of self.old) events.now time)
+            (IfErr result IsFault) (λ refusal. result ≡ Err refusal) }
+        ensures answer { (ps : Image) → pages_of D.view self.old ≡ Some ps
+            → IsAnswer result (found_thread H.dig ps (name_of self.old) (head_of self.old) (has_failed self.old) (clock_of self.old) events.now time (archive_of self.old)) }
+        ensures steps { (h : History) → Serves H.dig D.view self.old h → Steps H.dig D.view (Append events.now time) (λ thread. OfThread thread) self.old self.new result h }
+        ensures thread { IfOk result (λ thread. (thread ≡ thread_of self.new) × (thread.from ≡ name_of self.old) × (thread.step ≡ steps_of self.old + 1)) }
+        ensures archive { (archive_of self.new ≡ archive_of self.old) × (threads_of self.new ≡ threads_of self.old) }
+        ensures clock { IfOk result (λ thread. clock_of self.new ≡ greater (clock_of self.old) time) }
+        ensures kept { OnErr result ((head_of self.new ≡ head_of self.old) × (name_of self.new ≡ name_of self.old) × (clock_of self.new ≡ clock_of self.old)) }
+        ensures unwritten { IfErr result (λ refusal. (refusal ≡ Refusal.DiskFault) ⊎ HasSameDisk D.view self.old self.new) }
+        ensures broken { IsTrue (has_failed self.new) ↔ (IsTrue (has_failed self.old) ⊎ (result ≡ Err Refusal.DiskFault)) }
+        ensures fault { result ≡ Err Refusal.DiskFault → Rose ((D.view (disk_of self.old)).faults) ((D.view (disk_of self.new)).faults) }
+        ensures later { (D.view (disk_of self.old)).faults ≤ (D.view (disk_of self.new)).faults }
+    {
+        let root = &self.recorded.root;
+        if let Some(refusal) = append_refusal(
+            self.is_broken,
+            root.head.step,
+            root.time,
+            events,
+            time,
+        ) {
             return Err(refusal);
         }
-        match add_step::<D, H>(self.alloc, &mut self.store, &self.root, events) {
-            Ok(next) => {
-                self.root = next;
-                Ok(self.head())
+        match self.recorded.add_step::<H>(self.alloc, events, time) {
+            Ok(()) => Ok(self.head()),
+            Err(refusal) => {
+                self.is_broken = is_disk_fault(&refusal);
+                Err(refusal)
             }
+        }
+    }
+
+    /// The path from the last step down to the step `since`, which may be 0. With the thread of `head`
+    /// and `since` it is the message that tells the last step to a service that knows the step `since`.
+    ///
+    /// Refusals, the first that stands: `Reopen` where an earlier call on this value answered
+    /// `DiskFault`; `NoStep` where there is no step, or `since` is above the last one, with the last
+    /// step. `BadPage` tells the first page met on the way that isn't the page of its step; it never
+    /// comes where a history is served. It writes nothing.
+    pub fn thread_out(&mut self, since: u64) -> Result<Path, Refusal>
+        // Asking for the path of a message. Each refusal of the table comes exactly where its line is the first that
+        // stands; else only `DiskFault`, `BadPage` and `NoMemory` are left. Over told pages, whatever they keep, the
+        // answer is what is found in them, a disk fault and want of memory excepted. Where a history is served and no
+        // earlier call met a disk fault, the call is a step of the machine. Whatever the answer, the history is served
+        // as before, at rest, nothing is written, and the root record is as before. The value remembers that a call
+        // answered `DiskFault`, which comes only where the disk's count of faults rose.
+        ensures asks { Asks H.dig D.view (TellThread since) (λ path. OfPath path) (thread_refusal_of (has_failed self.old) (steps_of self.old) since)
+            (λ ps. found_message H.dig ps (head_of self.old) (has_failed self.old) since) self.old self.new result }
+        // The path is the history's own, from its last step down to the earlier one.
+        ensures made { IfOk result (λ path. (h : History) → Serves H.dig D.view self.old h → IsPathOf H.dig h path.links (length h.steps) since) }
+        // Over any pages, told or not, the path has at most twice as many links as the last step has binary digits.
+        ensures bound { IfOk result (λ path. (digits : ℕ) → steps_of self.old < 2 ^ digits → length path.links ≤ 2 * digits) }
+    {
+        if let Some(refusal) = thread_refusal(self.is_broken, self.recorded.root.head.step, since) {
+            return Err(refusal);
+        }
+        match path_down::<Store<D>, H>(
+            self.alloc,
+            &mut self.recorded.store,
+            &self.recorded.root.head,
+            since,
+        ) {
+            Ok(path) => Ok(path),
+            Err(refusal) => {
+                self.is_broken = is_disk_fault(&refusal);
+                Err(refusal)
+            }
+        }
+    }
+
+    /// The proof of the authenticator of a step, which may be 0, under that top. The page of the step
+    /// isn't read: the link that leads to it has the authenticator.
+    ///
+    /// Refusals, the first that stands: `Reopen` where an earlier call on this value answered
+    /// `DiskFault`; `NoStep` where step <= top and 1 <= top <= the last step don't both hold, with the
+    /// last step. `BadPage` tells the first page met that isn't of its kind; it never comes where a
+    /// history is served. It writes nothing.
+    pub fn prove_link(&mut self, step: u64, top: u64) -> Result<Bytes, Refusal>
+        // Asking for the proof of a step's authenticator does, by its own table and what is found for it, what asking
+        // for the path of a message does.
+        ensures asks { Asks H.dig D.view (ProveLink step top) (λ bytes. OfProof bytes) (link_refusal_of (has_failed self.old) (steps_of self.old) step top)
+            (λ ps. found_link_proof H.dig ps (name_of self.old) (head_of self.old) (has_failed self.old) step top) self.old self.new result }
+        // The proof is the history's own proof of that authenticator under that top.
+        ensures made { IfOk result (λ bytes. (h : History) → Serves H.dig D.view self.old h → MakesLink H.dig h step top bytes) }
+        // The proof is accepted under every list of anchors whose anchor of the service and top has the history's
+        // authenticator of the top.
+        ensures accepted { IfOk result (λ bytes. (h : History) → Serves H.dig D.view self.old h
+            → (anchors : List ThreadOf) (anchor : ThreadOf) → anchor_of anchors h.name top ≡ Some anchor → anchor.auth ≡ auth H.dig h top
+            → Accepts H.dig anchors bytes) }
+    {
+        if let Some(refusal) = link_refusal(
+            self.is_broken,
+            self.recorded.root.head.step,
+            step,
+            top,
+        ) {
+            return Err(refusal);
+        }
+        match make_link::<Store<D>, H>(
+            self.alloc,
+            &mut self.recorded.store,
+            &self.recorded.root.name,
+            &self.recorded.root.head,
+            step,
+            top,
+        ) {
+            Ok(bytes) => Ok(bytes),
             Err(refusal) => {
                 self.is_broken = is_disk_fault(&refusal);
                 Err(refusal)
@@ -364,10 +434,8 @@ impl<D: Disk, H: Hasher> Service<D, H> {
             × LeavesOnly (D.view (disk_of self.old)) (D.view (disk_of self.new)) (λ i. StandsFor H.dig i (name_of self.old) h) }
         // Whatever the answer, nothing is written.
         ensures unwritten { HasSameDisk D.view self.old self.new }
-        // Name and head, and with them steps and thread, are as before.
-        ensures kept { (head_of self.new ≡ head_of self.old) × (name_of self.new ≡ name_of self.old) }
-        // The archive and the number of threads that the root record tells stay as they were, over whatever store.
-        ensures archive { (archive_of self.new ≡ archive_of self.old) × (threads_of self.new ≡ threads_of self.old) }
+        // The root record, and with it name, head, archive and greatest time, is as before.
+        ensures kept { record_of self.new ≡ record_of self.old }
         // The value remembers that a call answered `DiskFault`, and nothing else is remembered so: by the table
         // `Reopen` is answered exactly after one.
         ensures broken { IsTrue (has_failed self.new) ↔ (IsTrue (has_failed self.old) ⊎ (result ≡ Err Refusal.DiskFault)) }
@@ -384,14 +452,19 @@ impl<D: Disk, H: Hasher> Service<D, H> {
         ensures answer { (ps : Image) → pages_of D.view self.old ≡ Some ps
             → IsAnswer result (found_event H.dig ps (name_of self.old) (head_of self.old) step index top (has_failed self.old)) }
     {
-        if let Some(refusal) = order_refusal(self.is_broken, self.root.head.step, step, top) {
+        if let Some(refusal) = order_refusal(
+            self.is_broken,
+            self.recorded.root.head.step,
+            step,
+            top,
+        ) {
             return Err(refusal);
         }
         match make_proof::<Store<D>, H>(
             self.alloc,
-            &mut self.store,
-            &self.root.name,
-            &self.root.head,
+            &mut self.recorded.store,
+            &self.recorded.root.name,
+            &self.recorded.root.head,
             step,
             index,
             top,

@@ -2,8 +2,8 @@
 use Rattle.std.proofs.Common.{◌≡◌, ℕ, suc, zero, ◌+◌, ◌<◌, ◌≤◌, List, [], ◌∷◌, ◌++◌, length, refl, ap, sym, ◌∙◌, arith}
 use Rattle.std.proofs.lemmas.List.{get_or_append_left, get_or_push}
 use Rattle.tw_base.specs.kinds.Texts.{link_text}
-use Rattle.tw_skiplist.specs.declared.head.StepRef.{StepRef}
-use Rattle.tw_skiplist.specs.StepPages.{link_of, no_ref}
+use Rattle.tw_steppage.specs.declared.link.StepRef.{StepRef}
+use Rattle.tw_steppage.specs.StepPages.{link_of, no_ref}
 use Rattle.tw_skiplist.specs.Records.{page_labels}
 
 module _ (links : List StepRef) (link : StepRef) (level : ℕ) (size : length links ≡ level) where

@@ -14,10 +14,10 @@ use Rattle.tw_skiplist.specs.Events.{events_codec, events_in, may_be_recorded}
 use Rattle.tw_disk.specs.Found.{Found, when, ◌>>=◌, spelled}
 use Rattle.tw_disk.specs.Found.Found.{Is, Bad}
 use Rattle.tw_skiplist.specs.ScanSteps.{SpellsEvents}
-use Rattle.tw_skiplist.specs.StepBytes.{stream}
+use Rattle.tw_steppage.specs.StepBytes.{stream}
 use Rattle.tw_disk.proofs.FoundLaws.{is_on}
 use Rattle.tw_disk.proofs.SpelledLaws.{Spelt, is-spelled, spelled-bad, spelled-is}
-use Rattle.tw_skiplist.proofs.Rules.{both_true}
+use Rattle.tw_steppage.proofs.Rules.{both_true}
 
 events-lawful : (count : ℕ) → Lawful (events_codec count)
 events-lawful count = search lawful depth 20

@@ -2,21 +2,21 @@
 use Rattle.std.proofs.Common.{◌≡◌, ℕ, ◌≤◌, List, length, refl, subst, Bool, true, false}
 use Rattle.std.specs.Prelude.{◌&&◌}
 use Rattle.tw_disk.specs.Image.{Image}
-use Rattle.tw_skiplist.specs.declared.fields.StepFields.{StepFields}
+use Rattle.tw_steppage.specs.declared.fields.StepFields.{StepFields}
 use Rattle.tw_skiplist.specs.declared.head.Head.{Head}
-use Rattle.tw_skiplist.specs.declared.head.StepRef.{StepRef}
+use Rattle.tw_steppage.specs.declared.link.StepRef.{StepRef}
 use Rattle.tw_skiplist.specs.declared.info.StepInfo.{StepInfo}
 use Rattle.tw_skiplist.specs.declared.info.StepProof.{StepProof}
 use Rattle.tw_disk.specs.Found.{Found, when, ◌>>=◌, bytes_in, spelled}
 use Rattle.tw_disk.specs.Found.Found.{Is, Bad}
 use Rattle.tw_skiplist.specs.Readings.{found_proof}
 use Rattle.tw_skiplist.specs.Records.{info_record}
-use Rattle.tw_skiplist.specs.StepBytes.{step_codec}
-use Rattle.tw_skiplist.specs.StepPages.{keeps_field_rules, keeps_link_rules, page_of_step, step_in}
+use Rattle.tw_steppage.specs.StepBytes.{step_codec}
+use Rattle.tw_steppage.specs.StepPages.{keeps_field_rules, keeps_link_rules, page_of_step, step_in}
 use Rattle.tw_skiplist.specs.Walks.{collected, head_ref, info_in, walk}
 use Rattle.tw_disk.proofs.FoundLaws.{same_found}
 use Rattle.tw_disk.proofs.SpelledLaws.{is-spelled}
-use Rattle.tw_skiplist.proofs.StepCodecs.{events-few, step-lawful}
+use Rattle.tw_steppage.proofs.StepCodecs.{events-few, step-lawful}
 
 -- where two readings one after another find something, the first does, and the second finds it
 pub record Through {X Y : Type 0} (one : Found X) (next : X → Found Y) (y : Y) : Type 0 where

@@ -6,7 +6,7 @@ use Rattle.tw_base.specs.history.History.{History, Step}
 use Rattle.tw_base.specs.history.Auth.{auth}
 use Rattle.tw_skiplist.specs.declared.head.Head.{Head}
 use Rattle.tw_skiplist.specs.Keeping.{Keeps, KeepsStep, KeepsSteps, KeepsStream, Place, no_place, place_of}
-use Rattle.tw_skiplist.specs.declared.limits.TheConstants.{MOST_PIECE_BYTES}
+use Rattle.tw_steppage.specs.declared.limits.TheConstants.{MOST_PIECE_BYTES}
 
 pub page_grows : (pages more : Image) (k : ℕ) (bytes : List ℕ) → k < length pages → page_at pages k ≡ bytes → page_at (pages ++ more) k ≡ bytes
 page_grows pages more k bytes l is = get_or_append_left pages more [] k l ∙ is
@@ -29,12 +29,12 @@ KeepsStream-grows pages more step first page bytes below k = record {
 module _ (dig : List ℕ → List ℕ) where
   pub KeepsStep-grows : (pages more : Image) (h : History) (places : List Place) (k : ℕ) → KeepsStep dig pages h places k → KeepsStep dig (pages ++ more) h places k
   KeepsStep-grows pages more h places k s = record {
-    events_only = s.events_only;
-    limits = s.limits;
+    may = s.may;
     low = s.low;
     rising = s.rising;
     below = omega (arith, s.below, length-append pages more);
     small = s.small;
+    archive = s.archive;
     bytes = page_grows pages more ((place_of places (suc k)).page - 4) _ (omega (arith, s.below, s.low)) s.bytes;
     stream = KeepsStream-grows pages more (suc k) (place_of places (suc k)).first (place_of places (suc k)).page _ s.below s.stream;
   }
@@ -42,11 +42,11 @@ module _ (dig : List ℕ → List ℕ) where
   pub KeepsSteps-grows : (pages more : Image) (h : History) (places : List Place) → KeepsSteps dig pages h places → KeepsSteps dig (pages ++ more) h places
   KeepsSteps-grows pages more h places s = record { count = s.count; nowhere = s.nowhere; short = s.short; steps = λ k l. KeepsStep-grows pages more h places k (s.steps k l) }
 
-  pub Keeps-grows : (pages more : Image) (h : History) (head : Head) → Keeps dig pages h head → Keeps dig (pages ++ more) h head
-  Keeps-grows pages more h head k = record { places = k.places; keeps = KeepsSteps-grows pages more h k.places k.keeps; step = k.step; auth = k.auth; page = k.page }
+  pub Keeps-grows : (pages more : Image) (h : History) (head : Head) → (kept : Keeps dig pages h head) → (still : Keeps dig (pages ++ more) h head) × (still.places ≡ kept.places)
+  Keeps-grows pages more h head k = (record { places = k.places; keeps = KeepsSteps-grows pages more h k.places k.keeps; step = k.step; auth = k.auth; page = k.page }, refl)
 
   -- a history of no step
-  pub Keeps-first : (pages : Image) (h : History) (head : Head) → h.steps ≡ [] → head.step ≡ 0 → head.auth ≡ auth dig h 0 → head.page ≡ 0 → Keeps dig pages h head
+  unfoldable pub Keeps-first : (pages : Image) (h : History) (head : Head) → h.steps ≡ [] → head.step ≡ 0 → head.auth ≡ auth dig h 0 → head.page ≡ 0 → Keeps dig pages h head
   Keeps-first pages h head none step label page =
       let no_steps : length h.steps ≡ 0 = ap (λ (s : List Step). length s) none in
       record {

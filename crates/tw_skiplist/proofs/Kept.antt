@@ -7,26 +7,27 @@ use Rattle.std.proofs.lemmas.Nat.{pow_pos}
 use Rattle.std.proofs.Math.Nat.{pow-le-pow_right, mod-eq_of_lt}
 use Rattle.tw_disk.specs.Image.{Image, page_at}
 use Rattle.tw_base.specs.history.Auth.{auth}
-use Rattle.tw_base.specs.history.History.{History, events_at}
+use Rattle.tw_base.specs.history.History.{History, events_at, step_at, thread_of, time_at}
+use Rattle.tw_base.specs.events.EventTree.{event_root}
 use Rattle.tw_base.specs.kinds.Lists.{Each}
 use Rattle.tw_base.specs.kinds.Levels.{top_level}
 use Rattle.tw_base.specs.history.Tree.{tree}
 use Rattle.tw_base.proofs.lemmas.kinds.DigestBytes.{IsDigest, auth-digest, event_root-digest, tree_label-digest}
 use Rattle.tw_base.proofs.lemmas.kinds.Levels.{top_level-divides}
 use Rattle.tw_base.proofs.lemmas.kinds.ListLemmas.{Each-append}
-use Rattle.tw_skiplist.specs.declared.head.StepRef.{StepRef}
-use Rattle.tw_skiplist.specs.declared.fields.StepFields.{StepFields}
-use Rattle.tw_skiplist.specs.Keeping.{KeepsStep, KeepsSteps, Place, fields_at, link_to, links_at, links_to, place_of}
-use Rattle.tw_skiplist.specs.StepBytes.{ref_codec, step_codec, stream}
+use Rattle.tw_steppage.specs.declared.link.StepRef.{StepRef}
+use Rattle.tw_steppage.specs.declared.fields.StepFields.{StepFields}
+use Rattle.tw_skiplist.specs.Keeping.{KeepsStep, KeepsSteps, Place, archive_at, fields_at, link_to, links_at, links_to, place_of}
+use Rattle.tw_steppage.specs.StepBytes.{ref_codec, step_codec, stream}
 use Rattle.tw_disk.specs.Found.{Found, when, ◌>>=◌, spelled}
 use Rattle.tw_disk.specs.Found.Found.{Is}
-use Rattle.tw_skiplist.specs.StepPages.{lies_below, link_of, no_ref, step_in, page_of_step}
+use Rattle.tw_steppage.specs.StepPages.{lies_below, link_of, no_ref, step_in, page_of_step}
 use Rattle.tw_skiplist.specs.Walks.{link_in}
 use Rattle.tw_disk.proofs.FoundLaws.{is_on, bytes_in-within}
 use Rattle.tw_disk.proofs.SpelledLaws.{page-is}
-use Rattle.tw_skiplist.proofs.Rules.{below_where, both_true, link_rules-all}
-use Rattle.tw_skiplist.proofs.StepCodecs.{fields-fit, ref-fits, step-fits, step-lawful}
-use Rattle.tw_skiplist.proofs.Streams.{length-stream}
+use Rattle.tw_skiplist.proofs.Contents.{may_count, may_time}
+use Rattle.tw_steppage.proofs.Rules.{below_where, both_true, link_rules-all}
+use Rattle.tw_steppage.proofs.StepCodecs.{ref-fits, step-fits, step-lawful}
 
 -- ---- powers
 
@@ -134,10 +135,11 @@ module _ (dig : List ℕ → List ℕ) (size : (text : List ℕ) → IsDigest (d
 
     page-fits : (k : ℕ) → k < length h.steps → KeepsStep dig ps h places k → (step_codec (suc k)).Fits (fields_at dig h places (suc k), links_at dig h places (suc k))
     page-fits k l s =
-        step-fits (suc k) (fields_at dig h places (suc k)) (links_at dig h places (suc k))
-        (fields-fit (fields_at dig h places (suc k)) (omega (arith, s.limits.are.count)) (omega (arith, length-stream (events_at h (suc k)), s.limits.are.count, s.limits.fit)) (omega (arith, first_below k s, s.small))
-        (event_root-digest dig (λ t. (size t).0) (λ t. (size t).1) (events_at h (suc k))) (tree_label-digest dig (λ t. (size t).0) (λ t. (size t).1) (tree h (suc k))) (omega arith) (auth-is (suc k)))
-        (length-links_to (suc k) (suc (top_level (suc k)))) (links-fit (suc k) (suc (top_level (suc k))) (omega (arith, l)))
+        step-fits (suc k) (length (events_at h (suc k))) (record { page = (place_of places (suc k)).first; size = length (stream (events_at h (suc k))) }) (event_root dig (events_at h (suc k)))
+        (archive_at dig h places (suc k)) (auth dig h (suc k)) (links_at dig h places (suc k)) (time_at h (suc k)) (thread_of (step_at h (suc k)))
+        (may_count (step_at h (suc k)) (place_of places (suc k)).first s.may s.stream.none (omega (arith, first_below k s, s.small)))
+        (event_root-digest dig (λ t. (size t).0) (λ t. (size t).1) (events_at h (suc k))) (tree_label-digest dig (λ t. (size t).0) (λ t. (size t).1) (tree h (suc k))) (omega (arith, s.archive, s.small)) (auth-is (suc k))
+        (may_time (step_at h (suc k)) s.may) (length-links_to (suc k) (suc (top_level (suc k)))) (links-fit (suc k) (suc (top_level (suc k))) (omega (arith, l)))
 
     -- a step's page is the page of that step
     pub kept_page : (k : ℕ) → k < length h.steps → page_of_step ps (page (suc k)) (suc k) ≡ Is (fields_at dig h places (suc k), links_at dig h places (suc k))
@@ -146,7 +148,7 @@ module _ (dig : List ℕ → List ℕ) (size : (text : List ℕ) → IsDigest (d
         let s = kept.steps k l in
         let f : StepFields = fields_at dig h places (suc k) in
         let links : List StepRef = links_at dig h places (suc k) in
-        let fields = both_true _ _ (below_where f.stream.size 0 f.stream.page (page (suc k)) (first_below k s) s.stream.none (no_bytes k s)) (lt-ltb f.archive.page (page (suc k)) (omega (arith, s.low))) in
+        let fields = both_true _ _ (below_where f.stream.size 0 f.stream.page (page (suc k)) (first_below k s) s.stream.none (no_bytes k s)) (lt-ltb f.archive.page (page (suc k)) s.archive) in
         let rules = link_rules-all (page (suc k)) (suc k) links (length links) (λ level under. link_rule k level l (omega (arith, under, length-links_to (suc k) (suc (top_level (suc k)))))) in
         ap (λ (b : Found (List ℕ)). b >>= step_in (page (suc k)) (suc k)) (bytes_in-within ps (page (suc k)) s.low s.below)
         ∙ is_on (spelled (page (suc k)) 4096 (step_codec (suc k)) (page_at ps (page (suc k) - 4))) _ (f, links)

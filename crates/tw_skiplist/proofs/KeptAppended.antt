@@ -1,5 +1,5 @@
 -- One more step of a history that the pages keep.
-use Rattle.std.proofs.Common.{◌≡◌, ℕ, suc, zero, ◌+◌, ◌-◌, ◌^◌, ◌<◌, ◌≤◌, List, [], ◌∷◌, ◌++◌, length, refl, ap, sym, ◌∙◌, arith, subst, append_assoc, Bool}
+use Rattle.std.proofs.Common.{◌≡◌, ℕ, suc, zero, ◌+◌, ◌-◌, ◌*◌, ◌^◌, ◌<◌, ◌≤◌, List, [], ◌∷◌, ◌++◌, length, refl, ap, sym, ◌∙◌, arith, subst, append_assoc, Bool, Option, Some}
 use Rattle.std.specs.Prelude.{map, if◌then◌else◌}
 use Rattle.std.proofs.lemmas.Bool.{eq-eqb, ne_eqb}
 use Rattle.std.proofs.lemmas.List.{length_push}
@@ -7,37 +7,41 @@ use Rattle.std.proofs.lemmas.Nat.{pow_pos}
 use Rattle.std.proofs.Math.Nat.{pow-suc}
 use Rattle.tw_disk.specs.Image.{Image}
 use Rattle.tw_base.specs.declared.kinds.limits.TheConstants.{LAST_STEP}
+use Rattle.tw_base.specs.declared.history.content.Content.{Content}
 use Rattle.tw_base.specs.declared.history.root.Root.{Root}
-use Rattle.tw_base.specs.kinds.Texts.{authenticator_text, datum_text}
+use Rattle.tw_base.specs.kinds.Texts.{authenticator_text, step_datum_text}
 use Rattle.tw_base.specs.events.EventTree.{event_root}
-use Rattle.tw_base.specs.history.History.{History, Step, events_at, root_of, step_at, with_events}
+use Rattle.tw_base.specs.history.History.{History, Step, events_at, events_of, plus, step_at, thread_of, time_at, time_of}
+use Rattle.tw_base.specs.history.Tree.{tree}
 use Rattle.tw_base.specs.kinds.Levels.{top_level}
 use Rattle.tw_base.specs.history.Auth.{auth, auths, datum_text_at, link_texts, tree_label}
-use Rattle.tw_base.specs.history.Limits.{MayRecord}
+use Rattle.tw_base.specs.history.Limits.{FitTogether, IsTimeWithinLimits, IsWithinLimits, MayRecord}
 use Rattle.tw_base.proofs.lemmas.kinds.DigestBytes.{IsDigest}
 use Rattle.tw_base.proofs.lemmas.history.Auths.{auth-suc}
 use Rattle.tw_base.proofs.lemmas.kinds.Levels.{divides-less, divides-minus, top_level-divides, top_level-greatest}
-use Rattle.tw_base.proofs.lemmas.history.Plus.{auths-plus}
+use Rattle.tw_base.proofs.lemmas.history.Plus.{auths-plus, step_at-new}
 use Rattle.tw_skiplist.specs.declared.head.Head.{Head}
-use Rattle.tw_skiplist.specs.declared.head.StepRef.{StepRef}
-use Rattle.tw_skiplist.specs.declared.fields.StepFields.{StepFields}
+use Rattle.tw_steppage.specs.declared.link.StepRef.{StepRef}
+use Rattle.tw_skiplist.specs.declared.adding.NewStep.{NewStep}
+use Rattle.tw_steppage.specs.declared.fields.StepFields.{StepFields}
+use Rattle.tw_steppage.specs.declared.limits.TheConstants.{MOST_PIECE_BYTES}
 use Rattle.tw_disk.specs.Answers.{Next}
-use Rattle.tw_skiplist.specs.Appended.{appended, first_page, new_labels, next_of}
+use Rattle.tw_skiplist.specs.Appended.{appended, bare_step, events_in, first_page, new_fields, new_labels, new_step, next_of, put_behind, thread_in}
 use Rattle.tw_skiplist.specs.Events.{piece_count}
 use Rattle.tw_disk.specs.Found.{◌>>=◌}
 use Rattle.tw_disk.specs.Found.Found.{Is}
-use Rattle.tw_skiplist.specs.Keeping.{Keeps, KeepsSteps, Place, archive_at, event_step, fields_at, link_to, links_at, links_to, place_of}
+use Rattle.tw_skiplist.specs.Keeping.{GoOn, Keeps, KeepsSteps, MayBeKept, Place, fields_at, link_to, links_at, links_to, place_of}
 use Rattle.tw_skiplist.specs.Records.{page_labels}
-use Rattle.tw_skiplist.specs.StepBytes.{event_pages, step_page_bytes, stream}
-use Rattle.tw_skiplist.specs.StepPages.{link_of, no_ref}
+use Rattle.tw_steppage.specs.StepBytes.{event_pages, step_page_bytes, stream}
+use Rattle.tw_steppage.specs.StepPages.{link_of, no_ref}
 use Rattle.tw_skiplist.specs.Walks.{link_in, links_up_to, next_links}
-use Rattle.tw_skiplist.proofs.EventHistories.{new_datum, new_events, same_tree}
+use Rattle.tw_skiplist.proofs.Contents.{may_record}
 use Rattle.tw_disk.proofs.FoundLaws.{is_on}
 use Rattle.tw_skiplist.proofs.Growing.{below_head}
 use Rattle.tw_skiplist.proofs.Kept.{get_or-links_to, length-links_to, power-le}
 use Rattle.tw_skiplist.proofs.KeptReadings.{first_is, link_kept}
 use Rattle.tw_skiplist.proofs.PieceCounts.{count_all}
-use Rattle.tw_skiplist.proofs.Plus.{KeepsSteps-plus, place_of-new}
+use Rattle.tw_skiplist.proofs.Plus.{KeepsSteps-plus, place_of-new, place_of-plus}
 use Rattle.tw_skiplist.proofs.Recording.{labels_to}
 use Rattle.tw_skiplist.proofs.Streams.{length-stream}
 use Rattle.tw_skiplist.proofs.WalkLaws.{links-first, links-more}
@@ -88,25 +92,25 @@ module _ (dig : List ℕ → List ℕ) (size : (text : List ℕ) → IsDigest (d
 
 -- ---- the step that was put
 
-pub record Grown (dig : List ℕ → List ℕ) (ps : Image) (h : History) (head : Head) (events : List (List ℕ)) (archive : Root) : Type 0 where
+-- it is found behind the pages, and where its archive is that of the longer history, they keep that under its head
+pub record Grown (dig : List ℕ → List ℕ) (ps : Image) (h : History) (head : Head) (places : List Place) (content : Content) (archive : Root) (time : Option ℕ) : Type 0 where
   pub more : Image
   pub new : Head
-  pub is : appended dig ps head events archive ≡ Is (record { pages = ps ++ more; value = new })
-  pub keeps : archive ≡ archive_at dig h (length h.steps) → Keeps dig (ps ++ more) (with_events h events) new
+  pub is : appended dig ps head content archive time ≡ Is (record { pages = ps ++ more; value = new })
+  pub keeps : (s : Step) → s.content ≡ content → s.time ≡ time → archive.label ≡ tree_label dig (tree (plus h s) (suc (length h.steps)))
+      → (longer : Keeps dig (ps ++ more) (plus h s) new) × GoOn places longer.places (length h.steps) archive.page
 
 module _ (dig : List ℕ → List ℕ) (size : (text : List ℕ) → IsDigest (dig text)) (ps : Image) (h : History) (head : Head) (keeps : Keeps dig ps h head)
-    (events : List (List ℕ)) (archive : Root) (short : head.step < LAST_STEP) (limits : MayRecord events) (room : 4 + length ps < 2 ^ 47) where
+    (content : Content) (archive : Root) (time : Option ℕ) (short : head.step < LAST_STEP) (may : MayBeKept (bare_step content time))
+    (low : archive.page < 4 + length ps) (room : 4 + length ps < 2 ^ 47) where
   abbrev n : ℕ
   n = length h.steps
 
-  abbrev longer : History
-  longer = with_events h events
-
-  abbrev last : Step
-  last = event_step (root_of (step_at h n)) events
+  abbrev new_parts : NewStep
+  new_parts = new_step dig content archive time
 
   abbrev bytes : List ℕ
-  bytes = stream events
+  bytes = stream (events_in content)
 
   abbrev places : List Place
   places = keeps.places
@@ -115,19 +119,13 @@ module _ (dig : List ℕ → List ℕ) (size : (text : List ℕ) → IsDigest (d
   links = links_to dig h places (head.step + 1) (suc (top_level (head.step + 1)))
 
   abbrev next : Next Head
-  next = next_of dig ps head events archive links
+  next = next_of dig ps head new_parts links
 
   abbrev new_label : List ℕ
-  new_label = dig (authenticator_text (head.step + 1) (new_labels dig ps head events archive links))
+  new_label = dig (authenticator_text (head.step + 1) (new_labels dig ps head new_parts links))
 
   abbrev f : StepFields
-  f = record {
-    count = length events;
-    stream = record { page = first_page ps (length bytes); size = length bytes };
-    event_root = event_root dig events;
-    archive = archive;
-    auth = new_label;
-  }
+  f = new_fields ps new_parts new_label
 
   next_is : head.step + 1 ≡ suc n
   next_is = omega (arith, keeps.step)
@@ -137,18 +135,15 @@ module _ (dig : List ℕ → List ℕ) (size : (text : List ℕ) → IsDigest (d
       ap (λ (first : StepRef). links_up_to ps first head.step (top_level (head.step + 1))) (first_is dig size ps h head keeps)
       ∙ links_kept dig size h places ps keeps.keeps head.step keeps.step short (top_level (head.step + 1)) (omega arith)
 
-  is_next : appended dig ps head events archive ≡ Is next
-  unfolding appended
-  is_next = is_on (next_links ps head) (λ links. Is (next_of dig ps head events archive links)) links links_found
+  is_next : appended dig ps head content archive time ≡ Is next
+  unfolding put_behind
+  is_next = is_on (next_links ps head) (λ links. Is (next_of dig ps head new_parts links)) links links_found
 
   abbrev place : Place
-  place = record { page = next.value.page; first = first_page ps (length bytes) }
+  place = record { page = next.value.page; first = first_page ps (length bytes); archive = archive.page }
 
   abbrev more_places : List Place
   more_places = places ++ place ∷ []
-
-  here : place_of more_places (suc n) ≡ place
-  here = place_of-new dig h places last place keeps.keeps.count
 
   links_of : links ≡ links_at dig h places (suc n)
   links_of = ap (λ (i : ℕ). links_to dig h places i (suc (top_level i))) next_is
@@ -160,7 +155,10 @@ module _ (dig : List ℕ → List ℕ) (size : (text : List ℕ) → IsDigest (d
   some_first some = ap (λ (b : Bool). if b then 0 else 4 + length ps) (ne_eqb (length bytes) 0 (λ none. omega (arith, none, some)))
 
   few : piece_count (length bytes) ≤ 18
-  few = let sum = length-stream events in omega (arith, sum, limits.are.count, limits.fit)
+  few =
+      let sum = length-stream (events_in content) in
+      let limits : MayRecord (events_in content) = may_record (Some (bare_step content time)) may in
+      omega (arith, sum, limits.are.count, limits.fit)
 
   abbrev page : List ℕ
   page = step_page_bytes (suc n) f links
@@ -168,16 +166,32 @@ module _ (dig : List ℕ → List ℕ) (size : (text : List ℕ) → IsDigest (d
   abbrev pieces : Image
   pieces = event_pages (suc n) bytes (piece_count (length bytes))
 
-  -- where the archive is the history's
-  module _ (archived : archive ≡ archive_at dig h n) where
+  -- a step of this content and time, where the archive is that of the longer history
+  module _ (s : Step) (content_is : s.content ≡ content) (time_is : s.time ≡ time) (archived : archive.label ≡ tree_label dig (tree (plus h s) (suc n))) where
+    abbrev longer : History
+    longer = plus h s
+
+    here : place_of more_places (suc n) ≡ place
+    here = place_of-new dig h places s place keeps.keeps.count
+
+    same_events : events_in content ≡ events_at longer (suc n)
+    same_events = ap events_in (sym content_is) ∙ ap events_of (sym (step_at-new h s))
+
+    same_thread : thread_in content ≡ thread_of (step_at longer (suc n))
+    same_thread = ap thread_in (sym content_is) ∙ ap thread_of (sym (step_at-new h s))
+
+    same_time : time ≡ time_at longer (suc n)
+    same_time = sym time_is ∙ ap time_of (sym (step_at-new h s))
+
     abbrev datum : List ℕ
-    datum = dig (datum_text (event_root dig events) archive.label (length events))
+    datum = dig (step_datum_text (event_root dig (events_in content)) archive.label (length (events_in content)) time)
 
     datum_of : datum ≡ dig (datum_text_at dig longer (suc n))
-    datum_of = ap (λ (a : Root). dig (datum_text (event_root dig events) a.label (length events))) archived ∙ ap dig (sym (new_datum h events dig))
+    unfolding datum_text_at
+    datum_of = (λ j. dig (step_datum_text (event_root dig (same_events j)) (archived j) (length (same_events j)) (same_time j)))
 
     auths_of : auths dig h n ≡ auths dig longer n
-    auths_of = sym (auths-plus h last dig n (omega arith))
+    auths_of = sym (auths-plus h s dig n (omega arith))
 
     label_of : new_label ≡ auth dig longer (suc n)
     label_of =
@@ -189,30 +203,51 @@ module _ (dig : List ℕ → List ℕ) (size : (text : List ℕ) → IsDigest (d
 
     fields_of : f ≡ fields_at dig longer more_places (suc n)
     fields_of =
-        let same : events ≡ events_at longer (suc n) = sym (new_events h events) in
         (λ j. record {
-          count = length (same j);
-          stream = record { page = (ap (λ (p : Place). p.first) (sym here)) j; size = length (stream (same j)) };
-          event_root = event_root dig (same j);
-          archive = (archived ∙ (λ k. record { page = 0; label = tree_label dig (sym (same_tree h events) k) })) j;
+          count = length (same_events j);
+          stream = record { page = (ap (λ (p : Place). p.first) (sym here)) j; size = length (stream (same_events j)) };
+          event_root = event_root dig (same_events j);
+          archive = record { page = (ap (λ (p : Place). p.archive) (sym here)) j; label = archived j };
+          received = same_thread j;
           auth = label_of j;
+          time = same_time j;
         })
 
-    put_keeps : Keeps dig (ps ++ (pieces ++ page ∷ [])) longer next.value
-    put_keeps =
-        let longer_is : length longer.steps ≡ suc n = length_push h.steps last ∙ omega arith in
-        let under = below_head dig ps h places keeps.keeps in
-        let kept = KeepsSteps-plus dig ps h places events keeps.keeps (omega (arith, short, keeps.step)) limits (piece_count (length bytes)) place.first place.page (count_all (length bytes))
-        no_first some_first refl (omega (arith, room, few)) (omega (arith, under)) f links fields_of links_of in
-        record {
-          places = more_places;
-          keeps = subst (λ (x : Image). KeepsSteps dig x longer more_places) (append_assoc ps pieces (page ∷ [])) kept;
-          step = next_is ∙ sym longer_is;
-          auth = label_of ∙ ap (λ (i : ℕ). auth dig longer i) (sym longer_is);
-          page = ap (λ (p : Place). p.page) (sym here) ∙ ap (λ (i : ℕ). (place_of more_places i).page) (sym longer_is);
-        }
+    may_be : MayBeKept s
+    may_be = record {
+      content = subst IsWithinLimits (sym content_is) may.content;
+      together = subst (λ (c : Content). FitTogether (events_in c)) (sym content_is) may.together;
+      time = subst IsTimeWithinLimits (sym time_is) may.time;
+    }
 
-  pub grown : Grown dig ps h head events archive
+    -- the stream of the step
+    abbrev own : List ℕ
+    own = stream (events_of (Some s))
+
+    own_is : bytes ≡ own
+    own_is = ap (λ (c : Content). stream (events_in c)) (sym content_is)
+
+    put_keeps : (kept : Keeps dig (ps ++ (pieces ++ page ∷ [])) longer next.value) × GoOn places kept.places n archive.page
+    put_keeps =
+        let longer_is : length longer.steps ≡ suc n = length_push h.steps s ∙ omega arith in
+        let under = below_head dig ps h places keeps.keeps in
+        let lengths : length bytes ≡ length own = ap length own_is in
+        let pieces_are : event_pages (suc n) own (piece_count (length bytes)) ≡ pieces = ap (λ (b : List ℕ). event_pages (suc n) b (piece_count (length bytes))) (sym own_is) in
+        let all : length own ≤ MOST_PIECE_BYTES * piece_count (length bytes) = subst (λ (m : ℕ). m ≤ MOST_PIECE_BYTES * piece_count (length bytes)) lengths (count_all (length bytes)) in
+        let kept = KeepsSteps-plus dig ps h places s archive.page keeps.keeps (omega (arith, short, keeps.step)) may_be (piece_count (length bytes)) place.first place.page all
+        (λ none. no_first (lengths ∙ none)) (λ some. some_first (omega (arith, some, lengths))) refl (omega (arith, room, few)) (omega (arith, under)) (omega (arith, low)) f links fields_of links_of in
+        let there = subst (λ (x : Image). KeepsSteps dig ((ps ++ x) ++ page ∷ []) longer more_places) pieces_are kept in (
+          record {
+            places = more_places;
+            keeps = subst (λ (x : Image). KeepsSteps dig x longer more_places) (append_assoc ps pieces (page ∷ [])) there;
+            step = next_is ∙ sym longer_is;
+            auth = label_of ∙ ap (λ (i : ℕ). auth dig longer i) (sym longer_is);
+            page = ap (λ (p : Place). p.page) (sym here) ∙ ap (λ (i : ℕ). (place_of more_places i).page) (sym longer_is);
+          },
+          record { before = λ i l. place_of-plus dig h places s place keeps.keeps.count i l; new = ap (λ (p : Place). p.archive) here },
+        )
+
+  pub grown : Grown dig ps h head keeps.places content archive time
   grown = record {
     more = pieces ++ page ∷ [];
     new = next.value;

@@ -13,12 +13,13 @@ use Rattle.tw_base.proofs.lemmas.format.CodecLaws.{Lawful, lawful}
 use Rattle.tw_disk.specs.Image.{Image, page_at}
 use Rattle.tw_base.specs.format.PageBytes.{IsPageOf}
 use Rattle.tw_skiplist.specs.declared.info.StepInfo.{StepInfo}
-use Rattle.tw_skiplist.specs.declared.limits.TheConstants.{MOST_PIECE_BYTES, MOST_STREAM_BYTES}
+use Rattle.tw_steppage.specs.declared.limits.TheConstants.{MOST_PIECE_BYTES, MOST_STREAM_BYTES}
 use Rattle.tw_skiplist.specs.Events.{events_in, events_of_info, last_page, piece_count, piece_in, piece_size, pieces_below}
 use Rattle.tw_disk.specs.Found.{Found, ◌>>=◌, spelled}
 use Rattle.tw_disk.specs.Found.Found.{Is, Bad}
 use Rattle.tw_skiplist.specs.Infos.{IsInfoOf}
-use Rattle.tw_skiplist.specs.StepBytes.{event_page_bytes, piece, piece_codec, stream}
+use Rattle.tw_skiplist.specs.Keeping.{Place}
+use Rattle.tw_steppage.specs.StepBytes.{event_page_bytes, piece, piece_codec, stream}
 use Rattle.tw_skiplist.proofs.EventWords.{found-events}
 use Rattle.tw_disk.proofs.FoundLaws.{is_on, bytes_in-within}
 use Rattle.tw_disk.proofs.SpelledLaws.{page-is}
@@ -47,7 +48,7 @@ stream_bytes (e ∷ es) all = AreBytes-append (to_be_bytes w32 (length e)) (e ++
     length_bytes : (n : ℕ) → AreBytes (to_be_bytes w32 n)
     length_bytes n = (omega arith, (omega arith, (omega arith, (omega arith, tt))))
 
-module _ (dig : List ℕ → List ℕ) (ps : Image) (h : History) (i : ℕ) (info : StepInfo) (is : IsInfoOf dig ps h i info) where
+module _ (dig : List ℕ → List ℕ) (ps : Image) (h : History) (places : List Place) (i : ℕ) (info : StepInfo) (is : IsInfoOf dig ps h places i info) where
   abbrev bytes_of : List ℕ
   bytes_of = stream (events_at h i)
 

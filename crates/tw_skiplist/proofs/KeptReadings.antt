@@ -1,5 +1,5 @@
 -- What is read of pages that keep a history is the history's.
-use Rattle.std.proofs.Common.{◌≡◌, ℕ, suc, zero, ◌+◌, ◌-◌, ◌^◌, ◌<◌, ◌≤◌, List, [], ◌∷◌, length, ap, sym, ◌∙◌, arith, inl, inr}
+use Rattle.std.proofs.Common.{◌≡◌, ℕ, suc, zero, ◌+◌, ◌-◌, ◌^◌, ◌<◌, ◌≤◌, List, [], ◌∷◌, length, refl, ap, sym, ◌∙◌, arith, inl, inr}
 use Rattle.std.proofs.lemmas.Bool.{cases_lt}
 use Rattle.tw_disk.specs.Image.{Image}
 use Rattle.tw_base.specs.history.Auth.{auth}
@@ -13,17 +13,19 @@ use Rattle.tw_skipproof.specs.Paths.{hop, hop_level}
 use Rattle.tw_skipproof.proofs.GreedySteps.{hop-less}
 use Rattle.tw_skipproof.proofs.Hops.{hop-below, hop_level-le}
 use Rattle.tw_skiplist.specs.declared.head.Head.{Head}
-use Rattle.tw_skiplist.specs.declared.head.StepRef.{StepRef}
+use Rattle.tw_steppage.specs.declared.link.StepRef.{StepRef}
 use Rattle.tw_skiplist.specs.declared.info.StepInfo.{StepInfo}
+use Rattle.tw_skiplist.specs.declared.collecting.Collected.{Collected}
+use Rattle.tw_skiplist.specs.declared.info.StepLink.{StepLink}
 use Rattle.tw_skiplist.specs.declared.info.StepProof.{StepProof}
 use Rattle.tw_skiplist.specs.Events.{events_of_info}
-use Rattle.tw_disk.specs.Found.{◌>>=◌}
+use Rattle.tw_disk.specs.Found.{Found, ◌>>=◌}
 use Rattle.tw_disk.specs.Found.Found.{Is}
 use Rattle.tw_skiplist.specs.Infos.{IsInfoOf}
 use Rattle.tw_skiplist.specs.Keeping.{Keeps, KeepsSteps, Place, fields_at, link_to, links_at, place_of}
-use Rattle.tw_skiplist.specs.Readings.{found_events, found_path, found_proof, found_step}
+use Rattle.tw_skiplist.specs.Readings.{found_events, found_link, found_path, found_proof, found_step}
 use Rattle.tw_skiplist.specs.Records.{info_record, link_record}
-use Rattle.tw_skiplist.specs.StepPages.{link_of, no_ref, page_of_step}
+use Rattle.tw_steppage.specs.StepPages.{link_of, no_ref, page_of_step}
 use Rattle.tw_skiplist.specs.Walks.{collected, head_ref, hop_in, info_in, link_before, link_in, walk}
 use Rattle.tw_disk.proofs.FoundLaws.{is_on}
 use Rattle.tw_skiplist.proofs.Kept.{get_or-links_to, kept_link_in, kept_page}
@@ -119,7 +121,7 @@ module _ (dig : List ℕ → List ℕ) (size : (text : List ℕ) → IsDigest (d
   pub record Tells (i : ℕ) : Type 0 where
     pub info : StepInfo
     pub is : info_in dig ps (page i) i ≡ Is info
-    pub of : IsInfoOf dig ps h i info
+    pub of : IsInfoOf dig ps h places i info
 
   pub tells : (i : ℕ) → 0 < i → i ≤ length h.steps → Tells i
   unfolding info_in
@@ -148,7 +150,7 @@ module _ (dig : List ℕ → List ℕ) (size : (text : List ℕ) → IsDigest (d
   down to order =
       ap (λ (first : StepRef). walk ps first head.step to) first_is ∙ walk_is dig size h places ps keeps.keeps head.step to order (omega (arith, keeps.step))
 
-  pub step_found : (i : ℕ) → 1 ≤ i → i ≤ head.step → (info : StepInfo) × (found_step dig ps head i ≡ Is info) × IsInfoOf dig ps h i info
+  pub step_found : (i : ℕ) → 1 ≤ i → i ≤ head.step → (info : StepInfo) × (found_step dig ps head i ≡ Is info) × IsInfoOf dig ps h places i info
   unfolding found_step
   step_found i some order =
       let told = tells dig size h places ps keeps.keeps i some (omega (arith, order, keeps.step)) in (
@@ -157,18 +159,26 @@ module _ (dig : List ℕ → List ℕ) (size : (text : List ℕ) → IsDigest (d
         told.of,
       )
 
+  pub link_found : (n i : ℕ) → i ≤ n → n ≤ head.step → (link : StepLink) × (found_link dig ps head n i ≡ Is link) × IsPathOf dig h link.path.links n i × (link.auth ≡ auth dig h i)
+  unfolding found_link
+  link_found n i order below =
+      let way = collects dig size h places ps keeps.keeps n i order (omega (arith, below, keeps.step)) in
+      let ends : Collected → Found StepLink = λ way. Is (record { path = record { links = way.links }; auth = way.last.auth }) in (
+        record { path = record { links = way.links }; auth = auth dig h i },
+        is_on (walk ps (head_ref head) head.step n) (λ middle. collected dig ps middle n i >>= ends) (link_to dig h places n) (down n below)
+            ∙ is_on (collected dig ps (link_to dig h places n) n i) ends (record { links = way.links; last = link_to dig h places i }) way.is,
+        way.path,
+        refl,
+      )
+
   pub path_found : (n i : ℕ) → i ≤ n → n ≤ head.step → (path : Path) × (found_path dig ps head n i ≡ Is path) × IsPathOf dig h path.links n i
   unfolding found_path
   path_found n i order below =
-      let way = collects dig size h places ps keeps.keeps n i order (omega (arith, below, keeps.step)) in (
-        record { links = way.links },
-        is_on (walk ps (head_ref head) head.step n) (λ middle. collected dig ps middle n i >>= (λ way. Is (record { links = way.links }))) (link_to dig h places n) (down n below)
-            ∙ is_on (collected dig ps (link_to dig h places n) n i) (λ way. Is (record { links = way.links })) (record { links = way.links; last = link_to dig h places i }) way.is,
-        way.path,
-      )
+      let own = link_found n i order below in
+      (own.0.path, is_on (found_link dig ps head n i) (λ link. Is link.path) own.0 own.1, own.2)
 
   pub proof_found : (top i : ℕ) → 1 ≤ i → i ≤ top → top ≤ head.step
-      → (proof : StepProof) × (found_proof dig ps head top i ≡ Is proof) × IsPathOf dig h proof.path.links top i × IsInfoOf dig ps h i proof.info
+      → (proof : StepProof) × (found_proof dig ps head top i ≡ Is proof) × IsPathOf dig h proof.path.links top i × IsInfoOf dig ps h places i proof.info
   unfolding found_proof
   proof_found top i some order below =
       let way = collects dig size h places ps keeps.keeps top i order (omega (arith, below, keeps.step)) in
@@ -185,4 +195,4 @@ module _ (dig : List ℕ → List ℕ) (size : (text : List ℕ) → IsDigest (d
   unfolding found_events
   events_found i some order =
       let told = step_found i some order in
-      is_on (found_step dig ps head i) (events_of_info ps) told.0 told.1 ∙ events_are dig ps h i told.0 told.2
+      is_on (found_step dig ps head i) (events_of_info ps) told.0 told.1 ∙ events_are dig ps h places i told.0 told.2

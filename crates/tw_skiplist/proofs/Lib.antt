@@ -1,5 +1,5 @@
 pub mod Appending
-pub mod EventHistories
+pub mod Contents
 pub mod EventWords
 pub mod FewEvents
 pub mod Growing
@@ -11,10 +11,7 @@ pub mod Once
 pub mod PieceCounts
 pub mod Plus
 pub mod Recording
-pub mod Rules
 pub mod Shapes
-pub mod Sounding
 pub mod Spelling
-pub mod StepCodecs
 pub mod Streams
 pub mod WalkLaws

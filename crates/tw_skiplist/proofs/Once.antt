@@ -1,4 +1,4 @@
--- Pages keep one history of a name at most under a head.
+-- The histories that pages keep under one head are alike.
 use Rattle.std.proofs.Common.{◌≡◌, ℕ, suc, zero, ◌+◌, ◌-◌, ◌*◌, ◌^◌, ◌<◌, ◌≤◌, List, [], ◌∷◌, ◌++◌, length, take, drop, refl, ap, sym, ◌∙◌, arith, inl, inr, subst, Some, length-take, length-drop}
 use Rattle.std.specs.Prelude.{min}
 use Rattle.std.proofs.lemmas.Bool.{cases_lt}
@@ -6,21 +6,20 @@ use Rattle.std.proofs.lemmas.List.{ext_get_or, take_all}
 use Rattle.std.proofs.lemmas.Option.{get_or_from_slice_get}
 use Rattle.tw_base.proofs.lemmas.kinds.DigestBytes.{IsDigest}
 use Rattle.tw_disk.specs.Image.{Image}
-use Rattle.tw_base.specs.history.History.{History, events_at, root_of, step_at}
+use Rattle.tw_base.specs.history.History.{History, events_at, step_at, thread_of, time_at}
 use Rattle.tw_base.specs.kinds.Levels.{top_level}
 use Rattle.tw_skiplist.specs.declared.head.Head.{Head}
-use Rattle.tw_skiplist.specs.declared.head.StepRef.{StepRef}
-use Rattle.tw_skiplist.specs.declared.fields.StepFields.{StepFields}
-use Rattle.tw_skiplist.specs.Keeping.{event_step}
-use Rattle.tw_skiplist.specs.Keeping.{Keeps, KeepsSteps, KeepsStream, Place, fields_at, links_at, place_of}
-use Rattle.tw_skiplist.specs.StepBytes.{piece, stream}
-use Rattle.tw_skiplist.specs.StepPages.{link_of, no_ref, page_of_step}
-use Rattle.tw_skiplist.proofs.EventHistories.{roots_none}
+use Rattle.tw_steppage.specs.declared.link.StepRef.{StepRef}
+use Rattle.tw_steppage.specs.declared.fields.StepFields.{StepFields}
+use Rattle.tw_skiplist.specs.Keeping.{AreAlike, Keeps, KeepsSteps, KeepsStream, Place, fields_at, links_at, place_of}
+use Rattle.tw_steppage.specs.StepBytes.{piece, stream}
+use Rattle.tw_steppage.specs.StepPages.{link_of, no_ref, page_of_step}
+use Rattle.tw_skiplist.proofs.Contents.{may_record}
 use Rattle.tw_skiplist.proofs.Kept.{get_or-links_to, kept_page}
 use Rattle.tw_skiplist.proofs.EventWords.{found-events}
 use Rattle.tw_disk.proofs.FoundLaws.{same_found}
 use Rattle.tw_skiplist.proofs.Spelling.{piece_read, take_on}
-use Rattle.tw_skiplist.specs.declared.limits.TheConstants.{MOST_PIECE_BYTES}
+use Rattle.tw_steppage.specs.declared.limits.TheConstants.{MOST_PIECE_BYTES}
 
 -- ---- a stream is known by its pieces
 
@@ -92,33 +91,34 @@ module _ (dig : List ℕ → List ℕ) (size : (text : List ℕ) → IsDigest (d
         (subst (λ (f : ℕ). KeepsStream ps (suc k) f (place_of others (suc k)).page (stream (events_at g (suc k)))) first two.stream) in
         let streams = same_stream ps (suc k) (place_of places (suc k)).first (place_of places (suc k)).page _ _ (sym sizes) one.stream stream_too in
         same_found _ _ (
-        sym (found-events (stream (events_at g (suc k))) (length (events_at g (suc k))) (events_at h (suc k)) (record { stream_is = streams; count_is = sym counts; limits = one.limits }) 0)
-        ∙ found-events (stream (events_at g (suc k))) (length (events_at g (suc k))) (events_at g (suc k)) (record { stream_is = refl; count_is = refl; limits = two.limits }) 0)
-
-    same_root : root_of (step_at h k) ≡ root_of (step_at g k)
-    same_root = roots_none dig ps h places kept k (omega (arith, l, n_is)) ∙ sym (roots_none dig ps g others kept_too k (omega (arith, l, n_is_too)))
-
-    same_step : step_at h (suc k) ≡ step_at g (suc k)
-    same_step =
-        (kept.steps k (omega (arith, l, n_is))).events_only ∙ (λ j. Some (event_step (same_root j) (same_events j)))
-        ∙ sym (kept_too.steps k (omega (arith, l, n_is_too))).events_only
+        sym (found-events (stream (events_at g (suc k))) (length (events_at g (suc k))) (events_at h (suc k)) (record { stream_is = streams; count_is = sym counts; limits = may_record (step_at h (suc k)) one.may }) 0)
+        ∙ found-events (stream (events_at g (suc k))) (length (events_at g (suc k))) (events_at g (suc k)) (record { stream_is = refl; count_is = refl; limits = may_record (step_at g (suc k)) two.may }) 0)
 
   same_pages : (k d : ℕ) → k + d ≡ n → (place_of places k).page ≡ (place_of others k).page
   same_pages k zero e = let at : n ≡ k = omega (arith, e) in subst (λ (i : ℕ). (place_of places i).page ≡ (place_of others i).page) at last
   same_pages k (suc d) e = page_before k (omega (arith, e)) (same_pages (suc k) d (omega (arith, e)))
 
-  same_steps : h.steps ≡ g.steps
-  same_steps = ext_get_or (event_step 0 []) h.steps g.steps (sym n_is ∙ n_is_too) (λ k l.
-      let less : k < n = omega (arith, l, n_is) in
-      let step = same_step k less (same_pages (suc k) (n - suc k) (omega (arith, less))) in
-      let two = (kept_too.steps k (omega (arith, less, n_is_too))).events_only in
-      get_or_from_slice_get h.steps k (event_step (root_of (step_at g k)) (events_at g (suc k))) (event_step 0 []) (step ∙ two) ∙ sym (get_or_from_slice_get g.steps k (event_step (root_of (step_at g k)) (events_at g (suc k))) (event_step 0 []) two))
+  page_at_step : (k : ℕ) → k ≤ n → (place_of places k).page ≡ (place_of others k).page
+  page_at_step k l = same_pages k (n - k) (omega (arith, l))
 
-  pub same_history : h.name ≡ g.name → h ≡ g
-  same_history e = (λ j. record { name = e j; steps = same_steps j })
+  -- what holds of step 0, and of each later one whose page is the same
+  at_each : (P : ℕ → Type 0) → P 0 → ((k : ℕ) → k < n → (place_of places (suc k)).page ≡ (place_of others (suc k)).page → P (suc k)) → (i : ℕ) → i ≤ length h.steps → P i
+  at_each P first next zero l = first
+  at_each P first next (suc k) l = next k (omega (arith, l, n_is)) (page_at_step (suc k) (omega (arith, l, n_is)))
+
+  pub alike : AreAlike h g places others
+  alike = record {
+    count = sym n_is ∙ n_is_too;
+    events = at_each (λ i. events_at h i ≡ events_at g i) refl same_events;
+    threads = at_each (λ i. thread_of (step_at h i) ≡ thread_of (step_at g i)) refl (λ k l same. sym (ap (λ (f : StepFields). f.received) (same_fields k l same)));
+    times = at_each (λ i. time_at h i ≡ time_at g i) refl (λ k l same. sym (ap (λ (f : StepFields). f.time) (same_fields k l same)));
+    pages = λ i l. page_at_step i (omega (arith, l, n_is));
+    archives = at_each (λ i. (place_of places i).archive ≡ (place_of others i).archive) (ap (λ (p : Place). p.archive) (kept.nowhere ∙ sym kept_too.nowhere))
+        (λ k l same. sym (ap (λ (f : StepFields). f.archive.page) (same_fields k l same)));
+  }
 
 module _ (dig : List ℕ → List ℕ) (size : (text : List ℕ) → IsDigest (dig text)) where
-  pub keeps_one : (ps : Image) (h g : History) (head : Head) → Keeps dig ps h head → Keeps dig ps g head → h.name ≡ g.name → h ≡ g
-  keeps_one ps h g head one two e =
-      same_history dig size ps h g one.places two.places one.keeps two.keeps head.step one.step two.step
-      (ap (λ (k : ℕ). (place_of one.places k).page) one.step ∙ sym one.page ∙ two.page ∙ ap (λ (k : ℕ). (place_of two.places k).page) (sym two.step)) e
+  pub keeps_alike : (ps : Image) (h g : History) (head : Head) → (kept : Keeps dig ps h head) → (too : Keeps dig ps g head) → AreAlike h g kept.places too.places
+  keeps_alike ps h g head one two =
+      alike dig size ps h g one.places two.places one.keeps two.keeps head.step one.step two.step
+      (ap (λ (k : ℕ). (place_of one.places k).page) one.step ∙ sym one.page ∙ two.page ∙ ap (λ (k : ℕ). (place_of two.places k).page) (sym two.step))

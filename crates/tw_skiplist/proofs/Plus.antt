@@ -1,26 +1,23 @@
--- Pages that keep a history keep the one with one more step of events, with that step's pages behind them.
-use Rattle.std.proofs.Common.{◌≡◌, ℕ, suc, zero, ◌+◌, ◌-◌, ◌*◌, ◌^◌, ◌<◌, ◌≤◌, List, [], ◌∷◌, ◌++◌, length, refl, ap, sym, ◌∙◌, arith, inl, inr, subst, length-append, Some}
+-- Pages that keep a history keep the one with one more step, with that step's pages behind them.
+use Rattle.std.proofs.Common.{◌≡◌, ℕ, suc, zero, ◌+◌, ◌-◌, ◌*◌, ◌^◌, ◌<◌, ◌≤◌, List, [], ◌∷◌, ◌++◌, length, refl, ap, sym, ◌∙◌, arith, inl, inr, subst, length-append, Option, Some}
+use Rattle.std.specs.Prelude.{IfSome}
 use Rattle.std.proofs.lemmas.Bool.{cases_lt}
 use Rattle.std.proofs.lemmas.List.{length_push, get_or_push, get_or_append_left, get_or-append_right}
 use Rattle.std.proofs.lemmas.Nat.{pow_pos}
 use Rattle.tw_disk.specs.Image.{Image, page_at}
 use Rattle.tw_base.specs.declared.kinds.limits.TheConstants.{LAST_STEP}
 use Rattle.tw_base.specs.events.EventTree.{event_root}
-use Rattle.tw_base.specs.history.History.{History, Step, events_at, events_of, plus, root_of, step_at}
+use Rattle.tw_base.specs.history.History.{History, Step, events_at, events_of, plus, step_at, thread_of, time_of}
 use Rattle.tw_base.specs.kinds.Levels.{top_level}
 use Rattle.tw_base.specs.history.Auth.{tree_label}
 use Rattle.tw_base.proofs.lemmas.history.Plus.{auth-plus, step_at-new, step_at-plus, tree-plus}
-use Rattle.tw_skiplist.specs.declared.head.StepRef.{StepRef}
-use Rattle.tw_skiplist.specs.declared.fields.StepFields.{StepFields}
-use Rattle.tw_base.specs.history.Limits.{MayRecord}
-use Rattle.tw_base.specs.history.History.{with_events}
-use Rattle.tw_skiplist.specs.Keeping.{event_step}
-use Rattle.tw_skiplist.specs.Keeping.{KeepsStep, KeepsSteps, KeepsStream, Place, fields_at, link_to, links_at, links_to, no_place, place_of}
-use Rattle.tw_skiplist.specs.StepBytes.{event_page_bytes, event_pages, piece, step_page_bytes, stream}
-use Rattle.tw_skiplist.proofs.EventHistories.{new_events}
+use Rattle.tw_steppage.specs.declared.link.StepRef.{StepRef}
+use Rattle.tw_steppage.specs.declared.fields.StepFields.{StepFields}
+use Rattle.tw_skiplist.specs.Keeping.{KeepsStep, KeepsSteps, KeepsStream, MayBeKept, Place, fields_at, link_to, links_at, links_to, no_place, place_of}
+use Rattle.tw_steppage.specs.StepBytes.{event_page_bytes, event_pages, piece, step_page_bytes, stream}
 use Rattle.tw_skiplist.proofs.Growing.{KeepsStep-grows, has_bytes}
 use Rattle.tw_skiplist.proofs.Streams.{length-event_pages, page_at-event_pages}
-use Rattle.tw_skiplist.specs.declared.limits.TheConstants.{MOST_PIECE_BYTES}
+use Rattle.tw_steppage.specs.declared.limits.TheConstants.{MOST_PIECE_BYTES}
 
 module _ (dig : List ℕ → List ℕ) (h : History) (places : List Place) (s : Step) (place : Place) (count : length places ≡ suc (length h.steps)) where
   abbrev longer : History
@@ -57,8 +54,10 @@ module _ (dig : List ℕ → List ℕ) (h : History) (places : List Place) (s : 
         count = length (events j);
         stream = record { page = (here j).first; size = length (stream (events j)) };
         event_root = event_root dig (events j);
-        archive = record { page = 0; label = tree_label dig (tree-plus h s i l j) };
+        archive = record { page = (here j).archive; label = tree_label dig (tree-plus h s i l j) };
+        received = thread_of (step_at-plus h s i l j);
         auth = label j;
+        time = time_of (step_at-plus h s i l j);
       })
 
   pub KeepsStep-plus : (pages : Image) (i : ℕ) → suc i ≤ length h.steps → KeepsStep dig pages h places i → KeepsStep dig pages longer more i
@@ -66,36 +65,35 @@ module _ (dig : List ℕ → List ℕ) (h : History) (places : List Place) (s : 
       let here : place_of places (suc i) ≡ place_of more (suc i) = sym (place_of-plus (suc i) l) in
       let before : place_of places i ≡ place_of more i = sym (place_of-plus i (omega (arith, l))) in
       let events : events_at h (suc i) ≡ events_at longer (suc i) = sym (events_at-plus (suc i) l) in
-      let root : root_of (step_at h i) ≡ root_of (step_at longer i) = ap root_of (sym (step_at-plus h s i (omega (arith, l)))) in
       record {
-        events_only = step_at-plus h s (suc i) l ∙ k.events_only ∙ (λ j. Some (event_step (root j) (events j)));
-        limits = subst MayRecord events k.limits;
+        may = subst (λ (o : Option Step). IfSome o MayBeKept) (sym (step_at-plus h s (suc i) l)) k.may;
         low = subst (λ (p : Place). 4 ≤ p.page) here k.low;
         rising = subst (λ (p : Place). p.page < (place_of more (suc i)).page) before (subst (λ (p : Place). (place_of places i).page < p.page) here k.rising);
         below = subst (λ (p : Place). p.page < 4 + length pages) here k.below;
         small = subst (λ (p : Place). p.page < 2 ^ 48) here k.small;
+        archive = subst (λ (p : Place). p.archive < p.page) here k.archive;
         bytes = ap (λ (p : Place). page_at pages (p.page - 4)) (sym here) ∙ k.bytes
             ∙ (λ j. step_page_bytes (suc i) (sym (fields_at-plus (suc i) l) j) (sym (links_to-plus (suc i) (suc (top_level (suc i))) (omega (arith, l))) j));
         stream = subst (λ (p : Place). KeepsStream pages (suc i) p.first p.page (stream (events_at longer (suc i)))) here
             (subst (λ (es : List (List ℕ)). KeepsStream pages (suc i) (place_of places (suc i)).first (place_of places (suc i)).page (stream es)) events k.stream);
       }
 
--- one more step of events, with its event pages and its step page
-module _ (dig : List ℕ → List ℕ) (pages : Image) (h : History) (places : List Place) (events : List (List ℕ)) (kept : KeepsSteps dig pages h places)
-    (short : length h.steps < LAST_STEP) (limits : MayRecord events) (count first page : ℕ) (all : length (stream events) ≤ MOST_PIECE_BYTES * count)
-    (none : length (stream events) ≡ 0 → first ≡ 0) (some : 0 < length (stream events) → first ≡ 4 + length pages)
-    (page_is : page ≡ 4 + length pages + count) (small : page < 2 ^ 48) (rises : (place_of places (length h.steps)).page < page) where
+-- one more step, with its event pages and its step page
+module _ (dig : List ℕ → List ℕ) (pages : Image) (h : History) (places : List Place) (s : Step) (archive : ℕ) (kept : KeepsSteps dig pages h places)
+    (short : length h.steps < LAST_STEP) (may : MayBeKept s) (count first page : ℕ) (all : length (stream (events_of (Some s))) ≤ MOST_PIECE_BYTES * count)
+    (none : length (stream (events_of (Some s))) ≡ 0 → first ≡ 0) (some : 0 < length (stream (events_of (Some s))) → first ≡ 4 + length pages)
+    (page_is : page ≡ 4 + length pages + count) (small : page < 2 ^ 48) (rises : (place_of places (length h.steps)).page < page) (lower : archive < page) where
   abbrev n : ℕ
   n = length h.steps
 
   abbrev new_history : History
-  new_history = with_events h events
+  new_history = plus h s
 
-  abbrev added : Step
-  added = event_step (root_of (step_at h n)) events
+  abbrev events : List (List ℕ)
+  events = events_of (Some s)
 
   abbrev place : Place
-  place = record { page = page; first = first }
+  place = record { page = page; first = first; archive = archive }
 
   abbrev new_places : List Place
   new_places = places ++ place ∷ []
@@ -139,34 +137,33 @@ module _ (dig : List ℕ → List ℕ) (pages : Image) (h : History) (places : L
 
     new_step : KeepsStep dig grown new_history new_places n
     new_step =
-        let here : place ≡ place_of new_places (suc n) = sym (place_of-new dig h places added place kept.count) in
-        let before : place_of places n ≡ place_of new_places n = sym (place_of-plus dig h places added place kept.count n (omega arith)) in
-        let same : events ≡ events_at new_history (suc n) = sym (new_events h events) in
-        let root : root_of (step_at h n) ≡ root_of (step_at new_history n) = ap root_of (sym (step_at-plus h added n (omega arith))) in
+        let here : place ≡ place_of new_places (suc n) = sym (place_of-new dig h places s place kept.count) in
+        let before : place_of places n ≡ place_of new_places n = sym (place_of-plus dig h places s place kept.count n (omega arith)) in
+        let same : events ≡ events_at new_history (suc n) = ap events_of (sym (step_at-new h s)) in
         record {
-          events_only = step_at-new h added ∙ (λ j. Some (event_step (root j) (same j)));
-          limits = subst MayRecord same limits;
+          may = subst (λ (o : Option Step). IfSome o MayBeKept) (sym (step_at-new h s)) may;
           low = subst (λ (p : Place). 4 ≤ p.page) here (omega (arith, page_is));
           rising = subst (λ (p : Place). p.page < (place_of new_places (suc n)).page) before (subst (λ (p : Place). (place_of places n).page < p.page) here rises);
           below = subst (λ (p : Place). p.page < 4 + length grown) here (omega (arith, size, page_is));
           small = subst (λ (p : Place). p.page < 2 ^ 48) here small;
+          archive = subst (λ (p : Place). p.archive < p.page) here lower;
           bytes = ap (λ (p : Place). page_at grown (p.page - 4)) (sym here)
               ∙ get_or_push (pages ++ event_images) last [] (page - 4) (omega (arith, before_last, page_is))
-              ∙ (λ j. step_page_bytes (suc n) (fields_are j) ((links_are ∙ sym (links_to-plus dig h places added place kept.count (suc n) (suc (top_level (suc n))) (omega arith))) j));
+              ∙ (λ j. step_page_bytes (suc n) (fields_are j) ((links_are ∙ sym (links_to-plus dig h places s place kept.count (suc n) (suc (top_level (suc n))) (omega arith))) j));
           stream = subst (λ (p : Place). KeepsStream grown (suc n) p.first p.page (stream (events_at new_history (suc n)))) here
               (subst (λ (es : List (List ℕ)). KeepsStream grown (suc n) first page (stream es)) same new_stream);
         }
 
     pub KeepsSteps-plus : KeepsSteps dig grown new_history new_places
     KeepsSteps-plus = record {
-      count = omega (arith, length_push places place, kept.count, length_push h.steps added);
-      nowhere = place_of-plus dig h places added place kept.count 0 (omega arith) ∙ kept.nowhere;
-      short = omega (arith, short, length_push h.steps added);
+      count = omega (arith, length_push places place, kept.count, length_push h.steps s);
+      nowhere = place_of-plus dig h places s place kept.count 0 (omega arith) ∙ kept.nowhere;
+      short = omega (arith, short, length_push h.steps s);
       steps = λ i l. elim (cases_lt i n) [
-        | inl less ↦ KeepsStep-plus dig h places added place kept.count grown i (omega (arith, less))
+        | inl less ↦ KeepsStep-plus dig h places s place kept.count grown i (omega (arith, less))
             (KeepsStep-grows dig (pages ++ event_images) (last ∷ []) h places i (KeepsStep-grows dig pages event_images h places i (kept.steps i less)))
         | inr past ↦ (
-            let e : n ≡ i = omega (arith, l, past, length_push h.steps added) in
+            let e : n ≡ i = omega (arith, l, past, length_push h.steps s) in
             subst (λ (k : ℕ). KeepsStep dig grown new_history new_places k) e new_step)
       ];
     }

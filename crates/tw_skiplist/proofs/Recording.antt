@@ -7,21 +7,20 @@ use Rattle.std.proofs.lemmas.List.{length_push, map_push}
 use Rattle.std.proofs.lemmas.List.Edits.{length-remove, remove-append_left}
 use Rattle.std.proofs.lemmas.Nat.{pow_pos}
 use Rattle.tw_disk.specs.Image.{Image}
-use Rattle.tw_base.specs.events.EventTree.{event_root}
-use Rattle.tw_base.specs.kinds.Texts.{link_text, step_datum_text}
-use Rattle.tw_base.specs.history.Tree.{tree}
-use Rattle.tw_base.specs.history.History.{History, events_at, time_at, time_of}
+use Rattle.tw_base.specs.kinds.Texts.{link_text}
+use Rattle.tw_base.specs.history.History.{History, step_at}
 use Rattle.tw_base.specs.kinds.Levels.{top_level}
-use Rattle.tw_base.specs.history.Auth.{auths, datum_text_at, link_texts, tree_label}
+use Rattle.tw_base.specs.history.Auth.{auths, datum_text_at, link_texts}
 use Rattle.tw_base.proofs.lemmas.kinds.DigestBytes.{IsDigest}
 use Rattle.tw_base.proofs.lemmas.history.Auths.{auths-at}
 use Rattle.tw_skipproof.specs.HistoryProofs.{labels_at}
 use Rattle.tw_skipproof.specs.declared.path.Link.{Link}
-use Rattle.tw_skiplist.specs.declared.head.StepRef.{StepRef}
+use Rattle.tw_steppage.specs.declared.link.StepRef.{StepRef}
 use Rattle.tw_skiplist.specs.Infos.{IsInfoOf}
 use Rattle.tw_skiplist.specs.Keeping.{KeepsSteps, Place, fields_at, links_at, place_of}
-use Rattle.tw_skiplist.specs.StepPages.{link_of, no_ref}
+use Rattle.tw_steppage.specs.StepPages.{link_of, no_ref}
 use Rattle.tw_skiplist.specs.Records.{info_record, link_record, other_labels, page_datum, page_labels}
+use Rattle.tw_skiplist.proofs.Contents.{may_record}
 use Rattle.tw_skiplist.proofs.Kept.{get_or-links_to, length-links_to}
 
 -- ---- a list without one of its elements
@@ -87,13 +86,9 @@ module _ (dig : List ℕ → List ℕ) where
   -- ---- of a history that the pages keep
 
   module _ (size : (text : List ℕ) → IsDigest (dig text)) (h : History) (places : List Place) (ps : Image) (kept : KeepsSteps dig ps h places) where
-    no_time : (k : ℕ) → k < length h.steps → time_at h (suc k) ≡ None
-    no_time k l = ap time_of (kept.steps k l).events_only
-
-    kept_datum : (k : ℕ) → k < length h.steps → page_datum dig (fields_at dig h places (suc k)) ≡ dig (datum_text_at dig h (suc k))
+    kept_datum : (k : ℕ) → page_datum dig (fields_at dig h places (suc k)) ≡ dig (datum_text_at dig h (suc k))
     unfolding datum_text_at
-    kept_datum k l =
-        ap (λ (time : Option ℕ). dig (step_datum_text (event_root dig (events_at h (suc k))) (tree_label dig (tree h (suc k))) (length (events_at h (suc k))) time)) (sym (no_time k l))
+    kept_datum k = refl
 
     pub labels_to : (k : ℕ) (datum : List ℕ) (count : ℕ) → count ≤ suc (top_level (suc k))
         → page_labels dig (suc k) datum (links_at dig h places (suc k)) count ≡ map dig (link_texts dig datum (auths dig h k) (suc k) count)
@@ -106,21 +101,21 @@ module _ (dig : List ℕ → List ℕ) where
         (λ j. labels_to k datum level (omega (arith, l)) j ++ dig (link_text (suc k) level datum (label j)) ∷ [])
         ∙ sym (map_push dig (link_texts dig datum (auths dig h k) (suc k) level) _)
 
-    kept_labels : (k : ℕ) → k < length h.steps
+    kept_labels : (k : ℕ)
         → page_labels dig (suc k) (page_datum dig (fields_at dig h places (suc k))) (links_at dig h places (suc k)) (length (links_at dig h places (suc k))) ≡ labels_at dig h (suc k)
-    kept_labels k l =
+    kept_labels k =
         let before : k ≡ suc k - 1 = omega arith in
-        (λ j. page_labels dig (suc k) (kept_datum k l j) (links_at dig h places (suc k)) (length-links_to dig size h places (suc k) (suc (top_level (suc k))) j))
+        (λ j. page_labels dig (suc k) (kept_datum k j) (links_at dig h places (suc k)) (length-links_to dig size h places (suc k) (suc (top_level (suc k))) j))
         ∙ labels_to k (dig (datum_text_at dig h (suc k))) (suc (top_level (suc k))) (omega arith)
         ∙ ap (λ (n : ℕ). map dig (link_texts dig (dig (datum_text_at dig h (suc k))) (auths dig h n) (suc k) (suc (top_level (suc k))))) before
 
     -- the record of a link is the history's
     pub kept_link : (k level : ℕ) → k < length h.steps → let link : Link = link_record dig (suc k) (fields_at dig h places (suc k)) (links_at dig h places (suc k)) level in
         (link.datum ≡ dig (datum_text_at dig h (suc k))) × (link.others ≡ remove (labels_at dig h (suc k)) level)
-    kept_link k level l = (kept_datum k l, ap (λ (xs : List (List ℕ)). remove xs level) (kept_labels k l))
+    kept_link k level l = (kept_datum k, ap (λ (xs : List (List ℕ)). remove xs level) (kept_labels k))
 
     -- what a page tells is the history's
-    pub kept_info : (k : ℕ) → k < length h.steps → IsInfoOf dig ps h (suc k) (info_record dig (place_of places (suc k)).page (suc k) (fields_at dig h places (suc k)) (links_at dig h places (suc k)))
+    pub kept_info : (k : ℕ) → k < length h.steps → IsInfoOf dig ps h places (suc k) (info_record dig (place_of places (suc k)).page (suc k) (fields_at dig h places (suc k)) (links_at dig h places (suc k)))
     kept_info k l =
         let s = kept.steps k l in
         let first = get_or-links_to dig size h places no_ref (suc k) (suc (top_level (suc k))) 0 (omega arith) in
@@ -129,19 +124,22 @@ module _ (dig : List ℕ → List ℕ) where
           short = omega (arith, l, kept.short);
           event_root = refl;
           count = refl;
+          time = refl;
           archive = refl;
+          received = refl;
           auth = refl;
           opening = record {
             binds = record {
               event_root = refl;
               archive_root = refl;
               count = refl;
-              time = no_time k l;
+              time = refl;
               prev = sym (ap (λ (x : StepRef). x.auth) first);
             };
-            others = ap (λ (xs : List (List ℕ)). remove xs 0) (kept_labels k l) ∙ remove_first (labels_at dig h (suc k));
+            others = ap (λ (xs : List (List ℕ)). remove xs 0) (kept_labels k) ∙ remove_first (labels_at dig h (suc k));
           };
-          limits = s.limits;
+          limits = may_record (step_at h (suc k)) s.may;
+          page = refl;
           page_below = s.below;
           stream_size = refl;
           stream = s.stream;

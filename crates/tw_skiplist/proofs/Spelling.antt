@@ -10,7 +10,7 @@ use Rattle.tw_base.proofs.lemmas.kinds.ByteLemmas.{AreBytes-back, AreBytes-front
 use Rattle.tw_base.proofs.lemmas.kinds.TextFields.{halves}
 use Rattle.tw_skiplist.specs.ScanSteps.{HasEventAt, IsNoEventAt, SpellsEvents}
 use Rattle.tw_base.specs.format.Codecs.{behind, bytes_codec}
-use Rattle.tw_skiplist.specs.StepBytes.{event_page_bytes, piece_codec, stream}
+use Rattle.tw_steppage.specs.StepBytes.{event_page_bytes, piece_codec, stream}
 use Rattle.tw_skiplist.proofs.Streams.{stream-append}
 
 abbrev pub AllShort : List (List ℕ) → Type 0

@@ -7,10 +7,10 @@ use Rattle.tw_base.proofs.lemmas.kinds.Levels.{top_level-below}
 use Rattle.tw_skipproof.proofs.Hops.{hop_level-le, hop_level-short}
 use Rattle.tw_skipproof.proofs.GreedySteps.{greedy_steps-more, greedy_steps-none}
 use Rattle.tw_skiplist.specs.declared.collecting.Collected.{Collected}
-use Rattle.tw_skiplist.specs.declared.head.StepRef.{StepRef}
+use Rattle.tw_steppage.specs.declared.link.StepRef.{StepRef}
 use Rattle.tw_disk.specs.Found.{Found, ◌>>=◌}
 use Rattle.tw_disk.specs.Found.Found.{Is, Bad}
-use Rattle.tw_skiplist.specs.StepPages.{link_of}
+use Rattle.tw_steppage.specs.StepPages.{link_of}
 use Rattle.tw_skiplist.specs.Walks.{collect_along, collected, hop_in, link_before, link_in, links_up_to, walk, walk_along}
 
 module _ (ps : Image) (link : StepRef) (at to : ℕ) where

@@ -5,10 +5,10 @@ use Rattle.tw_base.specs.declared.kinds.limits.TheConstants.{MOST_EVENTS, MOST_E
 use Rattle.tw_base.specs.declared.kinds.limits.TheConstants.{PAGE_SIZE}
 use Rattle.tw_disk.specs.Image.{Image}
 use Rattle.tw_skiplist.specs.declared.info.StepInfo.{StepInfo}
-use Rattle.tw_skiplist.specs.declared.limits.TheConstants.{MOST_PIECE_BYTES, MOST_STREAM_BYTES}
+use Rattle.tw_steppage.specs.declared.limits.TheConstants.{MOST_PIECE_BYTES, MOST_STREAM_BYTES}
 use Rattle.tw_disk.specs.Found.{Found, when, ◌>>=◌, bytes_in, spelled}
 use Rattle.tw_disk.specs.Found.Found.{Is, Bad}
-use Rattle.tw_skiplist.specs.StepBytes.{piece_codec}
+use Rattle.tw_steppage.specs.StepBytes.{piece_codec}
 
 -- how many event pages a stream of this size has
 abbrev pub piece_count : (size : ℕ) → ℕ

@@ -1,6 +1,4 @@
-pub mod StepBytes
 pub mod Keeping
-pub mod StepPages
 pub mod Walks
 pub mod Records
 pub mod Appended

@@ -4,6 +4,7 @@ use Rattle.tw_disk.specs.Image.{Image}
 use Rattle.tw_skipproof.specs.declared.path.Path.{Path}
 use Rattle.tw_skiplist.specs.declared.head.Head.{Head}
 use Rattle.tw_skiplist.specs.declared.info.StepInfo.{StepInfo}
+use Rattle.tw_skiplist.specs.declared.info.StepLink.{StepLink}
 use Rattle.tw_skiplist.specs.declared.info.StepProof.{StepProof}
 use Rattle.tw_skiplist.specs.Events.{events_of_info}
 use Rattle.tw_disk.specs.Found.{Found, ◌>>=◌}
@@ -15,10 +16,15 @@ module _ (dig : List ℕ → List ℕ) (pages : Image) (head : Head) where
   unfoldable pub found_step : (i : ℕ) → Found StepInfo
   found_step i = walk pages (head_ref head) head.step i >>= (λ link. info_in dig pages link.page i)
 
-  -- the path from a step n down to a step i; the page of i isn't read
+  -- the path from a step n down to a step i, and the authenticator that its last link leads to; the page of i isn't read
+  unfoldable pub found_link : (n i : ℕ) → Found StepLink
+  found_link n i =
+      walk pages (head_ref head) head.step n >>= (λ middle. collected dig pages middle n i
+      >>= (λ way. Is (record { path = record { links = way.links }; auth = way.last.auth })))
+
+  -- the path alone
   unfoldable pub found_path : (n i : ℕ) → Found Path
-  found_path n i =
-      walk pages (head_ref head) head.step n >>= (λ middle. collected dig pages middle n i >>= (λ way. Is (record { links = way.links })))
+  found_path n i = found_link n i >>= (λ link. Is link.path)
 
   -- the path from a top down to a step, and the step
   unfoldable pub found_proof : (top i : ℕ) → Found StepProof

@@ -1,16 +1,16 @@
 -- What the fields and links of a step's page make of a path and of an opening.
-use Rattle.std.specs.Prelude.{ℕ, suc, zero, List, [], ◌∷◌, ◌++◌, length, remove, None}
-use Rattle.tw_base.specs.kinds.Texts.{datum_text, link_text}
+use Rattle.std.specs.Prelude.{ℕ, suc, zero, List, [], ◌∷◌, ◌++◌, length, remove}
+use Rattle.tw_base.specs.kinds.Texts.{link_text, step_datum_text}
 use Rattle.tw_skipproof.specs.declared.opening.Opening.{Opening}
 use Rattle.tw_skipproof.specs.declared.path.Link.{Link}
-use Rattle.tw_skiplist.specs.declared.head.StepRef.{StepRef}
-use Rattle.tw_skiplist.specs.declared.fields.StepFields.{StepFields}
+use Rattle.tw_steppage.specs.declared.link.StepRef.{StepRef}
+use Rattle.tw_steppage.specs.declared.fields.StepFields.{StepFields}
 use Rattle.tw_skiplist.specs.declared.info.StepInfo.{StepInfo}
-use Rattle.tw_skiplist.specs.StepPages.{link_of}
+use Rattle.tw_steppage.specs.StepPages.{link_of}
 
 module _ (dig : List ℕ → List ℕ) where
   abbrev pub page_datum : StepFields → List ℕ
-  page_datum f = dig (datum_text f.event_root f.archive.label f.count)
+  page_datum f = dig (step_datum_text f.event_root f.archive.label f.count f.time)
 
   -- the labels of the links at the levels below this count
   unfoldable pub page_labels : (step : ℕ) (datum : List ℕ) → List StepRef → (count : ℕ) → List (List ℕ)
@@ -30,7 +30,7 @@ module _ (dig : List ℕ → List ℕ) where
     event_root = f.event_root;
     archive_root = f.archive.label;
     count = f.count;
-    time = None;
+    time = f.time;
     prev = (link_of links 0).auth;
     others = other_labels step (page_datum f) links 0;
   }
@@ -41,7 +41,9 @@ module _ (dig : List ℕ → List ℕ) where
     page = page;
     event_root = f.event_root;
     count = f.count;
+    time = f.time;
     archive = f.archive;
+    received = f.received;
     auth = f.auth;
     opening = opening_record step f links;
     stream = f.stream;

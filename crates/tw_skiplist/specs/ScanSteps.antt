@@ -3,7 +3,7 @@ use Rattle.std.specs.Prelude.{◌≡◌, ℕ, ◌+◌, ◌≤◌, List, ◌++◌
 use Rattle.std.specs.Int.{to_be_bytes, w32}
 use Rattle.tw_base.specs.declared.kinds.limits.TheConstants.{MOST_EVENT_BYTES}
 use Rattle.tw_base.specs.history.Limits.{MayRecord}
-use Rattle.tw_skiplist.specs.StepBytes.{stream}
+use Rattle.tw_steppage.specs.StepBytes.{stream}
 
 -- the events are spelled by the bytes, as many as the count, within the limits of a step
 pub record SpellsEvents (bytes : List ℕ) (count : ℕ) (events : List (List ℕ)) : Type 0 where

@@ -5,14 +5,14 @@ use Rattle.tw_base.specs.kinds.Levels.{top_level}
 use Rattle.tw_skipproof.specs.declared.path.Link.{Link}
 use Rattle.tw_skipproof.specs.Paths.{greedy_steps, hop_level}
 use Rattle.tw_skiplist.specs.declared.head.Head.{Head}
-use Rattle.tw_skiplist.specs.declared.head.StepRef.{StepRef}
+use Rattle.tw_steppage.specs.declared.link.StepRef.{StepRef}
 use Rattle.tw_skiplist.specs.declared.collecting.Collected.{Collected}
 use Rattle.tw_skiplist.specs.declared.collecting.Hop.{Hop}
 use Rattle.tw_skiplist.specs.declared.info.StepInfo.{StepInfo}
 use Rattle.tw_disk.specs.Found.{Found, ◌>>=◌}
 use Rattle.tw_disk.specs.Found.Found.{Is}
 use Rattle.tw_skiplist.specs.Records.{info_record, link_record}
-use Rattle.tw_skiplist.specs.StepPages.{link_of, page_of_step}
+use Rattle.tw_steppage.specs.StepPages.{link_of, page_of_step}
 
 -- the link that a head is
 abbrev pub head_ref : Head → StepRef

@@ -8,7 +8,6 @@ ghost use Rattle.tw_skiplist.specs.ListFaults.{list_faults};
 ghost use Rattle.tw_skiplist.specs.Walks.{collected, hop_in, info_in};
 
 use crate::fault::ListFault;
-use crate::head::StepRef;
 use crate::info::StepInfo;
 use crate::records::{info_of_page, link_at, link_of_page};
 use crate::walking::read_step;
@@ -16,6 +15,7 @@ use std::alloc::Global;
 use tw_base::{Hasher, power_of_two};
 use tw_disk::Pages;
 use tw_skipproof::{Link, LinkList, next_hop};
+use tw_steppage::StepRef;
 
 /// A link of a path, and where it leads.
 #[derive(Drop)]

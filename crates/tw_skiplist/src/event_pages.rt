@@ -11,12 +11,12 @@ ghost use Rattle.tw_skiplist.specs.Events.{events_in, last_page, piece_behind, p
 
 use crate::fault::ListFault;
 use crate::info::StepInfo;
-use crate::limits::{MOST_PIECE_BYTES, MOST_STREAM_BYTES};
-use crate::page::is_event_page;
 use std::alloc::Global;
 use tw_base::limits::{MOST_EVENT_BYTES, MOST_EVENTS, MOST_STEP_BYTES, PAGE_SIZE};
 use tw_base::{Bytes, EventList, NoMemory};
 use tw_disk::{Pages, read_page};
+use tw_steppage::is_event_page;
+use tw_steppage::limits::{MOST_PIECE_BYTES, MOST_STREAM_BYTES};
 
 // Reads the event page of this number of the step, and appends its piece of a stream of this size.
 fn add_piece<P: Pages>(

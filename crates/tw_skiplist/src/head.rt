@@ -1,4 +1,4 @@
-// Heads of lists of steps, and links.
+// Heads of lists of steps.
 
 use tw_base::Digest;
 
@@ -9,11 +9,4 @@ pub struct Head {
     pub step: u64,
     pub auth: Digest,
     pub page: u64,
-}
-
-/// A step that a later one has a link to: its page (0 for step 0) and its authenticator.
-#[derive(Clone, Copy, Default, Debug, PartialEq, Eq, Drop)]
-pub struct StepRef {
-    pub page: u64,
-    pub auth: Digest,
 }

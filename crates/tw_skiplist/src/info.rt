@@ -1,18 +1,21 @@
 // What is told of a step.
 
-use crate::fields::StreamRef;
-use tw_base::{Digest, Root};
+use tw_base::{Digest, Root, Thread};
 use tw_skipproof::{Opening, Path};
+use tw_steppage::StreamRef;
 
-/// A step: its number, its page, the root and the number of its events, its archive, its
-/// authenticator, its opening, and where its events stand.
+/// A step: its number, its page, the root and the number of its events (0 where it received a thread),
+/// the time that its maker claims, if any, the archive after it, the thread that it received, if any,
+/// its authenticator, its opening, and where its events stand.
 #[derive(Drop, Debug)]
 pub struct StepInfo {
     pub step: u64,
     pub page: u64,
     pub event_root: Digest,
     pub count: u32,
+    pub time: Option<u64>,
     pub archive: Root,
+    pub received: Option<Thread>,
     pub auth: Digest,
     pub opening: Opening,
     pub stream: StreamRef,
@@ -23,4 +26,12 @@ pub struct StepInfo {
 pub struct StepProof {
     pub path: Path,
     pub info: StepInfo,
+}
+
+/// A step's authenticator under a top: the path from the top down to the step, and the authenticator
+/// that its last link leads to.
+#[derive(Drop, Debug)]
+pub struct StepLink {
+    pub path: Path,
+    pub auth: Digest,
 }

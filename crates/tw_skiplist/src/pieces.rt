@@ -9,13 +9,13 @@ ghost use Rattle.tw_disk.specs.WalkFaults.{memory_alone};
 ghost use Rattle.tw_skiplist.specs.Appended.{with_pieces};
 ghost use Rattle.tw_skiplist.specs.Events.{piece_count};
 ghost use Rattle.tw_base.specs.history.Limits.{MayRecord};
-ghost use Rattle.tw_skiplist.specs.StepBytes.{event_page_bytes, piece, stream};
+ghost use Rattle.tw_steppage.specs.StepBytes.{event_page_bytes, piece, stream};
 
-use crate::limits::{MOST_EVENT_PAGES, MOST_PIECE_BYTES, MOST_STREAM_BYTES};
-use crate::page::event_page;
 use std::alloc::Global;
 use tw_base::{Bytes, EventList, NoMemory};
 use tw_disk::Pages;
+use tw_steppage::event_page;
+use tw_steppage::limits::{MOST_EVENT_PAGES, MOST_PIECE_BYTES, MOST_STREAM_BYTES};
 
 // Puts an event behind its length.
 fn put_event(into: &mut Bytes, event: &Bytes) -> Result<(), NoMemory>

@@ -5,21 +5,22 @@ ghost use Rattle.tw_base.specs.history.Limits.{MayRecord};
 ghost use Rattle.tw_disk.specs.Answers.{ReadsPages, ReadsWhere};
 ghost use Rattle.tw_skiplist.specs.ListFaults.{NoStepUnless, list_faults};
 ghost use Rattle.tw_skiplist.specs.Events.{events_of_info};
-ghost use Rattle.tw_skiplist.specs.Readings.{found_events, found_path, found_proof, found_step};
+ghost use Rattle.tw_skiplist.specs.Readings.{found_events, found_link, found_path, found_proof, found_step};
 ghost use Rattle.tw_skiplist.specs.Walks.{head_ref};
 
 use crate::collecting::{Collected, collect, read_info};
 use crate::event_pages::{StreamRead, read_events, read_stream};
 use crate::fault::ListFault;
-use crate::head::{Head, StepRef};
-use crate::info::{StepInfo, StepProof};
-use crate::limits::MOST_STREAM_BYTES;
+use crate::head::Head;
+use crate::info::{StepInfo, StepLink, StepProof};
 use crate::walking::descend;
 use std::alloc::Global;
 use tw_base::limits::LAST_STEP;
 use tw_base::{EventList, Hasher};
 use tw_disk::Pages;
 use tw_skipproof::Path;
+use tw_steppage::StepRef;
+use tw_steppage::limits::MOST_STREAM_BYTES;
 
 // The link that the head is.
 fn link_to_head(head: &Head) -> StepRef
@@ -61,14 +62,48 @@ pub fn step<P: Pages, H: Hasher>(
 }
 
 /// The path from the step n down to the step i, of the history whose head is given (a step below
-/// 2^40). It is reached by the links of the greedy path; a test shows that each page is read once.
-/// Over any pages it has at most twice as many links as n has binary digits, and where the pages are
-/// told its links are the records of those that the way from n to i follows.
+/// 2^40), and the authenticator of the step i. It is reached by the links of the greedy path; a test
+/// shows that each page is read once. Over any pages it has at most twice as many links as n has binary
+/// digits, and where the pages are told its links are the records of those that the way from n to i
+/// follows, and the authenticator is the one that the last of them leads to.
 ///
 /// NoStep exactly where i <= n <= the head's step doesn't hold; i may be 0. Where the pages are told,
 /// BadPage tells the first page that isn't the page of its step, of the steps above n on the way from
 /// the head to n and of those above i from there on: the page of i isn't asked for. It never comes
 /// where the pages keep a history under the head.
+#[tactic(auto, unfolding(crate::specs::Readings::found_link))]
+pub fn link<P: Pages, H: Hasher>(
+    alloc: Global,
+    pages: &mut P,
+    head: &Head,
+    n: u64,
+    i: u64,
+) -> Result<StepLink, ListFault>
+    requires { head.now.step ≤ LAST_STEP }
+    // Over told pages the answer is what is found in them, whatever they keep, `NoStep`, a disk fault and want of
+    // memory excepted: the records of the links that the walk from the head follows from the upper step down to the
+    // lower one, and the authenticator that the last of them leads to, or `BadPage` with the first page met that isn't
+    // of its kind. Of the lower step's page nothing is asked. Over any pages, told or not, `NoStep` comes exactly
+    // where the steps asked for aren't there, or not in their order; reading changes nothing of what the pages tell;
+    // and `DiskFault` comes only where the count of faults rose.
+    ensures reads { ReadsWhere list_faults P.view P.same pages.old pages.new (λ x. x) result (NoStepUnless result head.now.step ((i ≤ n) × (n ≤ head.now.step)))
+        (λ ps. found_link H.dig ps head.now n i) }
+    // Over any pages, told or not, a path has at most twice as many links as its upper step has binary digits.
+    ensures bound { IfOk result (λ link. (digits : ℕ) → n < 2 ^ digits → length link.path.links ≤ 2 * digits) }
+{
+    let last = head.step;
+    if i > n || n > last {
+        return Err(ListFault::NoStep { last });
+    }
+    let middle = descend(pages, &link_to_head(head), last, n)?;
+    let Collected { links, last: end } = collect::<P, H>(alloc, pages, &middle, n, i)?;
+    Ok(StepLink {
+        path: Path { links },
+        auth: end.auth,
+    })
+}
+
+/// The path alone that `link` answers, with its faults.
 #[tactic(auto, unfolding(crate::specs::Readings::found_path))]
 pub fn path<P: Pages, H: Hasher>(
     alloc: Global,
@@ -89,13 +124,8 @@ pub fn path<P: Pages, H: Hasher>(
     // Over any pages, told or not, a path has at most twice as many links as its upper step has binary digits.
     ensures bound { IfOk result (λ path. (digits : ℕ) → n < 2 ^ digits → length path.links ≤ 2 * digits) }
 {
-    let last = head.step;
-    if i > n || n > last {
-        return Err(ListFault::NoStep { last });
-    }
-    let link = descend(pages, &link_to_head(head), last, n)?;
-    let Collected { links, last: _ } = collect::<P, H>(alloc, pages, &link, n, i)?;
-    Ok(Path { links })
+    let StepLink { path, auth: _ } = link::<P, H>(alloc, pages, head, n, i)?;
+    Ok(path)
 }
 
 /// What a proof of the step i under the top needs: the path from the top to the step, and the step.

@@ -2,16 +2,15 @@
 
 ghost use Rattle.std.specs.Prelude.{◌≡◌, ℕ, suc, ◌+◌, ◌<◌, ◌≤◌, ◌^◌, ◌++◌, ◌∷◌, [], ◌==◌, List, length, remove, Some, IfOk, OnOk, if◌then◌else◌};
 ghost use Rattle.tw_base.specs.kinds.Texts.{link_text};
-ghost use Rattle.tw_skiplist.specs.StepPages.{link_of};
+ghost use Rattle.tw_steppage.specs.StepPages.{link_of};
 ghost use Rattle.tw_skiplist.specs.Records.{info_record, link_record, opening_record, other_labels, page_datum};
 
-use crate::head::StepRef;
 use crate::info::StepInfo;
-use crate::limits::MOST_LINKS;
-use crate::page::StepPage;
 use std::alloc::Global;
-use tw_base::{Digest, Hasher, Labels, NoMemory, datum, link_label};
+use tw_base::{Digest, Hasher, Labels, NoMemory, link_label, step_datum};
 use tw_skipproof::{Link, Opening};
+use tw_steppage::limits::MOST_LINKS;
+use tw_steppage::{StepPage, StepRef};
 
 /// The link of this level.
 pub(crate) fn link_at(links: &[StepRef], level: u8) -> StepRef
@@ -64,7 +63,12 @@ fn datum_of<H: Hasher>(page: &StepPage) -> Digest
     ensures { result ≡ page_datum H.dig page.now.fields }
 {
     let fields = &page.fields;
-    datum::<H>(&fields.event_root, &fields.archive.label, fields.count)
+    step_datum::<H>(
+        &fields.event_root,
+        &fields.archive.label,
+        fields.count,
+        fields.time,
+    )
 }
 
 /// The record that a path has of the step's link of this level.
@@ -98,7 +102,7 @@ fn opening_of_page<H: Hasher>(
         event_root: page.fields.event_root,
         archive_root: page.fields.archive.label,
         count: page.fields.count,
-        time: None,
+        time: page.fields.time,
         prev: link_at(links, 0).auth,
         others,
     })
@@ -116,14 +120,17 @@ pub(crate) fn info_of_page<H: Hasher>(
     ensures { IfOk result (λ info. info ≡ info_record H.dig number step page.now.fields page.now.links.items) }
 {
     let opening = opening_of_page::<H>(alloc, step, page)?;
+    let fields = &page.fields;
     Ok(StepInfo {
         step,
         page: number,
-        event_root: page.fields.event_root,
-        count: page.fields.count,
-        archive: page.fields.archive,
-        auth: page.fields.auth,
+        event_root: fields.event_root,
+        count: fields.count,
+        time: fields.time,
+        archive: fields.archive,
+        received: fields.received,
+        auth: fields.auth,
         opening,
-        stream: page.fields.stream,
+        stream: fields.stream,
     })
 }

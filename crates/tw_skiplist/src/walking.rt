@@ -4,19 +4,18 @@ ghost use Rattle.std.specs.Prelude.{◌≡◌, suc, ◌<◌, ◌≤◌, ◌^◌,
 ghost use Rattle.tw_base.specs.kinds.Levels.{top_level};
 ghost use Rattle.tw_disk.specs.Answers.{ReadsPages};
 ghost use Rattle.tw_disk.specs.WalkFaults.{walk_faults};
-ghost use Rattle.tw_skiplist.specs.StepPages.{page_of_step};
+ghost use Rattle.tw_steppage.specs.StepPages.{page_of_step};
 ghost use Rattle.tw_skiplist.specs.Walks.{link_in, walk};
 
-use crate::head::StepRef;
-use crate::page::{StepPage, read_step_page};
 use crate::records::link_at;
 use tw_base::limits::PAGE_SIZE;
 use tw_base::power_of_two;
 use tw_disk::{Pages, WalkFault, read_page};
 use tw_skipproof::next_hop;
+use tw_steppage::{StepPage, StepRef, read_step_page};
 
 /// Reads the page of a step (below 2^40).
-#[tactic(auto, unfolding(crate::specs::StepPages::page_of_step))]
+#[tactic(auto, unfolding(tw_steppage::specs::StepPages::page_of_step))]
 pub(crate) fn read_step<P: Pages>(
     pages: &mut P,
     page: u64,

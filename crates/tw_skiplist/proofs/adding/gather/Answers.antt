@@ -2,12 +2,12 @@ use Rattle.std.proofs.Common.{refl, ◌≡◌, ◌≤◌, ◌^◌, ◌+◌, ◌-
 use Rattle.tw_disk.specs.Image.{Image}
 use Rattle.tw_disk.proofs.ReadingLaws.{only_reads_itself, only_reads_on}
 use Rattle.tw_base.specs.kinds.Levels.{top_level as top_level_of}
-use Rattle.tw_skiplist.specs.declared.head.StepRef.{StepRef}
+use Rattle.tw_steppage.specs.declared.link.StepRef.{StepRef}
 use Rattle.tw_disk.specs.Found.{Found, ◌>>=◌}
 use Rattle.tw_disk.specs.Found.Found.{Is, Bad}
 use Rattle.tw_disk.specs.WalkFaults.{walk_faults}
 use Rattle.tw_skiplist.specs.Records.{page_labels}
-use Rattle.tw_skiplist.specs.StepPages.{link_of}
+use Rattle.tw_steppage.specs.StepPages.{link_of}
 use Rattle.tw_skiplist.specs.Walks.{link_in, links_up_to}
 use Rattle.tw_skiplist.proofs.Appending.{labels_on, link_of-new, page_labels-first}
 use Rattle.tw_disk.proofs.AnswerLaws.{stopped}

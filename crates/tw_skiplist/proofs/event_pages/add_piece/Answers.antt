@@ -6,7 +6,7 @@ use Rattle.tw_disk.proofs.FoundLaws.{bad_ends, is_on}
 use Rattle.tw_disk.proofs.ReadingLaws.{reads_weaker}
 use Rattle.tw_disk.proofs.SpelledLaws.{page-is, page-none}
 use Rattle.tw_skiplist.specs.Events.{piece_in, piece_size}
-use Rattle.tw_skiplist.specs.StepBytes.{event_page_bytes, piece_codec}
+use Rattle.tw_steppage.specs.StepBytes.{event_page_bytes, piece_codec}
 use Rattle.tw_skiplist.specs.declared.info.StepInfo.{StepInfo}
 use Rattle.tw_skiplist.proofs.KeptEvents.{event_page_of, of_event_page, piece-lawful}
 use Rattle.tw_skiplist.proofs.Spelling.{piece_read}

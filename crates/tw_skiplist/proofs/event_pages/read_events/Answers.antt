@@ -1,6 +1,6 @@
 use Rattle.std.proofs.Common.{◌≡◌, ◌+◌, ◌-◌, ℕ, List, ap, sym, ◌∙◌, arith, subst, length, length-take, take, drop}
 use Rattle.std.proofs.lemmas.List.{length_push, take_all}
-use Rattle.tw_skiplist.specs.StepBytes.{stream}
+use Rattle.tw_steppage.specs.StepBytes.{stream}
 use Rattle.tw_skiplist.proofs.Streams.{length-stream}
 use Rattle.tw_base.specs.kinds.Bytes.{AreBytes}
 use Rattle.tw_base.proofs.lemmas.kinds.ByteLemmas.{AreBytes-from}

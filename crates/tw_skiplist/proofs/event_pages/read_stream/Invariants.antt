@@ -1,7 +1,7 @@
 use Rattle.std.proofs.Common.{◌≡◌, ◌+◌, ◌*◌, ◌-◌, ◌≤◌}
 use Rattle.tw_disk.specs.Answers.{ReadSoFar}
 use Rattle.tw_disk.specs.Found.Found.{Is}
-use Rattle.tw_skiplist.specs.declared.limits.TheConstants.{MOST_PIECE_BYTES}
+use Rattle.tw_steppage.specs.declared.limits.TheConstants.{MOST_PIECE_BYTES}
 use Rattle.tw_skiplist.specs.Events.{last_page, piece_count, pieces_below}
 use Rattle.tw_skiplist.proofs.event_pages.read_stream.Given as goal
 

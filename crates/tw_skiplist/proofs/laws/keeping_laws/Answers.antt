@@ -1,5 +1,4 @@
-use Rattle.tw_skiplist.proofs.Once.{keeps_one}
-use Rattle.tw_skiplist.proofs.Sounding.{keeps_sound}
+use Rattle.tw_skiplist.proofs.Once.{keeps_alike}
 use Rattle.tw_skiplist.proofs.Growing.{Keeps-first, Keeps-grows, head_page, no_head_page}
 use Rattle.tw_skiplist.proofs.laws.keeping_laws.Goals as goal
 
@@ -16,7 +15,4 @@ pub returns-clause-page : goal.returns-clause-page
 returns-clause-page g c = head_page g.H.Hasher.dig
 
 pub returns-clause-one : goal.returns-clause-one
-returns-clause-one g c = keeps_one g.H.Hasher.dig (λ text. (g.met.H.Hasher.size text, g.met.H.Hasher.bytes text))
-
-pub returns-clause-sound : goal.returns-clause-sound
-returns-clause-sound g c = keeps_sound g.H.Hasher.dig
+returns-clause-one g c = keeps_alike g.H.Hasher.dig (λ text. (g.met.H.Hasher.size text, g.met.H.Hasher.bytes text))

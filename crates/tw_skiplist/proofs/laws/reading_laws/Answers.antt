@@ -1,10 +1,13 @@
 use Rattle.tw_skiplist.proofs.KeptAppended.{grown}
 use Rattle.tw_skiplist.proofs.KeptEvents.{events_are}
-use Rattle.tw_skiplist.proofs.KeptReadings.{events_found, path_found, proof_found, step_found}
+use Rattle.tw_skiplist.proofs.KeptReadings.{events_found, link_found, path_found, proof_found, step_found}
 use Rattle.tw_skiplist.proofs.laws.reading_laws.Goals as goal
 
 pub returns-clause-step : goal.returns-clause-step
 returns-clause-step g c = λ ps h head i keeps some order. step_found g.H.Hasher.dig (λ text. (g.met.H.Hasher.size text, g.met.H.Hasher.bytes text)) ps h head keeps i some order
+
+pub returns-clause-link : goal.returns-clause-link
+returns-clause-link g c = λ ps h head n i keeps order below. link_found g.H.Hasher.dig (λ text. (g.met.H.Hasher.size text, g.met.H.Hasher.bytes text)) ps h head keeps n i order below
 
 pub returns-clause-path : goal.returns-clause-path
 returns-clause-path g c = λ ps h head n i keeps order below. path_found g.H.Hasher.dig (λ text. (g.met.H.Hasher.size text, g.met.H.Hasher.bytes text)) ps h head keeps n i order below
@@ -19,6 +22,6 @@ pub returns-clause-events : goal.returns-clause-events
 returns-clause-events g c = λ ps h head i keeps some order. events_found g.H.Hasher.dig (λ text. (g.met.H.Hasher.size text, g.met.H.Hasher.bytes text)) ps h head keeps i some order
 
 pub returns-clause-appended : goal.returns-clause-appended
-returns-clause-appended g c = λ ps h head events archive keeps short limits room.
-    let own = grown g.H.Hasher.dig (λ text. (g.met.H.Hasher.size text, g.met.H.Hasher.bytes text)) ps h head keeps events archive short limits room in
+returns-clause-appended g c = λ ps h head content archive time keeps short may low room.
+    let own = grown g.H.Hasher.dig (λ text. (g.met.H.Hasher.size text, g.met.H.Hasher.bytes text)) ps h head keeps content archive time short may low room in
     (own.more, own.new, own.is, own.keeps)

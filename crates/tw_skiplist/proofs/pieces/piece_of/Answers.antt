@@ -2,7 +2,7 @@ use Rattle.std.proofs.Common.{◌≡◌, ◌-◌, ◌*◌, ap, ◌∙◌, length
 use Rattle.std.proofs.lemmas.List.{take_all}
 use Rattle.tw_skiplist.proofs.Streams.{taken}
 use Rattle.tw_skiplist.proofs.pieces.piece_of.Goals as goal
-use Rattle.tw_skiplist.specs.declared.limits.TheConstants.{MOST_PIECE_BYTES}
+use Rattle.tw_steppage.specs.declared.limits.TheConstants.{MOST_PIECE_BYTES}
 
 pub returns-clause-piece : goal.returns-clause-piece
 returns-clause-piece c =

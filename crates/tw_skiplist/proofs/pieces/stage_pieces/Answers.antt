@@ -1,9 +1,9 @@
 use Rattle.std.proofs.Common.{◌≡◌, ◌*◌, ◌<◌, ◌++◌, ◌∷◌, [], ℕ, List, length, refl, ap, sym, ◌∙◌, arith, subst, inl, inr}
 use Rattle.std.proofs.lemmas.Bool.{cases_lt}
-use Rattle.tw_skiplist.specs.StepBytes.{event_pages}
+use Rattle.tw_steppage.specs.StepBytes.{event_pages}
 use Rattle.tw_skiplist.proofs.Streams.{event_pages-first, event_pages-more, option_ap, option_more, option_same}
 use Rattle.tw_skiplist.proofs.pieces.stage_pieces.Goals as goal
-use Rattle.tw_skiplist.specs.declared.limits.TheConstants.{MOST_PIECE_BYTES}
+use Rattle.tw_steppage.specs.declared.limits.TheConstants.{MOST_PIECE_BYTES}
 
 pub loop-count-init : goal.loop-count-init
 loop-count-init g c = record {

@@ -1,8 +1,8 @@
 use Rattle.std.proofs.Common.{◌≡◌, ◌+◌, ◌-◌, ◌*◌, ◌<◌, ◌≤◌, ◌++◌, ℕ, length}
 use Rattle.std.specs.Option.{option_map}
-use Rattle.tw_skiplist.specs.StepBytes.{event_pages}
+use Rattle.tw_steppage.specs.StepBytes.{event_pages}
 use Rattle.tw_skiplist.proofs.pieces.stage_pieces.Given as goal
-use Rattle.tw_skiplist.specs.declared.limits.TheConstants.{MOST_PIECE_BYTES}
+use Rattle.tw_steppage.specs.declared.limits.TheConstants.{MOST_PIECE_BYTES}
 
 abbrev pub invariant-loop-count : goal.invariant-loop-count
 invariant-loop-count g l = record {

@@ -1,7 +1,7 @@
 use Rattle.std.proofs.Common.{◌≡◌, ◌++◌, List, ℕ, ap, ◌∙◌, sym, length, take, arith}
 use Rattle.std.proofs.lemmas.List.{take_all}
 use Rattle.std.specs.Int.{to_be_bytes, w32}
-use Rattle.tw_skiplist.specs.StepBytes.{stream}
+use Rattle.tw_steppage.specs.StepBytes.{stream}
 use Rattle.tw_skiplist.proofs.Streams.{length-stream}
 use Rattle.tw_skiplist.proofs.Streams.{stream-more}
 use Rattle.tw_skiplist.proofs.pieces.stream_of.Goals as goal

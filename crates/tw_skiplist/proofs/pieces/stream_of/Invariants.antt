@@ -1,5 +1,5 @@
 use Rattle.std.proofs.Common.{◌≡◌, take}
-use Rattle.tw_skiplist.specs.StepBytes.{stream}
+use Rattle.tw_steppage.specs.StepBytes.{stream}
 use Rattle.tw_skiplist.proofs.pieces.stream_of.Given as goal
 
 abbrev pub invariant-loop-event : goal.invariant-loop-event

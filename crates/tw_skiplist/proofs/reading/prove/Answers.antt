@@ -2,7 +2,7 @@ use Rattle.std.proofs.Common.{◌≡◌, ◌≤◌, ◌∙◌, ap, sym, arith, r
 use Rattle.tw_disk.proofs.ReadingLaws.{only_reads_on}
 use Rattle.tw_skipproof.proofs.Greedy.{few_links}
 use Rattle.tw_skiplist.specs.declared.collecting.Collected.{Collected}
-use Rattle.tw_skiplist.specs.declared.head.StepRef.{StepRef}
+use Rattle.tw_steppage.specs.declared.link.StepRef.{StepRef}
 use Rattle.tw_skiplist.specs.declared.info.StepInfo.{StepInfo}
 use Rattle.tw_skiplist.specs.declared.info.StepProof.{StepProof}
 use Rattle.tw_disk.specs.Found.{Found, ◌>>=◌}

@@ -1,7 +1,7 @@
 use Rattle.std.proofs.Common.{◌++◌, ◌∷◌, [], ◌∙◌}
 use Rattle.std.specs.Prelude.{◌==◌, if◌then◌else◌}
 use Rattle.tw_base.specs.kinds.Texts.{link_text}
-use Rattle.tw_skiplist.specs.StepPages.{link_of}
+use Rattle.tw_steppage.specs.StepPages.{link_of}
 use Rattle.tw_skiplist.proofs.Recording.{page_labels-none, page_labels-more}
 use Rattle.tw_skiplist.proofs.records.labels_without.Goals as goal
 

@@ -8,5 +8,5 @@ pub returns-clause-stands : goal.returns-clause-stands
 returns-clause-stands g c = λ h served.
     let d = g.D.Disk in
     let s = c.args.self in
-    subst (λ disk. IsAtRest (d.view disk) (λ i. StandsFor g.H.Hasher.dig i s.root.name h)) (sym c.close.ensures)
-    (rest_for_good d.view g.met.D.Disk.only_now g.H.Hasher.dig s.store s.root h served)
+    subst (λ disk. IsAtRest (d.view disk) (λ i. StandsFor g.H.Hasher.dig i s.recorded.root.name h)) (sym c.close.ensures)
+    (rest_for_good d.view g.met.D.Disk.only_now g.H.Hasher.dig s.recorded.store s.recorded.root h served)

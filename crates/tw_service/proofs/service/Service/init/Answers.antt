@@ -4,20 +4,20 @@ use Rattle.tw_service.proofs.service.Service.init.Goals as goal
 
 pub returns-in-Ok-clause-served : goal.returns-in-Ok-clause-served
 returns-in-Ok-clause-served g c = λ i told.
-    serves_none g.H.Hasher.dig (λ text. (g.met.H.Hasher.size text, g.met.H.Hasher.bytes text)) _ c.root_record-bytes.ensures.name refl refl c.genesis-auth.ensures refl c.empty_tree.ensures refl g.D.Disk.view c.in-Ok.store c.as_slice.result.now
+    serves_none g.H.Hasher.dig (λ text. (g.met.H.Hasher.size text, g.met.H.Hasher.bytes text)) _ c.root_record-bytes.ensures.name refl refl c.genesis-auth.ensures refl c.empty_tree.ensures refl refl g.D.Disk.view c.in-Ok.store c.as_slice.result.now
     (c.as_slice.ensures.value ∙ c.root_record-bytes.ensures.bytes) c.in-Ok.ensures.clean.0 (c.in-Ok.ensures.made i told)
 
 pub returns-in-Ok-clause-any_moment : goal.returns-in-Ok-clause-any_moment
 returns-in-Ok-clause-any_moment g c = λ i told.
-    leaves_none g.H.Hasher.dig (λ text. (g.met.H.Hasher.size text, g.met.H.Hasher.bytes text)) _ c.root_record-bytes.ensures.name refl refl c.genesis-auth.ensures refl c.empty_tree.ensures refl (g.D.Disk.view c.args.disk) _ c.as_slice.result.now
+    leaves_none g.H.Hasher.dig (λ text. (g.met.H.Hasher.size text, g.met.H.Hasher.bytes text)) _ c.root_record-bytes.ensures.name refl refl c.genesis-auth.ensures refl c.empty_tree.ensures refl refl (g.D.Disk.view c.args.disk) _ c.as_slice.result.now
     (c.as_slice.ensures.value ∙ c.root_record-bytes.ensures.bytes) (c.in-Ok.ensures.any_moment i told)
 
 pub returns-in-Err-clause-any_moment_err : goal.returns-in-Err-clause-any_moment_err
 returns-in-Err-clause-any_moment_err g c = λ i told.
-    leaves_none g.H.Hasher.dig (λ text. (g.met.H.Hasher.size text, g.met.H.Hasher.bytes text)) _ c.root_record-bytes.ensures.name refl refl c.genesis-auth.ensures refl c.empty_tree.ensures refl (g.D.Disk.view c.args.disk) (g.D.Disk.view c.in-Err.disk) c.as_slice.result.now
+    leaves_none g.H.Hasher.dig (λ text. (g.met.H.Hasher.size text, g.met.H.Hasher.bytes text)) _ c.root_record-bytes.ensures.name refl refl c.genesis-auth.ensures refl c.empty_tree.ensures refl refl (g.D.Disk.view c.args.disk) (g.D.Disk.view c.in-Err.disk) c.as_slice.result.now
     (c.as_slice.ensures.value ∙ c.root_record-bytes.ensures.bytes) (c.in-Err.ensures.any_moment_err i told)
 
 pub returns-in-Err-clause-told : goal.returns-in-Err-clause-told
 returns-in-Err-clause-told g c = λ i told.
-    tells_none g.H.Hasher.dig (λ text. (g.met.H.Hasher.size text, g.met.H.Hasher.bytes text)) _ c.root_record-bytes.ensures.name refl refl c.genesis-auth.ensures refl c.empty_tree.ensures refl (g.D.Disk.view c.args.disk) (g.D.Disk.view c.in-Err.disk) c.as_slice.result.now
+    tells_none g.H.Hasher.dig (λ text. (g.met.H.Hasher.size text, g.met.H.Hasher.bytes text)) _ c.root_record-bytes.ensures.name refl refl c.genesis-auth.ensures refl c.empty_tree.ensures refl refl (g.D.Disk.view c.args.disk) (g.D.Disk.view c.in-Err.disk) c.as_slice.result.now
     (c.as_slice.ensures.value ∙ c.root_record-bytes.ensures.bytes) (c.in-Err.ensures.told i told)

@@ -1,0 +1,82 @@
+-- What a call that only reads makes: where its table refuses it, where it answers, and where it meets a fault.
+use Rattle.std.proofs.Common.{◌≡◌, ◌⊎◌, ℕ, ◌≤◌, List, refl, ap, sym, ◌∙◌, subst, arith, inl, inr, ⊎_elim, false}
+use Rattle.std.specs.Prelude.{◌↔◌, IsTrue, MatchOption, Option, Some, None, Result, Ok, Err, IfErr}
+use Rattle.tw_base.specs.history.History.{History}
+use Rattle.tw_base.specs.kinds.Faults.{Rose}
+use Rattle.tw_disk.specs.Disk.{DiskView, IsAtRest}
+use Rattle.tw_disk.specs.Found.{Found}
+use Rattle.tw_disk.specs.Found.Found.{Is}
+use Rattle.tw_disk.specs.Image.{Image}
+use Rattle.tw_pages.specs.Same.{IsSameStore, count_of}
+use Rattle.tw_pages.specs.SameSteps.{is_same_itself}
+use Rattle.tw_service.specs.declared.refusal.Refusal.{Refusal}
+use Rattle.tw_service.specs.declared.refusal.Refusal.TheVariants.{DiskFault}
+use Rattle.tw_service.specs.declared.root.RootRecord.{RootRecord}
+use Rattle.tw_service.specs.declared.service.Service.{Service}
+use Rattle.tw_service.specs.Asking.{Asks}
+use Rattle.tw_service.specs.Finds.{IsRefusalOf}
+use Rattle.tw_service.specs.Keeps.{KeepsHistory}
+use Rattle.tw_service.specs.Machine.{Call, IsStepOf, Reply}
+use Rattle.tw_service.specs.Machine.Reply.{Refused}
+use Rattle.tw_service.specs.Refusals.{IsBadPage, IsFault}
+use Rattle.tw_service.specs.Serves.{Serves, disk_of, has_failed, pages_of, record_of}
+use Rattle.tw_service.proofs.Answering.{IsTold, answers_fault, answers_refusal, is_disk_fault}
+use Rattle.tw_service.proofs.FoundAnswers.{table_found}
+use Rattle.tw_service.proofs.Serving.{read_keeps, read_leaves}
+
+abbrev fails : (T : Type 0) → Refusal → Result T Refusal
+fails T why = Err why
+
+module _ {D H : Type 0} {g : _} {k : _} (view : D → DiskView) (only_now : (d : D) (c : Image) → (view d).left_since (view d).moment c → (view d).may_leave c) (dig : List ℕ → List ℕ) {T : Type 0} (call : Call) (reply : T → Reply)
+    (table : Option Refusal) (found : Image → Found (Result T Refusal)) where
+  -- the table's refusal
+  pub asked_refused : (s : Service D H g k) (r : Refusal) → Some r ≡ table → (IsFault r → ⊥) → ((ps : Image) → pages_of view s ≡ Some ps → found ps ≡ Is (Err r))
+      → (has_failed s ≡ false → (h : History) → Serves dig view s h → IsTold r × IsStepOf dig h call (Refused r) h) → Asks dig view call reply table found s s (Err r)
+  asked_refused s r is told finds step = record {
+    table = subst (λ (o : Option Refusal). MatchOption o (IfErr (fails T r) IsFault) (λ why. fails T r ≡ Err why)) is refl;
+    answer = λ ps list. table_found r (found ps) told (finds ps list);
+    machine = λ whole h served. let own = step whole h served in answers_refusal dig h call reply (Serves dig view s) r own.0 own.1 served;
+    same = λ h served. (served, read_leaves view only_now dig s.recorded.store s.recorded.store s.recorded.root h (is_same_itself view s.recorded.store) served);
+    unwritten = is_same_itself view s.recorded.store;
+    kept = refl;
+    broken = ((λ failed. inl failed), (λ either. ⊎_elim (λ failed. failed) (λ fault. absurd (told (is_disk_fault T r fault))) either));
+    fault = λ fault. absurd (told (is_disk_fault T r fault));
+    later = omega arith;
+  }
+
+  -- the pages were read
+  module _ (s t : Service D H g k) (none : None ≡ table) (root : record_of t ≡ record_of s) (same : IsSameStore view s.recorded.store t.recorded.store) (count : count_of t.recorded.store ≡ count_of s.recorded.store)
+      (later : (view (disk_of s)).faults ≤ (view (disk_of t)).faults) where
+    serves_on : (h : History) → Serves dig view s h → Serves dig view t h
+    serves_on h served = subst (λ (r : RootRecord). IsAtRest (view (disk_of t)) (KeepsHistory dig t.recorded.store r h)) (sym root) (read_keeps view only_now dig s.recorded.store t.recorded.store s.recorded.root h same count served)
+
+    pub asked_ok : (x : T) → t.is_broken ≡ s.is_broken → ((ps : Image) → pages_of view s ≡ Some ps → found ps ≡ Is (Ok x))
+        → (has_failed s ≡ false → (h : History) → Serves dig view s h → IsStepOf dig h call (reply x) h) → Asks dig view call reply table found s t (Ok x)
+    asked_ok x flag finds step = record {
+      table = subst (λ (o : Option Refusal). MatchOption o (Unit {0}) (λ why. ◌≡◌ {A = Result T Refusal} (Ok x) (Err why))) none tt;
+      answer = finds;
+      machine = λ whole h served. (h, step whole h served, serves_on h served);
+      same = λ h served. (serves_on h served, read_leaves view only_now dig s.recorded.store t.recorded.store s.recorded.root h same served);
+      unwritten = same;
+      kept = root;
+      broken = ((λ failed. inl (subst (λ b. IsTrue b) flag failed)), (λ either. ⊎_elim (λ failed. subst (λ b. IsTrue b) (sym flag) failed) (λ fault. cc) either));
+      fault = λ fault. cc;
+      later = later;
+    }
+
+    pub asked_err : (r : Refusal) → IsFault r → s.is_broken ≡ false → IsTrue t.is_broken ↔ (r ≡ DiskFault) → ((ps : Image) → pages_of view s ≡ Some ps → IsRefusalOf r (found ps))
+        → ((h : History) → Serves dig view s h → IsBadPage r → ⊥) → (r ≡ DiskFault → Rose (view (disk_of s)).faults (view (disk_of t)).faults) → Asks dig view call reply table found s t (Err r)
+    asked_err r fault whole flag finds good rose = record {
+      table = subst (λ (o : Option Refusal). MatchOption o (IsFault r) (λ why. fails T r ≡ Err why)) none fault;
+      answer = finds;
+      machine = λ whole h served. answers_fault dig h call reply (Serves dig view t) r fault (good h served) (inr (serves_on h served));
+      same = λ h served. (serves_on h served, read_leaves view only_now dig s.recorded.store t.recorded.store s.recorded.root h same served);
+      unwritten = same;
+      kept = root;
+      broken = ((λ failed. inr (ap (fails T) (flag.0 failed))), (λ either. ⊎_elim (λ failed. let was = subst (λ b. IsTrue b) whole failed in absurd cc) (λ is. flag.1 (of_fails is)) either));
+      fault = λ is. rose (of_fails is);
+      later = later;
+    }
+      where
+        of_fails : fails T r ≡ fails T DiskFault → r ≡ DiskFault
+        of_fails is = cc

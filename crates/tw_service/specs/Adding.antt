@@ -1,0 +1,57 @@
+-- What a call of a service makes that may add a step.
+use Rattle.std.specs.Prelude.{◌≡◌, ◌⊎◌, ◌↔◌, ℕ, ◌+◌, ◌≤◌, List, Option, Some, None, Result, Ok, Err, IfErr, IfOk, IsTrue, MatchOption, OnErr, false}
+use Rattle.tw_base.specs.declared.history.thread.Thread.{Thread}
+use Rattle.tw_base.specs.history.History.{History}
+use Rattle.tw_base.specs.kinds.Faults.{Rose}
+use Rattle.tw_disk.specs.Disk.{DiskView, LeavesOnly, Reads}
+use Rattle.tw_disk.specs.Image.{Image}
+use Rattle.tw_service.specs.declared.refusal.Refusal.{Refusal}
+use Rattle.tw_service.specs.declared.refusal.Refusal.TheVariants.{DiskFault}
+use Rattle.tw_service.specs.declared.service.Service.{Service}
+use Rattle.tw_service.specs.Finds.{IsAnswer, found_thread}
+use Rattle.tw_service.specs.Limits.{append_refusal}
+use Rattle.tw_service.specs.Machine.{Answers, Call, IsStepOf, NextOf, Reply}
+use Rattle.tw_service.specs.Machine.Call.{Append}
+use Rattle.tw_service.specs.Machine.Reply.{OfThread}
+use Rattle.tw_service.specs.Refusals.{IsFault}
+use Rattle.tw_service.specs.Serves.{HasSameDisk, Serves, archive_of, clock_of, disk_of, has_failed, head_of, name_of, pages_of, steps_of, thread_of, threads_of}
+use Rattle.tw_service.specs.Stands.{StandsFor, StandsForOneOf, greater}
+
+module _ {D H : Type 0} {g : _} {k : _} (dig : List ℕ → List ℕ) (view : D → DiskView) where
+  -- Of a history that was served there is a next one by the call. Each image that a crash since may leave stands for one of the two,
+  -- and so does the content, which is told still, after a disk fault too. After an answer the next one is served, at rest, by a step of
+  -- the machine. After a refusal but a disk fault the history is served as before, at rest, and each image stands for it; and where no
+  -- earlier call met a disk fault, the refusal is a step of the machine, a disk fault and want of memory excepted.
+  pub record Steps {T : Type 0} (call : Call) (reply : T → Reply) (old new : Service D H g k) (result : Result T Refusal) (h : History) : Type 0 where
+    pub next : History
+    pub is_next : NextOf call h next
+    pub any_moment : LeavesOnly (view (disk_of old)) (view (disk_of new)) (StandsForOneOf dig (name_of old) h next)
+    pub told : Reads (view (disk_of new)) (StandsForOneOf dig (name_of old) h next)
+    pub done : IfOk result (λ value. IsStepOf dig h call (reply value) next × Serves dig view new next)
+    pub refused : IfErr result (λ refusal. (refusal ≡ DiskFault)
+        ⊎ (Serves dig view new h × LeavesOnly (view (disk_of old)) (view (disk_of new)) (λ i. StandsFor dig i (name_of old) h)))
+    pub machine : has_failed old ≡ false → IfErr result (λ refusal. Answers dig h call reply (Err refusal) (Serves dig view new))
+
+  -- what adding a step of these events does, with this time or none
+  pub record Appends (events : List (List ℕ)) (time : Option ℕ) (old new : Service D H g k) (result : Result Thread Refusal) : Type 0 where
+    -- each refusal of the table comes exactly where its line is the first that stands; else only faults of the disk, of its pages and
+    -- of memory are left
+    pub table : MatchOption (append_refusal (has_failed old) (steps_of old) (clock_of old) events time) (IfErr result IsFault) (λ refusal. result ≡ Err refusal)
+    -- over told pages, whatever they keep, the answer is what is found in them, a disk fault and want of memory excepted
+    pub answer : (ps : Image) → pages_of view old ≡ Some ps
+        → IsAnswer result (found_thread dig ps (name_of old) (head_of old) (has_failed old) (clock_of old) events time (archive_of old))
+    -- of each history that was served
+    pub steps : (h : History) → Serves dig view old h → Steps (Append events time) OfThread old new result h
+    -- the answer is the thread of the new head, which is that of the next step of the value's name
+    pub thread : IfOk result (λ thread. (thread ≡ thread_of new) × (thread.from ≡ name_of old) × (thread.step ≡ steps_of old + 1))
+    -- archive and number of threads stay as they were, over whatever store; and the record then has the greater time
+    pub archive : (archive_of new ≡ archive_of old) × (threads_of new ≡ threads_of old)
+    pub clock : IfOk result (λ thread. clock_of new ≡ greater (clock_of old) time)
+    -- after each refusal name, head and greatest time are as before; after one but a disk fault nothing was written
+    pub kept : OnErr result ((head_of new ≡ head_of old) × (name_of new ≡ name_of old) × (clock_of new ≡ clock_of old))
+    pub unwritten : IfErr result (λ refusal. (refusal ≡ DiskFault) ⊎ HasSameDisk view old new)
+    -- that a call answered a disk fault is remembered, and nothing else is remembered so
+    pub broken : IsTrue (has_failed new) ↔ (IsTrue (has_failed old) ⊎ (result ≡ Err DiskFault))
+    -- a disk fault comes only where the disk's count of faults rose, which never falls
+    pub fault : result ≡ Err DiskFault → Rose (view (disk_of old)).faults (view (disk_of new)).faults
+    pub later : (view (disk_of old)).faults ≤ (view (disk_of new)).faults

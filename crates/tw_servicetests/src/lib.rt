@@ -1,0 +1,7 @@
+//! Tests of steps in pages and of services over a disk in memory: each public call that takes memory once, and calls that fail.
+#![tactic(auto)]
+
+#[cfg(test)]
+mod services;
+#[cfg(test)]
+mod skip_lists;

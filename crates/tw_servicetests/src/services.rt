@@ -1,0 +1,268 @@
+// Services on a disk in memory: each call once, how many device calls it makes, what a stop leaves, and a failed call. Root records,
+// pages that aren't of their kind, limits and what is missing are shown by the acceptance run.
+
+use std::alloc::Global;
+use std::process::Abort;
+use std::test::Fail;
+use tw_base::{Bytes, EventList, Name, NoMemory, Sha, Thread};
+use tw_chain::Verdict;
+use tw_disk::MemDisk;
+use tw_pages::StoreFault;
+use tw_service::{Refusal, Service};
+use tw_skipproof::climb;
+use tw_verifier::verify;
+
+// The name of the tests' service.
+fn alpha(rt: &impl Abort) -> Name {
+    Name::read(b"alpha").expect(rt, "a name")
+}
+
+// One event of one byte.
+fn one_event(alloc: Global) -> Result<EventList, NoMemory> {
+    let event = Bytes::from_slice(alloc, &[9])?;
+    let mut events = EventList::new(alloc);
+    events.push(event)?;
+    Ok(events)
+}
+
+// A new service on this disk.
+fn init(alloc: Global, disk: MemDisk, name: Name) -> Option<Service<MemDisk, Sha>> {
+    match Service::<MemDisk, Sha>::init(alloc, disk, name) {
+        Ok(service) => Some(service),
+        Err((_, _)) => None,
+    }
+}
+
+// Why no service is made on this disk.
+fn fault_of_init(alloc: Global, disk: MemDisk, name: Name) -> Option<StoreFault> {
+    match Service::<MemDisk, Sha>::init(alloc, disk, name) {
+        Ok(_) => None,
+        Err((_, fault)) => Some(fault),
+    }
+}
+
+// The service on this disk.
+fn open(alloc: Global, disk: MemDisk) -> Option<Service<MemDisk, Sha>> {
+    match Service::<MemDisk, Sha>::open(alloc, disk) {
+        Ok(service) => Some(service),
+        Err((_, _)) => None,
+    }
+}
+
+// Appends a step of one event.
+fn append(alloc: Global, service: &mut Service<MemDisk, Sha>) -> Result<Thread, Refusal> {
+    let events = one_event(alloc)?;
+    service.append(&events)
+}
+
+// Whether the proof of the first event of a step is accepted under this anchor.
+fn is_accepted(
+    alloc: Global,
+    service: &mut Service<MemDisk, Sha>,
+    step: u64,
+    anchor: Thread,
+) -> bool {
+    match service.prove_event(step, 0, anchor.step) {
+        Err(_) => false,
+        Ok(bytes) => match verify::<Sha>(alloc, bytes.as_slice(), &[anchor], false) {
+            Ok(Verdict::Yes(_)) => true,
+            Ok(Verdict::No(_)) => false,
+            Err(_) => false,
+        },
+    }
+}
+
+#[test]
+fn init_makes_ten_calls(rt: HostRuntime) -> Result<(), Fail> {
+    let alloc = rt.alloc();
+    let name = alpha(&rt);
+    let service = init(alloc, MemDisk::new(alloc), name).ok_or("no service")?;
+    assert_eq!(rt; service.steps(), 0);
+    assert_eq!(rt; service.name(), name);
+    assert_eq!(rt; service.close().device_calls(), 10);
+    Ok(())
+}
+
+#[test]
+fn a_service_is_made_once(rt: HostRuntime) -> Result<(), Fail> {
+    let alloc = rt.alloc();
+    let name = alpha(&rt);
+    let service = init(alloc, MemDisk::new(alloc), name).ok_or("no service")?;
+    let fault = fault_of_init(alloc, service.close(), name);
+    assert_eq!(rt; fault, Some(StoreFault::Taken));
+    Ok(())
+}
+
+#[test]
+fn open_makes_a_call_and_append_eight(rt: HostRuntime) -> Result<(), Fail> {
+    let alloc = rt.alloc();
+    let service = init(alloc, MemDisk::new(alloc), alpha(&rt)).ok_or("no service")?;
+    let mut service = open(alloc, service.close()).ok_or("not opened")?;
+    let first = append(alloc, &mut service)?;
+    assert_eq!(rt; first, service.head());
+    assert_eq!(rt; first.step, 1);
+    assert_eq!(rt; service.close().device_calls(), 19);
+    Ok(())
+}
+
+#[test]
+fn a_proof_reads_each_page_of_its_path_once(rt: HostRuntime) -> Result<(), Fail> {
+    let alloc = rt.alloc();
+    let mut service = init(alloc, MemDisk::new(alloc), alpha(&rt)).ok_or("no service")?;
+    for _ in 0..8 {
+        let _ = append(alloc, &mut service)?;
+    }
+    let last = service.head();
+    let disk = service.close();
+    let before = disk.reads();
+    let mut service = open(alloc, disk).ok_or("not opened")?;
+    assert!(rt; is_accepted(alloc, &mut service, 1, last));
+
+    // Two gates and two bodies; steps 8, 4, 2 and 1; one event page.
+    assert_eq!(rt; service.close().reads(), before.saturating_add(9));
+    Ok(())
+}
+
+// Whether the proof of the step's authenticator is accepted under this anchor.
+fn is_linked(
+    alloc: Global,
+    service: &mut Service<MemDisk, Sha>,
+    step: u64,
+    anchor: Thread,
+) -> bool {
+    match service.prove_link(step, anchor.step) {
+        Err(_) => false,
+        Ok(bytes) => match verify::<Sha>(alloc, bytes.as_slice(), &[anchor], false) {
+            Ok(Verdict::Yes(_)) => true,
+            Ok(Verdict::No(_)) => false,
+            Err(_) => false,
+        },
+    }
+}
+
+// Whether the path of a message computes the authenticator of the last step from that of an earlier one.
+fn is_told_from(service: &mut Service<MemDisk, Sha>, earlier: Thread) -> bool {
+    let last = service.head();
+    if last.step > 1000 {
+        return false;
+    }
+    match service.thread_out(earlier.step) {
+        Ok(path) => match climb::<Sha>(&path, last.step, earlier.step, &earlier.auth) {
+            Some(auth) => auth == last.auth,
+            None => false,
+        },
+        Err(_) => false,
+    }
+}
+
+#[test]
+fn a_link_reads_the_pages_above_the_lower_step(rt: HostRuntime) -> Result<(), Fail> {
+    let alloc = rt.alloc();
+    let mut service = init(alloc, MemDisk::new(alloc), alpha(&rt)).ok_or("no service")?;
+    for _ in 0..8 {
+        let _ = append(alloc, &mut service)?;
+    }
+    let last = service.head();
+    let disk = service.close();
+    let before = disk.reads();
+    let mut service = open(alloc, disk).ok_or("not opened")?;
+    assert!(rt; is_linked(alloc, &mut service, 1, last));
+
+    // Two gates and two bodies; steps 8, 4 and 2.
+    assert_eq!(rt; service.close().reads(), before.saturating_add(7));
+    Ok(())
+}
+
+#[test]
+fn a_message_reads_the_pages_above_the_lower_step(rt: HostRuntime) -> Result<(), Fail> {
+    let alloc = rt.alloc();
+    let mut service = init(alloc, MemDisk::new(alloc), alpha(&rt)).ok_or("no service")?;
+    let first = append(alloc, &mut service)?;
+    for _ in 1..8 {
+        let _ = append(alloc, &mut service)?;
+    }
+    let disk = service.close();
+    let before = disk.reads();
+    let mut service = open(alloc, disk).ok_or("not opened")?;
+    assert!(rt; is_told_from(&mut service, first));
+
+    // Two gates and two bodies; steps 8, 4 and 2.
+    assert_eq!(rt; service.close().reads(), before.saturating_add(7));
+    Ok(())
+}
+
+// Appends a step of one event at this time.
+fn append_at(
+    alloc: Global,
+    service: &mut Service<MemDisk, Sha>,
+    time: u32,
+) -> Result<Thread, Refusal> {
+    let events = one_event(alloc)?;
+    service.append_at(&events, time as u64)
+}
+
+#[test]
+fn the_greatest_time_outlives_a_step_without_one(rt: HostRuntime) -> Result<(), Fail> {
+    let alloc = rt.alloc();
+    let mut service = init(alloc, MemDisk::new(alloc), alpha(&rt)).ok_or("no service")?;
+    let _ = append_at(alloc, &mut service, 7)?;
+    let _ = append(alloc, &mut service)?;
+    let mut service = open(alloc, service.close()).ok_or("not opened")?;
+    let refused = append_at(alloc, &mut service, 6).err();
+    assert_eq!(rt; refused, Some(Refusal::ClockBack { last: 7, given: 6 }));
+    let third = append_at(alloc, &mut service, 7)?;
+    assert_eq!(rt; third.step, 3);
+    assert!(rt; is_accepted(alloc, &mut service, 1, third));
+    Ok(())
+}
+
+#[test]
+fn a_failed_call_leaves_the_earlier_steps(rt: HostRuntime) -> Result<(), Fail> {
+    let alloc = rt.alloc();
+    let mut service = init(alloc, MemDisk::new(alloc), alpha(&rt)).ok_or("no service")?;
+    let first = append(alloc, &mut service)?;
+    let mut disk = service.close();
+    disk.fail(4)?;
+    let mut service = open(alloc, disk).ok_or("not opened")?;
+    for refusal in [Refusal::DiskFault, Refusal::Reopen] {
+        assert_eq!(rt; append(alloc, &mut service).err(), Some(refusal));
+    }
+    assert_eq!(rt; service.prove_event(1, 0, 1).err(), Some(Refusal::Reopen));
+    let service = open(alloc, service.close()).ok_or("not opened again")?;
+    assert_eq!(rt; service.head(), first);
+    Ok(())
+}
+
+// The number of steps that a new service has after its first append was stopped at this call and the
+// disk crashed with this outcome; None where it isn't opened.
+fn steps_after_a_stop(alloc: Global, name: Name, call: u64, choice: u8) -> Option<u64> {
+    let service = init(alloc, MemDisk::new(alloc), name)?;
+    let events = one_event(alloc).ok()?;
+    let mut disk = service.close();
+    disk.stop_at(call.max(1).saturating_add(1));
+    let mut service = open(alloc, disk)?;
+    let _ = service.append(&events);
+    let mut disk = service.close();
+    disk.crash(choice.min(3));
+    let service = open(alloc, disk)?;
+    let steps = service.steps();
+    drop(service.close());
+    Some(steps)
+}
+
+#[test]
+fn a_stop_leaves_the_step_or_not(rt: HostRuntime) -> Result<(), Fail> {
+    let alloc = rt.alloc();
+    let name = alpha(&rt);
+    for choice in 0..4 {
+        for call in 1..7 {
+            assert_eq!(rt; steps_after_a_stop(alloc, name, call, choice), Some(0));
+        }
+        for call in 7..9 {
+            let steps = steps_after_a_stop(alloc, name, call, choice).ok_or("not opened")?;
+            assert!(rt; steps <= 1);
+        }
+        assert_eq!(rt; steps_after_a_stop(alloc, name, 9, choice), Some(1));
+    }
+    Ok(())
+}

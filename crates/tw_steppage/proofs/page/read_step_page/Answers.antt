@@ -1,0 +1,53 @@
+use Rattle.std.proofs.Common.{List, length, ap, sym, ◌∙◌, Bool}
+use Rattle.std.specs.Prelude.{◌&&◌}
+use Rattle.tw_base.proofs.lemmas.format.PageLaws.{takes-page}
+use Rattle.tw_steppage.specs.declared.fields.StepFields.{StepFields}
+use Rattle.tw_steppage.specs.declared.link.StepRef.{StepRef}
+use Rattle.tw_steppage.specs.declared.page.StepPage.{StepPage}
+use Rattle.tw_disk.specs.Found.{Found, when, ◌>>=◌, spelled}
+use Rattle.tw_steppage.specs.StepBytes.{step_codec}
+use Rattle.tw_steppage.specs.StepPages.{keeps_field_rules, keeps_link_rules, step_in}
+use Rattle.tw_disk.proofs.FoundLaws.{is_on}
+use Rattle.tw_disk.proofs.SpelledLaws.{page-is, page-none}
+use Rattle.tw_steppage.proofs.StepCodecs.{links-count, step-lawful}
+use Rattle.tw_steppage.proofs.page.read_step_page.Goals as goal
+
+abbrev parts : StepPage → StepFields × List StepRef
+parts p = (p.fields, p.links.items)
+
+pub returns-in_default-clause-answer : goal.returns-in_default-clause-answer
+unfolding step_in
+returns-in_default-clause-answer c =
+    let page = c.args.page in
+    let step = c.args.step in
+    let bytes = c.args.bytes.now in
+    let none = takes-page (step_codec step) (step-lawful step) parts bytes _ _ _ c.take_step-read.ensures.takes c.take_step-read.ensures.memory c.in_default.ensures in
+    ap (λ (f : Found (StepFields × List StepRef)). f >>= (λ p. when (keeps_field_rules page p.0 && keeps_link_rules page step p.1 (length p.1)) page p))
+    (page-none page (step_codec step) (step-lawful step) bytes none)
+
+pub returns-then-keeps_rules-clause-answer : goal.returns-then-keeps_rules-clause-answer
+unfolding step_in
+returns-then-keeps_rules-clause-answer c =
+    let page = c.args.page in
+    let step = c.args.step in
+    let bytes = c.args.bytes.now in
+    let p = c.in-Some.found in
+    let found = takes-page (step_codec step) (step-lawful step) parts bytes _ _ _ c.take_step-read.ensures.takes c.take_step-read.ensures.memory c.in-Some.ensures in
+    is_on (spelled page 4096 (step_codec step) bytes) (λ p. when (keeps_field_rules page p.0 && keeps_link_rules page step p.1 (length p.1)) page p) (parts p) (page-is page (step_codec step) (step-lawful step) bytes (parts p) found)
+    ∙ ap (λ (b : Bool). when b page (parts p)) (sym c.if-keeps_rules.ensures)
+
+pub returns-then-keeps_rules-clause-link_count : goal.returns-then-keeps_rules-clause-link_count
+returns-then-keeps_rules-clause-link_count c =
+    let found = takes-page (step_codec c.args.step) (step-lawful c.args.step) parts c.args.bytes.now _ _ _ c.take_step-read.ensures.takes c.take_step-read.ensures.memory c.in-Some.ensures in
+    links-count c.args.step c.in-Some.found.fields c.in-Some.found.links.items found.fits
+
+pub returns-else-keeps_rules-clause-answer : goal.returns-else-keeps_rules-clause-answer
+unfolding step_in
+returns-else-keeps_rules-clause-answer c =
+    let page = c.args.page in
+    let step = c.args.step in
+    let bytes = c.args.bytes.now in
+    let p = c.in-Some.found in
+    let found = takes-page (step_codec step) (step-lawful step) parts bytes _ _ _ c.take_step-read.ensures.takes c.take_step-read.ensures.memory c.in-Some.ensures in
+    is_on (spelled page 4096 (step_codec step) bytes) (λ p. when (keeps_field_rules page p.0 && keeps_link_rules page step p.1 (length p.1)) page p) (parts p) (page-is page (step_codec step) (step-lawful step) bytes (parts p) found)
+    ∙ ap (λ (b : Bool). when b page (parts p)) (sym c.if-keeps_rules.ensures)

@@ -1,0 +1,2 @@
+pub mod StepBytes
+pub mod StepPages

@@ -1,0 +1,37 @@
+-- The pages of steps.
+use Rattle.std.specs.Prelude.{ℕ, suc, zero, ◌^◌, ◌==◌, ◌&&◌, List, [], length, nat_lt, slice_index_or, Bool, true, if◌then◌else◌}
+use Rattle.tw_base.specs.declared.kinds.limits.TheConstants.{PAGE_SIZE}
+use Rattle.tw_disk.specs.Image.{Image}
+use Rattle.tw_steppage.specs.declared.link.StepRef.{StepRef}
+use Rattle.tw_steppage.specs.declared.fields.StepFields.{StepFields}
+use Rattle.tw_disk.specs.Found.{Found, when, ◌>>=◌, bytes_in, spelled}
+use Rattle.tw_steppage.specs.StepBytes.{step_codec}
+
+abbrev pub no_ref : StepRef
+no_ref = record { page = 0; auth = [] }
+
+abbrev pub link_of : List StepRef → (level : ℕ) → StepRef
+link_of links level = slice_index_or links level no_ref
+
+-- a page below this one, which is 0 exactly where it is of nothing
+abbrev pub lies_below : (is_of_nothing : Bool) → (page above : ℕ) → Bool
+lies_below is_of_nothing page above = nat_lt page above && (if is_of_nothing then page == 0 else nat_lt 0 page)
+
+-- the first event page lies below the step's page, and the page of the archive's root does, which is 0 for none
+abbrev pub keeps_field_rules : (page : ℕ) → StepFields → Bool
+keeps_field_rules page f = lies_below (f.stream.size == 0) f.stream.page page && nat_lt f.archive.page page
+
+-- so do the pages of the links at the levels below this count; the link at a level leads to step 0 where the step is 2 ^ level
+unfoldable pub keeps_link_rules : (page step : ℕ) → List StepRef → (count : ℕ) → Bool
+keeps_link_rules page step links zero = true
+keeps_link_rules page step links (suc level) =
+    keeps_link_rules page step links level && lies_below (step == 2 ^ level) (link_of links level).page page
+
+-- the fields and links that the bytes spell, if they may stand in the page of this number as the page of this step
+unfoldable pub step_in : (page step : ℕ) → List ℕ → Found (StepFields × List StepRef)
+step_in page step bytes =
+    spelled page PAGE_SIZE (step_codec step) bytes >>= (λ p. when (keeps_field_rules page p.0 && keeps_link_rules page step p.1 (length p.1)) page p)
+
+-- the same of the page of this number
+unfoldable pub page_of_step : Image → (page step : ℕ) → Found (StepFields × List StepRef)
+page_of_step pages page step = bytes_in pages page >>= step_in page step

@@ -1,0 +1,13 @@
+//! The bytes of the pages of a step and of its events.
+#![tactic(auto)]
+
+mod fields;
+mod laws;
+pub mod limits;
+mod link;
+mod page;
+
+pub use fields::{StepFields, StreamRef};
+pub use laws::page_laws;
+pub use link::StepRef;
+pub use page::{StepPage, event_page, is_event_page, read_step_page, step_page};

@@ -1,0 +1,10 @@
+// Links.
+
+use tw_base::Digest;
+
+/// A step that a later one has a link to: its page (0 for step 0) and its authenticator.
+#[derive(Clone, Copy, Default, Debug, PartialEq, Eq, Drop)]
+pub struct StepRef {
+    pub page: u64,
+    pub auth: Digest,
+}
