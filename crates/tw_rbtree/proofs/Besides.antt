@@ -1,6 +1,6 @@
 -- What is found over any pages: an entry of the asked key, or one on the asked side of it.
-use Rattle.std.proofs.Common.{◌≡◌, ℕ, suc, zero, ◌+◌, ◌*◌, List, [], ◌∷◌, ◌++◌, Bool, true, false, refl, sym, subst, slice_get, Result, Ok, Err}
-use Rattle.std.specs.Prelude.{Option, Some, None, IfOk, IfSome, not, ◌==◌, nat_lt, if◌then◌else◌}
+use Rattle.std.proofs.Common.{◌≡◌, ℕ, suc, zero, ◌+◌, ◌*◌, List, [], ◌∷◌, ◌++◌, Bool, true, false, refl, sym, subst, slice_get}
+use Rattle.std.specs.Prelude.{Option, Some, None, IfSome, not, ◌==◌, nat_lt, if◌then◌else◌}
 use Rattle.tw_base.specs.declared.history.thread.Entry.{Entry}
 use Rattle.tw_base.specs.declared.history.thread.Key.{Key}
 use Rattle.tw_base.specs.declared.history.tree_proof.Ask.{Ask}
@@ -14,8 +14,8 @@ use Rattle.std.specs.declared.cmp.Ordering.{Ordering}
 use Rattle.std.specs.declared.cmp.Ordering.TheVariants.{Less, Equal, Greater}
 use Rattle.std.specs.Cmp.Lexicographic.{slice_cmp}
 use Rattle.std.specs.Ordering.{is_eq, nat_cmp, ordering_then}
-use Rattle.tw_base.specs.declared.history.tree_proof.Ancestor.{Ancestor}
 use Rattle.tw_base.specs.declared.history.tree_proof.TreeProof.{TreeProof}
+use Rattle.tw_base.specs.declared.history.tree_proof.TreeProof.TheVariants.{Present as OfEntry, Gap}
 use Rattle.tw_base.proofs.lemmas.kinds.ListLemmas.{Each-append}
 use Rattle.tw_rbnode.specs.declared.node.Found.{Found as Spot}
 use Rattle.tw_rbnode.specs.declared.node.Found.TheVariants.{At, Between}
@@ -24,10 +24,7 @@ use Rattle.tw_rbnode.specs.Shape.{Shape, Empty, Node, size}
 use Rattle.tw_rbnode.specs.Trees.{above_at, label_at, labels_of, mark_of, node_above, nodes_above}
 use Rattle.tw_treeproof.specs.Answers.{ancestors_of}
 use Rattle.tw_treeproof.specs.Limits.{IsAncestorInRange}
-use Rattle.tw_rbtree.specs.declared.fault.TreeFault.{TreeFault}
-use Rattle.tw_rbtree.specs.declared.proving.Shown.{Shown}
-use Rattle.tw_rbtree.specs.declared.proving.Sides.{Sides}
-use Rattle.tw_rbtree.specs.Paths.{shown_proof}
+use Rattle.tw_rbtree.specs.Paths.{with_above}
 use Rattle.tw_treeproof.specs.Ways.{has_asked_key, is_left}
 use Rattle.tw_rbtree.specs.Beside.{AreBeside, IsHigh, IsLow, IsMet, IsSoughtBy}
 use Rattle.tw_rbtree.specs.Ways.{seek}
@@ -106,10 +103,11 @@ module _ (dig : List ℕ → List ℕ) where
   pub nodes-ranges : (p : TreePage) (at : Spot) → IsNode p → Each IsAncestorInRange (nodes_above dig p at)
   nodes-ranges p at node = above-ranges p.entries (labels_of p.children) (mark_of at) 0 p.shape node.ranges
 
-pub shown-ranges : (r : Result Shown TreeFault) (more : List Ancestor) → IfOk r (λ s. s.ancestors ≡ more) → Each IsAncestorInRange more → IfOk r (λ s. Each IsAncestorInRange s.ancestors)
-shown-ranges (Ok s) more is ranges = subst (Each IsAncestorInRange) (sym is) ranges
-shown-ranges (Err fault) more is ranges = tt
+pub more-ranges : (dig : List ℕ → List ℕ) (p : TreePage) (at : Spot) (old new : TreeProof) → IsNode p → new ≡ with_above old (nodes_above dig p at) → Each IsAncestorInRange (ancestors_of old) → Each IsAncestorInRange (ancestors_of new)
+more-ranges dig p at old new node is ranges = subst (λ (x : TreeProof). Each IsAncestorInRange (ancestors_of x)) (sym is) (by old ranges)
+  where
+    by : (x : TreeProof) → Each IsAncestorInRange (ancestors_of x) → Each IsAncestorInRange (ancestors_of (with_above x (nodes_above dig p at)))
+    by (OfEntry left right up) all = Each-append IsAncestorInRange up (nodes_above dig p at) all (nodes-ranges dig p at node)
+    by (Gap up) all = Each-append IsAncestorInRange up (nodes_above dig p at) all (nodes-ranges dig p at node)
 
-pub proof-ranges : (sides : Option Sides) (up : List Ancestor) (proof : TreeProof) → proof ≡ shown_proof sides up → Each IsAncestorInRange up → Each IsAncestorInRange (ancestors_of proof)
-proof-ranges None up proof is ranges = subst (λ (p : TreeProof). Each IsAncestorInRange (ancestors_of p)) (sym is) ranges
-proof-ranges (Some s) up proof is ranges = subst (λ (p : TreeProof). Each IsAncestorInRange (ancestors_of p)) (sym is) ranges
+pub ruleset ranges_above = (more-ranges)

@@ -1,66 +1,28 @@
 -- A tree of fewer than 2^40 entries is never full.
-use Rattle.std.proofs.Common.{◌≡◌, ℕ, suc, zero, ◌+◌, ◌*◌, ◌^◌, ◌<◌, ◌≤◌, List, [], ◌∷◌, length, refl, sym, ap, ◌∙◌, subst, arith, inl, inr}
-use Rattle.std.specs.Prelude.{Option, None, Err}
+use Rattle.std.proofs.Common.{◌≡◌, ◌≢◌, ℕ, ◌+◌, ◌*◌, ◌^◌, ◌<◌, ◌≤◌, List, [], ◌∷◌, length, Bool, true, false, refl, sym, ap, ◌∙◌, subst, arith, inl, inr}
+use Rattle.std.specs.Prelude.{◌==◌, Option, None}
+use Rattle.std.proofs.lemmas.Bool.{and_parts}
 use Rattle.tw_base.specs.declared.history.root.Root.{Root}
 use Rattle.tw_base.specs.declared.history.thread.Entry.{Entry}
+use Rattle.tw_base.specs.declared.history.thread.Key.{Key}
 use Rattle.tw_base.specs.declared.history.tree_proof.Ask.{Ask}
 use Rattle.tw_base.specs.declared.history.tree_proof.Ask.TheVariants.{Absent}
-use Rattle.tw_base.specs.history.Entries.{key_of}
+use Rattle.tw_base.specs.history.Asking.{entry_with}
 use Rattle.tw_base.specs.history.Tree.{Tree, entries}
-use Rattle.tw_disk.specs.Found.{Found, ◌>>=◌}
-use Rattle.tw_disk.specs.Found.Found.{Is, Bad}
+use Rattle.tw_disk.specs.Found.Found.{Is}
 use Rattle.tw_disk.specs.Image.{Image}
 use Rattle.tw_disk.proofs.FoundLaws.{is_on, same_found}
-use Rattle.tw_rbnode.specs.declared.node.Found.{Found as Spot}
-use Rattle.tw_rbnode.specs.declared.node.Found.TheVariants.{At, Between}
+use Rattle.tw_rbnode.specs.declared.limits.TheConstants.{MOST_KEYS, TOP_LEVEL}
 use Rattle.tw_rbnode.specs.Page.{TreePage}
-use Rattle.tw_rbtree.specs.declared.fault.TreeFault.TheVariants.{BadPage}
-use Rattle.tw_rbtree.specs.Answers.{AnswersInsert, Overflows}
-use Rattle.tw_rbtree.specs.Reading.{child_in, node_in}
+use Rattle.tw_rbtree.specs.Answers.{found_insert, insert_at, overflows}
+use Rattle.tw_rbtree.specs.Growing.{all_full, is_full}
+use Rattle.tw_rbtree.specs.Reading.{node_in}
 use Rattle.tw_rbtree.specs.Standing.{IsRootTree, IsTreeBelow, IsTreePage, StandsFor, any_page}
-use Rattle.tw_rbtree.specs.Ways.{Stop, child_page, way, way_from, way_on}
+use Rattle.tw_rbtree.specs.Ways.{Stop, end_of, nowhere, way, way_from}
 use Rattle.tw_rbtree.proofs.PageLaws.{root-is}
 use Rattle.tw_rbtree.proofs.RootWays.{root-way}
 use Rattle.tw_rbtree.proofs.SizeLaws.{page-count, below-count}
-use Rattle.tw_rbtree.proofs.WayLaws.{here, into, way-empty, way-root}
-
--- what came before a value that was found
-found-from : {X Y : Type 0} (one : Found X) (f : X → Found Y) (y : Y) → (one >>= f) ≡ Is y → (x : X) × (one ≡ Is x) × (f x ≡ Is y)
-found-from (Is x) f y e = (x, refl, e)
-found-from (Bad page) f y e = cc
-
--- a way begins in its page, and has at most a stop a level
-pub record Stops (level : ℕ) (p : TreePage) (stops : List Stop) : Type 0 where
-  pub first : Stop
-  pub rest : List Stop
-  pub are : stops ≡ first ∷ rest
-  pub page_is : first.page ≡ p
-  pub few : length stops ≤ level + 1
-
-module _ (dig : List ℕ → List ℕ) (ps : Image) (ask : Ask) where
-  only-stop : (level : ℕ) (s : Stop) (p : TreePage) (stops : List Stop) → s.page ≡ p → Is (s ∷ []) ≡ Is stops → Stops level p stops
-  only-stop level s p stops page found =
-      let same : s ∷ [] ≡ stops = same_found (s ∷ []) stops found in
-      record { first = s; rest = []; are = sym same; page_is = page; few = omega (arith, ap length same) }
-
-  pub way-stops : (level : ℕ) (low high : Option Entry) (p : TreePage) (stops : List Stop) → way_from dig ps ask level low high p ≡ Is stops → Stops level p stops
-  unfolding way_from
-  way-stops zero low high p stops found = only-stop 0 (here dig ps ask low high p) p stops refl found
-  way-stops (suc level) low high p stops found = by (here dig ps ask low high p).sought.at found (way-stops level)
-    where
-      stop : Stop
-      stop = here dig ps ask low high p
-
-      by : (spot : Spot) → way_on dig ps ask (here dig ps ask low high p) (into dig ps ask level) spot ≡ Is stops
-          → ((low high : Option Entry) (q : TreePage) (rest : List Stop) → way_from dig ps ask level low high q ≡ Is rest → Stops level q rest) → Stops (suc level) p stops
-      by (At slot) found below = only-stop (suc level) (here dig ps ask low high p) p stops refl found
-      by (Between place) found below =
-          let s = (here dig ps ask low high p).sought in
-          let on = found-from (into dig ps ask level s (child_page p place)) (λ (rest : List Stop). Is (here dig ps ask low high p ∷ rest)) stops found in
-          let child = found-from (child_in dig ps level s.low s.high (child_page p place)) (way_from dig ps ask level s.low s.high) on.0 on.1 in
-          let rest = below s.low s.high child.0 on.0 child.2 in
-          let same : here dig ps ask low high p ∷ on.0 ≡ stops = same_found (here dig ps ask low high p ∷ on.0) stops on.2 in
-          record { first = here dig ps ask low high p; rest = on.0; are = sym same; page_is = refl; few = omega (arith, rest.few, ap length same) }
+use Rattle.tw_rbtree.proofs.WayLaws.{on_way, way-empty, way-root}
 
 module _ (dig : List ℕ → List ℕ) (ps : Image) where
   -- a full root page of this level
@@ -69,27 +31,55 @@ module _ (dig : List ℕ → List ℕ) (ps : Image) where
       page-count dig ps (IsTreeBelow dig any_page ps level) (13 ^ level) level 24 page t (below-count dig ps level)
       (record { node = is.node; at = is.at; level_is = is.level_is; least_keys = omega (arith, full); trees = is.trees; are_trees = is.are_trees; tree_is = is.tree_is; has = is.has })
 
-  pub never-full : (root : Root) (t : Tree) (ask : Ask) (stops : List Stop) → StandsFor dig ps root t → length (entries t) < 2 ^ 40 → way dig ps ask root ≡ Is stops → Overflows stops → ⊥
+  -- a way that overflows begins in a full page of the greatest level
+  first-full : (root : Root) (ask : Ask) (p : TreePage) (stops : List Stop) → way dig ps ask root ≡ Is stops → root.page ≢ 0 → node_in dig ps root.page ≡ Is p → overflows stops ≡ true → (p.level ≡ 10) × (length p.entries ≡ 24)
+  first-full root ask p stops found some first over =
+      let starts = on_way dig ps ask (λ (xs : List Stop). Is (first_page xs)) (λ (xs : List Stop). Is p) p.level None None p (λ xs. refl) in
+      let on : way_from dig ps ask p.level None None p ≡ Is stops = sym (way-root dig ps ask root some ∙ is_on (node_in dig ps root.page) (λ q. way_from dig ps ask q.level None None q) p first) ∙ found in
+      let page : first_page stops ≡ p =
+      same_found (first_page stops) p (sym (is_on (way_from dig ps ask p.level None None p) (λ (xs : List Stop). Is (first_page xs)) stops on) ∙ starts ∙ is_on (way_from dig ps ask p.level None None p) (λ (xs : List Stop). Is p) stops on) in
+      subst (λ (q : TreePage). (q.level ≡ 10) × (length q.entries ≡ 24)) page (by stops over)
+    where
+      first_page : List Stop → TreePage
+      first_page [] = p
+      first_page (s ∷ xs) = s.page
+
+      level_is : (n : ℕ) → (n == TOP_LEVEL) ≡ true → n ≡ 10
+      level_is n e = grind arith
+
+      keys_are : (n : ℕ) → (n == MOST_KEYS) ≡ true → n ≡ 24
+      keys_are n e = grind arith
+
+      head_full : (s : Stop) (xs : List Stop) → all_full (s ∷ xs) ≡ true → is_full s.page ≡ true
+      head_full s [] full = full
+      head_full s (r ∷ xs) full = (and_parts (all_full (r ∷ xs)) (is_full s.page) full).1
+
+      by : (xs : List Stop) → overflows xs ≡ true → ((first_page xs).level ≡ 10) × (length (first_page xs).entries ≡ 24)
+      by [] e = cc
+      by (s ∷ xs) e =
+          let parts = and_parts (all_full (s ∷ xs)) (s.page.level == TOP_LEVEL) e in (level_is s.page.level parts.1, keys_are (length s.page.entries) (head_full s xs parts.0))
+
+  never-full : (root : Root) (t : Tree) (ask : Ask) (stops : List Stop) → StandsFor dig ps root t → length (entries t) < 2 ^ 40 → way dig ps ask root ≡ Is stops → overflows stops ≡ true → ⊥
   never-full root t ask stops stands few found over = by stands.tree
     where
       by : IsRootTree dig any_page ps root.page t → ⊥
       by (inl none) =
           let same : [] ≡ stops = same_found [] stops (sym (way-empty dig ps ask root none.0) ∙ found) in
-          omega (arith, over.levels, ap length same)
+          let wrong : overflows [] ≡ true = ap overflows same ∙ over in cc
       by (inr (level, is)) =
-          let p = is.node in
-          let on : way_from dig ps ask p.level None None p ≡ Is stops =
-          sym (way-root dig ps ask root (λ (e : root.page ≡ 0). omega (arith, e, is.at.low))
-          ∙ is_on (node_in dig ps root.page) (λ q. way_from dig ps ask q.level None None q) p (root-is dig ps root.page p is.at)) ∙ found in
-          let w = way-stops dig ps ask p.level None None p stops on in
-          let full = subst (λ (xs : List Stop). Overflows xs) w.are over in
-          let keys : length p.entries ≡ 24 = ap (λ (q : TreePage). length q.entries) (sym w.page_is) ∙ full.full.0 in
-          let top : level ≡ 10 = omega (arith, over.levels, w.few, is.level_is, is.at.may_stand.node.level) in
-          let count : 25 * 13 ^ 10 ≤ length (entries t) + 1 = subst (λ (n : ℕ). 25 * 13 ^ n ≤ length (entries t) + 1) top (full-count level root.page t is keys) in
+          let first = first-full root ask is.node stops found (λ (e : root.page ≡ 0). omega (arith, e, is.at.low)) (root-is dig ps root.page is.node is.at) over in
+          let top : level ≡ 10 = omega (arith, first.0, is.level_is) in
+          let count : 25 * 13 ^ 10 ≤ length (entries t) + 1 = subst (λ (n : ℕ). 25 * 13 ^ n ≤ length (entries t) + 1) top (full-count level root.page t is first.1) in
           omega (arith, count, few)
 
-  -- so an insert tells no bad page
-  pub no-bad-page : (root : Root) (t : Tree) (entry : Entry) (page : ℕ) → StandsFor dig ps root t → length (entries t) < 2 ^ 40 → AnswersInsert root (Err (BadPage page)) (way dig ps (Absent (key_of entry)) root) → ⊥
-  no-bad-page root t entry page stands few (inl bad) =
-      let w = root-way dig ps (Absent (key_of entry)) root t stands in absurd (let clash : Is w.stops ≡ Bad page = sym w.found ∙ bad in cc)
-  no-bad-page root t entry page stands few (inr over) = never-full root t (Absent (key_of entry)) over.0 stands few over.1 over.3
+  -- so an insert finds the key there, or a new root
+  pub insert-finds : (root : Root) (t : Tree) (key : Key) → StandsFor dig ps root t → length (entries t) < 2 ^ 40 → found_insert dig ps root key ≡ insert_at root (entry_with (entries t) key) false
+  unfolding found_insert
+  insert-finds root t key stands few =
+      let w = root-way dig ps (Absent key) root t stands in
+      is_on (way dig ps (Absent key) root) (λ stops. insert_at root (end_of nowhere stops).met (overflows stops)) w.stops w.found
+      ∙ ap (λ (b : Bool). insert_at root (end_of nowhere w.stops).met b) (not_over (overflows w.stops) refl) ∙ ap (λ (o : Option Entry). insert_at root o false) (sym w.tells)
+    where
+      not_over : (b : Bool) → overflows (root-way dig ps (Absent key) root t stands).stops ≡ b → b ≡ false
+      not_over false e = refl
+      not_over true e = absurd (never-full root t (Absent key) (root-way dig ps (Absent key) root t stands).stops stands few (root-way dig ps (Absent key) root t stands).found e)

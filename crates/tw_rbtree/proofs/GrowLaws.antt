@@ -1,81 +1,70 @@
 -- What becomes of the pages on a way by an entry more.
-use Rattle.std.proofs.Common.{◌≡◌, ◌≢◌, ℕ, suc, zero, ◌+◌, ◌<◌, ◌≤◌, List, [], ◌∷◌, ◌++◌, length, Bool, true, false, refl, ap, sym, ◌∙◌, subst, arith, slice_get, Result, Ok, Err}
-use Rattle.std.specs.Prelude.{Option, Some, map, slice_index_or}
-use Rattle.std.specs.Result.{IsErrAnd}
+use Rattle.std.proofs.Common.{◌≡◌, ◌≢◌, ℕ, suc, zero, ◌+◌, ◌<◌, ◌≤◌, List, [], ◌∷◌, ◌++◌, length, Bool, true, false, refl, ap, sym, ◌∙◌, subst, arith, slice_get}
+use Rattle.std.specs.Prelude.{◌==◌, ◌&&◌, ◌-◌, Option, Some, map, slice_index_or, if◌then◌else◌}
 use Rattle.tw_base.specs.declared.history.thread.Entry.{Entry}
+use Rattle.tw_base.specs.declared.history.thread.Key.{Key}
 use Rattle.tw_base.specs.declared.history.tree_proof.Ask.{Ask}
 use Rattle.tw_base.specs.declared.history.tree_proof.Ask.TheVariants.{Absent}
+use Rattle.tw_base.specs.history.Asking.{with_entry}
 use Rattle.tw_base.specs.history.Entries.{key_of}
 use Rattle.tw_base.specs.history.Limits.{IsEntryInRange}
 use Rattle.tw_base.specs.kinds.Lists.{Each}
+use Rattle.tw_base.specs.kinds.Texts.{empty_tree_text}
 use Rattle.tw_base.specs.history.Tree.{Tree, IsRising, entries}
 use Rattle.tw_base.specs.history.Tree.Tree.{Empty}
 use Rattle.tw_base.proofs.lemmas.kinds.ListLemmas.{Each-parts}
-use Rattle.tw_disk.specs.Found.{Found, ◌>>=◌, when}
-use Rattle.tw_disk.specs.Found.Found.{Is}
+use Rattle.tw_disk.specs.Found.{Found, when, ◌>>=◌}
+use Rattle.tw_disk.specs.Found.Found.{Is, Bad}
 use Rattle.tw_disk.specs.Image.{Image}
-use Rattle.tw_disk.proofs.FoundLaws.{is_on, same_found}
-use Rattle.tw_rbnode.specs.declared.child.Child.{Child}
+use Rattle.tw_disk.proofs.FoundLaws.{same_found}
+use Rattle.tw_rbnode.specs.declared.child.Child.{Child as Link}
+use Rattle.tw_rbnode.specs.declared.limits.TheConstants.{MOST_KEYS}
 use Rattle.tw_rbnode.specs.declared.node.Added.{Added}
 use Rattle.tw_rbnode.specs.declared.node.Added.TheVariants.{One as OnePage, Two as TwoPages}
 use Rattle.tw_rbnode.specs.declared.node.Found.{Found as Spot}
 use Rattle.tw_rbnode.specs.declared.node.Found.TheVariants.{At, Between}
+use Rattle.tw_rbnode.specs.Answers.{IsThere}
 use Rattle.tw_rbnode.specs.Children.{IsChildAt}
-use Rattle.tw_rbnode.specs.Page.{IsNode, TreePage}
+use Rattle.tw_rbnode.specs.Page.{IsBetween, IsNode, TreePage}
 use Rattle.tw_rbnode.specs.Trees.{woven}
 use Rattle.tw_rbnode.proofs.Rising.{Each-with}
 use Rattle.tw_rbnode.proofs.TreeLists.{page-list}
 use Rattle.tw_base.proofs.lemmas.history.Asked.{cut}
-use Rattle.tw_treeproof.specs.Ways.{has_asked_key, is_left}
-use Rattle.tw_rbtree.specs.declared.fault.TreeFault.{TreeFault}
-use Rattle.tw_rbtree.specs.declared.fault.TreeFault.TheVariants.{BadPage, DiskFault, NoMemory, Present, Untrue}
-use Rattle.tw_disk.specs.declared.walk_fault.WalkFault.{WalkFault}
-use Rattle.tw_disk.specs.declared.walk_fault.WalkFault.TheVariants.{BadPage as BadOnWay, DiskFault as FaultOnWay}
-use Rattle.tw_rbtree.specs.FaultWords.{tree_fault}
+use Rattle.tw_rbtree.specs.declared.descending.Down.{Down}
+use Rattle.tw_rbtree.specs.declared.descending.Down.TheVariants.{Met, Leaf, Child}
 use Rattle.tw_rbtree.specs.declared.inserting.Grown.{Grown}
 use Rattle.tw_rbtree.specs.declared.inserting.Grown.TheVariants.{One, Two}
 use Rattle.tw_rbtree.specs.declared.seeking.Sought.{Sought}
-use Rattle.tw_rbtree.specs.Growing.{AnswersGrown, GrownLists, IsChildTree, IsGrownIn, IsStagedAs, IsTwoIfFull, IsWith, MayGoInto}
-use Rattle.tw_rbtree.specs.Reading.{child_in, fits, lie_between, node_in}
+use Rattle.tw_rbtree.specs.Downs.{IsDown, IsSoughtIn}
+use Rattle.tw_rbtree.specs.Growing.{GrownLists, IsChildTree, IsGrownIn, IsStagedAs, IsWith, LiesIn, MayGoInto, SidesList, is_full, is_two, leaf_of}
+use Rattle.tw_rbtree.specs.Reading.{child_in, fits, is_above, is_below, lie_between, node_in}
 use Rattle.tw_rbtree.specs.Standing.{AreTrees, IsTreeBelow, IsTreePage, OfPage}
-use Rattle.tw_rbtree.specs.Ways.{Stop, child_page, seek, way_from}
-use Rattle.tw_rbtree.proofs.Adding.{all-lie, goes-between}
-use Rattle.tw_rbtree.proofs.FoundLaws.{Says, bad_on}
-use Rattle.tw_rbtree.proofs.PageLaws.{child-tried, IsSpotOf, seek-there}
-use Rattle.tw_rbtree.proofs.Replacing.{SidesList}
-use Rattle.tw_rbtree.proofs.Standings.{list-at, tree-at, trees-count}
-use Rattle.tw_rbtree.proofs.WayLaws.{here, way-at, way-goes}
-use Rattle.tw_rbtree.proofs.Weaving.{LiesBetween, left_here, met_here, seek-cons, seek-nil, step_by}
+use Rattle.tw_rbtree.specs.Ways.{child_page, down_at, down_in, seek}
+use Rattle.tw_rbtree.proofs.Keeping.{below-kept, trees-map}
+use Rattle.tw_rbtree.proofs.WayLaws.{child_page-get}
+use Rattle.tw_rbtree.proofs.Adding.{Goes, all-lie, entry-lies, goes-between}
+use Rattle.tw_rbtree.proofs.PageLaws.{root-is}
+use Rattle.tw_rbtree.proofs.Standings.{list-at, map-count, tree-at, trees-count}
+use Rattle.tw_rbtree.proofs.Weaving.{LiesBetween}
 
--- a question that leads to a slot has met its entry
-pub met-some : (ask : Ask) (base : ℕ) (low high : Option Entry) (es : List Entry) (slot : ℕ) → (seek ask base low high es).at ≡ At slot → (e : Entry) × ((seek ask base low high es).met ≡ Some e)
-met-some ask base low high [] slot at = absurd (let wrong : ◌≡◌ {A = Spot} (Between base) (At slot) = ap (λ (s : Sought). s.at) (sym (seek-nil ask base low high)) ∙ at in cc)
-met-some ask base low high (e ∷ es) slot at =
-    subst (λ (s : Sought). (f : Entry) × (s.met ≡ Some f)) (sym (seek-cons ask base low high e es))
-    (by (has_asked_key ask e) (is_left ask e) (met-some ask (base + 1) (Some e) high es slot) (ap (λ (s : Sought). s.at) (sym (seek-cons ask base low high e es)) ∙ at))
-  where
-    rest : Sought
-    rest = seek ask (base + 1) (Some e) high es
+full-is : (n : ℕ) → n ≡ MOST_KEYS → (n == MOST_KEYS) ≡ true
+full-is n e = grind arith
 
-    by : (meets left : Bool) → (rest.at ≡ At slot → (f : Entry) × (rest.met ≡ Some f)) → (step_by meets left (met_here ask base low high e es) (left_here ask base low high e es) rest).at ≡ At slot
-        → (f : Entry) × ((step_by meets left (met_here ask base low high e es) (left_here ask base low high e es) rest).met ≡ Some f)
-    by true left on there = (e, refl)
-    by false true on there = absurd (let wrong : ◌≡◌ {A = Spot} (Between base) (At slot) = there in cc)
-    by false false on there = on there
+full-not : (n : ℕ) → n < MOST_KEYS → (n == MOST_KEYS) ≡ false
+full-not n e = grind arith
 
 -- two exactly where all are full
-pub full-on : (dig : List ℕ → List ℕ) (number place : ℕ) (p : TreePage) (stop : Stop) (stops : List Stop) (below grown : Grown) (added : Added) → stop.page ≡ p → IsTwoIfFull below stops → IsWith p place below added
-    → IsStagedAs dig number added grown → IsTwoIfFull grown (stop ∷ stops)
-full-on dig number place p stop stops (One c) (One d) (OnePage new) same two with_it staged = λ full. two full.1
-full-on dig number place p stop stops (One c) (Two l m r) (OnePage new) same two with_it staged = absurd staged
-full-on dig number place p stop stops (One c) grown (TwoPages f m s) same two with_it staged = absurd with_it
-full-on dig number place p stop stops (Two left middle right) (One d) (OnePage new) same two with_it staged = λ full. omega (arith, with_it.fewer, full.0, ap (λ (q : TreePage). length q.entries) same)
-full-on dig number place p stop stops (Two left middle right) (Two l m r) (OnePage new) same two with_it staged = absurd staged
-full-on dig number place p stop stops (Two left middle right) (One d) (TwoPages f m s) same two with_it staged = absurd staged
-full-on dig number place p stop stops (Two left middle right) (Two l n r) (TwoPages f m s) same two with_it staged = (ap (λ (q : TreePage). length q.entries) same ∙ with_it.full, two)
+pub two-on : (dig : List ℕ → List ℕ) (number place : ℕ) (p : TreePage) (below grown : Grown) (added : Added) → IsWith p place below added → IsStagedAs dig number added grown → is_two grown ≡ (is_two below && is_full p)
+two-on dig number place p (One c) (One d) (OnePage new) with_it staged = refl
+two-on dig number place p (One c) (Two l m r) (OnePage new) with_it staged = absurd staged
+two-on dig number place p (One c) grown (TwoPages f m s) with_it staged = absurd with_it
+two-on dig number place p (Two left middle right) (One d) (OnePage new) with_it staged = sym (full-not (length p.entries) with_it.fewer)
+two-on dig number place p (Two left middle right) (Two l m r) (OnePage new) with_it staged = absurd staged
+two-on dig number place p (Two left middle right) (One d) (TwoPages f m s) with_it staged = absurd staged
+two-on dig number place p (Two left middle right) (Two l n r) (TwoPages f m s) with_it staged = sym (full-is (length p.entries) with_it.full)
 
 -- a child of a page above level 0
-pub child-above : (dig : List ℕ → List ℕ) (level : ℕ) (c : Child) → level ≢ 0 → 0 < c.page → IsChildAt dig level c
+pub child-above : (dig : List ℕ → List ℕ) (level : ℕ) (c : Link) → level ≢ 0 → 0 < c.page → IsChildAt dig level c
 child-above dig zero c some page = absurd (some refl)
 child-above dig (suc level) c some page = page
 
@@ -83,92 +72,18 @@ each-middle : (P : Entry → Type 0) (xs : List Entry) (m : Entry) (ys : List En
 each-middle P xs m ys all = let front = Each-parts P (xs ++ m ∷ []) ys all in let last = Each-parts P xs (m ∷ []) front.0 in last.1.0
 
 -- what is staged is possible between the entries of the page and the new one
-pub grown-in : (dig : List ℕ → List ℕ) (number place : ℕ) (p : TreePage) (low high : Option Entry) (below grown : Grown) (added : Added) → 0 < number → Each IsEntryInRange p.entries → Each (LiesBetween low high) p.entries
-    → ((left right : Child) (middle : Entry) → below ≡ Two left middle right → IsEntryInRange middle × LiesBetween low high middle)
-    → IsWith p place below added → IsStagedAs dig number added grown → IsGrownIn low high grown
-grown-in dig number place p low high below (One d) (OnePage new) some ranges lie middle_is with_it staged = omega (arith, some, staged.page_is)
-grown-in dig number place p low high below (Two l m r) (OnePage new) some ranges lie middle_is with_it staged = absurd staged
-grown-in dig number place p low high below (One d) (TwoPages f m s) some ranges lie middle_is with_it staged = absurd staged
-grown-in dig number place p low high (One c) (Two l n r) (TwoPages f m s) some ranges lie middle_is with_it staged = absurd with_it
-grown-in dig number place p low high (Two left middle right) (Two l n r) (TwoPages f m s) some ranges lie middle_is with_it staged =
-    let own = middle_is left right middle refl in
-    let all_ranges = subst (Each IsEntryInRange) (sym with_it.entries) (Each-with IsEntryInRange p.entries place (middle ∷ []) ranges (own.0, tt)) in
-    let all_lie = subst (Each (LiesBetween low high)) (sym with_it.entries) (Each-with (LiesBetween low high) p.entries place (middle ∷ []) lie (own.1, tt)) in
+pub grown-in : (dig : List ℕ → List ℕ) (number place : ℕ) (p : TreePage) (low high : Option Entry) (below grown : Grown) (added : Added) → 0 < number → IsNode p → lie_between low high p.entries ≡ true
+    → LiesIn low high below → IsWith p place below added → IsStagedAs dig number added grown → IsGrownIn low high grown
+grown-in dig number place p low high below (One d) (OnePage new) some node lie own with_it staged = omega (arith, some, staged.page_is)
+grown-in dig number place p low high below (Two l m r) (OnePage new) some node lie own with_it staged = absurd staged
+grown-in dig number place p low high below (One d) (TwoPages f m s) some node lie own with_it staged = absurd staged
+grown-in dig number place p low high (One c) (Two l n r) (TwoPages f m s) some node lie own with_it staged = absurd with_it
+grown-in dig number place p low high (Two left middle right) (Two l n r) (TwoPages f m s) some node lie own with_it staged =
+    let all_ranges = subst (Each IsEntryInRange) (sym with_it.entries) (Each-with IsEntryInRange p.entries place (middle ∷ []) node.ranges (own.0, tt)) in
+    let all_lie = subst (Each (LiesBetween low high)) (sym with_it.entries) (Each-with (LiesBetween low high) p.entries place (middle ∷ []) (all-lie low high p.entries lie) ((own.1, own.2), tt)) in
     let range = subst IsEntryInRange staged.1 (each-middle IsEntryInRange f.entries m s.entries all_ranges) in
     let lies = subst (LiesBetween low high) staged.1 (each-middle (LiesBetween low high) f.entries m s.entries all_lie) in
     (omega (arith, some, staged.0.page_is), omega (arith, some, staged.2.page_is), range, lies.0, lies.1)
-
--- ---- the way
-
-module _ (dig : List ℕ → List ℕ) (ps : Image) (entry : Entry) (low high : Option Entry) (p : TreePage) where
-  abbrev ask : Ask
-  ask = Absent (key_of entry)
-
-  abbrev s : Sought
-  s = seek (Absent (key_of entry)) 0 low high p.entries
-
-  pub present-here : (level slot : ℕ) → (seek (Absent (key_of entry)) 0 low high p.entries).at ≡ At slot → AnswersGrown level (Err Present) (way_from dig ps (Absent (key_of entry)) level low high p)
-  present-here level slot spot =
-      let met = met-some (Absent (key_of entry)) 0 low high p.entries slot spot in
-      (here dig ps (Absent (key_of entry)) low high p, [], met.0, way-at dig ps (Absent (key_of entry)) low high p level slot spot, met.1)
-
-  module _ (level below place : ℕ) (deeper : level ≡ suc below) (spot : (seek (Absent (key_of entry)) 0 low high p.entries).at ≡ Between place) where
-    abbrev child : Found TreePage
-    child = child_in dig ps below (seek (Absent (key_of entry)) 0 low high p.entries).low (seek (Absent (key_of entry)) 0 low high p.entries).high (child_page p place)
-
-    abbrev on : TreePage → Found (List Stop)
-    on q = way_from dig ps (Absent (key_of entry)) below (seek (Absent (key_of entry)) 0 low high p.entries).low (seek (Absent (key_of entry)) 0 low high p.entries).high q
-
-    abbrev whole : Found (List Stop)
-    whole = way_from dig ps (Absent (key_of entry)) level low high p
-
-    goes : way_from dig ps (Absent (key_of entry)) level low high p ≡ (child >>= (λ q. on q >>= (λ stops. Is (here dig ps (Absent (key_of entry)) low high p ∷ stops))))
-    goes = way-goes dig ps (Absent (key_of entry)) low high p level below place deeper spot
-
-    -- a bad page on the way
-    pub bad-child : (f : TreeFault) → Says f child → Says f (way_from dig ps (Absent (key_of entry)) level low high p)
-    bad-child f bad = subst (λ (w : Found (List Stop)). Says f w) (sym goes) (bad_on f child (λ q. on q >>= (λ stops. Is (here dig ps (Absent (key_of entry)) low high p ∷ stops))) bad)
-
-    module _ (q : TreePage) (found : child ≡ Is q) where
-      goes_on : way_from dig ps (Absent (key_of entry)) level low high p ≡ (on q >>= (λ stops. Is (here dig ps (Absent (key_of entry)) low high p ∷ stops)))
-      goes_on = goes ∙ is_on child (λ r. on r >>= (λ stops. Is (here dig ps (Absent (key_of entry)) low high p ∷ stops))) q found
-
-      pub fault-up : (f : TreeFault) → AnswersGrown below (Err f) (on q) → AnswersGrown level (Err f) (way_from dig ps (Absent (key_of entry)) level low high p)
-      fault-up Present below_is = (
-        here dig ps (Absent (key_of entry)) low high p,
-        below_is.0 ∷ below_is.1,
-        below_is.2,
-        goes_on ∙ is_on (on q) (λ stops. Is (here dig ps (Absent (key_of entry)) low high p ∷ stops)) (below_is.0 ∷ below_is.1) below_is.3,
-        below_is.4,
-      )
-      fault-up Untrue below_is = tt
-      fault-up (BadPage page) below_is =
-          subst (λ (w : Found (List Stop)). Says (BadPage page) w) (sym goes_on) (bad_on (BadPage page) (on q) (λ stops. Is (here dig ps (Absent (key_of entry)) low high p ∷ stops)) below_is)
-      fault-up DiskFault below_is = tt
-      fault-up NoMemory below_is = tt
-
-      pub grown-up : (number : ℕ) (gb grown : Grown) (added : Added) → AnswersGrown below (Ok gb) (on q) → IsWith p place gb added → IsStagedAs dig number added grown
-          → AnswersGrown level (Ok grown) (way_from dig ps (Absent (key_of entry)) level low high p)
-      grown-up number gb grown added below_is with_it staged = (
-        here dig ps (Absent (key_of entry)) low high p,
-        below_is.0 ∷ below_is.1,
-        goes_on ∙ is_on (on q) (λ stops. Is (here dig ps (Absent (key_of entry)) low high p ∷ stops)) (below_is.0 ∷ below_is.1) below_is.2,
-        below_is.3,
-        ap suc below_is.4 ∙ sym deeper,
-        full-on dig number place p (here dig ps (Absent (key_of entry)) low high p) (below_is.0 ∷ below_is.1) gb grown added refl below_is.5 with_it staged,
-      )
-
--- a fault that is passed on
-pub grown-passed : (level : ℕ) (r : Result Grown TreeFault) (f : TreeFault) (found : Found (List Stop)) → IsErrAnd r (λ e. e ≡ f) → AnswersGrown level (Err f) found → AnswersGrown level r found
-grown-passed level (Ok g) f found is has = absurd is
-grown-passed level (Err e) f found is has = subst (λ (x : TreeFault). AnswersGrown level (Err x) found) (sym is) has
-
-pub as_grown_fault : (level : ℕ) (f : TreeFault) (found : Found (List Stop)) → f ≢ Present → Says f found → AnswersGrown level (Err f) found
-as_grown_fault level Present found never is = absurd (never refl)
-as_grown_fault level Untrue found never is = tt
-as_grown_fault level (BadPage page) found never is = is
-as_grown_fault level DiskFault found never is = tt
-as_grown_fault level NoMemory found never is = tt
 
 -- ---- where the pages stand for trees
 
@@ -180,17 +95,8 @@ rises-at (suc k) (c ∷ d ∷ cs) [] count rising = absurd (omega (arith, count)
 rises-at zero (c ∷ cs) (e ∷ es) count rising = (cut c e (woven cs es) rising).front_rises
 rises-at (suc k) (c ∷ cs) (e ∷ es) count rising = rises-at k cs es (omega (arith, count)) (cut c e (woven cs es) rising).back_rises
 
--- the child that a way reads is the one that the tree has there
-pub child-same : (dig : List ℕ → List ℕ) (ps : Image) (level : ℕ) (low high : Option Entry) (page : ℕ) (q r : TreePage) → node_in dig ps page ≡ Is q → child_in dig ps level low high page ≡ Is r → r ≡ q
-unfolding child_in
-child-same dig ps level low high page q r told found = by (fits level low high q) (sym (child-tried dig ps level low high page q told) ∙ found)
-  where
-    by : (b : Bool) → when b page q ≡ Is r → r ≡ q
-    by true e = sym (same_found q r e)
-    by false e = cc
-
 -- a page of a tree with fewer keys asked for
-pub less-keys : (dig : List ℕ → List ℕ) (Has : OfPage) (ps : Image) (level least : ℕ) (c : Child) (t : Tree) → 12 ≤ least → IsChildTree dig Has ps level least c t → IsTreeBelow dig Has ps (suc level) c t
+pub less-keys : (dig : List ℕ → List ℕ) (Has : OfPage) (ps : Image) (level least : ℕ) (c : Link) (t : Tree) → 12 ≤ least → IsChildTree dig Has ps level least c t → IsTreeBelow dig Has ps (suc level) c t
 unfolding IsTreeBelow
 less-keys dig Has ps level least c t enough is = (
   is.0,
@@ -211,19 +117,19 @@ sides-of dig Has ps level least es (One c) enough lists = (lists.0, less-keys di
 sides-of dig Has ps level least es (Two left middle right) enough lists =
     (lists.0, lists.1, less-keys dig Has ps level 12 left lists.0 (omega arith) lists.2, less-keys dig Has ps level 12 right lists.1 (omega arith) lists.3, lists.4)
 
-pub leaf-below : (dig : List ℕ → List ℕ) (Has : OfPage) (ps : Image) (level : ℕ) (c : Child) → level ≡ 0 → IsTreeBelow dig Has ps level c Empty
+pub leaf-below : (dig : List ℕ → List ℕ) (Has : OfPage) (ps : Image) (level : ℕ) (c : Link) → level ≡ 0 → IsTreeBelow dig Has ps level c Empty
 unfolding IsTreeBelow
 leaf-below dig Has ps zero c z = refl
 leaf-below dig Has ps (suc level) c z = absurd (omega (arith, z))
 
-pub leaf-tree : (dig : List ℕ → List ℕ) (Has : OfPage) (ps : Image) (level : ℕ) (c : Child) (t : Tree) → level ≡ 0 → IsTreeBelow dig Has ps level c t → t ≡ Empty
+pub leaf-tree : (dig : List ℕ → List ℕ) (Has : OfPage) (ps : Image) (level : ℕ) (c : Link) (t : Tree) → level ≡ 0 → IsTreeBelow dig Has ps level c t → t ≡ Empty
 unfolding IsTreeBelow
 leaf-tree dig Has ps zero c t z is = is
 leaf-tree dig Has ps (suc level) c t z is = absurd (omega (arith, z))
 
 -- a tree below a page above level 0
 pub record BelowAt (dig : List ℕ → List ℕ) (Has : OfPage) (ps : Image) (lower : ℕ) (p : TreePage) (ts : List Tree) (place : ℕ) : Type 0 where
-  pub child : Child
+  pub child : Link
   pub there : slice_get p.children place ≡ Some child
   pub page : IsTreePage dig Has ps (IsTreeBelow dig Has ps lower) lower 12 child.page (slice_index_or ts place Empty)
   pub rising : IsRising (woven (map entries page.trees) page.node.entries)
@@ -249,36 +155,127 @@ below-at dig Has ps (suc own) lower p ts place deeper places room are count risi
       lists = lists;
     }
 
-place_room : (ask : Ask) (p : TreePage) (low high : Option Entry) (place : ℕ) → (seek ask 0 low high p.entries).at ≡ Between place → place ≤ length p.entries
-place_room ask p low high place spot =
-    let there : IsSpotOf 0 (length p.entries) (Between place) = subst (IsSpotOf 0 (length p.entries)) spot (seek-there ask 0 low high p.entries) in omega (arith, there.1)
+-- ---- what goes into a page
 
-middle_of : Entry → Grown → Entry
-middle_of d (One c) = d
-middle_of d (Two left middle right) = middle
+module _ (dig : List ℕ → List ℕ) (ask : Ask) (low high : Option Entry) (p : TreePage) (d : Sought) (down : IsSoughtIn ask low high p d) (lie : lie_between low high p.entries ≡ true) (place : ℕ) (at : d.at ≡ Between place) where
+  at_seek : (seek ask 0 low high p.entries).at ≡ Between (0 + place)
+  at_seek = ap (λ (s : Sought). s.at) (sym down.here) ∙ at ∙ ap (λ (n : ℕ). Between n) (let same : place ≡ 0 + place = omega arith in same)
 
-pub same_middle : (l r left right : Child) (m middle : Entry) → ◌≡◌ {A = Grown} (Two l m r) (Two left middle right) → m ≡ middle
-unfolding middle_of
-same_middle l r left right m middle e = ap (middle_of m) e
+  pub place-room : place ≤ length p.entries
+  place-room = subst (IsThere p.entries) at down.there
 
-pub never-present : (f : WalkFault) → tree_fault f ≢ Present
-never-present (BadOnWay page) e = cc
-never-present FaultOnWay e = cc
+  goes : (m : Entry) → is_above d.low m ≡ true → is_below d.high m ≡ true → Goes low high p.entries place m
+  goes m above below =
+      goes-between ask m 0 low high p.entries place down.node.rising (all-lie low high p.entries lie) at_seek (ap (λ (s : Sought). is_above s.low m) (sym down.here) ∙ above) (ap (λ (s : Sought). is_below s.high m) (sym down.here) ∙ below)
 
--- what has grown may go into its page
-pub may-go : (dig : List ℕ → List ℕ) (ask : Ask) (p : TreePage) (low high : Option Entry) (place : ℕ) → IsNode p → lie_between low high p.entries ≡ true → p.level ≢ 0
-    → (seek ask 0 low high p.entries).at ≡ Between place → (g : Grown) → IsGrownIn (seek ask 0 low high p.entries).low (seek ask 0 low high p.entries).high g → MayGoInto dig p place g
-may-go dig ask p low high place node lie some spot (One c) grown = (grown, some, place_room ask p low high place spot)
-may-go dig ask p low high place node lie some spot (Two left middle right) grown =
-    let goes = goes-between ask middle 0 low high p.entries place node.rising (all-lie low high p.entries lie) (spot ∙ ap (λ (n : ℕ). Between n) (let s : place ≡ 0 + place = omega arith in s)) grown.3 grown.4 in
-    (grown.2, record { there = place_room ask p low high place spot; above = goes.before; below = goes.behind }, child-above dig p.level left some grown.0, child-above dig p.level right some grown.1)
+  -- an entry between those beside the way stands at its place
+  pub stands-between : (m : Entry) → is_above d.low m ≡ true → is_below d.high m ≡ true → IsBetween p.entries place (key_of m)
+  stands-between m above below = let g = goes m above below in record { there = place-room; above = g.before; below = g.behind }
 
--- and lies between the entries beside the page
-pub still-lies : (ask : Ask) (p : TreePage) (low high : Option Entry) (place : ℕ) → IsNode p → lie_between low high p.entries ≡ true → (seek ask 0 low high p.entries).at ≡ Between place
-    → (g : Grown) → IsGrownIn (seek ask 0 low high p.entries).low (seek ask 0 low high p.entries).high g → (left right : Child) (middle : Entry) → g ≡ Two left middle right
-    → IsEntryInRange middle × LiesBetween low high middle
-still-lies ask p low high place node lie spot (One c) grown left right middle is = absurd (let wrong : ◌≡◌ {A = Grown} (One c) (Two left middle right) = is in cc)
-still-lies ask p low high place node lie spot (Two l m r) grown left right middle is =
-    let goes = goes-between ask m 0 low high p.entries place node.rising (all-lie low high p.entries lie) (spot ∙ ap (λ (n : ℕ). Between n) (let s : place ≡ 0 + place = omega arith in s)) grown.3 grown.4 in
-    let same : m ≡ middle = same_middle l r left right m middle is in
-    subst (λ (x : Entry). IsEntryInRange x × LiesBetween low high x) same (grown.2, (goes.above, goes.below))
+  -- what has grown there may go into the page, and lies between the entries beside it
+  pub goes-into : (g : Grown) → p.level ≢ 0 → IsGrownIn d.low d.high g → MayGoInto dig p place g × LiesIn low high g
+  goes-into (One c) some grown = ((grown, some, place-room), tt)
+  goes-into (Two left middle right) some grown =
+      let g = goes middle grown.3 grown.4 in
+      ((grown.2, stands-between middle grown.3 grown.4, child-above dig p.level left some grown.0, child-above dig p.level right some grown.1), (grown.2, g.above, g.below))
+
+module _ (dig : List ℕ → List ℕ) (low high : Option Entry) (p : TreePage) (entry : Entry) (d : Sought) (down : IsSoughtIn (Absent (key_of entry)) low high p d) (lie : lie_between low high p.entries ≡ true) (place : ℕ) (at : d.at ≡ Between place)
+    (above : is_above low entry ≡ true) (below : is_below high entry ≡ true) where
+  -- the entry lies between those beside its way
+  pub lies-below : (is_above d.low entry ≡ true) × (is_below d.high entry ≡ true)
+  lies-below =
+      let lies = entry-lies entry 0 low high p.entries place above below (ap (λ (s : Sought). s.at) (sym down.here) ∙ at) in
+      (ap (λ (s : Sought). is_above s.low entry) down.here ∙ lies.0, ap (λ (s : Sought). is_below s.high entry) down.here ∙ lies.1)
+
+  pub entry-between : IsBetween p.entries place (key_of entry)
+  entry-between = stands-between dig (Absent (key_of entry)) low high p d down lie place at entry lies-below.0 lies-below.1
+
+  pub leaf-goes : p.level ≡ 0 → IsEntryInRange entry → MayGoInto dig p place (leaf_of dig entry) × LiesIn low high (leaf_of dig entry)
+  leaf-goes leaf range =
+      let empty : IsChildAt dig p.level (record { page = 0; label = dig empty_tree_text }) = subst (λ (n : ℕ). IsChildAt dig n (record { page = 0; label = dig empty_tree_text })) (sym leaf) (refl, refl) in
+      ((range, entry-between, empty, empty), (range, above, below))
+
+module _ (dig : List ℕ → List ℕ) (Has : OfPage) (ps : Image) (p : TreePage) (node : IsNode p) (ts : List Tree) (are : AreTrees (IsTreeBelow dig Has ps p.level) p.children ts) (place : ℕ) (room : place ≤ length p.entries) where
+  -- an entry more of an empty place
+  pub leaf-sides : (entry : Entry) → p.level ≡ 0 → SidesList (IsTreeBelow dig Has ps p.level) (with_entry (slice_index_or (map entries ts) place []) entry) (leaf_of dig entry)
+  leaf-sides entry leaf =
+      let child = tree-at (IsTreeBelow dig Has ps p.level) p.children ts are place (omega (arith, room, node.places)) in
+      let none : slice_index_or (map entries ts) place [] ≡ [] = list-at ts place ∙ ap entries (leaf-tree dig Has ps p.level child.child (slice_index_or ts place Empty) leaf child.is) in
+      let below = leaf-below dig Has ps p.level (record { page = 0; label = dig empty_tree_text }) leaf in
+      (Empty, Empty, below, below, ap (λ (xs : List Entry). with_entry xs entry) (sym none))
+
+-- the trees of the child at a place, as it is found
+pub record OwnBelow (dig : List ℕ → List ℕ) (Has : OfPage) (ps : Image) (p : TreePage) (ts : List Tree) (place : ℕ) (q : TreePage) : Type 0 where
+  pub trees : List Tree
+  pub are : AreTrees (IsTreeBelow dig Has ps q.level) q.children trees
+  pub rising : IsRising (woven (map entries trees) q.entries)
+  pub lists : slice_index_or (map entries ts) place [] ≡ woven (map entries trees) q.entries
+  pub enough : 12 ≤ length q.entries
+
+module _ (dig : List ℕ → List ℕ) (Has : OfPage) (ps : Image) (p : TreePage) (node : IsNode p) (ts : List Tree) (are : AreTrees (IsTreeBelow dig Has ps p.level) p.children ts) (rising : IsRising (woven (map entries ts) p.entries)) (place : ℕ)
+    (room : place ≤ length p.entries) (q : TreePage) (lower : q.level + 1 ≡ p.level) where
+  pub own-below : node_in dig ps (child_page p place) ≡ Is q → OwnBelow dig Has ps p ts place q
+  own-below found =
+      let count : length (map entries ts) ≡ length p.entries + 1 = map-count entries ts ∙ trees-count (IsTreeBelow dig Has ps p.level) p.children ts are ∙ node.places in
+      let b = below-at dig Has ps p.level q.level p ts place (omega (arith, lower)) node.places room are count rising in
+      let page : child_page p place ≡ b.child.page = child_page-get p place b.child b.there in
+      let same : b.page.node ≡ q = same_found b.page.node q (sym (ap (node_in dig ps) page ∙ root-is dig ps b.child.page b.page.node b.page.at) ∙ found) in
+      record {
+        trees = b.page.trees;
+        are = subst (λ (r : TreePage). AreTrees (IsTreeBelow dig Has ps q.level) r.children b.page.trees) same b.page.are_trees;
+        rising = subst (λ (r : TreePage). IsRising (woven (map entries b.page.trees) r.entries)) same b.rising;
+        lists = b.lists ∙ ap (λ (r : TreePage). woven (map entries b.page.trees) r.entries) same;
+        enough = omega (arith, b.page.least_keys, ap (λ (r : TreePage). length r.entries) same);
+      }
+
+  -- what the child has become, at its place
+  pub sides-up : (now : Image) (entry : Entry) (own : OwnBelow dig Has ps p ts place q) (g : Grown) → GrownLists dig Has now q.level (length q.entries) (with_entry (woven (map entries own.trees) q.entries) entry) g
+      → SidesList (IsTreeBelow dig Has now p.level) (with_entry (slice_index_or (map entries ts) place []) entry) g
+  sides-up now entry own g lists =
+      let up : suc q.level ≡ p.level = omega (arith, lower) in
+      subst (λ (es : List Entry). SidesList (IsTreeBelow dig Has now p.level) (with_entry es entry) g) (sym own.lists)
+      (subst (λ (n : ℕ). SidesList (IsTreeBelow dig Has now n) (with_entry (woven (map entries own.trees) q.entries) entry) g) up
+      (sides-of dig Has now q.level (length q.entries) (with_entry (woven (map entries own.trees) q.entries) entry) g own.enough lists))
+
+  -- the trees stay as pages are added
+  pub are-kept : (more now : Image) → ps ++ more ≡ now → AreTrees (IsTreeBelow dig Has now p.level) p.children ts
+  are-kept more now is =
+      subst (λ (n : Image). AreTrees (IsTreeBelow dig Has n p.level) p.children ts) is
+      (trees-map (IsTreeBelow dig Has ps p.level) (IsTreeBelow dig Has (ps ++ more) p.level) (below-kept dig Has ps more p.level) p.children ts are)
+
+-- one page further on the way of the entry's key
+pub same-down : (dig : List ℕ → List ℕ) (low high : Option Entry) (p : TreePage) (key : Key) (entry : Entry) (d e : Down) → key ≡ key_of entry → d ≡ e → IsDown dig (Absent key) low high p d → IsDown dig (Absent (key_of entry)) low high p e
+same-down dig low high p key entry d e ek is down = subst (λ (k : Key). IsDown dig (Absent k) low high p e) ek (subst (IsDown dig (Absent key) low high p) is down)
+
+-- the child that is found there is the page of its number
+pub down-node : (dig : List ℕ → List ℕ) (ps : Image) (ask : Ask) (low high : Option Entry) (p : TreePage) (d : Down) (s : Sought) (place : ℕ) (q : TreePage) → d ≡ Child s place q → down_in dig ps ask low high p ≡ Is d → node_in dig ps (child_page p place) ≡ Is q
+unfolding down_in child_in
+down-node dig ps ask low high p d s place q is found = at_spot (seek ask 0 low high p.entries).at (found ∙ ap (λ (x : Down). Is x) is)
+  where
+    own : Sought
+    own = seek ask 0 low high p.entries
+
+    page_of : Down → ℕ × TreePage
+    page_of (Met t) = (place, q)
+    page_of (Leaf t k) = (place, q)
+    page_of (Child t k r) = (k, r)
+
+    tried : (k : ℕ) (r : TreePage) (b : Bool) → node_in dig ps (child_page p k) ≡ Is r → (when b (child_page p k) r >>= (λ x. Is (Child own k x))) ≡ Is (Child s place q) → node_in dig ps (child_page p place) ≡ Is q
+    tried k r false there e = absurd (let wrong : ◌≡◌ {A = Found Down} (Bad (child_page p k)) (Is (Child s place q)) = e in cc)
+    tried k r true there e =
+        let both : (k, r) ≡ (place, q) = ap page_of (same_found (Child own k r) (Child s place q) e) in
+        subst (λ (x : ℕ × TreePage). node_in dig ps (child_page p x.0) ≡ Is x.1) both there
+
+    read : (k : ℕ) (n : Found TreePage) → node_in dig ps (child_page p k) ≡ n → ((n >>= (λ (r : TreePage). when (fits (p.level - 1) own.low own.high r) (child_page p k) r)) >>= (λ x. Is (Child own k x))) ≡ Is (Child s place q)
+        → node_in dig ps (child_page p place) ≡ Is q
+    read k (Bad page) there e = absurd (let wrong : ◌≡◌ {A = Found Down} (Bad page) (Is (Child s place q)) = e in cc)
+    read k (Is r) there e = tried k r (fits (p.level - 1) own.low own.high r) there e
+
+    at_level : (k : ℕ) (b : Bool) → (if b then Is (Leaf own k) else ((node_in dig ps (child_page p k) >>= (λ (r : TreePage). when (fits (p.level - 1) own.low own.high r) (child_page p k) r)) >>= (λ x. Is (Child own k x)))) ≡ Is (Child s place q)
+        → node_in dig ps (child_page p place) ≡ Is q
+    at_level k true e = absurd (let wrong : ◌≡◌ {A = Found Down} (Is (Leaf own k)) (Is (Child s place q)) = e in cc)
+    at_level k false e = read k (node_in dig ps (child_page p k)) refl e
+
+    at_spot : (spot : Spot) → down_at dig ps ask p own spot ≡ Is (Child s place q) → node_in dig ps (child_page p place) ≡ Is q
+    at_spot (At slot) e = absurd (let wrong : ◌≡◌ {A = Found Down} (Is (Met own)) (Is (Child s place q)) = e in cc)
+    at_spot (Between k) e = at_level k (p.level == 0) e

@@ -1,4 +1,3 @@
-pub mod FoundLaws
 pub mod PageLaws
 pub mod WayLaws
 pub mod Weaving
@@ -12,12 +11,14 @@ pub mod Adding
 pub mod Replacing
 pub mod GrowLaws
 pub mod RootGrowing
-pub mod ShowLaws
 pub mod Latest
 pub mod ListLaws
 pub mod Markings
+pub mod OwnPages
 pub mod Plantings
 pub mod Fullness
 pub mod StandingLaws
 pub mod Besides
+pub mod Downs
+pub mod Inserts
 pub mod TreeHeights

@@ -29,11 +29,11 @@ use Rattle.tw_rbtree.proofs.PageLaws.{child-tried, root-is}
 use Rattle.tw_rbtree.proofs.Standings.{tree-at}
 use Rattle.tw_rbtree.proofs.WayLaws.{child_page-get}
 
-from_both : {X Y : Type 0} (one : Found X) (f : X → Found Y) (y : Y) → (one >>= f) ≡ Is y → (x : X) × (one ≡ Is x) × (f x ≡ Is y)
+pub from_both : {X Y : Type 0} (one : Found X) (f : X → Found Y) (y : Y) → (one >>= f) ≡ Is y → (x : X) × (one ≡ Is x) × (f x ≡ Is y)
 from_both (Is x) f y e = (x, refl, e)
 from_both (Bad page) f y e = cc
 
-when-same : {X : Type 0} (b : Bool) (page : ℕ) (x y : X) → when b page x ≡ Is y → x ≡ y
+pub when-same : {X : Type 0} (b : Bool) (page : ℕ) (x y : X) → when b page x ≡ Is y → x ≡ y
 when-same true page x y e = same_found x y e
 when-same false page x y e = cc
 

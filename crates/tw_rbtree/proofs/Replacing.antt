@@ -14,7 +14,7 @@ use Rattle.tw_rbnode.specs.Page.{IsBetween, IsNode, TreePage}
 use Rattle.tw_rbnode.specs.Trees.{woven}
 use Rattle.tw_rbtree.specs.declared.inserting.Grown.{Grown}
 use Rattle.tw_rbtree.specs.declared.inserting.Grown.TheVariants.{One, Two}
-use Rattle.tw_rbtree.specs.Growing.{AddedAreNodes, AddedLists, IsOver, IsWith}
+use Rattle.tw_rbtree.specs.Growing.{AddedAreNodes, AddedLists, IsOver, IsWith, SidesList}
 use Rattle.tw_rbtree.specs.Standing.{AreTrees, IsTreeBelow, OfPage}
 use Rattle.tw_rbtree.proofs.Adding.{cut-woven, two-children, with-child}
 use Rattle.tw_rbtree.proofs.Standings.{map-count, trees-count}
@@ -77,11 +77,6 @@ lists-replaced : (k j : ℕ) (ts us : List Tree) → map entries ((take k ts ++ 
 lists-replaced k j ts us =
     lists-append (take k ts ++ us) (drop j ts)
     ∙ (λ i. (lists-append (take k ts) us ∙ ap (λ (xs : List (List Entry)). xs ++ map entries us) (lists-take k ts)) i ++ lists-drop j ts i)
-
--- a part of a tree lists these entries
-abbrev pub SidesList : (R : Child → Tree → Type 0) → List Entry → Grown → Type 0
-SidesList R es (One c) = (t : Tree) × R c t × (entries t ≡ es)
-SidesList R es (Two left middle right) = (l : Tree) × (r : Tree) × R left l × R right r × (entries l ++ middle ∷ entries r ≡ es)
 
 module _ (dig : List ℕ → List ℕ) (Has : OfPage) (now : Image) (level : ℕ) (p : TreePage) (node : IsNode p) (level_is : p.level ≡ level) (ts : List Tree) (are : AreTrees (IsTreeBelow dig Has now level) p.children ts)
     (rising : IsRising (woven (map entries ts) p.entries)) (place : ℕ) (entry : Entry) (between : IsBetween p.entries place (key_of entry)) where

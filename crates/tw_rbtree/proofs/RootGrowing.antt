@@ -1,15 +1,14 @@
 -- A root with an entry more below it.
-use Rattle.std.proofs.Common.{◌≡◌, ◌≢◌, ℕ, ◌≤◌, List, [], ◌∷◌, length, true, refl, ap, sym, ◌∙◌, subst, arith, inl, inr, Result, Ok, Err}
-use Rattle.std.specs.Prelude.{None, map}
-use Rattle.std.specs.Result.{IsErrAnd}
+use Rattle.std.proofs.Common.{◌≡◌, ◌≢◌, ℕ, ◌≤◌, List, length, Bool, true, refl, ap, sym, ◌∙◌, subst, arith, inl, inr, Result, Ok, Err}
+use Rattle.std.specs.Prelude.{Option, Some, None, map}
 use Rattle.tw_base.specs.declared.history.root.Root.{Root}
 use Rattle.tw_base.specs.declared.history.thread.Entry.{Entry}
+use Rattle.tw_base.specs.declared.history.thread.Key.{Key}
 use Rattle.tw_base.specs.declared.history.tree_proof.Ask.TheVariants.{Absent}
 use Rattle.tw_base.specs.history.Asking.{entry_with, with_entry}
 use Rattle.tw_base.specs.history.Entries.{key_of}
 use Rattle.tw_base.specs.history.Tree.{Tree, IsRising, entries}
 use Rattle.tw_base.specs.history.Tree.Tree.{Empty}
-use Rattle.tw_disk.specs.Found.{Found}
 use Rattle.tw_disk.specs.Found.Found.{Is}
 use Rattle.tw_disk.specs.Image.{Image}
 use Rattle.tw_disk.proofs.FoundLaws.{is_on, same_found}
@@ -20,71 +19,20 @@ use Rattle.tw_rbnode.proofs.TreeLists.{page-list}
 use Rattle.tw_base.specs.history.WithLeaf.{with_leaf}
 use Rattle.tw_base.proofs.lemmas.history.Leaves.{has-leaf}
 use Rattle.tw_rbtree.specs.declared.fault.TreeFault.{TreeFault}
-use Rattle.tw_rbtree.specs.declared.fault.TreeFault.TheVariants.{BadPage, DiskFault, NoMemory, Present, Untrue}
-use Rattle.tw_rbtree.specs.declared.inserting.Grown.TheVariants.{One, Two}
-use Rattle.tw_rbtree.specs.Answers.{AnswersInsert}
-use Rattle.tw_rbtree.specs.Growing.{AnswersGrown, IsChildTree}
+use Rattle.tw_rbtree.specs.declared.fault.TreeFault.TheVariants.{Present}
+use Rattle.tw_rbtree.specs.Growing.{IsChildTree, all_full, grows_from, grows_if, grows_of}
 use Rattle.tw_rbtree.specs.Reading.{lie_between, node_in}
 use Rattle.tw_rbtree.specs.Standing.{AreTrees, IsRootTree, IsTreeBelow, IsTreePage, OfPage, StandsWith}
-use Rattle.tw_rbtree.specs.Ways.{Stop, end_of, nowhere, way, way_from}
-use Rattle.tw_rbtree.proofs.FoundLaws.{Says, bad_on}
+use Rattle.tw_rbtree.specs.Ways.{end_of, nowhere, way_from}
 use Rattle.tw_rbtree.proofs.Keeping.{stands-any}
 use Rattle.tw_rbtree.proofs.PageLaws.{root-is}
 use Rattle.tw_rbtree.proofs.RootWays.{all_between, root-way}
 use Rattle.tw_rbtree.proofs.Standings.{trees-count}
-use Rattle.tw_rbtree.proofs.WayLaws.{way-empty, way-root}
+use Rattle.tw_rbtree.proofs.WayLaws.{way-root}
 use Rattle.tw_rbtree.proofs.Weaving.{between-all}
 
 pub all-lie_between : (es : List Entry) → lie_between None None es ≡ true
 all-lie_between es = between-all None None es (all_between es)
-
-module _ (dig : List ℕ → List ℕ) (ps : Image) (entry : Entry) (root : Root) where
-  abbrev whole : Found (List Stop)
-  whole = way dig ps (Absent (key_of entry)) root
-
-  pub insert-empty : (new : Root) → root.page ≡ 0 → AnswersInsert root (Ok new) (way dig ps (Absent (key_of entry)) root)
-  insert-empty new none = ([], way-empty dig ps (Absent (key_of entry)) root none, refl, λ over. (let levels : 0 ≡ 11 = over.levels in omega (arith, levels)))
-
-  module _ (some : root.page ≢ 0) where
-    -- a bad root page
-    pub insert-bad : (f : TreeFault) → Says f (node_in dig ps root.page) → Says f (way dig ps (Absent (key_of entry)) root)
-    insert-bad f bad =
-        subst (λ (w : Found (List Stop)). Says f w) (sym (way-root dig ps (Absent (key_of entry)) root some))
-        (bad_on f (node_in dig ps root.page) (λ q. way_from dig ps (Absent (key_of entry)) q.level None None q) bad)
-
-    module _ (p : TreePage) (found : node_in dig ps root.page ≡ Is p) where
-      way_is : way dig ps (Absent (key_of entry)) root ≡ way_from dig ps (Absent (key_of entry)) p.level None None p
-      way_is = way-root dig ps (Absent (key_of entry)) root some ∙ is_on (node_in dig ps root.page) (λ q. way_from dig ps (Absent (key_of entry)) q.level None None q) p found
-
-      pub insert-fault : (f : TreeFault) → AnswersGrown p.level (Err f) (way_from dig ps (Absent (key_of entry)) p.level None None p) → AnswersInsert root (Err f) (way dig ps (Absent (key_of entry)) root)
-      insert-fault Present grown = (grown.0 ∷ grown.1, grown.2, way_is ∙ grown.3, grown.4)
-      insert-fault Untrue grown = tt
-      insert-fault (BadPage page) grown = inl (way_is ∙ grown)
-      insert-fault DiskFault grown = tt
-      insert-fault NoMemory grown = tt
-
-      pub insert-one : (new : Root) (c : Child) → AnswersGrown p.level (Ok (One c)) (way_from dig ps (Absent (key_of entry)) p.level None None p) → AnswersInsert root (Ok new) (way dig ps (Absent (key_of entry)) root)
-      insert-one new c grown = (grown.0 ∷ grown.1, way_is ∙ grown.2, grown.3, λ over. grown.5 over.full)
-
-      pub insert-two : (new : Root) (left right : Child) (middle : Entry) → p.level ≢ 10 → AnswersGrown p.level (Ok (Two left middle right)) (way_from dig ps (Absent (key_of entry)) p.level None None p)
-          → AnswersInsert root (Ok new) (way dig ps (Absent (key_of entry)) root)
-      insert-two new left right middle low grown = (grown.0 ∷ grown.1, way_is ∙ grown.2, grown.3, λ over. low (omega (arith, over.levels, grown.4)))
-
-      pub insert-over : (left right : Child) (middle : Entry) → p.level ≡ 10 → AnswersGrown p.level (Ok (Two left middle right)) (way_from dig ps (Absent (key_of entry)) p.level None None p)
-          → AnswersInsert root (Err (BadPage root.page)) (way dig ps (Absent (key_of entry)) root)
-      insert-over left right middle top grown =
-          inr (grown.0 ∷ grown.1, way_is ∙ grown.2, grown.3, record { levels = omega (arith, grown.4, top); full = grown.5 }, refl)
-
-pub insert-passed : (root : Root) (r : Result Root TreeFault) (f : TreeFault) (found : Found (List Stop)) → IsErrAnd r (λ e. e ≡ f) → AnswersInsert root (Err f) found → AnswersInsert root r found
-insert-passed root (Ok new) f found is has = absurd is
-insert-passed root (Err e) f found is has = subst (λ (x : TreeFault). AnswersInsert root (Err x) found) (sym is) has
-
-pub as_insert_fault : (root : Root) (f : TreeFault) (found : Found (List Stop)) → f ≢ Present → Says f found → AnswersInsert root (Err f) found
-as_insert_fault root Present found never is = absurd (never refl)
-as_insert_fault root Untrue found never is = tt
-as_insert_fault root (BadPage page) found never is = inl is
-as_insert_fault root DiskFault found never is = tt
-as_insert_fault root NoMemory found never is = tt
 
 -- ---- where the pages stand for a tree
 
@@ -117,13 +65,22 @@ module _ (dig : List ℕ → List ℕ) (Has : OfPage) (ps : Image) (root : Root)
       by (inr (level, is)) = absurd (omega (arith, none, is.at.low))
 
   -- the list with the entry rises, where the way found no entry of its key
-  pub rises-with : (entry : Entry) (stops : List Stop) → way dig ps (Absent (key_of entry)) root ≡ Is stops → (end_of nowhere stops).met ≡ None → IsRising (with_entry (entries t) entry)
-  rises-with entry stops found none =
+  pub rises-with : (entry : Entry) (p : TreePage) (two : Bool) → root.page ≢ 0 → node_in dig ps root.page ≡ Is p → grows_from dig ps (key_of entry) p.level None None p ≡ Is (Ok two) → IsRising (with_entry (entries t) entry)
+  unfolding grows_from
+  rises-with entry p two some first grows =
+      let key : Key = key_of entry in
       let w = root-way dig ps (Absent (key_of entry)) root t (stands-any dig Has ps root t stands) in
-      let same : w.stops ≡ stops = same_found w.stops stops (sym w.found ∙ found) in
-      let absent : entry_with (entries t) (key_of entry) ≡ None = w.tells ∙ ap (λ (xs : List Stop). (end_of nowhere xs).met) same ∙ none in
+      let found : way_from dig ps (Absent (key_of entry)) p.level None None p ≡ Is w.stops =
+      sym (way-root dig ps (Absent (key_of entry)) root some ∙ is_on (node_in dig ps root.page) (λ q. way_from dig ps (Absent (key_of entry)) q.level None None q) p first) ∙ w.found in
+      let ends : grows_of w.stops ≡ Ok two =
+      same_found (grows_of w.stops) (Ok two) (sym (is_on (way_from dig ps (Absent (key_of entry)) p.level None None p) (λ stops. Is (grows_of stops)) w.stops found) ∙ grows) in
+      let absent : entry_with (entries t) (key_of entry) ≡ None = w.tells ∙ none (end_of nowhere w.stops).met (all_full w.stops) ends in
       let leaf = has-leaf entry t (with_leaf t entry) stands.rising absent refl in
       subst IsRising leaf.list leaf.rising
+    where
+      none : (o : Option Entry) (full : Bool) → grows_if o full ≡ Ok two → o ≡ None
+      none None full is = refl
+      none (Some e) full is = absurd (let wrong : ◌≡◌ {A = Result Bool TreeFault} (Err Present) (Ok two) = is in cc)
 
 -- a child that is a tree, as a root
 pub root-stands : (dig : List ℕ → List ℕ) (Has : OfPage) (now : Image) (level least : ℕ) (c : Child) (t : Tree) (new : Root) → 1 ≤ least → IsChildTree dig Has now level least c t → IsRising (entries t) → new.page ≡ c.page → new.label ≡ c.label → StandsWith dig Has now new t

@@ -1,6 +1,6 @@
 -- What is found under a root for whose tree the pages stand.
 use Rattle.std.proofs.Common.{◌≡◌, ℕ, ◌+◌, ◌-◌, ◌*◌, ◌^◌, ◌<◌, ◌≤◌, List, [], ◌∷◌, length, refl, ap, sym, ◌∙◌, subst, arith, inl, inr}
-use Rattle.std.specs.Prelude.{Option, None}
+use Rattle.std.specs.Prelude.{◌==◌, Bool, true, false, Option, None, if◌then◌else◌}
 use Rattle.tw_base.specs.declared.history.root.Root.{Root}
 use Rattle.tw_base.specs.declared.history.thread.Entry.{Entry}
 use Rattle.tw_base.specs.declared.history.thread.Key.{Key}
@@ -11,17 +11,18 @@ use Rattle.tw_base.specs.history.Asking.{entry_with, first_above, last_below}
 use Rattle.tw_base.specs.kinds.Lists.{Each}
 use Rattle.tw_base.specs.history.Tree.{Tree, IsRising, entries}
 use Rattle.tw_base.specs.history.Tree.Tree.{Empty as NoEntry}
-use Rattle.tw_disk.specs.Found.{Found}
+use Rattle.tw_disk.specs.Found.{Found, ◌>>=◌}
 use Rattle.tw_disk.specs.Found.Found.{Is}
 use Rattle.tw_disk.specs.Image.{Image}
 use Rattle.tw_disk.proofs.FoundLaws.{is_on}
+use Rattle.tw_rbnode.specs.Page.{TreePage}
 use Rattle.tw_rbnode.specs.Trees.{page_tree}
 use Rattle.tw_base.proofs.lemmas.history.Asked.{or-none}
 use Rattle.tw_treeproof.specs.Making.{IsSo, place_of, proof_at, proof_of, way_up}
 use Rattle.tw_rbtree.specs.declared.seeking.Sought.{Sought}
 use Rattle.tw_rbtree.specs.Answers.{IsSoAt}
 use Rattle.tw_rbtree.specs.Paths.{proof_of_way, way_nodes, way_proof}
-use Rattle.tw_rbtree.specs.Reading.{node_in}
+use Rattle.tw_rbtree.specs.Reading.{levels_in, node_in}
 use Rattle.tw_rbtree.specs.Standing.{IsRootTree, IsTreeBelow, IsTreePage, StandsFor, any_page}
 use Rattle.tw_rbtree.specs.Ways.{Stop, end_of, found_after, found_before, found_with, nowhere, way, way_end, way_from}
 use Rattle.tw_rbtree.proofs.PageLaws.{root-is}
@@ -42,6 +43,7 @@ module _ (dig : List ℕ → List ℕ) (ps : Image) (ask : Ask) (root : Root) wh
     pub tells : Tells ask (entries t) None None (end_of nowhere stops)
     pub proof : proof_of_way dig stops ≡ proof_of dig t ask
     pub levels : ℕ
+    pub levels_is : levels_in dig ps root.page ≡ Is levels
     pub few : length (way_nodes dig stops) ≤ 9 * levels
     pub many : 0 < levels → 2 * 13 ^ (levels - 1) ≤ length (entries t) + 1
     pub up : way_nodes dig stops ≡ way_up dig ask t
@@ -52,9 +54,21 @@ module _ (dig : List ℕ → List ℕ) (ps : Image) (ask : Ask) (root : Root) wh
   nothing_tells (Below key) = refl
   nothing_tells (Above key) = refl
 
+  level_by : Bool → Found ℕ
+  level_by b = if b then Is 0 else (node_in dig ps root.page >>= (λ p. Is (p.level + 1)))
+
+  no_levels : root.page ≡ 0 → levels_in dig ps root.page ≡ Is 0
+  unfolding levels_in level_by
+  no_levels none = ap level_by (let t : (root.page == 0) ≡ true = grind arith in t)
+
+  some_levels : (level : ℕ) (p : TreePage) → (root.page ≡ 0 → ⊥) → node_in dig ps root.page ≡ Is p → p.level ≡ level → levels_in dig ps root.page ≡ Is (level + 1)
+  unfolding levels_in level_by
+  some_levels level p some found is =
+      ap level_by (let t : (root.page == 0) ≡ false = grind arith in t) ∙ is_on (node_in dig ps root.page) (λ (q : TreePage). Is (q.level + 1)) p found ∙ ap (λ (n : ℕ). Is (n + 1)) is
+
   empty_way : root.page ≡ 0 → RootWay NoEntry
   unfolding way_nodes way_proof way_up place_of
-  empty_way none = record { stops = []; found = way-empty dig ps ask root none; tells = nothing_tells ask; proof = refl; levels = 0; few = omega arith; many = λ (h : 0 < 0). absurd (omega (arith, h)); up = refl }
+  empty_way none = record { levels_is = no_levels none; stops = []; found = way-empty dig ps ask root none; tells = nothing_tells ask; proof = refl; levels = 0; few = omega arith; many = λ (h : 0 < 0). absurd (omega (arith, h)); up = refl }
 
   page_way : (t : Tree) → IsRising (entries t) → (level : ℕ) → IsTreePage dig any_page ps (IsTreeBelow dig any_page ps level) level 1 root.page t → RootWay t
   page_way t rising level is =
@@ -71,6 +85,7 @@ module _ (dig : List ℕ → List ℕ) (ps : Image) (ask : Ask) (root : Root) wh
         found = on;
         tells = w.tells;
         levels = level + 1;
+        levels_is = some_levels level p (λ (e : root.page ≡ 0). omega (arith, e, is.at.low)) (root-is dig ps root.page p is.at) is.level_is;
         few = w.few;
         many = λ _.
             let count = root-count dig ps level root.page t is in

@@ -62,43 +62,18 @@ module _ (dig : List ℕ → List ℕ) (ps : Image) (ask : Ask) where
         ∙ ap (way_on dig ps ask here (into below)) e
         ∙ in_turn (child_in dig ps below sought.low sought.high (child_page p place)) (way_from dig ps ask below sought.low sought.high) (λ stops. Is (here ∷ stops))
 
-  -- a way has a first stop
-  module _ {Y : Type 0} (f g : List Stop → Found Y) (same : (s : Stop) (stops : List Stop) → f (s ∷ stops) ≡ g (s ∷ stops)) where
-    on_stop : (stop : Stop) (to : Sought → (page : ℕ) → Found (List Stop)) (spot : Spot) → (way_on dig ps ask stop to spot >>= f) ≡ (way_on dig ps ask stop to spot >>= g)
-    on_stop stop to (At slot) = same stop []
-    on_stop stop to (Between place) =
+  -- a way begins in its page
+  module _ {Y : Type 0} (f g : List Stop → Found Y) where
+    on_stop : (stop : Stop) (to : Sought → (page : ℕ) → Found (List Stop)) (spot : Spot) → ((stops : List Stop) → f (stop ∷ stops) ≡ g (stop ∷ stops)) → (way_on dig ps ask stop to spot >>= f) ≡ (way_on dig ps ask stop to spot >>= g)
+    on_stop stop to (At slot) same = same []
+    on_stop stop to (Between place) same =
         let first = to stop.sought (child_page stop.page place) in
-        in_turn first (λ stops. Is (stop ∷ stops)) f ∙ on_each first (λ stops. f (stop ∷ stops)) (λ stops. g (stop ∷ stops)) (same stop) ∙ sym (in_turn first (λ stops. Is (stop ∷ stops)) g)
+        in_turn first (λ stops. Is (stop ∷ stops)) f ∙ on_each first (λ stops. f (stop ∷ stops)) (λ stops. g (stop ∷ stops)) same ∙ sym (in_turn first (λ stops. Is (stop ∷ stops)) g)
 
-    pub on_way : (level : ℕ) (low high : Option Entry) (p : TreePage) → (way_from dig ps ask level low high p >>= f) ≡ (way_from dig ps ask level low high p >>= g)
+    pub on_way : (level : ℕ) (low high : Option Entry) (p : TreePage) → ((stops : List Stop) → f (here low high p ∷ stops) ≡ g (here low high p ∷ stops)) → (way_from dig ps ask level low high p >>= f) ≡ (way_from dig ps ask level low high p >>= g)
     unfolding way_from
-    on_way zero low high p = same (here low high p) []
-    on_way (suc level) low high p = on_stop (here low high p) (into level) (sought low high p).at
-
-  module _ (low high : Option Entry) (p : TreePage) where
-    abbrev last : List Stop → Found Sought
-    last stops = Is (end_of nowhere stops)
-
-    pub end-at : (level slot : ℕ) → (sought low high p).at ≡ At slot → end_from dig ps ask level low high p ≡ Is (sought low high p)
-    unfolding end_from
-    end-at level slot e = is_on _ last (here low high p ∷ []) (way-at low high p level slot e)
-
-    pub end-leaf : (level : ℕ) → level ≡ 0 → end_from dig ps ask level low high p ≡ Is (sought low high p)
-    unfolding end_from
-    end-leaf level e = is_on _ last (here low high p ∷ []) (way-leaf low high p level e)
-
-    pub end-goes : (level below place : ℕ) → level ≡ suc below → (sought low high p).at ≡ Between place
-        → end_from dig ps ask level low high p ≡ (child_in dig ps below (sought low high p).low (sought low high p).high (child_page p place) >>= end_from dig ps ask below (sought low high p).low (sought low high p).high)
-    unfolding end_from
-    end-goes level below place l e =
-        let s = sought low high p in
-        let child = child_in dig ps below s.low s.high (child_page p place) in
-        let rest : TreePage → Found (List Stop) = way_from dig ps ask below s.low s.high in
-        ap (λ (found : Found (List Stop)). found >>= last) (way-goes low high p level below place l e)
-        ∙ in_turn child (λ q. rest q >>= (λ stops. Is (here low high p ∷ stops))) last
-        ∙ on_each child (λ q. (rest q >>= (λ stops. Is (here low high p ∷ stops))) >>= last) (λ q. rest q >>= last) (λ q.
-        in_turn (rest q) (λ stops. Is (here low high p ∷ stops)) last
-        ∙ on_way (λ stops. last (here low high p ∷ stops)) last (λ t stops. refl) below s.low s.high q)
+    on_way zero low high p same = same []
+    on_way (suc level) low high p same = on_stop (here low high p) (into level) (sought low high p).at same
 
   pub way-empty : (root : Root) → root.page ≡ 0 → way dig ps ask root ≡ Is []
   unfolding way
@@ -120,3 +95,6 @@ module _ (dig : List ℕ → List ℕ) (ps : Image) (ask : Ask) where
 
 -- where the way from a root ends, for the function that goes it
 pub ruleset root_ends = (end-empty, end-root)
+
+-- the number of a child's page, for the function that tells it
+pub ruleset child_pages = (child_page-get)

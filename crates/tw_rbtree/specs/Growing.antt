@@ -1,12 +1,14 @@
 -- What a part of a tree has become by an entry more: one child in its place, or two with an entry between them.
-use Rattle.std.specs.Prelude.{◌≡◌, ◌≢◌, ℕ, ◌+◌, ◌<◌, ◌≤◌, List, [], ◌∷◌, ◌++◌, length, map, take, drop, true, Option, Some, None, Result, Ok, Err}
+use Rattle.std.specs.Prelude.{◌≡◌, ◌≢◌, ℕ, ◌+◌, ◌<◌, ◌≤◌, ◌==◌, ◌&&◌, List, [], ◌∷◌, ◌++◌, length, map, take, drop, Bool, true, false, Option, Some, None, Result, Ok, Err}
 use Rattle.tw_base.specs.declared.history.thread.Entry.{Entry}
+use Rattle.tw_base.specs.declared.history.thread.Key.{Key}
+use Rattle.tw_base.specs.declared.history.tree_proof.Ask.TheVariants.{Absent}
 use Rattle.tw_base.specs.history.Auth.{tree_label}
 use Rattle.tw_base.specs.history.Entries.{key_of}
 use Rattle.tw_base.specs.history.Limits.{IsEntryInRange}
-use Rattle.tw_base.specs.kinds.Lists.{Each}
 use Rattle.tw_base.specs.history.Tree.{Tree, entries}
-use Rattle.tw_disk.specs.Found.{Found}
+use Rattle.tw_base.specs.kinds.Texts.{empty_tree_text}
+use Rattle.tw_disk.specs.Found.{Found, ◌>>=◌}
 use Rattle.tw_disk.specs.Found.Found.{Is}
 use Rattle.tw_disk.specs.Image.{Image}
 use Rattle.tw_rbnode.specs.declared.child.Child.{Child}
@@ -22,33 +24,57 @@ use Rattle.tw_rbtree.specs.declared.fault.TreeFault.TheVariants.{Present}
 use Rattle.tw_rbtree.specs.declared.inserting.Grown.{Grown}
 use Rattle.tw_rbtree.specs.declared.inserting.Grown.TheVariants.{One, Two}
 use Rattle.tw_rbtree.specs.declared.limits.TheConstants.{LEAST_KEYS}
-use Rattle.tw_disk.specs.Answers.{SaysOf}
-use Rattle.tw_rbtree.specs.FaultWords.{tree_faults}
 use Rattle.tw_rbtree.specs.Reading.{is_above, is_below}
 use Rattle.tw_rbtree.specs.Standing.{AreTrees, IsTreeBelow, IsTreePage, OfPage}
-use Rattle.tw_rbtree.specs.Ways.{Stop, end_of}
+use Rattle.tw_rbtree.specs.Ways.{Stop, end_of, nowhere, way_from}
 
--- the page is full
-abbrev pub IsFull : Stop → Type 0
-IsFull s = length s.page.entries ≡ MOST_KEYS
+-- the page has no room for one key more
+abbrev pub is_full : TreePage → Bool
+is_full p = length p.entries == MOST_KEYS
 
--- there are two exactly where all pages on the way are full
-abbrev pub IsTwoIfFull : Grown → List Stop → Type 0
-IsTwoIfFull (One c) stops = Each IsFull stops → ⊥
-IsTwoIfFull (Two left middle right) stops = Each IsFull stops
+-- all pages of a way are full
+abbrev pub all_full : List Stop → Bool
+all_full [] = true
+all_full (s ∷ []) = is_full s.page
+all_full (s ∷ r ∷ stops) = all_full (r ∷ stops) && is_full s.page
 
--- the way from a page of this level, and what has become of it
-abbrev pub AnswersGrown : (level : ℕ) → Result Grown TreeFault → Found (List Stop) → Type 0
-AnswersGrown level (Ok grown) found =
-    (first : Stop) × (rest : List Stop) × (found ≡ Is (first ∷ rest)) × ((end_of first.sought rest).met ≡ None) × (length rest ≡ level) × IsTwoIfFull grown (first ∷ rest)
-AnswersGrown level (Err Present) found = (first : Stop) × (rest : List Stop) × (e : Entry) × (found ≡ Is (first ∷ rest)) × ((end_of first.sought rest).met ≡ Some e)
-AnswersGrown level (Err fault) found = SaysOf tree_faults (tree_faults fault) found
+-- the key is there, or a place for it below pages of which all are full, or not all
+abbrev pub grows_if : (met : Option Entry) → (full : Bool) → Result Bool TreeFault
+grows_if (Some e) full = Err Present
+grows_if None full = Ok full
+
+-- the same of a way
+abbrev pub grows_of : List Stop → Result Bool TreeFault
+grows_of stops = grows_if (end_of nowhere stops).met (all_full stops)
+
+-- and of a way below a page
+abbrev pub grows_above : TreePage → Result Bool TreeFault → Result Bool TreeFault
+grows_above p (Ok all) = Ok (all && is_full p)
+grows_above p (Err fault) = Err fault
+
+-- the ways for a key, from a page of this level down
+unfoldable pub grows_from : (dig : List ℕ → List ℕ) → Image → Key → (level : ℕ) → (low high : Option Entry) → TreePage → Found (Result Bool TreeFault)
+grows_from dig pages key level low high p = way_from dig pages (Absent key) level low high p >>= (λ stops. Is (grows_of stops))
+
+-- a part of a tree with an entry more is two children where all pages on its way were full
+abbrev pub is_two : Grown → Bool
+is_two (One c) = false
+is_two (Two left middle right) = true
+
+-- the entry alone, between two empty trees
+abbrev pub leaf_of : (dig : List ℕ → List ℕ) → Entry → Grown
+leaf_of dig e = Two (record { page = 0; label = dig empty_tree_text }) e (record { page = 0; label = dig empty_tree_text })
 
 -- children are pages, and an entry between two is a possible one between these two
 abbrev pub IsGrownIn : (low high : Option Entry) → Grown → Type 0
 IsGrownIn low high (One c) = 0 < c.page
 IsGrownIn low high (Two left middle right) =
     (0 < left.page) × (0 < right.page) × IsEntryInRange middle × (is_above low middle ≡ true) × (is_below high middle ≡ true)
+
+-- an entry between two is a possible one between these two
+abbrev pub LiesIn : (low high : Option Entry) → Grown → Type 0
+LiesIn low high (One c) = Unit {0}
+LiesIn low high (Two left middle right) = IsEntryInRange middle × (is_above low middle ≡ true) × (is_below high middle ≡ true)
 
 -- it may stand at the place of a page
 abbrev pub MayGoInto : (dig : List ℕ → List ℕ) → TreePage → (place : ℕ) → Grown → Type 0
@@ -84,6 +110,11 @@ IsLast used (One c) = used ≡ c.page + 1
 IsLast used (Two left middle right) = Unit {0}
 
 -- ---- what it is, where the pages stand for trees
+
+-- it lists these entries, over children that are trees
+abbrev pub SidesList : (R : Child → Tree → Type 0) → List Entry → Grown → Type 0
+SidesList R es (One c) = (t : Tree) × R c t × (entries t ≡ es)
+SidesList R es (Two left middle right) = (l : Tree) × (r : Tree) × R left l × R right r × (entries l ++ middle ∷ entries r ≡ es)
 
 module _ (dig : List ℕ → List ℕ) (Has : OfPage) (pages : Image) where
   -- a child of a page above this level is this tree, whose page has at least so many keys

@@ -7,5 +7,6 @@ pub mod Listing
 pub mod Planting
 pub mod Answers
 pub mod Growing
-pub mod Showing
 pub mod Beside
+pub mod Downs
+pub mod OwnPages

@@ -1,5 +1,5 @@
 -- The nodes of a tree in pages that aren't older than a page, in the order in which a history lists them.
-use Rattle.std.specs.Prelude.{◌≡◌, ℕ, suc, zero, ◌+◌, ◌<◌, ◌≤◌, ◌==◌, ◌||◌, List, [], ◌∷◌, ◌++◌, length, nat_lt, slice_get, Option, Some, None, Result, Ok, Err, if◌then◌else◌}
+use Rattle.std.specs.Prelude.{◌≡◌, ℕ, suc, zero, ◌+◌, ◌<◌, ◌≤◌, ◌==◌, ◌||◌, List, [], ◌∷◌, ◌++◌, length, nat_lt, slice_get, Option, Some, None, if◌then◌else◌}
 use Rattle.tw_base.specs.declared.history.root.Root.{Root}
 use Rattle.tw_base.specs.declared.history.thread.Entry.{Entry}
 use Rattle.tw_disk.specs.Image.{Image}
@@ -8,12 +8,11 @@ use Rattle.tw_disk.specs.Found.Found.{Is}
 use Rattle.tw_rbnode.specs.Page.{TreePage}
 use Rattle.tw_rbnode.specs.Shape.{Shape, Empty, Node, size}
 use Rattle.tw_rbnode.specs.Slots.{below_at, slot_of}
-use Rattle.tw_rbtree.specs.declared.fault.TreeFault.{TreeFault}
+use Rattle.tw_rbtree.specs.declared.listing.Part.{Part}
+use Rattle.tw_rbtree.specs.declared.listing.Split.{Split}
 use Rattle.tw_rbtree.specs.declared.new_node.NewNode.{NewNode}
 use Rattle.tw_rbtree.specs.declared.new_node.Side.{Side}
 use Rattle.tw_rbtree.specs.declared.new_node.Side.TheVariants.{Empty as NoTree, New, Old}
-use Rattle.tw_disk.specs.Answers.{SaysOf}
-use Rattle.tw_rbtree.specs.FaultWords.{tree_faults}
 use Rattle.tw_rbtree.specs.Reading.{child_in, node_in}
 use Rattle.tw_rbtree.specs.Ways.{child_page}
 
@@ -55,9 +54,22 @@ module _ (dig : List ℕ → List ℕ) (pages : Image) (since : ℕ) where
       if (root.page == 0) || nat_lt root.page since then Is []
       else (node_in dig pages root.page >>= (λ p. listed_at (child_listed p.level p) p.entries root.page None None 0 p.shape [] >>= (λ all. Is all.nodes)))
 
+-- the part of a page's tree that has this root slot, where the tree's slots begin behind base; none is that of slot 0
+unfoldable pub part_of : (top base : ℕ) → Shape → Shape
+part_of top base Empty = Empty
+part_of top base (Node red l r) =
+    if top == base + size l + 1 then Node red l r
+    else (if nat_lt top (base + size l + 1) then part_of top base l else part_of top (base + size l + 1) r)
+
+-- the nodes of the part of a page that has this root slot, whose slots begin behind base, and of the pages below it
+unfoldable pub part_listed : (dig : List ℕ → List ℕ) → Image → (since : ℕ) → TreePage → (page : ℕ) → (low high : Option Entry) → (base top : ℕ) → List NewNode → Found Listed
+part_listed dig pages since p page low high base top nodes =
+    listed_at (child_listed dig pages since p.level p) p.entries page low high base (part_of top 0 p.shape) nodes
+
 -- the tree behind base is a part of the page's tree
 abbrev pub IsPartOf : Shape → (base : ℕ) → Shape → Type 0
-IsPartOf whole base t = (slot : ℕ) → base < slot → slot ≤ base + size t → below_at slot 0 whole ≡ below_at slot base t
+IsPartOf whole base t =
+    (slot : ℕ) → base < slot → slot ≤ base + size t → (below_at slot 0 whole ≡ below_at slot base t) × (part_of slot 0 whole ≡ part_of slot base t)
 
 -- the part of the page's tree in the slots above a base up to an end, with this root slot
 pub record IsPartAt (p : TreePage) (base end top : ℕ) (t : Shape) : Type 0 where
@@ -66,7 +78,11 @@ pub record IsPartAt (p : TreePage) (base end top : ℕ) (t : Shape) : Type 0 whe
   pub end_is : end ≡ base + size t
   pub room : end ≤ length p.entries
 
--- the nodes that are there now, and the side, are what is found
-abbrev pub AnswersListed : Result Side TreeFault → (now : List NewNode) → Found Listed → Type 0
-AnswersListed (Ok side) now found = found ≡ Is (record { nodes = now; side = side })
-AnswersListed (Err fault) now found = SaysOf tree_faults (tree_faults fault) found
+-- a part of a page, taken apart at its root slot: what is listed of it is what is listed of the two parts beside the slot, and then its node
+pub record IsSplit (p : TreePage) (part : Part) (s : Split) : Type 0 where
+  pub before : IsPartAt p s.before.base s.before.end s.before.top (part_of s.before.top 0 p.shape)
+  pub behind : IsPartAt p s.behind.base s.behind.end s.behind.top (part_of s.behind.top 0 p.shape)
+  pub order : (s.before.base ≡ part.base) × (part.base ≤ s.before.end) × (s.before.end < s.behind.base) × (s.behind.base ≤ part.end) × (s.behind.end ≡ part.end)
+  pub lists : (dig : List ℕ → List ℕ) (pages : Image) (since page : ℕ) (low high : Option Entry) (nodes : List NewNode) → part_listed dig pages since p page low high part.base part.top nodes
+      ≡ (part_listed dig pages since p 0 low (Some s.entry) s.before.base s.before.top nodes
+      >>= (λ left. part_listed dig pages since p 0 (Some s.entry) high s.behind.base s.behind.top left.nodes >>= (λ right. Is (node_behind (Some s.entry) page left.side right))))

@@ -1,14 +1,26 @@
 -- The tree proof that a way shows.
-use Rattle.std.specs.Prelude.{ℕ, List, [], ◌∷◌, ◌++◌, Option, Some, None}
+use Rattle.std.specs.Prelude.{ℕ, List, [], ◌∷◌, ◌++◌, Option}
+use Rattle.tw_base.specs.declared.history.root.Root.{Root}
+use Rattle.tw_base.specs.declared.history.thread.Entry.{Entry}
 use Rattle.tw_base.specs.declared.history.tree_proof.Ancestor.{Ancestor}
+use Rattle.tw_base.specs.declared.history.tree_proof.Ask.{Ask}
 use Rattle.tw_base.specs.declared.history.tree_proof.TreeProof.{TreeProof}
 use Rattle.tw_base.specs.declared.history.tree_proof.TreeProof.TheVariants.{Present as OfEntry, Gap}
+use Rattle.tw_disk.specs.Found.{Found, ◌>>=◌}
+use Rattle.tw_disk.specs.Found.Found.{Is}
+use Rattle.tw_disk.specs.Image.{Image}
 use Rattle.tw_rbnode.specs.declared.node.Found.{Found as Spot}
 use Rattle.tw_rbnode.specs.declared.node.Found.TheVariants.{At, Between}
 use Rattle.tw_rbnode.specs.Page.{TreePage}
 use Rattle.tw_rbnode.specs.Trees.{labels_of, nodes_above, sides_at}
-use Rattle.tw_rbtree.specs.declared.proving.Sides.{Sides}
-use Rattle.tw_rbtree.specs.Ways.{Stop}
+use Rattle.tw_rbtree.specs.declared.proving.Shown.{Shown}
+use Rattle.tw_rbtree.specs.declared.seeking.Sought.{Sought}
+use Rattle.tw_rbtree.specs.Ways.{Stop, end_of, nowhere, way, way_from}
+
+-- a proof with more nodes above its place
+abbrev pub with_above : TreeProof → List Ancestor → TreeProof
+with_above (OfEntry left right up) more = OfEntry left right (up ++ more)
+with_above (Gap up) more = Gap (up ++ more)
 
 module _ (dig : List ℕ → List ℕ) where
   -- the nodes above the end of the way, nearest first
@@ -30,7 +42,22 @@ module _ (dig : List ℕ → List ℕ) where
   abbrev pub proof_of_way : List Stop → TreeProof
   proof_of_way stops = way_proof stops (way_nodes stops)
 
--- the proof of what was shown at the end of a way
-abbrev pub shown_proof : Option Sides → List Ancestor → TreeProof
-shown_proof None up = Gap up
-shown_proof (Some s) up = OfEntry s.left s.right up
+  -- what a way shows: the entry at its end, none at an empty place, and the proof of what is there
+  abbrev pub shown_of : List Stop → Shown
+  shown_of stops = record { met = (end_of nowhere stops).met; proof = proof_of_way stops }
+
+  -- the same of what stands in the last page, without the nodes above it
+  abbrev pub shown_at : TreePage → Sought → Shown
+  shown_at p s = record { met = s.met; proof = proof_in p s.at [] }
+
+  -- what was shown further down, with the nodes of this page
+  abbrev pub shown_above : TreePage → Sought → Shown → Shown
+  shown_above p s x = record { met = x.met; proof = with_above x.proof (nodes_above dig p s.at) }
+
+  module _ (pages : Image) (ask : Ask) where
+    -- what is shown on the way from a page of this level down, and on that from the root
+    unfoldable pub shown_from : (level : ℕ) → (low high : Option Entry) → TreePage → Found Shown
+    shown_from level low high p = way_from dig pages ask level low high p >>= (λ stops. Is (shown_of stops))
+
+    unfoldable pub found_path : Root → Found Shown
+    found_path root = way dig pages ask root >>= (λ stops. Is (shown_of stops))

@@ -1,10 +1,11 @@
 -- Which tree pages stand in a list of pages, and which of them fit a way down.
-use Rattle.std.specs.Prelude.{ℕ, ◌+◌, ◌-◌, ◌<◌, ◌≤◌, ◌==◌, ◌&&◌, List, [], ◌∷◌, length, nat_le, Bool, true, Option, Some, None}
+use Rattle.std.specs.Prelude.{ℕ, ◌+◌, ◌-◌, ◌<◌, ◌≤◌, ◌==◌, ◌&&◌, List, [], ◌∷◌, length, nat_le, Bool, true, Option, Some, None, if◌then◌else◌}
 use Rattle.std.specs.Ordering.{is_lt}
 use Rattle.tw_base.specs.declared.history.thread.Entry.{Entry}
 use Rattle.tw_base.specs.history.Entries.{key_cmp, key_of}
 use Rattle.tw_disk.specs.declared.limits.TheConstants.{FIRST_PAGE}
 use Rattle.tw_disk.specs.Found.{Found, bytes_in, spelled, when, ◌>>=◌}
+use Rattle.tw_disk.specs.Found.Found.{Is}
 use Rattle.tw_disk.specs.Image.{Image, page_at}
 use Rattle.tw_base.specs.declared.kinds.limits.TheConstants.{PAGE_SIZE}
 use Rattle.tw_base.specs.format.PageBytes.{IsPageOf}
@@ -46,6 +47,10 @@ module _ (dig : List ℕ → List ℕ) (pages : Image) where
   -- the tree page of this number; any may be a root page
   unfoldable pub node_in : (page : ℕ) → Found TreePage
   node_in page = bytes_in pages page >>= node_from dig page
+
+  -- how many levels the pages of a tree have under this root page; page 0 has none
+  unfoldable pub levels_in : (page : ℕ) → Found ℕ
+  levels_in page = if page == 0 then Is 0 else (node_in page >>= (λ p. Is (p.level + 1)))
 
   -- the same, if it fits the way to it
   unfoldable pub child_in : (level : ℕ) → (low high : Option Entry) → (page : ℕ) → Found TreePage

@@ -1,5 +1,5 @@
 -- The way down that a question takes through the pages of a tree.
-use Rattle.std.specs.Prelude.{ℕ, suc, zero, ◌+◌, ◌==◌, List, [], ◌∷◌, slice_index_or, map, Option, Some, None, if◌then◌else◌}
+use Rattle.std.specs.Prelude.{ℕ, suc, zero, ◌+◌, ◌-◌, ◌==◌, List, [], ◌∷◌, slice_index_or, map, Option, Some, None, if◌then◌else◌}
 use Rattle.tw_base.specs.declared.history.root.Root.{Root}
 use Rattle.tw_base.specs.declared.history.thread.Entry.{Entry}
 use Rattle.tw_base.specs.declared.history.thread.Key.{Key}
@@ -8,11 +8,13 @@ use Rattle.tw_base.specs.declared.history.tree_proof.Ask.TheVariants.{Absent, Ab
 use Rattle.tw_disk.specs.Image.{Image}
 use Rattle.tw_disk.specs.Found.{Found, ◌>>=◌}
 use Rattle.tw_disk.specs.Found.Found.{Is}
-use Rattle.tw_rbnode.specs.declared.child.Child.{Child}
+use Rattle.tw_rbnode.specs.declared.child.Child.{Child as Link}
 use Rattle.tw_rbnode.specs.declared.node.Found.{Found as Spot}
 use Rattle.tw_rbnode.specs.declared.node.Found.TheVariants.{At, Between}
 use Rattle.tw_rbnode.specs.Page.{TreePage}
 use Rattle.tw_treeproof.specs.Ways.{has_asked_key, is_left}
+use Rattle.tw_rbtree.specs.declared.descending.Down.{Down}
+use Rattle.tw_rbtree.specs.declared.descending.Down.TheVariants.{Met, Leaf, Child}
 use Rattle.tw_rbtree.specs.declared.seeking.Sought.{Sought}
 use Rattle.tw_rbtree.specs.Reading.{child_in, node_in}
 
@@ -40,7 +42,7 @@ end_of here (s ∷ stops) = end_of s.sought stops
 
 -- the number of the page at a place
 abbrev pub child_page : TreePage → (place : ℕ) → ℕ
-child_page p place = slice_index_or (map (λ (c : Child). c.page) p.children) place 0
+child_page p place = slice_index_or (map (λ (c : Link). c.page) p.children) place 0
 
 module _ (dig : List ℕ → List ℕ) (pages : Image) (ask : Ask) where
   -- on from a stop in a page, into the page at the place to which the way leads
@@ -60,6 +62,14 @@ module _ (dig : List ℕ → List ℕ) (pages : Image) (ask : Ask) where
   -- the stops of the way from the root down; the empty tree has none
   unfoldable pub way : Root → Found (List Stop)
   way root = if root.page == 0 then Is [] else (node_in dig pages root.page >>= (λ p. way_from p.level None None p))
+
+  -- one page further: the way from a page between these two entries meets the key, ends in a leaf page, or goes on into a child
+  abbrev pub down_at : TreePage → Sought → Spot → Found Down
+  down_at p s (At slot) = Is (Met s)
+  down_at p s (Between place) = if p.level == 0 then Is (Leaf s place) else (child_in dig pages (p.level - 1) s.low s.high (child_page p place) >>= (λ q. Is (Child s place q)))
+
+  unfoldable pub down_in : (low high : Option Entry) → TreePage → Found Down
+  down_in low high p = down_at p (seek ask 0 low high p.entries) (seek ask 0 low high p.entries).at
 
   -- where the way from a page down ends, and where the way from the root does
   unfoldable pub end_from : (level : ℕ) → (low high : Option Entry) → TreePage → Found Sought

@@ -1,22 +1,22 @@
 // What a tree in pages has of a key, and next to it.
 
-ghost use Rattle.std.specs.Prelude.{◌≡◌, Some, false, IfOk, IfSome};
+ghost use Rattle.std.specs.Prelude.{◌≡◌, IfOk, IfSome};
 ghost use Rattle.tw_base.specs.history.Entries.{KeyBelow, key_of};
 ghost use Rattle.tw_base.specs.history.Limits.{IsEntryInRange};
-ghost use Rattle.tw_disk.specs.Answers.{AnswersAs, FaultsRise, NeverRefuses, ReadsPages, has_failed};
-ghost use Rattle.tw_disk.specs.Image.{Image};
-ghost use Rattle.tw_disk.specs.Pages.{OnlyReads};
+ghost use Rattle.tw_disk.specs.Answers.{ReadsPages};
 ghost use Rattle.tw_disk.specs.WalkFaults.{walk_faults};
 ghost use Rattle.tw_rbtree.specs.Beside.{AreBeside, IsSoughtBy};
 ghost use Rattle.tw_rbtree.specs.Ways.{end_from, found_after, found_before, found_with, way_end};
 
-use crate::reading::{read_child, read_root, see_node};
-use crate::seeking::{Sought, seek};
+use crate::descending::{Down, descend};
+use crate::reading::read_root;
+use crate::seeking::Sought;
 use tw_base::{Ask, Entry, Hasher, Key, Root};
 use tw_disk::{Pages, WalkFault};
-use tw_rbnode::{Found, RbNode, child_at, level};
+use tw_rbnode::{Found, RbNode};
 
 /// Where the way from this page down ends, which lies between these two entries. Calls itself once a level.
+#[tactic(auto, using(crate::proofs::Downs::ends_down))]
 fn end_below<P: Pages, H: Hasher>(
     pages: &mut P,
     ask: &Ask,
@@ -26,23 +26,15 @@ fn end_below<P: Pages, H: Hasher>(
 ) -> Result<Sought, WalkFault>
     requires beside { AreBeside ask.now low.now high.now }
     ensures tells { IfOk result (λ s. IsSoughtBy ask.now s) }
-    ensures answer { (ps : Image) → (P.view pages.old).list ≡ Some ps →
-        AnswersAs walk_faults (λ s. s) result (end_from H.dig ps ask.now node.now.level low.now high.now node.now) }
-    ensures own { NeverRefuses walk_faults result }
-    ensures kept { OnlyReads P.view P.same pages.old pages.new (has_failed walk_faults result ≡ false) }
-    ensures faults { FaultsRise walk_faults P.view P.same pages.old pages.new result }
+    ensures reads { ReadsPages walk_faults P.view P.same pages.old pages.new (λ s. s) result (λ ps. end_from H.dig ps ask.now node.now.level low.now high.now node.now) }
 {
-    see_node(node);
-    let here = seek(node, ask, low, high);
-    let Found::Between(place) = here.at else {
-        return Ok(here);
-    };
-    if level(node) == 0 {
-        return Ok(here);
+    match descend::<P, H>(pages, ask, node, low, high)? {
+        Down::Met { here } => Ok(here),
+        Down::Leaf { here, .. } => Ok(here),
+        Down::Child { here, child, .. } => {
+            end_below::<P, H>(pages, ask, &child, &here.low, &here.high)
+        }
     }
-    let page = child_at(node, place).page;
-    let child = read_child::<P, H>(pages, page, level(node) - 1, &here.low, &here.high)?;
-    end_below::<P, H>(pages, ask, &child, &here.low, &here.high)
 }
 
 /// Where the way from the root down ends.

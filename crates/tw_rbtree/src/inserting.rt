@@ -1,38 +1,36 @@
 // One entry more.
 
-ghost use Rattle.std.specs.Prelude.{◌≡◌, false, ℕ, ◌+◌, ◌*◌, ◌-◌, ◌<◌, ◌≤◌, ◌^◌, ◌++◌, ◌∷◌, [], List, true, IfOk, Some, length, map};
+ghost use Rattle.std.specs.Prelude.{◌≡◌, ◌+◌, ◌*◌, ◌-◌, ◌<◌, ◌≤◌, ◌^◌, ◌++◌, ◌∷◌, ◌&&◌, [], ℕ, List, true, IfOk, Option, Some, length, map, slice_index_or};
 ghost use Rattle.std.specs.Option.{option_map};
-ghost use Rattle.tw_base.specs.declared.history.tree_proof.Ask.TheVariants.{Absent};
+ghost use Rattle.tw_base.specs.declared.history.root.Root.{Root};
+ghost use Rattle.tw_base.specs.declared.history.thread.Entry.{Entry};
 ghost use Rattle.tw_base.specs.history.Asking.{with_entry};
 ghost use Rattle.tw_base.specs.history.Entries.{key_of};
 ghost use Rattle.tw_base.specs.history.Limits.{IsEntryInRange};
 ghost use Rattle.tw_base.specs.format.PageBytes.{IsPageOf};
 ghost use Rattle.tw_base.specs.history.Tree.{Tree, IsRising, entries};
-ghost use Rattle.tw_disk.specs.Answers.{FaultsRise, has_failed};
+ghost use Rattle.tw_disk.specs.Answers.{AddsBy, AnswersOr};
 ghost use Rattle.tw_disk.specs.Image.{Image};
 ghost use Rattle.tw_disk.specs.Pages.{OnlyAdds};
 ghost use Rattle.tw_rbnode.specs.Children.{AddedHasChildren, HasChildren, IsChildAt};
 ghost use Rattle.tw_rbnode.specs.NodeBytes.{fields_of, node_codec};
-ghost use Rattle.tw_rbnode.specs.Page.{IsNode};
+ghost use Rattle.tw_rbnode.specs.Page.{IsBetween, IsNode};
 ghost use Rattle.tw_rbnode.specs.Trees.{woven};
-ghost use Rattle.tw_rbtree.specs.Answers.{AnswersInsert, NeverUntrue};
+ghost use Rattle.tw_rbtree.specs.Answers.{NeverUntrue, found_insert};
 ghost use Rattle.tw_rbtree.specs.FaultWords.{tree_faults};
-ghost use Rattle.tw_rbtree.specs.Growing.{AddedAreNodes, AddedLists, AnswersGrown, GrownLists, IsGrownIn, IsLast, IsStaged, IsStagedAs, IsWith, MayGoInto};
+ghost use Rattle.tw_rbtree.specs.Growing.{AddedAreNodes, AddedLists, GrownLists, IsGrownIn, IsLast, IsStaged, IsStagedAs, IsWith, LiesIn, MayGoInto, SidesList, grows_from, is_full, is_two, leaf_of};
 ghost use Rattle.tw_rbtree.specs.Reading.{is_above, is_below, lie_between};
 ghost use Rattle.tw_rbtree.specs.Standing.{AreTrees, IsTreeBelow, HasNamed, Named, StandsFor, StandsWith};
-ghost use Rattle.tw_rbtree.specs.Ways.{way, way_from};
 ghost use Rattle.tw_rbtree.specs.declared.limits.TheConstants.{MOST_STAGED};
 
+use crate::descending::{Down, descend};
 use crate::fault::TreeFault;
-use crate::reading::{read_child, read_root, see_node};
-use crate::seeking::seek;
+use crate::reading::{read_root, see_node};
 use std::alloc::Global;
 use tw_base::{Ask, Entry, Hasher, NoMemory, Root, empty_tree, entry_key};
 use tw_disk::Pages;
 use tw_rbnode::limits::TOP_LEVEL;
-use tw_rbnode::{
-    Added, Child, Found, RbNode, add, child_at, label, level, put_child, single, write_node,
-};
+use tw_rbnode::{Added, Child, RbNode, add, label, level, put_child, single, write_node};
 
 /// What a part of the tree has become: one child in its place, or two with an entry between them.
 #[derive(Clone, Copy, Drop)]
@@ -123,8 +121,54 @@ fn with_grown<H: Hasher>(node: &RbNode, place: u8, grown: &Grown) -> Added
     }
 }
 
+/// Stages the page with what its child at the place has become, and answers what the page has become.
+fn regrow<P: Pages, H: Hasher>(
+    pages: &mut P,
+    node: &RbNode,
+    place: u8,
+    below: &Grown,
+) -> Result<Grown, NoMemory>
+    requires used { (P.view pages.old).used < 2 ^ 48 - 5 }
+    requires goes { MayGoInto H.dig node.now place below.now }
+    ensures two { IfOk result (λ g. is_two g ≡ (is_two below.now && is_full node.now)) }
+    ensures grown { (low high : Option Entry) → lie_between low high node.now.entries ≡ true → LiesIn low high below.now → IfOk result (IsGrownIn low high) }
+    ensures lists { (ps : Image) → (P.view pages.old).list ≡ Some ps → HasChildren H.dig node.now → (named : Named) → named.below ≤ (P.view pages.old).used →
+        (ts : List Tree) → AreTrees (IsTreeBelow H.dig (HasNamed named) ps node.now.level) node.now.children ts → IsRising (woven (map entries ts) node.now.entries) →
+        (entry : Entry) → IsBetween node.now.entries place (key_of entry) →
+        SidesList (IsTreeBelow H.dig (HasNamed named) ps node.now.level) (with_entry (slice_index_or (map entries ts) place []) entry) below.now →
+        IfOk result (λ g. (now : Image) × ((P.view pages.new).list ≡ Some now)
+        × GrownLists H.dig (HasNamed named) now node.now.level (length node.now.entries) (with_entry (woven (map entries ts) node.now.entries) entry) g) }
+    ensures last { IfOk result (λ g. IsLast ((P.view pages.new).used) g) }
+    ensures few { (P.view pages.new).used ≤ (P.view pages.old).used + 2 }
+    ensures kept { OnlyAdds P.view P.same pages.old pages.new (Unit {0}) }
+    ensures faults { (P.view pages.new).faults ≡ (P.view pages.old).faults }
+{
+    see_node(node);
+    let added = with_grown::<H>(node, place, below);
+    see_added(&added);
+    let grown = stage_added::<P, H>(pages, added)?;
+    Ok(grown)
+}
+
+/// The entry alone, at an empty place.
+fn leaf<H: Hasher>(entry: &Entry) -> Grown
+    ensures { result ≡ leaf_of H.dig entry.now }
+{
+    let left = Child {
+        page: 0,
+        label: empty_tree::<H>(),
+    };
+    let right = left;
+    Grown::Two {
+        left,
+        middle: *entry,
+        right,
+    }
+}
+
 /// Puts the entry below this page, whose keys lie between these two entries as the entry does, and answers what the page has
 /// become. Calls itself once a level.
+#[tactic(auto, using(crate::proofs::Downs::grows_down))]
 fn grow_below<P: Pages, H: Hasher>(
     pages: &mut P,
     node: &RbNode,
@@ -138,45 +182,26 @@ fn grow_below<P: Pages, H: Hasher>(
     requires lie { lie_between low.now high.now node.now.entries ≡ true }
     requires above { is_above low.now entry.now ≡ true }
     requires below { is_below high.now entry.now ≡ true }
-    ensures answer { (ps : Image) → (P.view pages.old).list ≡ Some ps →
-        AnswersGrown node.now.level result (way_from H.dig ps (Absent (key_of entry.now)) node.now.level low.now high.now node.now) }
+    ensures adds { AddsBy tree_faults P.view P.same pages.old pages.new result (NeverUntrue result) (AnswersOr tree_faults is_two)
+        (λ ps. grows_from H.dig ps (key_of entry.now) node.now.level low.now high.now node.now) }
     ensures lists { (ps : Image) → (P.view pages.old).list ≡ Some ps → (named : Named) → named.below ≤ (P.view pages.old).used →
         (ts : List Tree) → AreTrees (IsTreeBelow H.dig (HasNamed named) ps node.now.level) node.now.children ts →
         IsRising (woven (map entries ts) node.now.entries) →
         IfOk result (λ g. (now : Image) × ((P.view pages.new).list ≡ Some now)
         × GrownLists H.dig (HasNamed named) now node.now.level (length node.now.entries) (with_entry (woven (map entries ts) node.now.entries) entry.now) g) }
-    ensures grown { IfOk result (λ g. IsGrownIn low.now high.now g) }
+    ensures grown { IfOk result (IsGrownIn low.now high.now) }
     ensures last { IfOk result (λ g. IsLast ((P.view pages.new).used) g) }
     ensures few { (P.view pages.new).used ≤ (P.view pages.old).used + 2 * (node.now.level + 1) }
-    ensures never { NeverUntrue result }
-    ensures kept { OnlyAdds P.view P.same pages.old pages.new (has_failed tree_faults result ≡ false) }
-    ensures faults { FaultsRise tree_faults P.view P.same pages.old pages.new result }
 {
-    see_node(node);
-    let here = seek(node, &Ask::Absent(entry_key(entry)), low, high);
-    let Found::Between(place) = here.at else {
-        return Err(TreeFault::Present);
-    };
-    if level(node) == 0 {
-        let empty = Child {
-            page: 0,
-            label: empty_tree::<H>(),
-        };
-        let leaf = Grown::Two {
-            left: empty,
-            middle: *entry,
-            right: empty,
-        };
-        let added = with_grown::<H>(node, place, &leaf);
-        see_added(&added);
-        return Ok(stage_added::<P, H>(pages, added)?);
+    let ask = Ask::Absent(entry_key(entry));
+    match descend::<P, H>(pages, &ask, node, low, high)? {
+        Down::Met { .. } => Err(TreeFault::Present),
+        Down::Leaf { place, .. } => Ok(regrow::<P, H>(pages, node, place, &leaf::<H>(entry))?),
+        Down::Child { here, place, child } => {
+            let below = grow_below::<P, H>(pages, &child, &here.low, &here.high, entry)?;
+            Ok(regrow::<P, H>(pages, node, place, &below)?)
+        }
     }
-    let page = child_at(node, place).page;
-    let child = read_child::<P, H>(pages, page, level(node) - 1, &here.low, &here.high)?;
-    let grown = grow_below::<P, H>(pages, &child, &here.low, &here.high, entry)?;
-    let added = with_grown::<H>(node, place, &grown);
-    see_added(&added);
-    Ok(stage_added::<P, H>(pages, added)?)
 }
 
 /// The root of a page that is staged.
@@ -222,6 +247,7 @@ fn stage_single<P: Pages, H: Hasher>(
 ///
 /// Conditions: fewer than 2^47 pages are used, and the entry's steps are within 1 to 2^40 - 1. `Present` exactly where the key is
 /// there. After a refusal pages of the call may stay staged, behind those that were there.
+#[tactic(auto, using(crate::proofs::Inserts::insert_roots))]
 pub fn insert<P: Pages, H: Hasher>(
     _alloc: Global,
     pages: &mut P,
@@ -230,11 +256,12 @@ pub fn insert<P: Pages, H: Hasher>(
 ) -> Result<Root, TreeFault>
     requires used { (P.view pages.old).used < 2 ^ 47 }
     requires range { IsEntryInRange entry }
-    // Over told pages the answer is what is found in them, whatever they keep, a disk fault and want of memory excepted: there is
-    // a new root where the way down ends at an empty place, `Present` where it meets the key, and `BadPage` with the first page
-    // met that doesn't fit the way, or with the root's page where all pages of eleven levels are full.
-    ensures answer { (ps : Image) → (P.view pages.old).list ≡ Some ps →
-        AnswersInsert root.now result (way H.dig ps (Absent (key_of entry)) root.now) }
+    // The pages that were told stay, whatever is answered; new ones may stand behind them. `DiskFault` comes only where the count of
+    // faults rose, and `Untrue` never. Over told pages the answer is what is found in them, whatever they keep, a disk fault and
+    // want of memory excepted: there is a new root where the way down ends at an empty place, `Present` where it meets the key, and
+    // `BadPage` with the first page met that doesn't fit the way, or with the root's page where all pages of eleven levels are full.
+    ensures adds { AddsBy tree_faults P.view P.same pages.old pages.new result (NeverUntrue result) (AnswersOr tree_faults (λ (_ : Root). tt))
+        (λ ps. found_insert H.dig ps root.now (key_of entry)) }
     // Where the pages stand for a tree under the root, whose pages below a number are to be named trees, those told then stand under
     // the new root, with the same names, for a tree that lists the same entries and the new one in its place.
     ensures inserted { (ps : Image) → (P.view pages.old).list ≡ Some ps → (named : Named) → named.below ≤ (P.view pages.old).used →
@@ -249,12 +276,6 @@ pub fn insert<P: Pages, H: Hasher>(
     ensures page { IfOk result (λ new. (P.view pages.new).used ≡ new.page + 1) }
     // At most 23 pages are staged.
     ensures few { (P.view pages.new).used ≤ (P.view pages.old).used + MOST_STAGED }
-    // `Untrue` is never answered.
-    ensures never { NeverUntrue result }
-    // The pages that were told stay, whatever is answered; new ones may stand behind them.
-    ensures kept { OnlyAdds P.view P.same pages.old pages.new (has_failed tree_faults result ≡ false) }
-    // `DiskFault` comes only where the count of faults rose.
-    ensures faults { FaultsRise tree_faults P.view P.same pages.old pages.new result }
 {
     if root.page == 0 {
         let empty = Child {

@@ -1,6 +1,6 @@
 // What holds of pages that stand for trees, whatever the calls do.
 
-ghost use Rattle.std.specs.Prelude.{◌≡◌, ◌≢◌, [], Some, slice_get, ℕ, ◌+◌, ◌-◌, ◌*◌, ◌^◌, ◌<◌, ◌≤◌, ◌++◌, List, length, ◌⊎◌, Err};
+ghost use Rattle.std.specs.Prelude.{◌≡◌, ◌≢◌, [], Some, slice_get, ℕ, ◌+◌, ◌-◌, ◌*◌, ◌^◌, ◌<◌, ◌≤◌, ◌++◌, List, length, ◌⊎◌, false};
 ghost use Rattle.tw_base.specs.declared.history.root.Root.{Root};
 ghost use Rattle.tw_base.specs.declared.history.thread.Entry.{Entry};
 ghost use Rattle.tw_base.specs.declared.history.thread.Key.{Key};
@@ -17,12 +17,12 @@ ghost use Rattle.tw_rbtree.specs.declared.new_node.NewNode.{NewNode};
 ghost use Rattle.tw_rbtree.specs.Listing.{listed};
 ghost use Rattle.tw_rbtree.specs.Planting.{AreNodeTrees, IsMarked};
 ghost use Rattle.tw_rbnode.specs.Page.{TreePage};
-ghost use Rattle.tw_rbtree.specs.Reading.{IsPageAt, node_in};
+ghost use Rattle.tw_rbtree.specs.OwnPages.{IsPageUnder, NamesOwn};
+ghost use Rattle.tw_rbtree.specs.Reading.{IsPageAt, levels_in, node_in};
 ghost use Rattle.tw_rbtree.specs.Standing.{HasNamed, IsRootTree, Named, StandsFor, StandsWith, any_page};
 ghost use Rattle.tw_rbtree.specs.Ways.{Stop, end_of, found_after, found_before, found_with, nowhere, way};
 ghost use Rattle.tw_rbtree.specs.Paths.{proof_of_way};
-ghost use Rattle.tw_rbtree.specs.Answers.{AnswersInsert, IsSoAt};
-ghost use Rattle.tw_rbtree.specs.declared.fault.TreeFault.TheVariants.{BadPage};
+ghost use Rattle.tw_rbtree.specs.Answers.{IsSoAt, found_insert, insert_at};
 ghost use Rattle.tw_treeproof.specs.Answers.{ancestors_of};
 ghost use Rattle.tw_treeproof.specs.Making.{IsSo, height, proof_of};
 
@@ -56,9 +56,9 @@ pub fn standing_laws<H: Hasher>()
     ensures latest { (ps : Image) (root : Root) (t : Tree) (name : List ℕ) (e : Entry) → StandsFor H.dig ps root t → In e (entries t) → e.thread.from ≡ name →
         (last : Entry) × (last_below (entries t) (record { from = name; step = 2 ^ 40 }) ≡ Some last) × In last (entries t) × (last.thread.from ≡ name)
         × ((e ≡ last) ⊎ (e.thread.step < last.thread.step)) }
-    // Where the tree has fewer than 2^40 entries, an insert tells no bad page.
-    ensures room { (ps : Image) (root : Root) (t : Tree) (entry : Entry) (page : ℕ) → StandsFor H.dig ps root t → length (entries t) < 2 ^ 40 →
-        AnswersInsert root (Err (BadPage page)) (way H.dig ps (Absent (key_of entry)) root) → ⊥ }
+    // Where the tree has fewer than 2^40 entries, an insert tells no bad page: it finds the key, where the tree has an entry of it, and else a new root.
+    ensures room { (ps : Image) (root : Root) (t : Tree) (key : Key) → StandsFor H.dig ps root t → length (entries t) < 2 ^ 40 →
+        found_insert H.dig ps root key ≡ insert_at root (entry_with (entries t) key) false }
 {}
 
 /// What stands in pages stays as they grow; its clauses are the theorem. The function itself does nothing.
@@ -95,6 +95,8 @@ pub fn listing_laws<H: Hasher>()
     ensures within { (ps : Image) (root : Root) (t : Tree) (since : ℕ) → StandsFor H.dig ps root t → root.page ≢ 0 → since ≤ root.page →
         (nodes : List NewNode) × (trees : List Tree) × (listed H.dig ps since root ≡ Is nodes) × AreNodeTrees H.dig any_page ps since [] nodes trees
         × Each (λ s. (e : Entry) → In e (entries s) → In e (entries t)) trees }
+    // Whatever the pages keep, an older page at a side of a listed node is a page of the tree under the root, and so is the page that a node's mark names.
+    ensures own { (ps : Image) (root : Root) (since : ℕ) (nodes : List NewNode) → listed H.dig ps since root ≡ Is nodes → Each (NamesOwn (IsPageUnder H.dig ps root)) nodes }
     // Each page of the tree from the number on is the mark of a listed node.
     ensures marked { (ps : Image) (root : Root) (t : Tree) (since : ℕ) (nodes : List NewNode) → StandsFor H.dig ps root t → root.page ≢ 0 → since ≤ root.page →
         listed H.dig ps since root ≡ Is nodes → StandsWith H.dig (IsMarked since nodes) ps root t }
@@ -111,10 +113,10 @@ pub fn listing_laws<H: Hasher>()
 
 /// How long proofs of pages that stand for a tree are, and how high the tree is; its clauses are the theorem. The function itself does nothing.
 pub fn size_laws<H: Hasher>()
-    // The tree's own proof of an answer has at most 9 times so many nodes above its place as there is a number of levels, which, where it
-    // isn't 0, a tree has only with at least 2 * 13^(levels - 1) - 1 entries.
+    // The tree's own proof of an answer has at most 9 nodes above its place for each level of the tree's pages, of which there are more than none
+    // only with at least 2 * 13^(levels - 1) - 1 entries.
     ensures size { (ps : Image) (root : Root) (t : Tree) (ask : Ask) → StandsFor H.dig ps root t →
-        (levels : ℕ) × (length (ancestors_of (proof_of H.dig t ask)) ≤ 9 * levels) × (0 < levels → 2 * 13 ^ (levels - 1) ≤ length (entries t) + 1) }
+        (levels : ℕ) × (levels_in H.dig ps root.page ≡ Is levels) × (length (ancestors_of (proof_of H.dig t ask)) ≤ 9 * levels) × (0 < levels → 2 * 13 ^ (levels - 1) ≤ length (entries t) + 1) }
     // The tree is at most 99 high.
     ensures height { (ps : Image) (root : Root) (t : Tree) → StandsFor H.dig ps root t → height t ≤ 99 }
 {}

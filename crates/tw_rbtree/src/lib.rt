@@ -3,6 +3,7 @@
 #![tactic(auto)]
 
 mod asking;
+mod descending;
 mod fault;
 mod inserting;
 mod laws;

@@ -1,21 +1,19 @@
 // The nodes of a tree that are new since a page.
 
-ghost use Rattle.std.specs.Prelude.{◌≡◌, false, ℕ, ◌-◌, ◌<◌, ◌≤◌, ◌==◌, ◌||◌, List, Some, length, nat_lt, slice_get};
-ghost use Rattle.tw_disk.specs.Answers.{AnswersAs, FaultsRise, has_failed};
-ghost use Rattle.tw_disk.specs.Image.{Image};
-ghost use Rattle.tw_disk.specs.Pages.{OnlyReads};
-ghost use Rattle.tw_rbnode.specs.Shape.{Shape};
-ghost use Rattle.tw_rbtree.specs.Answers.{NeverPresent, NeverUntrue};
+ghost use Rattle.std.specs.Prelude.{◌≡◌, ◌≢◌, ◌==◌, ◌||◌, None, nat_lt};
+ghost use Rattle.tw_disk.specs.Answers.{ReadsPages};
+ghost use Rattle.tw_rbnode.specs.Slots.{slot_of};
 ghost use Rattle.tw_rbtree.specs.FaultWords.{tree_faults};
-ghost use Rattle.tw_rbtree.specs.Listing.{AnswersListed, IsPartAt, child_listed, listed, listed_at};
+ghost use Rattle.tw_rbtree.specs.Listing.{IsPartAt, IsSplit, listed, part_listed, part_of};
 
+use crate::descending::child_page;
 use crate::fault::TreeFault;
 use crate::new_node::{NewNode, NewNodes, Side};
 use crate::reading::{read_child, read_root};
 use std::alloc::Global;
 use tw_base::{Entry, Hasher, Root};
 use tw_disk::Pages;
-use tw_rbnode::{RbNode, below, child_at, entry_at, keys, level, top};
+use tw_rbnode::{RbNode, below, entry_at, keys, level, top};
 
 /// The part of a page's tree in the slots above `base` up to `end`, whose root slot is `top`.
 #[derive(Clone, Copy, Drop)]
@@ -27,8 +25,9 @@ pub(crate) struct Part {
 
 /// The whole tree of a page.
 fn whole(node: &RbNode) -> Part
-    ensures part { IsPartAt node.now result.base result.end result.top node.now.shape }
+    ensures part { IsPartAt node.now result.base result.end result.top (part_of result.top 0 node.now.shape) }
     ensures base { result.base ≡ 0 }
+    ensures top { result.top ≡ slot_of 0 node.now.shape }
 {
     Part {
         base: 0,
@@ -37,17 +36,46 @@ fn whole(node: &RbNode) -> Part
     }
 }
 
-/// The node in this slot, between its sides.
-fn node_in(node: &RbNode, slot: u8, left: Side, right: Side, page: u64) -> NewNode
-    requires some { 0 < slot }
-    requires most { slot ≤ length node.now.entries }
-    ensures entry { slice_get node.now.entries (slot - 1) ≡ Some result.entry }
-    ensures sides { (result.left ≡ left) × (result.right ≡ right) }
-    ensures page { result.page ≡ page }
+/// The entry of a part's root slot, and the parts on both sides of it.
+#[derive(Clone, Copy, Drop)]
+pub(crate) struct Split {
+    pub before: Part,
+    pub entry: Entry,
+    pub behind: Part,
+}
+
+/// The part of a page, taken apart at its root slot.
+fn take_apart(node: &RbNode, part: Part) -> Split
+    requires some { part.top ≢ 0 }
+    requires part { IsPartAt node.now part.base part.end part.top (part_of part.top 0 node.now.shape) }
+    ensures { IsSplit node.now part result }
+{
+    let entry = entry_at(node, part.top);
+    let (left, right) = below(node, part.top);
+    let before = Part {
+        base: part.base,
+        end: part.top - 1,
+        top: left,
+    };
+    let behind = Part {
+        base: part.top,
+        end: part.end,
+        top: right,
+    };
+    Split {
+        before,
+        entry,
+        behind,
+    }
+}
+
+/// The node of this entry between these sides, with a page number.
+fn between(left: Side, entry: &Entry, right: Side, page: u64) -> NewNode
+    ensures { result ≡ record { left = left; entry = entry.now; right = right; page = page } }
 {
     NewNode {
         left,
-        entry: entry_at(node, slot),
+        entry: *entry,
         right,
         page,
     }
@@ -55,6 +83,7 @@ fn node_in(node: &RbNode, slot: u8, left: Side, right: Side, page: u64) -> NewNo
 
 /// Lists the nodes of this part of a page, which lies between these two entries, and of the pages below it from number `since` on,
 /// behind those that are listed; the part's root gets this page number. Calls itself for each side.
+#[tactic(auto, using(crate::proofs::ListLaws::parts_listed))]
 fn list_part<P: Pages, H: Hasher>(
     pages: &mut P,
     nodes: &mut NewNodes,
@@ -65,41 +94,45 @@ fn list_part<P: Pages, H: Hasher>(
     low: &Option<Entry>,
     high: &Option<Entry>,
 ) -> Result<Side, TreeFault>
-    requires { (t : Shape) × IsPartAt node.now part.base part.end part.top t }
-    ensures answer { (ps : Image) → (P.view pages.old).list ≡ Some ps → (t : Shape) → IsPartAt node.now part.base part.end part.top t →
-        AnswersListed result nodes.new (listed_at (child_listed H.dig ps since node.now.level node.now) node.now.entries page low.now high.now part.base t nodes.old) }
-    ensures present { NeverPresent result }
-    ensures untrue { NeverUntrue result }
-    ensures kept { OnlyReads P.view P.same pages.old pages.new (has_failed tree_faults result ≡ false) }
-    ensures faults { FaultsRise tree_faults P.view P.same pages.old pages.new result }
+    requires { IsPartAt node.now part.base part.end part.top (part_of part.top 0 node.now.shape) }
+    ensures reads { ReadsPages tree_faults P.view P.same pages.old pages.new (λ side. record { nodes = nodes.new; side = side }) result
+        (λ ps. part_listed H.dig ps since node.now page low.now high.now part.base part.top nodes.old) }
 {
     if part.top == 0 {
         if level(node) == 0 {
             return Ok(Side::Empty);
         }
-        let page = child_at(node, part.base).page;
+        let page = child_page(node, part.base);
         if page < since {
             return Ok(Side::Old(page));
         }
         let child = read_child::<P, H>(pages, page, level(node) - 1, low, high)?;
         return list_part::<P, H>(pages, nodes, since, page, &child, whole(&child), low, high);
     }
-    let middle = Some(entry_at(node, part.top));
-    let (left, right) = below(node, part.top);
-    let before = Part {
-        base: part.base,
-        end: part.top - 1,
-        top: left,
-    };
+    let Split {
+        before,
+        entry,
+        behind,
+    } = take_apart(node, part);
+    let middle = Some(entry);
     let left = list_part::<P, H>(pages, nodes, since, 0, node, before, low, &middle)?;
-    let behind = Part {
-        base: part.top,
-        end: part.end,
-        top: right,
-    };
     let right = list_part::<P, H>(pages, nodes, since, 0, node, behind, &middle, high)?;
-    nodes.push(node_in(node, part.top, left, right, page))?;
+    nodes.push(between(left, &entry, right, page))?;
     Ok(Side::New(nodes.len() as u64))
+}
+
+/// Lists the nodes of a page, and of those below it, behind those that are listed.
+fn list_page<P: Pages, H: Hasher>(
+    pages: &mut P,
+    nodes: &mut NewNodes,
+    since: u64,
+    page: u64,
+    node: &RbNode,
+) -> Result<Side, TreeFault>
+    ensures reads { ReadsPages tree_faults P.view P.same pages.old pages.new (λ side. record { nodes = nodes.new; side = side }) result
+        (λ ps. part_listed H.dig ps since node.now page None None 0 (slot_of 0 node.now.shape) nodes.old) }
+{
+    list_part::<P, H>(pages, nodes, since, page, node, whole(node), &None, &None)
 }
 
 /// Whether the root has no page, or one below this number.
@@ -111,38 +144,23 @@ fn is_older(root: &Root, since: u64) -> bool
 
 /// The nodes of those pages of the tree under the root whose numbers are at least `since`, each behind those of its sides. Reads
 /// these pages alone.
+#[tactic(auto, using(crate::proofs::ListLaws::roots_listed))]
 pub fn fresh<P: Pages, H: Hasher>(
     alloc: Global,
     pages: &mut P,
     root: &Root,
     since: u64,
 ) -> Result<NewNodes, TreeFault>
+    // It changes nothing of what the pages tell, `DiskFault` comes only where the count of faults rose, and `Present` and `Untrue` never.
     // Over told pages the answer is what is found in them, whatever they keep, a disk fault and want of memory excepted: the nodes
     // of the pages from this number on, or `BadPage` with the first page met that doesn't fit its place.
-    ensures answer { (ps : Image) → (P.view pages.old).list ≡ Some ps →
-        AnswersAs tree_faults (λ nodes. nodes) result (listed H.dig ps since root.now) }
-    // `Present` and `Untrue` are never answered.
-    ensures present { NeverPresent result }
-    ensures untrue { NeverUntrue result }
-    // Reading changes nothing of what the pages tell.
-    ensures kept { OnlyReads P.view P.same pages.old pages.new (has_failed tree_faults result ≡ false) }
-    // `DiskFault` comes only where the count of faults rose.
-    ensures faults { FaultsRise tree_faults P.view P.same pages.old pages.new result }
+    ensures reads { ReadsPages tree_faults P.view P.same pages.old pages.new (λ nodes. nodes) result (λ ps. listed H.dig ps since root.now) }
 {
     let mut nodes = NewNodes::new(alloc);
     if is_older(root, since) {
         return Ok(nodes);
     }
     let first = read_root::<P, H>(pages, root.page)?;
-    list_part::<P, H>(
-        pages,
-        &mut nodes,
-        since,
-        root.page,
-        &first,
-        whole(&first),
-        &None,
-        &None,
-    )?;
+    list_page::<P, H>(pages, &mut nodes, since, root.page, &first)?;
     Ok(nodes)
 }

@@ -1,41 +1,30 @@
 // The proof of what a tree in pages has.
 
-ghost use Rattle.std.specs.Prelude.{◌≡◌, false, ℕ, ◌+◌, ◌*◌, ◌≤◌, ◌++◌, ◌↔◌, IfOk, IsTrue, List, OnOk, Some, length, take};
-ghost use Rattle.tw_disk.specs.Answers.{FaultsRise, has_failed};
-ghost use Rattle.tw_disk.specs.Image.{Image};
-ghost use Rattle.tw_disk.specs.Pages.{OnlyReads};
+ghost use Rattle.std.specs.Prelude.{◌≡◌, ◌+◌, ◌*◌, ◌≤◌, ◌++◌, ◌↔◌, IfOk, IsTrue, OnOk, [], length, take};
+ghost use Rattle.tw_disk.specs.Answers.{ReadsBy, ReadsPages};
 ghost use Rattle.tw_rbnode.specs.Answers.{IsThere};
 ghost use Rattle.tw_rbnode.specs.Trees.{nodes_above};
 ghost use Rattle.tw_base.specs.kinds.Lists.{Each};
 ghost use Rattle.tw_treeproof.specs.Answers.{ancestors_of};
 ghost use Rattle.tw_treeproof.specs.Limits.{IsAncestorInRange};
-ghost use Rattle.tw_base.specs.declared.history.tree_proof.Ancestor.{Ancestor};
-ghost use Rattle.tw_rbtree.specs.Answers.{AnswersPath, IsSoAt, NeverPresent, UntrueUnless};
+ghost use Rattle.tw_rbtree.specs.Answers.{AnswersPath, IsSoAt, NeverPresent};
 ghost use Rattle.tw_rbtree.specs.FaultWords.{tree_faults};
-ghost use Rattle.tw_rbtree.specs.Paths.{proof_in, shown_proof};
-ghost use Rattle.tw_rbtree.specs.Showing.{AnswersShown};
-ghost use Rattle.tw_rbtree.specs.Ways.{seek as seek_in, way as way_down, way_from};
+ghost use Rattle.tw_rbtree.specs.Paths.{found_path, proof_in, shown_above, shown_at, shown_from, with_above};
 
+use crate::descending::{Down, descend};
 use crate::fault::TreeFault;
-use crate::reading::{read_child, read_root, see_node};
-use crate::seeking::{Sought, seek};
+use crate::reading::{read_root, see_node};
+use crate::seeking::Sought;
 use std::alloc::Global;
-use tw_base::{AncestorList, Ask, Digest, Entry, Hasher, NoMemory, Root, TreeProof};
+use tw_base::{AncestorList, Ask, Entry, Hasher, NoMemory, Root, TreeProof};
 use tw_disk::Pages;
-use tw_rbnode::{Found, RbNode, WayDown, child_at, keys, level, sides, way};
+use tw_rbnode::{Found, RbNode, WayDown, sides, way};
 
-/// The labels of the two sides of a node.
-#[derive(Clone, Copy, Drop)]
-pub(crate) struct Sides {
-    pub left: Digest,
-    pub right: Digest,
-}
-
-/// What stands at the end of a way, none at an empty place, and the nodes above it, nearest first.
+/// The entry at the end of a way, none at an empty place, and the proof of what is there.
 #[derive(Drop)]
 pub(crate) struct Shown {
-    pub sides: Option<Sides>,
-    pub ancestors: AncestorList,
+    pub met: Option<Entry>,
+    pub proof: TreeProof,
 }
 
 /// Puts the nodes of a page behind the others.
@@ -49,34 +38,128 @@ fn push_way(ancestors: &mut AncestorList, way: &WayDown) -> Result<(), NoMemory>
     Ok(())
 }
 
-/// The same with the page's nodes above this slot or place.
-fn with_way<H: Hasher>(shown: Shown, node: &RbNode, at: &Found) -> Result<Shown, NoMemory>
-    requires { IsThere node.now.entries at.now }
-    ensures ancestors { IfOk result (λ new. new.ancestors ≡ shown.ancestors ++ nodes_above H.dig node.now at.now) }
-    ensures sides { IfOk result (λ new. new.sides ≡ shown.sides) }
-    ensures few { IfOk result (λ new. length new.ancestors ≤ length shown.ancestors + 9) }
+/// The proof with the nodes of a page above its own.
+fn with_way(proof: TreeProof, way: &WayDown) -> Result<TreeProof, NoMemory>
+    requires { way.now.count ≤ 9 }
+    ensures { IfOk result (λ new. new ≡ with_above proof (take way.now.count way.now.nodes)) }
 {
-    let way = way::<H>(node, at);
-    let mut ancestors = shown.ancestors;
-    push_way(&mut ancestors, &way)?;
-    Ok(Shown {
-        sides: shown.sides,
-        ancestors,
-    })
+    match proof {
+        TreeProof::Present {
+            left,
+            right,
+            ancestors,
+        } => {
+            let mut ancestors = ancestors;
+            push_way(&mut ancestors, way)?;
+            Ok(TreeProof::Present {
+                left,
+                right,
+                ancestors,
+            })
+        }
+        TreeProof::Gap { ancestors } => {
+            let mut ancestors = ancestors;
+            push_way(&mut ancestors, way)?;
+            Ok(TreeProof::Gap { ancestors })
+        }
+    }
 }
 
-/// What stands in this slot or place of a page.
-fn sides_there<H: Hasher>(node: &RbNode, at: &Found) -> Option<Sides>
+/// The proof of what stands in this slot or place of a page, without the nodes above it.
+fn proof_there<H: Hasher>(alloc: Global, node: &RbNode, at: &Found) -> TreeProof
     requires { IsThere node.now.entries at.now }
-    ensures { (up : List Ancestor) → shown_proof result up ≡ proof_in H.dig node.now at.now up }
+    ensures { result ≡ proof_in H.dig node.now at.now [] }
 {
+    let ancestors = AncestorList::new(alloc);
     match *at {
         Found::At(slot) => {
             let (left, right) = sides::<H>(node, slot);
-            Some(Sides { left, right })
+            TreeProof::Present {
+                left,
+                right,
+                ancestors,
+            }
         }
-        Found::Between(_) => None,
+        Found::Between(_) => TreeProof::Gap { ancestors },
     }
+}
+
+/// What was shown further down, with the nodes of this page above the slot or place.
+#[tactic(auto, using(crate::proofs::Besides::ranges_above))]
+fn with_page<H: Hasher>(shown: Shown, node: &RbNode, at: &Found) -> Result<Shown, NoMemory>
+    requires { IsThere node.now.entries at.now }
+    ensures shown { IfOk result (λ new. new ≡ record { met = shown.met; proof = with_above shown.proof (nodes_above H.dig node.now at.now) }) }
+    ensures few { IfOk result (λ new. length (ancestors_of new.proof) ≤ length (ancestors_of shown.proof) + 9) }
+    ensures ranges { Each IsAncestorInRange (ancestors_of shown.proof) → IfOk result (λ new. Each IsAncestorInRange (ancestors_of new.proof)) }
+{
+    see_node(node);
+    let way = way::<H>(node, at);
+    let Shown { met, proof } = shown;
+    let proof = with_way(proof, &way)?;
+    Ok(Shown { met, proof })
+}
+
+/// What is shown at the end of a way in this page.
+fn end_in<H: Hasher>(alloc: Global, node: &RbNode, here: &Sought) -> Result<Shown, NoMemory>
+    requires { IsThere node.now.entries here.now.at }
+    ensures shown { IfOk result (λ shown. shown ≡ shown_above H.dig node.now here.now (shown_at H.dig node.now here.now)) }
+    ensures few { IfOk result (λ shown. length (ancestors_of shown.proof) ≤ 9) }
+    ensures ranges { IfOk result (λ shown. Each IsAncestorInRange (ancestors_of shown.proof)) }
+{
+    let proof = proof_there::<H>(alloc, node, &here.at);
+    let end = Shown {
+        met: here.met,
+        proof,
+    };
+    let shown = with_page::<H>(end, node, &here.at)?;
+    Ok(shown)
+}
+
+/// What is shown on the way from this page down, which lies between these two entries. Calls itself once a level.
+#[tactic(auto, using(crate::proofs::Downs::shown_down))]
+fn shown_below<P: Pages, H: Hasher>(
+    alloc: Global,
+    pages: &mut P,
+    ask: &Ask,
+    node: &RbNode,
+    low: &Option<Entry>,
+    high: &Option<Entry>,
+) -> Result<Shown, TreeFault>
+    ensures reads { ReadsPages tree_faults P.view P.same pages.old pages.new (λ x. x) result (λ ps. shown_from H.dig ps ask.now node.now.level low.now high.now node.now) }
+    ensures few { IfOk result (λ shown. length (ancestors_of shown.proof) ≤ 9 * (node.now.level + 1)) }
+    ensures ranges { IfOk result (λ shown. Each IsAncestorInRange (ancestors_of shown.proof)) }
+{
+    match descend::<P, H>(pages, ask, node, low, high)? {
+        Down::Met { here } => Ok(end_in::<H>(alloc, node, &here)?),
+        Down::Leaf { here, .. } => Ok(end_in::<H>(alloc, node, &here)?),
+        Down::Child { here, child, .. } => {
+            let shown = shown_below::<P, H>(alloc, pages, ask, &child, &here.low, &here.high)?;
+            Ok(with_page::<H>(shown, node, &here.at)?)
+        }
+    }
+}
+
+/// What is shown on the way from the root down.
+#[tactic(auto, using(crate::proofs::Downs::shown_down))]
+fn show<P: Pages, H: Hasher>(
+    alloc: Global,
+    pages: &mut P,
+    root: &Root,
+    ask: &Ask,
+) -> Result<Shown, TreeFault>
+    ensures reads { ReadsPages tree_faults P.view P.same pages.old pages.new (λ x. x) result (λ ps. found_path H.dig ps ask.now root.now) }
+    ensures few { IfOk result (λ shown. length (ancestors_of shown.proof) ≤ 99) }
+    ensures ranges { IfOk result (λ shown. Each IsAncestorInRange (ancestors_of shown.proof)) }
+{
+    if root.page == 0 {
+        let ancestors = AncestorList::new(alloc);
+        return Ok(Shown {
+            met: None,
+            proof: TreeProof::Gap { ancestors },
+        });
+    }
+    let first = read_root::<P, H>(pages, root.page)?;
+    shown_below::<P, H>(alloc, pages, ask, &first, &None, &None)
 }
 
 /// Whether what is asked is so, where the way met this entry or none.
@@ -90,76 +173,6 @@ fn is_so(ask: &Ask, met: &Option<Entry>) -> bool
     }
 }
 
-/// What is shown at the end of the way in a page.
-fn end_in<H: Hasher>(
-    alloc: Global,
-    node: &RbNode,
-    ask: &Ask,
-    here: &Sought,
-) -> Result<Shown, TreeFault>
-    requires { IsThere node.now.entries here.now.at }
-    ensures so { IfOk result (λ shown. IsSoAt ask.now here.now.met) }
-    ensures ancestors { IfOk result (λ shown. shown.ancestors ≡ nodes_above H.dig node.now here.now.at) }
-    ensures sides { IfOk result (λ shown. (up : List Ancestor) → shown_proof shown.sides up ≡ proof_in H.dig node.now here.now.at up) }
-    ensures few { IfOk result (λ shown. length shown.ancestors ≤ 9) }
-    ensures untrue { UntrueUnless result (IsSoAt ask.now here.now.met) }
-{
-    if !is_so(ask, &here.met) {
-        return Err(TreeFault::Untrue);
-    }
-    let end = Shown {
-        sides: sides_there::<H>(node, &here.at),
-        ancestors: AncestorList::new(alloc),
-    };
-    Ok(with_way::<H>(end, node, &here.at)?)
-}
-
-/// What is shown on the way from this page down, which lies between these two entries. Calls itself once a level.
-fn shown_below<P: Pages, H: Hasher>(
-    alloc: Global,
-    pages: &mut P,
-    ask: &Ask,
-    node: &RbNode,
-    low: &Option<Entry>,
-    high: &Option<Entry>,
-) -> Result<Shown, TreeFault>
-    ensures answer { (ps : Image) → (P.view pages.old).list ≡ Some ps →
-        AnswersShown H.dig ask.now result (way_from H.dig ps ask.now node.now.level low.now high.now node.now) }
-    ensures few { IfOk result (λ shown. length shown.ancestors ≤ 9 * (node.now.level + 1)) }
-    ensures ranges { IfOk result (λ shown. Each IsAncestorInRange shown.ancestors) }
-    ensures never { NeverPresent result }
-    ensures kept { OnlyReads P.view P.same pages.old pages.new (has_failed tree_faults result ≡ false) }
-    ensures faults { FaultsRise tree_faults P.view P.same pages.old pages.new result }
-{
-    see_node(node);
-    let here = seek(node, ask, low, high);
-    let Found::Between(place) = here.at else {
-        return end_in::<H>(alloc, node, ask, &here);
-    };
-    if level(node) == 0 {
-        return end_in::<H>(alloc, node, ask, &here);
-    }
-    let page = child_at(node, place).page;
-    let child = read_child::<P, H>(pages, page, level(node) - 1, &here.low, &here.high)?;
-    let shown = shown_below::<P, H>(alloc, pages, ask, &child, &here.low, &here.high)?;
-    Ok(with_way::<H>(shown, node, &here.at)?)
-}
-
-/// The proof of what was shown.
-fn proof_of(shown: Shown) -> TreeProof
-    ensures { result ≡ shown_proof shown.sides shown.ancestors }
-{
-    let Shown { sides, ancestors } = shown;
-    match sides {
-        None => TreeProof::Gap { ancestors },
-        Some(Sides { left, right }) => TreeProof::Present {
-            left,
-            right,
-            ancestors,
-        },
-    }
-}
-
 /// The proof of the answer to the question, of the tree under the root. Reads the pages on one way down, and hashes at most the
 /// nodes of these pages. `Untrue` exactly where the asked entry isn't there, or the key that is said to be absent is.
 pub fn path<P: Pages, H: Hasher>(
@@ -168,31 +181,19 @@ pub fn path<P: Pages, H: Hasher>(
     root: &Root,
     ask: &Ask,
 ) -> Result<TreeProof, TreeFault>
-    // Over told pages the answer is what is found in them, whatever they keep, a disk fault and want of memory excepted: the nodes
+    // It changes nothing of what the pages tell, `DiskFault` comes only where the count of faults rose, and `Present` never. Over told
+    // pages the answer is what is found in them, whatever they keep, a disk fault and want of memory excepted: the nodes
     // above the end of the way down and what is there, `Untrue` where what is asked isn't so there, or `BadPage` with the first
     // page met that doesn't fit the way.
-    ensures answer { (ps : Image) → (P.view pages.old).list ≡ Some ps →
-        AnswersPath H.dig ask.now result (way_down H.dig ps ask.now root.now) }
+    ensures reads { ReadsBy tree_faults P.view P.same pages.old pages.new result (NeverPresent result) (AnswersPath ask.now) (λ ps. found_path H.dig ps ask.now root.now) }
     // Over any pages, told or not, a proof has at most 99 nodes above its place.
     ensures few { IfOk result (λ proof. length (ancestors_of proof) ≤ 99) }
     // Their entries have steps within 1 to 2^40 - 1.
     ensures ranges { IfOk result (λ proof. Each IsAncestorInRange (ancestors_of proof)) }
-    // `Present` is never answered.
-    ensures never { NeverPresent result }
-    // Reading changes nothing of what the pages tell.
-    ensures kept { OnlyReads P.view P.same pages.old pages.new (has_failed tree_faults result ≡ false) }
-    // `DiskFault` comes only where the count of faults rose.
-    ensures faults { FaultsRise tree_faults P.view P.same pages.old pages.new result }
 {
-    if root.page == 0 {
-        if !is_so(ask, &None) {
-            return Err(TreeFault::Untrue);
-        }
-        return Ok(TreeProof::Gap {
-            ancestors: AncestorList::new(alloc),
-        });
+    let Shown { met, proof } = show::<P, H>(alloc, pages, root, ask)?;
+    if !is_so(ask, &met) {
+        return Err(TreeFault::Untrue);
     }
-    let first = read_root::<P, H>(pages, root.page)?;
-    let shown = shown_below::<P, H>(alloc, pages, ask, &first, &None, &None)?;
-    Ok(proof_of(shown))
+    Ok(proof)
 }

@@ -5,6 +5,7 @@ use Rattle.tw_rbtree.specs.declared.new_node.NewNode.{NewNode}
 use Rattle.tw_rbtree.specs.Standing.{HasNamed, any_page}
 use Rattle.tw_rbtree.proofs.ListLaws.{listed-none}
 use Rattle.tw_rbtree.proofs.Markings.{root-marks}
+use Rattle.tw_rbtree.proofs.OwnPages.{root-own}
 use Rattle.tw_rbtree.proofs.Plantings.{marks-apart, root-plants}
 use Rattle.tw_rbtree.proofs.laws.listing_laws.Goals as goal
 
@@ -20,6 +21,7 @@ returns g c = record {
       let p = root-plants g.H.Hasher.dig (HasNamed named) ps root t since stands some new in (p.nodes, p.trees, p.found_is, p.are, p.last.0, p.last.1);
   within = λ ps root t since stands some new.
       let p = root-plants g.H.Hasher.dig any_page ps root t since stands some new in (p.nodes, p.trees, p.found_is, p.are, p.within);
+  own = λ ps root since nodes found. root-own g.H.Hasher.dig ps since root nodes found;
   marked = λ ps root t since nodes stands some new found. root-marks g.H.Hasher.dig ps since root t nodes stands some new found;
   apart = λ ps root t since nodes stands some new found i j n m a b same page.
       let p = root-plants g.H.Hasher.dig any_page ps root t since stands some new in

@@ -12,6 +12,6 @@ returns g c = record {
       let dig = g.H.Hasher.dig in
       let w = root-way dig ps ask root t stands in
       let same = w.up ∙ sym (at-ancestors dig (place_of ask t) (way_up dig ask t)) in
-      (w.levels, subst (λ (xs : List Ancestor). length xs ≤ 9 * w.levels) same w.few, w.many);
+      (w.levels, w.levels_is, subst (λ (xs : List Ancestor). length xs ≤ 9 * w.levels) same w.few, w.many);
   height = λ ps root t stands. stands-height g.H.Hasher.dig ps root t stands;
 }

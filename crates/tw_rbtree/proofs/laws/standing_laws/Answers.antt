@@ -2,7 +2,7 @@ use Rattle.tw_base.specs.history.Tree.{entries}
 use Rattle.tw_rbtree.specs.Ways.{end_of, nowhere}
 use Rattle.tw_rbtree.proofs.RootWays.{after-found, before-found, root-way, so-found, with-found}
 use Rattle.tw_rbtree.proofs.PageLaws.{is-root, root-is}
-use Rattle.tw_rbtree.proofs.Fullness.{no-bad-page}
+use Rattle.tw_rbtree.proofs.Fullness.{insert-finds}
 use Rattle.tw_rbtree.proofs.Latest.{latest}
 use Rattle.tw_rbtree.proofs.StandingLaws.{root-key, stands-ranges}
 use Rattle.tw_rbtree.proofs.laws.standing_laws.Goals as goal
@@ -34,4 +34,4 @@ pub returns-clause-latest : goal.returns-clause-latest
 returns-clause-latest g c = λ ps root t name e stands there same. latest (entries t) stands.rising (stands-ranges g.H.Hasher.dig ps root t stands) name e there same
 
 pub returns-clause-room : goal.returns-clause-room
-returns-clause-room g c = λ ps root t entry page stands few over. no-bad-page g.H.Hasher.dig ps root t entry page stands few over
+returns-clause-room g c = λ ps root t key stands few. insert-finds g.H.Hasher.dig ps root t key stands few
