@@ -5,7 +5,6 @@ pub mod WritingLaws
 pub mod Judging
 pub mod ByteCounts
 pub mod TableSteps
-pub mod LinkLabels
 pub mod LastSteps
 pub mod Passes
 pub mod TableWalk

@@ -1,18 +1,19 @@
 -- What a pass over the steps of a history keeps true.
 use Rattle.std.proofs.Common.{◌≡◌, ℕ, suc, zero, ◌+◌, ◌-◌, ◌<◌, ◌≤◌, ◌^◌, ◌%◌, List, [], ◌∷◌, ◌++◌, length, get_or, take, refl, ap, sym, ◌∙◌, subst, append_assoc, add-one, arith, lit<, inl, inr}
-use Rattle.std.specs.Prelude.{Option, Some, drop, map, replicate, slice_get}
-use Rattle.std.proofs.lemmas.List.{append-nil, get_or-append_right, get_or-drop, get_or-replicate, get_or_append_left, length-append, length-map, length-replicate, map_more, map_push, take_all}
+use Rattle.std.specs.Prelude.{Option, Some, None, drop, map, replicate, slice_get}
+use Rattle.std.proofs.lemmas.List.{append-nil, append_cancel_left, get_or-append_right, get_or-drop, get_or-replicate, get_or_append_left, length-append, length-map, length-replicate, map_more, map_push, take_all}
 use Rattle.std.proofs.Math.Nat.{mod-one, one-le-pow}
 use Rattle.std.proofs.lemmas.Bool.{cases_lt}
 use Rattle.tw_base.specs.declared.kinds.limits.TheConstants.{LAST_STEP}
 use Rattle.tw_base.specs.declared.history.thread.Entry.{Entry}
 use Rattle.tw_base.specs.kinds.Texts.{authenticator_text, empty_tree_text, genesis_text, step_datum_text}
 use Rattle.tw_base.specs.history.Entries.{entry_text}
-use Rattle.tw_base.specs.events.EventTree.{event_root}
+use Rattle.tw_base.specs.events.EventTree.{event_root, event_texts}
 use Rattle.tw_base.specs.history.History.{History, entry_to, events_at, events_of, fresh_of, root_of, step_at, time_at, time_of}
 use Rattle.tw_base.specs.history.History.{Node as NodeMeant, Step as StepMeant}
 use Rattle.tw_base.specs.kinds.Levels.{top_level}
-use Rattle.tw_base.specs.history.Tree.{Tree, branch, forest, planted, tree}
+use Rattle.tw_base.specs.history.HistoryTexts.{node_texts, step_texts, texts_to, top_texts}
+use Rattle.tw_base.specs.history.Tree.{Tree, branch, forest, new_trees, planted, tree}
 use Rattle.tw_base.specs.history.Tree.Tree.{Branch, Empty}
 use Rattle.tw_base.specs.history.Auth.{auth, auths, datum_text_at, link_texts, link_texts_at, tree_label}
 use Rattle.tw_base.proofs.lemmas.history.Auths.{auth-suc, auths-at}
@@ -24,9 +25,12 @@ use Rattle.tw_history.specs.declared.step.Step.{Step}
 use Rattle.tw_history.specs.declared.pass.Digests.{Digests}
 use Rattle.tw_history.specs.declared.step_digests.StepDigests.{StepDigests}
 use Rattle.tw_history.specs.Tables.{node_of, step_of}
-use Rattle.tw_history.specs.PassSteps.{AreReached, HasPassed, IsOfStep, events_in}
+use Rattle.tw_transcript.specs.Handing.{Hands}
+use Rattle.tw_transcript.specs.Links.{AreReached}
+use Rattle.tw_transcript.proofs.HandedTexts.{hands-none, hands-text}
+use Rattle.tw_transcript.proofs.LinkLabels.{length-labels_below}
+use Rattle.tw_history.specs.PassSteps.{HandsOn, HasPassed, IsOfStep, IsTold, events_in, texts_of_rest}
 use Rattle.tw_history.proofs.LastSteps.{last-kept, last-own, last-reached}
-use Rattle.tw_history.proofs.LinkLabels.{length-labels_below}
 use Rattle.tw_history.proofs.TableSteps.{events_of-content}
 
 -- ---- trees
@@ -48,6 +52,14 @@ planted-push entry trees (m ∷ ns) n =
     sym (append_assoc trees (t ∷ []) (planted entry (trees ++ t ∷ []) (ns ++ n ∷ [])))
     ∙ planted-push entry (trees ++ t ∷ []) ns n
     ∙ ap (λ (ts : List Tree). ts ++ branch (entry n.entry) (get_or ts n.left Empty) (get_or ts n.right Empty) ∷ []) same
+
+-- the tree of one more node
+pub planted-more : (entry : ℕ → Option Entry) (trees : List Tree) (ns : List NodeMeant) (n : NodeMeant)
+    → planted entry trees (ns ++ n ∷ [])
+    ≡ planted entry trees ns ++ branch (entry n.entry) (get_or (trees ++ planted entry trees ns) n.left Empty) (get_or (trees ++ planted entry trees ns) n.right Empty) ∷ []
+planted-more entry trees ns n =
+    append_cancel_left trees _ _ (planted-push entry trees ns n
+    ∙ append_assoc trees (planted entry trees ns) (branch (entry n.entry) (get_or (trees ++ planted entry trees ns) n.left Empty) (get_or (trees ++ planted entry trees ns) n.right Empty) ∷ []))
 
 pub some_trees : (h : History) (i : ℕ) → 0 < length (forest h i)
 unfolding forest
@@ -91,6 +103,52 @@ module _ (dig : List ℕ → List ℕ) where
       ∙ ap (map (tree_label dig)) (planted-push (entry_to h step) trees (map node_of (take i fresh)) (node_of node))
       ∙ map_push (tree_label dig) all (branch (entry_to h step node.entry) (get_or all node.left Empty) (get_or all node.right Empty))
 
+  -- ---- the texts of nodes
+
+  -- one that doesn't stand has no text
+  pub told-none : {S : Type 0} (took : S → List (List ℕ) → Type 0) (s : S) (entry : Option Entry) (l r : Tree) (label : List ℕ) → None ≡ entry → label ≡ tree_label dig Empty
+      → IsTold dig took s s label (branch entry l r)
+  told-none took s entry l r label none is =
+      subst (λ (o : Option Entry). IsTold dig took s s label (branch o l r)) none (record { label_is = is; took_top = hands-none took s })
+
+  pub told-some : {S : Type 0} (took : S → List (List ℕ) → Type 0) (old new : S) (entry : Option Entry) (e : Entry) (l r : Tree) (left right label : List ℕ) → Some e ≡ entry
+      → left ≡ tree_label dig l → right ≡ tree_label dig r → label ≡ dig (entry_text left e right) → Hands took old new (entry_text left e right ∷ [])
+      → IsTold dig took old new label (branch entry l r)
+  told-some took old new entry e l r left right label some left_is right_is is hands = record {
+    label_is = label-some entry e l r left right label some left_is right_is is;
+    took_top = subst (λ (o : Option Entry). Hands took old new (top_texts dig (branch o l r))) some
+        (hands-text took old new _ _ (λ k. entry_text (left_is k) e (right_is k)) hands);
+  }
+
+  node_texts-push : (ts : List Tree) (t : Tree) → node_texts dig (ts ++ t ∷ []) ≡ node_texts dig ts ++ top_texts dig t
+  unfolding node_texts
+  node_texts-push [] t = append-nil (top_texts dig t)
+  node_texts-push (u ∷ ts) t = ap (λ x. top_texts dig u ++ x) (node_texts-push ts t) ∙ sym (append_assoc (top_texts dig u) (node_texts dig ts) (top_texts dig t))
+
+  -- the texts of the first fresh nodes
+  abbrev pub nodes_to : (h : History) (step : ℕ) (fresh : List Node) (trees : List Tree) → ℕ → List (List ℕ)
+  nodes_to h step fresh trees i = node_texts dig (planted (entry_to h step) trees (map node_of (take i fresh)))
+
+  pub nodes_to-none : (h : History) (step : ℕ) (fresh : List Node) (trees : List Tree) → [] ≡ nodes_to h step fresh trees 0
+  unfolding node_texts planted
+  nodes_to-none h step fresh trees = refl
+
+  pub nodes_to-all : (h : History) (step : ℕ) (fresh : List Node) (trees : List Tree) (i : ℕ) → length fresh ≤ i
+      → nodes_to h step fresh trees i ≡ node_texts dig (planted (entry_to h step) trees (map node_of fresh))
+  nodes_to-all h step fresh trees i past = ap (λ (ns : List Node). node_texts dig (planted (entry_to h step) trees (map node_of ns))) (take_all i fresh past)
+
+  pub nodes_to-more : (h : History) (step : ℕ) (fresh : List Node) (trees : List Tree) (i : ℕ) (d : Node) → i < length fresh
+      → let node : Node = get_or fresh i d in
+      let all : List Tree = trees ++ planted (entry_to h step) trees (map node_of (take i fresh)) in
+      nodes_to h step fresh trees i ++ top_texts dig (branch (entry_to h step node.entry) (get_or all node.left Empty) (get_or all node.right Empty))
+      ≡ nodes_to h step fresh trees (i + 1)
+  nodes_to-more h step fresh trees i d inside =
+      let node : Node = get_or fresh i d in
+      let all : List Tree = trees ++ planted (entry_to h step) trees (map node_of (take i fresh)) in
+      sym (ap (λ (ns : List NodeMeant). node_texts dig (planted (entry_to h step) trees ns)) (map_more node_of fresh i d inside)
+      ∙ ap (node_texts dig) (planted-more (entry_to h step) trees (map node_of (take i fresh)) (node_of node))
+      ∙ node_texts-push (planted (entry_to h step) trees (map node_of (take i fresh))) (branch (entry_to h step node.entry) (get_or all node.left Empty) (get_or all node.right Empty)))
+
   -- the first tree stays the first
   pub first-stays : (trees more : List Tree) (labels : List (List ℕ)) → labels ≡ map (tree_label dig) trees → 0 < length labels
       → get_or trees 0 Empty ≡ Empty → get_or (trees ++ more) 0 Empty ≡ Empty
@@ -120,6 +178,35 @@ module _ (dig : List ℕ → List ℕ) where
           ∙ ap (auth dig h) (let e : 0 ≡ 0 - 0 % 2 ^ level = omega arith in e);
     }
 
+    -- the texts before the first step
+    pub texts-none : genesis_text h.name ∷ empty_tree_text ∷ [] ≡ texts_to dig h 0
+    unfolding texts_to
+    texts-none = refl
+
+    -- those of one step more
+    texts-suc : (i : ℕ) → texts_to dig h i ++ step_texts dig h i ≡ texts_to dig h (suc i)
+    unfolding texts_to
+    texts-suc i = refl
+
+    pub events-then : (i : ℕ) → event_texts dig (events_at h (i + 1)) ++ texts_of_rest dig h i ≡ step_texts dig h i
+    unfolding step_texts
+    events-then i = ap (λ n. event_texts dig (events_at h n) ++ texts_of_rest dig h i) (add-one i)
+
+    module _ {S : Type 0} (took : S → List (List ℕ) → Type 0) where
+      pub handed-none : (s : S) (i : ℕ) → HandsOn dig h took s s i i
+      handed-none s i = record { behind = λ before has. has }
+
+      pub handed-step : (a b c : S) (i j : ℕ) → HandsOn dig h took a b i j → Hands took b c (step_texts dig h j) → HandsOn dig h took a c i (j + 1)
+      handed-step a b c i j on step = record {
+        behind = λ before has.
+            subst (λ n. took c (before ++ texts_to dig h n)) (sym (add-one j))
+            (subst (took c) (append_assoc before (texts_to dig h j) (step_texts dig h j) ∙ ap (λ ts. before ++ ts) (texts-suc j))
+            (step.behind (before ++ texts_to dig h j) (on.behind before has)));
+      }
+
+      pub handed-same : (a b : S) (i j k : ℕ) → j ≡ k → HandsOn dig h took a b i j → HandsOn dig h took a b i k
+      handed-same a b i j k same on = subst (HandsOn dig h took a b i) same on
+
     -- the links of the next step lead to what is kept
     pub HasPassed-reached : (i : ℕ) (d : Digests) → HasPassed dig h i d → suc i ≤ LAST_STEP → AreReached (suc i) (auths dig h i) d.latest
     HasPassed-reached i d passed few = λ level within.
@@ -127,6 +214,10 @@ module _ (dig : List ℕ → List ℕ) where
         let some : 1 ≤ 2 ^ level = one-le-pow level 2 (lit< tt) in
         passed.latest level small ∙ ap (auth dig h) (last-reached i level (omega arith) within)
         ∙ sym (auths-at dig h i (suc i - 2 ^ level) (omega (arith, some)))
+
+    pub reached-next : (i : ℕ) (d : Digests) → HasPassed dig h i d → i + 1 ≤ LAST_STEP → AreReached (i + 1) (auths dig h i) d.latest
+    reached-next i d passed =
+        subst (λ n. n ≤ LAST_STEP → AreReached n (auths dig h i) d.latest) (sym (add-one i)) (HasPassed-reached i d passed)
 
     -- what is kept behind the next step, whose authenticator is put at its levels
     latest_next : (i : ℕ) (old new : Digests) (last : List ℕ) → HasPassed dig h i old → suc i ≤ LAST_STEP → last ≡ auth dig h (suc i)
@@ -206,6 +297,38 @@ module _ (dig : List ℕ → List ℕ) where
         record { tree_labels = forest_is; latest = latest_next i old new last is.passed is.few auth_is is.latest },
         record { event_root = is.event_root; archive_root = archive_is; datum = datum_is; labels = labels_are },
       )
+
+    -- the texts that passing the step hands on, but for those of its events
+    module _ (i : ℕ) (s : Step) (fresh : List Node) (old new : Digests) (d : StepDigests) (last : List ℕ) (is : PassesStep (suc i) i s fresh old new d last) where
+      datum_text_is : step_datum_text d.event_root d.archive_root (length (events_in s.content)) s.time ≡ datum_text_at dig h (suc i)
+      unfolding datum_text_at
+      datum_text_is =
+          λ k. step_datum_text (is.event_root k) (archive_is i s fresh old new d last is k) (length (events_are i s fresh old new d last is k)) (time_is i s fresh old new d last is k)
+
+      fresh_are : planted (entry_to h (suc i)) (forest h i) (map node_of fresh) ≡ new_trees h i
+      fresh_are = ap (λ (o : Option StepMeant). planted (entry_to h (suc i)) (forest h i) (fresh_of o)) (sym (same_step i s fresh old new d last is))
+
+      rest_is : (node_texts dig (planted (entry_to h (suc i)) (forest h i) (map node_of fresh))
+          ++ (step_datum_text d.event_root d.archive_root (length (events_in s.content)) s.time ∷ link_texts dig d.datum (auths dig h i) (suc i) (suc (top_level (suc i)))))
+          ++ authenticator_text (suc i) d.labels.items ∷ []
+          ≡ texts_of_rest dig h i
+      rest_is =
+          append_assoc (node_texts dig (planted (entry_to h (suc i)) (forest h i) (map node_of fresh))) _ (authenticator_text (suc i) d.labels.items ∷ [])
+          ∙ (λ k. node_texts dig (fresh_are k) ++ (datum_text_is k ∷ (link_texts dig (datum_is i s fresh old new d last is k) (auths dig h i) (suc i) (suc (top_level (suc i)))
+          ++ authenticator_text (suc i) (own_labels i s fresh old new d last is k) ∷ [])))
+
+    pub PassesStep-texts : (i : ℕ) (s : Step) (fresh : List Node) (old new : Digests) (d : StepDigests) (last : List ℕ)
+        → PassesStep (i + 1) i s fresh old new d last
+        → (node_texts dig (planted (entry_to h (i + 1)) (forest h i) (map node_of fresh))
+        ++ (step_datum_text d.event_root d.archive_root (length (events_in s.content)) s.time ∷ link_texts dig d.datum (auths dig h i) (i + 1) (suc (top_level (i + 1)))))
+        ++ authenticator_text (i + 1) d.labels.items ∷ []
+        ≡ texts_of_rest dig h i
+    PassesStep-texts i s fresh old new d last =
+        subst (λ n. PassesStep n i s fresh old new d last
+        → (node_texts dig (planted (entry_to h n) (forest h i) (map node_of fresh))
+        ++ (step_datum_text d.event_root d.archive_root (length (events_in s.content)) s.time ∷ link_texts dig d.datum (auths dig h i) n (suc (top_level n))))
+        ++ authenticator_text n d.labels.items ∷ []
+        ≡ texts_of_rest dig h i) (sym (add-one i)) (rest_is i s fresh old new d last)
 
     pub PassesStep-passes : (i : ℕ) (s : Step) (fresh : List Node) (old new : Digests) (d : StepDigests) (last : List ℕ)
         → PassesStep (i + 1) i s fresh old new d last → HasPassed dig h (i + 1) new × IsOfStep dig h (i + 1) d

@@ -1,14 +1,15 @@
 -- What a pass over the steps of a history keeps.
-use Rattle.std.specs.Prelude.{◌≡◌, ℕ, ◌-◌, ◌<◌, ◌≤◌, ◌^◌, ◌%◌, List, [], map, slice_index_or, Option, Some, None}
+use Rattle.std.specs.Prelude.{◌≡◌, ℕ, suc, ◌-◌, ◌<◌, ◌^◌, ◌%◌, List, [], ◌∷◌, ◌++◌, map, slice_index_or, Option, Some, None}
 use Rattle.tw_base.specs.declared.history.thread.Thread.{Thread}
-use Rattle.tw_base.specs.history.Auth.{auth, datum_text_at, tree_label}
+use Rattle.tw_base.specs.history.Auth.{auth, auth_text, auths, datum_text_at, link_texts_at, tree_label}
 use Rattle.tw_base.specs.events.EventTree.{event_root}
 use Rattle.tw_base.specs.history.History.{History, events_at}
-use Rattle.tw_base.specs.kinds.Levels.{top_level}
-use Rattle.tw_base.specs.history.Tree.{forest, tree}
+use Rattle.tw_base.specs.history.HistoryTexts.{node_texts, texts_to, top_texts}
+use Rattle.tw_base.specs.history.Tree.{Tree, forest, new_trees, tree}
 use Rattle.tw_skipproof.specs.HistoryProofs.{labels_at}
 use Rattle.tw_base.specs.declared.history.content.Content.{Content}
 use Rattle.tw_base.specs.declared.history.content.Content.TheVariants.{Events, Received}
+use Rattle.tw_transcript.specs.Handing.{Hands}
 use Rattle.tw_history.specs.declared.pass.Digests.{Digests}
 use Rattle.tw_history.specs.declared.step_digests.StepDigests.{StepDigests}
 
@@ -22,11 +23,21 @@ abbrev pub thread_in : Content → Option Thread
 thread_in (Events events) = None
 thread_in (Received t) = Some t
 
--- of each level the authenticator, among the earlier ones, that the step's link of that level leads to
-abbrev pub AreReached : (step : ℕ) (earlier latest : List (List ℕ)) → Type 0
-AreReached step earlier latest = (level : ℕ) → level ≤ top_level step → slice_index_or latest level [] ≡ slice_index_or earlier (step - 2 ^ level) []
+-- the label is the tree's, and the text of its root was handed on
+pub record IsTold (dig : List ℕ → List ℕ) {S : Type 0} (took : S → List (List ℕ) → Type 0) (old new : S) (label : List ℕ) (t : Tree) : Type 0 where
+  pub label_is : label ≡ tree_label dig t
+  pub took_top : Hands took old new (top_texts dig t)
 
 module _ (dig : List ℕ → List ℕ) (h : History) where
+  -- the texts of step i + 1 but for those of its events
+  abbrev pub texts_of_rest : ℕ → List (List ℕ)
+  texts_of_rest i =
+      node_texts dig (new_trees h i) ++ (datum_text_at dig h (suc i) ∷ (link_texts_at dig h (auths dig h i) (suc i) ++ auth_text dig h (auths dig h i) (suc i) ∷ []))
+
+  -- where a transcript had taken the history's texts up to step i behind any others, it has now taken those up to step j
+  pub record HandsOn {S : Type 0} (took : S → List (List ℕ) → Type 0) (old new : S) (i j : ℕ) : Type 0 where
+    pub behind : (before : List (List ℕ)) → took old (before ++ texts_to dig h i) → took new (before ++ texts_to dig h j)
+
   -- of the steps up to i: the labels of the trees of their nodes, by number; and of each level the authenticator of the
   -- last step, 0 included, that 2 ^ level divides
   pub record HasPassed (i : ℕ) (d : Digests) : Type 0 where

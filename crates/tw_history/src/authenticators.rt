@@ -5,9 +5,10 @@ ghost use Rattle.tw_base.specs.history.Auth.{auth};
 
 use crate::history::History;
 use crate::lookup::count_of_steps;
-use crate::pass::{auth_passed, begin, pass_steps};
+use crate::pass::{auth_passed, begin_pass, pass_steps};
 use std::alloc::Global;
 use tw_base::{Digest, Hasher, NoMemory};
+use tw_transcript::Unwritten;
 
 /// The authenticator of a step of the history, 0 for its beginning; None exactly where the step is
 /// above the last. Each text that it stands on is hashed once; the memory is linear in the history.
@@ -23,7 +24,8 @@ pub fn auth_of<H: Hasher>(
     if step > count_of_steps(history) {
         return Ok(None);
     }
-    let mut digests = begin::<H>(alloc, history)?;
-    pass_steps::<H>(history, 0, step, &mut digests)?;
+    let mut texts = Unwritten::<H>::new();
+    let mut digests = begin_pass(alloc, history, &mut texts)?;
+    pass_steps(history, 0, step, &mut digests, &mut texts)?;
     Ok(Some(auth_passed(&digests)))
 }

@@ -40,4 +40,11 @@ impl History {
     {
         History { name, steps, nodes }
     }
+
+    /// The service's name.
+    pub fn service(&self) -> &Name
+        ensures { result.now ≡ self.now.name }
+    {
+        &self.name
+    }
 }

@@ -21,6 +21,8 @@ pub use authenticators::auth_of;
 pub use fault::{HistoryFault, ShowFault};
 pub use history::History;
 pub use laws::history_laws;
+pub use lookup::count_of_steps;
+pub use pass::{Digests, auth_passed, begin_pass, pass_steps};
 pub use reading::read_history;
 pub use showing::show_event;
 pub use soundness::is_sound;

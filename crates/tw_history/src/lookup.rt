@@ -22,8 +22,8 @@ pub(crate) fn table_of(history: &History) -> (&[Step], &[Node])
     (history.steps.as_slice(), history.nodes.as_slice())
 }
 
-/// The number of steps.
-pub(crate) fn count_of_steps(history: &History) -> u64
+/// The number of the history's steps.
+pub fn count_of_steps(history: &History) -> u64
     ensures count { result ≡ length history.now.steps }
     ensures few { result ≤ LAST_STEP }
 {

@@ -6,11 +6,13 @@ ghost use Rattle.tw_history.specs.PassSteps.{HasPassed};
 ghost use Rattle.tw_base.specs.declared.kinds.limits.TheConstants.{LAST_STEP};
 
 use crate::history::History;
-use crate::pass::{Digests, event_root_behind, pass_step, pass_steps};
-use crate::step_digests::link_at;
+use crate::lookup::content_behind;
+use crate::pass::{Digests, pass_step, pass_steps};
+use crate::step_digests::{link_at, root_of_events};
 use std::alloc::Global;
 use tw_base::{Hasher, NoMemory, power_of_two};
 use tw_skipproof::{Link, LinkList, next_hop};
+use tw_transcript::Unwritten;
 
 /// The links of the path down from a step, in the order in which a pass comes by: from the lower
 /// step, which it has passed, upwards. A path has at most 80 links, and so many calls are open.
@@ -20,6 +22,7 @@ fn links_upwards<H: Hasher>(
     from: u64,
     to: u64,
     digests: &mut Digests,
+    texts: &mut Unwritten<H>,
 ) -> Result<Vec<Link>, NoMemory>
     requires order { to ≤ from }
     requires inside { from ≤ length history.now.steps }
@@ -33,10 +36,10 @@ fn links_upwards<H: Hasher>(
     }
     let level = next_hop(from, to);
     let below = from - power_of_two(level);
-    let mut links = links_upwards::<H>(alloc, history, below, to, digests)?;
-    pass_steps::<H>(history, below, from - 1, digests)?;
-    let event_root = event_root_behind::<H>(history, from - 1);
-    let passed = pass_step::<H>(history, from - 1, event_root, digests)?;
+    let mut links = links_upwards(alloc, history, below, to, digests, texts)?;
+    pass_steps(history, below, from - 1, digests, texts)?;
+    let event_root = root_of_events(content_behind(history, from - 1), texts);
+    let passed = pass_step(history, from - 1, event_root, digests, texts)?;
     let link = link_at(alloc, &passed, level)?;
     links.push(link)?;
     Ok(links)
@@ -50,6 +53,7 @@ pub(crate) fn path_links<H: Hasher>(
     from: u64,
     to: u64,
     digests: &mut Digests,
+    texts: &mut Unwritten<H>,
 ) -> Result<LinkList, NoMemory>
     requires order { to ≤ from }
     requires inside { from ≤ length history.now.steps }
@@ -57,7 +61,7 @@ pub(crate) fn path_links<H: Hasher>(
     requires passed { HasPassed H.dig history.now to digests.old }
     ensures { IfOk result (λ links. IsPathOf H.dig history.now links from to) }
 {
-    let mut links = links_upwards::<H>(alloc, history, from, to, digests)?;
+    let mut links = links_upwards(alloc, history, from, to, digests, texts)?;
     links.reverse();
     Ok(LinkList::from_vec(links))
 }

@@ -19,13 +19,14 @@ ghost use Rattle.tw_base.specs.declared.kinds.limits.TheConstants.{LAST_STEP, MO
 use crate::fault::ShowFault;
 use crate::history::History;
 use crate::lookup::{content_at, content_behind, count_of_steps, time_behind};
-use crate::pass::{Digests, auth_passed, begin, pass_step, pass_steps};
+use crate::pass::{Digests, auth_passed, begin_pass, pass_step, pass_steps};
 use crate::path_links::path_links;
 use crate::step_digests::{count_of_events, opening_with};
 use std::alloc::Global;
 use tw_base::{Bytes, Content, Digest, Hasher, NoMemory};
 use tw_events::{event_part, root_over};
 use tw_skipproof::{ExistenceProof, Opening, Part, Path, write_existence};
+use tw_transcript::Unwritten;
 
 /// The events of the content, where one has this index; else how many there are.
 fn events_having(content: &Content, index: u32) -> Result<&[Bytes], u32>
@@ -72,6 +73,7 @@ fn opening_of<H: Hasher>(
     step: u64,
     event_root: Digest,
     digests: &mut Digests,
+    texts: &mut Unwritten<H>,
 ) -> Result<Opening, NoMemory>
     requires from_1 { 0 < step }
     requires inside { step ≤ length history.now.steps }
@@ -81,9 +83,9 @@ fn opening_of<H: Hasher>(
     ensures time { IfOk result (λ opening. IsTimeWithinLimits opening.time) }
     ensures passed { OnOk result (HasPassed H.dig history.now step digests.new) }
 {
-    pass_steps::<H>(history, 0, step - 1, digests)?;
+    pass_steps(history, 0, step - 1, digests, texts)?;
     let prev = auth_passed(digests);
-    let passed = pass_step::<H>(history, step - 1, event_root, digests)?;
+    let passed = pass_step(history, step - 1, event_root, digests, texts)?;
     let count = count_of_events(content_behind(history, step - 1));
     let time = time_behind(history, step - 1);
     opening_with(alloc, &passed, count, time, prev)
@@ -104,9 +106,10 @@ fn part_of<H: Hasher>(
     ensures few { OnOk result (length history.now.steps ≤ LAST_STEP) }
 {
     let top = count_of_steps(history);
-    let mut digests = begin::<H>(alloc, history)?;
-    let opening = opening_of::<H>(alloc, history, step, event_root, &mut digests)?;
-    let links = path_links::<H>(alloc, history, top, step, &mut digests)?;
+    let mut texts = Unwritten::<H>::new();
+    let mut digests = begin_pass(alloc, history, &mut texts)?;
+    let opening = opening_of(alloc, history, step, event_root, &mut digests, &mut texts)?;
+    let links = path_links(alloc, history, top, step, &mut digests, &mut texts)?;
     Ok(Part {
         service: history.name,
         step,

@@ -1,21 +1,21 @@
 // The digests that the authenticator of a step is made of.
 
-ghost use Rattle.std.specs.Prelude.{◌≡◌, ℕ, suc, ◌+◌, ◌<◌, ◌≤◌, List, [], drop, length, map, remove, slice_index_or, IfOk};
+ghost use Rattle.std.specs.Prelude.{◌≡◌, ℕ, suc, ◌<◌, ◌≤◌, List, ◌∷◌, drop, length, map, remove, IfOk};
 ghost use Rattle.tw_base.specs.history.Auth.{link_texts};
-ghost use Rattle.tw_base.specs.events.EventTree.{event_root as event_root_of};
+ghost use Rattle.tw_base.specs.events.EventTree.{event_root as event_root_of, event_texts};
 ghost use Rattle.tw_base.specs.kinds.Levels.{top_level as top_level_of};
 ghost use Rattle.tw_base.specs.kinds.Texts.{step_datum_text};
 ghost use Rattle.tw_history.specs.Tables.{IsInRange};
-ghost use Rattle.tw_history.specs.PassSteps.{AreReached, events_in};
+ghost use Rattle.tw_history.specs.PassSteps.{events_in};
 ghost use Rattle.tw_base.specs.declared.kinds.limits.TheConstants.{LAST_STEP};
+ghost use Rattle.tw_transcript.specs.Handing.{Hands};
+ghost use Rattle.tw_transcript.specs.Links.{AreReached};
 
 use arrayvec::ArrayVec;
 use std::alloc::Global;
-use tw_base::{
-    Content, Digest, Hasher, Labels, NoMemory, link_label, no_events, step_datum, top_level,
-};
-use tw_events::event_root;
+use tw_base::{Content, Digest, Labels, NoMemory};
 use tw_skipproof::{Link, Opening};
+use tw_transcript::{Transcript, event_root, link_labels, no_events, step_datum};
 
 /// The digests that the authenticator of a step is made of: the root of its events, the label of
 /// its archive, its datum, and the labels of its links from level 0 on.
@@ -28,13 +28,14 @@ pub(crate) struct StepDigests {
 }
 
 /// The root of the content's events.
-pub(crate) fn root_of_events<H: Hasher>(content: &Content) -> Digest
+pub(crate) fn root_of_events<T: Transcript>(content: &Content, texts: &mut T) -> Digest
     requires { IsInRange content.now }
-    ensures { result ≡ event_root_of H.dig (events_in content.now) }
+    ensures root { result ≡ event_root_of T.dig (events_in content.now) }
+    ensures took { Hands T.took texts.old texts.new (event_texts T.dig (events_in content.now)) }
 {
     match content {
-        Content::Events(events) => event_root::<H>(events.as_slice()),
-        Content::Received(_) => no_events::<H>(),
+        Content::Events(events) => event_root(events.as_slice(), texts),
+        Content::Received(_) => no_events(texts),
     }
 }
 
@@ -49,53 +50,29 @@ pub(crate) fn count_of_events(content: &Content) -> u32
     }
 }
 
-/// The authenticator that is kept at this level.
-pub(crate) fn at_level(latest: &[Digest; 40], level: u8) -> &Digest
-    requires { level < 40 }
-    ensures { result.now ≡ slice_index_or latest.now level [] }
-{
-    &latest[level as usize]
-}
-
-/// The labels of the step's links from level 0 on, over the authenticators that they lead to.
-pub(crate) fn link_labels<H: Hasher>(
-    step: u64,
-    datum: &Digest,
-    latest: &[Digest; 40],
-) -> ArrayVec<Digest, 40>
-    requires from_1 { 0 < step }
-    requires step { step ≤ LAST_STEP }
-    ensures { (earlier : List (List ℕ)) → AreReached step earlier latest.now →
-        result.items ≡ map H.dig (link_texts H.dig datum.now earlier step (suc (top_level_of step))) }
-{
-    let mut labels: ArrayVec<Digest, 40> = ArrayVec::new();
-    for level in 0..top_level(step) + 1 {
-        let label = link_label::<H>(step, level, datum, at_level(latest, level));
-        labels.push(label);
-    }
-    labels
-}
-
 /// The digests of a step with this root and count of events, this label of its archive and this time,
 /// if any, over the authenticators that its links lead to.
-pub(crate) fn digests_of_step<H: Hasher>(
+pub(crate) fn digests_of_step<T: Transcript>(
     step: u64,
     event_root: Digest,
     archive_root: Digest,
     count: u32,
     time: Option<u64>,
     latest: &[Digest; 40],
+    texts: &mut T,
 ) -> StepDigests
     requires from_1 { 0 < step }
     requires step { step ≤ LAST_STEP }
     ensures event_root { result.event_root ≡ event_root }
     ensures archive_root { result.archive_root ≡ archive_root }
-    ensures datum { result.datum ≡ H.dig (step_datum_text result.event_root result.archive_root count time) }
+    ensures datum { result.datum ≡ T.dig (step_datum_text result.event_root result.archive_root count time) }
     ensures labels { (earlier : List (List ℕ)) → AreReached step earlier latest.now →
-        result.labels.items ≡ map H.dig (link_texts H.dig result.datum earlier step (suc (top_level_of step))) }
+        result.labels.items ≡ map T.dig (link_texts T.dig result.datum earlier step (suc (top_level_of step))) }
+    ensures took { (earlier : List (List ℕ)) → AreReached step earlier latest.now → Hands T.took texts.old texts.new
+        (step_datum_text result.event_root result.archive_root count time ∷ link_texts T.dig result.datum earlier step (suc (top_level_of step))) }
 {
-    let datum = step_datum::<H>(&event_root, &archive_root, count, time);
-    let labels = link_labels::<H>(step, &datum, latest);
+    let datum = step_datum(&event_root, &archive_root, count, time, texts);
+    let labels = link_labels(step, &datum, latest, texts);
     StepDigests {
         event_root,
         archive_root,

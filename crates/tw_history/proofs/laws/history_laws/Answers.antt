@@ -4,11 +4,8 @@ use Rattle.tw_base.proofs.lemmas.history.HistoryCodecLaws.{history-lawful}
 use Rattle.tw_history.proofs.SoundFiles.{sound_spelled}
 use Rattle.tw_history.proofs.laws.history_laws.Goals as goal
 
-pub returns-clause-written : goal.returns-clause-written
-returns-clause-written c = (unambiguous history_codec history-lawful).written
-
-pub returns-clause-one : goal.returns-clause-one
-returns-clause-one c = (unambiguous history_codec history-lawful).one_spelling
+pub returns-clause-format : goal.returns-clause-format
+returns-clause-format c = unambiguous history_codec history-lawful
 
 pub returns-clause-spelled : goal.returns-clause-spelled
 returns-clause-spelled c = sound_spelled

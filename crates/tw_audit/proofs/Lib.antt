@@ -1,0 +1,12 @@
+pub mod PairLaws
+pub mod Knowing
+pub mod DigestWords
+pub mod TableLaws
+pub mod ShapeLaws
+pub mod CheckTexts
+pub mod Agreeing
+pub mod AnswerLaws
+pub mod HoldingLaws
+pub mod LoopLaws
+pub mod StopLaws
+pub mod ClimbLaws

@@ -1,0 +1,19 @@
+use Rattle.std.proofs.Common.{◌≡◌, ◌<◌, ◌≤◌, ℕ, List, subst}
+use Rattle.tw_base.specs.declared.history.thread.Thread.{Thread}
+use Rattle.tw_base.specs.kinds.Lists.{Each}
+use Rattle.tw_audit.proofs.StopLaws.{handed-on, stops-more}
+use Rattle.tw_audit.proofs.passing.pass_to_end.Goals as goal
+
+pub loop-at-preserved : goal.loop-at-preserved
+loop-at-preserved g c =
+    let h = c.args.history.now in
+    let next = c.next_stop-next.result in
+    record {
+      inside = c.next_stop-next.ensures.within;
+      passed = c.in_ok-pass_steps.ensures.passed;
+      stops = stops-more g.T.Transcript.dig h c.args.held.now c.loop-at.stops.items c.push.new.self.items c.loop-at.at next c.auth_passed.result c.loop-at.invariant.stops
+          c.next_stop-next.ensures.beyond (c.auth_passed.ensures g.T.Transcript.dig h next c.in_ok-pass_steps.ensures.passed)
+          (subst (λ (name : List ℕ). Each (λ (t : Thread). t.from ≡ name → t.step < next → t.step ≤ c.loop-at.at) c.args.held.now) c.service.ensures c.next_stop-next.ensures.between)
+          c.in_ok-push.ensures.items;
+      took = handed-on g.T.Transcript.dig h g.T.Transcript.took _ _ _ 0 c.loop-at.at next c.loop-at.invariant.took c.in_ok-pass_steps.ensures.took;
+    }

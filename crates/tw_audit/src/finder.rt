@@ -1,0 +1,59 @@
+// A transcript that finds the first text whose digest an earlier different one has.
+
+ghost use Rattle.std.specs.Prelude.{◌≡◌, ℕ, List, [], ◌∷◌, ◌++◌, IfOk};
+ghost use Rattle.std.specs.Option.{option_map};
+ghost use Rattle.tw_base.specs.kinds.Clash.{clash_pair};
+ghost use Rattle.tw_audit.specs.declared.table.TextPair.{TextPair as TextPairMeant};
+ghost use Rattle.tw_audit.specs.Tables.{Took};
+
+use crate::table::{Table, TextPair};
+use std::alloc::Global;
+use std::marker::PhantomData;
+use tw_base::{Digest, Hasher, NoMemory};
+use tw_transcript::Transcript;
+
+/// A transcript that keeps each text once, by its digest.
+#[derive(Drop)]
+pub(crate) struct Finder<H> {
+    pub(crate) table: Table,
+    pub(crate) hasher: PhantomData<H>,
+}
+
+impl<H: Hasher> Transcript for Finder<H> {
+    ghost use Rattle.tw_audit.specs.Tables.{Took};
+
+    ghost dig = { H.dig };
+
+    ghost took = { λ finder texts. Took H.dig finder.table texts };
+
+    fn digest(&mut self, text: &[u8]) -> Digest {
+        let digest = H::digest(text);
+        self.table.take(&digest, text);
+        digest
+    }
+
+    ghost size = { H.size };
+
+    ghost bytes = { H.bytes };
+}
+
+impl<H: Hasher> Finder<H> {
+    /// A finder that took no text. Takes no memory.
+    pub(crate) fn new(alloc: Global) -> Self
+        ensures { Took H.dig result.table [] }
+    {
+        Finder {
+            table: Table::new(alloc),
+            hasher: PhantomData,
+        }
+    }
+
+    /// The pair of the texts that were taken, if two of them clash; `NoMemory` where there was none for one of
+    /// them, or for the pair.
+    pub(crate) fn into_pair(self, alloc: Global) -> Result<Option<TextPair>, NoMemory>
+        ensures { IfOk result (λ pair. (texts : List (List ℕ)) → Took H.dig self.table texts →
+            option_map (λ (p : TextPairMeant). record { one = p.one; other = p.other }) pair ≡ clash_pair H.dig texts) }
+    {
+        self.table.into_pair(alloc)
+    }
+}

@@ -1,0 +1,190 @@
+// Holding a proof against histories.
+
+ghost use Rattle.std.specs.Prelude.{◌≡◌, List, false, IfOk, OnOk};
+ghost use Rattle.std.specs.Option.{option_map};
+ghost use Rattle.tw_base.specs.format.Formats.{Spells};
+ghost use Rattle.tw_base.specs.declared.history.thread.Thread.{Thread as ThreadMeant};
+ghost use Rattle.tw_base.specs.history.Family.{AllSound, family_texts};
+ghost use Rattle.tw_base.specs.history.History.{History as HistoryMeant};
+ghost use Rattle.tw_base.specs.kinds.Lists.{Each};
+ghost use Rattle.tw_chain.specs.declared.proof.Proof.{Proof as ProofMeant};
+ghost use Rattle.tw_chain.specs.Accepting.{held, report_of};
+ghost use Rattle.tw_chain.specs.Checks.{checks};
+ghost use Rattle.tw_chain.specs.Proofs.{proof_layout};
+ghost use Rattle.tw_chain.specs.Reasons.{IsVerdict};
+ghost use Rattle.tw_audit.specs.Answers.{AnswerMeans};
+ghost use Rattle.tw_audit.specs.Auditing.{IsAnswer, IsAudit, of_pair};
+ghost use Rattle.tw_audit.specs.Shapes.{IsShaped};
+ghost use Rattle.tw_audit.specs.Stops.{missing_in};
+ghost use Rattle.tw_audit.specs.Tables.{Took};
+ghost use Rattle.tw_audit.specs.declared.table.TextPair.{TextPair as TextPairMeant};
+ghost use Rattle.tw_transcript.specs.Handing.{Hands};
+
+use crate::finder::Finder;
+use crate::finding::{AuditFault, Finding};
+use crate::held::held_threads;
+use crate::passing::{Missing, first_missing, pass_histories};
+use crate::proofs::hash_proof;
+use crate::table::TextPair;
+use std::alloc::Global;
+use tw_base::{Hasher, NoMemory, Report, Thread};
+use tw_chain::{Proof, Verdict, read_proof};
+use tw_history::History;
+use tw_transcript::Transcript;
+use tw_verifier::verify;
+
+/// The first of the threads held of the proof that the histories don't have, whose texts are handed on.
+fn missing_of<T: Transcript>(
+    alloc: Global,
+    proof: &Proof,
+    anchors: &[Thread],
+    histories: &[History],
+    texts: &mut T,
+) -> Result<Option<Missing>, NoMemory>
+    ensures missing { IfOk result (λ missing. missing ≡ missing_in T.dig histories.now (held anchors.now proof.now)) }
+    ensures took { OnOk result (Hands T.took texts.old texts.new (family_texts T.dig histories.now)) }
+{
+    let held = held_threads(alloc, proof, anchors)?;
+    let passed = pass_histories(alloc, histories, held.as_slice(), texts)?;
+    Ok(first_missing(held.as_slice(), passed.as_slice()))
+}
+
+/// What is found of the pair of all texts, where the histories have the threads held.
+fn found<H: Hasher>(report: Report, pair: Option<TextPair>) -> Finding
+    ensures { result ≡ of_pair H.dig report (option_map (λ (p : TextPairMeant). record { one = p.one; other = p.other }) pair) }
+{
+    match pair {
+        None => Finding::Stands(report),
+        Some(TextPair { one, other }) => {
+            drop(report);
+            let digest = H::digest(one.as_slice());
+            Finding::Clash { one, other, digest }
+        }
+    }
+}
+
+/// What is found once the histories were passed: the first thread held that they don't have, or what the
+/// texts of the histories and of the proof come to.
+fn judge<H: Hasher>(
+    alloc: Global,
+    proof: &Proof,
+    report: Report,
+    missing: Option<Missing>,
+    finder: Finder<H>,
+) -> Result<Finding, AuditFault>
+    requires { Each IsShaped (checks proof.now) }
+    ensures { (family : List HistoryMeant) (anchors : List ThreadMeant) → report ≡ report_of proof.now → missing ≡ missing_in H.dig family (held anchors proof.now) →
+        Took H.dig finder.table (family_texts H.dig family) → IsAnswer H.dig family anchors proof.now result }
+{
+    if let Some(Missing { held, found }) = missing {
+        drop(report);
+        drop(finder);
+        return Err(AuditFault::NotHeld { held, found });
+    }
+    let mut finder = finder;
+    hash_proof(proof, &mut finder);
+    match finder.into_pair(alloc) {
+        Ok(pair) => Ok(found::<H>(report, pair)),
+        Err(NoMemory) => {
+            drop(report);
+            Err(AuditFault::NoMemory)
+        }
+    }
+}
+
+/// Holds an accepted proof with this report against the histories.
+fn hold<H: Hasher>(
+    alloc: Global,
+    proof: &Proof,
+    report: Report,
+    anchors: &[Thread],
+    histories: &[History],
+) -> Result<Finding, AuditFault>
+    requires { Each IsShaped (checks proof.now) }
+    ensures { report ≡ report_of proof.now → IsAnswer H.dig histories.now anchors.now proof.now result }
+{
+    let mut finder = Finder::<H>::new(alloc);
+    match missing_of(alloc, proof, anchors, histories, &mut finder) {
+        Ok(missing) => judge(alloc, proof, report, missing, finder),
+        Err(NoMemory) => {
+            drop(report);
+            drop(finder);
+            Err(AuditFault::NoMemory)
+        }
+    }
+}
+
+/// Holds the bytes of an accepted proof with this report against the histories.
+fn hold_bytes<H: Hasher>(
+    alloc: Global,
+    bytes: &[u8],
+    report: Report,
+    anchors: &[Thread],
+    histories: &[History],
+) -> Result<Finding, AuditFault>
+    ensures { (p : ProofMeant) → Spells proof_layout bytes.now p → report ≡ report_of p → IsAnswer H.dig histories.now anchors.now p result }
+{
+    match read_proof(alloc, bytes) {
+        Ok(proof) => hold::<H>(alloc, &proof, report, anchors, histories),
+        // Bytes that spell a proof are read, but for want of memory.
+        Err(_) => {
+            drop(report);
+            Err(AuditFault::NoMemory)
+        }
+    }
+}
+
+/// What is found when the verdict on a proof's bytes under the anchors, not in the strict form, is held
+/// against the histories: `NotAccepted` with the verdict's reason where it is No; else `NotHeld` with the
+/// first of the threads held (the anchors that the proof names, and the threads that it carries, in the
+/// order of its bytes) that the histories don't have; else the first clash of the texts of the histories,
+/// in their order, and of the proof; else that the report stands. Of several histories of one service the
+/// first counts for threads and claims, and all of them for the texts.
+///
+/// Each text is hashed once, and kept once; measured, time and memory grow with the number of the texts and
+/// their bytes.
+pub fn audit_judged<H: Hasher>(
+    alloc: Global,
+    bytes: &[u8],
+    verdict: Verdict,
+    anchors: &[Thread],
+    histories: &[History],
+) -> Result<Finding, AuditFault>
+    requires { IsVerdict H.dig anchors.now false bytes.now verdict }
+    // An audit with a verdict at hand answers what an audit of the bytes answers.
+    ensures answer { IsAudit H.dig histories.now anchors.now bytes.now result }
+{
+    match verdict {
+        Verdict::No(reason) => Ok(Finding::NotAccepted(reason)),
+        Verdict::Yes(report) => hold_bytes::<H>(alloc, bytes, report, anchors, histories),
+    }
+}
+
+/// What is found when the bytes of a proof are judged under the anchors and held against the histories.
+/// `NotAccepted` exactly where the verdict isn't Yes, with its reason; else `NotHeld` exactly where the
+/// histories lack a thread held, with the first that they lack; else `Clash` exactly where two different
+/// texts of the histories and of the proof have one digest, with the first such pair; else `Stands`, so
+/// that what the report claims is so of the histories where they are sound. Of several histories of one
+/// service the first counts for threads and claims, and all of them for the texts.
+///
+/// The texts of the proof are hashed for the verdict and once more beside those of the histories.
+pub fn audit<H: Hasher>(
+    alloc: Global,
+    bytes: &[u8],
+    anchors: &[Thread],
+    histories: &[History],
+) -> Result<Finding, AuditFault>
+    // An audit answers that the bytes aren't accepted, by the verdict's reason; else the first thread held that the
+    // histories don't have, and what they have there; else the first clash of the texts of the histories and of the
+    // proof; else that the proof's report stands.
+    ensures answer { IsAudit H.dig histories.now anchors.now bytes.now result }
+    // Where the histories are sound and the bytes spell a proof, its answer is so: the bytes aren't accepted; or the first of the
+    // threads held that the histories lack; or two of the texts of the histories and the proof that differ and have the
+    // digest; or the report stands, so that what it claims is so of the histories, and no two of the texts clash.
+    ensures means { AllSound histories.now → (p : ProofMeant) → Spells proof_layout bytes.now p → AnswerMeans H.dig histories.now anchors.now p result }
+{
+    match verify::<H>(alloc, bytes, anchors, false) {
+        Ok(verdict) => audit_judged::<H>(alloc, bytes, verdict, anchors, histories),
+        Err(NoMemory) => Err(AuditFault::NoMemory),
+    }
+}

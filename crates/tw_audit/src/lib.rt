@@ -1,0 +1,20 @@
+//! Audits: a proof held against histories, which shows that what it claims is so of them, or two different texts with one digest, or
+//! why it can't be held against them.
+#![tactic(auto)]
+
+mod event_parts;
+mod finder;
+mod finding;
+mod held;
+mod holding;
+mod laws;
+mod openings;
+mod passing;
+mod paths;
+mod proofs;
+mod table;
+mod tree_proofs;
+
+pub use finding::{AuditFault, Finding};
+pub use holding::{audit, audit_judged};
+pub use laws::audit_laws;

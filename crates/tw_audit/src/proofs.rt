@@ -1,0 +1,143 @@
+// What checking a proof hashes, in the order of its bytes.
+
+ghost use Rattle.std.specs.Prelude.{◌≡◌, ◌<◌, length, IfSome};
+ghost use Rattle.std.specs.List.{flat_map};
+ghost use Rattle.tw_base.specs.kinds.Lists.{Each};
+ghost use Rattle.tw_chain.specs.declared.proof.Proof.TheVariants.{Absent, Archived, Exists, Precedes};
+ghost use Rattle.tw_chain.specs.Accepting.{proof_texts};
+ghost use Rattle.tw_chain.specs.Checks.{checks, end_of};
+ghost use Rattle.tw_audit.specs.PieceTexts.{bind_texts, hop_texts, opened_texts, seen_texts};
+ghost use Rattle.tw_audit.specs.Shapes.{IsEventShaped, IsHopShaped, IsPartShaped, IsShaped};
+ghost use Rattle.tw_transcript.specs.Handing.{Hands};
+
+use crate::event_parts::hash_event;
+use crate::openings::hash_opening;
+use crate::paths::{hash_part, hash_path};
+use crate::tree_proofs::hash_answer;
+use tw_base::{Ask, EventPart};
+use tw_chain::{AbsenceProof, HopPart, PrecedenceProof, Proof, ThreadProof};
+use tw_skipproof::{ExistenceProof, Opening, Part};
+use tw_transcript::Transcript;
+
+/// Hands on the texts of a step under its top, and then those of one of its events.
+fn hash_seen<T: Transcript>(at: &Part, event: &EventPart, texts: &mut T)
+    requires part { IsPartShaped at.now }
+    requires event { IsEventShaped at.now.opening.count event.now }
+    ensures { Hands T.took texts.old texts.new (seen_texts T.dig at.now event.now) }
+{
+    hash_part(at.step, at.top, &at.path, &at.opening, texts);
+    hash_event(at.opening.count, event, texts);
+}
+
+/// Hands on the texts of a proof of an event.
+fn hash_existence<T: Transcript>(proof: &ExistenceProof, texts: &mut T)
+    requires { Each IsShaped (checks (Exists proof.now)) }
+    ensures { Hands T.took texts.old texts.new (proof_texts T.dig (Exists proof.now)) }
+{
+    hash_seen(&proof.at, &proof.event, texts);
+}
+
+/// Hands on the texts of a proof that a thread was received.
+fn hash_archived<T: Transcript>(proof: &ThreadProof, texts: &mut T)
+    requires { Each IsShaped (checks (Archived proof.now)) }
+    ensures { Hands T.took texts.old texts.new (proof_texts T.dig (Archived proof.now)) }
+{
+    let at = &proof.at;
+    hash_part(at.step, at.top, &at.path, &at.opening, texts);
+    hash_answer(&Ask::Present(proof.entry), &proof.shown, texts);
+}
+
+/// Hands on the texts of a proof that no thread of a key was received.
+fn hash_absence<T: Transcript>(proof: &AbsenceProof, texts: &mut T)
+    requires { Each IsShaped (checks (Absent proof.now)) }
+    ensures { Hands T.took texts.old texts.new (proof_texts T.dig (Absent proof.now)) }
+{
+    let at = &proof.at;
+    hash_part(at.step, at.top, &at.path, &at.opening, texts);
+    hash_answer(&Ask::Absent(proof.key), &proof.shown, texts);
+}
+
+/// Hands on the texts of the opening of a step, where there is one.
+fn hash_opened<T: Transcript>(step: u64, opening: &Option<Opening>, texts: &mut T)
+    requires { IfSome opening.now (λ o. length o.others < 40) }
+    ensures { Hands T.took texts.old texts.new (opened_texts T.dig step opening.now) }
+{
+    match opening {
+        None => {}
+        Some(opening) => {
+            hash_opening(step, opening, texts);
+        }
+    }
+}
+
+/// Hands on the texts of the path from a hop's bind down to its thread's step, where the thread is bound.
+fn hash_bind<T: Transcript>(hop: &HopPart, texts: &mut T)
+    requires { IsHopShaped hop.now }
+    ensures { Hands T.took texts.old texts.new (bind_texts T.dig hop.now) }
+{
+    if hop.bind == 0 {
+        return;
+    }
+    let thread = &hop.entry.thread;
+    hash_path(&hop.link, hop.bind, thread.step, &thread.auth, texts);
+}
+
+/// Hands on the texts of a hop.
+fn hash_hop<T: Transcript>(hop: &HopPart, texts: &mut T)
+    requires { IsHopShaped hop.now }
+    ensures { Hands T.took texts.old texts.new (hop_texts T.dig hop.now) }
+{
+    hash_answer(&Ask::Present(hop.entry), &hop.shown, texts);
+    hash_bind(hop, texts);
+    hash_opened(hop.entry.thread.step, &hop.opening, texts);
+}
+
+/// Hands on the texts of hops, one after another.
+fn hash_hops<T: Transcript>(hops: &[HopPart], texts: &mut T)
+    requires { Each IsHopShaped hops.now }
+    ensures { Hands T.took texts.old texts.new (flat_map (hop_texts T.dig) hops.now) }
+{
+    for hop in hops {
+        hash_hop(hop, texts);
+    }
+}
+
+/// The step to which the hops come from the second event's.
+fn end_step(proof: &PrecedenceProof) -> u64
+    ensures { result ≡ (end_of proof.now).step }
+{
+    match proof.hops.as_slice().last() {
+        None => proof.head.step.saturating_sub(1),
+        Some(hop) => hop.entry.thread.step,
+    }
+}
+
+/// Hands on the texts of a proof from event to event: the second event's, those of the step before it, the
+/// hops', and the first event's.
+fn hash_precedence<T: Transcript>(proof: &PrecedenceProof, texts: &mut T)
+    requires { Each IsShaped (checks (Precedes proof.now)) }
+    ensures { Hands T.took texts.old texts.new (proof_texts T.dig (Precedes proof.now)) }
+{
+    hash_seen(&proof.head, &proof.event, texts);
+    hash_opened(proof.head.step.saturating_sub(1), &proof.before, texts);
+    hash_hops(proof.hops.as_slice(), texts);
+    let tail = &proof.tail;
+    hash_part(tail.step, end_step(proof), &tail.path, &tail.opening, texts);
+    hash_event(tail.opening.count, &tail.event, texts);
+}
+
+/// Hands on what checking the proof hashes, in the order of its bytes.
+pub(crate) fn hash_proof<T: Transcript>(proof: &Proof, texts: &mut T)
+    requires { Each IsShaped (checks proof.now) }
+    ensures { Hands T.took texts.old texts.new (proof_texts T.dig proof.now) }
+{
+    match proof {
+        Proof::Exists(proof) => hash_existence(proof, texts),
+        Proof::Precedes(proof) => hash_precedence(proof, texts),
+        Proof::Archived(proof) => hash_archived(proof, texts),
+        Proof::Absent(proof) => hash_absence(proof, texts),
+        Proof::Linked(proof) => {
+            hash_path(&proof.path, proof.top, proof.step, &proof.auth, texts)
+        }
+    }
+}

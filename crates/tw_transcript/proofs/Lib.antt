@@ -1,0 +1,3 @@
+pub mod HandedTexts
+pub mod EventTexts
+pub mod LinkLabels
