@@ -1,0 +1,14 @@
+pub mod Hops
+pub mod Leastness
+pub mod HopOrder
+pub mod RoundLaws
+pub mod MarkLaws
+pub mod RoundSteps
+pub mod StopOrder
+pub mod ArrivalLaws
+pub mod ArrivalSteps
+pub mod EndsLaws
+pub mod CheckLaws
+pub mod Planned
+pub mod ReceiptLaws
+pub mod ReceiptFileLaws

@@ -1,0 +1,11 @@
+pub mod Reaching
+pub mod Atlases
+pub mod Rounds
+pub mod Earliest
+pub mod Marking
+pub mod BestSoFar
+pub mod HopEnds
+pub mod Checks
+pub mod AtlasTexts
+pub mod ReceiptFiles
+pub mod ReceiptSteps
