@@ -14,6 +14,8 @@ mod histories;
 #[cfg(test)]
 mod labels;
 #[cfg(test)]
+mod messages;
+#[cfg(test)]
 mod names;
 #[cfg(test)]
 mod openings;

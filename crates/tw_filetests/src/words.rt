@@ -4,9 +4,10 @@ use std::alloc::Global;
 use std::test::Fail;
 use tw_base::{Bytes, Claim, Digest, HopList, Name, Place, Reason, Report, Seen, Thread, Threads};
 use tw_text::{
-    Command, Field, FieldList, WordFault, anchor_line, fault_disk, print_gap, print_line,
-    print_rejected, print_report, print_usage, read_words,
+    Field, FieldList, anchor_line, fault_disk, print_gap, print_line, print_rejected, print_report,
+    print_usage,
 };
+use tw_words::{Command, WordFault, read_words};
 
 /// The words of a line, with one blank between.
 fn words(alloc: Global, line: &str) -> Result<Vec<String>, Fail> {

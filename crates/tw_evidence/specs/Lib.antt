@@ -1,0 +1,5 @@
+pub mod Evidence
+pub mod Forks
+pub mod Binding
+pub mod Accusing
+pub mod Texts

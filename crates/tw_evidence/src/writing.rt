@@ -1,0 +1,52 @@
+// Writing evidence of a fork.
+#![tactic(auto, unfolding(crate::specs::Evidence::evidence_codec, crate::specs::Evidence::thread_proof_codec, tw_base::specs::format::Codecs::behind, tw_base::specs::format::Codecs::bytes_codec, tw_base::specs::format::Codecs::each, tw_base::specs::format::Codecs::name_codec, tw_base::specs::format::Codecs::number_codec, tw_base::specs::format::Codecs::pair, tw_base::specs::format::Codecs::seen, tw_base::specs::format::Codecs::text_codec, tw_chain::specs::Proofs::thread_body, tw_skipproof::specs::Codecs::part_bytes, tw_skipproof::specs::Codecs::path_bytes, tw_skipproof::specs::Codecs::path_codec))]
+
+ghost use Rattle.std.specs.Prelude.{◌≡◌, ◌++◌, IfOk, OnOk};
+ghost use Rattle.tw_base.specs.format.Formats.{Spells};
+ghost use Rattle.tw_evidence.specs.Evidence.{evidence_bytes, evidence_codec, evidence_layout, thread_proof_codec};
+
+use crate::evidence::Evidence;
+use crate::reading::{EVIDENCE_MAGIC, THREAD_MAGIC};
+use std::alloc::Global;
+use tw_base::{Bytes, NoMemory, put_digest, put_entry, put_text};
+use tw_chain::ThreadProof;
+use tw_skipproof::{put_part, put_path};
+use tw_treeproof::put_present;
+
+/// Appends the proof of a received thread.
+fn put_thread_proof(into: &mut Bytes, proof: &ThreadProof) -> Result<(), NoMemory>
+    ensures { OnOk result (into.new ≡ into.old ++ thread_proof_codec.write proof.now) }
+{
+    put_text(into, &THREAD_MAGIC)?;
+    put_part(into, &proof.at)?;
+    put_entry(into, &proof.entry)?;
+    put_present(into, &proof.shown)?;
+    Ok(())
+}
+
+/// Appends the evidence.
+fn put_evidence(into: &mut Bytes, evidence: &Evidence) -> Result<(), NoMemory>
+    ensures { OnOk result (into.new ≡ into.old ++ evidence_bytes evidence.now) }
+{
+    put_text(into, &EVIDENCE_MAGIC)?;
+    put_thread_proof(into, &evidence.first)?;
+    put_thread_proof(into, &evidence.second)?;
+    put_digest(into, &evidence.bottom)?;
+    put_path(into, &evidence.link)?;
+    Ok(())
+}
+
+/// The bytes of the evidence: the four bytes `TWV1`, both proofs, the bottom, and the path. They spell it
+/// where both proofs have a spelling, and the path the links of the greedy path between their threads'
+/// steps.
+#[tactic(auto)]
+pub fn write_evidence(alloc: Global, evidence: &Evidence) -> Result<Bytes, NoMemory>
+    // What is written of evidence is its bytes in the format.
+    ensures bytes { IfOk result (λ bytes. bytes ≡ evidence_bytes evidence.now) }
+    // The bytes that are written spell the evidence, where it has a spelling.
+    ensures spelled { IfOk result (λ bytes. evidence_codec.Fits evidence.now → Spells evidence_layout bytes evidence.now) }
+{
+    let mut bytes = Bytes::new(alloc);
+    put_evidence(&mut bytes, evidence)?;
+    Ok(bytes)
+}

@@ -1,0 +1,6 @@
+pub mod MapFiles
+pub mod Bounds
+pub mod Checking
+pub mod Binding
+pub mod OwnFiles
+pub mod Texts
