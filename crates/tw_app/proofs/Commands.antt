@@ -8,9 +8,10 @@ use Rattle.tw_disk.specs.Disk.{DiskView}
 use Rattle.tw_disk.specs.Image.{Image}
 use Rattle.tw_outside.specs.Asked.{Asked}
 use Rattle.tw_outside.specs.Files.{Files}
-use Rattle.tw_text.specs.CommandLine.{command_of}
-use Rattle.tw_text.specs.declared.command.Command.{Command}
-use Rattle.tw_text.specs.declared.command.Command.TheVariants.{Append, Init, Join, ProveEvent, Show, VerifyFile, VerifyOne, Strict}
+use Rattle.tw_words.specs.CommandLine.{command_of}
+use Rattle.tw_words.specs.declared.command.Command.{Command}
+use Rattle.tw_words.specs.declared.command.Command.TheVariants.{Accuse, Append, CheckFork, Init, Join, ProveEvent, ProveLink, Show, VerifyFile, VerifyOne, Strict}
+use Rattle.tw_words.specs.declared.command.Command.TheVariants as command
 use Rattle.tw_text.specs.declared.fault.CommandFault.{CommandFault}
 use Rattle.tw_text.specs.declared.fault.CommandFault.TheVariants.{InputFault, DiskFault, NoMemory, Unserved}
 use Rattle.tw_text.specs.declared.refusal.StoreCause.{StoreCause}
@@ -24,15 +25,19 @@ use Rattle.tw_filecmd.specs.Verifying.{HasAnchors, IsJudged, VerifyFileComes, Ve
 use Rattle.tw_diskcmd.specs.Disks.{IsLeft, Keeps, ReadLeaves, ReadsAs}
 use Rattle.tw_diskcmd.specs.WorkSteps.{WritesNothing}
 use Rattle.tw_diskcmd.proofs.AtRest.{left_keeps, untouched_left}
-use Rattle.tw_diskcmd.proofs.CommandLaws.{HasCauses, IsSafe, append_causes, append_is_safe, init_causes, init_is_safe, prove_causes, reading_is_safe}
+use Rattle.tw_diskcmd.proofs.CommandLaws.{HasCauses, IsSafe, append_causes, append_is_safe, init_causes, init_is_safe, link_causes, prove_causes, reading_is_safe, thread_causes}
 use Rattle.tw_app.specs.declared.outcome.Outcome.{Outcome}
-use Rattle.tw_app.specs.declared.outcome.Outcome.TheVariants.{Judged, Proof, Joined, Made, BadWords, Undone}
+use Rattle.tw_app.specs.declared.outcome.Outcome.TheVariants.{Judged, Written, Joined, Made, Answered, BadWords, Undone}
+use Rattle.tw_reachcmd.specs.declared.answer.Answer.{Answer}
+use Rattle.tw_reachcmd.specs.declared.answer.Answer.TheVariants as answers
+use Rattle.tw_reachcmd.specs.Accusing.{AccuseComes}
+use Rattle.tw_reachcmd.specs.Forks.{CheckForkComes}
 use Rattle.tw_app.specs.declared.store.StoreAccess.{StoreAccess}
 use Rattle.tw_app.specs.declared.store.StoreAccess.TheVariants.{Read, Write}
 use Rattle.tw_app.specs.Around.{Outside, found_of}
 use Rattle.tw_app.specs.Commands.{IsSomeFile, NamesFile}
 use Rattle.tw_app.specs.Outcomes.{TakesMemory, outcome_by, status_of, text_of}
-use Rattle.tw_app.specs.Running.{IsDoneBy, IsOutcomeOf, IsUnbuilt, IsUntouched, UsesDisk, Work, by_results, over_files, reading, unbuilt, work, writing}
+use Rattle.tw_app.specs.Running.{IsAnswerBy, IsDoneBy, IsOutcomeOf, IsUnbuilt, IsUntouched, UsesDisk, Work, by_results, over_files, reading, unbuilt, work, writing}
 use Rattle.tw_app.specs.Statuses.{AreOf, GivesAnchors, IsBuilt, IsVerify, is_strict, proof_file}
 
 pub of_option : (P : Command → Type 0) (words : List (List ℕ)) (c : Command) → command_of words ≡ Some c → P c → AreOf P words
@@ -46,6 +51,17 @@ unbuilt_status : (o : Outcome) → IsUnbuilt o → status_of o ≡ 0 → ⊥
 unbuilt_status (BadWords number) is zeroth = omega (arith, zeroth)
 unbuilt_status (Undone f) is zeroth = fault_not_zero f zeroth
 unbuilt_status _ is zeroth = is
+
+-- the outcomes of commands that were done or whose answer is another; neither a fault nor the usage line
+abbrev pub IsAnswer : Outcome → Type 0
+IsAnswer (BadWords number) = ⊥
+IsAnswer (Undone f) = ⊥
+IsAnswer _ = Unit {0}
+
+unbuilt_answers : (o : Outcome) → IsAnswer o → IsUnbuilt o → ⊥
+unbuilt_answers (BadWords number) is_answer is = is_answer
+unbuilt_answers (Undone f) is_answer is = is_answer
+unbuilt_answers _ is_answer is = is
 
 same_fault : (f g : CommandFault) → Undone f ≡ Undone g → g ≡ f
 same_fault f g is = cc
@@ -80,8 +96,11 @@ made_tells = record { value = λ x f is. cc; words = λ x n is. cc }
 joined_tells : Tells Joined
 joined_tells = record { value = λ x f is. cc; words = λ x n is. cc }
 
-proof_tells : Tells Proof
-proof_tells = record { value = λ x f is. cc; words = λ x n is. cc }
+answered_tells : {X : Type 0} (of : X → Answer) → Tells (λ x. Answered (of x))
+answered_tells of = record { value = λ x f is. cc; words = λ x n is. cc }
+
+written_tells : Tells Written
+written_tells = record { value = λ x f is. cc; words = λ x n is. cc }
 
 judged_tells : Tells Judged
 judged_tells = record { value = λ x f is. cc; words = λ x n is. cc }
@@ -89,8 +108,8 @@ judged_tells = record { value = λ x f is. cc; words = λ x n is. cc }
 made_of_disk : TellsOfDisk Made
 made_of_disk = record { unjudged = λ x v is. cc; unjoined = λ x j is. cc; takes = λ x taken. taken; status = λ x. refl }
 
-proof_of_disk : TellsOfDisk Proof
-proof_of_disk = record { unjudged = λ x v is. cc; unjoined = λ x j is. cc; takes = λ x taken. taken; status = λ x. refl }
+written_of_disk : TellsOfDisk Written
+written_of_disk = record { unjudged = λ x v is. cc; unjoined = λ x j is. cc; takes = λ x taken. taken; status = λ x. refl }
 
 -- where its text takes memory, or its status is neither 0 nor 5, nothing was written
 module _ {X : Type 0} (of : X → Outcome) (of_disk : TellsOfDisk of) where
@@ -116,6 +135,13 @@ module _ {X : Type 0} (of : X → Outcome) (tells : Tells of) where
         by : (r : Result X CommandFault) → May r → Undone f ≡ outcome_by of r → May (Err f)
         by (Ok x) may is = absurd (tells.value x f is)
         by (Err g) may is = subst (λ (h : CommandFault). May (Err h)) (same_fault f g is) may
+
+    answers_of : (o : Outcome) → IsAnswer o → IsOutcomeOf of May o → IsAnswerBy of May (status_of o) (text_of o)
+    answers_of o is_answer came = by came.0 came.1 came.2
+      where
+        by : (r : Result X CommandFault) → May r → o ≡ outcome_by of r → IsAnswerBy of May (status_of o) (text_of o)
+        by (Ok x) may is = (x, may, sym (ap status_of is), ap text_of is)
+        by (Err f) may is = absurd (subst IsAnswer is is_answer)
 
     done_of : (o : Outcome) → IsOutcomeOf of May o → status_of o ≡ 0 → IsDoneBy of May (text_of o)
     done_of o came zeroth = by came.0 came.1 came.2
@@ -158,6 +184,7 @@ module _ {D : Type 0} (view : D → DiskView)
   pub record Row (c : Command) (w : Work) : Type 0 where
     pub built : IsBuilt view c ⊎ ((outcome : Outcome) → w.does outcome → status_of outcome ≡ 0 → ⊥)
     pub usage : (n : ℕ) → w.does (BadWords n) → n ≡ 0
+    pub answers : (outcome : Outcome) → IsAnswer outcome → w.does outcome → w.answers (status_of outcome) (text_of outcome)
     pub done : (outcome : Outcome) → w.does outcome → status_of outcome ≡ 0 → w.done (text_of outcome)
     pub undone : (f : CommandFault) → w.does (Undone f) → w.undone f
     pub input : w.undone InputFault → IsBuilt view c × NamesFile c × Rose o.inputs.before o.inputs.after
@@ -174,6 +201,7 @@ module _ {D : Type 0} (view : D → DiskView)
   unbuilt_row c = record {
     built = inr (λ outcome came zeroth. unbuilt_status outcome came.0 zeroth);
     usage = λ n came. came.0;
+    answers = λ outcome is came. unbuilt_answers outcome is came.0;
     done = λ outcome came zeroth. unbuilt_status outcome came.0 zeroth;
     undone = λ f came. came;
     input = λ came. absurd came.0;
@@ -202,6 +230,7 @@ module _ {D : Type 0} (view : D → DiskView)
     row memory untouched idle safe judging joining = record {
       built = inl built;
       usage = λ n came. absurd (no_usage of tells n came.0 came.2);
+      answers = λ outcome is came. answers_of of tells May outcome is came;
       done = λ outcome came zeroth. done_of of tells May outcome came zeroth;
       undone = λ f came. undone_of of tells May f came;
       input = λ may. let failed = causes.input may.0 in (built, failed.0, failed.1);
@@ -245,18 +274,18 @@ module _ {D : Type 0} (view : D → DiskView)
       → HasCauses o.inputs (found_of view o) (NamesFile c) (Unit {0}) Comes → IsSafe view o.disk.before o.disk.after Leaves Safe → Row c (writing view o Made Comes Leaves Safe)
   made_row {Comes} {Leaves} {Safe} c built causes is_safe = disk_row c Made made_tells Comes Leaves Safe (Some Write) causes built made_of_disk is_safe
 
-  proof_row : {Comes : Result (List ℕ) CommandFault → Type 0} → (c : Command) → IsBuilt view c
-      → HasCauses o.inputs (found_of view o) (NamesFile c) (Unit {0}) Comes → Row c (reading view o Proof Comes)
-  proof_row {Comes} c built causes =
-      disk_row c Proof proof_tells Comes (ReadLeaves view o.disk.before o.disk.after) (Left × Keeps view o.disk.before o.disk.after) (Some Read) causes built
-      proof_of_disk (reading_is_safe view o.disk.before o.disk.after)
+  written_row : {Comes : Result (List ℕ) CommandFault → Type 0} → (c : Command) → IsBuilt view c
+      → HasCauses o.inputs (found_of view o) (NamesFile c) (Unit {0}) Comes → Row c (reading view o Written Comes)
+  written_row {Comes} c built causes =
+      disk_row c Written written_tells Comes (ReadLeaves view o.disk.before o.disk.after) (Left × Keeps view o.disk.before o.disk.after) (Some Read) causes built
+      written_of_disk (reading_is_safe view o.disk.before o.disk.after)
 
   show_row : (history : List ℕ) (step index : ℕ) → Row (Show history step index) (work view o (Show history step index))
   show_row history step index =
-      files_row (Show history step index) Proof proof_tells (ShowComes o.inputs history step index)
+      files_row (Show history step index) Written written_tells (ShowComes o.inputs history step index)
       (record { input = λ rose. (tt, rose); disk = λ came. absurd came; serves = λ h reads why came. came; memory = tt })
-      (λ p n came. no_usage Proof proof_tells n came.0 came.2) (λ x v is comes. absurd (proof_of_disk.unjudged x v is))
-      (λ x place is comes. absurd (proof_of_disk.unjoined x (Unfit place) is))
+      (λ p n came. no_usage Written written_tells n came.0 came.2) (λ x v is comes. absurd (written_of_disk.unjudged x v is))
+      (λ x place is comes. absurd (written_of_disk.unjoined x (Unfit place) is))
 
   join_row : (files : List (List ℕ)) → Row (Join files) (work view o (Join files))
   join_row files =
@@ -293,16 +322,40 @@ module _ {D : Type 0} (view : D → DiskView)
           let same : w ≡ v = cc in
           record { file = proof; anchors = anchor ∷ []; asked = refl; given = refl; judged = subst (IsJudged o.inputs.told proof (anchor ∷ []) false) same comes }
 
+  -- one over files that reach beyond one proof
+  answer_row : {X : Type 0} (c : Command) (of : X → Answer) → (Comes : Result X CommandFault → Type 0)
+      → HasCauses o.inputs (found_of view o) (NamesFile c) ⊥ Comes → IsBuilt view c → Row c (over_files view o (λ x. Answered (of x)) Comes)
+  answer_row c of Comes causes built =
+      files_row c (λ x. Answered (of x)) (answered_tells of) Comes causes built (λ x v is comes. cc) (λ x place is comes. cc)
+
+  names_parts : (first second : List ℕ) (link : Option (List ℕ)) → NamesFile (Accuse first second link)
+  names_parts first second None = tt
+  names_parts first second (Some file) = tt
+
+  accuse_row : (first second : List ℕ) (link : Option (List ℕ)) → Row (Accuse first second link) (work view o (Accuse first second link))
+  accuse_row first second link =
+      answer_row (Accuse first second link) answers.Accused (AccuseComes o.inputs first second link)
+      (record { input = λ rose. (names_parts first second link, rose); disk = λ came. absurd came; serves = λ h reads why came. came; memory = tt })
+      (λ p n came. no_usage _ (answered_tells answers.Accused) n came.0 came.2)
+
+  check_fork_row : (file anchors : List ℕ) → Row (CheckFork file anchors) (work view o (CheckFork file anchors))
+  check_fork_row file anchors =
+      answer_row (CheckFork file anchors) answers.Fork (CheckForkComes o.inputs file anchors)
+      (record { input = λ rose. (tt, rose); disk = λ came. absurd came; serves = λ h reads why came. came; memory = tt })
+      (λ p n came. no_usage _ (answered_tells answers.Fork) n came.0 came.2)
+
   -- each command, by what is known of its results
   pub rows : (c : Command) → Row c (work view o c)
   rows (Init name) =
       made_row (Init name) (λ p n came. no_usage Made made_tells n came.0 came.2) (init_causes o.inputs (found_of view o) name)
       (init_is_safe view o.disk.before o.disk.after only_now as_it_reads name)
-  rows (Append file) =
-      made_row (Append file) (λ p n came. no_usage Made made_tells n came.0 came.2) (append_causes o.inputs (found_of view o) file)
-      (append_is_safe view o.disk.before o.disk.after only_now as_it_reads o.inputs.told file)
+  rows (Append file time) =
+      made_row (Append file time) (λ p n came. no_usage Made made_tells n came.0 came.2) (append_causes o.inputs (found_of view o) file time)
+      (append_is_safe view o.disk.before o.disk.after only_now as_it_reads o.inputs.told file time)
+  rows (command.Thread since) = written_row (command.Thread since) (λ p n came. no_usage Written written_tells n came.0 came.2) (thread_causes o.inputs (found_of view o) since)
   rows (ProveEvent step index top) =
-      proof_row (ProveEvent step index top) (λ p n came. no_usage Proof proof_tells n came.0 came.2) (prove_causes o.inputs (found_of view o) step index top)
+      written_row (ProveEvent step index top) (λ p n came. no_usage Written written_tells n came.0 came.2) (prove_causes o.inputs (found_of view o) step index top)
+  rows (ProveLink step top) = written_row (ProveLink step top) (λ p n came. no_usage Written written_tells n came.0 came.2) (link_causes o.inputs (found_of view o) step top)
   rows (Show history step index) = show_row history step index
   rows (Join files) = join_row files
   rows (VerifyFile proof anchors) =
@@ -310,6 +363,8 @@ module _ {D : Type 0} (view : D → DiskView)
   rows (Strict proof anchors) =
       anchors_row (Strict proof anchors) proof anchors (λ p n came. no_usage Judged judged_tells n came.0 came.2) tt refl (λ held has. has)
   rows (VerifyOne proof anchor) = verify_one_row proof anchor
+  rows (Accuse first second link) = accuse_row first second link
+  rows (CheckFork file anchors) = check_fork_row file anchors
   rows _ = unbuilt_row _
 
 -- a command that judges comes to a verdict or isn't done

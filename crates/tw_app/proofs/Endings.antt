@@ -13,7 +13,7 @@ use Rattle.tw_base.proofs.lemmas.format.FormatLaws.{one_value}
 use Rattle.tw_disk.specs.Disk.{DiskView}
 use Rattle.tw_disk.specs.Image.{Image}
 use Rattle.tw_outside.specs.TakenBytes.{Appends}
-use Rattle.tw_text.specs.CommandLine.{IsFirstBad, command_of}
+use Rattle.tw_words.specs.CommandLine.{IsFirstBad, command_of}
 use Rattle.tw_text.specs.Faults.{fault_status, fault_text}
 use Rattle.tw_text.specs.Lines.{no_memory_text}
 use Rattle.tw_text.specs.declared.fault.CommandFault.{CommandFault}
@@ -22,7 +22,7 @@ use Rattle.tw_text.specs.declared.refusal.BadInput.{BadInput}
 use Rattle.tw_text.specs.declared.refusal.Refusal.{Refusal}
 use Rattle.tw_text.specs.declared.refusal.StoreCause.{StoreCause}
 use Rattle.tw_text.specs.Reports.{report_text}
-use Rattle.tw_text.specs.declared.command.Command.{Command}
+use Rattle.tw_words.specs.declared.command.Command.{Command}
 use Rattle.tw_chain.specs.declared.proof.Proof.{Proof as ProofValue}
 use Rattle.tw_chain.specs.Proofs.{proof_layout}
 use Rattle.tw_chain.specs.declared.verdict.Verdict.{Verdict}
@@ -32,12 +32,16 @@ use Rattle.tw_filecmd.specs.declared.joining.Joined.{Joined as JoinedProofs}
 use Rattle.tw_filecmd.specs.declared.joining.Joined.TheVariants.{Whole, Unfit}
 use Rattle.tw_diskcmd.specs.Disks.{IsLeft, ReadsAs}
 use Rattle.tw_app.specs.declared.outcome.Outcome.{Outcome}
-use Rattle.tw_app.specs.declared.outcome.Outcome.TheVariants.{Judged, Proof, Joined, Made, BadWords, Undone}
+use Rattle.tw_app.specs.declared.outcome.Outcome.TheVariants.{Judged, Written, Joined, Made, Answered, BadWords, Undone}
+use Rattle.tw_evidence.specs.declared.fork.ForkVerdict.TheVariants as fork
+use Rattle.tw_reachcmd.specs.declared.accusing.Accused.TheVariants as accused
+use Rattle.tw_reachcmd.specs.declared.answer.Answer.{Answer}
+use Rattle.tw_reachcmd.specs.declared.answer.Answer.TheVariants as answers
 use Rattle.tw_app.specs.Around.{Around, Writes}
 use Rattle.tw_app.specs.Commands.{NamesFile}
 use Rattle.tw_app.specs.Outcomes.{TakesMemory, status_of, text_of}
 use Rattle.tw_app.specs.Running.{Ends, EndsWith, HasOutcome, HaveNoForm, IsUntouched, Work, work}
-use Rattle.tw_app.specs.Statuses.{AreOf, DiskFailed, IsAcceptedRun, IsBuilt, IsDiskFaultRun, IsDoneRun, IsGapRun, IsIdle, IsInputFaultRun, IsRejectedRun, IsStatus, IsUndoneRun, IsUsageRun, IsVerify, IsWork}
+use Rattle.tw_app.specs.Statuses.{AreOf, DiskFailed, IsAcceptedRun, IsAnsweredRun, IsBuilt, IsDiskFaultRun, IsDoneRun, IsGapRun, IsIdle, IsInputFaultRun, IsRejectedRun, IsStatus, IsUndoneRun, IsUsageRun, IsVerify, IsWork}
 use Rattle.tw_app.proofs.Words.{no_text_outcome}
 use Rattle.tw_app.proofs.Commands.{Judges, LeavesGap, Row, fault_not_zero, of_option, rows, same_left, verdict_or_fault}
 
@@ -52,9 +56,19 @@ not_joined : (joined : JoinedProofs) (n : ℕ) → (n ≡ 0 → ⊥) → (n ≡ 
 not_joined (Whole proof) n zeroth first told = zeroth told
 not_joined (Unfit place) n zeroth first told = first told
 
+not_answer : (answer : Answer) (n : ℕ) → (n ≡ 0 → ⊥) → (n ≡ 1 → ⊥) → (n ≡ 10 → ⊥) → n ≡ status_of (Answered answer) → ⊥
+not_answer (answers.Accused (accused.Whole evidence)) n zeroth first tenth told = zeroth told
+not_answer (answers.Accused (accused.Unfit place)) n zeroth first tenth told = first told
+not_answer (answers.Fork (fork.Yes shown)) n zeroth first tenth told = zeroth told
+not_answer (answers.Fork (fork.No reason)) n zeroth first tenth told = first told
+
 not_fault : (f : CommandFault) (n : ℕ) → n ≡ fault_status f → n < 3 → ⊥
 not_fault InputFault n same low = omega (arith, same, low)
 not_fault _ n same low = omega (arith, same, low)
+
+low_fault : (f : CommandFault) (n : ℕ) → n ≡ fault_status f → 9 < n → ⊥
+low_fault InputFault n same high = omega (arith, same, high)
+low_fault _ n same high = omega (arith, same, high)
 
 no_form_status : (words : List (List ℕ)) (o : Outcome) → HaveNoForm words o → status_of o ≡ 0 → ⊥
 no_form_status words (BadWords number) is zeroth = omega (arith, zeroth)
@@ -64,6 +78,7 @@ no_form_status words _ is zeroth = is
 is_disk_fault : (o : Outcome) → status_of o ≡ 5 → o ≡ Undone DiskFault
 is_disk_fault (Judged verdict) fifth = absurd (not_verdict verdict 5 (λ k. omega arith) (λ k. omega arith) (sym fifth))
 is_disk_fault (Joined joined) fifth = absurd (not_joined joined 5 (λ k. omega arith) (λ k. omega arith) (sym fifth))
+is_disk_fault (Answered answer) fifth = absurd (not_answer answer 5 (λ k. omega arith) (λ k. omega arith) (λ k. omega arith) (sym fifth))
 is_disk_fault (Undone f) fifth = ap (λ (g : CommandFault). Undone g) (by f fifth)
   where
     by : (f : CommandFault) → fault_status f ≡ 5 → f ≡ DiskFault
@@ -228,19 +243,40 @@ module _ {D : Type 0} (view : D → DiskView)
       written = written;
     }
 
-    pub rejected : status ≡ 1 → IsRejectedRun a ⊎ IsGapRun a
+    -- a run that came to an answer
+    answered_by : (n : ℕ) (answer : Answer) → n ≡ status_of (Answered answer) → Has (Answered answer) → Writes a (text_of (Answered answer)) → IsAnsweredRun view a n
+    answered_by n answer is has written = (
+      text_of (Answered answer),
+      by_words (Answered answer) has (λ none. absurd none.0) (λ c of does.
+          of_work (λ w. w.answers n (text_of (Answered answer))) c of
+          (subst (λ (k : ℕ). (work view a.outside c).answers k (text_of (Answered answer))) (sym is) ((known c).answers (Answered answer) tt does))),
+      written,
+    )
+
+    pub rejected : status ≡ 1 → IsRejectedRun a ⊎ IsGapRun a ⊎ IsAnsweredRun view a 1
     rejected is = by_status 1 is (λ k. omega arith) by
       where
-        by : (o : Outcome) → Has o → 1 ≡ status_of o → Writes a (text_of o) → IsRejectedRun a ⊎ IsGapRun a
+        by : (o : Outcome) → Has o → 1 ≡ status_of o → Writes a (text_of o) → IsRejectedRun a ⊎ IsGapRun a ⊎ IsAnsweredRun view a 1
         by (Judged verdict) has first written =
             inl (by_words (Judged verdict) has (λ none. absurd none.0) (λ c of does. rejected_by is c verdict of ((known c).judging verdict does) (is ∙ first, written)))
         by (Joined (Unfit place)) has first written =
-            inr (by_words (Joined (Unfit place)) has (λ none. absurd none.0) (λ c of does. gap_by c place of ((known c).joining place does) written))
+            inr (inl (by_words (Joined (Unfit place)) has (λ none. absurd none.0) (λ c of does. gap_by c place of ((known c).joining place does) written)))
+        by (Answered answer) has first written = inr (inr (answered_by 1 answer first has written))
         by (Joined (Whole proof)) has first written = absurd (omega (arith, first))
         by (Undone f) has first written = absurd (not_fault f 1 first (omega arith))
-        by (Proof proof) has first written = absurd (omega (arith, first))
+        by (Written bytes) has first written = absurd (omega (arith, first))
         by (Made thread) has first written = absurd (omega (arith, first))
         by (BadWords n) has first written = absurd (omega (arith, first))
+
+    pub clash : status ≡ 10 → IsAnsweredRun view a 10
+    clash is = by_status 10 is (λ k. omega arith) by
+      where
+        by : (o : Outcome) → Has o → 10 ≡ status_of o → Writes a (text_of o) → IsAnsweredRun view a 10
+        by (Answered answer) has tenth written = answered_by 10 answer tenth has written
+        by (Judged verdict) has tenth written = absurd (not_verdict verdict 10 (λ k. omega arith) (λ k. omega arith) tenth)
+        by (Joined joined) has tenth written = absurd (not_joined joined 10 (λ k. omega arith) (λ k. omega arith) tenth)
+        by (Undone f) has tenth written = absurd (low_fault f 10 tenth (omega arith))
+        by _ has tenth written = absurd (omega (arith, tenth))
 
     pub usage : status ≡ 2 → IsUsageRun view a
     usage is = by_status 2 is (λ k. omega arith) by
@@ -254,18 +290,21 @@ module _ {D : Type 0} (view : D → DiskView)
         by (BadWords n) has second written = (n, number_is n (command_of a.words) has, written)
         by (Judged verdict) has second written = absurd (not_verdict verdict 2 (λ k. omega arith) (λ k. omega arith) second)
         by (Joined joined) has second written = absurd (not_joined joined 2 (λ k. omega arith) (λ k. omega arith) second)
+        by (Answered answer) has second written = absurd (not_answer answer 2 (λ k. omega arith) (λ k. omega arith) (λ k. omega arith) second)
         by (Undone f) has second written = absurd (not_fault f 2 second (omega arith))
         by _ has second written = absurd (omega (arith, second))
 
     -- a run with the status of a fault says it
-    says : {Q : Type 0} (n : ℕ) → status ≡ n → (n ≡ 4 → ⊥) → 3 ≤ n → ((f : CommandFault) → n ≡ fault_status f → Has (Undone f) → Writes a (fault_text f) → Q) → Q
+    says : {Q : Type 0} (n : ℕ) → status ≡ n → (n ≡ 4 → ⊥) → (3 ≤ n) × (n < 10) → ((f : CommandFault) → n ≡ fault_status f → Has (Undone f) → Writes a (fault_text f) → Q) → Q
     says {Q} n is other high then = by_status n is other by
       where
         by : (o : Outcome) → Has o → n ≡ status_of o → Writes a (text_of o) → Q
         by (Undone f) has same written = then f same has written
-        by (Judged verdict) has same written = absurd (not_verdict verdict n (λ k. omega (arith, k, high)) (λ k. omega (arith, k, high)) same)
-        by (Joined joined) has same written = absurd (not_joined joined n (λ k. omega (arith, k, high)) (λ k. omega (arith, k, high)) same)
-        by _ has same written = absurd (omega (arith, same, high))
+        by (Judged verdict) has same written = absurd (not_verdict verdict n (λ k. omega (arith, k, high.0)) (λ k. omega (arith, k, high.0)) same)
+        by (Joined joined) has same written = absurd (not_joined joined n (λ k. omega (arith, k, high.0)) (λ k. omega (arith, k, high.0)) same)
+        by (Answered answer) has same written =
+            absurd (not_answer answer n (λ k. omega (arith, k, high.0)) (λ k. omega (arith, k, high.0)) (λ k. omega (arith, k, high.1)) same)
+        by _ has same written = absurd (omega (arith, same, high.0))
 
     -- the command that isn't done for it
     undone_by : {Q : Type 0} → (f : CommandFault) → (HaveNoForm a.words (Undone f) → ⊥) → Has (Undone f) → ((c : Command) → command_of a.words ≡ Some c → (work view a.outside c).undone f → Q) → Q
@@ -275,7 +314,7 @@ module _ {D : Type 0} (view : D → DiskView)
     said f none has written = (undone_by f none has (λ c is undone. of_work (λ w. w.undone f) c is undone), written)
 
     pub input_fault : status ≡ 3 → IsInputFaultRun view a
-    input_fault is = says 3 is (λ k. omega arith) (omega arith) by
+    input_fault is = says 3 is (λ k. omega arith) (omega arith, omega arith) by
       where
         by : (f : CommandFault) → 3 ≡ fault_status f → Has (Undone f) → Writes a (fault_text f) → IsInputFaultRun view a
         by InputFault same has written = undone_by InputFault (λ none. none) has (λ c of undone.
@@ -297,6 +336,7 @@ module _ {D : Type 0} (view : D → DiskView)
         never : (o : Outcome) → status_of o ≡ 4 → ⊥
         never (Judged v) fourth = never_verdict v fourth
         never (Joined joined) fourth = not_joined joined 4 (λ k. omega arith) (λ k. omega arith) (sym fourth)
+        never (Answered answer) fourth = not_answer answer 4 (λ k. omega arith) (λ k. omega arith) (λ k. omega arith) (sym fourth)
         never (Undone f) fourth = never_fault f fourth
         never _ fourth = omega (arith, fourth)
 
@@ -310,7 +350,7 @@ module _ {D : Type 0} (view : D → DiskView)
         failed c does = ((known c).disk ((known c).undone DiskFault does)).1
 
     pub disk_fault : status ≡ 5 → IsDiskFaultRun view a
-    disk_fault is = says 5 is (λ k. omega arith) (omega arith) by
+    disk_fault is = says 5 is (λ k. omega arith) (omega arith, omega arith) by
       where
         by : (f : CommandFault) → 5 ≡ fault_status f → Has (Undone f) → Writes a (fault_text f) → IsDiskFaultRun view a
         by DiskFault same has written = undone_by DiskFault (λ none. none) has (λ c of undone.
@@ -319,14 +359,14 @@ module _ {D : Type 0} (view : D → DiskView)
         by _ same has written = absurd (omega (arith, same))
 
     pub no_memory : status ≡ 6 → Writes a no_memory_text
-    no_memory is = says 6 is (λ k. omega arith) (omega arith) by
+    no_memory is = says 6 is (λ k. omega arith) (omega arith, omega arith) by
       where
         by : (f : CommandFault) → 6 ≡ fault_status f → Has (Undone f) → Writes a (fault_text f) → Writes a no_memory_text
         by NoMemory same has written = written
         by _ same has written = absurd (omega (arith, same))
 
     pub refused : status ≡ 7 → (refusal : Refusal) × IsUndoneRun view a (Refused refusal)
-    refused is = says 7 is (λ k. omega arith) (omega arith) by
+    refused is = says 7 is (λ k. omega arith) (omega arith, omega arith) by
       where
         by : (f : CommandFault) → 7 ≡ fault_status f → Has (Undone f) → Writes a (fault_text f) → (refusal : Refusal) × IsUndoneRun view a (Refused refusal)
         by (Refused refusal) same has written = (refusal, said (Refused refusal) (λ none. none) has written)
@@ -334,7 +374,7 @@ module _ {D : Type 0} (view : D → DiskView)
 
     -- a run of status 8 tells why its command isn't served
     unserved_by : {Q : Type 0} → status ≡ 8 → ((cause : StoreCause) → Has (Undone (Unserved cause)) → Writes a (fault_text (Unserved cause)) → Q) → Q
-    unserved_by {Q} is then = says 8 is (λ k. omega arith) (omega arith) by
+    unserved_by {Q} is then = says 8 is (λ k. omega arith) (omega arith, omega arith) by
       where
         by : (f : CommandFault) → 8 ≡ fault_status f → Has (Undone f) → Writes a (fault_text f) → Q
         by (Unserved cause) same has written = then cause has written
@@ -347,7 +387,7 @@ module _ {D : Type 0} (view : D → DiskView)
     complete is h reads = unserved_by is (λ cause has written. undone_by (Unserved cause) (λ none. none) has (λ c of undone. (known c).serves h reads cause undone))
 
     pub unreadable : status ≡ 9 → (bad : BadInput) × IsUndoneRun view a (Unreadable bad)
-    unreadable is = says 9 is (λ k. omega arith) (omega arith) by
+    unreadable is = says 9 is (λ k. omega arith) (omega arith, omega arith) by
       where
         by : (f : CommandFault) → 9 ≡ fault_status f → Has (Undone f) → Writes a (fault_text f) → (bad : BadInput) × IsUndoneRun view a (Unreadable bad)
         by (Unreadable bad) same has written = (bad, said (Unreadable bad) (λ none. none) has written)
@@ -363,13 +403,20 @@ module _ {D : Type 0} (view : D → DiskView)
     fault_is_status (Unserved cause) = inr (inr (inr (inr (inr (inr (inr (inr (inl refl))))))))
     fault_is_status (Unreadable bad) = inr (inr (inr (inr (inr (inr (inr (inr (inr (inl refl)))))))))
 
+    is_answer_status : (answer : Answer) → IsStatus (status_of (Answered answer))
+    is_answer_status (answers.Accused (accused.Whole evidence)) = inl refl
+    is_answer_status (answers.Accused (accused.Unfit place)) = inr (inl refl)
+    is_answer_status (answers.Fork (fork.Yes shown)) = inl refl
+    is_answer_status (answers.Fork (fork.No reason)) = inr (inl refl)
+
     is_status : (o : Outcome) → IsStatus (status_of o)
     is_status (Judged (Yes report)) = inl refl
     is_status (Judged (No reason)) = inr (inl refl)
-    is_status (Proof proof) = inl refl
+    is_status (Written bytes) = inl refl
     is_status (Joined (Whole proof)) = inl refl
     is_status (Joined (Unfit place)) = inr (inl refl)
     is_status (Made thread) = inl refl
+    is_status (Answered answer) = is_answer_status answer
     is_status (BadWords n) = inr (inr (inl refl))
     is_status (Undone f) = fault_is_status f
 

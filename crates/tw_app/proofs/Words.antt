@@ -3,10 +3,10 @@ use Rattle.std.proofs.Common.{◌≡◌, ℕ, List, refl, subst, sym, ◌∙◌}
 use Rattle.std.specs.Prelude.{Option, Some, None, Result, Ok, IfSome, IfNone, IsErrAnd, MatchOption, MatchResult}
 use Rattle.tw_disk.specs.Disk.{DiskView}
 use Rattle.tw_disk.specs.Image.{Image}
-use Rattle.tw_text.specs.CommandLine.{IsBadWord, command_of}
-use Rattle.tw_text.specs.declared.command.Command.{Command}
-use Rattle.tw_text.specs.declared.words.WordFault.{WordFault}
-use Rattle.tw_text.specs.declared.words.WordFault.TheVariants.{NoMemory}
+use Rattle.tw_words.specs.CommandLine.{IsBadWord, command_of}
+use Rattle.tw_words.specs.declared.command.Command.{Command}
+use Rattle.tw_words.specs.declared.words.WordFault.{WordFault}
+use Rattle.tw_words.specs.declared.words.WordFault.TheVariants.{NoMemory}
 use Rattle.tw_app.specs.declared.outcome.Outcome.{Outcome}
 use Rattle.tw_app.specs.declared.outcome.Outcome.TheVariants.{Undone}
 use Rattle.tw_text.specs.declared.fault.CommandFault.TheVariants.{NoMemory as NoMemoryFault}

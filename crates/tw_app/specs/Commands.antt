@@ -1,11 +1,11 @@
 -- Which files the commands name.
-use Rattle.std.specs.Prelude.{ℕ, List, [], ◌∷◌}
-use Rattle.tw_text.specs.declared.command.Command.{Command}
-use Rattle.tw_text.specs.declared.command.Command.TheVariants.{Append, Receive, Show, Join, VerifyFile, VerifyOne, Strict, CheckMap, Audit, Replay}
+use Rattle.std.specs.Prelude.{ℕ, List, [], ◌∷◌, Some, None}
+use Rattle.tw_words.specs.declared.command.Command.{Command}
+use Rattle.tw_words.specs.declared.command.Command.TheVariants.{Append, Receive, Show, Join, VerifyFile, VerifyOne, Strict, CheckMap, Audit, Atlas, Accuse, CheckFork, Replay}
 
 -- the files that a command's words name, in their order; a directory is none
 abbrev pub files_of : Command → List (List ℕ)
-files_of (Append file) = file ∷ []
+files_of (Append file time) = file ∷ []
 files_of (Receive file) = file ∷ []
 files_of (Show history step index) = history ∷ []
 files_of (Join files) = files
@@ -14,6 +14,10 @@ files_of (VerifyOne proof anchor) = proof ∷ []
 files_of (Strict proof anchors) = proof ∷ anchors ∷ []
 files_of (CheckMap low high anchors) = low ∷ high ∷ anchors ∷ []
 files_of (Audit proof anchors histories) = proof ∷ anchors ∷ histories
+files_of (Atlas name pos files) = files
+files_of (Accuse first second None) = first ∷ second ∷ []
+files_of (Accuse first second (Some link)) = first ∷ second ∷ link ∷ []
+files_of (CheckFork file anchors) = file ∷ anchors ∷ []
 files_of (Replay file) = file ∷ []
 files_of _ = []
 

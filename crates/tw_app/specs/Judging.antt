@@ -2,9 +2,9 @@
 use Rattle.std.specs.Prelude.{◌≡◌, ℕ, List, Bool, true, false, Some}
 use Rattle.tw_base.specs.kinds.Faults.{Rose}
 use Rattle.tw_outside.specs.Files.{Tells}
-use Rattle.tw_text.specs.CommandLine.{command_of}
-use Rattle.tw_text.specs.declared.command.Command.{Command}
-use Rattle.tw_text.specs.declared.command.Command.TheVariants.{VerifyFile, Strict}
+use Rattle.tw_words.specs.CommandLine.{command_of}
+use Rattle.tw_words.specs.declared.command.Command.{Command}
+use Rattle.tw_words.specs.declared.command.Command.TheVariants.{VerifyFile, Strict}
 use Rattle.tw_app.specs.Around.{Around}
 
 -- the command that judges a proof under the anchors of a file, in the form that allows carried threads, or in the strict one

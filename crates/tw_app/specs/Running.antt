@@ -3,24 +3,28 @@ use Rattle.std.specs.Prelude.{◌≡◌, ◌⊎◌, ℕ, List, true, false, Opti
 use Rattle.tw_base.specs.kinds.Faults.{Rose}
 use Rattle.tw_disk.specs.Disk.{DiskView}
 use Rattle.tw_outside.specs.TakenBytes.{Appends, AppendsPart}
-use Rattle.tw_text.specs.CommandLine.{IsFirstBad, command_of}
-use Rattle.tw_text.specs.declared.command.Command.{Command}
+use Rattle.tw_words.specs.CommandLine.{IsFirstBad, command_of}
+use Rattle.tw_words.specs.declared.command.Command.{Command}
 use Rattle.tw_text.specs.declared.fault.CommandFault.{CommandFault}
 use Rattle.tw_text.specs.declared.fault.CommandFault.TheVariants.{NoMemory}
-use Rattle.tw_text.specs.declared.command.Command.TheVariants.{Init, Append, ProveEvent, Show, Join, VerifyFile, VerifyOne, Strict}
+use Rattle.tw_words.specs.declared.command.Command.TheVariants.{Init, Append, Thread, ProveEvent, ProveLink, Show, Join, VerifyFile, VerifyOne, Strict, Accuse, CheckFork}
 use Rattle.tw_filecmd.specs.Joining.{JoinComes}
 use Rattle.tw_filecmd.specs.Showing.{ShowComes}
 use Rattle.tw_filecmd.specs.Verifying.{VerifyFileComes, VerifyOneComes}
 use Rattle.tw_diskcmd.specs.Appending.{AppendComes, AppendLeaves, AppendSafe}
 use Rattle.tw_diskcmd.specs.Disks.{IsLeft, Keeps, ReadLeaves}
+use Rattle.tw_diskcmd.specs.Linking.{LinkComes}
 use Rattle.tw_diskcmd.specs.Making.{InitComes, InitLeaves, InitSafe}
 use Rattle.tw_diskcmd.specs.Proving.{ProveComes}
+use Rattle.tw_diskcmd.specs.Telling.{ThreadComes}
+use Rattle.tw_reachcmd.specs.Accusing.{AccuseComes}
+use Rattle.tw_reachcmd.specs.Forks.{CheckForkComes}
 use Rattle.tw_app.specs.declared.outcome.Outcome.{Outcome}
-use Rattle.tw_app.specs.declared.outcome.Outcome.TheVariants.{Judged, Proof, Joined, Made, BadWords, Undone}
+use Rattle.tw_app.specs.declared.outcome.Outcome.TheVariants.{Judged, Written, Joined, Made, BadWords, Undone}
 use Rattle.tw_app.specs.declared.store.StoreAccess.{StoreAccess}
 use Rattle.tw_app.specs.declared.store.StoreAccess.TheVariants.{Read, Write}
 use Rattle.tw_app.specs.Around.{Around, Outside, Span, found_of}
-use Rattle.tw_app.specs.Outcomes.{outcome_by, status_of, text_of}
+use Rattle.tw_app.specs.Outcomes.{of_accused, of_fork, outcome_by, status_of, text_of}
 
 -- ---- what a command does
 
@@ -28,6 +32,8 @@ use Rattle.tw_app.specs.Outcomes.{outcome_by, status_of, text_of}
 pub record Work : Type 1 where
   -- it may come to this outcome, and leaves the disk as is right for it
   pub does : Outcome → Type 0
+  -- it comes to an answer that has this status and text
+  pub answers : (status : ℕ) (text : List ℕ) → Type 0
   -- it is done, and this is its text
   pub done : (text : List ℕ) → Type 0
   -- it isn't done for this fault, and leaves the disk as is right for it
@@ -43,9 +49,13 @@ pub record Work : Type 1 where
 abbrev pub IsOutcomeOf : {X : Type 0} → (of : X → Outcome) → (May : Result X CommandFault → Type 0) → Outcome → Type 0
 IsOutcomeOf {X} of May outcome = (result : Result X CommandFault) × May result × (outcome ≡ outcome_by of result)
 
--- May holds of a value whose outcome has status 0 and this text
+-- May holds of a value whose outcome has this status and text
+abbrev pub IsAnswerBy : {X : Type 0} → (of : X → Outcome) → (May : Result X CommandFault → Type 0) → (status : ℕ) (text : List ℕ) → Type 0
+IsAnswerBy {X} of May status text = (value : X) × May (Ok value) × (status_of (of value) ≡ status) × (text ≡ text_of (of value))
+
+-- the status is 0
 abbrev pub IsDoneBy : {X : Type 0} → (of : X → Outcome) → (May : Result X CommandFault → Type 0) → (text : List ℕ) → Type 0
-IsDoneBy {X} of May text = (value : X) × May (Ok value) × (status_of (of value) ≡ 0) × (text ≡ text_of (of value))
+IsDoneBy of May text = IsAnswerBy of May 0 text
 
 -- what a command comes to that isn't built
 abbrev pub IsUnbuilt : Outcome → Type 0
@@ -62,6 +72,7 @@ UsesDisk (Some access) = Unit {0}
 abbrev pub by_results : {X : Type 0} → (of : X → Outcome) → (May : Result X CommandFault → Type 0) → (Safe : Type 0) → Option StoreAccess → Work
 by_results of May Safe access = record {
   does = IsOutcomeOf of May;
+  answers = IsAnswerBy of May;
   done = IsDoneBy of May;
   undone = λ fault. May (Err fault);
   safe = Safe;
@@ -77,6 +88,7 @@ module _ {D : Type 0} (view : D → DiskView) (o : Outside D) where
   abbrev pub unbuilt : Work
   unbuilt = record {
     does = λ outcome. IsUnbuilt outcome × IsUntouched;
+    answers = λ status text. ⊥;
     done = λ text. ⊥;
     undone = λ fault. IsUnbuilt (Undone fault) × IsUntouched;
     safe = IsUntouched × Keeps view o.disk.before o.disk.after;
@@ -102,15 +114,19 @@ module _ {D : Type 0} (view : D → DiskView) (o : Outside D) where
   abbrev pub work : Command → Work
   work (Init name) =
       writing Made (InitComes (found_of view o) name) (InitLeaves view o.disk.before o.disk.after name) (InitSafe view o.disk.before o.disk.after name)
-  work (Append file) =
-      writing Made (AppendComes o.inputs (found_of view o) file) (AppendLeaves view o.disk.before o.disk.after o.inputs.told file)
-      (AppendSafe view o.disk.before o.disk.after o.inputs.told file)
-  work (ProveEvent step index top) = reading Proof (ProveComes (found_of view o) step index top)
-  work (Show history step index) = over_files Proof (ShowComes o.inputs history step index)
+  work (Append file time) =
+      writing Made (AppendComes o.inputs (found_of view o) file time) (AppendLeaves view o.disk.before o.disk.after o.inputs.told file time)
+      (AppendSafe view o.disk.before o.disk.after o.inputs.told file time)
+  work (Thread since) = reading Written (ThreadComes (found_of view o) since)
+  work (ProveEvent step index top) = reading Written (ProveComes (found_of view o) step index top)
+  work (ProveLink step top) = reading Written (LinkComes (found_of view o) step top)
+  work (Show history step index) = over_files Written (ShowComes o.inputs history step index)
   work (Join files) = over_files Joined (JoinComes o.inputs files)
   work (VerifyFile proof anchors) = over_files Judged (VerifyFileComes o.inputs proof anchors false)
   work (VerifyOne proof anchor) = over_files Judged (VerifyOneComes o.inputs proof anchor)
   work (Strict proof anchors) = over_files Judged (VerifyFileComes o.inputs proof anchors true)
+  work (Accuse first second link) = over_files of_accused (AccuseComes o.inputs first second link)
+  work (CheckFork file anchors) = over_files of_fork (CheckForkComes o.inputs file anchors)
   work _ = unbuilt
 
 -- ---- what words come to

@@ -13,11 +13,11 @@ use Rattle.tw_base.specs.kinds.Lists.{In}
 use Rattle.tw_disk.specs.Disk.{DiskView}
 use Rattle.tw_outside.specs.Files.{Files, IsThere, Tells}
 use Rattle.tw_outside.specs.TakenBytes.{Appends}
-use Rattle.tw_text.specs.CommandLine.{IsFirstBad, command_of}
+use Rattle.tw_words.specs.CommandLine.{IsFirstBad, command_of}
 use Rattle.tw_text.specs.Lines.{usage_text}
 use Rattle.tw_text.specs.Reports.{gap_text, rejected_text, report_text}
-use Rattle.tw_text.specs.declared.command.Command.{Command}
-use Rattle.tw_text.specs.declared.command.Command.TheVariants.{Join, VerifyFile, VerifyOne, Strict}
+use Rattle.tw_words.specs.declared.command.Command.{Command}
+use Rattle.tw_words.specs.declared.command.Command.TheVariants.{Join, VerifyFile, VerifyOne, Strict}
 use Rattle.tw_text.specs.Faults.{fault_text}
 use Rattle.tw_text.specs.declared.fault.CommandFault.{CommandFault}
 use Rattle.tw_text.specs.declared.fault.CommandFault.TheVariants.{InputFault, DiskFault}
@@ -55,7 +55,7 @@ IsBuilt {D} view command = (o : Outside D) (number : ℕ) → (work view o comma
 
 -- the statuses that there are
 abbrev pub IsStatus : ℕ → Type 0
-IsStatus status = In status (0 ∷ 1 ∷ 2 ∷ 3 ∷ 4 ∷ 5 ∷ 6 ∷ 7 ∷ 8 ∷ 9 ∷ [])
+IsStatus status = In status (0 ∷ 1 ∷ 2 ∷ 3 ∷ 4 ∷ 5 ∷ 6 ∷ 7 ∷ 8 ∷ 9 ∷ 10 ∷ [])
 
 -- those after which nothing was written to a disk: neither was the command done, nor did the sink or the disk fail
 abbrev pub IsIdle : ℕ → Type 0
@@ -132,6 +132,10 @@ module _ {D : Type 0} (view : D → DiskView) where
   -- the words are of a command, and this holds of what it does
   abbrev pub IsWork : Around D → (Work → Type 0) → Type 0
   IsWork around P = AreOf (λ command. P (work view around.outside command)) around.words
+
+  -- the words are of a command that comes to an answer of this status, and its text was written whole
+  abbrev pub IsAnsweredRun : Around D → (status : ℕ) → Type 0
+  IsAnsweredRun around status = (text : List ℕ) × IsWork around (λ w. w.answers status text) × Writes around text
 
   -- status 0: the words are of a command that is done, and its text was written whole
   abbrev pub IsDoneRun : Around D → Type 0

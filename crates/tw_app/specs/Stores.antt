@@ -1,9 +1,9 @@
 -- Which store words ask for.
 use Rattle.std.specs.Prelude.{◌≡◌, ℕ, List, [], Option, Some, None, MatchOption, slice_index_or}
 use Rattle.std.specs.Option.{option_map}
-use Rattle.tw_text.specs.CommandLine.{command_of}
-use Rattle.tw_text.specs.declared.command.Command.{Command}
-use Rattle.tw_text.specs.declared.command.Command.TheVariants.{Init, Append, ProveEvent}
+use Rattle.tw_words.specs.CommandLine.{command_of}
+use Rattle.tw_words.specs.declared.command.Command.{Command}
+use Rattle.tw_words.specs.declared.command.Command.TheVariants.{Init, Append, Thread, ProveEvent, ProveLink}
 use Rattle.tw_app.specs.declared.store.Store.{Store}
 use Rattle.tw_app.specs.declared.store.StoreAccess.{StoreAccess}
 use Rattle.tw_app.specs.declared.store.StoreAccess.TheVariants.{Read, Write}
@@ -11,8 +11,10 @@ use Rattle.tw_app.specs.declared.store.StoreAccess.TheVariants.{Read, Write}
 -- what a command does with the store of its folder
 abbrev pub access_of : Command → Option StoreAccess
 access_of (Init name) = Some Write
-access_of (Append file) = Some Write
+access_of (Append file time) = Some Write
+access_of (Thread since) = Some Read
 access_of (ProveEvent step index top) = Some Read
+access_of (ProveLink step top) = Some Read
 access_of _ = None
 
 -- the store that the words ask for: that of their command, in the folder that the second word names

@@ -6,7 +6,7 @@ ghost use Rattle.tw_base.specs.kinds.Faults.{Rose};
 ghost use Rattle.tw_diskcmd.specs.Disks.{IsLeft};
 ghost use Rattle.tw_outside.specs.Asked.{asked};
 ghost use Rattle.tw_outside.specs.TakenBytes.{Appends, AppendsPart};
-ghost use Rattle.tw_text.specs.CommandLine.{command_of};
+ghost use Rattle.tw_words.specs.CommandLine.{command_of};
 ghost use Rattle.tw_text.specs.Lines.{anchor_text, no_memory_text};
 ghost use Rattle.tw_app.specs.declared.outcome.Outcome.TheVariants.{Undone};
 ghost use Rattle.tw_text.specs.declared.fault.CommandFault.TheVariants.{NoMemory as NoMemoryFault};
@@ -25,6 +25,7 @@ use tw_chain::Verdict;
 use tw_disk::Disk;
 use tw_filecmd::Joined;
 use tw_outside::{Inputs, Sink, write_all};
+use tw_reachcmd::{Accused, Answer, answer_status};
 use tw_text::{CommandFault, anchor_line, fault_disk, fault_input, fault_status, no_memory};
 
 /// Status 4: the sink failed.
@@ -67,11 +68,12 @@ fn status_of(outcome: &Outcome) -> u8
 {
     match outcome {
         Outcome::Judged(Verdict::Yes(_))
-        | Outcome::Proof(_)
+        | Outcome::Written(_)
         | Outcome::Joined(Joined::Whole(_))
         | Outcome::Made(_) => 0,
         Outcome::Judged(Verdict::No(_)) => 1,
         Outcome::Joined(Joined::Unfit { .. }) => 1,
+        Outcome::Answered(answer) => answer_status(answer),
         Outcome::BadWords { .. } => 2,
         Outcome::Undone(fault) => fault_status(fault),
     }
@@ -89,8 +91,11 @@ fn conclude<S: Sink>(alloc: Global, outcome: &Outcome, out: &mut S) -> u8
         Outcome::Undone(CommandFault::DiskFault) => tell(out, status, fault_disk()),
         Outcome::Undone(CommandFault::NoMemory) => tell(out, status, no_memory()),
         Outcome::Made(thread) => tell_thread(out, status, thread),
-        Outcome::Proof(proof) => tell(out, status, proof.as_slice()),
+        Outcome::Written(bytes) => tell(out, status, bytes.as_slice()),
         Outcome::Joined(Joined::Whole(proof)) => tell(out, status, proof.as_slice()),
+        Outcome::Answered(Answer::Accused(Accused::Whole(evidence))) => {
+            tell(out, status, evidence.as_slice())
+        }
         _ => match print(alloc, outcome) {
             Ok(text) => tell(out, status, text.as_slice()),
             Err(NoMemory) => tell(out, fault_status(&CommandFault::NoMemory), no_memory()),
@@ -126,10 +131,11 @@ fn run_to_the_end<D: Disk, I: Inputs, S: Sink>(
 /// Does all that the program does for its words, which don't hold its own name, and answers its
 /// status with the disk; whatever it has to say is written to the sink.
 ///
-/// - 0: the command's output was written whole: the report of an accepted proof, the proof that was
-///   made or joined, or the anchor line of the service or step that was made.
-/// - 1: the proof isn't accepted, or the proofs don't join; `rejected`, the lowest reason that stands
-///   and its fields, or `Gap` and the number of the part.
+/// - 0: the command's output was written whole: the report of an accepted proof, the proof, the evidence
+///   or the message that was made, the fork that evidence shows, or the anchor line of the service or step
+///   that was made.
+/// - 1: the proof or the evidence isn't accepted, or the parts don't fit; `rejected`, the lowest reason
+///   that stands and its fields, or `Gap` and the number of the part.
 /// - 2: the words have no form; `usage` and the number of the first word at which none goes on, or 0
 ///   where the words have a form whose work isn't built yet.
 /// - 3: the inputs failed; `fault input`.
@@ -173,7 +179,7 @@ pub fn run<D: Disk, I: Inputs, S: Sink>(
     // service and step. Of a link: the service has the authenticator that is told at the step that is named.
     ensures accepted { result.status ≡ 0 → AreOf IsVerify (map string_bytes words.now)
         → IsAcceptedRun (I.told inputs.old) (map string_bytes words.now) (S.taken out.old) (S.taken out.new) }
-    // There are no other statuses than 0 to 9.
+    // There are no other statuses than 0 to 10.
     ensures statuses { IsStatus result.status }
 
     // Whatever the status, where a disk stood for a history for good, each image that a crash at any moment may leave
@@ -183,7 +189,7 @@ pub fn run<D: Disk, I: Inputs, S: Sink>(
     // What the disk reads as is told still, and stands for one of the two. At `init`, where the content was told, each
     // image is one that a crash might have left before, or is blank, or stands for the history of that name without
     // steps. What the disk then reads as is told still, and is such an image. Where a store was there, of a service or
-    // not, with writes pending or not, nothing is written. `prove` writes nothing. A command without a folder hands the
+    // not, with writes pending or not, nothing is written. `prove` and `thread` write nothing. A command without a folder hands the
     // disk back as it is, and so does a run of words that have no form.
     ensures crash { MatchOption (command_of (map string_bytes words.now)) (result.disk ≡ disk)
         (λ command. (work D.view (outside (asked (I.told inputs.old) (I.faults inputs.old) (I.faults inputs.new)) disk result.disk) command).safe) }

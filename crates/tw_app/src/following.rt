@@ -3,21 +3,23 @@
 ghost use Rattle.std.specs.Prelude.{◌≡◌, map, string_bytes, IfSome};
 ghost use Rattle.tw_base.specs.kinds.Lists.{Each};
 ghost use Rattle.tw_outside.specs.Asked.{asked};
-ghost use Rattle.tw_text.specs.CommandLine.{command_of};
+ghost use Rattle.tw_words.specs.CommandLine.{command_of};
 ghost use Rattle.tw_app.specs.Around.{outside};
 ghost use Rattle.tw_app.specs.Commands.{files_of};
 ghost use Rattle.tw_app.specs.Outcomes.{outcome_by};
-ghost use Rattle.tw_app.specs.declared.outcome.Outcome.TheVariants.{Made as OfThread, Proof as OfProof};
+ghost use Rattle.tw_app.specs.declared.outcome.Outcome.TheVariants.{Made as OfThread, Written as OfBytes};
 ghost use Rattle.tw_app.specs.Running.{HasOutcome, work};
 
-use crate::outcome::{Outcome, joined, judged, made, proved};
+use crate::outcome::{Outcome, accused, fork_judged, joined, judged, made, written};
 use std::alloc::Global;
 use tw_base::{Bytes, Thread};
 use tw_disk::Disk;
-use tw_diskcmd::{Worked, append, make, prove};
+use tw_diskcmd::{Worked, append, make, prove, prove_link, tell};
 use tw_filecmd::{join_files, show, verify_file, verify_one};
 use tw_outside::Inputs;
-use tw_text::{Command, CommandFault, WordFault, read_words};
+use tw_reachcmd::{accuse_linked, accuse_pair, check_fork};
+use tw_text::CommandFault;
+use tw_words::{Command, WordFault, read_words};
 
 /// What a run came to on a disk, and that disk.
 #[derive(Drop)]
@@ -50,7 +52,8 @@ pub(crate) fn follow_words<D: Disk, I: Inputs>(
     }
 }
 
-/// What the command comes to. Commands without a directory leave the disk as it is.
+/// What the command comes to. Commands without a directory leave the disk as it is. It is long, since
+/// it has an arm for each command.
 fn follow<D: Disk, I: Inputs>(
     alloc: Global,
     command: &Command,
@@ -62,16 +65,20 @@ fn follow<D: Disk, I: Inputs>(
 {
     match command {
         Command::Init { name } => with_thread(make(alloc, disk, *name)),
-        Command::Append { file } => with_thread(append(alloc, disk, inputs, file.as_str())),
-        Command::ProveEvent { step, index, top } => {
-            with_proof(prove(alloc, disk, *step, *index, *top))
+        Command::Append { file, time } => {
+            with_thread(append(alloc, disk, inputs, file.as_str(), *time))
         }
+        Command::Thread { since } => with_bytes(tell(alloc, disk, *since)),
+        Command::ProveEvent { step, index, top } => {
+            with_bytes(prove(alloc, disk, *step, *index, *top))
+        }
+        Command::ProveLink { step, top } => with_bytes(prove_link(alloc, disk, *step, *top)),
         Command::Show {
             history,
             step,
             index,
         } => Followed {
-            outcome: proved(show(alloc, inputs, history.as_str(), *step, *index)),
+            outcome: written(show(alloc, inputs, history.as_str(), *step, *index)),
             disk,
         },
         Command::Join { files } => Followed {
@@ -88,6 +95,32 @@ fn follow<D: Disk, I: Inputs>(
         },
         Command::VerifyOne { proof, anchor } => Followed {
             outcome: judged(verify_one(alloc, inputs, proof.as_str(), *anchor)),
+            disk,
+        },
+        Command::Accuse {
+            first,
+            second,
+            link: None,
+        } => Followed {
+            outcome: accused(accuse_pair(alloc, inputs, first.as_str(), second.as_str())),
+            disk,
+        },
+        Command::Accuse {
+            first,
+            second,
+            link: Some(link),
+        } => Followed {
+            outcome: accused(accuse_linked(
+                alloc,
+                inputs,
+                first.as_str(),
+                second.as_str(),
+                link.as_str(),
+            )),
+            disk,
+        },
+        Command::CheckFork { file, anchors } => Followed {
+            outcome: fork_judged(check_fork(alloc, inputs, file.as_str(), anchors.as_str())),
             disk,
         },
         _ => Followed {
@@ -108,13 +141,13 @@ fn with_thread<D>(worked: Worked<D, Thread>) -> Followed<D>
     }
 }
 
-/// What came of a command that proves an event.
-fn with_proof<D>(worked: Worked<D, Bytes>) -> Followed<D>
-    ensures outcome { result.outcome ≡ outcome_by OfProof worked.outcome }
+/// What came of a command that makes a proof or a message.
+fn with_bytes<D>(worked: Worked<D, Bytes>) -> Followed<D>
+    ensures outcome { result.outcome ≡ outcome_by OfBytes worked.outcome }
     ensures disk { result.disk ≡ worked.disk }
 {
     Followed {
-        outcome: proved(worked.outcome),
+        outcome: written(worked.outcome),
         disk: worked.disk,
     }
 }

@@ -11,7 +11,7 @@ ghost use Rattle.tw_text.specs.declared.refusal.Refusal.{Refusal};
 ghost use Rattle.tw_text.specs.declared.refusal.StoreCause.{StoreCause};
 ghost use Rattle.tw_app.specs.Around.{Around, Writes};
 ghost use Rattle.tw_app.specs.Running.{Ends};
-ghost use Rattle.tw_app.specs.Statuses.{AreOf, DiskFailed, IsBuilt, IsDiskFaultRun, IsDoneRun, IsGapRun, IsInputFaultRun, IsRejectedRun, IsUndoneRun, IsUsageRun, IsWork};
+ghost use Rattle.tw_app.specs.Statuses.{AreOf, DiskFailed, IsAnsweredRun, IsBuilt, IsDiskFaultRun, IsDoneRun, IsGapRun, IsInputFaultRun, IsRejectedRun, IsUndoneRun, IsUsageRun, IsWork};
 
 use tw_disk::Disk;
 
@@ -25,25 +25,40 @@ pub fn status_laws<D: Disk>()
     // that of the history's name and last step has the history's authenticator.
     // Status 0 of `join`: each file is there and holds a proof, and the bytes written spell the proof from event to event
     // that these join to.
-    // Status 0 of `prove`: what the disk read as opens as a service's store. Step, top and its last step are in their
+    // Status 0 of `prove event`: what the disk read as opens as a service's store. Step, top and its last step are in their
     // order, and the bytes written are the proof of the event of that index that is found in its pages, whatever these
     // keep. And where the disk read as a history, with writes pending or not, they are the proof that this history has of
     // that event under that top, or under its last step, and a step of the machine; and the disk stands for it, at rest.
     // They are accepted under any anchors of which that of the history's name and top has the history's authenticator.
+    // Status 0 of `prove link`: the same of the proof of the step's authenticator; the step may be 0.
+    // Status 0 of `thread`: what the disk read as opens as a service's store, which has a step, and whose last one isn't
+    // below the step that is named. The bytes written are the message of the last step that is found in its pages,
+    // whatever these keep. And where the disk read as a history, with writes pending or not, they spell the message that
+    // this history has of its last step since that step, whose path is a step of the machine; its link climbs from the
+    // history's authenticator of that step to that of the last one; and the disk stands for the history, at rest: so no
+    // loss of power takes what was told.
     // Status 0 of `init`: no store was there. The line written is that of step 0 of the history of that name without
     // steps. The disk, where its content was told, stands for that history, at rest.
     // Status 0 of `append`: the events file is there, within its limit, and spells events that the table doesn't
     // refuse. What the disk read as opens as a service's store, and the line written is that of its next step with these
-    // events, as it is found in its pages, whatever these keep. And where the disk read as a history, with writes
-    // pending or not, adding the events is a step of the machine, the line is that of the longer history's last step, and
-    // the disk stands for the longer history, at rest.
+    // events and the time of the words, if any, as it is found in its pages, whatever these keep. And where the disk read
+    // as a history, with writes pending or not, adding these is a step of the machine, the line is that of the longer
+    // history's last step, and the disk stands for the longer history, at rest.
+    // Status 0 of `accuse`: all files are there and hold the proofs of two received threads and, where one is named, a link.
+    // The bytes written spell the evidence that these make, and are accepted, with that fork, under all anchors under
+    // which it shows one. Status 0 of `checkfork`: the file is there, the anchors file is there and has no bad line, and the
+    // lines written are those of the fork that the file's bytes show under these anchors.
     ensures done { (a : Around D) → Ends D.view a 0 → IsDoneRun D.view a }
 
     // Status 1: the words are `verify` or `strict`, the proof file is there, its bytes spell no proof that is accepted
     // under the command's anchors, or, of `strict`, one that carries threads, and the line written names the lowest
     // reason that stands against them. Or the words are `join`, each file is there and holds a proof, and the line written
-    // has the number of the first that doesn't fit, or one more than there are, where the last is missing.
-    ensures rejected { (a : Around D) → Ends D.view a 1 → IsRejectedRun a ⊎ IsGapRun a }
+    // has the number of the first that doesn't fit, or one more than there are, where the last is missing. Or the words are
+    // of another command that comes to an answer of this status, whose text was written whole. Of `accuse` all files are there
+    // and hold the proofs of two received threads and, where one is named, a link, and the number written is that of the
+    // part that doesn't fit. Of `checkfork` the file is there, the anchors file is there and has no bad line, and the line
+    // names the first reason that stands against the file's bytes under these anchors.
+    ensures rejected { (a : Around D) → Ends D.view a 1 → IsRejectedRun a ⊎ IsGapRun a ⊎ IsAnsweredRun D.view a 1 }
     // Status 2: the words have no form, and the number written is that of the first word at which none goes on; or they
     // have one that isn't built, and it is 0.
     ensures usage { (a : Around D) → Ends D.view a 2 → IsUsageRun D.view a }
@@ -63,16 +78,16 @@ pub fn status_laws<D: Disk>()
     ensures no_memory { (a : Around D) → Ends D.view a 6 → Writes a no_memory_text }
     // Status 7 of `show`: the history file is there and is that of a sound history, which has no such step, or no such
     // event in it. The line written tells the last step, or the number of the step's events. Status 7 of `init`: a
-    // store was there. Status 7 of `append` and `prove`: what the disk read as opens as a service's store, and the line
-    // written is the first refusal of its table that stands; `NoEvent` tells how many events the step's page counts.
+    // store was there. Status 7 of `append`, `prove` and `thread`: what the disk read as opens as a service's store, and the
+    // line written is the first refusal of its table that stands; `NoEvent` tells how many events the step's page counts.
     // Where the disk read as a history, with writes pending or not, it is the machine's refusal, nothing was written, and
     // the disk stands for that history, at rest.
     ensures refused { (a : Around D) → Ends D.view a 7 → (refusal : Refusal) × IsUndoneRun D.view a (Refused refusal) }
-    // Status 8: the words are `append` or `prove`; at `append` the events file was judged before. With `Blank` and
+    // Status 8: the words are `append`, `prove` or `thread`; at `append` the events file was judged before. With `Blank` and
     // `NotAStore`, what the disk read as opens as no store of a service, for the reason that the line tells. With
     // `BadPage`, what the disk read as opens as a service's store whose table refuses nothing before a page is read,
     // and stands for no history. The page told is the first that the command meets there that isn't of its kind, or, at
-    // `prove`, the one read last where the event pages don't spell the step's events.
+    // `prove event`, the one read last where the event pages don't spell the step's events.
     ensures store { (a : Around D) → Ends D.view a 8 → (cause : StoreCause) × IsUndoneRun D.view a (Unserved cause) }
     // Status 8 never comes where the disk read as a history.
     ensures complete { (a : Around D) → Ends D.view a 8 → (h : History) → ReadsAs (D.view a.outside.disk.before).content h → ⊥ }
@@ -82,6 +97,9 @@ pub fn status_laws<D: Disk>()
     // Status 9 of `join`: all files are there, and the line tells the first that holds no proof, and its first byte at
     // which none goes on. Status 9 of `show`: the history file is there, and the line tells the byte of the limit, where
     // the file is longer; else the first byte at which no history file goes on; else the first step that breaks a rule of
-    // sound histories, and its first broken rule.
+    // sound histories, and its first broken rule. Status 9 of `accuse`: all files are there, and the line tells the first
+    // that holds no part of its kind, and its first byte at which none goes on. Status 9 of `checkfork`: as of `verify`.
     ensures unreadable { (a : Around D) → Ends D.view a 9 → (bad : BadInput) × IsUndoneRun D.view a (Unreadable bad) }
+    // Status 10: the words are of a command that comes to an answer of this status, and its text was written whole.
+    ensures clash { (a : Around D) → Ends D.view a 10 → IsAnsweredRun D.view a 10 }
 {}

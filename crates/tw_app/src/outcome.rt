@@ -1,12 +1,14 @@
 // What a run of the program comes to.
 
 ghost use Rattle.std.specs.Prelude.{◌≡◌};
-ghost use Rattle.tw_app.specs.Outcomes.{outcome_by};
-ghost use Rattle.tw_app.specs.declared.outcome.Outcome.TheVariants.{Joined as OfJoined, Judged as OfVerdict, Made as OfThread, Proof as OfProof};
+ghost use Rattle.tw_app.specs.Outcomes.{of_accused, of_fork, outcome_by};
+ghost use Rattle.tw_app.specs.declared.outcome.Outcome.TheVariants.{Joined as OfJoined, Judged as OfVerdict, Made as OfThread, Written as OfBytes};
 
 use tw_base::{Bytes, Thread};
 use tw_chain::Verdict;
+use tw_evidence::ForkVerdict;
 use tw_filecmd::Joined;
+use tw_reachcmd::{Accused, Answer};
 use tw_text::CommandFault;
 
 /// What a run comes to, apart from whether its text could be written.
@@ -14,12 +16,14 @@ use tw_text::CommandFault;
 pub enum Outcome {
     /// A proof was judged.
     Judged(Verdict),
-    /// An event was shown or proved: the bytes of its proof.
-    Proof(Bytes),
+    /// An event was shown, something was proved or the last step told: the bytes of the proof or of the message.
+    Written(Bytes),
     /// The proofs of files were joined, or don't fit.
     Joined(Joined),
     /// A service or a step was made: the thread of its last step.
     Made(Thread),
+    /// A command over files that reach beyond one proof was done.
+    Answered(Answer),
     /// The words have no form, and this is the number of the first word, from 1, at which none goes
     /// on; or 0, where they have a form whose work isn't built yet.
     BadWords { number: u64 },
@@ -37,12 +41,12 @@ pub(crate) fn judged(came: Result<Verdict, CommandFault>) -> Outcome
     }
 }
 
-/// The outcome of an event that was shown or proved.
-pub(crate) fn proved(came: Result<Bytes, CommandFault>) -> Outcome
-    ensures { result ≡ outcome_by OfProof came }
+/// The outcome of a proof or a message that was made.
+pub(crate) fn written(came: Result<Bytes, CommandFault>) -> Outcome
+    ensures { result ≡ outcome_by OfBytes came }
 {
     match came {
-        Ok(proof) => Outcome::Proof(proof),
+        Ok(bytes) => Outcome::Written(bytes),
         Err(fault) => Outcome::Undone(fault),
     }
 }
@@ -63,6 +67,26 @@ pub(crate) fn made(came: Result<Thread, CommandFault>) -> Outcome
 {
     match came {
         Ok(thread) => Outcome::Made(thread),
+        Err(fault) => Outcome::Undone(fault),
+    }
+}
+
+/// The outcome of a service that was accused of a fork.
+pub(crate) fn accused(came: Result<Accused, CommandFault>) -> Outcome
+    ensures { result ≡ outcome_by of_accused came }
+{
+    match came {
+        Ok(accused) => Outcome::Answered(Answer::Accused(accused)),
+        Err(fault) => Outcome::Undone(fault),
+    }
+}
+
+/// The outcome of evidence of a fork that was judged.
+pub(crate) fn fork_judged(came: Result<ForkVerdict, CommandFault>) -> Outcome
+    ensures { result ≡ outcome_by of_fork came }
+{
+    match came {
+        Ok(verdict) => Outcome::Answered(Answer::Fork(verdict)),
         Err(fault) => Outcome::Undone(fault),
     }
 }

@@ -8,6 +8,7 @@ use std::alloc::Global;
 use tw_base::{Bytes, NoMemory};
 use tw_chain::Verdict;
 use tw_filecmd::Joined;
+use tw_reachcmd::print_answer;
 use tw_text::{print_fault, print_gap, print_rejected, print_report, print_usage};
 
 /// The text of an outcome. Those that take no memory are written as they are.
@@ -18,8 +19,9 @@ pub(crate) fn print(alloc: Global, outcome: &Outcome) -> Result<Bytes, NoMemory>
         Outcome::Judged(Verdict::Yes(report)) => print_report(alloc, report),
         Outcome::Judged(Verdict::No(reason)) => print_rejected(alloc, reason),
         Outcome::Joined(Joined::Unfit { place }) => print_gap(alloc, *place),
+        Outcome::Answered(answer) => print_answer(alloc, answer),
         Outcome::BadWords { number } => print_usage(alloc, *number),
         Outcome::Undone(fault) => print_fault(alloc, fault),
-        Outcome::Proof(_) | Outcome::Joined(Joined::Whole(_)) | Outcome::Made(_) => Err(NoMemory),
+        Outcome::Written(_) | Outcome::Joined(Joined::Whole(_)) | Outcome::Made(_) => Err(NoMemory),
     }
 }

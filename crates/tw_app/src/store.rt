@@ -1,7 +1,7 @@
 // Which store the words ask for.
 
 ghost use Rattle.std.specs.Prelude.{◌≡◌, [], map, slice_index_or, string_bytes, IfOk};
-ghost use Rattle.tw_text.specs.declared.command.Command.{Command as AnyCommand};
+ghost use Rattle.tw_words.specs.declared.command.Command.{Command as AnyCommand};
 ghost use Rattle.tw_app.specs.Around.{Outside};
 ghost use Rattle.tw_app.specs.Running.{work};
 ghost use Rattle.tw_app.specs.Stores.{IsStoreOf, access_of as access_of_command};
@@ -9,7 +9,7 @@ ghost use Rattle.tw_app.specs.Stores.{IsStoreOf, access_of as access_of_command}
 use std::alloc::Global;
 use tw_base::NoMemory;
 use tw_disk::Disk;
-use tw_text::{Command, WordFault, read_words};
+use tw_words::{Command, WordFault, read_words};
 
 /// What a command does with the store of a folder.
 #[derive(Clone, Copy, PartialEq, Eq, Debug, Drop)]
@@ -35,7 +35,9 @@ fn access_of(command: &Command) -> Option<StoreAccess>
 {
     match command {
         Command::Init { .. } | Command::Append { .. } => Some(StoreAccess::Write),
-        Command::ProveEvent { .. } => Some(StoreAccess::Read),
+        Command::Thread { .. } | Command::ProveEvent { .. } | Command::ProveLink { .. } => {
+            Some(StoreAccess::Read)
+        }
         _ => None,
     }
 }

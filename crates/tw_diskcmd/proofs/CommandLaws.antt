@@ -13,10 +13,12 @@ use Rattle.tw_text.specs.declared.fault.CommandFault.{CommandFault}
 use Rattle.tw_text.specs.declared.fault.CommandFault.TheVariants.{Refused, Unserved, Unreadable, InputFault, DiskFault, NoMemory}
 use Rattle.tw_diskcmd.specs.Appending.{AppendComes, AppendLeaves, AppendSafe}
 use Rattle.tw_diskcmd.specs.Disks.{FoundDisk, IsLeft, Keeps, ReadLeaves, ReadsAs}
+use Rattle.tw_diskcmd.specs.Linking.{LinkComes}
 use Rattle.tw_diskcmd.specs.Making.{InitComes, InitLeaves, InitSafe}
 use Rattle.tw_diskcmd.specs.Proving.{ProveComes}
+use Rattle.tw_diskcmd.specs.Telling.{ThreadComes}
 use Rattle.tw_diskcmd.specs.WorkSteps.{WritesNothing}
-use Rattle.tw_diskcmd.proofs.AtRest.{left_begins, left_keeps, rests_reads, untouched_left}
+use Rattle.tw_diskcmd.proofs.AtRest.{left_begins, left_keeps, reads_as, rests_reads, untouched_left}
 
 -- ---- what it comes to
 
@@ -32,8 +34,8 @@ module _ (a : Asked) (t : FoundDisk) where
   pub init_causes : (name : List ℕ) → HasCauses a t ⊥ (Unit {0}) (InitComes t name)
   init_causes name = record { input = λ came. absurd came; disk = λ rose. (tt, rose); serves = λ h reads why came. came; memory = tt }
 
-  pub append_causes : (file : List ℕ) → HasCauses a t (Unit {0}) (Unit {0}) (AppendComes a t file)
-  append_causes file = record {
+  pub append_causes : (file : List ℕ) (time : Option ℕ) → HasCauses a t (Unit {0}) (Unit {0}) (AppendComes a t file time)
+  append_causes file time = record {
     input = λ rose. (tt, rose);
     disk = λ came. (tt, came.2);
     serves = λ h reads why came. came.2.machine h reads;
@@ -43,6 +45,24 @@ module _ (a : Asked) (t : FoundDisk) where
   pub prove_causes : (step index : ℕ) (top : Option ℕ) → HasCauses a t ⊥ (Unit {0}) (ProveComes t step index top)
   unfolding ProveComes
   prove_causes step index top = record {
+    input = λ came. absurd came;
+    disk = λ rose. (tt, rose);
+    serves = λ h reads why came. came.machine h reads;
+    memory = tt;
+  }
+
+  pub link_causes : (step : ℕ) (top : Option ℕ) → HasCauses a t ⊥ (Unit {0}) (LinkComes t step top)
+  unfolding LinkComes
+  link_causes step top = record {
+    input = λ came. absurd came;
+    disk = λ rose. (tt, rose);
+    serves = λ h reads why came. came.machine h reads;
+    memory = tt;
+  }
+
+  pub thread_causes : (since : ℕ) → HasCauses a t ⊥ (Unit {0}) (ThreadComes t since)
+  unfolding ThreadComes
+  thread_causes since = record {
     input = λ came. absurd came;
     disk = λ rose. (tt, rose);
     serves = λ h reads why came. came.machine h reads;
@@ -80,22 +100,22 @@ module _ {D : Type 0} (view : D → DiskView) (old new : D) where
     init_safe name (Err DiskFault) left = left
     init_safe name _ left = left_safe name left
 
-    left_adds : (told : Option Files) (file : List ℕ) → IsLeft view old new → AppendSafe view old new told file
-    left_adds told file left = λ h. (λ reads. inl (left.1, record { image = reads.image; told = left.0 ∙ reads.told; stands = reads.stands }), λ stands. inl ((left_keeps view old new left h).0 stands).0)
+    left_adds : (told : Option Files) (file : List ℕ) (time : Option ℕ) → IsLeft view old new → AppendSafe view old new told file time
+    left_adds told file time left = λ h. (λ reads. inl (left.1, record { image = reads.image; told = left.0 ∙ reads.told; stands = reads.stands }), λ stands. inl ((left_keeps view old new left h).0 stands).0)
 
-    append_safe : (told : Option Files) (file : List ℕ) (came : Result Thread CommandFault) → AppendLeaves view old new told file came → AppendSafe view old new told file
-    append_safe told file (Ok thread) left = λ h. (
-      λ reads. let adds = left.2.1 h in let made = adds.2 reads in inr (left.0, left.1, (adds.0, adds.1, made.1, rests_reads view as_it_reads new adds.0 h (ap (λ (n : History). n.name) adds.1) made.0)),
-      λ stands. let adds = left.2.1 h in inr (left.0, left.1, (adds.0, adds.1, adds.3 stands)),
+    append_safe : (told : Option Files) (file : List ℕ) (time : Option ℕ) (came : Result Thread CommandFault) → AppendLeaves view old new told file time came → AppendSafe view old new told file time
+    append_safe told file time (Ok thread) left = λ h. (
+      λ reads. let adds = left.2.1 h reads in inr (left.0, left.1, (adds.0, adds.1, adds.2.1.0, rests_reads view as_it_reads new adds.0 h (ap (λ (n : History). n.name) adds.1) adds.2.0)),
+      λ stands. let adds = left.2.1 h (reads_as view as_it_reads old h stands) in inr (left.0, left.1, (adds.0, adds.1, adds.2.1.1 stands)),
     )
-    append_safe told file (Err DiskFault) left = λ h. (
-      λ reads. let adds = left.2 h in let made = adds.2 reads in inr (left.0, left.1, (adds.0, adds.1, made.0, made.1)),
-      λ stands. let adds = left.2 h in inr (left.0, left.1, (adds.0, adds.1, adds.3 stands)),
+    append_safe told file time (Err DiskFault) left = λ h. (
+      λ reads. let adds = left.2 h reads in inr (left.0, left.1, (adds.0, adds.1, adds.2.1.0, adds.2.0)),
+      λ stands. let adds = left.2 h (reads_as view as_it_reads old h stands) in inr (left.0, left.1, (adds.0, adds.1, adds.2.1.1 stands)),
     )
-    append_safe told file (Err (Refused refusal)) left = left_adds told file left.0
-    append_safe told file (Err (Unreadable bad)) left = left_adds told file (untouched_left view old new only_now left)
-    append_safe told file (Err InputFault) left = left_adds told file (untouched_left view old new only_now left)
-    append_safe told file _ left = left_adds told file left
+    append_safe told file time (Err (Refused refusal)) left = left_adds told file time left.0
+    append_safe told file time (Err (Unreadable bad)) left = left_adds told file time (untouched_left view old new only_now left)
+    append_safe told file time (Err InputFault) left = left_adds told file time (untouched_left view old new only_now left)
+    append_safe told file time _ left = left_adds told file time left
 
     pub init_is_safe : (name : List ℕ) → IsSafe (InitLeaves view old new name) (InitSafe view old new name)
     init_is_safe name = record { idle = idle; no_memory = λ left. left; safe = init_safe name }
@@ -105,10 +125,10 @@ module _ {D : Type 0} (view : D → DiskView) (old new : D) where
         idle (Err DiskFault) left nothing = absurd nothing
         idle _ left nothing = left
 
-    pub append_is_safe : (told : Option Files) (file : List ℕ) → IsSafe (AppendLeaves view old new told file) (AppendSafe view old new told file)
-    append_is_safe told file = record { idle = idle; no_memory = λ left. left; safe = append_safe told file }
+    pub append_is_safe : (told : Option Files) (file : List ℕ) (time : Option ℕ) → IsSafe (AppendLeaves view old new told file time) (AppendSafe view old new told file time)
+    append_is_safe told file time = record { idle = idle; no_memory = λ left. left; safe = append_safe told file time }
       where
-        idle : (r : Result Thread CommandFault) → AppendLeaves view old new told file r → WritesNothing r → IsLeft view old new
+        idle : (r : Result Thread CommandFault) → AppendLeaves view old new told file time r → WritesNothing r → IsLeft view old new
         idle (Ok thread) left nothing = absurd nothing
         idle (Err DiskFault) left nothing = absurd nothing
         idle (Err (Refused refusal)) left nothing = left.0

@@ -38,13 +38,13 @@ module _ (a : Asked) (file all : List ℕ) (there : IsThere a.told file) (read :
   }
 
   pub too_long : (came : CommandFault) → EVENTS_LIMIT < length all → came ≡ Unreadable (BadByte file EVENTS_LIMIT) → ComesOfFile a file came
-  too_long came longer is = subst (ComesOfFile a file) (sym is) (record { stops = tt; comes = λ t. (refl, there, λ bytes tells. inl (is_longer all bytes (read bytes tells) longer, refl)) })
+  too_long came longer is = subst (ComesOfFile a file) (sym is) (record { stops = tt; comes = λ t time. (refl, there, λ bytes tells. inl (is_longer all bytes (read bytes tells) longer, refl)) })
 
   pub no_events : (place : ℕ) (came : CommandFault) → length all ≤ EVENTS_LIMIT → SpellsNothing events_file all × IsPlace events_file all place
       → came ≡ Unreadable (BadByte file place) → ComesOfFile a file came
   no_events place came short none is = subst (ComesOfFile a file) (sym is) (record {
     stops = tt;
-    comes = λ t. (
+    comes = λ t time. (
       refl,
       there,
       λ bytes tells.

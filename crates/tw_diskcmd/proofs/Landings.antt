@@ -2,7 +2,7 @@
 use Rattle.std.proofs.Common.{◌≡◌, ◌∙◌, ℕ, List, refl, ap, sym, subst, inl, inr, ◌⊎◌}
 use Rattle.std.specs.Prelude.{Option, Some, Result, Ok, Err, ◌≢◌}
 use Rattle.tw_base.specs.declared.history.thread.Thread.{Thread}
-use Rattle.tw_base.specs.history.History.{History, with_events}
+use Rattle.tw_base.specs.history.History.{History}
 use Rattle.tw_disk.specs.Disk.{DiskView, LeavesOnly}
 use Rattle.tw_disk.specs.Image.{Image}
 use Rattle.tw_base.specs.kinds.Faults.{Rose}
@@ -11,6 +11,7 @@ use Rattle.tw_outside.specs.Files.{Files}
 use Rattle.tw_pages.specs.Slots.{IsTaken}
 use Rattle.tw_pages.specs.declared.open.StoreFault.{StoreFault}
 use Rattle.tw_pages.specs.declared.open.StoreFault.TheVariants as store
+use Rattle.tw_service.specs.EventSteps.{with_events}
 use Rattle.tw_text.specs.declared.fault.CommandFault.{CommandFault}
 use Rattle.tw_text.specs.declared.fault.CommandFault.TheVariants.{Refused, Unserved, Unreadable, InputFault, DiskFault, NoMemory}
 use Rattle.tw_diskcmd.specs.Appending.{AppendComes, AppendLeaves, AreEventsOf, StepComes}
@@ -18,18 +19,18 @@ use Rattle.tw_diskcmd.specs.Disks.{FoundDisk, IsLeft, ReadLeaves, ReadsAs, Settl
 use Rattle.tw_diskcmd.specs.Faults.{fault_of_store}
 use Rattle.tw_diskcmd.specs.Making.{InitComes, InitLeaves, InitSafe}
 use Rattle.tw_diskcmd.specs.WorkSteps.{IsStop, LeavesStep, WritesNothing}
-use Rattle.tw_diskcmd.proofs.AtRest.{no_call_left, old_or_one, one_of, reads_as}
+use Rattle.tw_diskcmd.proofs.AtRest.{no_call_left, old_or_one, one_of}
 
 -- ---- what the work comes to is what its command comes to
 
-pub comes_of_step : (a : Asked) (t : FoundDisk) (file : List ℕ) (events : List (List ℕ)) (came : Result Thread CommandFault) → AreEventsOf a.told file events
-    → StepComes t events came → AppendComes a t file came
-comes_of_step a t file events (Ok thread) are comes = (events, are, comes)
-comes_of_step a t file events (Err (Refused refusal)) are comes = (events, are, comes)
-comes_of_step a t file events (Err (Unserved cause)) are comes = (events, are, comes)
-comes_of_step a t file events (Err DiskFault) are comes = (events, are, comes)
-comes_of_step a t file events (Err NoMemory) are comes = tt
-comes_of_step a t file events _ are comes = absurd comes
+pub comes_of_step : (a : Asked) (t : FoundDisk) (file : List ℕ) (events : List (List ℕ)) (time : Option ℕ) (came : Result Thread CommandFault) → AreEventsOf a.told file events
+    → StepComes t events time came → AppendComes a t file time came
+comes_of_step a t file events time (Ok thread) are comes = (events, are, comes)
+comes_of_step a t file events time (Err (Refused refusal)) are comes = (events, are, comes)
+comes_of_step a t file events time (Err (Unserved cause)) are comes = (events, are, comes)
+comes_of_step a t file events time (Err DiskFault) are comes = (events, are, comes)
+comes_of_step a t file events time (Err NoMemory) are comes = tt
+comes_of_step a t file events time _ are comes = absurd comes
 
 -- a service that isn't made: only where there is one, or where the disk failed
 pub unmade : (t : FoundDisk) (name : List ℕ) (f : StoreFault) (came : CommandFault) → came ≡ fault_of_store f → (f ≡ store.Taken) ⊎ (f ≡ store.DiskFault)
@@ -43,45 +44,45 @@ unmade t name f came is (inr failed) has fault = subst (λ (c : CommandFault). I
 module _ {D : Type 0} (view : D → DiskView) where
   module _ (old new : D) where
     -- a disk that reads as a history isn't opened only where it failed
-    pub unopened_leaves : (events : List (List ℕ)) (h : History) → ReadsAs (view old).content h → (view new).content ≡ (view old).content
+    pub unopened_leaves : (events : List (List ℕ)) (time : Option ℕ) (h : History) → ReadsAs (view old).content h → (view new).content ≡ (view old).content
         → (f : StoreFault) (came : CommandFault) → came ≡ fault_of_store f → f ≡ store.DiskFault
-        → LeavesOnly (view old) (view new) (view old).may_leave → LeavesStep view old new h (with_events h events) (Err came)
-    unopened_leaves events h reads same f came is fault left =
-        subst (λ (c : CommandFault). LeavesStep view old new h (with_events h events) (Err c)) (sym (is ∙ ap fault_of_store fault))
-        (old_or_one view old new (with_events h events) h left, record { image = reads.image; told = same ∙ reads.told; has = inl reads.stands })
+        → LeavesOnly (view old) (view new) (view old).may_leave → LeavesStep view old new h (with_events h events time) (Err came)
+    unopened_leaves events time h reads same f came is fault left =
+        subst (λ (c : CommandFault). LeavesStep view old new h (with_events h events time) (Err c)) (sym (is ∙ ap fault_of_store fault))
+        (old_or_one view old new (with_events h events time) h left, record { image = reads.image; told = same ∙ reads.told; has = inl reads.stands })
 
-    pub leaves_of_step : (as_it_reads : (d : D) (image : Image) → (view d).content ≡ Some image → (view d).may_leave image) → (told : Option Files) (before after : ℕ) (file : List ℕ) (events : List (List ℕ)) (came : Result Thread CommandFault) → AreEventsOf told file events
-        → StepComes (found_disk (view old).content before after) events came
-        → ((h : History) → ReadsAs (view old).content h → LeavesStep view old new h (with_events h events) came)
+    pub leaves_of_step : (told : Option Files) (before after : ℕ) (file : List ℕ) (events : List (List ℕ)) (time : Option ℕ) (came : Result Thread CommandFault) → AreEventsOf told file events
+        → StepComes (found_disk (view old).content before after) events time came
+        → ((h : History) → ReadsAs (view old).content h → LeavesStep view old new h (with_events h events time) came)
         → (WritesNothing came → IsLeft view old new)
-        → AppendLeaves view old new told file came
-    leaves_of_step as_it_reads told before after file events (Ok thread) are comes leaves nothing = (
+        → AppendLeaves view old new told file time came
+    leaves_of_step told before after file events time (Ok thread) are comes leaves nothing = (
       events,
       are,
       (
         comes,
-        λ h. (
-          with_events h events,
-          refl,
-          λ reads. leaves h reads,
-          λ stands. one_of view old new (with_events h events) h stands (leaves h (reads_as view as_it_reads old h stands)).1,
-        ),
+        λ h reads.
+            let left = leaves h reads in (
+              with_events h events time,
+              refl,
+              (left.0, (left.1, λ stands. one_of view old new (with_events h events time) h stands left.1)),
+            ),
       ),
     )
-    leaves_of_step as_it_reads told before after file events (Err DiskFault) are comes leaves nothing = (
+    leaves_of_step told before after file events time (Err DiskFault) are comes leaves nothing = (
       events,
       are,
-      λ h. (
-        with_events h events,
-        refl,
-        λ reads. leaves h reads,
-        λ stands. one_of view old new (with_events h events) h stands (leaves h (reads_as view as_it_reads old h stands)).0,
-      ),
+      λ h reads.
+          let left = leaves h reads in (
+            with_events h events time,
+            refl,
+            (left.1, (left.0, λ stands. one_of view old new (with_events h events time) h stands left.0)),
+          ),
     )
-    leaves_of_step as_it_reads told before after file events (Err (Refused refusal)) are comes leaves nothing = (nothing tt, λ h reads. leaves h reads)
-    leaves_of_step as_it_reads told before after file events (Err (Unserved cause)) are comes leaves nothing = nothing tt
-    leaves_of_step as_it_reads told before after file events (Err NoMemory) are comes leaves nothing = nothing tt
-    leaves_of_step as_it_reads told before after file events _ are comes leaves nothing = absurd comes
+    leaves_of_step told before after file events time (Err (Refused refusal)) are comes leaves nothing = (nothing tt, λ h reads. leaves h reads)
+    leaves_of_step told before after file events time (Err (Unserved cause)) are comes leaves nothing = nothing tt
+    leaves_of_step told before after file events time (Err NoMemory) are comes leaves nothing = nothing tt
+    leaves_of_step told before after file events time _ are comes leaves nothing = absurd comes
 
     -- a command that only reads leaves a disk that settles, or that wasn't opened
     pub leaves_of_reading : {X : Type 0} → (came : Result X CommandFault) → IsLeft view old new → Settles view old new → ReadLeaves view old new came
@@ -109,9 +110,9 @@ module _ {D : Type 0} (view : D → DiskView) where
 
   -- ---- a disk that wasn't touched
 
-  pub stop_leaves : (only_now : (d : D) (image : Image) → (view d).left_since (view d).moment image → (view d).may_leave image) (disk : D) (told : Option Files) (file : List ℕ) (came : CommandFault) → IsStop came
-      → AppendLeaves view disk disk told file (Err came)
-  stop_leaves only_now disk told file (Unreadable bad) stop = refl
-  stop_leaves only_now disk told file InputFault stop = refl
-  stop_leaves only_now disk told file NoMemory stop = no_call_left view disk (only_now disk)
-  stop_leaves only_now disk told file _ stop = absurd stop
+  pub stop_leaves : (only_now : (d : D) (image : Image) → (view d).left_since (view d).moment image → (view d).may_leave image) (disk : D) (told : Option Files) (file : List ℕ) (time : Option ℕ) (came : CommandFault) → IsStop came
+      → AppendLeaves view disk disk told file time (Err came)
+  stop_leaves only_now disk told file time (Unreadable bad) stop = refl
+  stop_leaves only_now disk told file time InputFault stop = refl
+  stop_leaves only_now disk told file time NoMemory stop = no_call_left view disk (only_now disk)
+  stop_leaves only_now disk told file time _ stop = absurd stop

@@ -5,3 +5,6 @@ pub mod Steps
 pub mod EventProofs
 pub mod Landings
 pub mod CommandLaws
+pub mod AskedCalls
+pub mod LinkAnswers
+pub mod ThreadAnswers

@@ -11,6 +11,7 @@ use Rattle.tw_disk.specs.Found.{Found}
 use Rattle.tw_disk.specs.Found.Found.{Is}
 use Rattle.tw_service.specs.Finds.{IsRefusalOf}
 use Rattle.tw_service.specs.Machine.{Answers, Call, Reply}
+use Rattle.tw_service.specs.Refusals.{IsFault}
 use Rattle.tw_service.specs.Stands.{IsNotOpenedFor, Served}
 use Rattle.tw_service.specs.Stands.Served.{Opened, Unopened}
 use Rattle.tw_service.specs.declared.refusal.Refusal.{Refusal}
@@ -62,9 +63,25 @@ pub no_reopen : (X : Type 0) (Else : Refusal → Type 0) (table : Option Refusal
 no_reopen X Else None told never r is same = never (subst Else same is)
 no_reopen X Else (Some q) told never r is same = told.1 (same_err {X = X} r q is ∙ same)
 
-pub table_refuses : (table : (last : ℕ) → Option Refusal) (last : ℕ) (r : Refusal) → table last ≡ Some r → TableRefuses table (fault_of_service r)
+pub table_refuses : {S : Type 0} (table : S → Option Refusal) (last : S) (r : Refusal) → table last ≡ Some r → TableRefuses table (fault_of_service r)
 table_refuses table last (service.BadPage page) is = tt
 table_refuses table last r is = (r, refl, (last, is))
+
+-- what a table beside which there are faults only says of an answer
+abbrev pub Table : {X : Type 0} → Option Refusal → Result X Refusal → Type 0
+Table = IsByTable IsFault
+
+-- a fault that tells of the disk is a bad page, of which the table says nothing
+page_free : {S : Type 0} (table : S → Option Refusal) (r : Refusal) → TellsOfDisk r → IsFault r → TableRefuses table (fault_of_service r)
+page_free table (service.BadPage page) tells is = tt
+page_free table service.DiskFault tells is = absurd tells
+page_free table service.NoMemory tells is = absurd tells
+page_free table _ tells is = absurd is
+
+pub by_table : {S : Type 0} (X : Type 0) (table : S → Option Refusal) (at : S) (o : Option Refusal) → table at ≡ o → (r : Refusal) → TellsOfDisk r → Table {X = X} o (Err r)
+    → TableRefuses table (fault_of_service r)
+by_table X table at None none r tells is = page_free table r tells is
+by_table X table at (Some q) some r tells is = table_refuses table at r (some ∙ ap (λ (x : Refusal). Some x) (same_err {X = X} r q is))
 
 pub machine_refuses : {T : Type 0} (h : History) (call : Call) (reply : T → Reply) (Serves : History → Type 0) (r : Refusal) → TellsOfDisk r → Answers sha256 h call reply (Err r) Serves → MachineRefuses h call (fault_of_service r)
 machine_refuses h call reply Serves service.DiskFault tells is = absurd tells

@@ -1,5 +1,5 @@
 -- What a command over the disk of a service answers: a function of what the disk is served as.
-use Rattle.std.specs.Prelude.{◌≡◌, ℕ, Option, Some, Result, Ok, Err}
+use Rattle.std.specs.Prelude.{◌≡◌, ℕ, Option, Some, None, Result, Ok, Err}
 use Rattle.sha2.specs.Sha256.{sha256}
 use Rattle.tw_base.specs.kinds.Faults.{Rose}
 use Rattle.tw_base.specs.history.History.{History}
@@ -46,15 +46,28 @@ module _ {X : Type 0} where
 abbrev pub IsRefusal : (P : Refusal → Type 0) → CommandFault → Type 0
 IsRefusal P why = (refusal : Refusal) × (why ≡ fault_of_service refusal) × P refusal
 
--- over whatever disk: the fault is the refusal of the table for some number of steps, or tells of the disk
-abbrev pub TableRefuses : (table : (last : ℕ) → Option Refusal) → CommandFault → Type 0
+-- over whatever disk: the fault is the refusal of the table for some service, of which it asks this, or tells of the disk
+abbrev pub TableRefuses : {S : Type 0} → (table : S → Option Refusal) → CommandFault → Type 0
 TableRefuses table (fault.Unserved cause) = Unit {0}
-TableRefuses table why = IsRefusal (λ refusal. (last : ℕ) × (table last ≡ Some refusal)) why
+TableRefuses {S} table why = IsRefusal (λ refusal. (of : S) × (table of ≡ Some refusal)) why
 
 -- where the disk reads as this history: the machine refuses the call so, and it is never told that nothing is served
 abbrev pub MachineRefuses : History → Call → CommandFault → Type 0
 MachineRefuses h call (fault.Unserved cause) = ⊥
 MachineRefuses h call why = IsRefusal (λ refusal. IsStepOf sha256 h call (Refused refusal) h) why
+
+-- ---- answers of a command all of whose refusals are of one table
+
+module _ {X : Type 0} where
+  -- for some number of steps the table refuses nothing, where there is an answer; else the refusal is the table's
+  abbrev pub TableAnswers : (table : (last : ℕ) → Option Refusal) → Result X CommandFault → Type 0
+  TableAnswers table (Ok value) = (last : ℕ) × (table last ≡ None)
+  TableAnswers table (Err why) = TableRefuses table why
+
+  -- where the disk reads as this history: the answer is what is made of it, or else the machine refuses the call
+  abbrev pub MachineAnswers : (call : History → Call) → (Makes : X → History → Type 0) → History → Result X CommandFault → Type 0
+  MachineAnswers call Makes h (Ok value) = Makes value h
+  MachineAnswers call Makes h (Err why) = MachineRefuses h (call h) why
 
 -- ---- what a command comes to
 

@@ -1,9 +1,9 @@
--- `append`: when a step of the events of a file is added, when it isn't, what the command comes to, and what it leaves of the disk.
+-- `append`: when a step of the events of a file is added, with a time or none, when it isn't, what the command comes to, and what it leaves of the disk.
 use Rattle.std.specs.Prelude.{◌≡◌, ◌⊎◌, ℕ, ◌+◌, ◌<◌, ◌≤◌, List, length, Option, None, Result, Ok, Err, false}
 use Rattle.sha2.specs.Sha256.{sha256}
 use Rattle.tw_base.specs.declared.history.thread.Thread.{Thread}
 use Rattle.tw_base.specs.format.Formats.{IsPlace, Spells, SpellsNothing}
-use Rattle.tw_base.specs.history.History.{History, with_events}
+use Rattle.tw_base.specs.history.History.{History}
 use Rattle.tw_base.specs.kinds.Faults.{Rose}
 use Rattle.tw_disk.specs.Disk.{DiskView, LeavesOnly}
 use Rattle.tw_disk.specs.Image.{Image}
@@ -12,6 +12,7 @@ use Rattle.tw_outside.specs.Asked.{Asked}
 use Rattle.tw_outside.specs.Files.{Files, IsThere, Tells}
 use Rattle.tw_service.specs.declared.refusal.Refusal.{Refusal as ServiceRefusal}
 use Rattle.tw_disk.specs.Found.{Found}
+use Rattle.tw_service.specs.EventSteps.{with_events}
 use Rattle.tw_service.specs.Finds.{found_thread}
 use Rattle.tw_service.specs.Limits.{append_refusal}
 use Rattle.tw_service.specs.Machine.{IsStepOf, NextOf, last_thread}
@@ -39,59 +40,63 @@ IsBadEventsByte bytes place =
     ((EVENTS_LIMIT < length bytes) × (place ≡ EVENTS_LIMIT))
     ⊎ ((length bytes ≤ EVENTS_LIMIT) × SpellsNothing events_file bytes × IsPlace events_file bytes place)
 
--- the thread of the next step that is found in a service's pages, with these events and its archive
-abbrev pub added : (events : List (List ℕ)) → RootRecord → Image → Found (Result Thread ServiceRefusal)
-added events root pages = found_thread sha256 pages root.name root.head false events root.archive
+-- the thread of the next step that is found in a service's pages, with these events, this time or none, and its archive
+abbrev pub added : (events : List (List ℕ)) (time : Option ℕ) → RootRecord → Image → Found (Result Thread ServiceRefusal)
+added events time root pages = found_thread sha256 pages root.name root.head false root.time events time root.archive
 
--- for some number of steps the table refuses nothing, and the thread is of the next one
-abbrev pub TableAdds : (events : List (List ℕ)) → Result Thread CommandFault → Type 0
-TableAdds events (Ok thread) = (last : ℕ) × (append_refusal false last events ≡ None) × (thread.step ≡ last + 1)
-TableAdds events (Err why) = TableRefuses (λ last. append_refusal false last events) why
+-- what the table says for some number of steps and some greatest time so far
+abbrev pub table_of : (events : List (List ℕ)) (time : Option ℕ) → ℕ × Option ℕ → Option ServiceRefusal
+table_of events time at = append_refusal false at.0 at.1 events time
+
+-- for some such it refuses nothing, and the thread is of the next step
+abbrev pub TableAdds : (events : List (List ℕ)) (time : Option ℕ) → Result Thread CommandFault → Type 0
+TableAdds events time (Ok thread) = (at : ℕ × Option ℕ) × (table_of events time at ≡ None) × (thread.step ≡ at.0 + 1)
+TableAdds events time (Err why) = TableRefuses (table_of events time) why
 
 -- the machine's step to the longer history, whose last thread is told
-abbrev pub MachineAdds : (events : List (List ℕ)) → History → Result Thread CommandFault → Type 0
-MachineAdds events h (Ok thread) =
-    (thread ≡ last_thread sha256 (with_events h events)) × IsStepOf sha256 h (Append events) (OfThread thread) (with_events h events)
-MachineAdds events h (Err why) = MachineRefuses h (Append events) why
+abbrev pub MachineAdds : (events : List (List ℕ)) (time : Option ℕ) → History → Result Thread CommandFault → Type 0
+MachineAdds events time h (Ok thread) =
+    (thread ≡ last_thread sha256 (with_events h events time)) × IsStepOf sha256 h (Append events time) (OfThread thread) (with_events h events time)
+MachineAdds events time h (Err why) = MachineRefuses h (Append events time) why
 
 -- P holds of the events of the file
 abbrev pub OfEvents : (told : Option Files) (file : List ℕ) → (List (List ℕ) → Type 0) → Type 0
 OfEvents told file P = (events : List (List ℕ)) × AreEventsOf told file events × P events
 
--- the result of the adding of these events to the disk's service
-abbrev pub IsStepResult : (found : Option Image) (events : List (List ℕ)) → Result Thread CommandFault → Type 0
-IsStepResult found events result = IsResult (added events) (TableAdds events) (MachineAdds events) found result
+-- the result of the adding of these events to the disk's service, with this time or none
+abbrev pub IsStepResult : (found : Option Image) (events : List (List ℕ)) (time : Option ℕ) → Result Thread CommandFault → Type 0
+IsStepResult found events time result = IsResult (added events time) (TableAdds events time) (MachineAdds events time) found result
 
 -- what it comes to
-abbrev pub StepComes : FoundDisk → (events : List (List ℕ)) → Result Thread CommandFault → Type 0
-StepComes t events result = ComesTo (added events) (TableAdds events) (MachineAdds events) t result
+abbrev pub StepComes : FoundDisk → (events : List (List ℕ)) (time : Option ℕ) → Result Thread CommandFault → Type 0
+StepComes t events time result = ComesTo (added events time) (TableAdds events time) (MachineAdds events time) t result
 
 -- what the command comes to: the file isn't what it reads, or the inputs failed; else what the adding of its events comes to
-abbrev pub AppendComes : Asked → FoundDisk → (file : List ℕ) → Result Thread CommandFault → Type 0
-AppendComes a t file (Err (fault.Unreadable (BadByte named place))) =
+abbrev pub AppendComes : Asked → FoundDisk → (file : List ℕ) (time : Option ℕ) → Result Thread CommandFault → Type 0
+AppendComes a t file time (Err (fault.Unreadable (BadByte named place))) =
     (named ≡ file) × IsThere a.told file × ((bytes : List ℕ) → Tells a.told file bytes → IsBadEventsByte bytes place)
-AppendComes a t file (Err fault.InputFault) = Rose a.before a.after
-AppendComes a t file (Err fault.NoMemory) = Unit {0}
-AppendComes a t file result = OfEvents a.told file (λ events. StepComes t events result)
+AppendComes a t file time (Err fault.InputFault) = Rose a.before a.after
+AppendComes a t file time (Err fault.NoMemory) = Unit {0}
+AppendComes a t file time result = OfEvents a.told file (λ events. StepComes t events time result)
 
 module _ {D : Type 0} (view : D → DiskView) (old new : D) where
   -- the step is added, or a disk fault came and it may be; where it was refused, nothing was written and the disk became stable; where
   -- the file wasn't read or is none, no device call was made; at every other result nothing was written
-  abbrev pub AppendLeaves : (told : Option Files) (file : List ℕ) → Result Thread CommandFault → Type 0
-  AppendLeaves told file (Ok thread) = OfEvents told file (λ events. IsStepResult (view old).content events (Ok thread) × Adds view (Append events) old new)
-  AppendLeaves told file (Err fault.DiskFault) = OfEvents told file (λ events. KeepsOrAdds view (Append events) old new)
-  AppendLeaves told file (Err (fault.Refused refusal)) = IsLeft view old new × Settles view old new
-  AppendLeaves told file (Err (fault.Unreadable bad)) = new ≡ old
-  AppendLeaves told file (Err fault.InputFault) = new ≡ old
-  AppendLeaves told file _ = IsLeft view old new
+  abbrev pub AppendLeaves : (told : Option Files) (file : List ℕ) (time : Option ℕ) → Result Thread CommandFault → Type 0
+  AppendLeaves told file time (Ok thread) = OfEvents told file (λ events. IsStepResult (view old).content events time (Ok thread) × Adds view (Append events time) old new)
+  AppendLeaves told file time (Err fault.DiskFault) = OfEvents told file (λ events. KeepsOrAdds view (Append events time) old new)
+  AppendLeaves told file time (Err (fault.Refused refusal)) = IsLeft view old new × Settles view old new
+  AppendLeaves told file time (Err (fault.Unreadable bad)) = new ≡ old
+  AppendLeaves told file time (Err fault.InputFault) = new ≡ old
+  AppendLeaves told file time _ = IsLeft view old new
 
   -- Of a history that the disk read as, each image since is one that a crash might have left before, and the content is told still and
   -- stands for it; or the file has events, and each image stands for it or for the next one, by the machine's adding of them, or is
   -- one that might have been left before, and the content stands for one of the two. Of a history that it stood for for good, each
   -- image stands for it, or for one of the two.
-  abbrev pub AppendSafe : (told : Option Files) (file : List ℕ) → Type 0
-  AppendSafe told file = (h : History) →
+  abbrev pub AppendSafe : (told : Option Files) (file : List ℕ) (time : Option ℕ) → Type 0
+  AppendSafe told file time = (h : History) →
       (ReadsAs (view old).content h → (LeavesOnly (view old) (view new) (view old).may_leave × ReadsAs (view new).content h)
-      ⊎ OfEvents told file (λ events. (next : History) × NextOf (Append events) h next × LeavesOldOrOneOf view old new h next × ReadsAsOneOf view new h next))
+      ⊎ OfEvents told file (λ events. (next : History) × NextOf (Append events time) h next × LeavesOldOrOneOf view old new h next × ReadsAsOneOf view new h next))
       × (Stands view old h → LeavesOnly (view old) (view new) (IsOf h)
-      ⊎ OfEvents told file (λ events. (next : History) × NextOf (Append events) h next × LeavesOnly (view old) (view new) (StandsForOneOf sha256 h.name h next)))
+      ⊎ OfEvents told file (λ events. (next : History) × NextOf (Append events time) h next × LeavesOnly (view old) (view new) (StandsForOneOf sha256 h.name h next)))

@@ -60,21 +60,22 @@ module _ {D : Type 0} (view : D → DiskView) where
   abbrev pub ReadsAsOneOf : (disk : D) → (h next : History) → Type 0
   ReadsAsOneOf disk h next = Reads (view disk) (StandsForOneOf sha256 h.name h next)
 
-  -- of each history there is a next one, by the machine's call. Where the disk read as the history, with writes pending or not, each
-  -- image since is one that a crash might have left before, or stands for one of the two, and the content is told still and stands
-  -- for one of the two; where it stood for it for good, each image stands for one of the two
-  abbrev pub KeepsOrAdds : Call → (old new : D) → Type 0
-  KeepsOrAdds call old new =
-      (h : History) → (next : History) × NextOf call h next
-      × (ReadsAs (view old).content h → LeavesOldOrOneOf old new h next × ReadsAsOneOf new h next)
-      × (Stands old h → LeavesOnly (view old) (view new) (StandsForOneOf sha256 h.name h next))
+  -- each image since is one that a crash might have left before, or stands for one of the two; and where the disk stood for this
+  -- history for good, each stands for one of the two
+  abbrev pub LeavesOneOf : (old new : D) → (h next : History) → Type 0
+  LeavesOneOf old new h next = LeavesOldOrOneOf old new h next × (Stands old h → LeavesOnly (view old) (view new) (StandsForOneOf sha256 h.name h next))
 
-  -- the same of the images, and where it read as the history, it now stands for the next one, at rest
+  -- of a history that the disk read as, with writes pending or not, there is a next one, by the machine's call, and this holds of both
+  abbrev pub OfNext : Call → (old : D) → (P : (h next : History) → Type 0) → Type 0
+  OfNext call old P = (h : History) → ReadsAs (view old).content h → (next : History) × NextOf call h next × P h next
+
+  -- it is kept or the next one comes: the content is told still and stands for one of the two, and so do the images
+  abbrev pub KeepsOrAdds : Call → (old new : D) → Type 0
+  KeepsOrAdds call old new = OfNext call old (λ h next. ReadsAsOneOf new h next × LeavesOneOf old new h next)
+
+  -- the next one comes: the disk now stands for it, at rest
   abbrev pub Adds : Call → (old new : D) → Type 0
-  Adds call old new =
-      (h : History) → (next : History) × NextOf call h next
-      × (ReadsAs (view old).content h → Rests new next × LeavesOldOrOneOf old new h next)
-      × (Stands old h → LeavesOnly (view old) (view new) (StandsForOneOf sha256 h.name h next))
+  Adds call old new = OfNext call old (λ h next. Rests new next × LeavesOneOf old new h next)
 
   -- an image that a crash might have left before, or a blank one, or one that stands for the history of this name that has no step
   abbrev pub IsOldOrBegun : (name : List ℕ) → (old : D) → Image → Type 0

@@ -3,7 +3,7 @@ use Rattle.tw_pages.specs.declared.open.StoreFault.{StoreFault}
 use Rattle.tw_pages.specs.declared.open.StoreFault.TheVariants as store
 use Rattle.tw_service.specs.declared.refusal.Refusal.{Refusal}
 use Rattle.tw_service.specs.declared.refusal.Refusal.TheVariants as service
-use Rattle.tw_text.specs.declared.refusal.Refusal.TheVariants.{NoStep, NoEvent, Taken, Full, TooMany, TooLong}
+use Rattle.tw_text.specs.declared.refusal.Refusal.TheVariants.{NoStep, NoEvent, Taken, Full, TooMany, TooLong, ClockBack}
 use Rattle.tw_text.specs.declared.refusal.StoreCause.TheVariants.{Blank, NotAStore, BadPage}
 use Rattle.tw_text.specs.declared.fault.CommandFault.{CommandFault}
 use Rattle.tw_text.specs.declared.fault.CommandFault.TheVariants.{Refused, Unserved, DiskFault, NoMemory}
@@ -23,6 +23,7 @@ fault_of_service (service.NoEvent count) = Refused (NoEvent count)
 fault_of_service (service.TooMany count) = Refused (TooMany count)
 fault_of_service (service.TooLong bytes) = Refused (TooLong bytes)
 fault_of_service service.Full = Refused Full
+fault_of_service (service.ClockBack last given) = Refused (ClockBack last given)
 fault_of_service (service.BadPage page) = Unserved (BadPage page)
 fault_of_service service.DiskFault = DiskFault
 fault_of_service service.Reopen = DiskFault

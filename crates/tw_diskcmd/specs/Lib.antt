@@ -4,4 +4,6 @@ pub mod Answers
 pub mod Making
 pub mod Appending
 pub mod Proving
+pub mod Linking
+pub mod Telling
 pub mod WorkSteps

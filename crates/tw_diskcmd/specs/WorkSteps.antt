@@ -1,5 +1,5 @@
 -- What the steps of a command over a disk come to, and what they leave.
-use Rattle.std.specs.Prelude.{ℕ, List, Result, Ok, Err}
+use Rattle.std.specs.Prelude.{ℕ, List, Option, Result, Ok, Err}
 use Rattle.tw_base.specs.declared.history.thread.Thread.{Thread}
 use Rattle.tw_base.specs.history.History.{History}
 use Rattle.tw_disk.specs.Disk.{DiskView}
@@ -19,7 +19,7 @@ IsStop _ = ⊥
 -- what comes of an events file that isn't read or is none, over whatever disk
 pub record ComesOfFile (a : Asked) (file : List ℕ) (fault : CommandFault) : Type 0 where
   pub stops : IsStop fault
-  pub comes : (t : FoundDisk) → AppendComes a t file (Err fault)
+  pub comes : (t : FoundDisk) (time : Option ℕ) → AppendComes a t file time (Err fault)
 
 -- the results of a command of which nothing was made and no disk failed
 abbrev pub WritesNothing : {X : Type 0} → Result X CommandFault → Type 0

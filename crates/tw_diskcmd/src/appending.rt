@@ -2,9 +2,11 @@
 
 ghost use Rattle.std.specs.Prelude.{◌≡◌, ◌≤◌, ℕ, Option, Some, IfErr, IfOk, false};
 ghost use Rattle.sha2.specs.Sha256.{sha256};
-ghost use Rattle.tw_base.specs.history.History.{History, with_events};
+ghost use Rattle.tw_base.specs.history.History.{History};
 ghost use Rattle.tw_disk.specs.Image.{Image};
 ghost use Rattle.tw_outside.specs.Asked.{asked};
+ghost use Rattle.tw_service.specs.Adding.{Appends};
+ghost use Rattle.tw_service.specs.EventSteps.{with_events};
 ghost use Rattle.tw_service.specs.Serves.{Serves, disk_of, has_failed, pages_of, record_of};
 ghost use Rattle.tw_diskcmd.specs.Appending.{AppendComes, AppendLeaves, AreEventsOf, StepComes};
 ghost use Rattle.tw_diskcmd.specs.Answers.{IsOpened};
@@ -19,27 +21,28 @@ use tw_base::{EventList, ReadFault, Sha, Thread};
 use tw_disk::Disk;
 use tw_msg::read_events;
 use tw_outside::{Inputs, read_all};
-use tw_service::Service;
-use tw_text::CommandFault;
+use tw_service::{Refusal as ServiceRefusal, Service};
+use tw_text::{ClaimedTime, CommandFault};
 
-/// Adds a step of the events of the named file to the service on the disk, and answers its thread.
-/// The file is read and judged before the disk is touched.
+/// Adds a step of the events of the named file to the service on the disk, at this time or at none, and
+/// answers its thread. The file is read and judged before the disk is touched.
 pub fn append<D: Disk, I: Inputs>(
     alloc: Global,
     disk: D,
     inputs: &mut I,
     file: &str,
+    time: Option<ClaimedTime>,
 ) -> Worked<D, Thread>
     requires { I.may_ask inputs.old file.now }
     // What `append` comes to is what its file, the disk and the counts of faults allow: the thread of the new step, or
     // a fault with its cause.
     ensures comes { AppendComes (asked (I.told inputs.old) (I.faults inputs.old) (I.faults inputs.new))
-        (found_disk (D.view disk).content (D.view disk).faults (D.view result.disk).faults) file.now result.outcome }
+        (found_disk (D.view disk).content (D.view disk).faults (D.view result.disk).faults) file.now time result.outcome }
     // It leaves the disk as is right for what it came to.
-    ensures leaves { AppendLeaves D.view disk result.disk (I.told inputs.old) file.now result.outcome }
+    ensures leaves { AppendLeaves D.view disk result.disk (I.told inputs.old) file.now time result.outcome }
 {
     match read_step(alloc, inputs, file) {
-        Ok(events) => append_events(alloc, disk, &events),
+        Ok(events) => append_events(alloc, disk, &events, time),
         Err(fault) => Worked {
             outcome: Err(fault),
             disk,
@@ -69,14 +72,19 @@ fn read_step<I: Inputs>(
 }
 
 /// Adds a step of these events to the service on the disk.
-fn append_events<D: Disk>(alloc: Global, disk: D, events: &EventList) -> Worked<D, Thread>
-    ensures comes { StepComes (found_disk (D.view disk).content (D.view disk).faults (D.view result.disk).faults) events.now result.outcome }
+fn append_events<D: Disk>(
+    alloc: Global,
+    disk: D,
+    events: &EventList,
+    time: Option<ClaimedTime>,
+) -> Worked<D, Thread>
+    ensures comes { StepComes (found_disk (D.view disk).content (D.view disk).faults (D.view result.disk).faults) events.now time result.outcome }
     ensures leaves { (h : History) → ReadsAs (D.view disk).content h
-        → LeavesStep D.view disk result.disk h (with_events h events.now) result.outcome }
+        → LeavesStep D.view disk result.disk h (with_events h events.now time) result.outcome }
     ensures unwritten { WritesNothing result.outcome → IsLeft D.view disk result.disk }
 {
     match Service::<D, Sha>::open(alloc, disk) {
-        Ok(service) => append_to(service, events),
+        Ok(service) => append_to(service, events, time),
         Err((disk, fault)) => Worked {
             outcome: Err(fault_of_store(fault)),
             disk,
@@ -84,18 +92,36 @@ fn append_events<D: Disk>(alloc: Global, disk: D, events: &EventList) -> Worked<
     }
 }
 
+/// Adds a step of these events to the service, at this time or at none.
+fn add<D: Disk>(
+    service: &mut Service<D, Sha>,
+    events: &EventList,
+    time: Option<ClaimedTime>,
+) -> Result<Thread, ServiceRefusal>
+    ensures { Appends sha256 D.view events.now time service.old service.new result }
+{
+    match time {
+        None => service.append(events),
+        Some(time) => service.append_at(events, time.seconds()),
+    }
+}
+
 /// Adds a step of these events to the service, and gives its disk back.
-fn append_to<D: Disk>(service: Service<D, Sha>, events: &EventList) -> Worked<D, Thread>
+fn append_to<D: Disk>(
+    service: Service<D, Sha>,
+    events: &EventList,
+    time: Option<ClaimedTime>,
+) -> Worked<D, Thread>
     requires { has_failed service ≡ false }
     ensures comes { (found : Option Image) (before : ℕ) → IsOpened found (record_of service) (pages_of D.view service)
         → ((h : History) → ReadsAs found h → Serves sha256 D.view service h) → before ≤ (D.view (disk_of service)).faults
-        → StepComes (found_disk found before (D.view result.disk).faults) events.now result.outcome }
+        → StepComes (found_disk found before (D.view result.disk).faults) events.now time result.outcome }
     ensures leaves { (h : History) → Serves sha256 D.view service h
-        → LeavesStep D.view (disk_of service) result.disk h (with_events h events.now) result.outcome }
+        → LeavesStep D.view (disk_of service) result.disk h (with_events h events.now time) result.outcome }
     ensures unwritten { WritesNothing result.outcome → IsLeft D.view (disk_of service) result.disk }
 {
     let mut service = service;
-    match service.append(events) {
+    match add(&mut service, events, time) {
         Ok(thread) => Worked {
             outcome: Ok(thread),
             disk: service.close(),

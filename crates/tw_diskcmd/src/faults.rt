@@ -36,6 +36,7 @@ pub(crate) fn fault_of_service(refusal: ServiceRefusal) -> CommandFault
         ServiceRefusal::TooMany { count } => Refused(Refusal::TooMany { count }),
         ServiceRefusal::TooLong { bytes } => Refused(Refusal::TooLong { bytes }),
         ServiceRefusal::Full => Refused(Refusal::Full),
+        ServiceRefusal::ClockBack { last, given } => Refused(Refusal::ClockBack { last, given }),
         ServiceRefusal::BadPage { page } => Unserved(StoreCause::BadPage { page }),
         ServiceRefusal::DiskFault | ServiceRefusal::Reopen => DiskFault,
         ServiceRefusal::NoMemory => CommandFault::NoMemory,

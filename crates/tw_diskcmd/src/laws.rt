@@ -7,24 +7,33 @@ ghost use Rattle.tw_text.specs.declared.fault.CommandFault.{CommandFault};
 ghost use Rattle.tw_diskcmd.specs.Answers.{TellsContent};
 ghost use Rattle.tw_diskcmd.specs.Appending.{StepComes};
 ghost use Rattle.tw_diskcmd.specs.Disks.{IsLeft, Keeps, found_disk};
+ghost use Rattle.tw_diskcmd.specs.Linking.{LinkComes};
 ghost use Rattle.tw_diskcmd.specs.Proving.{ProveComes};
+ghost use Rattle.tw_diskcmd.specs.Telling.{ThreadComes};
 
 use tw_disk::Disk;
 
 /// Over a disk that tells its content, all that the adding of these events may come to is one thing:
 /// the thread of one step, one refusal, or one reason why nothing is served. So is it with the proof of
-/// an event, of which the bytes are one. A fault of the disk and want of memory are excepted.
+/// an event, with that of a link and with the message of the last step, of which the bytes are one. A
+/// fault of the disk and want of memory are excepted.
 pub fn told_laws()
     // Over a disk that tells its content, what `append` comes to once its file was read is one thing: one thread, one
     // refusal with its number, or one reason of status 8 with its slot or page. So each of these comes exactly where it
     // stands, but for a disk fault, want of memory and status 4.
-    ensures adding { (image : Image) (events : List (List ℕ)) (before after : ℕ) (one other : Result Thread CommandFault) → TellsContent one → TellsContent other →
-        StepComes (found_disk (Some image) before after) events one → StepComes (found_disk (Some image) before after) events other → one ≡ other }
+    ensures adding { (image : Image) (events : List (List ℕ)) (time : Option ℕ) (before after : ℕ) (one other : Result Thread CommandFault) → TellsContent one → TellsContent other →
+        StepComes (found_disk (Some image) before after) events time one → StepComes (found_disk (Some image) before after) events time other → one ≡ other }
     // Over a disk that tells its content, what `prove` comes to is one thing: a proof of the same bytes, one refusal
     // with its number, or one reason of status 8 with its slot or page. So each of these comes exactly where it stands,
     // but for a disk fault, want of memory and status 4.
     ensures proving { (image : Image) (step index : ℕ) (top : Option ℕ) (before after : ℕ) (one other : Result (List ℕ) CommandFault) → TellsContent one → TellsContent other →
         ProveComes (found_disk (Some image) before after) step index top one → ProveComes (found_disk (Some image) before after) step index top other → one ≡ other }
+    // So is what `prove link` comes to: a proof of the same bytes, one refusal, or one reason of status 8.
+    ensures linking { (image : Image) (step : ℕ) (top : Option ℕ) (before after : ℕ) (one other : Result (List ℕ) CommandFault) → TellsContent one → TellsContent other →
+        LinkComes (found_disk (Some image) before after) step top one → LinkComes (found_disk (Some image) before after) step top other → one ≡ other }
+    // So is what `thread` comes to: a message of the same bytes, one refusal, or one reason of status 8.
+    ensures telling { (image : Image) (since before after : ℕ) (one other : Result (List ℕ) CommandFault) → TellsContent one → TellsContent other →
+        ThreadComes (found_disk (Some image) before after) since one → ThreadComes (found_disk (Some image) before after) since other → one ≡ other }
 {}
 
 /// A disk that is left as it was keeps the history that it stands for.

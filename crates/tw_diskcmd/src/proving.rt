@@ -69,7 +69,7 @@ fn prove_by<D: Disk>(
 }
 
 /// The top that was given, or the last step where none was.
-fn top_for(top: Option<u64>, last: u64) -> u64
+pub(crate) fn top_for(top: Option<u64>, last: u64) -> u64
     ensures { result ≡ top_of top last }
 {
     match top {

@@ -25,7 +25,7 @@ use Rattle.tw_text.specs.declared.refusal.Refusal.TheVariants.{NoStep, NoEvent}
 use Rattle.tw_outside.specs.Asked.{Asked}
 use Rattle.tw_text.specs.declared.fault.CommandFault.{CommandFault}
 use Rattle.tw_filecmd.specs.Faults.{fault_of_history, fault_of_show}
-use Rattle.tw_filecmd.proofs.ProofFronts.{whole_below}
+use Rattle.tw_filecmd.proofs.FormatFronts.{whole_below}
 use Rattle.tw_filecmd.specs.Showing.{OfHistory, ProvesEvent, RefusesToShow, ShowComes}
 
 -- ---- what was read of the file

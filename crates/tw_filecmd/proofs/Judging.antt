@@ -22,7 +22,7 @@ use Rattle.tw_filecmd.proofs.AnchorFronts.{file_limit, first_bad_of_front, good_
 use Rattle.tw_filecmd.proofs.ProofFronts.{binds_behind, verdict_behind}
 
 -- first bytes of a file, and those behind them
-behind : (front bytes : List ℕ) → front ≡ take (length front) bytes → front ++ drop (length front) bytes ≡ bytes
+pub behind : (front bytes : List ℕ) → front ≡ take (length front) bytes → front ++ drop (length front) bytes ≡ bytes
 behind front bytes is = ap (λ first. first ++ drop (length front) bytes) is ∙ take-append-drop (length front) bytes
 
 module _ (told : Option Files) (file : List ℕ) (anchors : List Thread) (strict : Bool) where

@@ -1,4 +1,5 @@
 pub mod AnchorFronts
+pub mod FormatFronts
 pub mod ProofFronts
 pub mod FedPieces
 pub mod Judging

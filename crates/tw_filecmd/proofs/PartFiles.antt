@@ -1,10 +1,9 @@
 -- What was read of the files of parts, file after file.
-use Rattle.std.proofs.Common.{◌≡◌, ℕ, ◌+◌, ◌<◌, ◌≤◌, List, [], ◌∷◌, ◌++◌, length, take, drop, ap, ◌∙◌, refl, sym, subst, arith, inl, inr}
+use Rattle.std.proofs.Common.{◌≡◌, ℕ, ◌+◌, ◌<◌, ◌≤◌, List, [], ◌∷◌, ◌++◌, length, take, ap, ◌∙◌, refl, sym, subst, arith, inl, inr}
 use Rattle.std.specs.Prelude.{Option, Some, None, Ok, Err, true, false, is_some}
-use Rattle.std.proofs.lemmas.Bool.{cases_lt}
-use Rattle.std.proofs.lemmas.List.{length-append, length-take, length-take-le, take-append-drop, take-append-le, take_all}
+use Rattle.std.proofs.lemmas.List.{length-append, length-take, take-append-le, take_all}
 use Rattle.tw_base.specs.kinds.Faults.{Rose}
-use Rattle.tw_base.specs.format.Formats.{IsFront, IsPlace, Spells, SpellsNothing}
+use Rattle.tw_base.specs.format.Formats.{IsPlace, Spells, SpellsNothing}
 use Rattle.tw_base.specs.kinds.Lists.{Each}
 use Rattle.tw_base.proofs.lemmas.kinds.ListLemmas.{Each-append}
 use Rattle.tw_outside.specs.Asked.{Asked}
@@ -29,7 +28,7 @@ use Rattle.tw_filecmd.specs.Parts.{AreFirstOf, AreRead, PartsCome}
 use Rattle.tw_filecmd.specs.declared.parts.TheConstants.{MOST_KEPT}
 use Rattle.tw_filecmd.specs.declared.joining.Joined.TheVariants.{Whole, Unfit}
 use Rattle.tw_filecmd.proofs.AnchorFronts.{file_limit}
-use Rattle.tw_filecmd.proofs.ProofFronts.{front-size, nothing_behind, place_behind, whole_below}
+use Rattle.tw_filecmd.proofs.FormatFronts.{none_is_none, word_is_whole}
 
 module _ (told : Option Files) where
   -- one file more, which holds a proof
@@ -55,29 +54,23 @@ module _ (told : Option Files) where
   bad-more (first ∷ files) file named place (inr later) there = inr (later.0, bad-more files file named place later.1 there)
 
   module _ (file all : List ℕ) (there : IsThere told file) (read : IsReadTo told file file_limit all) where
+    short : (word : List ℕ) (p : Proof) → Spells proof_layout word p → length word < file_limit
+    short word p spelled = let size = proof-size word p spelled in omega (arith, size)
+
     -- what was read is a proof, and so all of the file
     pub is_proof : (p : Proof) → Spells proof_layout all p → IsProofOf told file p
     is_proof p spelled = record {
       there = there;
       bytes = all;
       spelled = spelled;
-      same = λ others tells. sym (whole_below file_limit all others (read others tells) (let size = proof-size all p spelled in omega (arith, size)));
+      same = λ others tells. sym (word_is_whole proof_layout file_limit short all others (read others tells) p spelled);
     }
 
     -- what was read is none, and so the file is none
     pub is_no_proof : (place : ℕ) → SpellsNothing proof_layout all → IsPlace proof_layout all place → IsNoProof told file place
     is_no_proof place nothing is = record {
       there = there;
-      nothing = λ bytes tells. elim (cases_lt file_limit (length bytes)) [
-        | inl longer ↦
-            let size : length all ≡ file_limit = ap length (read bytes tells) ∙ length-take-le file_limit bytes (omega (arith, longer)) in
-            let broken : IsFront proof_layout all → ⊥ = λ front. let few = front-size all front in omega (arith, few, size) in
-            let more : List ℕ = drop file_limit bytes in
-            let split : all ++ more ≡ bytes = ap (λ first. first ++ more) (read bytes tells) ∙ take-append-drop file_limit bytes in
-            subst (λ b. SpellsNothing proof_layout b × IsPlace proof_layout b place) split (nothing_behind all more broken, place_behind all more broken place is)
-        | inr fits ↦
-            subst (λ b. SpellsNothing proof_layout b × IsPlace proof_layout b place) (read bytes tells ∙ take_all file_limit bytes fits) (nothing, is)
-      ];
+      nothing = λ bytes tells. none_is_none proof_layout file_limit short all bytes (read bytes tells) place nothing is;
     }
 
   -- one file more, behind one that holds no proof

@@ -29,11 +29,19 @@ pub(crate) fn feed_file<I: Inputs>(
     let mut verifier = Verifier::<Sha>::new(alloc, anchors, strict)?;
     let mut at = 0;
     loop {
-        let came = feed_piece(inputs, proof, at, &mut verifier)?;
-        if came == 0 || verifier.broken() {
-            return Ok(verifier);
+        match feed_piece(inputs, proof, at, &mut verifier) {
+            Ok(came) => {
+                if came == 0 || verifier.broken() {
+                    return Ok(verifier);
+                }
+                at += came;
+            }
+            // Not by `?`: a verifier that goes out of scope is looked at part by part, and proved slowly.
+            Err(fault) => {
+                drop(verifier);
+                return Err(fault);
+            }
         }
-        at += came;
     }
 }
 

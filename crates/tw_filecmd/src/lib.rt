@@ -4,7 +4,7 @@
 mod faults;
 mod feeding;
 mod joining;
-mod limits;
+pub mod limits;
 mod parts;
 mod showing;
 mod verifying;

@@ -4,4 +4,4 @@
 pub(crate) const HISTORY_READ: usize = 67_108_865;
 
 /// Of an anchors file, and of a part that is to be joined, so many bytes are read: more than any has.
-pub(crate) const FILE_READ: usize = 5_242_880;
+pub const FILE_READ: usize = 5_242_880;

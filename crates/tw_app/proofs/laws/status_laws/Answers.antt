@@ -1,5 +1,5 @@
 use Rattle.std.proofs.Common.{refl}
-use Rattle.tw_app.proofs.Endings.{built, complete, cut_short, disk_fault, done, input_fault, no_memory, output_fault, refused, rejected, unreadable, unserved, usage}
+use Rattle.tw_app.proofs.Endings.{built, clash, complete, cut_short, disk_fault, done, input_fault, no_memory, output_fault, refused, rejected, unreadable, unserved, usage}
 use Rattle.tw_app.proofs.laws.status_laws.Goals as goal
 
 pub returns-clause-built : goal.returns-clause-built
@@ -40,3 +40,6 @@ returns-clause-complete g c = λ a run. complete g.D.Disk.view g.met.D.Disk.only
 
 pub returns-clause-unreadable : goal.returns-clause-unreadable
 returns-clause-unreadable g c = λ a run. unreadable g.D.Disk.view g.met.D.Disk.only_now g.met.D.Disk.as_it_reads a 9 run refl
+
+pub returns-clause-clash : goal.returns-clause-clash
+returns-clause-clash g c = λ a run. clash g.D.Disk.view g.met.D.Disk.only_now g.met.D.Disk.as_it_reads a 10 run refl

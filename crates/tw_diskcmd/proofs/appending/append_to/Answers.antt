@@ -1,7 +1,9 @@
 use Rattle.std.proofs.Common.{sym, subst, inl, inr, ⊎_elim}
 use Rattle.sha2.specs.Sha256.{sha256}
-use Rattle.tw_base.specs.history.History.{with_events}
+use Rattle.tw_service.specs.EventSteps.{with_events}
 use Rattle.tw_base.specs.kinds.Faults.{Rose}
+use Rattle.tw_disk.specs.Disk.{LeavesOnly, Reads}
+use Rattle.tw_service.specs.Stands.{StandsForOneOf}
 use Rattle.tw_service.specs.Serves.{Serves, disk_of, pages_of}
 use Rattle.tw_diskcmd.specs.Disks.{IsLeft, LeavesOldOrOneOf, ReadsAsOneOf, found_disk}
 use Rattle.tw_diskcmd.proofs.AtRest.{named_one_of, named_reads, own_rest, rose_since, same_left}
@@ -11,29 +13,31 @@ use Rattle.tw_diskcmd.proofs.appending.append_to.Goals as goal
 pub returns-in-Ok-clause-comes : goal.returns-in-Ok-clause-comes
 returns-in-Ok-clause-comes g c = λ found before opens serves le.
     let d = g.D.Disk in
-    step_done (found_disk found before (d.view c.close.result).faults) c.args.events.now c.args.service.is_broken c.args.service.root (pages_of d.view c.args.service) opens c.requires
-    (Serves sha256 d.view c.args.service) (Serves sha256 d.view c.append.new.self) serves
-    c.in-Ok.thread c.in-Ok.ensures.table c.in-Ok.ensures.next c.in-Ok.ensures.done c.in-Ok.ensures.machine c.in-Ok.ensures.answer
+    step_done (found_disk found before (d.view c.close.result).faults) c.args.events.now c.args.time c.args.service.is_broken c.args.service.recorded.root (pages_of d.view c.args.service) opens c.requires
+    (Serves sha256 d.view c.args.service) (Serves sha256 d.view c.add.new.service) serves
+    c.in-Ok.thread c.in-Ok.ensures.table c.in-Ok.ensures.thread.2 (λ h served. let made = c.in-Ok.ensures.steps h served in (made.next, made.done.0)) c.in-Ok.ensures.answer
 
 pub returns-in-Ok-clause-leaves : goal.returns-in-Ok-clause-leaves
 returns-in-Ok-clause-leaves g c = λ h served.
     let d = g.D.Disk in
     let old = c.args.service in
-    let new = c.append.new.self in
+    let new = c.add.new.service in
     let events = c.args.events.now in
-    let done = c.in-Ok.ensures.done h served in
-    let next = with_events h events in (
-      own_rest d.view c.close.result new.root.name next (c.close.ensures.stands next done.0),
+    let made = c.in-Ok.ensures.steps h served in
+    let next = with_events h events c.args.time in
+    let serves = subst (λ n. Serves sha256 d.view new n) made.is_next made.done.1 in (
+      own_rest d.view c.close.result new.recorded.root.name next (c.close.ensures.stands next serves),
       subst (λ disk. LeavesOldOrOneOf d.view (disk_of old) disk h next) (sym c.close.ensures.disk)
-          (named_one_of d.view (disk_of old) (disk_of new) old.root.name next h served.has.named (c.in-Ok.ensures.any_moment h served)),
+          (named_one_of d.view (disk_of old) (disk_of new) old.recorded.root.name next h served.has.named
+          (subst (λ n. LeavesOnly (d.view (disk_of old)) (d.view (disk_of new)) (StandsForOneOf sha256 old.recorded.root.name h n)) made.is_next made.any_moment)),
     )
 
 pub returns-in-Err-clause-comes : goal.returns-in-Err-clause-comes
 returns-in-Err-clause-comes g c = λ found before opens serves le.
     let d = g.D.Disk in
-    step_refused (found_disk found before (d.view c.close-in-Err.result).faults) c.args.events.now c.args.service.is_broken c.args.service.root (pages_of d.view c.args.service) opens c.requires
-    (Serves sha256 d.view c.args.service) (Serves sha256 d.view c.append.new.self) serves
-    c.in-Err.refusal c.fault_of_service.result c.fault_of_service.ensures c.in-Err.ensures.table c.in-Err.ensures.machine
+    step_refused (found_disk found before (d.view c.close-in-Err.result).faults) c.args.events.now c.args.time c.args.service.is_broken c.args.service.recorded.root (pages_of d.view c.args.service) opens c.requires
+    (Serves sha256 d.view c.args.service) (Serves sha256 d.view c.add.new.service) serves
+    c.in-Err.refusal c.fault_of_service.result c.fault_of_service.ensures c.in-Err.ensures.table (λ h served. (c.in-Err.ensures.steps h served).machine c.requires)
     (λ is. rose_since before (d.view (disk_of c.args.service)).faults (d.view c.close-in-Err.result).faults le
     (subst (λ disk. Rose (d.view (disk_of c.args.service)).faults (d.view disk).faults) (sym c.close-in-Err.ensures.disk) (c.in-Err.ensures.fault is)))
     c.in-Err.ensures.answer
@@ -42,25 +46,27 @@ pub returns-in-Err-clause-leaves : goal.returns-in-Err-clause-leaves
 returns-in-Err-clause-leaves g c = λ h served.
     let d = g.D.Disk in
     let old = c.args.service in
-    let new = c.append.new.self in
+    let new = c.add.new.service in
     let events = c.args.events.now in
-    let next = with_events h events in
+    let made = c.in-Err.ensures.steps h served in
+    let next = with_events h events c.args.time in
     step_leaves d.view (disk_of old) c.close-in-Err.result h next c.in-Err.refusal c.fault_of_service.result c.fault_of_service.ensures
     (subst
     (λ disk. LeavesOldOrOneOf d.view (disk_of old) disk h next × ReadsAsOneOf d.view disk h next)
     (sym c.close-in-Err.ensures.disk) (
-      named_one_of d.view (disk_of old) (disk_of new) old.root.name next h served.has.named (c.in-Err.ensures.any_moment h served),
-      named_reads d.view (disk_of new) old.root.name next h served.has.named (c.in-Err.ensures.told h served),
+      named_one_of d.view (disk_of old) (disk_of new) old.recorded.root.name next h served.has.named
+          (subst (λ n. LeavesOnly (d.view (disk_of old)) (d.view (disk_of new)) (StandsForOneOf sha256 old.recorded.root.name h n)) made.is_next made.any_moment),
+      named_reads d.view (disk_of new) old.recorded.root.name next h served.has.named (subst (λ n. Reads (d.view (disk_of new)) (StandsForOneOf sha256 old.recorded.root.name h n)) made.is_next made.told),
     ))
     (⊎_elim (λ is. inl is)
-    (λ keeps. inr (own_rest d.view c.close-in-Err.result new.root.name h (c.close-in-Err.ensures.stands h (keeps h served).0)))
-    c.in-Err.ensures.refused)
+    (λ keeps. inr (own_rest d.view c.close-in-Err.result new.recorded.root.name h (c.close-in-Err.ensures.stands h keeps.0)))
+    made.refused)
 
 pub returns-in-Err-clause-unwritten : goal.returns-in-Err-clause-unwritten
 returns-in-Err-clause-unwritten g c = λ nothing.
     let d = g.D.Disk in
     let old = c.args.service in
-    let new = c.append.new.self in
+    let new = c.add.new.service in
     subst (λ disk. IsLeft d.view (disk_of old) disk) (sym c.close-in-Err.ensures.disk)
     (step_unwritten d.view (disk_of old) (disk_of new) c.in-Err.refusal c.fault_of_service.result c.fault_of_service.ensures
     (⊎_elim (λ is. inl is) (λ same. inr (same_left d.view g.met.D.Disk.only_now old new same)) c.in-Err.ensures.unwritten) nothing)

@@ -9,15 +9,15 @@ pub returns-then-came-eq0-clause-fed : goal.returns-then-came-eq0-clause-fed
 returns-then-came-eq0-clause-fed g c =
     let told = g.I.Inputs.told c.args.inputs.now in
     let front =
-    fed_told (g.I.Inputs.told c.loop-verifier.inputs) told c.args.proof.now c.args.anchors.now c.args.strict c.loop-verifier.verifier
-    c.feed_piece.new.verifier c.loop-verifier.at (c.loop-verifier.at + c.in_ok-came.came) c.loop-verifier.invariant.kept
-    (c.in_ok-came.ensures.fed c.args.anchors.now c.args.strict) c.loop-verifier.invariant.fed in
+    fed_told (g.I.Inputs.told c.loop-came.inputs) told c.args.proof.now c.args.anchors.now c.args.strict c.loop-came.verifier
+    c.feed_piece.new.verifier c.loop-came.at (c.loop-came.at + c.in-Ok.came) c.loop-came.invariant.kept
+    (c.in-Ok.ensures.fed c.args.anchors.now c.args.strict) c.loop-came.invariant.fed in
     elim c.then-came-eq0.branch [
       | then-came-eq0-via-then-came-eq0 w ↦
-          let none : (bytes : List ℕ) → Tells told c.args.proof.now bytes → length bytes ≤ c.loop-verifier.at + c.in_ok-came.came =
+          let none : (bytes : List ℕ) → Tells told c.args.proof.now bytes → length bytes ≤ c.loop-came.at + c.in-Ok.came =
           λ bytes tells.
-          let end = c.in_ok-came.ensures.end (ap Ok w.if-came-eq0.true) bytes
-          (subst (λ t. Tells t c.args.proof.now bytes) (sym c.loop-verifier.invariant.kept) tells) in
+          let end = c.in-Ok.ensures.end (ap Ok w.if-came-eq0.true) bytes
+          (subst (λ t. Tells t c.args.proof.now bytes) (sym c.loop-came.invariant.kept) tells) in
           omega (arith, end) in
           fed_all told c.args.proof.now c.args.anchors.now c.args.strict c.feed_piece.new.verifier _ front none
       | then-came-eq0-via-else-came-eq0+then-broken w ↦
@@ -25,20 +25,20 @@ returns-then-came-eq0-clause-fed g c =
           (λ pieces fed unspent. (w.broken.ensures.exact c.args.anchors.now c.args.strict pieces fed unspent).0 w.if-broken.true)
     ]
 
-pub loop-verifier-preserved : goal.loop-verifier-preserved
-loop-verifier-preserved g c =
+pub loop-came-preserved : goal.loop-came-preserved
+loop-came-preserved g c =
     let told = g.I.Inputs.told c.args.inputs.now in
     let front =
-    fed_told (g.I.Inputs.told c.loop-verifier.inputs) told c.args.proof.now c.args.anchors.now c.args.strict c.loop-verifier.verifier
-    c.feed_piece.new.verifier c.loop-verifier.at (c.loop-verifier.at + c.in_ok-came.came) c.loop-verifier.invariant.kept
-    (c.in_ok-came.ensures.fed c.args.anchors.now c.args.strict) c.loop-verifier.invariant.fed in
+    fed_told (g.I.Inputs.told c.loop-came.inputs) told c.args.proof.now c.args.anchors.now c.args.strict c.loop-came.verifier
+    c.feed_piece.new.verifier c.loop-came.at (c.loop-came.at + c.in-Ok.came) c.loop-came.invariant.kept
+    (c.in-Ok.ensures.fed c.args.anchors.now c.args.strict) c.loop-came.invariant.fed in
     record {
-      kept = c.in_ok-came.ensures.kept ∙ c.loop-verifier.invariant.kept;
+      kept = c.in-Ok.ensures.kept ∙ c.loop-came.invariant.kept;
       same_names = λ other. (
-        λ may. (c.loop-verifier.invariant.same_names other).0 ((c.in_ok-came.ensures.same_names other).0 may),
-        λ may. (c.in_ok-came.ensures.same_names other).1 ((c.loop-verifier.invariant.same_names other).1 may),
+        λ may. (c.loop-came.invariant.same_names other).0 ((c.in-Ok.ensures.same_names other).0 may),
+        λ may. (c.in-Ok.ensures.same_names other).1 ((c.loop-came.invariant.same_names other).1 may),
       );
-      later = omega (arith, c.in_ok-came.ensures.later, c.loop-verifier.invariant.later);
+      later = omega (arith, c.in-Ok.ensures.later, c.loop-came.invariant.later);
       few =
           fed_few told c.args.proof.now c.args.anchors.now c.args.strict c.feed_piece.new.verifier _ front
           (λ pieces fed unspent isnt.

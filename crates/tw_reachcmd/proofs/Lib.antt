@@ -1,0 +1,3 @@
+pub mod FileFronts
+pub mod EvidenceFiles
+pub mod PartFiles

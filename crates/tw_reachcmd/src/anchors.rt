@@ -1,0 +1,26 @@
+// The anchors of lines that were read.
+
+ghost use Rattle.std.specs.Prelude.{◌≤◌, ℕ, List, length, IfErr, IfOk};
+ghost use Rattle.tw_base.specs.declared.kinds.limits.TheConstants.{MOST_ANCHORS};
+ghost use Rattle.tw_reachcmd.specs.Anchors.{AreAnchorsOf, IsNoAnchors};
+
+use std::alloc::Global;
+use tw_base::{Bytes, Threads};
+use tw_msg::{AnchorFault, read_anchors};
+use tw_text::{BadInput, CommandFault};
+
+/// The anchors of the lines of an anchors file; or the fault that names the file and its first bad line.
+pub(crate) fn anchors_of(alloc: Global, file: &str, lines: &[u8]) -> Result<Threads, CommandFault>
+    ensures anchors { IfOk result (AreAnchorsOf lines.now) }
+    ensures few { IfOk result (λ anchors. length anchors ≤ MOST_ANCHORS) }
+    ensures bad { IfErr result (IsNoAnchors file.now lines.now) }
+{
+    match read_anchors(alloc, lines) {
+        Ok(anchors) => Ok(anchors),
+        Err(AnchorFault::BadLine { line }) => {
+            let file = Bytes::from_slice(alloc, file.as_bytes())?;
+            Err(CommandFault::Unreadable(BadInput::BadLine { file, line }))
+        }
+        Err(AnchorFault::NoMemory) => Err(CommandFault::NoMemory),
+    }
+}
