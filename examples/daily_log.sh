@@ -18,7 +18,11 @@ set -eu
 # (so that lengths are those in bytes, and the order is the same everywhere)
 export LC_ALL=C
 
-[ $# -eq 3 ] || { echo "daily_log.sh FOLDER SERVICE NAME" >&2; exit 2; }
+if [ $# -ne 3 ]; then
+    echo "usage: daily_log.sh FOLDER SERVICE NAME" >&2
+    echo "logs the digests of the files in FOLDER as a step of the service NAME, whose store lies in the folder SERVICE" >&2
+    exit 2
+fi
 folder=$1 service=${2%/} name=$3
 store=$service/timeline.tw
 work=$(mktemp -d)

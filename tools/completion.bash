@@ -5,13 +5,17 @@
 # file, whatever else is in capitals is typed by hand, and .. is for more of the part before it.
 _timeweave_forms=(
     "init DIR NAME"
-    "append DIR FILE"
+    "append DIR FILE TIME"
     "prove DIR event STEP INDEX TOP"
+    "prove DIR link STEP TOP"
+    "thread DIR SINCE"
     "show FILE STEP INDEX"
     "verify FILE FILE"
     "verify FILE NAME POS HEX"
     "strict FILE FILE"
     "join FILE FILE .."
+    "accuse FILE FILE FILE"
+    "checkfork FILE FILE"
 )
 
 # Whether the words before the one that is completed are those of the form that is given part by part.

@@ -221,6 +221,30 @@ def chain():
     return lines
 
 
+def message():
+    """The message of the last step of the tutorial's history since step 11, byte by byte."""
+    data = reference.message_bytes(SHOP, 13, 11)
+    lines, at = dumped(data, [
+        (4, "TWT1"), (16, "the service shop"), (8, "its step 13"), (32, "its authenticator there"), (8, "since step 11"),
+        (32, "path, the link 13->12 of level 0: datum of 13"), (32, "the link 12->11 of level 0: datum of 12"), (32, "label 12->10"), (32, "label 12->8"),
+    ])
+    assert at == len(data)
+    return lines
+
+
+def receipt():
+    """The receipt of a step that archived the thread of that message, byte by byte."""
+    archive = reference.Node(reference.EMPTY, reference.Entry("shop", 13, SHOP.auths[13], 2), reference.EMPTY)
+    bank = reference.Timeline("bank", [[], []], [reference.EMPTY_TREE, archive.label])
+    data = reference.receipt_bytes("bank", 2, bank.auths[2], "shop", 13, SHOP.auths[13])
+    lines, at = dumped(data, [
+        (4, "TWR1"), (16, "the recorder, the service bank"), (8, "its step 2, which archived the thread"), (32, "its authenticator there"),
+        (16, "the thread: service shop"), (8, "step 13"), (32, "its authenticator there"),
+    ])
+    assert at == len(data)
+    return lines
+
+
 def pages():
     """The event page and the step page of a step 2, byte by byte."""
     store = Store("shop", [[b"first"], [b"bread", b"milk"]])
@@ -298,7 +322,7 @@ def versions():
     ]
 
 
-PICTURES = {"heights": heights, "coming": coming, "step": step, "links": links, "tree": tree, "proof": proof, "absence": absence, "chain": chain, "pages": pages, "half": half, "versions": versions}
+PICTURES = {"heights": heights, "coming": coming, "step": step, "links": links, "tree": tree, "proof": proof, "absence": absence, "chain": chain, "message": message, "receipt": receipt, "pages": pages, "half": half, "versions": versions}
 
 
 def drawn(text):

@@ -7,6 +7,8 @@ import threading
 
 import reference
 import seen
+from failing import READING
+from proofs import link_proof
 from steps import Wrong, case
 from stores import Store, events_file
 from tracing import needs
@@ -23,7 +25,7 @@ def ended(running):
 
 
 def race(room, folder, count):
-    """So many appends to a new store at one time, with proofs in between; answers what was wrong."""
+    """So many appends to a new store at one time, each second one of which claims a time, with proofs in between; answers what was wrong."""
     (room.folder / folder).mkdir()
     room.expect(f"init {folder} race", 0, Store("race", []).anchor(0))
     events = [b"event %d" % k for k in range(count)]
@@ -31,7 +33,7 @@ def race(room, folder, count):
         room.put(f"{folder}/e{k}", events_file([event]))
     running, proofs = [], []
     for k in range(count):
-        running.append(started(room, "append", folder, f"{folder}/e{k}"))
+        running.append(started(room, "append", folder, f"{folder}/e{k}", *["7"] * (k % 2)))
         proofs.append(started(room, "prove", folder, "event", "1", "0"))
     answers, told = [ended(it) for it in running], [ended(it)[:2] for it in proofs]
     wrong = [f"append answered {answer}" for answer in answers if answer[0]]
@@ -39,7 +41,8 @@ def race(room, folder, count):
     place = {int(output.split()[1]): k for k, (status, output, _) in enumerate(answers) if status == 0}
     if sorted(place) != list(range(1, count + 1)):
         return wrong + [f"the appends told {[output for _, output, _ in answers]}"]
-    store = Store("race", [[events[place[step]]] for step in range(1, count + 1)])
+    order = [place[step] for step in range(1, count + 1)]
+    store = Store("race", [[events[k]] for k in order], times=[7 if k % 2 else None for k in order])
     wrong += [f"step {step} was told as {answers[k][1]}" for step, k in place.items() if answers[k][1] != store.anchor(step)]
     if (room.folder / folder / "timeline.tw").read_bytes() != store.file():
         wrong.append("the store isn't that of the steps that were told")
@@ -97,19 +100,20 @@ def waits(running):
 def waiting(room):
     """who writes waits for each other program, and who reads only for one that writes"""
     store = room.made("lock", [[b"x"]])
-    proof = reference.proof_bytes(store.line, 1, 0, 1)
+    told = (reference.proof_bytes(store.line, 1, 0, 1), link_proof(store.line, 1, 1), reference.message_bytes(store.line, 1, 0))
     with locked(room, "-s"):
-        room.expect("prove d event 1 0", 0, proof)
+        for words, output in zip(READING, told):
+            room.expect(words, 0, output)
         append = started(room, "append", "d", "e")
         if not waits(append):
             raise Wrong("  append doesn't wait for one that reads")
     if ended(append) != (0, Store("lock", [[b"x"]] * 2).anchor(2), b""):
         raise Wrong("  append didn't go on after one that reads")
     with locked(room, "-x"):
-        running = [started(room, *words.split()) for words in ("prove d event 1 0", "append d e", "init d lock")]
+        running = [started(room, *words.split()) for words in (*READING, "append d e", "init d lock")]
         if not all(waits(it) for it in running):
-            raise Wrong("  prove, append or init doesn't wait for one that writes")
-    for it, statuses in zip(running, ((0,), (0,), (7,))):
+            raise Wrong("  prove, thread, append or init doesn't wait for one that writes")
+    for it, statuses in zip(running, (*[(0,)] * len(READING), (0,), (7,))):
         if ended(it)[0] not in statuses:
             raise Wrong(f"  {it.args} didn't go on after one that writes")
     room.expect_store(Store("lock", [[b"x"]] * 3).file())

@@ -51,7 +51,7 @@ def of_owners(program):
 
 def in_sections(program):
     """The code names in docs/definitions.md that no crate has which their section names; command words excepted."""
-    wrong, commands = [], set(re.findall(r'\(codes "(\w+)"', (TOP / "crates/tw_text/specs/CommandLine.antt").read_text()))
+    wrong, commands = [], set(re.findall(r'\(codes "(\w+)"', (TOP / "crates/tw_words/specs/CommandLine.antt").read_text()))
     for part in sections((TOP / "docs/definitions.md").read_text(), "##"):
         named = set(CRATE.findall(part))
         known = commands.union(named, *(crates()[name].names() for name in named if name in crates()))

@@ -100,14 +100,14 @@ def syncs_before_writes(calls, folder):
 
 
 def folder_synced(room):
-    """`init` and each `append` sync the folder before they write, and `prove` syncs no folder"""
+    """`init` and each `append` sync the folder before they write, and who reads syncs no folder"""
     (room.folder / "d").mkdir()
     room.put("e", events_file([b"x"]))
     for words in ("init d name", "append d e", "append d e"):
         status, _, calls = calls_of(room.program, words.split(), room.folder)
         found = status, syncs_before_writes(calls, room.folder / "d")
         expect(found, (0, True), f"the status of timeweave {words}, and whether it syncs the folder first")
-    for words in ("prove d event 1 0", "prove d event 9 0"):
+    for words in ("prove d event 1 0", "prove d event 9 0", "prove d link 1", "thread d 0"):
         _, _, calls = calls_of(room.program, words.split(), room.folder)
         synced = [os.path.basename(call.path) for call in calls if "sync" in call.name]
         expect(synced, ["timeline.tw"], f"what timeweave {words} syncs")
@@ -147,11 +147,12 @@ def only_read(room):
 
 
 def read_only_mount(room):
-    """a store on a read-only mount is proved from; `append` and `init` answer `fault disk` and change nothing"""
+    """a store on a read-only mount is proved from and tells its last step; `append` and `init` answer `fault disk` and change nothing"""
     store = room.made("ro", [[b"x"]])
     limit = under_read_only(room.folder / "d")
     fault, proof = (5, b"fault disk\n", b""), (0, reference.proof_bytes(store.line, 1, 0, 1), b"")
-    for words, wanted in (("append d e", fault), ("init d ro", fault), ("prove d event 1 0", proof)):
+    message = (0, reference.message_bytes(store.line, 1, 0), b"")
+    for words, wanted in (("append d e", fault), ("init d ro", fault), ("prove d event 1 0", proof), ("thread d 0", message)):
         expect(run_apart(room, *words.split(), limit=limit), wanted, f"timeweave {words}, where d is mounted read-only")
     room.expect_store(store.file())
 

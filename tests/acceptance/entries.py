@@ -9,6 +9,7 @@ import precedence
 import reference
 from chains import Way, example
 from histories import History, write_example
+from proofs import link_proof
 from reference import listed, proof_bytes
 from shown import TOP, linked, script
 from steps import Wrong, case
@@ -67,17 +68,17 @@ def empty_entry(room):
         raise Wrong(f"  check_entry.sh proof lines, of an event of no bytes\n  got    {found}")
 
 
-def expect_same(room, proof, older, newer, status, told):
+def expect_same(room, link, older, newer, status, told):
     """same_history.sh ends with this status, and tells this."""
-    for name, data in (("proof", proof), ("older", older.encode()), ("newer", newer.encode())):
+    for name, data in (("link", link), ("older", older.encode()), ("newer", newer.encode())):
         room.put(name, data)
-    found = script(room, "same_history.sh", "proof", "older", "newer", errors=True)
+    found = script(room, "same_history.sh", "link", "older", "newer", errors=True)
     if found[0] != status or told not in found[1] + found[2]:
-        raise Wrong(f"  same_history.sh proof {older!r} {newer!r}\n  wanted {status} {told!r}\n  got    {found}")
+        raise Wrong(f"  same_history.sh link {older!r} {newer!r}\n  wanted {status} {told!r}\n  got    {found}")
 
 
 def same_history(room):
-    """two lines are of one history exactly where the link between them, made of an event's proof and the older line, is accepted"""
+    """two lines are of one history exactly where the older step has the older line's authenticator in the history of the newer one"""
     linked(room)
     steps = [[b"%d" % step] for step in range(1, 18)]
     line, fork = reference.Timeline("s", steps), reference.Timeline("s", [*steps[:6], [b"other"], *steps[7:]])
@@ -85,23 +86,27 @@ def same_history(room):
     def anchor(timeline, step):
         return f"s {step} {timeline.auths[step].hex()}\n"
 
-    for step, top in combinations_with_replacement(range(1, 18), 2):
-        if (step + top) % 3 == 0 or step == top or top == 16:
-            proof = proof_bytes(line, step, 0, top)
-            expect_same(room, proof, anchor(line, step), anchor(line, top), 0, "one history")
+    for step, top in combinations_with_replacement(range(18), 2):
+        if top and ((step + top) % 3 == 0 or step == top or top == 16):
+            link = link_proof(line, step, top)
+            expect_same(room, link, anchor(line, step), anchor(line, top), 0, "one history")
             if step > 6:
-                expect_same(room, proof, anchor(fork, step), anchor(line, top), 1, "two histories")
-    proof = proof_bytes(line, 3, 0, 9)
-    expect_same(room, proof, anchor(line, 4), anchor(line, 9), 2, "isn't of an event of s in step 4")
-    expect_same(room, proof, anchor(line, 3), anchor(line, 8), 2, "rejected 3 NotHeld s 9")
-    expect_same(room, proof, anchor(line, 3), anchor(fork, 9), 2, "rejected 4 BadPath 0")
-    expect_same(room, proof, anchor(line, 3).replace("s", "t"), anchor(line, 9), 2, "isn't of an event of t")
-    expect_same(room, proof, anchor(line, 3).strip(), f"a 1 {'0' * 64}\n{anchor(line, 9)}b 1 {'0' * 64}", 0, "one history")
+                expect_same(room, link, anchor(fork, step), anchor(line, top), 1, "two histories")
+    link = link_proof(line, 3, 9)
+    expect_same(room, link, anchor(line, 4), anchor(line, 9), 2, "isn't of the link to step 4 of s")
+    expect_same(room, link, anchor(line, 3), anchor(line, 8), 2, "rejected 3 NotHeld s 9")
+    expect_same(room, link, anchor(line, 3), anchor(fork, 9), 2, "rejected 4 BadPath 0")
+    expect_same(room, link, anchor(line, 3).replace("s", "t"), anchor(line, 9), 2, "isn't of the link to step 3 of t")
+    expect_same(room, link, anchor(line, 3).strip(), f"a 1 {'0' * 64}\n{anchor(line, 9)}b 1 {'0' * 64}", 0, "one history")
+    upper = f"s 3 {line.auths[3].hex().upper()}\n"
+    expect_same(room, link, upper, anchor(line, 9), 0, "one history: steps 3 and 9 of s")
     # What goes wrong isn't told as two histories.
-    expect_same(room, proof, "", anchor(line, 9), 2, "no line")
-    expect_same(room, proof, f"s 3 {'0' * 62}\n", anchor(line, 9), 2, "rejected 1 Malformed")
-    expect_same(room, proof, anchor(line, 3), "", 2, "rejected 3 NotHeld")
+    expect_same(room, link, "", anchor(line, 9), 2, "no line")
+    for held in ("0" * 62, "0" * 66, "0" * 63 + "g", "0" * 64 + " 0"):
+        expect_same(room, link, f"s 3 {held}\n", anchor(line, 9), 2, "no authenticator")
+    expect_same(room, link, anchor(line, 3), "", 2, "rejected 3 NotHeld")
     expect_same(room, b"", anchor(line, 3), anchor(line, 9), 2, "rejected 1 Malformed 0")
+    expect_same(room, proof_bytes(line, 3, 0, 9), anchor(line, 3), anchor(line, 9), 2, "isn't of the link to step 3 of s")
 
 
 def without_the_program(room):

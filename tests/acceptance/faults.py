@@ -8,6 +8,7 @@ from pathlib import Path
 import power
 import reference
 from edges import HEX, LEAST, LEAST_TEXT
+from proofs import link_proof
 from steps import Room, Wrong, case
 from tracing import calls_of, needs, own_calls
 
@@ -27,14 +28,17 @@ class Run:
         size = {"init": None}.get(command, 2)
         words, self.histories = power.prepared(self.room, size)
         self.makes = command in ("init", "append")
-        proof = reference.proof_bytes(power.Store("power", power.EARLIER).line, 2, 99, 3)
-        steps = [reference.Step(events) for events in power.EARLIER]
+        earlier = power.Store("power", power.EARLIER, times=power.EARLIER_TIMES).line
+        proof = reference.proof_bytes(earlier, 2, 99, 3)
+        steps = [reference.Step(events, time=time) for events, time in zip(power.EARLIER, power.EARLIER_TIMES)]
         self.room.put("h", reference.history_bytes("power", steps))
         self.room.put("p", LEAST)
         self.room.put("k", f"a 1 {HEX}\n".encode())
-        made = power.Store("power", self.histories.made)
+        made = self.histories.store()
         self.words, self.output = {
             "prove": ("prove d event 2 99", proof),
+            "link": ("prove d link 0", link_proof(earlier, 0, 3)),
+            "thread": ("thread d 1", reference.message_bytes(earlier, 3, 1)),
             "show": ("show h 2 99", proof),
             "verify": ("verify p k", LEAST_TEXT),
         }.get(command, (words, made.anchor(len(self.histories.made))))
@@ -126,4 +130,4 @@ def short(command):
 
 
 def cases():
-    return [case(make(command), "faults") for make in (failing, short) for command in ("init", "append", "prove", "show", "verify")]
+    return [case(make(command), "faults") for make in (failing, short) for command in ("init", "append", "prove", "link", "thread", "show", "verify")]

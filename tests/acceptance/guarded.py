@@ -13,6 +13,7 @@ import power
 import reference
 from beside import ended, locked, started, waits
 from edges import LEAST, expect
+from failing import READING
 from steps import Skipped, Wrong, case
 from stores import Store, events_file
 from tracing import calls_of
@@ -26,7 +27,7 @@ LITTLE, MUCH, MORE = 3 << 20, 48 << 20, 1 << 18
 
 def refuses(room, what):
     """Each command with a folder answers `fault disk` there."""
-    for words in ("init d kind", "append d e", "prove d event 1 0"):
+    for words in ("init d kind", "append d e", *READING):
         expect(room.run(*words.split()), (5, b"fault disk\n", b""), f"timeweave {words}, where timeline.tw is {what}")
 
 

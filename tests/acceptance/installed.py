@@ -21,7 +21,7 @@ UNBUILT = {tuple(case["words"]) for case in json.loads((HERE / "cases/unbuilt.js
 
 def named():
     """The forms as the docstrings of the commands name them, without what may be left out or follow."""
-    source = (TOP / "crates/tw_text/src/command.rt").read_text()
+    source = (TOP / "crates/tw_words/src/command.rt").read_text()
     for form in re.findall(r"/// `(.*?)`:", source):
         yield form, [word for word in re.sub(r"\[.*\]", "", form).split() if word != ".."]
 

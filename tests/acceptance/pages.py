@@ -1,4 +1,4 @@
-"""Acceptance cases of stores whose step pages, event pages or root record were changed byte by byte, and of archives that are kept."""
+"""Acceptance cases of stores whose step pages, event pages or root record were changed byte by byte."""
 
 import reference
 from reference import be
@@ -79,8 +79,13 @@ def root_records(room):
     # the record of 3 steps stands in page 3 from place 26 on: the service, the last step from place 42 on, its page from place 82 on,
     # its archive's page, label and number of threads from place 90 on
     heads = [changed(good, 3, 42, be(step, 8)) for step in (0, 2**40)] + [changed(good, 3, 82, be(page, 8)) for page in (0, 3, 10, 2**40)]
-    archives = (4, 0), (9, 0), (0, 1), (1, 1), (3, 1), (10, 1), (2**40, 3), (4, 4), (4, 2**40)
-    for data in heads + [changed(good, 3, 90, be(page, 8) + LABEL + be(threads, 8)) for page, threads in archives]:
+    # (a store whose record counts a thread is none yet, whatever the page of its archive)
+    archives = (4, 0), (9, 0), (0, 1), (1, 1), (3, 1), (4, 1), (9, 3), (10, 1), (2**40, 3), (4, 4), (4, 2**40)
+    changes = heads + [changed(good, 3, 90, be(page, 8) + LABEL + be(threads, 8)) for page, threads in archives]
+    # the length of the record stands at place 24; there are only records of 112 bytes, and of 120 with a time of at most 2^40 - 1 behind
+    for size, behind in ((111, b""), (113, b""), (119, be(5, 8)), (121, be(5, 8)), (120, be(2**40, 8)), (120, be(2**63, 8)), (128, be(5, 8) * 2)):
+        changes.append(changed(changed(good, 3, 24, be(size, 2)), 3, 138, behind))
+    for data in changes:
         (room.folder / "d/timeline.tw").write_bytes(data)
         for words in ("append d e", "prove d event 1 0"):
             room.expect(words, 8, b"store NotAStore 1\n")
@@ -88,21 +93,64 @@ def root_records(room):
 
 
 def archives_kept(room):
-    """stores whose root record has an archive are served, and an append keeps it"""
+    """stores whose root record has another label than that of the empty archive are served, and an append keeps it"""
     steps = [[b"a"], [b"b"], [b"c"], [b"d"]]
     room.put("last", events_file(steps[3]))
     store = room.made("root", steps[:3])
     good = room.store()
-    for archive in ((0, LABEL, 0), (4, LABEL, 1), (9, reference.EMPTY_TREE, 3)):
-        page, label, threads = archive
-        (room.folder / "d/timeline.tw").write_bytes(changed(good, 3, 90, be(page, 8) + label + be(threads, 8)))
-        room.expect("prove d event 1 0", 0, reference.proof_bytes(store.line, 1, 0, 3))
-        longer = Store("root", steps, [NO_ARCHIVE] * 3 + [(page, label)])
-        longer.kept = {3: archive, 4: archive}
-        room.expect("append d last", 0, longer.anchor(4))
-        room.expect_store(longer.file())
-        room.expect("prove d event 2 0", 0, reference.proof_bytes(longer.line, 2, 0, 4))
+    (room.folder / "d/timeline.tw").write_bytes(changed(good, 3, 98, LABEL))
+    room.expect("prove d event 1 0", 0, reference.proof_bytes(store.line, 1, 0, 3))
+    longer = Store("root", steps, [NO_ARCHIVE] * 3 + [(0, LABEL)])
+    longer.kept = {3: (0, LABEL, 0), 4: (0, LABEL, 0)}
+    room.expect("append d last", 0, longer.anchor(4))
+    room.expect_store(longer.file())
+    room.expect("prove d event 2 0", 0, reference.proof_bytes(longer.line, 2, 0, 4))
+
+
+def pages_with_times(room):
+    """pages of steps with a time, and those of threads, each of its kind"""
+    store = room.made("page", [[b"a"], [b"b"], [b"c"], [b"d"]], times=[None, 5, None, 7])
+    good = room.store()
+    room.expect_store(store.file())
+    # the time of step 4 stands behind its links, from place 307 on; the kind at place 9, the counts from place 10 on, the thread from
+    # place 98 on
+    for place, new in (
+        (9, b"\x01"), (9, b"\x02"), (9, b"\x04"), (9, b"\x00"), (9, b"\x05"), (307, be(2**40, 8)), (307, b"\x80"), (315, b"\x01"), (10, be(1025, 4)), (98, b"a"),
+    ):
+        (room.folder / "d/timeline.tw").write_bytes(changed(good, 11, place, new))
+        for words in ("prove d event 4 0", "prove d event 1 0"):
+            room.expect(words, 8, b"store BadPage 11\n")
+    # another time is another opening
+    (room.folder / "d/timeline.tw").write_bytes(changed(good, 11, 307, be(2**40 - 1, 8)))
+    other = reference.Timeline("page", store.line.steps, times=[None, 5, None, 2**40 - 1])
+    room.expect("prove d event 4 0", 0, reference.proof_bytes(other, 4, 0, 4))
+    # the page of a step that received a thread, with a time and without: no events, and a service where there are zeros of events; its
+    # datum is that of no events
+    thread = reference.padded("peer") + be(9, 8) + LABEL
+    none = reference.Timeline("page", [[b"a"], [b"b"], [b"c"], []], times=[None, 5, None, 7])
+    for kind, time in ((b"\x04", be(7, 8)), (b"\x02", bytes(8))):
+        page = changed(good, 11, 9, kind + bytes(16) + reference.event_root([]))
+        page = changed(changed(page, 11, 98, thread), 11, 307, time)
+        (room.folder / "d/timeline.tw").write_bytes(page)
+        room.expect("prove d event 4 0", 7, b"refused NoEvent 0\n")
+        seven = none if kind == b"\x04" else reference.Timeline("page", none.steps, times=[None, 5, None, None])
+        seven.auths = store.line.auths
+        room.expect("prove d event 1 0", 0, reference.proof_bytes(seven, 1, 0, 4))
+        for place, new in ((10, be(1, 4)), (14, be(1, 4)), (18, be(10, 8)), (98, b"A"), (98, bytes(16)), (114, be(2**40, 8))):
+            (room.folder / "d/timeline.tw").write_bytes(changed(page, 11, place, new))
+            room.expect("prove d event 1 0", 8, b"store BadPage 11\n")
+
+
+def records_with_times(room):
+    """root records of the wrong length for their steps, and the greatest time that they tell"""
+    room.made("new", [])
+    good = room.store()
+    # the record of no step, with a time
+    (room.folder / "d/timeline.tw").write_bytes(changed(changed(good, 2, 24, be(120, 2)), 2, 138, be(5, 8)))
+    for words in ("append d e", "append d e 9", "prove d event 1 0"):
+        room.put("e", events_file([b"x"]))
+        room.expect(words, 8, b"store NotAStore 0\n")
 
 
 def cases():
-    return [case(work, "pages") for work in (step_pages, pages_that_are_named, step_pages_with_archives, root_records, archives_kept)]
+    return [case(work, "pages") for work in (step_pages, pages_that_are_named, step_pages_with_archives, root_records, archives_kept, pages_with_times, records_with_times)]

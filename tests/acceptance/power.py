@@ -20,7 +20,7 @@ from concurrent.futures import ThreadPoolExecutor
 from pathlib import Path
 
 import reference
-from steps import Room, Skipped, Wrong, case
+from steps import Room, Skipped, Wrong, append_words, case
 from stores import Store, events_file
 from tracing import calls_of
 
@@ -33,8 +33,12 @@ IN_THE_GATE = 250
 BY_CHANCE_IN_THE_GATE = 20
 
 EARLIER = [[b"one"], [bytes([k]) * 60 for k in range(100)], []]
+EARLIER_TIMES = [None, 4, None]
 NEXT = [b"next"]
 SIZES = (1, 2, 1024)
+
+# The append of so many events has a time.
+TIMES = {2: 6}
 
 
 class Device:
@@ -120,9 +124,18 @@ def subsets(writes, rand, by_chance):
 class Histories:
     """The histories that may stand after a run: the steps before it, None where there was no service yet, and those that it made."""
 
-    def __init__(self, earlier, made):
+    def __init__(self, earlier, made, time=None):
         self.earlier, self.made = earlier, made
-        self.next = {len(steps): Store("power", [*steps, NEXT]) for steps in (earlier, made) if steps is not None}
+        self.times = [*EARLIER_TIMES, time]
+        self.next = {len(steps): self.longer(steps) for steps in (earlier, made) if steps is not None}
+
+    def longer(self, steps):
+        """The store of these steps and the next one."""
+        return Store("power", [*steps, NEXT], times=[*self.times[: len(steps)], None])
+
+    def store(self):
+        """The store of the steps that were made."""
+        return Store("power", self.made, times=self.times[: len(self.made)])
 
     def go_on(self, room, is_told):
         """Appends a step, and proves each step; raises Wrong where one that was told isn't there, or where it doesn't go on."""
@@ -150,10 +163,12 @@ def prepared(room, size):
     room.expect("init d power", 0, Store("power", []).anchor(0))
     for step, events in enumerate(EARLIER, 1):
         room.put("e", events_file(events))
-        room.expect("append d e", 0, Store("power", EARLIER[:step]).anchor(step))
+        time = EARLIER_TIMES[step - 1]
+        room.expect(append_words("e", time), 0, Store("power", EARLIER[:step], times=EARLIER_TIMES[:step]).anchor(step))
     events = [bytes([k % 256]) * 60 for k in range(size)]
     room.put("e", events_file(events))
-    return "append d e", Histories(EARLIER, [*EARLIER, events])
+    time = TIMES.get(size)
+    return append_words("e", time), Histories(EARLIER, [*EARLIER, events], time)
 
 
 def recorded(program, size, inject=()):
@@ -164,7 +179,7 @@ def recorded(program, size, inject=()):
         path = room.folder / "d/timeline.tw"
         before = path.read_bytes() if path.exists() else None
         status, line, calls = calls_of(program, words.split(), folder, inject=inject)
-        wanted = Store("power", histories.made).anchor(len(histories.made))
+        wanted = histories.store().anchor(len(histories.made))
         if (status, line) != (0, wanted):
             raise Wrong(f"  timeweave {words}\n  wanted {(0, wanted)}\n  got    {(status, line)}")
         return histories, Device(before, calls, os.path.realpath(path))
@@ -195,7 +210,7 @@ def some_images(device, size):
 
 
 def name_of(size):
-    return "init" if size is None else f"an append of {size} event{'s' * (size > 1)}"
+    return "init" if size is None else f"an append of {size} event{'s' * (size > 1)}{' at a time' * (size in TIMES)}"
 
 
 def loses_nothing(size):

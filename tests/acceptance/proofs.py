@@ -212,10 +212,15 @@ class Proof:
     """A proof that the bytes spell; raises Malformed where they spell none. `auth` is the step's authenticator, as the proof gives it
     or as its opening computes it."""
 
-    def __init__(self, data):
+    def __init__(self, data, kinds=CLAIMS):
         read = Reader(data)
+        self.take(read, kinds)
+        read.end()
+
+    def take(self, read, kinds):
+        """Takes a proof of one of these kinds from the front of what is left."""
         read.text(b"TWP1")
-        kind = read.byte(lambda b: b in CLAIMS)
+        kind = read.byte(lambda b: b in kinds)
         self.service = read.name()
         self.step = read.number(8, 0 if kind == LINK else 1, LAST_STEP)
         self.top = read.number(8, 1, LAST_STEP)
@@ -223,9 +228,15 @@ class Proof:
         self.path = read_path(read, self.top, self.step)
         self.opening = None if kind == LINK else Opening(read, self.step, 1 if kind == EXISTS else 0)
         self.claim = CLAIMS[kind](read, self.opening)
-        read.end()
         if self.opening:
             self.auth = self.opening.authenticator(self.step)
+
+    @classmethod
+    def at_front(cls, read, kinds):
+        """The proof of one of these kinds at the front of what is left."""
+        proof = cls.__new__(cls)
+        proof.take(read, kinds)
+        return proof
 
     def reasons(self, anchors):
         """The reasons that stand against it under anchors, which are the step and the authenticator held of each service."""

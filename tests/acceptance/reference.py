@@ -227,6 +227,32 @@ def proof_bytes(timeline, step, index, top):
     return part_bytes(1, timeline, step, top) + event_bytes(timeline.events(step), index)
 
 
+# ---- what services tell one another
+
+
+class Message(NamedTuple):
+    """A service's step and its authenticator, an earlier step, and the bytes of the path between the two."""
+
+    service: str
+    step: int
+    auth: bytes
+    since: int
+    path: bytes
+
+    def bytes(self):
+        return b"TWT1" + padded(self.service) + be(self.step, 8) + self.auth + be(self.since, 8) + self.path
+
+
+def message_bytes(timeline, step, since):
+    """The message of that step as the last one, since an earlier one."""
+    return Message(timeline.name, step, timeline.auths[step], since, path_bytes(timeline, step, since)).bytes()
+
+
+def receipt_bytes(recorder, archived, recorder_auth, service, step, auth):
+    """The receipt of a step of a recorder, which archived the thread of that step of a service."""
+    return b"TWR1" + padded(recorder) + be(archived, 8) + recorder_auth + padded(service) + be(step, 8) + auth
+
+
 # ---- what the program writes
 
 
@@ -326,6 +352,18 @@ def climbed(records, start, end, bottom):
     level = hop_level(start, end)
     below = climbed(rest, start - 2**level, end, bottom)
     return authenticator(start, others[:level] + [link_label(start, level, own, below)] + others[level:])
+
+
+def read_message(data):
+    """Service, step, authenticator and the earlier step of a message; raises Malformed where it is none."""
+    read = Reader(data)
+    read.text(b"TWT1")
+    service, step, auth = read.name(), read.number(8, 1, LAST_STEP), read.bytes(32)
+    since = read.number(8, 0, step)
+    for start in greedy_steps(step, since)[:-1]:
+        read.digests(1 + top_level(start))
+    read.end()
+    return service, step, auth, since
 
 
 # ---- a timeline that nobody has to build: its links lead to digests made up for the purpose

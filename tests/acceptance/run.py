@@ -4,7 +4,8 @@
     python3 tests/acceptance/run.py --texts        documents and sources alone, but for the tutorial; it needs no built program
 
 The cases stand in cases/*.json, those that are counted off in generated.py, those of proofs over archives and of links in archives.py,
-those of proofs that an event precedes another and of joining in precedence.py, those of the scripts that one copies in entries.py and daily.py,
+those of proofs that an event precedes another and of joining in precedence.py, those of evidence of a fork in forks.py, those of the order in which
+commands over several files read in reaching.py, those of the scripts that one copies in entries.py and daily.py,
 those of services in steps.py, pages.py and failing.py, those of an archive's tree in pages in tree_runs.py, which run a program of their
 own, those of the program's edge to the system in edges.py, of programs at one time in beside.py, what it keeps itself from in guarded.py,
 and of lost power and failing system calls in power.py and faults.py; documents.py and cited.py check the documents,
@@ -46,13 +47,16 @@ import edges
 import entries
 import failing
 import faults
+import forks
 import generated
 import guarded
 import installed
 import library
+import messages
 import pages
 import power
 import precedence
+import reaching
 import reference
 import seen
 import shown
@@ -164,9 +168,12 @@ def all_cases():
     yield from generated.cases()
     yield from archives.cases()
     yield from precedence.cases()
+    yield from forks.cases()
+    yield from reaching.cases()
     yield from steps.cases()
     yield from pages.cases()
     yield from failing.cases()
+    yield from messages.cases()
     yield from tree_runs.cases()
     yield from edges.cases()
     yield from beside.cases()

@@ -100,5 +100,12 @@ def event_chain(room):
     verdicts(room, "event_chain.sh", [*precedes, *precedes, *carried, *refused])
 
 
+def fork_evidence(room):
+    """the evidence of a fork is made and judged as the example shows it"""
+    proofs = ["accepted thread"] * 2
+    refused = ["rejected Gap 2", "rejected 10 Part 2 3", "rejected 10 Part 2 3", "rejected 11 NoConflict"]
+    verdicts(room, "fork_evidence.sh", [*proofs, "accepted fork", *refused])
+
+
 def cases():
-    return [case(work, "shown") for work in (log_of_digests, archived_threads, event_chain, manual_examples)]
+    return [case(work, "shown") for work in (log_of_digests, archived_threads, event_chain, fork_evidence, manual_examples)]

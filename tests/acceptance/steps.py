@@ -4,8 +4,8 @@ and the bytes of its store, which stores.py makes."""
 import random
 import subprocess
 import tempfile
-import time
 from pathlib import Path
+from time import sleep
 
 import reference
 import seen
@@ -57,15 +57,20 @@ class Room:
             place = next((i for i, (a, b) in enumerate(zip(found, data)) if a != b), min(len(found), len(data)))
             raise Wrong(f"  the store has {len(found)} bytes, and {len(data)} are wanted; byte {place % PAGE} of page {place // PAGE} is the first other one")
 
-    def made(self, name, steps):
-        """Makes the service `d` and its steps, and answers its store."""
+    def made(self, name, steps, times=None):
+        """Makes the service `d` and its steps, each at its time or at none, and answers its store."""
         (self.folder / "d").mkdir()
-        store = Store(name, steps)
+        store = Store(name, steps, times=times)
         self.expect(f"init d {name}", 0, store.anchor(0))
         for step, events in enumerate(steps, 1):
             self.put("e", events_file(events))
-            self.expect("append d e", 0, store.anchor(step))
+            self.expect(append_words("e", store.line.times[step - 1]), 0, store.anchor(step))
         return store
+
+
+def append_words(file, time=None):
+    """The words that append the events of a file to the service `d`, at this time or at none."""
+    return f"append d {file}" if time is None else f"append d {file} {time}"
 
 
 def case(work, group="steps"):
@@ -157,6 +162,72 @@ def two_services(room):
         room.expect("verify p k", 0, reference.accepted_text(line.name, step, 0, event).encode())
 
 
+# ---- claimed times
+
+
+LAST_TIME = 2**40 - 1
+
+
+def timed_steps(room):
+    """steps with times and without: the store after each, and their proofs, whose reports tell the times"""
+    times = [None, 0, None, 5, 5, None, 7, LAST_TIME, None, LAST_TIME]
+    steps = [[bytes([k])] * (k % 4 + 1) for k in range(len(times))]
+    (room.folder / "d").mkdir()
+    store = Store("timed", steps, times=times)
+    room.expect("init d timed", 0, store.anchor(0))
+    for step, time in enumerate(times, 1):
+        room.put("e", events_file(steps[step - 1]))
+        room.expect(append_words("e", time), 0, store.anchor(step))
+        room.expect_store(Store("timed", steps[:step], times=times[:step]).file())
+    room.put("k", store.anchor(len(times)))
+    for step, time in enumerate(times, 1):
+        for top in (step, len(times)):
+            proof = reference.proof_bytes(store.line, step, 0, top)
+            room.expect(f"prove d event {step} 0 {top}", 0, proof)
+        room.put("p", proof)
+        room.expect("verify p k", 0, reference.accepted_text("timed", step, 0, bytes([step - 1]), time).encode())
+
+
+def clock_back(room):
+    """a time below the greatest one so far is refused, after every other refusal; an equal one isn't"""
+    steps, times = [[b"a"], [b"b"], [b"c"]], [3, 5, None]
+    room.made("clock", steps, times)
+    before = room.store()
+    room.put("e", events_file([b"d"]))
+    # the last step has no time, and the one before it isn't the first
+    for time in (0, 3, 4):
+        room.expect(f"append d e {time}", 7, f"refused ClockBack 5 {time}\n".encode())
+    for words in ("append d e 1099511627776", "append d e 18446744073709551616", "append d e 05", "append d e -", "append d e +6", "append d e x"):
+        room.expect(words, 2, b"usage 4\n")
+    room.expect("append d e 6 7", 2, b"usage 5\n")
+    for events, refusal in (([b""] * 1025, "TooMany 1025"), ([bytes(1025)], "TooLong 1025"), ([bytes(1024)] * 64 + [b"x"], "TooLong 65537")):
+        room.put("f", events_file(events))
+        room.expect("append d f 4", 7, f"refused {refusal}\n".encode())
+    room.put("f", b"TWE2")
+    room.expect("append d f 4", 9, b"unreadable f byte 3\n")
+    room.expect_store(before)
+    for time in (5, 6, None, LAST_TIME):
+        steps, times = [*steps, [b"d"]], [*times, time]
+        store = Store("clock", steps, times=times)
+        room.expect(append_words("e", time), 0, store.anchor(len(steps)))
+        room.expect_store(store.file())
+    room.expect(f"append d e {LAST_TIME - 1}", 7, f"refused ClockBack {LAST_TIME} {LAST_TIME - 1}\n".encode())
+
+
+def older_store(room):
+    """a store of steps without times takes one with a time, and proves the earlier ones as before"""
+    steps = [[b"a"], [b"b"], [b"c"]]
+    store = room.made("old", steps)
+    proof = reference.proof_bytes(store.line, 3, 0, 3)
+    room.expect("prove d event 3 0 3", 0, proof)
+    longer = Store("old", [*steps, [b"d"]], times=[None, None, None, 100])
+    room.put("e", events_file([b"d"]))
+    room.expect("append d e 100", 0, longer.anchor(4))
+    room.expect_store(longer.file())
+    room.expect("prove d event 3 0 3", 0, proof)
+    room.expect("prove d event 4 0", 0, reference.proof_bytes(longer.line, 4, 0, 4))
+
+
 # ---- what is refused
 
 
@@ -232,7 +303,7 @@ def no_stores(room):
 
     def expect(data, output):
         path.write_bytes(data)
-        for words in ("append d e", "prove d event 1 0"):
+        for words in ("append d e", "prove d event 1 0", "prove d link 1", "thread d 0"):
             room.expect(words, 8, output)
         room.expect_store(data)
 
@@ -249,7 +320,10 @@ def no_stores(room):
     expect(edited(2 * PAGE + 15, b"\x04"), b"store NotAStore 1\n")
     expect(edited(3 * PAGE + 26, b"K"), b"store NotAStore 1\n")
     # the pages of the steps are 5, 7 and 9, that of the events of step 1 is 4
-    for page, words in ((9, "append d e"), (9, "prove d event 1 0"), (7, "prove d event 1 0"), (5, "prove d event 1 0"), (4, "prove d event 1 0")):
+    for page, words in (
+        (9, "append d e"), (9, "prove d event 1 0"), (7, "prove d event 1 0"), (5, "prove d event 1 0"), (4, "prove d event 1 0"),
+        (9, "prove d link 0"), (7, "prove d link 1"), (9, "thread d 2"), (7, "thread d 0"),
+    ):
         path.write_bytes(edited(page * PAGE, bytes(PAGE)))
         room.expect(words, 8, f"store BadPage {page}\n".encode())
     path.write_bytes(good)
@@ -266,12 +340,12 @@ def begun_again(room):
         room.expect_store(fresh)
 
 
-def killed_amid(room, rand):
+def killed_amid(room, rand, time):
     """One append, of which two of three are killed at a moment by chance; the line that it wrote."""
-    words = [room.program, "append", "d", "e"]
+    words = [room.program, *append_words("e", time).split()]
     running = subprocess.Popen(words, cwd=room.folder, stdout=subprocess.PIPE, stdin=subprocess.DEVNULL)
     if rand.randrange(3):
-        time.sleep(rand.random() * 0.004)
+        sleep(rand.random() * 0.004)
         running.kill()
     line, _ = running.communicate()
     seen.note(running.returncode, line)
@@ -283,12 +357,13 @@ def stopped(room):
     rand = random.Random("stopped")
     (room.folder / "d").mkdir()
     steps = [[rand.randbytes(rand.randrange(1025)) for _ in range(20)] for _ in range(201)]
-    store = Store("stop", steps)
+    times = [k if k % 3 else None for k in range(201)]
+    store = Store("stop", steps, times=times)
     room.expect("init d stop", 0, store.anchor(0))
     there = 0
     for _ in range(200):
         room.put("e", events_file(steps[there]))
-        line = killed_amid(room, rand)
+        line = killed_amid(room, rand, times[there])
         if line and line != store.anchor(there + 1):
             raise Wrong(f"  timeweave append d e, killed amid\n  wanted {store.anchor(there + 1)!r} or nothing\n  got    {line!r}")
         # (a step may stand that wasn't told; its proof tells)
@@ -304,7 +379,7 @@ def stopped(room):
 
 def cases():
     works = (
-        each_store, accepted_by_verify, full_steps, two_services, refusals, bad_events_files, longest_events_files, no_stores,
+        each_store, accepted_by_verify, full_steps, two_services, timed_steps, clock_back, older_store, refusals, bad_events_files, longest_events_files, no_stores,
         begun_again, stopped,
     )
     return [case(work) for work in works]

@@ -16,17 +16,22 @@ def events_file(events):
     return b"TWE1" + be(len(events), 4) + b"".join(be(len(event), 4) + event for event in events)
 
 
+def time_bytes(time):
+    """A time in eight bytes, where there is one."""
+    return b"" if time is None else be(time, 8)
+
+
 NO_ARCHIVE = (0, reference.EMPTY_TREE)
 
 
 class Store:
     """The store of a service after steps of these events. archives[i - 1] has the page and the label of the archive in the page of
-    step i, which is the empty one where no archives are given; `kept` has those of root records, by their number of steps, with
-    the number of threads, where they aren't empty."""
+    step i, which is the empty one where no archives are given, and times[i - 1] its time or None; `kept` has the archives of root
+    records, by their number of steps, with the number of threads, where they aren't empty."""
 
-    def __init__(self, name, steps, archives=None):
+    def __init__(self, name, steps, archives=None, times=None):
         self.archives = archives or [NO_ARCHIVE] * len(steps)
-        self.line = reference.Timeline(name, steps, [label for _, label in self.archives])
+        self.line = reference.Timeline(name, steps, [label for _, label in self.archives], times)
         self.kept = {}
         self.pages = []
         self.step_pages = [0]
@@ -41,12 +46,14 @@ class Store:
         for number, place in enumerate(range(0, len(stream), PIECE)):
             self.pages.append(page(b"\x02" + be(step, 8) + be(number, 2) + stream[place : place + PIECE]))
         archive, label = self.archives[step - 1]
+        time = self.line.times[step - 1]
         links = [step - 2**level for level in range(reference.top_level(step) + 1)]
         self.step_pages.append(4 + len(self.pages))
         self.pages.append(page(
-            b"\x01" + be(step, 8) + b"\x01" + be(len(events), 4) + be(len(stream), 4) + be(first if stream else 0, 8)
+            b"\x01" + be(step, 8) + (b"\x01" if time is None else b"\x03") + be(len(events), 4) + be(len(stream), 4) + be(first if stream else 0, 8)
             + reference.event_root(events) + label + be(archive, 8) + bytes(16 + 8 + 32) + self.line.auths[step]
             + be(len(links), 1) + b"".join(be(self.step_pages[below], 8) + self.line.auths[below] for below in links)
+            + time_bytes(time)
         ))
         self.used.append(4 + len(self.pages))
 
@@ -54,8 +61,12 @@ class Store:
         archive, label, threads = self.kept.get(steps, (*NO_ARCHIVE, 0))
         return (
             padded(self.line.name) + be(steps, 8) + self.line.auths[steps] + be(self.step_pages[steps], 8)
-            + be(archive, 8) + label + be(threads, 8)
+            + be(archive, 8) + label + be(threads, 8) + time_bytes(self.clock(steps))
         )
+
+    def clock(self, steps):
+        """The greatest time of the steps up to this one, or None."""
+        return max((time for time in self.line.times[:steps] if time is not None), default=None)
 
     def body(self, generation, steps):
         root = self.root(steps)
