@@ -9,11 +9,11 @@ use Rattle.tw_skiplist.specs.declared.info.StepInfo.{StepInfo}
 use Rattle.tw_skiplist.specs.declared.info.StepProof.{StepProof}
 use Rattle.tw_disk.specs.Found.{Found, when, ◌>>=◌, bytes_in, spelled}
 use Rattle.tw_disk.specs.Found.Found.{Is, Bad}
-use Rattle.tw_skiplist.specs.Readings.{found_proof}
+use Rattle.tw_skiplist.specs.Readings.{found_proof, found_way}
 use Rattle.tw_skiplist.specs.Records.{info_record}
 use Rattle.tw_steppage.specs.StepBytes.{step_codec}
 use Rattle.tw_steppage.specs.StepPages.{keeps_field_rules, keeps_link_rules, page_of_step, step_in}
-use Rattle.tw_skiplist.specs.Walks.{collected, head_ref, info_in, walk}
+use Rattle.tw_skiplist.specs.Walks.{info_in}
 use Rattle.tw_disk.proofs.FoundLaws.{same_found}
 use Rattle.tw_disk.proofs.SpelledLaws.{is-spelled}
 use Rattle.tw_steppage.proofs.StepCodecs.{events-few, step-lawful}
@@ -53,8 +53,7 @@ few_info dig ps page step info e =
 pub few_told : (dig : List ℕ → List ℕ) (ps : Image) (head : Head) (top step : ℕ) (proof : StepProof) → found_proof dig ps head top step ≡ Is proof → proof.info.count ≤ 1024
 unfolding found_proof
 few_told dig ps head top step proof e =
-    let one = through (walk ps (head_ref head) head.step top) (λ middle. collected dig ps middle top step >>= (λ way. info_in dig ps way.last.page step >>= (λ info. Is (record { path = record { links = way.links }; info = info })))) proof e in
-    let two = through (collected dig ps one.first top step) (λ way. info_in dig ps way.last.page step >>= (λ info. Is (record { path = record { links = way.links }; info = info }))) proof one.then_is in
-    let last = through (info_in dig ps two.first.last.page step) (λ info. Is (record { path = record { links = two.first.links }; info = info })) proof two.then_is in
-    subst (λ (p : StepProof). p.info.count ≤ 1024) (same_found (record { path = record { links = two.first.links }; info = last.first }) proof last.then_is)
-    (few_info dig ps two.first.last.page step last.first last.is)
+    let way = through (found_way dig ps head top step) (λ way. info_in dig ps way.last.page step >>= (λ info. Is (record { path = record { links = way.links }; info = info }))) proof e in
+    let last = through (info_in dig ps way.first.last.page step) (λ info. Is (record { path = record { links = way.first.links }; info = info })) proof way.then_is in
+    subst (λ (p : StepProof). p.info.count ≤ 1024) (same_found (record { path = record { links = way.first.links }; info = last.first }) proof last.then_is)
+    (few_info dig ps way.first.last.page step last.first last.is)

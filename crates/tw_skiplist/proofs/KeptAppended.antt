@@ -28,23 +28,20 @@ use Rattle.tw_steppage.specs.declared.limits.TheConstants.{MOST_PIECE_BYTES}
 use Rattle.tw_disk.specs.Answers.{Next}
 use Rattle.tw_skiplist.specs.Appended.{appended, bare_step, events_in, first_page, new_fields, new_labels, new_step, next_of, put_behind, thread_in}
 use Rattle.tw_skiplist.specs.Events.{piece_count}
-use Rattle.tw_disk.specs.Found.{◌>>=◌}
 use Rattle.tw_disk.specs.Found.Found.{Is}
 use Rattle.tw_skiplist.specs.Keeping.{GoOn, Keeps, KeepsSteps, MayBeKept, Place, fields_at, link_to, links_at, links_to, place_of}
 use Rattle.tw_skiplist.specs.Records.{page_labels}
 use Rattle.tw_steppage.specs.StepBytes.{event_pages, step_page_bytes, stream}
-use Rattle.tw_steppage.specs.StepPages.{link_of, no_ref}
-use Rattle.tw_skiplist.specs.Walks.{link_in, links_up_to, next_links}
+use Rattle.tw_skiplist.specs.Walks.{all_links, link_in, links_on, next_links}
 use Rattle.tw_skiplist.proofs.Contents.{may_record}
 use Rattle.tw_disk.proofs.FoundLaws.{is_on}
 use Rattle.tw_skiplist.proofs.Growing.{below_head}
-use Rattle.tw_skiplist.proofs.Kept.{get_or-links_to, length-links_to, power-le}
+use Rattle.tw_skiplist.proofs.Kept.{length-links_to, power-le}
 use Rattle.tw_skiplist.proofs.KeptReadings.{first_is, link_kept}
 use Rattle.tw_skiplist.proofs.PieceCounts.{count_all}
 use Rattle.tw_skiplist.proofs.Plus.{KeepsSteps-plus, place_of-new, place_of-plus}
 use Rattle.tw_skiplist.proofs.Recording.{labels_to}
 use Rattle.tw_skiplist.proofs.Streams.{length-stream}
-use Rattle.tw_skiplist.proofs.WalkLaws.{links-first, links-more}
 
 -- the step that a lower link of a step leads to has a link of that level itself
 module _ (step level : ℕ) (some : 0 < step) (small : step < 2 ^ 40) (lower : level < top_level step) where
@@ -65,30 +62,28 @@ module _ (step level : ℕ) (some : 0 < step) (small : step < 2 ^ 40) (lower : l
 
 -- the links of the next step
 module _ (dig : List ℕ → List ℕ) (size : (text : List ℕ) → IsDigest (dig text)) (h : History) (places : List Place) (ps : Image) (kept : KeepsSteps dig ps h places) (n : ℕ) (n_is : n ≡ length h.steps) (short : n < LAST_STEP) where
-  links_push : (level : ℕ) → links_to dig h places (n + 1) (suc (suc level)) ≡ links_to dig h places (n + 1) (suc level) ++ link_to dig h places (n + 1 - 2 ^ suc level) ∷ []
-  unfolding links_to
-  links_push level = refl
-
-  first_link : links_to dig h places (n + 1) 1 ≡ link_to dig h places n ∷ []
-  unfolding links_to
-  first_link = ap (λ (i : ℕ). link_to dig h places i ∷ []) (let e : n + 1 - 1 ≡ n = omega arith in e)
-
-  pub links_kept : (level : ℕ) → level ≤ top_level (n + 1) → links_up_to ps (link_to dig h places n) n level ≡ Is (links_to dig h places (n + 1) (suc level))
-  links_kept zero l = links-first ps (link_to dig h places n) n ∙ ap (λ (ls : List StepRef). Is ls) (sym first_link)
-  links_kept (suc level) l =
-      let so_far : List StepRef = links_to dig h places (n + 1) (suc level) in
+  -- from that of a level on, behind those of the levels below it
+  links_kept : (more level : ℕ) → level + more ≡ top_level (n + 1)
+      → links_on ps (n + 1) more level (links_to dig h places (n + 1) level) (link_to dig h places (n + 1 - 2 ^ level)) ≡ Is (links_to dig h places (n + 1) (suc (level + more)))
+  unfolding links_on links_to
+  links_kept zero level l = ap (λ (k : ℕ). Is (links_to dig h places (n + 1) (suc k))) (let e : level ≡ level + 0 = omega arith in e)
+  links_kept (suc more) level l =
       let at : ℕ = n + 1 - 2 ^ level in
-      let some = earlier_some (n + 1) level (omega arith) (omega (arith, short)) (omega (arith, l)) in
-      let link = get_or-links_to dig size h places no_ref (n + 1) (suc level) level (omega arith) in
-      let own : link_in ps (link_of so_far level).page at level ≡ Is (link_to dig h places (n + 1 - 2 ^ suc level)) =
-      ap (λ (x : StepRef). link_in ps x.page at level) link
-      ∙ link_kept dig size h places ps kept at level some (omega (arith, n_is, pow_pos level)) (level_fits (n + 1) level (omega arith) (omega (arith, short)) (omega (arith, l)))
-      ∙ ap (λ (i : ℕ). Is (link_to dig h places i)) (next_level (n + 1) level (omega arith) (omega (arith, short)) (omega (arith, l))) in
-      ap (links_up_to ps (link_to dig h places n) n) (let e : suc level ≡ level + 1 = omega arith in e)
-      ∙ links-more ps (link_to dig h places n) n level
-      ∙ is_on (links_up_to ps (link_to dig h places n) n level) (λ links. link_in ps (link_of links level).page at level >>= (λ next. Is (links ++ next ∷ []))) so_far (links_kept level (omega (arith, l)))
-      ∙ is_on (link_in ps (link_of so_far level).page at level) (λ next. Is (so_far ++ next ∷ [])) (link_to dig h places (n + 1 - 2 ^ suc level)) own
-      ∙ ap (λ (ls : List StepRef). Is ls) (sym (links_push level))
+      let lower : level < top_level (n + 1) = omega (arith, l) in
+      let some = earlier_some (n + 1) level (omega arith) (omega (arith, short)) lower in
+      let own : link_in ps (link_to dig h places at).page at level ≡ Is (link_to dig h places (n + 1 - 2 ^ suc level)) =
+      link_kept dig size h places ps kept at level some (omega (arith, n_is, pow_pos level)) (level_fits (n + 1) level (omega arith) (omega (arith, short)) lower)
+      ∙ ap (λ (i : ℕ). Is (link_to dig h places i)) (next_level (n + 1) level (omega arith) (omega (arith, short)) lower) in
+      is_on (link_in ps (link_to dig h places at).page at level) (links_on ps (n + 1) more (suc level) (links_to dig h places (n + 1) (suc level))) (link_to dig h places (n + 1 - 2 ^ suc level)) own
+      ∙ links_kept more (suc level) (omega (arith, l))
+      ∙ ap (λ (k : ℕ). Is (links_to dig h places (n + 1) (suc k))) (let e : suc level + more ≡ level + suc more = omega arith in e)
+
+  pub all_kept : all_links ps (n + 1) (link_to dig h places n) ≡ Is (links_to dig h places (n + 1) (suc (top_level (n + 1))))
+  unfolding links_to
+  all_kept =
+      ap (λ (i : ℕ). all_links ps (n + 1) (link_to dig h places i)) (let e : n ≡ n + 1 - 1 = omega arith in e)
+      ∙ links_kept (top_level (n + 1)) 0 (omega arith)
+      ∙ ap (λ (k : ℕ). Is (links_to dig h places (n + 1) (suc k))) (let e : 0 + top_level (n + 1) ≡ top_level (n + 1) = omega arith in e)
 
 -- ---- the step that was put
 
@@ -132,8 +127,7 @@ module _ (dig : List ℕ → List ℕ) (size : (text : List ℕ) → IsDigest (d
 
   links_found : next_links ps head ≡ Is links
   links_found =
-      ap (λ (first : StepRef). links_up_to ps first head.step (top_level (head.step + 1))) (first_is dig size ps h head keeps)
-      ∙ links_kept dig size h places ps keeps.keeps head.step keeps.step short (top_level (head.step + 1)) (omega arith)
+      ap (λ (first : StepRef). all_links ps (head.step + 1) first) (first_is dig size ps h head keeps) ∙ all_kept dig size h places ps keeps.keeps head.step keeps.step short
 
   is_next : appended dig ps head content archive time ≡ Is next
   unfolding put_behind

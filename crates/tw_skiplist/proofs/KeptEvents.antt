@@ -5,16 +5,13 @@ use Rattle.std.specs.Int.{to_be_bytes, w32}
 use Rattle.std.proofs.lemmas.Bool.{le-ltb}
 use Rattle.std.proofs.lemmas.List.{take_all}
 use Rattle.tw_base.specs.kinds.Bytes.{AreBytes}
-use Rattle.tw_base.specs.format.Codecs.{HasBytes, behind, bytes_codec}
 use Rattle.tw_base.specs.history.History.{History, events_at}
 use Rattle.tw_base.specs.kinds.Lists.{Each}
 use Rattle.tw_base.proofs.lemmas.kinds.ByteLemmas.{AreBytes-append, AreBytes-drop, AreBytes-take}
-use Rattle.tw_base.proofs.lemmas.format.CodecLaws.{Lawful, lawful}
 use Rattle.tw_disk.specs.Image.{Image, page_at}
-use Rattle.tw_base.specs.format.PageBytes.{IsPageOf}
 use Rattle.tw_skiplist.specs.declared.info.StepInfo.{StepInfo}
 use Rattle.tw_steppage.specs.declared.limits.TheConstants.{MOST_PIECE_BYTES, MOST_STREAM_BYTES}
-use Rattle.tw_skiplist.specs.Events.{events_in, events_of_info, last_page, piece_count, piece_in, piece_size, pieces_below}
+use Rattle.tw_skiplist.specs.Events.{events_in, events_of_info, last_page, piece_count, piece_in, piece_size, pieces_from, stream_in}
 use Rattle.tw_disk.specs.Found.{Found, ◌>>=◌, spelled}
 use Rattle.tw_disk.specs.Found.Found.{Is, Bad}
 use Rattle.tw_skiplist.specs.Infos.{IsInfoOf}
@@ -24,22 +21,10 @@ use Rattle.tw_skiplist.proofs.EventWords.{found-events}
 use Rattle.tw_disk.proofs.FoundLaws.{is_on, bytes_in-within}
 use Rattle.tw_disk.proofs.SpelledLaws.{page-is}
 use Rattle.tw_skiplist.proofs.Growing.{has_bytes}
-use Rattle.tw_skiplist.proofs.PieceCounts.{count_all, count_needed, pieces-more, pieces-none}
+use Rattle.tw_skiplist.proofs.PieceCounts.{count_all, count_needed}
 use Rattle.tw_skiplist.proofs.Spelling.{take_on}
 use Rattle.tw_skiplist.proofs.Streams.{length-stream}
-
-pub piece-lawful : (step number count : ℕ) → Lawful (piece_codec step number count)
-unfolding piece_codec
-piece-lawful step number count = search lawful depth 20
-
--- an event page is the page of its piece
-pub event_page_of : (step number count : ℕ) (page bytes : List ℕ) → page ≡ event_page_bytes step number bytes → HasBytes count bytes → IsPageOf (piece_codec step number count) page bytes
-unfolding event_page_bytes piece_codec behind bytes_codec
-event_page_of step number count page bytes is fits = record { bytes = is; fits = fits }
-
-pub of_event_page : (step number count : ℕ) (page bytes : List ℕ) → IsPageOf (piece_codec step number count) page bytes → (page ≡ event_page_bytes step number bytes) × (length bytes ≡ count)
-unfolding event_page_bytes piece_codec behind bytes_codec
-of_event_page step number count page bytes is = (is.bytes, is.fits.0)
+use Rattle.tw_steppage.proofs.EventPages.{event_page_of, piece-lawful}
 
 stream_bytes : (events : List (List ℕ)) → Each AreBytes events → AreBytes (stream events)
 stream_bytes [] all = tt
@@ -73,15 +58,19 @@ module _ (dig : List ℕ → List ℕ) (ps : Image) (h : History) (places : List
       (is.stream.pieces number less ∙ ap (λ (k : ℕ). event_page_bytes k number (piece bytes_of number)) (sym is.step))
       (own ∙ omega (arith, rest, all), AreBytes-take MOST_PIECE_BYTES (drop (MOST_PIECE_BYTES * number) bytes_of) (AreBytes-drop (MOST_PIECE_BYTES * number) bytes_of (stream_bytes (events_at h i) is.limits.are.bytes))))
 
-  pieces_are : (number : ℕ) → number ≤ piece_count size → pieces_below ps info number ≡ Is (take (MOST_PIECE_BYTES * number) bytes_of)
-  pieces_are zero l = pieces-none ps info
-  pieces_are (suc number) l =
-      let so_far = pieces_are number (omega (arith, l)) in
-      ap (pieces_below ps info) (let e : suc number ≡ number + 1 = omega arith in e) ∙ pieces-more ps info number
-      ∙ is_on (pieces_below ps info number) (λ before. piece_in ps info number >>= (λ p. Is (before ++ p))) (take (MOST_PIECE_BYTES * number) bytes_of) so_far
-      ∙ is_on (piece_in ps info number) (λ p. Is (take (MOST_PIECE_BYTES * number) bytes_of ++ p)) (piece bytes_of number) (piece_at number (count_needed size number (omega (arith, l))))
-      ∙ ap (λ (b : List ℕ). Is b) (take_on (MOST_PIECE_BYTES * number) MOST_PIECE_BYTES bytes_of)
-      ∙ ap (λ (n : ℕ). Is (take n bytes_of)) (let e : MOST_PIECE_BYTES * number + MOST_PIECE_BYTES ≡ MOST_PIECE_BYTES * suc number = omega arith in e)
+  pieces_are : (more number : ℕ) → number + more ≤ piece_count size
+      → pieces_from ps info more number (take (MOST_PIECE_BYTES * number) bytes_of) ≡ Is (take (MOST_PIECE_BYTES * (number + more)) bytes_of)
+  unfolding pieces_from
+  pieces_are zero number l = ap (λ (n : ℕ). Is (take (MOST_PIECE_BYTES * n) bytes_of)) (let e : number ≡ number + 0 = omega arith in e)
+  pieces_are (suc more) number l =
+      let so_far : List ℕ = take (MOST_PIECE_BYTES * number) bytes_of in
+      let next : Found (List ℕ) → Found (List ℕ) = λ found. found >>= pieces_from ps info more (suc number) in
+      ap next (is_on (piece_in ps info number) (λ p. Is (so_far ++ p)) (piece bytes_of number) (piece_at number (count_needed size number (omega (arith, l)))))
+      ∙ ap (pieces_from ps info more (suc number)) (
+      take_on (MOST_PIECE_BYTES * number) MOST_PIECE_BYTES bytes_of
+      ∙ ap (λ (n : ℕ). take n bytes_of) (let e : MOST_PIECE_BYTES * number + MOST_PIECE_BYTES ≡ MOST_PIECE_BYTES * suc number = omega arith in e))
+      ∙ pieces_are more (suc number) (omega (arith, l))
+      ∙ ap (λ (n : ℕ). Is (take (MOST_PIECE_BYTES * n) bytes_of)) (let e : suc number + more ≡ number + suc more = omega arith in e)
 
   -- the events that are found are the history's
   pub events_are : events_of_info ps info ≡ Is (events_at h i)
@@ -91,7 +80,10 @@ module _ (dig : List ℕ → List ℕ) (ps : Image) (h : History) (places : List
       let all = count_all size in
       let long : length bytes_of ≤ MOST_PIECE_BYTES * count = omega (arith, all, is.stream_size) in
       let few : size ≤ MOST_STREAM_BYTES = omega (arith, is.stream_size, length-stream (events_at h i), is.limits.are.count, is.limits.fit) in
-      let read : Found (List (List ℕ)) = pieces_below ps info count >>= events_in (last_page info count) info.count in
+      let read : Found (List (List ℕ)) = stream_in ps info >>= events_in (last_page info count) info.count in
+      let all_pieces : stream_in ps info ≡ Is bytes_of =
+      pieces_are count 0 (omega arith) ∙ ap (λ (n : ℕ). Is (take (MOST_PIECE_BYTES * n) bytes_of)) (let e : 0 + count ≡ count = omega arith in e)
+      ∙ ap (λ (b : List ℕ). Is b) (take_all (MOST_PIECE_BYTES * count) bytes_of long) in
       ap (λ (b : Bool). if b then Bad info.page else read) (le-ltb MOST_STREAM_BYTES size few)
-      ∙ is_on (pieces_below ps info count) (events_in (last_page info count) info.count) bytes_of (pieces_are count (omega arith) ∙ ap (λ (b : List ℕ). Is b) (take_all (MOST_PIECE_BYTES * count) bytes_of long))
+      ∙ is_on (stream_in ps info) (events_in (last_page info count) info.count) bytes_of all_pieces
       ∙ found-events bytes_of info.count (events_at h i) (record { stream_is = refl; count_is = sym is.count; limits = is.limits }) (last_page info count)

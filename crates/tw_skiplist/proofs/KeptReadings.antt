@@ -1,6 +1,7 @@
 -- What is read of pages that keep a history is the history's.
-use Rattle.std.proofs.Common.{◌≡◌, ℕ, suc, zero, ◌+◌, ◌-◌, ◌^◌, ◌<◌, ◌≤◌, List, [], ◌∷◌, length, refl, ap, sym, ◌∙◌, arith, inl, inr}
+use Rattle.std.proofs.Common.{◌≡◌, ℕ, suc, zero, ◌+◌, ◌-◌, ◌^◌, ◌<◌, ◌≤◌, List, [], ◌∷◌, ◌++◌, length, refl, ap, sym, ◌∙◌, arith, inl, inr, append_assoc}
 use Rattle.std.proofs.lemmas.Bool.{cases_lt}
+use Rattle.std.proofs.lemmas.List.{append-nil}
 use Rattle.tw_disk.specs.Image.{Image}
 use Rattle.tw_base.specs.history.Auth.{auth}
 use Rattle.tw_base.specs.history.History.{History, events_at}
@@ -9,7 +10,7 @@ use Rattle.tw_base.proofs.lemmas.kinds.DigestBytes.{IsDigest}
 use Rattle.tw_skipproof.specs.declared.path.Link.{Link}
 use Rattle.tw_skipproof.specs.declared.path.Path.{Path}
 use Rattle.tw_skipproof.specs.HistoryProofs.{IsPathOf}
-use Rattle.tw_skipproof.specs.Paths.{hop, hop_level}
+use Rattle.tw_skipproof.specs.Paths.{greedy_steps, hop, hop_level}
 use Rattle.tw_skipproof.proofs.GreedySteps.{hop-less}
 use Rattle.tw_skipproof.proofs.Hops.{hop-below, hop_level-le}
 use Rattle.tw_skiplist.specs.declared.head.Head.{Head}
@@ -23,10 +24,10 @@ use Rattle.tw_disk.specs.Found.{Found, ◌>>=◌}
 use Rattle.tw_disk.specs.Found.Found.{Is}
 use Rattle.tw_skiplist.specs.Infos.{IsInfoOf}
 use Rattle.tw_skiplist.specs.Keeping.{Keeps, KeepsSteps, Place, fields_at, link_to, links_at, place_of}
-use Rattle.tw_skiplist.specs.Readings.{found_events, found_link, found_path, found_proof, found_step}
+use Rattle.tw_skiplist.specs.Readings.{found_events, found_link, found_path, found_proof, found_step, found_way}
 use Rattle.tw_skiplist.specs.Records.{info_record, link_record}
 use Rattle.tw_steppage.specs.StepPages.{link_of, no_ref, page_of_step}
-use Rattle.tw_skiplist.specs.Walks.{collected, head_ref, hop_in, info_in, link_before, link_in, walk}
+use Rattle.tw_skiplist.specs.Walks.{collect_along, collected, head_ref, hop_in, info_in, link_in, walk}
 use Rattle.tw_disk.proofs.FoundLaws.{is_on}
 use Rattle.tw_skiplist.proofs.Kept.{get_or-links_to, kept_link_in, kept_page}
 use Rattle.tw_skiplist.proofs.KeptEvents.{events_are}
@@ -64,10 +65,10 @@ module _ (dig : List ℕ → List ℕ) (size : (text : List ℕ) → IsDigest (d
   pub walk_is : (from to : ℕ) → to ≤ from → from ≤ length h.steps → walk ps (to_step from) from to ≡ Is (to_step to)
   walk_is from to order l = walk_kept from from to order (omega arith) l
 
-  -- a path of the history, and the link to its lower step
+  -- a path of the history, and the link to its lower step, which are found behind any links
   pub record Collects (from to : ℕ) : Type 0 where
     pub links : List Link
-    pub is : collected dig ps (to_step from) from to ≡ Is (record { links = links; last = to_step to })
+    pub is : (before : List Link) → collect_along dig ps to (greedy_steps from to) before (to_step from) ≡ Is (record { links = before ++ links; last = to_step to })
     pub path : IsPathOf dig h links from to
 
   hop_kept : (i level : ℕ) → 0 < i → i ≤ length h.steps → level ≤ top_level i → hop_in dig ps (page i) i level
@@ -83,33 +84,32 @@ module _ (dig : List ℕ → List ℕ) (size : (text : List ℕ) → IsDigest (d
   path_on zero to under l links path = absurd (omega arith)
   path_on (suc k) to under l links path = let own = kept_link dig size h places ps kept k (hop_level (suc k) to) (omega (arith, l)) in (under, own.0, own.1, path)
 
-  collected_kept : (d from to : ℕ) → to ≤ from → from ≤ to + d → from ≤ length h.steps → Collects from to
-  collected_kept zero from to order near l =
-      let same : from ≡ to = omega (arith, order, near) in
+  collected_end : (from to : ℕ) → to ≤ from → from ≤ to → Collects from to
+  collected_end from to order end =
+      let same : from ≡ to = omega (arith, order, end) in
       record {
         links = [];
-        is = collected-here ps (to_step from) from to dig (omega (arith, near)) ∙ ap (λ (i : ℕ). Is (record { links = []; last = to_step i })) same;
-        path = omega (arith, near);
+        is = λ before. collected-here dig ps before (to_step from) from to end ∙ (λ j. Is (record { links = sym (append-nil before) j; last = to_step (same j) }));
+        path = end;
       }
+
+  collected_kept : (d from to : ℕ) → to ≤ from → from ≤ to + d → from ≤ length h.steps → Collects from to
+  collected_kept zero from to order near l = collected_end from to order (omega (arith, near))
   collected_kept (suc d) from to order near l =
       elim (cases_lt to from) [
-        | inr end ↦ (
-            let same : from ≡ to = omega (arith, order, end) in
-            record {
-              links = [];
-              is = collected-here ps (to_step from) from to dig end ∙ ap (λ (i : ℕ). Is (record { links = []; last = to_step i })) same;
-              path = end;
-            })
+        | inr end ↦ collected_end from to order end
         | inl under ↦ (
             let less = hop-less from to under in
             let rest = collected_kept d (hop from to) to (hop-below from to under) (omega (arith, less, near)) (omega (arith, less, l)) in
             let link : Link = link_record dig from (fields_at dig h places from) (links_at dig h places from) (hop_level from to) in
             record {
               links = link ∷ rest.links;
-              is = collected-on ps (to_step from) from to dig under
-                  ∙ is_on (hop_in dig ps (page from) from (hop_level from to)) (λ hopped. collected dig ps hopped.next (hop from to) to >>= link_before dig ps hopped.link)
+              is = λ before.
+                  collected-on dig ps before (to_step from) from to under
+                  ∙ is_on (hop_in dig ps (page from) from (hop_level from to)) (λ hopped. collect_along dig ps to (greedy_steps (hop from to) to) (before ++ hopped.link ∷ []) hopped.next)
                   (record { link = link; next = to_step (hop from to) }) (hop_kept from (hop_level from to) (omega (arith, under)) l (hop_level-le from to))
-                  ∙ is_on (collected dig ps (to_step (hop from to)) (hop from to) to) (link_before dig ps link) (record { links = rest.links; last = to_step to }) rest.is;
+                  ∙ rest.is (before ++ link ∷ [])
+                  ∙ ap (λ (ls : List Link). Is (record { links = ls; last = to_step to })) (append_assoc before (link ∷ []) rest.links);
               path = path_on from to under l rest.links rest.path;
             })
       ]
@@ -159,15 +159,36 @@ module _ (dig : List ℕ → List ℕ) (size : (text : List ℕ) → IsDigest (d
         told.of,
       )
 
+  -- a step under the link that leads to it
+  pub here_found : (link : Head) (i : ℕ) → 1 ≤ i → i ≤ head.step → link.step ≡ i → link.page ≡ (place_of places i).page → (info : StepInfo) × (found_step dig ps link i ≡ Is info) × IsInfoOf dig ps h places i info
+  unfolding found_step
+  here_found link i some order at page =
+      let told = tells dig size h places ps keeps.keeps i some (omega (arith, order, keeps.step)) in (
+        told.info,
+        is_on (walk ps (head_ref link) link.step i) (λ l. info_in dig ps l.page i) (head_ref link) (walk-here ps (head_ref link) link.step i (omega (arith, at)))
+            ∙ ap (λ (p : ℕ). info_in dig ps p i) page
+            ∙ told.is,
+        told.of,
+      )
+
+  -- the way between two steps
+  way_found : (n i : ℕ) → i ≤ n → n ≤ head.step → (links : List Link) × (found_way dig ps head n i ≡ Is (record { links = links; last = link_to dig h places i })) × IsPathOf dig h links n i
+  unfolding found_way
+  way_found n i order below =
+      let way = collects dig size h places ps keeps.keeps n i order (omega (arith, below, keeps.step)) in (
+        way.links,
+        is_on (walk ps (head_ref head) head.step n) (λ middle. collected dig ps middle n i) (link_to dig h places n) (down n below) ∙ way.is [],
+        way.path,
+      )
+
   pub link_found : (n i : ℕ) → i ≤ n → n ≤ head.step → (link : StepLink) × (found_link dig ps head n i ≡ Is link) × IsPathOf dig h link.path.links n i × (link.auth ≡ auth dig h i)
   unfolding found_link
   link_found n i order below =
-      let way = collects dig size h places ps keeps.keeps n i order (omega (arith, below, keeps.step)) in
+      let way = way_found n i order below in
       let ends : Collected → Found StepLink = λ way. Is (record { path = record { links = way.links }; auth = way.last.auth }) in (
-        record { path = record { links = way.links }; auth = auth dig h i },
-        is_on (walk ps (head_ref head) head.step n) (λ middle. collected dig ps middle n i >>= ends) (link_to dig h places n) (down n below)
-            ∙ is_on (collected dig ps (link_to dig h places n) n i) ends (record { links = way.links; last = link_to dig h places i }) way.is,
-        way.path,
+        record { path = record { links = way.0 }; auth = auth dig h i },
+        is_on (found_way dig ps head n i) ends (record { links = way.0; last = link_to dig h places i }) way.1,
+        way.2,
         refl,
       )
 
@@ -181,13 +202,13 @@ module _ (dig : List ℕ → List ℕ) (size : (text : List ℕ) → IsDigest (d
       → (proof : StepProof) × (found_proof dig ps head top i ≡ Is proof) × IsPathOf dig h proof.path.links top i × IsInfoOf dig ps h places i proof.info
   unfolding found_proof
   proof_found top i some order below =
-      let way = collects dig size h places ps keeps.keeps top i order (omega (arith, below, keeps.step)) in
-      let told = tells dig size h places ps keeps.keeps i some (omega (arith, order, below, keeps.step)) in (
-        record { path = record { links = way.links }; info = told.info },
-        is_on (walk ps (head_ref head) head.step top) (λ middle. collected dig ps middle top i >>= (λ way. info_in dig ps way.last.page i >>= (λ info. Is (record { path = record { links = way.links }; info = info })))) (link_to dig h places top) (down top below)
-            ∙ is_on (collected dig ps (link_to dig h places top) top i) (λ way. info_in dig ps way.last.page i >>= (λ info. Is (record { path = record { links = way.links }; info = info }))) (record { links = way.links; last = link_to dig h places i }) way.is
-            ∙ is_on (info_in dig ps (place_of places i).page i) (λ info. Is (record { path = record { links = way.links }; info = info })) told.info told.is,
-        way.path,
+      let way = way_found top i order below in
+      let told = tells dig size h places ps keeps.keeps i some (omega (arith, order, below, keeps.step)) in
+      let tell : Collected → StepInfo → Found StepProof = λ way info. Is (record { path = record { links = way.links }; info = info }) in
+      let end : Collected = record { links = way.0; last = link_to dig h places i } in (
+        record { path = record { links = way.0 }; info = told.info },
+        is_on (found_way dig ps head top i) (λ (way : Collected). info_in dig ps way.last.page i >>= tell way) end way.1 ∙ is_on (info_in dig ps (place_of places i).page i) (tell end) told.info told.is,
+        way.2,
         told.of,
       )
 

@@ -1,4 +1,3 @@
-pub mod Appending
 pub mod Contents
 pub mod EventWords
 pub mod FewEvents

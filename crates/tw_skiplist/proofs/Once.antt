@@ -18,7 +18,8 @@ use Rattle.tw_skiplist.proofs.Contents.{may_record}
 use Rattle.tw_skiplist.proofs.Kept.{get_or-links_to, kept_page}
 use Rattle.tw_skiplist.proofs.EventWords.{found-events}
 use Rattle.tw_disk.proofs.FoundLaws.{same_found}
-use Rattle.tw_skiplist.proofs.Spelling.{piece_read, take_on}
+use Rattle.tw_skiplist.proofs.Spelling.{take_on}
+use Rattle.tw_steppage.proofs.EventPages.{piece_read}
 use Rattle.tw_steppage.specs.declared.limits.TheConstants.{MOST_PIECE_BYTES}
 
 -- ---- a stream is known by its pieces

@@ -1,11 +1,11 @@
 -- How many event pages a stream has, and what they have.
-use Rattle.std.proofs.Common.{◌≡◌, ℕ, suc, zero, ◌+◌, ◌*◌, ◌<◌, ◌≤◌, List, [], ◌++◌, refl, ap, ◌∙◌, arith}
+use Rattle.std.proofs.Common.{◌≡◌, ℕ, suc, ◌+◌, ◌-◌, ◌*◌, ◌<◌, ◌≤◌, List, [], ap, ◌∙◌, arith}
 use Rattle.tw_disk.specs.Image.{Image}
 use Rattle.tw_skiplist.specs.declared.info.StepInfo.{StepInfo}
 use Rattle.tw_steppage.specs.declared.limits.TheConstants.{MOST_PIECE_BYTES}
-use Rattle.tw_skiplist.specs.Events.{piece_behind, piece_count, pieces_below}
-use Rattle.tw_disk.specs.Found.{Found, ◌>>=◌}
-use Rattle.tw_disk.specs.Found.Found.{Is, Bad}
+use Rattle.tw_skiplist.specs.Events.{last_page, piece_behind, piece_count, pieces_from, stream_in}
+use Rattle.tw_disk.specs.Found.{◌>>=◌}
+use Rattle.tw_disk.specs.Found.Found.{Is}
 
 pub count_more : (size number : ℕ) → MOST_PIECE_BYTES * number < size → number < piece_count size
 count_more size number l = omega arith
@@ -20,19 +20,25 @@ count_needed size number l = omega arith
 pub count_all : (size : ℕ) → size ≤ MOST_PIECE_BYTES * piece_count size
 count_all size = omega arith
 
-module _ (ps : Image) (info : StepInfo) where
-  pub pieces-none : pieces_below ps info 0 ≡ Is []
-  unfolding pieces_below
-  pieces-none = refl
+module _ (ps : Image) (info : StepInfo) (number : ℕ) (before : List ℕ) where
+  pub pieces-here : info.stream.size ≤ MOST_PIECE_BYTES * number → pieces_from ps info (piece_count info.stream.size - number) number before ≡ Is before
+  unfolding pieces_from
+  pieces-here end = ap (λ (more : ℕ). pieces_from ps info more number before) (let e : piece_count info.stream.size - number ≡ 0 = omega (arith, count_end info.stream.size number end) in e)
 
-  pub pieces-more : (number : ℕ) → pieces_below ps info (number + 1) ≡ (pieces_below ps info number >>= piece_behind ps info number)
-  unfolding pieces_below
-  pieces-more number = ap (pieces_below ps info) (let e : number + 1 ≡ suc number = omega arith in e)
+  pub pieces-on : MOST_PIECE_BYTES * number < info.stream.size → pieces_from ps info (piece_count info.stream.size - number) number before
+      ≡ (piece_behind ps info number before >>= pieces_from ps info (piece_count info.stream.size - (number + 1)) (number + 1))
+  unfolding pieces_from
+  pieces-on more =
+      let next : suc number ≡ number + 1 = omega arith in
+      let under = count_more info.stream.size number more in
+      ap (λ (left : ℕ). pieces_from ps info left number before) (let e : piece_count info.stream.size - number ≡ suc (piece_count info.stream.size - (number + 1)) = omega (arith, under) in e)
+      ∙ ap (λ (n : ℕ). piece_behind ps info number before >>= pieces_from ps info (piece_count info.stream.size - (number + 1)) n) next
 
-  pieces-suc : (number page : ℕ) → pieces_below ps info number ≡ Bad page → pieces_below ps info (suc number) ≡ Bad page
-  unfolding pieces_below
-  pieces-suc number page e = ap (λ (f : Found (List ℕ)). f >>= piece_behind ps info number) e
+pub pieces-begin : (ps : Image) (info : StepInfo) → stream_in ps info ≡ pieces_from ps info (piece_count info.stream.size - 0) 0 []
+pieces-begin ps info = ap (λ (more : ℕ). pieces_from ps info more 0 []) (let e : piece_count info.stream.size ≡ piece_count info.stream.size - 0 = omega arith in e)
 
-  pub pieces-bad : (number d page : ℕ) → pieces_below ps info number ≡ Bad page → pieces_below ps info (number + d) ≡ Bad page
-  pieces-bad number zero page e = ap (pieces_below ps info) (let s : number + 0 ≡ number = omega arith in s) ∙ e
-  pieces-bad number (suc d) page e = ap (pieces_below ps info) (let s : number + suc d ≡ suc (number + d) = omega arith in s) ∙ pieces-suc (number + d) page (pieces-bad number d page e)
+pub last_page-on : (info : StepInfo) (number : ℕ) → last_page info (number + 1) ≡ info.stream.page + number
+last_page-on info number = ap (last_page info) (let e : number + 1 ≡ suc number = omega arith in e)
+
+-- the event pages of a stream, one by one
+pub ruleset pieces_go_on = (pieces-here, pieces-on, pieces-begin, last_page-on, count_more, count_end)

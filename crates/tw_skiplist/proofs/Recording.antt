@@ -64,6 +64,15 @@ module _ (dig : List ℕ → List ℕ) where
   unfolding page_labels
   page_labels-none step datum links without = sym (remove_past [] without (omega arith))
 
+  pub page_labels-begin : (step : ℕ) (datum : List ℕ) (links : List StepRef) → page_labels dig step datum links 0 ≡ []
+  unfolding page_labels
+  page_labels-begin step datum links = refl
+
+  pub page_labels-on : (step : ℕ) (datum : List ℕ) (links : List StepRef) (level : ℕ)
+      → page_labels dig step datum links (level + 1) ≡ page_labels dig step datum links level ++ dig (link_text step level datum (link_of links level).auth) ∷ []
+  unfolding page_labels
+  page_labels-on step datum links level = ap (page_labels dig step datum links) (let e : level + 1 ≡ suc level = omega arith in e)
+
   pub length-page_labels : (step : ℕ) (datum : List ℕ) (links : List StepRef) (count : ℕ) → length (page_labels dig step datum links count) ≡ count
   unfolding page_labels
   length-page_labels step datum links zero = refl
@@ -140,7 +149,11 @@ module _ (dig : List ℕ → List ℕ) where
           };
           limits = may_record (step_at h (suc k)) s.may;
           page = refl;
+          before = first;
           page_below = s.below;
           stream_size = refl;
           stream = s.stream;
         }
+
+-- the labels of the links, one by one
+pub ruleset labels_go_on = (page_labels-begin, page_labels-on)

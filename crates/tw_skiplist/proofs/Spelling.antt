@@ -1,7 +1,7 @@
 -- The events that a stream spells.
 use Rattle.std.proofs.Common.{◌≡◌, ℕ, suc, zero, ◌+◌, ◌<◌, ◌≤◌, List, [], ◌∷◌, ◌++◌, length, take, drop, refl, ap, sym, ◌∙◌, arith, subst, append_assoc, length-append, length-take, length-drop}
 use Rattle.std.specs.Int.{to_be_bytes, from_be_bytes, w32}
-use Rattle.std.proofs.lemmas.List.{take_at, drop-drop, append-nil}
+use Rattle.std.proofs.lemmas.List.{drop-drop, append-nil}
 use Rattle.std.proofs.lemmas.Nat.{from_be_bytes-to_be_bytes_4}
 use Rattle.tw_base.specs.kinds.Bytes.{AreBytes}
 use Rattle.tw_base.specs.declared.kinds.limits.TheConstants.{MOST_EVENT_BYTES}
@@ -9,8 +9,7 @@ use Rattle.tw_base.specs.kinds.Lists.{Each}
 use Rattle.tw_base.proofs.lemmas.kinds.ByteLemmas.{AreBytes-back, AreBytes-front}
 use Rattle.tw_base.proofs.lemmas.kinds.TextFields.{halves}
 use Rattle.tw_skiplist.specs.ScanSteps.{HasEventAt, IsNoEventAt, SpellsEvents}
-use Rattle.tw_base.specs.format.Codecs.{behind, bytes_codec}
-use Rattle.tw_steppage.specs.StepBytes.{event_page_bytes, piece_codec, stream}
+use Rattle.tw_steppage.specs.StepBytes.{stream}
 use Rattle.tw_skiplist.proofs.Streams.{stream-append}
 
 abbrev pub AllShort : List (List ℕ) → Type 0
@@ -113,9 +112,3 @@ module _ (bytes : List ℕ) (at size : ℕ) (events : List (List ℕ)) (event : 
 
   pub more_sizes : AllShort events → AllShort (events ++ event ∷ [])
   more_sizes all = Each-push events event all (omega (arith, event_length, has.few))
-
--- ---- the piece that stands in an event page
-
-pub piece_read : (step number count : ℕ) (page bytes : List ℕ) → page ≡ event_page_bytes step number bytes → length bytes ≡ count → take count (drop 11 page) ≡ bytes
-unfolding event_page_bytes piece_codec behind bytes_codec
-piece_read step number count page bytes is size = ap (λ (p : List ℕ). take count (drop 11 p)) is ∙ take_at bytes _ count size

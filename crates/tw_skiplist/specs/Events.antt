@@ -29,10 +29,14 @@ module _ (pages : Image) (info : StepInfo) where
   abbrev pub piece_behind : (number : ℕ) → (before : List ℕ) → Found (List ℕ)
   piece_behind number before = piece_in number >>= (λ piece. Is (before ++ piece))
 
-  -- the pieces of the numbers below this count
-  unfoldable pub pieces_below : (count : ℕ) → Found (List ℕ)
-  pieces_below zero = Is []
-  pieces_below (suc number) = pieces_below number >>= piece_behind number
+  -- the pieces of so many pages from this one on, behind what is before them
+  unfoldable pub pieces_from : (more number : ℕ) → (before : List ℕ) → Found (List ℕ)
+  pieces_from zero number before = Is before
+  pieces_from (suc more) number before = piece_behind number before >>= pieces_from more (suc number)
+
+  -- all pieces of the stream
+  abbrev pub stream_in : Found (List ℕ)
+  stream_in = pieces_from (piece_count info.stream.size) 0 []
 
 -- the page that is read last: the step's own where its stream has no bytes
 abbrev pub last_page : StepInfo → (pieces : ℕ) → ℕ
@@ -56,4 +60,4 @@ events_in page count stream = spelled page 0 (events_codec count) stream >>= (λ
 unfoldable pub events_of_info : Image → StepInfo → Found (List (List ℕ))
 events_of_info pages info =
     if nat_lt MOST_STREAM_BYTES info.stream.size then Bad info.page
-    else (pieces_below pages info (piece_count info.stream.size) >>= events_in (last_page info (piece_count info.stream.size)) info.count)
+    else (stream_in pages info >>= events_in (last_page info (piece_count info.stream.size)) info.count)

@@ -1,16 +1,20 @@
 -- What a step of a history is, in pages that keep it.
-use Rattle.std.specs.Prelude.{◌≡◌, ℕ, ◌+◌, ◌<◌, ◌≤◌, List, length}
+use Rattle.std.specs.Prelude.{◌≡◌, ℕ, ◌+◌, ◌-◌, ◌<◌, ◌≤◌, List, length, IfSome}
 use Rattle.tw_disk.specs.declared.limits.TheConstants.{FIRST_PAGE}
 use Rattle.tw_disk.specs.Image.{Image}
-use Rattle.tw_base.specs.declared.kinds.limits.TheConstants.{LAST_STEP}
+use Rattle.tw_base.specs.declared.kinds.limits.TheConstants.{LAST_STEP, MOST_EVENTS}
 use Rattle.tw_base.specs.events.EventTree.{event_root}
 use Rattle.tw_base.specs.history.History.{History, events_at, step_at, thread_of, time_at}
 use Rattle.tw_base.specs.history.Auth.{auth}
 use Rattle.tw_skipproof.specs.HistoryProofs.{IsOpeningOf}
 use Rattle.tw_skiplist.specs.declared.info.StepInfo.{StepInfo}
-use Rattle.tw_base.specs.history.Limits.{MayRecord}
+use Rattle.tw_base.specs.history.Limits.{IsTimeWithinLimits, MayRecord}
 use Rattle.tw_steppage.specs.StepBytes.{stream}
-use Rattle.tw_skiplist.specs.Keeping.{KeepsStream, Place, archive_at, place_of}
+use Rattle.tw_skiplist.specs.Keeping.{KeepsStream, Place, archive_at, link_to, place_of}
+
+-- the info is of this step; and over any pages it has at most 1,024 events, and a time and a thread's step of at most 2^40 - 1
+abbrev pub IsTold : (step : ℕ) → StepInfo → Type 0
+IsTold step info = (info.step ≡ step) × (info.count ≤ MOST_EVENTS) × IsTimeWithinLimits info.time × IfSome info.received (λ t. t.step ≤ LAST_STEP)
 
 -- the info is of this step of the history, which is kept at these places, and the pages keep the step's events where it says
 pub record IsInfoOf (dig : List ℕ → List ℕ) (pages : Image) (h : History) (places : List Place) (i : ℕ) (info : StepInfo) : Type 0 where
@@ -25,6 +29,7 @@ pub record IsInfoOf (dig : List ℕ → List ℕ) (pages : Image) (h : History) 
   pub opening : IsOpeningOf dig h i info.opening
   pub limits : MayRecord (events_at h i)
   pub page : info.page ≡ (place_of places i).page
+  pub before : info.before ≡ link_to dig h places (i - 1)
   pub page_below : info.page < FIRST_PAGE + length pages
   pub stream_size : info.stream.size ≡ length (stream (events_at h i))
   pub stream : KeepsStream pages i info.stream.page info.page (stream (events_at h i))

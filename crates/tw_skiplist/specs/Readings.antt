@@ -2,6 +2,7 @@
 use Rattle.std.specs.Prelude.{ℕ, List}
 use Rattle.tw_disk.specs.Image.{Image}
 use Rattle.tw_skipproof.specs.declared.path.Path.{Path}
+use Rattle.tw_skiplist.specs.declared.collecting.Collected.{Collected}
 use Rattle.tw_skiplist.specs.declared.head.Head.{Head}
 use Rattle.tw_skiplist.specs.declared.info.StepInfo.{StepInfo}
 use Rattle.tw_skiplist.specs.declared.info.StepLink.{StepLink}
@@ -16,11 +17,13 @@ module _ (dig : List ℕ → List ℕ) (pages : Image) (head : Head) where
   unfoldable pub found_step : (i : ℕ) → Found StepInfo
   found_step i = walk pages (head_ref head) head.step i >>= (λ link. info_in dig pages link.page i)
 
-  -- the path from a step n down to a step i, and the authenticator that its last link leads to; the page of i isn't read
+  -- the way from a step n down to a step i: its links, and the one that leads to i, whose page isn't read
+  unfoldable pub found_way : (n i : ℕ) → Found Collected
+  found_way n i = walk pages (head_ref head) head.step n >>= (λ middle. collected dig pages middle n i)
+
+  -- the path of these links, and the authenticator that the last one leads to
   unfoldable pub found_link : (n i : ℕ) → Found StepLink
-  found_link n i =
-      walk pages (head_ref head) head.step n >>= (λ middle. collected dig pages middle n i
-      >>= (λ way. Is (record { path = record { links = way.links }; auth = way.last.auth })))
+  found_link n i = found_way n i >>= (λ way. Is (record { path = record { links = way.links }; auth = way.last.auth }))
 
   -- the path alone
   unfoldable pub found_path : (n i : ℕ) → Found Path
@@ -29,8 +32,7 @@ module _ (dig : List ℕ → List ℕ) (pages : Image) (head : Head) where
   -- the path from a top down to a step, and the step
   unfoldable pub found_proof : (top i : ℕ) → Found StepProof
   found_proof top i =
-      walk pages (head_ref head) head.step top >>= (λ middle. collected dig pages middle top i
-      >>= (λ way. info_in dig pages way.last.page i >>= (λ info. Is (record { path = record { links = way.links }; info = info }))))
+      found_way top i >>= (λ way. info_in dig pages way.last.page i >>= (λ info. Is (record { path = record { links = way.links }; info = info })))
 
   -- the events of a step
   unfoldable pub found_events : (i : ℕ) → Found (List (List ℕ))

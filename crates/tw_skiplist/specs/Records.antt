@@ -39,6 +39,7 @@ module _ (dig : List ℕ → List ℕ) where
   info_record page step f links = record {
     step = step;
     page = page;
+    before = link_of links 0;
     event_root = f.event_root;
     count = f.count;
     time = f.time;

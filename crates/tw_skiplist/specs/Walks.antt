@@ -38,17 +38,13 @@ module _ (dig : List ℕ → List ℕ) (pages : Image) where
   abbrev pub hop_in : (page step level : ℕ) → Found Hop
   hop_in page step level = page_of_step pages page step >>= (λ p. Is (record { link = link_record dig step p.0 p.1 level; next = link_of p.1 level }))
 
-  -- a record in front of those of the rest of the way
-  abbrev pub link_before : Link → Collected → Found Collected
-  link_before link rest = Is (record { links = link ∷ rest.links; last = rest.last })
-
-  -- the same walk, with the record of each link that it follows
-  unfoldable pub collect_along : (to : ℕ) → List ℕ → StepRef → Found Collected
-  collect_along to [] link = Is (record { links = []; last = link })
-  collect_along to (at ∷ steps) link = hop_in link.page at (hop_level at to) >>= (λ hop. collect_along to steps hop.next >>= link_before hop.link)
+  -- the same walk, with the record of each link that it follows behind those before it
+  unfoldable pub collect_along : (to : ℕ) → List ℕ → List Link → StepRef → Found Collected
+  collect_along to [] links link = Is (record { links = links; last = link })
+  collect_along to (at ∷ steps) links link = hop_in link.page at (hop_level at to) >>= (λ hop. collect_along to steps (links ++ hop.link ∷ []) hop.next)
 
   abbrev pub collected : StepRef → (from to : ℕ) → Found Collected
-  collected link from to = collect_along to (greedy_steps from to) link
+  collected link from to = collect_along to (greedy_steps from to) [] link
 
   -- what the page of a step tells of it
   unfoldable pub info_in : (page step : ℕ) → Found StepInfo
@@ -56,15 +52,16 @@ module _ (dig : List ℕ → List ℕ) (pages : Image) where
 
 -- ---- the links of one more step
 
--- From the link to the step that is the last, the links of the next one up to a level: the link of the level above is the one
--- of the same level that the page of the step it leads to has.
-unfoldable pub links_up_to : Image → (first : StepRef) → (last level : ℕ) → Found (List StepRef)
-links_up_to pages first last zero = Is (first ∷ [])
-links_up_to pages first last (suc level) =
-    links_up_to pages first last level
-    >>= (λ links. link_in pages (link_of links level).page (last + 1 - 2 ^ level) level
-    >>= (λ next. Is (links ++ next ∷ [])))
+-- From the link of a level of the step, behind those of the levels below it, its links up to so many levels more: the next one is
+-- the link of the same level that the page of the step has to which this one leads.
+unfoldable pub links_on : Image → (step more level : ℕ) → List StepRef → StepRef → Found (List StepRef)
+links_on pages step zero level links link = Is (links ++ link ∷ [])
+links_on pages step (suc more) level links link = link_in pages link.page (step - 2 ^ level) level >>= links_on pages step more (suc level) (links ++ link ∷ [])
 
--- all links of the step after the head's
+-- all links of a step, of which this is the first one
+abbrev pub all_links : Image → (step : ℕ) → StepRef → Found (List StepRef)
+all_links pages step first = links_on pages step (top_level step) 0 [] first
+
+-- those of the step after the head's
 abbrev pub next_links : Image → Head → Found (List StepRef)
-next_links pages head = links_up_to pages (head_ref head) head.step (top_level (head.step + 1))
+next_links pages head = all_links pages (head.step + 1) (head_ref head)

@@ -1,27 +1,27 @@
 // One more step.
 
-ghost use Rattle.std.specs.Prelude.{◌≡◌, ℕ, suc, ◌+◌, ◌<◌, ◌≤◌, ◌^◌, ◌++◌, ◌∷◌, [], length, IfOk};
+ghost use Rattle.std.specs.Prelude.{◌≡◌, suc, ◌+◌, ◌-◌, ◌<◌, ◌≤◌, ◌^◌, length, IfOk};
 ghost use Rattle.tw_base.specs.declared.history.content.Content.TheVariants.{Events, Received};
 ghost use Rattle.tw_base.specs.history.Limits.{IsTimeWithinLimits, MayRecord};
 ghost use Rattle.tw_base.specs.kinds.Levels.{top_level as top_level_of};
-ghost use Rattle.tw_base.specs.kinds.Texts.{link_text};
 ghost use Rattle.tw_disk.specs.Answers.{AddsPages, ReadsPages};
 ghost use Rattle.tw_disk.specs.Found.Found.{Is};
 ghost use Rattle.tw_disk.specs.WalkFaults.{memory_alone, walk_faults};
 ghost use Rattle.tw_skiplist.specs.Appended.{appended, new_step, next_at, put_behind};
+ghost use Rattle.tw_skiplist.specs.Events.{piece_count};
 ghost use Rattle.tw_skiplist.specs.ListFaults.{list_faults};
-ghost use Rattle.tw_skiplist.specs.Records.{page_labels};
-ghost use Rattle.tw_skiplist.specs.Walks.{links_up_to};
+ghost use Rattle.tw_skiplist.specs.Walks.{all_links};
 
 use crate::fault::ListFault;
 use crate::head::Head;
 use crate::pieces::{stage_pieces, stream_of};
+use crate::records::labels_of;
 use crate::walking::follow;
 use arrayvec::ArrayVec;
 use std::alloc::Global;
 use tw_base::limits::LAST_STEP;
 use tw_base::{
-    Bytes, Digest, EventList, Hasher, NoMemory, Root, Thread, authenticator, link_label, no_events,
+    Bytes, Digest, EventList, Hasher, NoMemory, Root, Thread, authenticator, no_events,
     power_of_two, step_datum, top_level,
 };
 use tw_disk::{Pages, WalkFault};
@@ -29,61 +29,40 @@ use tw_events::event_root;
 use tw_steppage::limits::{MOST_LINKS, MOST_STREAM_BYTES};
 use tw_steppage::{StepFields, StepRef, StreamRef, step_page};
 
-// A step's links, with their labels.
-#[derive(Drop)]
-struct Links {
-    links: ArrayVec<StepRef, 40>,
-    labels: ArrayVec<Digest, 40>,
+// The step to which a lower link of this one leads: it has a link of that level itself.
+fn step_of_link(step: u64, level: u8) -> u64
+    requires some { 0 < step }
+    requires small { step < 2 ^ 40 }
+    requires lower { level < top_level_of step }
+    ensures value { result ≡ step - 2 ^ level }
+    ensures there { level ≤ top_level_of result }
+{
+    step - power_of_two(level)
 }
 
-impl Links {
-    fn none() -> Links
-        ensures links { result.links.items ≡ [] }
-        ensures labels { result.labels.items ≡ [] }
-    {
-        Links {
-            links: ArrayVec::new(),
-            labels: ArrayVec::new(),
-        }
-    }
-
-    fn add<H: Hasher>(&mut self, link: &StepRef, step: u64, level: u8, datum: &Digest)
-        requires links { length self.old.links.items < MOST_LINKS }
-        requires labels { length self.old.labels.items < MOST_LINKS }
-        ensures links { self.new.links.items ≡ self.old.links.items ++ link.now ∷ [] }
-        ensures labels { self.new.labels.items ≡ self.old.labels.items ++ H.dig (link_text step level datum.now link.now.auth) ∷ [] }
-        ensures link_count { length self.new.links.items ≡ length self.old.links.items + 1 }
-        ensures label_count { length self.new.labels.items ≡ length self.old.labels.items + 1 }
-    {
-        let label = link_label::<H>(step, level, datum, &link.auth);
-        self.links.push(*link);
-        self.labels.push(label);
-    }
-}
-
-// The links of the step after `from`, to which the first link leads, with their labels over the step's datum. It reads the page
-// of a step for each link but the last.
-fn gather<P: Pages, H: Hasher>(
+// The links of the step after `from`, to which the first link leads. It reads the page of a step for each
+// link but the last.
+#[tactic(auto, using(crate::proofs::WalkLaws::links_go_on))]
+fn gather<P: Pages>(
     pages: &mut P,
     first: &StepRef,
     from: u64,
-    datum: &Digest,
-) -> Result<Links, WalkFault>
+) -> Result<ArrayVec<StepRef, 40>, WalkFault>
     requires step { from + 1 < 2 ^ 40 }
-    ensures reads { ReadsPages walk_faults P.view P.same pages.old pages.new (λ l. l.links.items) result (λ ps. links_up_to ps first.now from (top_level_of (from + 1))) }
-    ensures count { IfOk result (λ l. length l.links.items ≡ suc (top_level_of (from + 1))) }
-    ensures labels { IfOk result (λ l. l.labels.items ≡ page_labels H.dig (from + 1) datum.now l.links.items (length l.links.items)) }
-    ensures sizes { IfOk result (λ l. (length l.links.items ≤ MOST_LINKS) × (length l.labels.items ≤ MOST_LINKS)) }
+    ensures reads { ReadsPages walk_faults P.view P.same pages.old pages.new (λ l. l.items) result (λ ps. all_links ps
+        (from + 1) first.now) }
+    ensures count { IfOk result (λ l. length l.items ≡ suc (top_level_of (from + 1))) }
+    ensures size { IfOk result (λ l. length l.items ≤ MOST_LINKS) }
 {
     let step = from + 1;
     let top = top_level(step);
-    let mut links = Links::none();
+    let mut links: ArrayVec<StepRef, 40> = ArrayVec::new();
     let mut link = *first;
     for level in 0..top {
-        links.add::<H>(&link, step, level, datum);
-        link = follow(pages, &link, step - power_of_two(level), level)?;
+        links.push(link);
+        link = follow(pages, &link, step_of_link(step, level), level)?;
     }
-    links.add::<H>(&link, step, top, datum);
+    links.push(link);
     Ok(links)
 }
 
@@ -129,7 +108,7 @@ fn of_thread<H: Hasher>(
     time: Option<u64>,
 ) -> NewStep
     ensures step { result ≡ new_step H.dig (Received thread.now) archive.now time }
-    ensures size { length result.stream ≤ MOST_STREAM_BYTES }
+    ensures none { length result.stream ≡ 0 }
 {
     NewStep {
         stream: Bytes::new(alloc),
@@ -154,20 +133,21 @@ fn put_step<P: Pages, H: Hasher>(
     pages: &mut P,
     step: u64,
     new: &NewStep,
-    links: &Links,
+    links: &[StepRef],
+    labels: &[Digest],
 ) -> Result<Head, NoMemory>
     requires used { (P.view pages.old).used < 2 ^ 47 }
     requires size { length new.now.stream ≤ MOST_STREAM_BYTES }
-    requires links { length links.now.links.items ≤ MOST_LINKS }
-    requires labels { length links.now.labels.items ≤ MOST_LINKS }
-    requires count { length links.now.links.items ≡ suc (top_level_of step) }
-    ensures adds { AddsPages memory_alone P.view P.same pages.old pages.new (λ head. head) result
-        (λ ps. Is (next_at H.dig ps step new.now links.now.links.items links.now.labels.items)) }
+    requires links { length links.now ≤ MOST_LINKS }
+    requires labels { length labels.now ≤ MOST_LINKS }
+    requires count { length links.now ≡ suc (top_level_of step) }
+    ensures adds { AddsPages memory_alone P.view P.same pages.old pages.new (λ head. head) result (λ ps. Is
+        (next_at H.dig ps step new.now links.now labels.now)) }
     ensures step { IfOk result (λ head. head.step ≡ step) }
     ensures page { IfOk result (λ head. (P.view pages.new).used ≡ head.page + 1) }
-    ensures few { (P.view pages.new).used ≤ (P.view pages.old).used + 19 }
+    ensures few { (P.view pages.new).used ≤ (P.view pages.old).used + piece_count (length new.now.stream) + 1 }
 {
-    let auth = authenticator::<H>(step, links.labels.as_slice());
+    let auth = authenticator::<H>(step, labels);
     let stream = new.stream.as_slice();
     let first = first_page(pages.used(), stream.len());
     stage_pieces(pages, step, stream)?;
@@ -183,7 +163,7 @@ fn put_step<P: Pages, H: Hasher>(
         auth,
         time: new.time,
     };
-    let page = pages.stage(&step_page(step, &fields, links.links.as_slice()))?;
+    let page = pages.stage(&step_page(step, &fields, links))?;
     Ok(Head { step, auth, page })
 }
 
@@ -193,18 +173,23 @@ fn add<P: Pages, H: Hasher>(pages: &mut P, head: &Head, new: &NewStep) -> Result
     requires step { head.now.step < LAST_STEP }
     requires used { (P.view pages.old).used < 2 ^ 47 }
     requires size { length new.now.stream ≤ MOST_STREAM_BYTES }
-    ensures adds { AddsPages list_faults P.view P.same pages.old pages.new (λ head. head) result (λ ps. put_behind H.dig ps head.now new.now) }
+    ensures adds { AddsPages list_faults P.view P.same pages.old pages.new (λ head. head) result
+        (λ ps. put_behind H.dig ps head.now new.now) }
     ensures step { IfOk result (λ added. added.step ≡ head.now.step + 1) }
     ensures page { IfOk result (λ added. (P.view pages.new).used ≡ added.page + 1) }
-    ensures few { (P.view pages.new).used ≤ (P.view pages.old).used + 19 }
+    ensures few { (P.view pages.new).used ≤ (P.view pages.old).used + piece_count (length new.now.stream) + 1 }
 {
     let first = StepRef {
         page: head.page,
         auth: head.auth,
     };
     let datum = step_datum::<H>(&new.event_root, &new.archive.label, new.count, new.time);
-    let links = gather::<P, H>(pages, &first, head.step, &datum)?;
-    let added = put_step::<P, H>(pages, head.step + 1, new, &links)?;
+    let gathered = gather(pages, &first, head.step)?;
+    let links = gathered.as_slice();
+    let step = head.step + 1;
+    let labelled = labels_of::<H>(step, &datum, links);
+    let labels = labelled.as_slice();
+    let added = put_step::<P, H>(pages, step, new, links, labels)?;
     Ok(added)
 }
 
@@ -237,7 +222,8 @@ pub fn append<P: Pages, H: Hasher>(
     // `BadPage` tells the first page met for the links that isn't of its kind. Over any pages, told or not, `NoStep` is
     // never answered; pages are only added behind those that were there, which stay, also where it refuses; and
     // `DiskFault` comes only where the count of faults rose.
-    ensures adds { AddsPages list_faults P.view P.same pages.old pages.new (λ new. new) result (λ ps. appended H.dig ps head.now (Events events.now) archive.now time) }
+    ensures adds { AddsPages list_faults P.view P.same pages.old pages.new (λ new. new) result
+        (λ ps. appended H.dig ps head.now (Events events.now) archive.now time) }
     // The new head's step is the next one.
     ensures step { IfOk result (λ new. new.step ≡ head.now.step + 1) }
     // The new head's page is the last one.
@@ -273,13 +259,14 @@ pub fn append_thread<P: Pages, H: Hasher>(
     // or `BadPage` tells the first page met for the links that isn't of its kind. Over any pages, told or not, `NoStep`
     // is never answered; pages are only added behind those that were there, which stay, also where it refuses; and
     // `DiskFault` comes only where the count of faults rose.
-    ensures adds { AddsPages list_faults P.view P.same pages.old pages.new (λ new. new) result (λ ps. appended H.dig ps head.now (Received thread.now) archive.now time) }
+    ensures adds { AddsPages list_faults P.view P.same pages.old pages.new (λ new. new) result
+        (λ ps. appended H.dig ps head.now (Received thread.now) archive.now time) }
     // The new head's step is the next one.
     ensures step { IfOk result (λ new. new.step ≡ head.now.step + 1) }
     // The new head's page is the last one.
     ensures page { IfOk result (λ new. (P.view pages.new).used ≡ new.page + 1) }
-    // At most 19 pages are staged.
-    ensures few { (P.view pages.new).used ≤ (P.view pages.old).used + 19 }
+    // One page is staged at most.
+    ensures few { (P.view pages.new).used ≤ (P.view pages.old).used + 1 }
 {
     let new = of_thread::<H>(alloc, thread, archive, time);
     add::<P, H>(pages, head, &new)

@@ -5,6 +5,7 @@ ghost use Rattle.tw_base.specs.kinds.Levels.{top_level};
 ghost use Rattle.tw_skipproof.specs.Paths.{HasShape};
 ghost use Rattle.tw_disk.specs.Answers.{ReadsPages};
 ghost use Rattle.tw_skiplist.specs.ListFaults.{list_faults};
+ghost use Rattle.tw_skiplist.specs.Infos.{IsTold};
 ghost use Rattle.tw_skiplist.specs.Walks.{collected, hop_in, info_in};
 
 use crate::fault::ListFault;
@@ -34,7 +35,8 @@ fn hop_at<P: Pages, H: Hasher>(
 ) -> Result<Hop, ListFault>
     requires step { at < 2 ^ 40 }
     requires level { level ≤ top_level at }
-    ensures reads { ReadsPages list_faults P.view P.same pages.old pages.new (λ x. x) result (λ ps. hop_in H.dig ps link.now.page at level) }
+    ensures reads { ReadsPages list_faults P.view P.same pages.old pages.new (λ x. x) result
+        (λ ps. hop_in H.dig ps link.now.page at level) }
     ensures others { IfOk result (λ hop. length hop.link.others ≡ top_level at) }
 {
     let page = read_step(pages, link.page, at)?;
@@ -62,7 +64,8 @@ pub(crate) fn collect<P: Pages, H: Hasher>(
     requires below { to ≤ from }
     requires step { from < 2 ^ 40 }
     ensures shape { IfOk result (λ c. HasShape c.links from to) }
-    ensures reads { ReadsPages list_faults P.view P.same pages.old pages.new (λ x. x) result (λ ps. collected H.dig ps first.now from to) }
+    ensures reads { ReadsPages list_faults P.view P.same pages.old pages.new (λ x. x) result
+        (λ ps. collected H.dig ps first.now from to) }
 {
     let mut links = LinkList::new(alloc);
     let mut last = *first;
@@ -86,7 +89,9 @@ pub(crate) fn read_info<P: Pages, H: Hasher>(
     step: u64,
 ) -> Result<StepInfo, ListFault>
     requires { step < 2 ^ 40 }
-    ensures reads { ReadsPages list_faults P.view P.same pages.old pages.new (λ x. x) result (λ ps. info_in H.dig ps link.now.page step) }
+    ensures reads { ReadsPages list_faults P.view P.same pages.old pages.new (λ x. x) result
+        (λ ps. info_in H.dig ps link.now.page step) }
+    ensures ranges { IfOk result (IsTold step) }
 {
     let page = read_step(pages, link.page, step)?;
     let info = info_of_page::<H>(alloc, link.page, step, &page)?;

@@ -1,46 +1,82 @@
 // Reading the stream of a step's events.
 
-ghost use Rattle.std.specs.Prelude.{◌≡◌, ℕ, ◌+◌, ◌*◌, ◌<◌, ◌≤◌, ◌^◌, length, take, drop, IfOk, IfSome, OnOk, MatchOption};
+ghost use Rattle.std.specs.Prelude.{◌≡◌, ℕ, ◌+◌, ◌*◌, ◌<◌, ◌≤◌, ◌^◌, length, take, drop, IfErr, IfOk, IfSome, OnOk, MatchOption};
 ghost use Rattle.std.specs.Int.{from_be_bytes, w32};
-ghost use Rattle.tw_disk.specs.Answers.{ReadsPages};
+ghost use Rattle.tw_disk.specs.Answers.{AnswersAs, ReadsPages};
+ghost use Rattle.tw_disk.specs.Found.{spelled};
+ghost use Rattle.tw_disk.specs.WalkFaults.{walk_faults};
+ghost use Rattle.tw_disk.specs.declared.walk_fault.WalkFault.TheVariants.{BadPage};
 ghost use Rattle.tw_skiplist.specs.ListFaults.{list_faults};
 ghost use Rattle.tw_base.specs.history.Limits.{MayRecord};
 ghost use Rattle.tw_skiplist.specs.ScanSteps.{HasEventAt, IsNoEventAt};
 ghost use Rattle.tw_disk.specs.Found.Found.{Is, Bad};
-ghost use Rattle.tw_skiplist.specs.Events.{events_in, last_page, piece_behind, piece_count, pieces_below};
+ghost use Rattle.tw_skiplist.specs.Events.{events_in, last_page, piece_behind, piece_count, piece_size as piece_size_of, stream_in};
+ghost use Rattle.tw_steppage.specs.StepBytes.{piece_codec};
 
 use crate::fault::ListFault;
 use crate::info::StepInfo;
 use std::alloc::Global;
 use tw_base::limits::{MOST_EVENT_BYTES, MOST_EVENTS, MOST_STEP_BYTES, PAGE_SIZE};
-use tw_base::{Bytes, EventList, NoMemory};
-use tw_disk::{Pages, read_page};
-use tw_steppage::is_event_page;
+use tw_base::{Bytes, EventList, NoMemory, Page};
+use tw_disk::{Pages, WalkFault, read_page};
 use tw_steppage::limits::{MOST_PIECE_BYTES, MOST_STREAM_BYTES};
+use tw_steppage::{event_piece, is_event_page};
 
-// Reads the event page of this number of the step, and appends its piece of a stream of this size.
+// How many bytes of a stream of this size the event page of this number has.
+fn piece_size(size: u32, number: u16) -> usize
+    requires { MOST_PIECE_BYTES * number < size }
+    ensures value { result ≡ piece_size_of size number }
+    ensures most { result ≤ MOST_PIECE_BYTES }
+{
+    let left = size as u64 - MOST_PIECE_BYTES * number as u64;
+    left.min(MOST_PIECE_BYTES) as usize
+}
+
+// The piece that the bytes of the page of this number have, as the event page of a number of the step.
+fn piece_from(
+    bytes: &Page,
+    page: u64,
+    step: u64,
+    number: u16,
+    count: usize,
+) -> Result<&[u8], WalkFault>
+    requires { count ≤ MOST_PIECE_BYTES }
+    ensures answer { AnswersAs walk_faults (λ piece. piece.now) result (spelled page PAGE_SIZE
+        (piece_codec step number count) bytes.now) }
+    ensures bad { IfErr result (λ fault. fault ≡ BadPage page) }
+{
+    if !is_event_page(bytes, step, number, count) {
+        return Err(WalkFault::BadPage { page });
+    }
+    Ok(event_piece(bytes, count))
+}
+
+// Reads the event page of this number of the step, and appends its piece of the stream.
 fn add_piece<P: Pages>(
     pages: &mut P,
     info: &StepInfo,
-    page: u64,
     number: u16,
     into: &mut Bytes,
 ) -> Result<(), ListFault>
-    requires page { page ≡ info.now.stream.page + number }
+    requires page { info.now.stream.page + number < 2 ^ 64 }
     requires more { MOST_PIECE_BYTES * number < info.now.stream.size }
-    ensures reads { ReadsPages list_faults P.view P.same pages.old pages.new (λ _. into.new) result (λ ps. piece_behind ps info.now number into.old) }
-    ensures next { OnOk result (page + 1 < 2 ^ 64) }
+    ensures reads { ReadsPages list_faults P.view P.same pages.old pages.new (λ _. into.new) result
+        (λ ps. piece_behind ps info.now number into.old) }
+    ensures next { OnOk result (info.now.stream.page + number + 1 < 2 ^ 64) }
 {
-    let left = info.stream.size as u64 - MOST_PIECE_BYTES * number as u64;
-    let count = left.min(MOST_PIECE_BYTES) as usize;
+    let page = info.stream.page + number as u64;
+    let count = piece_size(info.stream.size, number);
     let mut bytes = [0; PAGE_SIZE];
     read_page(pages, page, &mut bytes)?;
-    if !is_event_page(&bytes, info.step, number, count) {
-        return Err(ListFault::BadPage { page });
-    }
-    into.extend_from_slice(&bytes[11..11 + count])?;
+    let piece = piece_from(&bytes, page, info.step, number, count)?;
+    into.extend_from_slice(piece)?;
     Ok(())
 }
+
+// The number of a page that an info tells of is one that a `u64` has.
+fn page_range(page: u64)
+    ensures { page < 2 ^ 64 }
+{}
 
 /// The bytes that the event pages of a step have, and the page that was read last before them or
 /// among them.
@@ -51,24 +87,25 @@ pub(crate) struct StreamRead {
 }
 
 /// Reads the event pages of a step.
+#[tactic(auto, using(crate::proofs::PieceCounts::pieces_go_on))]
 pub(crate) fn read_stream<P: Pages>(
     alloc: Global,
     pages: &mut P,
     info: &StepInfo,
 ) -> Result<StreamRead, ListFault>
     requires { info.now.stream.size ≤ MOST_STREAM_BYTES }
-    ensures reads { ReadsPages list_faults P.view P.same pages.old pages.new (λ r. r.bytes) result (λ ps. pieces_below ps info.now (piece_count info.now.stream.size)) }
+    ensures reads { ReadsPages list_faults P.view P.same pages.old pages.new (λ r. r.bytes) result
+        (λ ps. stream_in ps info.now) }
     ensures last { IfOk result (λ r. r.last ≡ last_page info.now (piece_count info.now.stream.size)) }
 {
     let size = info.stream.size as u64;
+    page_range(info.stream.page);
     let mut bytes = Bytes::new(alloc);
-    let mut page = info.stream.page;
     let mut last = info.page;
     let mut number = 0u16;
     while MOST_PIECE_BYTES * (number as u64) < size {
-        add_piece(pages, info, page, number, &mut bytes)?;
-        last = page;
-        page += 1;
+        add_piece(pages, info, number, &mut bytes)?;
+        last = info.stream.page + number as u64;
         number += 1;
     }
     Ok(StreamRead { bytes, last })
@@ -108,7 +145,9 @@ pub(crate) fn read_events(
     bytes: &[u8],
     count: u32,
 ) -> Result<Option<EventList>, NoMemory>
-    ensures answer { IfOk result (λ found. (page : ℕ) → MatchOption found (events_in page count bytes.now ≡ Bad page) (λ events. events_in page count bytes.now ≡ Is events)) }
+    ensures answer { IfOk result (λ found. (page : ℕ)
+        → MatchOption found (events_in page count bytes.now ≡ Bad page)
+        (λ events. events_in page count bytes.now ≡ Is events)) }
     ensures limits { IfOk result (λ found. IfSome found (λ events. MayRecord events × (length events ≡ count))) }
 {
     if count as u64 > MOST_EVENTS {

@@ -2,15 +2,16 @@
 
 use tw_base::{Digest, Root, Thread};
 use tw_skipproof::{Opening, Path};
-use tw_steppage::StreamRef;
+use tw_steppage::{StepRef, StreamRef};
 
-/// A step: its number, its page, the root and the number of its events (0 where it received a thread),
-/// the time that its maker claims, if any, the archive after it, the thread that it received, if any,
-/// its authenticator, its opening, and where its events stand.
+/// A step: its number, its page, the link to the step before it, the root and the number of its events
+/// (0 where it received a thread), the time that its maker claims, if any, the archive after it, the
+/// thread that it received, if any, its authenticator, its opening, and where its events stand.
 #[derive(Drop, Debug)]
 pub struct StepInfo {
     pub step: u64,
     pub page: u64,
+    pub before: StepRef,
     pub event_root: Digest,
     pub count: u32,
     pub time: Option<u64>,

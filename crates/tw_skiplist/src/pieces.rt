@@ -15,7 +15,7 @@ use std::alloc::Global;
 use tw_base::{Bytes, EventList, NoMemory};
 use tw_disk::Pages;
 use tw_steppage::event_page;
-use tw_steppage::limits::{MOST_EVENT_PAGES, MOST_PIECE_BYTES, MOST_STREAM_BYTES};
+use tw_steppage::limits::{MOST_PIECE_BYTES, MOST_STREAM_BYTES};
 
 // Puts an event behind its length.
 fn put_event(into: &mut Bytes, event: &Bytes) -> Result<(), NoMemory>
@@ -67,10 +67,11 @@ pub(crate) fn stage_pieces<P: Pages>(
 ) -> Result<u16, NoMemory>
     requires used { (P.view pages.old).used < 2 ^ 47 }
     requires size { length stream.now ≤ MOST_STREAM_BYTES }
-    ensures adds { AddsPages memory_alone P.view P.same pages.old pages.new (λ count. count) result (λ ps. Is (with_pieces ps step stream.now)) }
+    ensures adds { AddsPages memory_alone P.view P.same pages.old pages.new (λ count. count) result (λ ps. Is
+        (with_pieces ps step stream.now)) }
     ensures count { IfOk result (λ count. count ≡ piece_count (length stream.now)) }
     ensures used { IfOk result (λ count. (P.view pages.new).used ≡ (P.view pages.old).used + count) }
-    ensures few { (P.view pages.new).used ≤ (P.view pages.old).used + MOST_EVENT_PAGES }
+    ensures few { (P.view pages.new).used ≤ (P.view pages.old).used + piece_count (length stream.now) }
 {
     let mut count = 0u16;
     while MOST_PIECE_BYTES * (count as u64) < stream.len() as u64 {

@@ -3,9 +3,11 @@
 ghost use Rattle.std.specs.Prelude.{◌≡◌, ℕ, ◌*◌, ◌<◌, ◌≤◌, ◌^◌, length, IfOk};
 ghost use Rattle.tw_base.specs.history.Limits.{MayRecord};
 ghost use Rattle.tw_disk.specs.Answers.{ReadsPages, ReadsWhere};
+ghost use Rattle.tw_skipproof.specs.Paths.{HasShape};
+ghost use Rattle.tw_skiplist.specs.Infos.{IsTold};
 ghost use Rattle.tw_skiplist.specs.ListFaults.{NoStepUnless, list_faults};
 ghost use Rattle.tw_skiplist.specs.Events.{events_of_info};
-ghost use Rattle.tw_skiplist.specs.Readings.{found_events, found_link, found_path, found_proof, found_step};
+ghost use Rattle.tw_skiplist.specs.Readings.{found_events, found_link, found_path, found_proof, found_step, found_way};
 ghost use Rattle.tw_skiplist.specs.Walks.{head_ref};
 
 use crate::collecting::{Collected, collect, read_info};
@@ -50,8 +52,12 @@ pub fn step<P: Pages, H: Hasher>(
     // memory excepted: what the page tells of the step to which the walk from the head leads, or `BadPage` with the
     // first page met that isn't of its kind. Over any pages, told or not, `NoStep` comes exactly where there is no such
     // step; reading changes nothing of what the pages tell; and `DiskFault` comes only where the count of faults rose.
-    ensures reads { ReadsWhere list_faults P.view P.same pages.old pages.new (λ x. x) result (NoStepUnless result head.now.step ((1 ≤ i) × (i ≤ head.now.step)))
+    ensures reads { ReadsWhere list_faults P.view P.same pages.old pages.new (λ x. x) result
+        (NoStepUnless result head.now.step ((1 ≤ i) × (i ≤ head.now.step)))
         (λ ps. found_step H.dig ps head.now i) }
+    // Over any pages, told or not, what is told is of the step asked for, with at most 1,024 events, and a time and a
+    // thread's step of at most 2^40 - 1.
+    ensures ranges { IfOk result (IsTold i) }
 {
     let last = head.step;
     if i == 0 || i > last {
@@ -59,6 +65,28 @@ pub fn step<P: Pages, H: Hasher>(
     }
     let link = descend(pages, &link_to_head(head), last, i)?;
     read_info::<P, H>(alloc, pages, &link, i)
+}
+
+// The way from the step n down to the step i, of the history whose head is given.
+#[tactic(auto, unfolding(crate::specs::Readings::found_way))]
+fn way_to<P: Pages, H: Hasher>(
+    alloc: Global,
+    pages: &mut P,
+    head: &Head,
+    n: u64,
+    i: u64,
+) -> Result<Collected, ListFault>
+    requires short { head.now.step ≤ LAST_STEP }
+    requires there { n ≤ head.now.step }
+    requires order { i ≤ n }
+    ensures reads { ReadsPages list_faults P.view P.same pages.old pages.new (λ x. x) result
+        (λ ps. found_way H.dig ps head.now n i) }
+    ensures bound { IfOk result (λ way. (digits : ℕ) → n < 2 ^ digits → length way.links ≤ 2 * digits) }
+    ensures shape { IfOk result (λ way. HasShape way.links n i) }
+{
+    let middle = descend(pages, &link_to_head(head), head.step, n)?;
+    let way = collect::<P, H>(alloc, pages, &middle, n, i)?;
+    Ok(way)
 }
 
 /// The path from the step n down to the step i, of the history whose head is given (a step below
@@ -86,20 +114,22 @@ pub fn link<P: Pages, H: Hasher>(
     // of its kind. Of the lower step's page nothing is asked. Over any pages, told or not, `NoStep` comes exactly
     // where the steps asked for aren't there, or not in their order; reading changes nothing of what the pages tell;
     // and `DiskFault` comes only where the count of faults rose.
-    ensures reads { ReadsWhere list_faults P.view P.same pages.old pages.new (λ x. x) result (NoStepUnless result head.now.step ((i ≤ n) × (n ≤ head.now.step)))
+    ensures reads { ReadsWhere list_faults P.view P.same pages.old pages.new (λ x. x) result
+        (NoStepUnless result head.now.step ((i ≤ n) × (n ≤ head.now.step)))
         (λ ps. found_link H.dig ps head.now n i) }
     // Over any pages, told or not, a path has at most twice as many links as its upper step has binary digits.
     ensures bound { IfOk result (λ link. (digits : ℕ) → n < 2 ^ digits → length link.path.links ≤ 2 * digits) }
+    // The path has the links of the greedy path, each with its number of labels.
+    ensures shape { IfOk result (λ link. HasShape link.path.links n i) }
 {
     let last = head.step;
     if i > n || n > last {
         return Err(ListFault::NoStep { last });
     }
-    let middle = descend(pages, &link_to_head(head), last, n)?;
-    let Collected { links, last: end } = collect::<P, H>(alloc, pages, &middle, n, i)?;
+    let Collected { links, last } = way_to::<P, H>(alloc, pages, head, n, i)?;
     Ok(StepLink {
         path: Path { links },
-        auth: end.auth,
+        auth: last.auth,
     })
 }
 
@@ -119,10 +149,13 @@ pub fn path<P: Pages, H: Hasher>(
     // asked. Over any pages, told or not, `NoStep` comes exactly where the steps asked for aren't there, or
     // not in their order; reading changes nothing of what the pages tell; and `DiskFault` comes only where the count of
     // faults rose.
-    ensures reads { ReadsWhere list_faults P.view P.same pages.old pages.new (λ x. x) result (NoStepUnless result head.now.step ((i ≤ n) × (n ≤ head.now.step)))
+    ensures reads { ReadsWhere list_faults P.view P.same pages.old pages.new (λ x. x) result
+        (NoStepUnless result head.now.step ((i ≤ n) × (n ≤ head.now.step)))
         (λ ps. found_path H.dig ps head.now n i) }
     // Over any pages, told or not, a path has at most twice as many links as its upper step has binary digits.
     ensures bound { IfOk result (λ path. (digits : ℕ) → n < 2 ^ digits → length path.links ≤ 2 * digits) }
+    // The path has the links of the greedy path, each with its number of labels.
+    ensures shape { IfOk result (λ path. HasShape path.links n i) }
 {
     let StepLink { path, auth: _ } = link::<P, H>(alloc, pages, head, n, i)?;
     Ok(path)
@@ -146,20 +179,24 @@ pub fn prove<P: Pages, H: Hasher>(
     requires { head.now.step ≤ LAST_STEP }
     // Over told pages the answer is what is found in them, whatever they keep, `NoStep`, a disk fault and want of
     // memory excepted: by the walk from the head, the path from the top down to the step and what the step's page
-    // tells, or `BadPage` with the first page met that isn't of its kind. Over any pages, told or not, `NoStep` comes exactly where the steps asked for aren't there, or
-    // not in their order; reading changes nothing of what the pages tell; and `DiskFault` comes only where the count of
-    // faults rose.
-    ensures reads { ReadsWhere list_faults P.view P.same pages.old pages.new (λ x. x) result (NoStepUnless result head.now.step ((1 ≤ i) × (i ≤ top) × (top ≤ head.now.step)))
+    // tells, or `BadPage` with the first page met that isn't of its kind. Over any pages, told or not, `NoStep` comes
+    // exactly where the steps asked for aren't there, or not in their order; reading changes nothing of what the pages
+    // tell; and `DiskFault` comes only where the count of faults rose.
+    ensures reads { ReadsWhere list_faults P.view P.same pages.old pages.new (λ x. x) result
+        (NoStepUnless result head.now.step ((1 ≤ i) × (i ≤ top) × (top ≤ head.now.step)))
         (λ ps. found_proof H.dig ps head.now top i) }
     // Over any pages, told or not, a path has at most twice as many links as its upper step has binary digits.
     ensures bound { IfOk result (λ proof. (digits : ℕ) → top < 2 ^ digits → length proof.path.links ≤ 2 * digits) }
+    // The path has the links of the greedy path, each with its number of labels.
+    ensures shape { IfOk result (λ proof. HasShape proof.path.links top i) }
+    // What is told of the step is as at `step`.
+    ensures ranges { IfOk result (λ proof. IsTold i proof.info) }
 {
     let last = head.step;
     if i == 0 || i > top || top > last {
         return Err(ListFault::NoStep { last });
     }
-    let link = descend(pages, &link_to_head(head), head.step, top)?;
-    let Collected { links, last } = collect::<P, H>(alloc, pages, &link, top, i)?;
+    let Collected { links, last } = way_to::<P, H>(alloc, pages, head, top, i)?;
     let info = read_info::<P, H>(alloc, pages, &last, i)?;
     Ok(StepProof {
         path: Path { links },
@@ -186,7 +223,8 @@ pub fn events_of<P: Pages>(
     // bytes), or with the step's page, where it is told a stream longer than any step's. Over any pages, told or not,
     // `NoStep` is never answered; reading changes nothing of what the pages tell; and `DiskFault` comes only where the
     // count of faults rose.
-    ensures reads { ReadsPages list_faults P.view P.same pages.old pages.new (λ x. x) result (λ ps. events_of_info ps info.now) }
+    ensures reads { ReadsPages list_faults P.view P.same pages.old pages.new (λ x. x) result
+        (λ ps. events_of_info ps info.now) }
     // Over any pages, told or not, the events of a step are within the limits and as many as it counts.
     ensures counted { IfOk result (λ events. MayRecord events × (length events ≡ info.now.count)) }
 {
@@ -218,7 +256,8 @@ pub fn events<P: Pages, H: Hasher>(
     // met on the way that isn't of its kind, or with the one that the step's events fail at. Over any pages, told or not,
     // `NoStep` comes exactly where there is no such step; reading changes nothing of what the pages tell; and `DiskFault`
     // comes only where the count of faults rose.
-    ensures reads { ReadsWhere list_faults P.view P.same pages.old pages.new (λ x. x) result (NoStepUnless result head.now.step ((1 ≤ i) × (i ≤ head.now.step)))
+    ensures reads { ReadsWhere list_faults P.view P.same pages.old pages.new (λ x. x) result
+        (NoStepUnless result head.now.step ((1 ≤ i) × (i ≤ head.now.step)))
         (λ ps. found_events H.dig ps head.now i) }
 {
     let info = step::<P, H>(alloc, pages, head, i)?;

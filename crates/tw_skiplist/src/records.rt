@@ -2,10 +2,12 @@
 
 ghost use Rattle.std.specs.Prelude.{◌≡◌, ℕ, suc, ◌+◌, ◌<◌, ◌≤◌, ◌^◌, ◌++◌, ◌∷◌, [], ◌==◌, List, length, remove, Some, IfOk, OnOk, if◌then◌else◌};
 ghost use Rattle.tw_base.specs.kinds.Texts.{link_text};
-ghost use Rattle.tw_steppage.specs.StepPages.{link_of};
-ghost use Rattle.tw_skiplist.specs.Records.{info_record, link_record, opening_record, other_labels, page_datum};
+ghost use Rattle.tw_steppage.specs.StepPages.{HasRanges, link_of};
+ghost use Rattle.tw_skiplist.specs.Infos.{IsTold};
+ghost use Rattle.tw_skiplist.specs.Records.{info_record, link_record, opening_record, other_labels, page_datum, page_labels};
 
 use crate::info::StepInfo;
+use arrayvec::ArrayVec;
 use std::alloc::Global;
 use tw_base::{Digest, Hasher, Labels, NoMemory, link_label, step_datum};
 use tw_skipproof::{Link, Opening};
@@ -20,6 +22,25 @@ pub(crate) fn link_at(links: &[StepRef], level: u8) -> StepRef
     links[level as usize]
 }
 
+/// The labels of the links, over the step's datum.
+#[tactic(auto, using(crate::proofs::Recording::labels_go_on))]
+pub(crate) fn labels_of<H: Hasher>(
+    step: u64,
+    datum: &Digest,
+    links: &[StepRef],
+) -> ArrayVec<Digest, 40>
+    requires { length links.now ≤ MOST_LINKS }
+    ensures labels { result.items ≡ page_labels H.dig step datum.now links.now (length links.now) }
+    ensures size { length result.items ≤ MOST_LINKS }
+{
+    let mut labels: ArrayVec<Digest, 40> = ArrayVec::new();
+    for level in 0..links.len() {
+        let link = link_at(links, level as u8);
+        labels.push(link_label::<H>(step, level as u8, datum, &link.auth));
+    }
+    labels
+}
+
 // Appends the label of the link of this level, unless its level is the one left out.
 fn push_other<H: Hasher>(
     labels: &mut Labels,
@@ -31,7 +52,8 @@ fn push_other<H: Hasher>(
 ) -> Result<(), NoMemory>
     requires inside { level < length links.now }
     requires few { level < MOST_LINKS }
-    ensures { OnOk result (labels.new ≡ (if level == without then labels.old else labels.old ++ H.dig (link_text step level datum.now (link_of links.now level).auth) ∷ [])) }
+    ensures { OnOk result (labels.new ≡ (if level == without then labels.old else labels.old ++ H.dig
+        (link_text step level datum.now (link_of links.now level).auth) ∷ [])) }
 {
     if level == without {
         return Ok(());
@@ -117,13 +139,16 @@ pub(crate) fn info_of_page<H: Hasher>(
 ) -> Result<StepInfo, NoMemory>
     requires some { 0 < length page.now.links.items }
     requires few { length page.now.links.items ≤ MOST_LINKS }
-    ensures { IfOk result (λ info. info ≡ info_record H.dig number step page.now.fields page.now.links.items) }
+    requires ranges { HasRanges page.now.fields }
+    ensures info { IfOk result (λ info. info ≡ info_record H.dig number step page.now.fields page.now.links.items) }
+    ensures ranges { IfOk result (IsTold step) }
 {
     let opening = opening_of_page::<H>(alloc, step, page)?;
     let fields = &page.fields;
     Ok(StepInfo {
         step,
         page: number,
+        before: link_at(page.links.as_slice(), 0),
         event_root: fields.event_root,
         count: fields.count,
         time: fields.time,

@@ -4,7 +4,7 @@ ghost use Rattle.std.specs.Prelude.{◌≡◌, suc, ◌<◌, ◌≤◌, ◌^◌,
 ghost use Rattle.tw_base.specs.kinds.Levels.{top_level};
 ghost use Rattle.tw_disk.specs.Answers.{ReadsPages};
 ghost use Rattle.tw_disk.specs.WalkFaults.{walk_faults};
-ghost use Rattle.tw_steppage.specs.StepPages.{page_of_step};
+ghost use Rattle.tw_steppage.specs.StepPages.{HasRanges, page_of_step};
 ghost use Rattle.tw_skiplist.specs.Walks.{link_in, walk};
 
 use crate::records::link_at;
@@ -22,8 +22,10 @@ pub(crate) fn read_step<P: Pages>(
     step: u64,
 ) -> Result<StepPage, WalkFault>
     requires { step < 2 ^ 40 }
-    ensures reads { ReadsPages walk_faults P.view P.same pages.old pages.new (λ p. (p.fields, p.links.items)) result (λ ps. page_of_step ps page step) }
+    ensures reads { ReadsPages walk_faults P.view P.same pages.old pages.new (λ p. (p.fields, p.links.items)) result
+        (λ ps. page_of_step ps page step) }
     ensures link_count { IfOk result (λ s. length s.links.items ≡ suc (top_level step)) }
+    ensures ranges { IfOk result (λ s. HasRanges s.fields) }
 {
     let mut bytes = [0; PAGE_SIZE];
     read_page(pages, page, &mut bytes)?;
@@ -42,7 +44,8 @@ pub(crate) fn follow<P: Pages>(
 ) -> Result<StepRef, WalkFault>
     requires step { at < 2 ^ 40 }
     requires level { level ≤ top_level at }
-    ensures reads { ReadsPages walk_faults P.view P.same pages.old pages.new (λ l. l) result (λ ps. link_in ps link.now.page at level) }
+    ensures reads { ReadsPages walk_faults P.view P.same pages.old pages.new (λ l. l) result
+        (λ ps. link_in ps link.now.page at level) }
 {
     let page = read_step(pages, link.page, at)?;
     Ok(link_at(page.links.as_slice(), level))
@@ -59,7 +62,8 @@ pub(crate) fn descend<P: Pages>(
 ) -> Result<StepRef, WalkFault>
     requires below { to ≤ from }
     requires step { from < 2 ^ 40 }
-    ensures reads { ReadsPages walk_faults P.view P.same pages.old pages.new (λ l. l) result (λ ps. walk ps first.now from to) }
+    ensures reads { ReadsPages walk_faults P.view P.same pages.old pages.new (λ l. l) result
+        (λ ps. walk ps first.now from to) }
 {
     let mut link = *first;
     let mut at = from;

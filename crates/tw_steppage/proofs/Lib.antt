@@ -1,2 +1,3 @@
+pub mod EventPages
 pub mod Rules
 pub mod StepCodecs

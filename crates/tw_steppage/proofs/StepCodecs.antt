@@ -1,9 +1,9 @@
 -- The codecs of step pages are lawful, and what fits them.
 use Rattle.std.proofs.Common.{◌≡◌, ℕ, suc, zero, ◌+◌, ◌<◌, ◌≤◌, ◌^◌, List, length, refl, ap, sym, ◌∙◌, arith}
-use Rattle.std.specs.Prelude.{Bool, true, false, Option, Some, None, replicate}
+use Rattle.std.specs.Prelude.{Bool, true, false, Option, Some, None, IfSome, replicate}
 use Rattle.tw_base.specs.declared.history.root.Root.{Root}
 use Rattle.tw_base.specs.declared.history.thread.Thread.{Thread}
-use Rattle.tw_base.specs.declared.kinds.limits.TheConstants.{MOST_EVENTS}
+use Rattle.tw_base.specs.declared.kinds.limits.TheConstants.{LAST_STEP, MOST_EVENTS}
 use Rattle.tw_base.specs.format.Codecs.{HasBytes, behind, by_kind, bytes_codec, digest_codec, many, name_codec, nothing, number_codec, optional, pair, present, seen}
 use Rattle.tw_base.specs.history.HistoryCodec.{is_of_events, is_timed, time_codec}
 use Rattle.tw_base.specs.history.Limits.{IsThread, IsTimeWithinLimits}
@@ -15,6 +15,7 @@ use Rattle.tw_steppage.specs.declared.fields.StepFields.{StepFields}
 use Rattle.tw_steppage.specs.declared.fields.StreamRef.{StreamRef}
 use Rattle.tw_steppage.specs.declared.limits.TheConstants.{MOST_STREAM_BYTES}
 use Rattle.tw_steppage.specs.StepBytes.{body_codec, counts_codec, kind_by, kind_of, kinds_codec, links_codec, no_stream, page_codec, page_thread_codec, received_codec, ref_codec, step_codec}
+use Rattle.tw_steppage.specs.StepPages.{HasRanges}
 
 pub ref-lawful : Lawful ref_codec
 unfolding ref_codec
@@ -147,6 +148,18 @@ unfolding counts_codec behind nothing seen pair number_codec
 few-counts true c fits = fits.0.1
 few-counts false c fits = let none = ap (λ (x : ℕ × StreamRef). x.0) fits in omega (arith, none)
 
+time-within : (is_timed : Bool) (time : Option ℕ) → (optional is_timed time_codec).Fits time → IsTimeWithinLimits time
+unfolding present nothing number_codec
+time-within is None fits = tt
+time-within true (Some time) fits = fits.1
+time-within false (Some time) fits = absurd cc
+
+thread-within : (is_events : Bool) (received : Option Thread) → (received_codec is_events).Fits received → IfSome received (λ t. t.step ≤ LAST_STEP)
+unfolding received_codec behind nothing present page_thread_codec seen pair number_codec
+thread-within is None fits = tt
+thread-within true (Some t) fits = absurd cc
+thread-within false (Some t) fits = fits.1.0.1
+
 module _ (step : ℕ) (f : StepFields) (links : List StepRef) (fits : (step_codec step).Fits (f, links)) where
   pub links-count : length links ≡ suc (top_level step)
   unfolding step_codec kinds_codec behind by_kind body_codec seen pair links_codec many
@@ -155,3 +168,7 @@ module _ (step : ℕ) (f : StepFields) (links : List StepRef) (fits : (step_code
   pub events-few : f.count ≤ 1024
   unfolding step_codec kinds_codec behind by_kind body_codec seen pair
   events-few = few-counts (is_of_events (kind_of f)) (f.count, f.stream) fits.1.0
+
+  pub in-ranges : HasRanges f
+  unfolding step_codec kinds_codec behind by_kind body_codec seen pair
+  in-ranges = (events-few, time-within (is_timed (kind_of f)) f.time fits.1.1.1.1.1.1.1.1, thread-within (is_of_events (kind_of f)) f.received fits.1.1.1.1.1.0)

@@ -1,6 +1,7 @@
 -- The pages of steps.
-use Rattle.std.specs.Prelude.{ℕ, suc, zero, ◌^◌, ◌==◌, ◌&&◌, List, [], length, nat_lt, slice_index_or, Bool, true, if◌then◌else◌}
-use Rattle.tw_base.specs.declared.kinds.limits.TheConstants.{PAGE_SIZE}
+use Rattle.std.specs.Prelude.{ℕ, suc, zero, ◌^◌, ◌≤◌, ◌==◌, ◌&&◌, List, [], length, nat_lt, slice_index_or, Bool, true, IfSome, if◌then◌else◌}
+use Rattle.tw_base.specs.declared.kinds.limits.TheConstants.{LAST_STEP, MOST_EVENTS, PAGE_SIZE}
+use Rattle.tw_base.specs.history.Limits.{IsTimeWithinLimits}
 use Rattle.tw_disk.specs.Image.{Image}
 use Rattle.tw_steppage.specs.declared.link.StepRef.{StepRef}
 use Rattle.tw_steppage.specs.declared.fields.StepFields.{StepFields}
@@ -12,6 +13,10 @@ no_ref = record { page = 0; auth = [] }
 
 abbrev pub link_of : List StepRef → (level : ℕ) → StepRef
 link_of links level = slice_index_or links level no_ref
+
+-- what any page tells is in the ranges of its fields: at most 1,024 events, and a time and a thread's step of at most 2^40 - 1
+abbrev pub HasRanges : StepFields → Type 0
+HasRanges f = (f.count ≤ MOST_EVENTS) × IsTimeWithinLimits f.time × IfSome f.received (λ t. t.step ≤ LAST_STEP)
 
 -- a page below this one, which is 0 exactly where it is of nothing
 abbrev pub lies_below : (is_of_nothing : Bool) → (page above : ℕ) → Bool

@@ -8,8 +8,5 @@ pub const MOST_PIECE_BYTES: u64 = 4085;
 /// 65,536 of the events themselves.
 pub const MOST_STREAM_BYTES: u64 = 69_632;
 
-/// The most event pages of a step, which such a stream fills.
-pub const MOST_EVENT_PAGES: u64 = 18;
-
 /// The most links of a step: one for each level from 0 on, of steps below 2^40.
 pub const MOST_LINKS: u64 = 40;

@@ -7,8 +7,10 @@ ghost use Rattle.tw_base.specs.format.Codecs.{HasBytes, many, optional};
 ghost use Rattle.tw_base.specs.kinds.Levels.{top_level as top_level_of};
 ghost use Rattle.tw_base.specs.kinds.Lists.{Each};
 ghost use Rattle.tw_base.specs.format.Taking.{Takes};
-ghost use Rattle.tw_steppage.specs.StepBytes.{body_codec, counts_codec, event_page_bytes, kind_of as kind_of_fields, kinds_codec, links_codec, page_thread_codec, received_codec, ref_codec, step_codec, step_page_bytes};
-ghost use Rattle.tw_steppage.specs.StepPages.{keeps_field_rules as field_rules, keeps_link_rules as link_rules, lies_below as is_below, step_in};
+ghost use Rattle.tw_steppage.specs.StepBytes.{body_codec, counts_codec, event_page_bytes, kind_of as kind_of_fields, kinds_codec, links_codec, page_thread_codec, piece_codec, received_codec, ref_codec, step_codec, step_page_bytes};
+ghost use Rattle.tw_steppage.specs.StepPages.{HasRanges, keeps_field_rules as field_rules, keeps_link_rules as link_rules, lies_below as is_below, step_in};
+ghost use Rattle.tw_base.specs.declared.kinds.limits.TheConstants.{PAGE_SIZE};
+ghost use Rattle.tw_disk.specs.Found.{spelled, when};
 ghost use Rattle.tw_disk.specs.Found.Found.{Is, Bad};
 
 use crate::fields::{StepFields, StreamRef};
@@ -382,6 +384,7 @@ pub fn read_step_page(page: u64, step: u64, bytes: &Page) -> Option<StepPage>
     requires { step < 2 ^ 40 }
     ensures answer { MatchOption result (step_in page step bytes.now ≡ Bad page) (λ p. step_in page step bytes.now ≡ Is (p.fields, p.links.items)) }
     ensures link_count { IfSome result (λ p. length p.links.items ≡ suc (top_level_of step)) }
+    ensures ranges { IfSome result (λ p. HasRanges p.fields) }
 {
     let mut at = 0;
     let read = take_step(bytes, &mut at, step);
@@ -395,12 +398,28 @@ pub fn read_step_page(page: u64, step: u64, bytes: &Page) -> Option<StepPage>
     }
 }
 
-/// Whether the bytes are the event page of this number of the step with so many bytes of its stream,
-/// those that stand in it.
-pub fn is_event_page(bytes: &Page, step: u64, number: u16, count: usize) -> bool
+/// The bytes of a stream that stand in an event page that has so many.
+pub fn event_piece(bytes: &Page, count: usize) -> &[u8]
+    requires { count ≤ MOST_PIECE_BYTES }
+    ensures { result.now ≡ take count (drop 11 bytes.now) }
+{
+    &bytes[11..11 + count]
+}
+
+// Whether the bytes are the event page of the piece that stands in them.
+fn is_page_of(bytes: &Page, step: u64, number: u16, count: usize) -> bool
     requires { count ≤ MOST_PIECE_BYTES }
     ensures answer { IsTrue result ↔ (bytes.now ≡ event_page_bytes step number (take count (drop 11 bytes.now))) }
     ensures piece { HasBytes count (take count (drop 11 bytes.now)) }
 {
-    *bytes == event_page(step, number, &bytes[11..11 + count])
+    *bytes == event_page(step, number, event_piece(bytes, count))
+}
+
+/// Whether the bytes are the event page of this number of the step with so many bytes of its stream,
+/// those that stand in it.
+pub fn is_event_page(bytes: &Page, step: u64, number: u16, count: usize) -> bool
+    requires { count ≤ MOST_PIECE_BYTES }
+    ensures { (page : ℕ) → spelled page PAGE_SIZE (piece_codec step number count) bytes.now ≡ when result page (take count (drop 11 bytes.now)) }
+{
+    is_page_of(bytes, step, number, count)
 }

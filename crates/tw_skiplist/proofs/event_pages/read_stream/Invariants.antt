@@ -1,14 +1,14 @@
-use Rattle.std.proofs.Common.{◌≡◌, ◌+◌, ◌*◌, ◌-◌, ◌≤◌}
+use Rattle.std.proofs.Common.{◌≡◌, ◌+◌, ◌*◌, ◌-◌, ◌^◌, ◌<◌, ◌≤◌}
 use Rattle.tw_disk.specs.Answers.{ReadSoFar}
-use Rattle.tw_disk.specs.Found.Found.{Is}
 use Rattle.tw_steppage.specs.declared.limits.TheConstants.{MOST_PIECE_BYTES}
-use Rattle.tw_skiplist.specs.Events.{last_page, piece_count, pieces_below}
+use Rattle.tw_skiplist.specs.Events.{last_page, piece_count, pieces_from, stream_in}
 use Rattle.tw_skiplist.proofs.event_pages.read_stream.Given as goal
 
 abbrev pub invariant-loop-number : goal.invariant-loop-number
 invariant-loop-number g l = record {
-  reads : ReadSoFar g.P.Pages.view g.P.Pages.same l.initial.pages l.pages (λ ps. pieces_below ps l.info l.number) (λ ps. Is l.bytes);
-  page : l.page ≡ l.info.stream.page + l.number;
+  reads : ReadSoFar g.P.Pages.view g.P.Pages.same l.initial.pages l.pages (λ ps. stream_in ps l.info)
+      (λ ps. pieces_from ps l.info (piece_count l.info.stream.size - l.number) l.number l.bytes);
+  page : l.info.stream.page + l.number < 2 ^ 64;
   last : l.last ≡ last_page l.info l.number;
   few : l.number ≤ piece_count l.info.stream.size;
 }

@@ -1,10 +1,13 @@
 use Rattle.tw_skiplist.proofs.KeptAppended.{grown}
 use Rattle.tw_skiplist.proofs.KeptEvents.{events_are}
-use Rattle.tw_skiplist.proofs.KeptReadings.{events_found, link_found, path_found, proof_found, step_found}
+use Rattle.tw_skiplist.proofs.KeptReadings.{events_found, here_found, link_found, path_found, proof_found, step_found}
 use Rattle.tw_skiplist.proofs.laws.reading_laws.Goals as goal
 
 pub returns-clause-step : goal.returns-clause-step
 returns-clause-step g c = λ ps h head i keeps some order. step_found g.H.Hasher.dig (λ text. (g.met.H.Hasher.size text, g.met.H.Hasher.bytes text)) ps h head keeps i some order
+
+pub returns-clause-here : goal.returns-clause-here
+returns-clause-here g c = λ ps h head link i keeps some order at page. here_found g.H.Hasher.dig (λ text. (g.met.H.Hasher.size text, g.met.H.Hasher.bytes text)) ps h head keeps link i some order at page
 
 pub returns-clause-link : goal.returns-clause-link
 returns-clause-link g c = λ ps h head n i keeps order below. link_found g.H.Hasher.dig (λ text. (g.met.H.Hasher.size text, g.met.H.Hasher.bytes text)) ps h head keeps n i order below

@@ -1,14 +1,11 @@
-use Rattle.std.proofs.Common.{◌≡◌, ◌*◌, ◌<◌, ◌++◌, ◌∷◌, [], ℕ, List, length, refl, ap, sym, ◌∙◌, arith, subst, inl, inr}
-use Rattle.std.proofs.lemmas.Bool.{cases_lt}
+use Rattle.std.proofs.Common.{◌++◌, ◌∷◌, [], ℕ, List, refl, ap, sym, ◌∙◌, arith}
 use Rattle.tw_steppage.specs.StepBytes.{event_pages}
 use Rattle.tw_skiplist.proofs.Streams.{event_pages-first, event_pages-more, option_ap, option_more, option_same}
 use Rattle.tw_skiplist.proofs.pieces.stage_pieces.Goals as goal
-use Rattle.tw_steppage.specs.declared.limits.TheConstants.{MOST_PIECE_BYTES}
 
 pub loop-count-init : goal.loop-count-init
 loop-count-init g c = record {
   list = option_same (g.P.Pages.view c.args.pages.now).list (event_pages c.args.step c.args.stream.now 0) (event_pages-first c.args.step c.args.stream.now);
-  needed = λ number l. absurd (omega arith);
   used = omega arith;
   few = omega arith;
   same = g.met.P.Pages.same_itself _;
@@ -24,10 +21,6 @@ loop-count-preserved g c =
       list = c.in_ok-stage.ensures.list
           ∙ option_more (g.P.Pages.view c.args.pages.now).list (g.P.Pages.view c.loop-count.pages).list (event_pages c.args.step c.args.stream.now count) c.piece_page.result inv.list
           ∙ option_ap (g.P.Pages.view c.args.pages.now).list (ap (λ (p : List ℕ). event_pages c.args.step c.args.stream.now count ++ p ∷ []) c.piece_page.ensures ∙ sym (event_pages-more c.args.step c.args.stream.now count));
-      needed = λ number l. elim (cases_lt number count) [
-        | inl less ↦ inv.needed number less
-        | inr more ↦ (let e : count ≡ number = omega (arith, l, more) in subst (λ (k : ℕ). MOST_PIECE_BYTES * k < length c.args.stream.now) e (omega (arith, c.loop-count-test.true)))
-      ];
       used = omega (arith, c.in_ok-stage.ensures.used, inv.used);
       few = omega (arith, c.loop-count-test.true, c.requires.size);
       same = g.met.P.Pages.same_on _ _ _ inv.same c.in_ok-stage.ensures.same;

@@ -9,7 +9,7 @@ use Rattle.tw_steppage.specs.StepBytes.{step_codec}
 use Rattle.tw_steppage.specs.StepPages.{keeps_field_rules, keeps_link_rules, step_in}
 use Rattle.tw_disk.proofs.FoundLaws.{is_on}
 use Rattle.tw_disk.proofs.SpelledLaws.{page-is, page-none}
-use Rattle.tw_steppage.proofs.StepCodecs.{links-count, step-lawful}
+use Rattle.tw_steppage.proofs.StepCodecs.{in-ranges, links-count, step-lawful}
 use Rattle.tw_steppage.proofs.page.read_step_page.Goals as goal
 
 abbrev parts : StepPage → StepFields × List StepRef
@@ -40,6 +40,11 @@ pub returns-then-keeps_rules-clause-link_count : goal.returns-then-keeps_rules-c
 returns-then-keeps_rules-clause-link_count c =
     let found = takes-page (step_codec c.args.step) (step-lawful c.args.step) parts c.args.bytes.now _ _ _ c.take_step-read.ensures.takes c.take_step-read.ensures.memory c.in-Some.ensures in
     links-count c.args.step c.in-Some.found.fields c.in-Some.found.links.items found.fits
+
+pub returns-then-keeps_rules-clause-ranges : goal.returns-then-keeps_rules-clause-ranges
+returns-then-keeps_rules-clause-ranges c =
+    let found = takes-page (step_codec c.args.step) (step-lawful c.args.step) parts c.args.bytes.now _ _ _ c.take_step-read.ensures.takes c.take_step-read.ensures.memory c.in-Some.ensures in
+    in-ranges c.args.step c.in-Some.found.fields c.in-Some.found.links.items found.fits
 
 pub returns-else-keeps_rules-clause-answer : goal.returns-else-keeps_rules-clause-answer
 unfolding step_in
