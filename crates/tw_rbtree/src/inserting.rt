@@ -83,6 +83,7 @@ fn stage_added<P: Pages, H: Hasher>(pages: &mut P, added: Added) -> Result<Grown
         IfOk result (λ g. (now : Image) × ((P.view pages.new).list ≡ Some now) × GrownLists H.dig (HasNamed named) now own least es g) }
     ensures staged { IfOk result (λ g. IsStagedAs H.dig ((P.view pages.old).used) added g) }
     ensures last { IfOk result (λ g. IsLast ((P.view pages.new).used) g) }
+    ensures more { IfOk result (λ g. (P.view pages.old).used < (P.view pages.new).used) }
     ensures few { (P.view pages.new).used ≤ (P.view pages.old).used + 2 }
     ensures kept { OnlyAdds P.view P.same pages.old pages.new (Unit {0}) }
     ensures faults { (P.view pages.new).faults ≡ (P.view pages.old).faults }
@@ -139,6 +140,7 @@ fn regrow<P: Pages, H: Hasher>(
         IfOk result (λ g. (now : Image) × ((P.view pages.new).list ≡ Some now)
         × GrownLists H.dig (HasNamed named) now node.now.level (length node.now.entries) (with_entry (woven (map entries ts) node.now.entries) entry) g) }
     ensures last { IfOk result (λ g. IsLast ((P.view pages.new).used) g) }
+    ensures more { IfOk result (λ g. (P.view pages.old).used < (P.view pages.new).used) }
     ensures few { (P.view pages.new).used ≤ (P.view pages.old).used + 2 }
     ensures kept { OnlyAdds P.view P.same pages.old pages.new (Unit {0}) }
     ensures faults { (P.view pages.new).faults ≡ (P.view pages.old).faults }
@@ -191,6 +193,7 @@ fn grow_below<P: Pages, H: Hasher>(
         × GrownLists H.dig (HasNamed named) now node.now.level (length node.now.entries) (with_entry (woven (map entries ts) node.now.entries) entry.now) g) }
     ensures grown { IfOk result (IsGrownIn low.now high.now) }
     ensures last { IfOk result (λ g. IsLast ((P.view pages.new).used) g) }
+    ensures more { IfOk result (λ g. (P.view pages.old).used < (P.view pages.new).used) }
     ensures few { (P.view pages.new).used ≤ (P.view pages.old).used + 2 * (node.now.level + 1) }
 {
     let ask = Ask::Absent(entry_key(entry));
@@ -233,6 +236,7 @@ fn stage_single<P: Pages, H: Hasher>(
         IsRising (woven (map entries ts) (middle ∷ [])) →
         IfOk result (λ new. (now : Image) × (t : Tree) × ((P.view pages.new).list ≡ Some now) × StandsWith H.dig (HasNamed named) now new t × (entries t ≡ woven (map entries ts) (middle ∷ []))) }
     ensures page { IfOk result (λ new. (P.view pages.new).used ≡ new.page + 1) }
+    ensures more { IfOk result (λ new. (P.view pages.old).used < (P.view pages.new).used) }
     ensures few { (P.view pages.new).used ≤ (P.view pages.old).used + 1 }
     ensures kept { OnlyAdds P.view P.same pages.old pages.new (Unit {0}) }
     ensures faults { (P.view pages.new).faults ≡ (P.view pages.old).faults }
@@ -274,6 +278,8 @@ pub fn insert<P: Pages, H: Hasher>(
         × StandsFor H.dig now new grown × (entries grown ≡ with_entry (entries t) entry)) }
     // The new root's page is the last one.
     ensures page { IfOk result (λ new. (P.view pages.new).used ≡ new.page + 1) }
+    // One page is staged at least, so the new root's page stands behind those that were there.
+    ensures more { IfOk result (λ new. (P.view pages.old).used < (P.view pages.new).used) }
     // At most 23 pages are staged.
     ensures few { (P.view pages.new).used ≤ (P.view pages.old).used + MOST_STAGED }
 {

@@ -1,0 +1,16 @@
+pub mod Peers
+pub mod Judged
+pub mod Causes
+pub mod Accepting
+pub mod Listings
+pub mod Numbers
+pub mod Planted
+pub mod Haves
+pub mod Keeping
+pub mod Resting
+pub mod SoundNext
+pub mod RootPages
+pub mod SameNodes
+pub mod Archiving
+pub mod NextTree
+pub mod Growing

@@ -1,0 +1,3 @@
+pub mod Judging
+pub mod Numbering
+pub mod Archives
