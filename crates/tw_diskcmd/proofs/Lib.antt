@@ -8,3 +8,4 @@ pub mod CommandLaws
 pub mod AskedCalls
 pub mod LinkAnswers
 pub mod ThreadAnswers
+pub mod Appendings

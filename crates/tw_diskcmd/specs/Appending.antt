@@ -24,7 +24,7 @@ use Rattle.tw_text.specs.declared.refusal.BadInput.TheVariants.{BadByte}
 use Rattle.tw_diskcmd.specs.declared.limits.TheConstants.{EVENTS_LIMIT}
 use Rattle.tw_text.specs.declared.fault.CommandFault.{CommandFault}
 use Rattle.tw_text.specs.declared.fault.CommandFault.TheVariants as fault
-use Rattle.tw_diskcmd.specs.Answers.{ComesTo, IsResult, MachineRefuses, TableRefuses}
+use Rattle.tw_diskcmd.specs.Answers.{ComesTo, IsResult, MachineRefuses, TableRefuses, TellsContent}
 use Rattle.tw_diskcmd.specs.Disks.{Adds, FoundDisk, IsLeft, IsOf, KeepsOrAdds, LeavesOldOrOneOf, ReadsAs, ReadsAsOneOf, Settles, Stands}
 
 -- the file is there; where the inputs tell its bytes, they are the events file of these events
@@ -78,6 +78,11 @@ AppendComes a t file time (Err (fault.Unreadable (BadByte named place))) =
 AppendComes a t file time (Err fault.InputFault) = Rose a.before a.after
 AppendComes a t file time (Err fault.NoMemory) = Unit {0}
 AppendComes a t file time result = OfEvents a.told file (λ events. StepComes t events time result)
+
+-- the result tells of the file or of the disk's content, and isn't one that may always come or comes of a fault
+abbrev pub TellsOfFile : Result Thread CommandFault → Type 0
+TellsOfFile (Err fault.InputFault) = ⊥
+TellsOfFile result = TellsContent result
 
 module _ {D : Type 0} (view : D → DiskView) (old new : D) where
   -- the step is added, or a disk fault came and it may be; where it was refused, nothing was written and the disk became stable; where

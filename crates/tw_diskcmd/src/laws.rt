@@ -3,9 +3,11 @@
 ghost use Rattle.std.specs.Prelude.{◌≡◌, ℕ, List, Option, Some, Result};
 ghost use Rattle.tw_base.specs.declared.history.thread.Thread.{Thread};
 ghost use Rattle.tw_disk.specs.Image.{Image};
+ghost use Rattle.tw_outside.specs.Asked.{Asked};
+ghost use Rattle.tw_outside.specs.Files.{Tells};
 ghost use Rattle.tw_text.specs.declared.fault.CommandFault.{CommandFault};
 ghost use Rattle.tw_diskcmd.specs.Answers.{TellsContent};
-ghost use Rattle.tw_diskcmd.specs.Appending.{StepComes};
+ghost use Rattle.tw_diskcmd.specs.Appending.{AppendComes, StepComes, TellsOfFile};
 ghost use Rattle.tw_diskcmd.specs.Disks.{IsLeft, Keeps, found_disk};
 ghost use Rattle.tw_diskcmd.specs.Linking.{LinkComes};
 ghost use Rattle.tw_diskcmd.specs.Proving.{ProveComes};
@@ -14,8 +16,9 @@ ghost use Rattle.tw_diskcmd.specs.Telling.{ThreadComes};
 use tw_disk::Disk;
 
 /// Over a disk that tells its content, all that the adding of these events may come to is one thing:
-/// the thread of one step, one refusal, or one reason why nothing is served. So is it with the proof of
-/// an event, with that of a link and with the message of the last step, of which the bytes are one. A
+/// the thread of one step, one refusal, or one reason why nothing is served. Where the inputs tell theirs
+/// too, so is it with `append` as a whole, and its file's first bad byte. So is it with the proof of an
+/// event, with that of a link and with the message of the last step, of which the bytes are one. A
 /// fault of the disk and want of memory are excepted.
 pub fn told_laws()
     // Over a disk that tells its content, what `append` comes to once its file was read is one thing: one thread, one
@@ -23,6 +26,12 @@ pub fn told_laws()
     // stands, but for a disk fault, want of memory and status 4.
     ensures adding { (image : Image) (events : List (List ℕ)) (time : Option ℕ) (before after : ℕ) (one other : Result Thread CommandFault) → TellsContent one → TellsContent other →
         StepComes (found_disk (Some image) before after) events time one → StepComes (found_disk (Some image) before after) events time other → one ≡ other }
+    // Over inputs and a disk that tell what they hold, what `append` comes to is one thing, where neither failed and there
+    // was memory: that of its file's events, or the first bad byte of its file.
+    ensures appending { (a : Asked) (file bytes : List ℕ) (time : Option ℕ) (image : Image) (before after : ℕ)
+        (one other : Result Thread CommandFault) → Tells a.told file bytes → TellsOfFile one → TellsOfFile other →
+        AppendComes a (found_disk (Some image) before after) file time one
+        → AppendComes a (found_disk (Some image) before after) file time other → one ≡ other }
     // Over a disk that tells its content, what `prove` comes to is one thing: a proof of the same bytes, one refusal
     // with its number, or one reason of status 8 with its slot or page. So each of these comes exactly where it stands,
     // but for a disk fault, want of memory and status 4.

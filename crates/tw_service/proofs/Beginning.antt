@@ -55,8 +55,7 @@ module _ (dig : List ℕ → List ℕ) (size : (text : List ℕ) → IsDigest (d
   unfolding Keeps-first
   keeps_none pages = record {
     steps = Keeps-first dig pages (no_history r.name) r.head refl first genesis no_page;
-    events = λ k l. absurd (omega (arith, l));
-    archives = λ k l. absurd (omega (arith, l));
+    trees = record { nowhere = refl; trees = λ k l. absurd (omega (arith, l)) };
     archive = (λ j. record { page = no_archive j; label = same_label j });
     threads = no_threads ∙ ap length (sym received_none);
     time = untimed ∙ ap greatest (sym no_times);
@@ -66,7 +65,7 @@ module _ (dig : List ℕ → List ℕ) (size : (text : List ℕ) → IsDigest (d
   fits_none used generation few low = record {
     steps = record { none = λ _. no_page; some = λ some. absurd (omega (arith, some, first)) };
     threads = record { none = λ _. no_archive; some = λ some. absurd (omega (arith, some, no_threads)) };
-    no_threads = no_threads;
+    few_threads = omega (arith, no_threads);
     few_pages = omega (arith, few, first);
     few_commits = omega (arith, low, first);
     timed = subst (λ (o : Option ℕ). IfSome o (λ time. 0 < r.head.step)) (sym untimed) tt;

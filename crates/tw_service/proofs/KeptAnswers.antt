@@ -40,7 +40,7 @@ use Rattle.tw_skipproof.specs.declared.path.Path.{Path}
 use Rattle.tw_service.specs.declared.root.RootRecord.{RootRecord}
 use Rattle.tw_service.specs.EventSteps.{with_events}
 use Rattle.tw_service.specs.Stands.{KeepsWhole}
-use Rattle.tw_service.proofs.Serving.{added_whole}
+use Rattle.tw_service.proofs.WholePages.{added_whole}
 use Rattle.tw_service.proofs.Answering.{has_event}
 use Rattle.tw_service.proofs.FoundAnswers.{no_bad_found, no_event_found, value_found}
 

@@ -1,5 +1,5 @@
 pub mod EventLimits
-pub mod EventHistories
+pub mod NextHistories
 pub mod GreatestTimes
 pub mod RootLaws
 pub mod Answering
@@ -7,6 +7,7 @@ pub mod Asked
 pub mod Beginning
 pub mod Counted
 pub mod Opened
+pub mod WholePages
 pub mod Serving
 pub mod Standing
 pub mod FoundAnswers

@@ -1,20 +1,18 @@
 -- From what a store says of its images to what they stand for.
-use Rattle.std.proofs.Common.{◌≡◌, ℕ, suc, zero, ◌+◌, ◌*◌, ◌^◌, ◌<◌, ◌≤◌, List, [], ◌∷◌, ◌++◌, length, refl, ap, sym, ◌∙◌, arith, subst, inl, inr, ⊎_elim, Bool}
+use Rattle.std.proofs.Common.{◌≡◌, ℕ, ◌+◌, ◌*◌, ◌^◌, ◌<◌, ◌≤◌, List, [], ◌∷◌, ◌++◌, length, refl, ap, sym, ◌∙◌, arith, subst, inl, inr, ⊎_elim, Bool}
 use Rattle.std.specs.Prelude.{IfSome, Option, Some, None, is_some}
 use Rattle.std.specs.Option.{option_map}
-use Rattle.std.proofs.lemmas.Bool.{cases_lt}
 use Rattle.std.proofs.lemmas.List.{append-nil}
 use Rattle.tw_disk.specs.Image.{Image}
 use Rattle.tw_disk.specs.Disk.{DiskView, IsAtRest, LeavesOnly, Reads}
 use Rattle.tw_disk.proofs.Moments.{goes_on, leaves_weaker}
 use Rattle.tw_base.specs.declared.kinds.limits.TheConstants.{LAST_STEP}
 use Rattle.tw_base.specs.declared.history.root.Root.{Root}
-use Rattle.tw_base.specs.history.Auth.{tree_label}
-use Rattle.tw_base.specs.history.History.{History, Step, plus, received, root_of, step_at}
+use Rattle.tw_base.specs.history.History.{History}
 use Rattle.tw_base.specs.history.Sound.{IsSound}
 use Rattle.tw_base.specs.kinds.Names.{IsName}
 use Rattle.tw_base.proofs.lemmas.kinds.DigestBytes.{IsDigest, auth-digest, tree_label-digest}
-use Rattle.tw_base.specs.history.Tree.{Tree, tree}
+use Rattle.tw_base.specs.history.Tree.{tree}
 use Rattle.tw_base.specs.declared.history.content.Content.TheVariants.{Events}
 use Rattle.tw_pages.specs.StoreValue.{IsKept, disk_of, next_opening, opening_of, staged_of}
 use Rattle.tw_pages.specs.Same.{IsSameStore, count_of, list_of, pages_of}
@@ -25,21 +23,20 @@ use Rattle.tw_skiplist.specs.declared.head.Head.{Head}
 use Rattle.tw_disk.specs.Answers.{Next}
 use Rattle.tw_skiplist.specs.Appended.{appended}
 use Rattle.tw_disk.specs.Found.Found.{Is}
-use Rattle.tw_skiplist.specs.Keeping.{GoOn, Keeps, Place, archive_at, place_of}
 use Rattle.tw_disk.proofs.FoundLaws.{same_found}
 use Rattle.tw_skiplist.proofs.Growing.{head_page}
-use Rattle.tw_skiplist.proofs.KeptAppended.{grown}
 use Rattle.tw_base.specs.history.Limits.{IsTimeWithinLimits, MayRecord}
 use Rattle.tw_service.specs.declared.limits.TheConstants.{MOST_PAGES_OF_A_STEP}
 use Rattle.tw_service.specs.declared.root.RootRecord.{RootRecord}
-use Rattle.tw_service.specs.EventSteps.{event_step, with_events}
+use Rattle.tw_service.specs.EventSteps.{with_events}
 use Rattle.tw_service.specs.Keeps.{KeepsHistory}
 use Rattle.tw_service.specs.Limits.{clock_refusal}
 use Rattle.tw_service.specs.NextRecords.{event_record}
 use Rattle.tw_service.specs.Roots.{FitsStore, root_bytes}
-use Rattle.tw_service.specs.Stands.{HasRoot, KeepsWhole, StandsFor, StandsForOneOf, greater}
+use Rattle.tw_service.specs.Stands.{HasRoot, KeepsWhole, StandsFor, StandsForOneOf}
 use Rattle.tw_service.proofs.RootLaws.{root-fits, root-name, root-time}
-use Rattle.tw_service.proofs.EventHistories.{longer-length, longer-time, only_plus, same_received, same_tree, sound_plus}
+use Rattle.tw_service.proofs.NextHistories.{sound_plus}
+use Rattle.tw_service.proofs.WholePages.{added_whole, archive_low, threads_few, threads_page}
 use Rattle.tw_service.proofs.GreatestTimes.{greater-within}
 
 no_items : (pages : Image) → length pages ≡ 0 → pages ≡ []
@@ -51,62 +48,6 @@ pub record Added (dig : List ℕ → List ℕ) (before : Image) (longer : Histor
   pub more : Image
   pub told : now ≡ Some (before ++ more)
   pub keeps : KeepsWhole dig (before ++ more) longer next
-
--- ---- one more step of a history that the pages keep whole
-
-module _ (dig : List ℕ → List ℕ) (ps : Image) (h : History) (r : RootRecord) (whole : KeepsWhole dig ps h r) where
-  abbrev places : List Place
-  places = whole.steps.places
-
-  -- no step has an archive's page
-  no_page_at : (i : ℕ) → i ≤ length h.steps → (place_of places i).archive ≡ 0
-  no_page_at zero l = ap (λ (p : Place). p.archive) whole.steps.keeps.nowhere
-  no_page_at (suc k) l = whole.archives k (omega (arith, l)) ∙ no_page_at k (omega (arith, l))
-
-  pub no_archive_page : r.archive.page ≡ 0
-  no_archive_page = ap (λ (x : Root). x.page) whole.archive ∙ no_page_at (length h.steps) (omega arith)
-
-  module _ (more : Image) (events : List (List ℕ)) (time : Option ℕ) (head : Head) (longer : Keeps dig (ps ++ more) (with_events h events time) head)
-      (on : GoOn places longer.places (length h.steps) r.archive.page) where
-    abbrev n : ℕ
-    n = length h.steps
-
-    archives_on : (k : ℕ) → k < length (with_events h events time).steps → (place_of longer.places (suc k)).archive ≡ (place_of longer.places k).archive
-    archives_on k within = ⊎_elim
-        (λ before. ap (λ (p : Place). p.archive) (on.before (suc k) (omega (arith, before))) ∙ whole.archives k before ∙ sym (ap (λ (p : Place). p.archive) (on.before k (omega (arith, before)))))
-        (λ after.
-        let new : n ≡ k = omega (arith, within, after, longer-length h events time) in
-        subst (λ (i : ℕ). (place_of longer.places (suc i)).archive ≡ (place_of longer.places i).archive) new
-        (on.new ∙ ap (λ (x : Root). x.page) whole.archive ∙ sym (ap (λ (p : Place). p.archive) (on.before n (omega arith)))))
-        (cases_lt k n)
-
-    pub whole_on : KeepsWhole dig (ps ++ more) (with_events h events time) (event_record r head time)
-    whole_on = record {
-      steps = longer;
-      events = only_plus h events time whole.events;
-      archives = archives_on;
-      archive = (λ j. record { page = sym on.new j; label = (ap (λ (x : Root). x.label) whole.archive ∙ ap (λ (t : Tree). tree_label dig t) (sym (same_tree h events time))) j })
-          ∙ ap (λ (i : ℕ). archive_at dig (with_events h events time) longer.places i) (sym (longer-length h events time));
-      threads = whole.threads ∙ ap length (sym (same_received h events time)) ∙ ap (λ (i : ℕ). length (received (with_events h events time) i)) (sym (longer-length h events time));
-      time = ap (λ (clock : Option ℕ). greater clock time) whole.time ∙ sym (longer-time h events time);
-    }
-
--- the step that is found, and the pages that then keep the longer history whole
-pub record AddedWhole (dig : List ℕ → List ℕ) (ps : Image) (h : History) (r : RootRecord) (events : List (List ℕ)) (time : Option ℕ) : Type 0 where
-  pub more : Image
-  pub new : Head
-  pub is : appended dig ps r.head (Events events) r.archive time ≡ Is (record { pages = ps ++ more; value = new })
-  pub keeps : KeepsWhole dig (ps ++ more) (with_events h events time) (event_record r new time)
-
-pub added_whole : (dig : List ℕ → List ℕ) (size : (text : List ℕ) → IsDigest (dig text)) (ps : Image) (h : History) (r : RootRecord) → KeepsWhole dig ps h r → (events : List (List ℕ)) (time : Option ℕ)
-    → r.head.step < LAST_STEP → MayRecord events → IsTimeWithinLimits time → 4 + length ps < 2 ^ 47 → AddedWhole dig ps h r events time
-added_whole dig size ps h r whole events time short limits within room =
-    let step : Step = event_step (root_of (step_at h (length h.steps))) events time in
-    let none = no_archive_page dig ps h r whole in
-    let own = grown dig size ps h r.head whole.steps (Events events) r.archive time short (record { content = limits.are; together = limits.fit; time = within }) (omega (arith, none)) room in
-    let label : r.archive.label ≡ tree_label dig (tree (plus h step) (suc (length h.steps))) = ap (λ (x : Root). x.label) whole.archive ∙ ap (λ (t : Tree). tree_label dig t) (sym (same_tree h events time)) in
-    let kept = own.keeps step refl refl label in
-    record { more = own.more; new = own.new; is = own.is; keeps = whole_on dig ps h r whole own.more events time own.new kept.0 kept.1 }
 
 -- where that step was put
 pub added_to : (dig : List ℕ → List ℕ) (size : (text : List ℕ) → IsDigest (dig text)) (ps : Image) (h : History) (r : RootRecord) (events : List (List ℕ)) (time : Option ℕ) (now : Option Image) (new : Head)
@@ -215,7 +156,6 @@ module _ {D : Type 0} {g : _} (view : D → DiskView) (only_now : (d : D) (c : I
     pub sound : IsSound longer
     pub on : longer.name ≡ h.name
     pub named : next.name ≡ r.name
-    pub threads : next.threads ≡ 0
     pub within : IsTimeWithinLimits next.time
     pub one_more : next.head.step ≡ r.head.step + 1
     pub room : r.head.step < LAST_STEP
@@ -238,11 +178,10 @@ module _ {D : Type 0} {g : _} (view : D → DiskView) (only_now : (d : D) (c : I
         more = added.more;
         told = added.told;
         keeps = added.keeps;
-        sound = sound_plus h events time rest.has.keeps.events rest.has.sound limits within
+        sound = sound_plus h events time rest.has.sound limits within
             (ap (λ (o : Option ℕ). clock_refusal o time) (sym rest.has.keeps.time) ∙ clock) (omega (arith, short, rest.has.keeps.steps.step));
         on = refl;
         named = refl;
-        threads = rest.has.has.allowed.fits.no_threads;
         within = greater-within r.time time (root-time (is_some r.time) r rest.has.has.allowed.spelled) within;
         one_more = one_more;
         room = short;
@@ -277,9 +216,6 @@ module _ {D : Type 0} {g : _} (view : D → DiskView) (only_now : (d : D) (c : I
     new_keeps : KeepsWhole dig opening.pages longer next
     new_keeps = subst (λ (qs : Image). KeepsWhole dig qs longer next) (sym new_pages) put.keeps
 
-    no_page : next.archive.page ≡ 0
-    no_page = no_archive_page dig opening.pages longer next new_keeps
-
     few_pages : used_of opening ≤ 4 + MOST_PAGES_OF_A_STEP * next.head.step
     few_pages = subst (λ (qs : Image). 4 + length qs ≤ 4 + MOST_PAGES_OF_A_STEP * next.head.step) (sym new_pages) (omega (arith, put.pages))
 
@@ -289,8 +225,8 @@ module _ {D : Type 0} {g : _} (view : D → DiskView) (only_now : (d : D) (c : I
         none = λ none. absurd (omega (arith, none, put.one_more));
         some = λ some. head_page dig opening.pages longer next.head new_keeps.steps some;
       };
-      threads = record { none = λ none. no_page; some = λ some. absurd (omega (arith, some, put.threads)) };
-      no_threads = put.threads;
+      threads = threads_page dig opening.pages longer next new_keeps put.sound;
+      few_threads = threads_few dig opening.pages longer next new_keeps;
       few_pages = few_pages;
       few_commits = omega (arith, put.commits, put.one_more);
       timed = some_step next.time;
@@ -309,7 +245,8 @@ module _ {D : Type 0} {g : _} (view : D → DiskView) (only_now : (d : D) (c : I
             let label = subst (λ (x : Root). IsDigest x.label) (sym new_keeps.archive) (tree_label-digest dig (λ t. (size t).0) (λ t. (size t).1) (tree longer (length longer.steps))) in
             let below = (new_fits.steps.some (omega (arith, put.one_more))).1 in
             root-fits next (subst IsName (sym put.named) (root-name (is_some r.time) r put.rest.has.has.allowed.spelled)) (omega (arith, put.one_more, put.room)) auth
-            (omega (arith, below, few_pages, put.one_more, put.room)) (omega (arith, no_page)) label (omega (arith, put.threads)) put.within;
+            (omega (arith, below, few_pages, put.one_more, put.room)) (let low = archive_low dig opening.pages longer next new_keeps in omega (arith, low, few_pages, put.one_more, put.room)) label
+            (let few = threads_few dig opening.pages longer next new_keeps in omega (arith, few, put.one_more, put.room)) put.within;
         fits = new_fits;
       };
     }

@@ -10,11 +10,10 @@ use Rattle.tw_pages.proofs.Once.{opens_once}
 use Rattle.tw_pages.proofs.NotRefused.{not_refused, refused_once}
 use Rattle.tw_skiplist.proofs.Once.{keeps_alike}
 use Rattle.tw_service.specs.declared.root.RootRecord.{RootRecord}
-use Rattle.tw_service.specs.EventSteps.{HasEventsOnly}
 use Rattle.tw_service.specs.Stands.{HasRoot, IsNotOpenedFor, IsServed, KeepsWhole, Served, StandsFor}
 use Rattle.tw_service.specs.Stands.Served.{Opened, Unopened}
 use Rattle.tw_pages.proofs.Bodies.{used_fits}
-use Rattle.tw_service.proofs.EventHistories.{one_history}
+use Rattle.tw_service.proofs.NextHistories.{one_history}
 use Rattle.tw_service.proofs.RootLaws.{root_once}
 
 -- an image that opens with a root record has no other one, and is refused for no reason
@@ -56,11 +55,8 @@ module _ (dig : List ℕ → List ℕ) where
       let same = opens_once s.opening t.opening image s.opens t.opens in
       let root = one_root image s.opening s.opens s.root s.has t.opening t.opens t.root t.has in
       let keeps = subst (λ (r : RootRecord). KeepsWhole dig t.opening.pages h r) root (subst (λ (o : Opening). KeepsWhole dig o.pages h s.root) same s.keeps) in
-      one_history h g keeps.steps.places t.keeps.steps.places keeps.events t.keeps.events (keeps_alike dig size t.opening.pages h g t.root.head keeps.steps t.keeps.steps)
+      one_history dig t.opening.pages h g keeps.steps.places t.keeps.steps.places keeps.trees t.keeps.trees (keeps_alike dig size t.opening.pages h g t.root.head keeps.steps t.keeps.steps)
       (s.named ∙ sym s.of_name ∙ ap (λ (r : RootRecord). r.name) root ∙ t.of_name ∙ sym t.named)
-
-  pub stands_events : (image : Image) (name : List ℕ) (h : History) → StandsFor dig image name h → HasEventsOnly h
-  stands_events image name h s = s.keeps.events
 
   pub stands_opened : (image : Image) (name : List ℕ) (h : History) (fault : StoreFault) → StandsFor dig image name h → IsNotOpenedFor image fault → ⊥
   stands_opened image name h fault s why = never_refused image s.opening s.opens s.root s.has fault why

@@ -32,12 +32,12 @@ pub record HasLastPage (used count page : ℕ) : Type 0 where
   pub none : count ≡ 0 → page ≡ 0
   pub some : 0 < count → (FIRST_PAGE ≤ page) × (page < used)
 
--- the record may be the root record of a store of so many used pages and of this generation: one with a time has a step; and no
--- thread was received, since the trees of archives aren't kept in stores yet
+-- the record may be the root record of a store of so many used pages and of this generation: there are no more threads than steps,
+-- and one with a time has a step
 pub record FitsStore (used generation : ℕ) (r : RootRecord) : Type 0 where
   pub steps : HasLastPage used r.head.step r.head.page
   pub threads : HasLastPage used r.threads r.archive.page
-  pub no_threads : r.threads ≡ 0
+  pub few_threads : r.threads ≤ r.head.step
   pub few_pages : used ≤ FIRST_PAGE + MOST_PAGES_OF_A_STEP * r.head.step
   pub few_commits : generation ≤ r.head.step + 1
   pub timed : IfSome r.time (λ time. 0 < r.head.step)

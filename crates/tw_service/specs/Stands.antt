@@ -1,5 +1,5 @@
 -- Which history an image stands for, and why an image is opened as none.
-use Rattle.std.specs.Prelude.{◌≡◌, ◌⊎◌, ℕ, suc, ◌<◌, List, [], ◌∷◌, length, max, Option, Some, None}
+use Rattle.std.specs.Prelude.{◌≡◌, ◌⊎◌, ℕ, List, [], ◌∷◌, length, max, Option, Some, None}
 use Rattle.tw_base.specs.history.History.{History, received, times}
 use Rattle.tw_base.specs.history.Sound.{IsSound}
 use Rattle.tw_disk.specs.Image.{Image}
@@ -7,9 +7,9 @@ use Rattle.tw_pages.specs.Store.{Opening, OpensAs, used_of}
 use Rattle.tw_pages.specs.Slots.{IsBlank, IsRefusedFor}
 use Rattle.tw_pages.specs.declared.open.StoreFault.{StoreFault}
 use Rattle.tw_pages.specs.declared.open.StoreFault.TheVariants.{NotAStore}
-use Rattle.tw_skiplist.specs.Keeping.{Keeps, archive_at, place_of}
+use Rattle.tw_archive.specs.Archives.{KeepsTrees}
+use Rattle.tw_skiplist.specs.Keeping.{Keeps, Place, archive_at, place_of}
 use Rattle.tw_service.specs.declared.root.RootRecord.{RootRecord}
-use Rattle.tw_service.specs.EventSteps.{HasEventsOnly}
 use Rattle.tw_service.specs.Roots.{IsAllowed, root_bytes}
 
 -- the history of this name that has no step
@@ -62,13 +62,16 @@ greatest (t ∷ ts) = greater (greatest ts) (Some t)
 abbrev pub greatest_time : History → Option ℕ
 greatest_time h = greatest (times h (length h.steps))
 
+-- the page of each step; 0 is that of step 0
+abbrev pub step_pages : List Place → ℕ → ℕ
+step_pages places step = (place_of places step).page
+
 module _ (dig : List ℕ → List ℕ) where
-  -- the pages keep the history whole: its steps under the head, which are steps of events alone and keep the page of the archive; and
-  -- the root record tells that archive, how many threads the history received, and its greatest time
+  -- the pages keep the history whole: its steps under the head, and the archive's tree of each of them; and the root record tells the
+  -- archive after the last step, how many threads the history received, and its greatest time
   pub record KeepsWhole (pages : Image) (h : History) (r : RootRecord) : Type 0 where
     pub steps : Keeps dig pages h r.head
-    pub events : HasEventsOnly h
-    pub archives : (k : ℕ) → k < length h.steps → (place_of steps.places (suc k)).archive ≡ (place_of steps.places k).archive
+    pub trees : KeepsTrees dig pages h (step_pages steps.places) (archive_at dig h steps.places)
     pub archive : r.archive ≡ archive_at dig h steps.places (length h.steps)
     pub threads : r.threads ≡ length (received h (length h.steps))
     pub time : r.time ≡ greatest_time h

@@ -9,7 +9,7 @@ ghost use Rattle.tw_base.specs.history.Sound.{IsSound};
 ghost use Rattle.tw_disk.specs.Image.{Image};
 ghost use Rattle.tw_pages.specs.declared.open.StoreFault.{StoreFault};
 ghost use Rattle.tw_skiplist.specs.declared.head.Head.{Head};
-ghost use Rattle.tw_service.specs.EventSteps.{HasEventsOnly, with_events};
+ghost use Rattle.tw_service.specs.EventSteps.{with_events};
 ghost use Rattle.tw_skipproof.specs.HistoryProofs.{IsPathOf, MakesExistence};
 ghost use Rattle.tw_skipproof.specs.declared.path.Path.{Path};
 ghost use Rattle.tw_disk.specs.Found.Found.{Is};
@@ -34,14 +34,14 @@ pub fn record_laws()
     ensures sizes { (is_timed : Bool) (r : RootRecord) → (root_codec is_timed).Fits r → length ((root_codec is_timed).write r) ≡ (if is_timed then TIMED_ROOT_BYTES else ROOT_BYTES) }
 {}
 
-/// An image stands for at most one history, which is sound and whose steps are all steps of events;
-/// and it is served as one thing at most, so that one that stands for a history, or only opens as a
-/// store with the root record of a service, is never refused.
+/// An image stands for at most one history, which is sound; and it is served as one thing at most, so that
+/// one that stands for a history, or only opens as a store with the root record of a service, is never
+/// refused.
 pub fn standing_laws<H: Hasher>()
     // An image stands for at most one history.
     ensures once { (image : Image) (one other : List ℕ) (h g : History) → StandsFor H.dig image one h → StandsFor H.dig image other g → h ≡ g }
-    // That history is sound, has the service's name, and its steps are all of events.
-    ensures sound { (image : Image) (name : List ℕ) (h : History) → StandsFor H.dig image name h → IsSound h × (h.name ≡ name) × HasEventsOnly h }
+    // That history is sound and has the service's name.
+    ensures sound { (image : Image) (name : List ℕ) (h : History) → StandsFor H.dig image name h → IsSound h × (h.name ≡ name) }
     // An image that stands for a history is refused for no reason.
     ensures never_refused { (image : Image) (name : List ℕ) (h : History) (fault : StoreFault) → StandsFor H.dig image name h → IsNotOpenedFor image fault → ⊥ }
     // An image is served as one thing at most: it opens as the service of one root record and one list of pages, or, for
@@ -80,13 +80,11 @@ pub fn finding_laws<H: Hasher>()
         length (events_at h step) ≤ index → event_proof H.dig ps h.name head step index top ≡ Is (Err (NoEvent (length (events_at h step)))) }
 {}
 
-/// A sound history of steps of events with one more, within the limits of a step and of a history, and
-/// at no time below its greatest one, is sound.
+/// A sound history with one more step of events, within the limits of a step and of a history, and at no
+/// time below its greatest one, is sound.
 pub fn event_laws()
     // One more step of events, within the limits of a step and of a history, whose time, where it has one, isn't below the
-    // greatest one so far, keeps a sound history of such steps alone sound.
-    ensures sound { (h : History) (events : List (List ℕ)) (time : Option ℕ) → IsSound h → HasEventsOnly h → MayRecord events → IsTimeWithinLimits time →
+    // greatest one so far, keeps a sound history sound.
+    ensures { (h : History) (events : List (List ℕ)) (time : Option ℕ) → IsSound h → MayRecord events → IsTimeWithinLimits time →
         clock_refusal (greatest_time h) time ≡ None → length h.steps < LAST_STEP → IsSound (with_events h events time) }
-    // The longer history is of such steps alone too.
-    ensures events { (h : History) (events : List (List ℕ)) (time : Option ℕ) → HasEventsOnly h → HasEventsOnly (with_events h events time) }
 {}

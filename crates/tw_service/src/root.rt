@@ -141,7 +141,7 @@ fn fits_store(root: &RootRecord, used: u64, generation: u64) -> bool
     let steps = root.head.step;
     used <= FIRST_PAGE + MOST_PAGES_OF_A_STEP * steps
         && generation <= steps + 1
-        && root.threads == 0
+        && root.threads <= steps
         && (root.time.is_none() || 0 < steps)
         && is_last_page(used, steps, root.head.page)
         && is_last_page(used, root.threads, root.archive.page)

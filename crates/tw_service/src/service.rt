@@ -65,7 +65,8 @@ impl<D: Disk, H: Hasher> Service<D, H> {
         // It has the name that was given, no steps, and has met no disk fault.
         ensures thread { IfOk result (λ s. (name_of s ≡ name) × (steps_of s ≡ 0) × (has_failed s ≡ false)) }
         // Its record has no page of a step or of an archive, no thread and no time.
-        ensures record { IfOk result (λ s. ((head_of s).page ≡ 0) × ((archive_of s).page ≡ 0) × (threads_of s ≡ 0) × (clock_of s ≡ None)) }
+        ensures record { IfOk result (λ s. ((head_of s).page ≡ 0) × ((archive_of s).page ≡ 0) × (threads_of s ≡ 0)
+            × (clock_of s ≡ None)) }
 
         // `Taken` only where a store is there.
         ensures taken { IfErr result (λ e. e.1 ≡ StoreFault.Taken → (c : Image) → (D.view disk).content ≡ Some c
@@ -79,9 +80,11 @@ impl<D: Disk, H: Hasher> Service<D, H> {
         // Making never answers anything but a service, `Taken` or `DiskFault`.
         ensures answers { IfErr result (λ e. (e.1 ≡ StoreFault.Taken) ⊎ (e.1 ≡ StoreFault.DiskFault)) }
         // `DiskFault` comes only where the disk's count of faults rose.
-        ensures fault { IfErr result (λ e. e.1 ≡ StoreFault.DiskFault → Rose ((D.view disk).faults) ((D.view e.0).faults)) }
+        ensures fault { IfErr result (λ e. e.1 ≡ StoreFault.DiskFault
+            → Rose ((D.view disk).faults) ((D.view e.0).faults)) }
         // The count of faults hasn't fallen.
-        ensures later { MatchResult result (λ s. (D.view disk).faults ≤ (D.view (disk_of s)).faults) (λ e. (D.view disk).faults ≤ (D.view e.0).faults) }
+        ensures later { MatchResult result (λ s. (D.view disk).faults ≤ (D.view (disk_of s)).faults)
+            (λ e. (D.view disk).faults ≤ (D.view e.0).faults) }
 
         // Where a store is there, nothing is written, whatever the answer.
         ensures held { (c : Image) → (D.view disk).content ≡ Some c → IsTaken c
@@ -136,7 +139,8 @@ impl<D: Disk, H: Hasher> Service<D, H> {
     /// as before.
     pub fn open(alloc: Global, disk: D) -> Result<Service<D, H>, (D, StoreFault)>
         // A disk that reads as a history is opened as it, at rest, or met a disk fault.
-        ensures served { (c : Image) (of : List ℕ) (h : History) → (D.view disk).content ≡ Some c → StandsFor H.dig c of h
+        ensures served { (c : Image) (of : List ℕ) (h : History) → (D.view disk).content ≡ Some c
+            → StandsFor H.dig c of h
             → MatchResult result (λ s. Serves H.dig D.view s h) (λ e. e.1 ≡ StoreFault.DiskFault) }
         // Whatever is opened, its disk is at rest over what it read as.
         ensures stable { IfOk result (λ s. (c : Image) → (D.view disk).content ≡ Some c
@@ -155,16 +159,20 @@ impl<D: Disk, H: Hasher> Service<D, H> {
         ensures exact { (c : Image) (fault : Fault) → (D.view disk).content ≡ Some c → IsNotOpenedFor c fault
             → IsErrAnd result (λ e. (e.1 ≡ fault) ⊎ (e.1 ≡ StoreFault.DiskFault)) }
         // Whatever it answers, the disk reads as before.
-        ensures unchanged { MatchResult result (λ s. (D.view (disk_of s)).content ≡ (D.view disk).content) (λ e. (D.view e.0).content ≡ (D.view disk).content) }
+        ensures unchanged { MatchResult result (λ s. (D.view (disk_of s)).content ≡ (D.view disk).content)
+            (λ e. (D.view e.0).content ≡ (D.view disk).content) }
         // Opening never answers `Taken` or `NoMemory`.
         ensures answers { IfErr result (λ e. (e.1 ≢ StoreFault.Taken) × (e.1 ≢ StoreFault.NoMemory)) }
         // `DiskFault` comes only where the disk's count of faults rose.
-        ensures fault { IfErr result (λ e. e.1 ≡ StoreFault.DiskFault → Rose ((D.view disk).faults) ((D.view e.0).faults)) }
+        ensures fault { IfErr result (λ e. e.1 ≡ StoreFault.DiskFault
+            → Rose ((D.view disk).faults) ((D.view e.0).faults)) }
         // The count of faults hasn't fallen.
-        ensures later { MatchResult result (λ s. (D.view disk).faults ≤ (D.view (disk_of s)).faults) (λ e. (D.view disk).faults ≤ (D.view e.0).faults) }
+        ensures later { MatchResult result (λ s. (D.view disk).faults ≤ (D.view (disk_of s)).faults)
+            (λ e. (D.view disk).faults ≤ (D.view e.0).faults) }
 
         // A crash since the start leaves nothing else than before: opening writes nothing.
-        ensures any_moment { IfOk result (λ s. LeavesOnly (D.view disk) (D.view (disk_of s)) ((D.view disk).may_leave)) }
+        ensures any_moment { IfOk result (λ s. LeavesOnly (D.view disk) (D.view (disk_of s))
+            ((D.view disk).may_leave)) }
         // Where opening fails, it wrote nothing either.
         ensures any_moment_err { IfErr result (λ e. LeavesOnly (D.view disk) (D.view e.0) ((D.view disk).may_leave)) }
     {
@@ -192,7 +200,8 @@ impl<D: Disk, H: Hasher> Service<D, H> {
         // Where a history is served, its number of steps is told.
         ensures served { (h : History) → Serves H.dig D.view self.now h → result ≡ length h.steps }
         // Telling the number of steps is a step of the machine that changes nothing.
-        ensures machine { (h : History) → Serves H.dig D.view self.now h → IsStepOf H.dig h CountSteps (OfNumber result) h }
+        ensures machine { (h : History) → Serves H.dig D.view self.now h
+            → IsStepOf H.dig h CountSteps (OfNumber result) h }
     {
         self.recorded.root.head.step
     }
@@ -204,7 +213,8 @@ impl<D: Disk, H: Hasher> Service<D, H> {
         // Where a history is served, the thread of its last step is told.
         ensures served { (h : History) → Serves H.dig D.view self.now h → result ≡ last_thread H.dig h }
         // Telling the last thread is a step of the machine that changes nothing.
-        ensures machine { (h : History) → Serves H.dig D.view self.now h → IsStepOf H.dig h TellHead (OfThread result) h }
+        ensures machine { (h : History) → Serves H.dig D.view self.now h
+            → IsStepOf H.dig h TellHead (OfThread result) h }
     {
         Thread {
             from: self.recorded.root.name,
@@ -288,18 +298,26 @@ impl<D: Disk, H: Hasher> Service<D, H> {
     /// Adds a step of these events, with this time or none.
     fn add(&mut self, events: &EventList, time: Option<u64>) -> Result<Thread, Refusal>
         requires { IsTimeWithinLimits time }
-        ensures table { MatchOption (append_refusal_of (has_failed self.old) (steps_of self.old) (clock_of self.old) events.now time)
+        ensures table { MatchOption
+            (append_refusal_of (has_failed self.old) (steps_of self.old) (clock_of self.old) events.now time)
             (IfErr result IsFault) (λ refusal. result ≡ Err refusal) }
         ensures answer { (ps : Image) → pages_of D.view self.old ≡ Some ps
-            → IsAnswer result (found_thread H.dig ps (name_of self.old) (head_of self.old) (has_failed self.old) (clock_of self.old) events.now time (archive_of self.old)) }
-        ensures steps { (h : History) → Serves H.dig D.view self.old h → Steps H.dig D.view (Append events.now time) (λ thread. OfThread thread) self.old self.new result h }
-        ensures thread { IfOk result (λ thread. (thread ≡ thread_of self.new) × (thread.from ≡ name_of self.old) × (thread.step ≡ steps_of self.old + 1)) }
+            → IsAnswer result (found_thread H.dig ps (name_of self.old) (head_of self.old) (has_failed self.old)
+            (clock_of self.old) events.now time (archive_of self.old)) }
+        ensures steps { (h : History) → Serves H.dig D.view self.old h
+            → Steps H.dig D.view (Append events.now time) (λ thread. OfThread thread) self.old self.new result h }
+        ensures thread { IfOk result (λ thread. (thread ≡ thread_of self.new) × (thread.from ≡ name_of self.old)
+            × (thread.step ≡ steps_of self.old + 1)) }
         ensures archive { (archive_of self.new ≡ archive_of self.old) × (threads_of self.new ≡ threads_of self.old) }
         ensures clock { IfOk result (λ thread. clock_of self.new ≡ greater (clock_of self.old) time) }
-        ensures kept { OnErr result ((head_of self.new ≡ head_of self.old) × (name_of self.new ≡ name_of self.old) × (clock_of self.new ≡ clock_of self.old)) }
-        ensures unwritten { IfErr result (λ refusal. (refusal ≡ Refusal.DiskFault) ⊎ HasSameDisk D.view self.old self.new) }
-        ensures broken { IsTrue (has_failed self.new) ↔ (IsTrue (has_failed self.old) ⊎ (result ≡ Err Refusal.DiskFault)) }
-        ensures fault { result ≡ Err Refusal.DiskFault → Rose ((D.view (disk_of self.old)).faults) ((D.view (disk_of self.new)).faults) }
+        ensures kept { OnErr result ((head_of self.new ≡ head_of self.old) × (name_of self.new ≡ name_of self.old)
+            × (clock_of self.new ≡ clock_of self.old)) }
+        ensures unwritten { IfErr result (λ refusal. (refusal ≡ Refusal.DiskFault)
+            ⊎ HasSameDisk D.view self.old self.new) }
+        ensures broken { IsTrue (has_failed self.new)
+            ↔ (IsTrue (has_failed self.old) ⊎ (result ≡ Err Refusal.DiskFault)) }
+        ensures fault { result ≡ Err Refusal.DiskFault
+            → Rose ((D.view (disk_of self.old)).faults) ((D.view (disk_of self.new)).faults) }
         ensures later { (D.view (disk_of self.old)).faults ≤ (D.view (disk_of self.new)).faults }
     {
         let root = &self.recorded.root;
@@ -335,12 +353,15 @@ impl<D: Disk, H: Hasher> Service<D, H> {
         // earlier call met a disk fault, the call is a step of the machine. Whatever the answer, the history is served
         // as before, at rest, nothing is written, and the root record is as before. The value remembers that a call
         // answered `DiskFault`, which comes only where the disk's count of faults rose.
-        ensures asks { Asks H.dig D.view (TellThread since) (λ path. OfPath path) (thread_refusal_of (has_failed self.old) (steps_of self.old) since)
+        ensures asks { Asks H.dig D.view (TellThread since) (λ path. OfPath path)
+            (thread_refusal_of (has_failed self.old) (steps_of self.old) since)
             (λ ps. found_message H.dig ps (head_of self.old) (has_failed self.old) since) self.old self.new result }
         // The path is the history's own, from its last step down to the earlier one.
-        ensures made { IfOk result (λ path. (h : History) → Serves H.dig D.view self.old h → IsPathOf H.dig h path.links (length h.steps) since) }
+        ensures made { IfOk result (λ path. (h : History) → Serves H.dig D.view self.old h
+            → IsPathOf H.dig h path.links (length h.steps) since) }
         // Over any pages, told or not, the path has at most twice as many links as the last step has binary digits.
-        ensures bound { IfOk result (λ path. (digits : ℕ) → steps_of self.old < 2 ^ digits → length path.links ≤ 2 * digits) }
+        ensures bound { IfOk result (λ path. (digits : ℕ) → steps_of self.old < 2 ^ digits
+            → length path.links ≤ 2 * digits) }
     {
         if let Some(refusal) = thread_refusal(self.is_broken, self.recorded.root.head.step, since) {
             return Err(refusal);
@@ -369,14 +390,18 @@ impl<D: Disk, H: Hasher> Service<D, H> {
     pub fn prove_link(&mut self, step: u64, top: u64) -> Result<Bytes, Refusal>
         // Asking for the proof of a step's authenticator does, by its own table and what is found for it, what asking
         // for the path of a message does.
-        ensures asks { Asks H.dig D.view (ProveLink step top) (λ bytes. OfProof bytes) (link_refusal_of (has_failed self.old) (steps_of self.old) step top)
-            (λ ps. found_link_proof H.dig ps (name_of self.old) (head_of self.old) (has_failed self.old) step top) self.old self.new result }
+        ensures asks { Asks H.dig D.view (ProveLink step top) (λ bytes. OfProof bytes)
+            (link_refusal_of (has_failed self.old) (steps_of self.old) step top)
+            (λ ps. found_link_proof H.dig ps (name_of self.old) (head_of self.old) (has_failed self.old) step top)
+            self.old self.new result }
         // The proof is the history's own proof of that authenticator under that top.
-        ensures made { IfOk result (λ bytes. (h : History) → Serves H.dig D.view self.old h → MakesLink H.dig h step top bytes) }
+        ensures made { IfOk result (λ bytes. (h : History) → Serves H.dig D.view self.old h
+            → MakesLink H.dig h step top bytes) }
         // The proof is accepted under every list of anchors whose anchor of the service and top has the history's
         // authenticator of the top.
         ensures accepted { IfOk result (λ bytes. (h : History) → Serves H.dig D.view self.old h
-            → (anchors : List ThreadOf) (anchor : ThreadOf) → anchor_of anchors h.name top ≡ Some anchor → anchor.auth ≡ auth H.dig h top
+            → (anchors : List ThreadOf) (anchor : ThreadOf) → anchor_of anchors h.name top ≡ Some anchor
+            → anchor.auth ≡ auth H.dig h top
             → Accepts H.dig anchors bytes) }
     {
         if let Some(refusal) = link_refusal(
@@ -422,25 +447,30 @@ impl<D: Disk, H: Hasher> Service<D, H> {
         // The proof is accepted under every list of anchors whose anchor of the service and top has the history's
         // authenticator of the top.
         ensures accepted { IfOk result (λ bytes. (h : History) → Serves H.dig D.view self.old h
-            → (anchors : List ThreadOf) (anchor : ThreadOf) → anchor_of anchors h.name top ≡ Some anchor → anchor.auth ≡ auth H.dig h top
+            → (anchors : List ThreadOf) (anchor : ThreadOf) → anchor_of anchors h.name top ≡ Some anchor
+            → anchor.auth ≡ auth H.dig h top
             → Accepts H.dig anchors bytes) }
 
         // Where a history is served and no earlier call on the value met a disk fault, proving an event is a step of
         // the machine, a disk fault and want of memory excepted.
         ensures machine { has_failed self.old ≡ false → (h : History) → Serves H.dig D.view self.old h
-            → Answers H.dig h (ProveEvent step index top) (λ bytes. OfProof bytes) result (Serves H.dig D.view self.new) }
+            → Answers H.dig h (ProveEvent step index top) (λ bytes. OfProof bytes) result
+            (Serves H.dig D.view self.new) }
         // Whatever the answer, the history is served as before, at rest.
         ensures same { (h : History) → Serves H.dig D.view self.old h → Serves H.dig D.view self.new h
-            × LeavesOnly (D.view (disk_of self.old)) (D.view (disk_of self.new)) (λ i. StandsFor H.dig i (name_of self.old) h) }
+            × LeavesOnly (D.view (disk_of self.old)) (D.view (disk_of self.new))
+            (λ i. StandsFor H.dig i (name_of self.old) h) }
         // Whatever the answer, nothing is written.
         ensures unwritten { HasSameDisk D.view self.old self.new }
         // The root record, and with it name, head, archive and greatest time, is as before.
         ensures kept { record_of self.new ≡ record_of self.old }
         // The value remembers that a call answered `DiskFault`, and nothing else is remembered so: by the table
         // `Reopen` is answered exactly after one.
-        ensures broken { IsTrue (has_failed self.new) ↔ (IsTrue (has_failed self.old) ⊎ (result ≡ Err Refusal.DiskFault)) }
+        ensures broken { IsTrue (has_failed self.new)
+            ↔ (IsTrue (has_failed self.old) ⊎ (result ≡ Err Refusal.DiskFault)) }
         // `DiskFault` comes only where the disk's count of faults rose.
-        ensures fault { result ≡ Err Refusal.DiskFault → Rose ((D.view (disk_of self.old)).faults) ((D.view (disk_of self.new)).faults) }
+        ensures fault { result ≡ Err Refusal.DiskFault
+            → Rose ((D.view (disk_of self.old)).faults) ((D.view (disk_of self.new)).faults) }
         // The count of faults hasn't fallen.
         ensures later { (D.view (disk_of self.old)).faults ≤ (D.view (disk_of self.new)).faults }
 
@@ -450,7 +480,8 @@ impl<D: Disk, H: Hasher> Service<D, H> {
         // step's page counts, where the index isn't below it, or `BadPage` with the first page met that isn't of its
         // kind, or with the one that the step's events fail at.
         ensures answer { (ps : Image) → pages_of D.view self.old ≡ Some ps
-            → IsAnswer result (found_event H.dig ps (name_of self.old) (head_of self.old) step index top (has_failed self.old)) }
+            → IsAnswer result
+            (found_event H.dig ps (name_of self.old) (head_of self.old) step index top (has_failed self.old)) }
     {
         if let Some(refusal) = order_refusal(
             self.is_broken,

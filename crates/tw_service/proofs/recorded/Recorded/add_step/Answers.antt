@@ -22,7 +22,8 @@ use Rattle.tw_service.specs.Limits.{clock_refusal}
 use Rattle.tw_service.specs.Roots.{root_bytes}
 use Rattle.tw_service.specs.Stands.{StandsForOneOf}
 use Rattle.tw_service.proofs.FoundAnswers.{no_bad_page, page_found}
-use Rattle.tw_service.proofs.Serving.{Put, added_whole, commit_keeps, commit_leaves, commit_tells, put_events, rest_stands, same_leaves, same_tells, told_list}
+use Rattle.tw_service.proofs.WholePages.{added_whole}
+use Rattle.tw_service.proofs.Serving.{Put, commit_keeps, commit_leaves, commit_tells, put_events, rest_stands, same_leaves, same_tells, told_list}
 use Rattle.tw_service.proofs.recorded.Recorded.add_step.Goals as goal
 
 -- fewer pages are used than a list may have
