@@ -10,7 +10,7 @@ use Rattle.tw_outside.specs.Asked.{Asked}
 use Rattle.tw_outside.specs.Files.{Files}
 use Rattle.tw_words.specs.CommandLine.{command_of}
 use Rattle.tw_words.specs.declared.command.Command.{Command}
-use Rattle.tw_words.specs.declared.command.Command.TheVariants.{Accuse, Append, CheckFork, Init, Join, ProveEvent, ProveLink, Show, VerifyFile, VerifyOne, Strict}
+use Rattle.tw_words.specs.declared.command.Command.TheVariants.{Accuse, Append, Atlas, Audit, CheckFork, CheckMap, Init, Join, ProveEvent, ProveLink, Show, VerifyFile, VerifyOne, Strict}
 use Rattle.tw_words.specs.declared.command.Command.TheVariants as command
 use Rattle.tw_text.specs.declared.fault.CommandFault.{CommandFault}
 use Rattle.tw_text.specs.declared.fault.CommandFault.TheVariants.{InputFault, DiskFault, NoMemory, Unserved}
@@ -31,7 +31,10 @@ use Rattle.tw_app.specs.declared.outcome.Outcome.TheVariants.{Judged, Written, J
 use Rattle.tw_reachcmd.specs.declared.answer.Answer.{Answer}
 use Rattle.tw_reachcmd.specs.declared.answer.Answer.TheVariants as answers
 use Rattle.tw_reachcmd.specs.Accusing.{AccuseComes}
+use Rattle.tw_reachcmd.specs.Auditing.{AuditComes}
 use Rattle.tw_reachcmd.specs.Forks.{CheckForkComes}
+use Rattle.tw_reachcmd.specs.Maps.{CheckMapComes}
+use Rattle.tw_reachcmd.specs.Planning.{AtlasComes}
 use Rattle.tw_app.specs.declared.store.StoreAccess.{StoreAccess}
 use Rattle.tw_app.specs.declared.store.StoreAccess.TheVariants.{Read, Write}
 use Rattle.tw_app.specs.Around.{Outside, found_of}
@@ -338,11 +341,29 @@ module _ {D : Type 0} (view : D → DiskView)
       (record { input = λ rose. (names_parts first second link, rose); disk = λ came. absurd came; serves = λ h reads why came. came; memory = tt })
       (λ p n came. no_usage _ (answered_tells answers.Accused) n came.0 came.2)
 
+  atlas_row : (name : List ℕ) (pos : ℕ) (files : List (List ℕ)) → Row (Atlas name pos files) (work view o (Atlas name pos files))
+  atlas_row name pos files =
+      answer_row (Atlas name pos files) answers.Planned (AtlasComes o.inputs (record { from = name; step = pos }) files)
+      (record { input = λ failed. (some_file files failed.0, failed.1); disk = λ came. absurd came; serves = λ h reads why came. came; memory = tt })
+      (λ p n came. no_usage _ (answered_tells answers.Planned) n came.0 came.2)
+
+  audit_row : (proof anchors : List ℕ) (histories : List (List ℕ)) → Row (Audit proof anchors histories) (work view o (Audit proof anchors histories))
+  audit_row proof anchors histories =
+      answer_row (Audit proof anchors histories) answers.Audited (AuditComes o.inputs proof anchors histories)
+      (record { input = λ rose. (tt, rose); disk = λ came. absurd came.2; serves = λ h reads why came. came.2; memory = tt })
+      (λ p n came. no_usage _ (answered_tells answers.Audited) n came.0 came.2)
+
   check_fork_row : (file anchors : List ℕ) → Row (CheckFork file anchors) (work view o (CheckFork file anchors))
   check_fork_row file anchors =
       answer_row (CheckFork file anchors) answers.Fork (CheckForkComes o.inputs file anchors)
       (record { input = λ rose. (tt, rose); disk = λ came. absurd came; serves = λ h reads why came. came; memory = tt })
       (λ p n came. no_usage _ (answered_tells answers.Fork) n came.0 came.2)
+
+  check_map_row : (low high anchors : List ℕ) → Row (CheckMap low high anchors) (work view o (CheckMap low high anchors))
+  check_map_row low high anchors =
+      answer_row (CheckMap low high anchors) answers.Mapped (CheckMapComes o.inputs low high anchors)
+      (record { input = λ rose. (tt, rose); disk = λ came. absurd came; serves = λ h reads why came. came; memory = tt })
+      (λ p n came. no_usage _ (answered_tells answers.Mapped) n came.0 came.2)
 
   -- each command, by what is known of its results
   pub rows : (c : Command) → Row c (work view o c)
@@ -363,6 +384,9 @@ module _ {D : Type 0} (view : D → DiskView)
   rows (Strict proof anchors) =
       anchors_row (Strict proof anchors) proof anchors (λ p n came. no_usage Judged judged_tells n came.0 came.2) tt refl (λ held has. has)
   rows (VerifyOne proof anchor) = verify_one_row proof anchor
+  rows (CheckMap low high anchors) = check_map_row low high anchors
+  rows (Atlas name pos files) = atlas_row name pos files
+  rows (Audit proof anchors histories) = audit_row proof anchors histories
   rows (Accuse first second link) = accuse_row first second link
   rows (CheckFork file anchors) = check_fork_row file anchors
   rows _ = unbuilt_row _

@@ -35,7 +35,10 @@ use Rattle.tw_app.specs.declared.outcome.Outcome.{Outcome}
 use Rattle.tw_app.specs.declared.outcome.Outcome.TheVariants.{Judged, Written, Joined, Made, Answered, BadWords, Undone}
 use Rattle.tw_evidence.specs.declared.fork.ForkVerdict.TheVariants as fork
 use Rattle.tw_reachcmd.specs.declared.accusing.Accused.TheVariants as accused
+use Rattle.tw_audit.specs.declared.finding.Finding.TheVariants as finding
+use Rattle.tw_tmap.specs.declared.map_verdict.MapVerdict.TheVariants as bounds
 use Rattle.tw_reachcmd.specs.declared.answer.Answer.{Answer}
+use Rattle.tw_reachcmd.specs.declared.auditing.Audited.TheVariants as audited
 use Rattle.tw_reachcmd.specs.declared.answer.Answer.TheVariants as answers
 use Rattle.tw_app.specs.Around.{Around, Writes}
 use Rattle.tw_app.specs.Commands.{NamesFile}
@@ -48,17 +51,25 @@ use Rattle.tw_app.proofs.Commands.{Judges, LeavesGap, Row, fault_not_zero, of_op
 pub zero_not_four : (n : ℕ) → n ≡ 0 → n ≡ 4 → ⊥
 zero_not_four n zeroth fourth = omega (arith, zeroth, fourth)
 
-not_verdict : (verdict : Verdict) (n : ℕ) → (n ≡ 0 → ⊥) → (n ≡ 1 → ⊥) → n ≡ status_of (Judged verdict) → ⊥
+pub not_verdict : (verdict : Verdict) (n : ℕ) → (n ≡ 0 → ⊥) → (n ≡ 1 → ⊥) → n ≡ status_of (Judged verdict) → ⊥
 not_verdict (Yes report) n zeroth first told = zeroth told
 not_verdict (No reason) n zeroth first told = first told
 
-not_joined : (joined : JoinedProofs) (n : ℕ) → (n ≡ 0 → ⊥) → (n ≡ 1 → ⊥) → n ≡ status_of (Joined joined) → ⊥
+pub not_joined : (joined : JoinedProofs) (n : ℕ) → (n ≡ 0 → ⊥) → (n ≡ 1 → ⊥) → n ≡ status_of (Joined joined) → ⊥
 not_joined (Whole proof) n zeroth first told = zeroth told
 not_joined (Unfit place) n zeroth first told = first told
 
 not_answer : (answer : Answer) (n : ℕ) → (n ≡ 0 → ⊥) → (n ≡ 1 → ⊥) → (n ≡ 10 → ⊥) → n ≡ status_of (Answered answer) → ⊥
 not_answer (answers.Accused (accused.Whole evidence)) n zeroth first tenth told = zeroth told
 not_answer (answers.Accused (accused.Unfit place)) n zeroth first tenth told = first told
+not_answer (answers.Planned planned) n zeroth first tenth told = zeroth told
+not_answer (answers.Audited (audited.Found (finding.Stands report))) n zeroth first tenth told = zeroth told
+not_answer (answers.Audited (audited.Found (finding.NotAccepted reason))) n zeroth first tenth told = first told
+not_answer (answers.Audited (audited.Found (finding.Clash one other digest))) n zeroth first tenth told = tenth told
+not_answer (answers.Audited (audited.Unheld held found)) n zeroth first tenth told = first told
+not_answer (answers.Mapped (bounds.Yes low high upto)) n zeroth first tenth told = zeroth told
+not_answer (answers.Mapped (bounds.No reason)) n zeroth first tenth told = first told
+not_answer (answers.Mapped bounds.Gap) n zeroth first tenth told = first told
 not_answer (answers.Fork (fork.Yes shown)) n zeroth first tenth told = zeroth told
 not_answer (answers.Fork (fork.No reason)) n zeroth first tenth told = first told
 
@@ -66,7 +77,7 @@ not_fault : (f : CommandFault) (n : ℕ) → n ≡ fault_status f → n < 3 → 
 not_fault InputFault n same low = omega (arith, same, low)
 not_fault _ n same low = omega (arith, same, low)
 
-low_fault : (f : CommandFault) (n : ℕ) → n ≡ fault_status f → 9 < n → ⊥
+pub low_fault : (f : CommandFault) (n : ℕ) → n ≡ fault_status f → 9 < n → ⊥
 low_fault InputFault n same high = omega (arith, same, high)
 low_fault _ n same high = omega (arith, same, high)
 
@@ -406,6 +417,15 @@ module _ {D : Type 0} (view : D → DiskView)
     is_answer_status : (answer : Answer) → IsStatus (status_of (Answered answer))
     is_answer_status (answers.Accused (accused.Whole evidence)) = inl refl
     is_answer_status (answers.Accused (accused.Unfit place)) = inr (inl refl)
+    is_answer_status (answers.Planned planned) = inl refl
+    is_answer_status (answers.Audited (audited.Found (finding.Stands report))) = inl refl
+    is_answer_status (answers.Audited (audited.Found (finding.NotAccepted reason))) = inr (inl refl)
+    is_answer_status (answers.Audited (audited.Found (finding.Clash one other digest))) =
+        inr (inr (inr (inr (inr (inr (inr (inr (inr (inr (inl refl))))))))))
+    is_answer_status (answers.Audited (audited.Unheld held found)) = inr (inl refl)
+    is_answer_status (answers.Mapped (bounds.Yes low high upto)) = inl refl
+    is_answer_status (answers.Mapped (bounds.No reason)) = inr (inl refl)
+    is_answer_status (answers.Mapped bounds.Gap) = inr (inl refl)
     is_answer_status (answers.Fork (fork.Yes shown)) = inl refl
     is_answer_status (answers.Fork (fork.No reason)) = inr (inl refl)
 

@@ -1,11 +1,11 @@
 -- Of runs that judge a proof, where the inputs tell the bytes of both files.
-use Rattle.std.proofs.Common.{◌≡◌, ◌∙◌, ℕ, false, true, List, refl, ap, sym, subst, inl, inr, ◌⊎◌}
-use Rattle.std.specs.Prelude.{Bool, Option, Some, IsSome, MatchOption, Result, Ok, Err, map}
+use Rattle.std.proofs.Common.{◌≡◌, ◌∙◌, ℕ, false, true, List, refl, ap, sym, subst, inl, inr}
+use Rattle.std.specs.Prelude.{Bool, Option, MatchOption, Result, Ok, Err, map}
 use Rattle.sha2.specs.Sha256.{sha256}
 use Rattle.tw_base.specs.declared.history.thread.Thread.{Thread}
 use Rattle.tw_base.specs.kinds.Faults.{Rose}
 use Rattle.tw_disk.specs.Disk.{DiskView}
-use Rattle.tw_outside.specs.Files.{Files, IsThere, Tells, bytes_of}
+use Rattle.tw_outside.specs.Files.{Tells}
 use Rattle.tw_outside.specs.Asked.{Asked}
 use Rattle.tw_words.specs.declared.command.Command.{Command}
 use Rattle.tw_text.specs.declared.fault.CommandFault.{CommandFault}
@@ -17,13 +17,14 @@ use Rattle.tw_chain.specs.Binding.{BindsHistories}
 use Rattle.tw_chain.specs.Reasons.{IsVerdict}
 use Rattle.tw_msg.specs.AnchorsFile.{AllGood, IsFirstBadLine, anchor, lines}
 use Rattle.tw_filecmd.specs.Verifying.{HasAnchors, VerifyFileComes}
-use Rattle.tw_judge.specs.Told.{IsJudged, IsTold, IsUnjudged, TellsFault, TellsVerdict, verdict_status, verdict_text}
+use Rattle.tw_judge.specs.Told.{IsJudged, IsTold, IsUnjudged, verdict_status, verdict_text}
 use Rattle.tw_app.specs.declared.outcome.Outcome.{Outcome}
-use Rattle.tw_app.specs.declared.outcome.Outcome.TheVariants.{Judged, Undone}
-use Rattle.tw_app.specs.Around.{Around, Outside, Writes}
+use Rattle.tw_app.specs.declared.outcome.Outcome.TheVariants.{Judged}
+use Rattle.tw_app.specs.Around.{Around, Writes}
 use Rattle.tw_app.specs.Judging.{Judges, NoneFailed, judging}
 use Rattle.tw_app.specs.Outcomes.{outcome_by, status_of, text_of}
 use Rattle.tw_app.specs.Running.{Ends, EndsWith, HasOutcome, HaveNoForm, IsOutcomeOf, IsUntouched, work}
+use Rattle.tw_app.proofs.ToldFiles.{same, there}
 
 -- ---- the outcome of a verdict, and of a fault
 
@@ -36,15 +37,6 @@ text_is (Yes report) = refl
 text_is (No reason) = refl
 
 -- ---- files whose bytes are told
-
-there : (told : Option Files) (name bytes : List ℕ) → Tells told name bytes → IsThere told name
-there told name bytes tells = λ some. subst IsSome (sym tells) refl
-
-same : (told : Option Files) (name bytes other : List ℕ) → Tells told name bytes → Tells told name other → bytes ≡ other
-same told name bytes other tells tells_other = some (sym tells ∙ tells_other)
-  where
-    some : Some bytes ≡ Some other → bytes ≡ other
-    some is = cc
 
 module _ (a : Asked) (proof_file file proof anchors : List ℕ) (proof_told : Tells a.told proof_file proof) (anchors_told : Tells a.told file anchors) (strict : Bool) where
   -- a verdict on the files is one on their bytes

@@ -1,4 +1,15 @@
 pub mod Commands
 pub mod Words
 pub mod Endings
+pub mod ToldFiles
+pub mod ToldMaps
 pub mod JudgedRuns
+pub mod MapRuns
+pub mod Audits
+pub mod OneReason
+pub mod OneFamily
+pub mod OneAtlas
+pub mod OneFork
+pub mod OneMap
+pub mod OneAnswer
+pub mod AuditsFound

@@ -1,6 +1,9 @@
+pub mod Alike
 pub mod Around
+pub mod Audits
 pub mod Commands
 pub mod Judging
+pub mod MapRuns
 pub mod Outcomes
 pub mod Running
 pub mod Statuses

@@ -11,6 +11,9 @@ use Rattle.tw_evidence.specs.declared.fork.ForkVerdict.{ForkVerdict}
 use Rattle.tw_reachcmd.specs.declared.accusing.Accused.{Accused}
 use Rattle.tw_reachcmd.specs.declared.accusing.Accused.TheVariants as accused
 use Rattle.tw_reachcmd.specs.declared.answer.Answer.TheVariants as answers
+use Rattle.tw_reachcmd.specs.declared.auditing.Audited.{Audited}
+use Rattle.tw_reachcmd.specs.declared.planning.Planned.{Planned}
+use Rattle.tw_tmap.specs.declared.map_verdict.MapVerdict.{MapVerdict}
 use Rattle.tw_reachcmd.specs.Answers.{answer_status, answer_text}
 use Rattle.tw_app.specs.declared.outcome.Outcome.{Outcome}
 use Rattle.tw_app.specs.declared.outcome.Outcome.TheVariants.{Judged, Written, Joined, Made, Answered, BadWords, Undone}
@@ -24,8 +27,17 @@ outcome_by of (Err fault) = Undone fault
 abbrev pub of_accused : Accused → Outcome
 of_accused accused = Answered (answers.Accused accused)
 
+abbrev pub of_planned : Planned → Outcome
+of_planned planned = Answered (answers.Planned planned)
+
+abbrev pub of_audited : Audited → Outcome
+of_audited audited = Answered (answers.Audited audited)
+
 abbrev pub of_fork : ForkVerdict → Outcome
 of_fork verdict = Answered (answers.Fork verdict)
+
+abbrev pub of_mapped : MapVerdict → Outcome
+of_mapped verdict = Answered (answers.Mapped verdict)
 
 abbrev pub status_of : Outcome → ℕ
 status_of (Judged (Yes report)) = 0

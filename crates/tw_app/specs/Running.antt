@@ -7,7 +7,7 @@ use Rattle.tw_words.specs.CommandLine.{IsFirstBad, command_of}
 use Rattle.tw_words.specs.declared.command.Command.{Command}
 use Rattle.tw_text.specs.declared.fault.CommandFault.{CommandFault}
 use Rattle.tw_text.specs.declared.fault.CommandFault.TheVariants.{NoMemory}
-use Rattle.tw_words.specs.declared.command.Command.TheVariants.{Init, Append, Thread, ProveEvent, ProveLink, Show, Join, VerifyFile, VerifyOne, Strict, Accuse, CheckFork}
+use Rattle.tw_words.specs.declared.command.Command.TheVariants.{Init, Append, Thread, ProveEvent, ProveLink, Show, Join, VerifyFile, VerifyOne, Strict, CheckMap, Audit, Atlas, Accuse, CheckFork}
 use Rattle.tw_filecmd.specs.Joining.{JoinComes}
 use Rattle.tw_filecmd.specs.Showing.{ShowComes}
 use Rattle.tw_filecmd.specs.Verifying.{VerifyFileComes, VerifyOneComes}
@@ -18,13 +18,16 @@ use Rattle.tw_diskcmd.specs.Making.{InitComes, InitLeaves, InitSafe}
 use Rattle.tw_diskcmd.specs.Proving.{ProveComes}
 use Rattle.tw_diskcmd.specs.Telling.{ThreadComes}
 use Rattle.tw_reachcmd.specs.Accusing.{AccuseComes}
+use Rattle.tw_reachcmd.specs.Auditing.{AuditComes}
 use Rattle.tw_reachcmd.specs.Forks.{CheckForkComes}
+use Rattle.tw_reachcmd.specs.Maps.{CheckMapComes}
+use Rattle.tw_reachcmd.specs.Planning.{AtlasComes}
 use Rattle.tw_app.specs.declared.outcome.Outcome.{Outcome}
 use Rattle.tw_app.specs.declared.outcome.Outcome.TheVariants.{Judged, Written, Joined, Made, BadWords, Undone}
 use Rattle.tw_app.specs.declared.store.StoreAccess.{StoreAccess}
 use Rattle.tw_app.specs.declared.store.StoreAccess.TheVariants.{Read, Write}
 use Rattle.tw_app.specs.Around.{Around, Outside, Span, found_of}
-use Rattle.tw_app.specs.Outcomes.{of_accused, of_fork, outcome_by, status_of, text_of}
+use Rattle.tw_app.specs.Outcomes.{of_accused, of_audited, of_fork, of_mapped, of_planned, outcome_by, status_of, text_of}
 
 -- ---- what a command does
 
@@ -125,6 +128,9 @@ module _ {D : Type 0} (view : D → DiskView) (o : Outside D) where
   work (VerifyFile proof anchors) = over_files Judged (VerifyFileComes o.inputs proof anchors false)
   work (VerifyOne proof anchor) = over_files Judged (VerifyOneComes o.inputs proof anchor)
   work (Strict proof anchors) = over_files Judged (VerifyFileComes o.inputs proof anchors true)
+  work (CheckMap low high anchors) = over_files of_mapped (CheckMapComes o.inputs low high anchors)
+  work (Atlas name pos files) = over_files of_planned (AtlasComes o.inputs (record { from = name; step = pos }) files)
+  work (Audit proof anchors histories) = over_files of_audited (AuditComes o.inputs proof anchors histories)
   work (Accuse first second link) = over_files of_accused (AccuseComes o.inputs first second link)
   work (CheckFork file anchors) = over_files of_fork (CheckForkComes o.inputs file anchors)
   work _ = unbuilt
@@ -160,3 +166,10 @@ module _ {D : Type 0} (view : D → DiskView) (around : Around D) (status : ℕ)
 
   abbrev pub Ends : Type 0
   Ends = (outcome : Outcome) × EndsAs outcome
+
+-- a command over files alone was kept from its answer: the inputs or the sink failed, or there was no memory
+abbrev pub IsHindered : {D : Type 0} → Around D → (status : ℕ) → Type 0
+IsHindered around status =
+    ((status ≡ 3) × Rose around.outside.inputs.before around.outside.inputs.after)
+    ⊎ ((status ≡ 4) × Rose around.sink_faults.before around.sink_faults.after)
+    ⊎ (status ≡ 6)

@@ -1,6 +1,8 @@
 // How a run ends.
 
-ghost use Rattle.std.specs.Prelude.{◌≡◌, ◌⊎◌, map, string_bytes, IfSome, MatchOption};
+ghost use Rattle.std.specs.Prelude.{◌≡◌, ◌⊎◌, ℕ, List, map, string_bytes, IfSome, MatchOption};
+ghost use Rattle.tw_base.specs.declared.history.thread.Thread.{Thread as AnchorThread};
+ghost use Rattle.tw_base.specs.history.History.{History};
 ghost use Rattle.tw_base.specs.kinds.Lists.{Each};
 ghost use Rattle.tw_base.specs.kinds.Faults.{Rose};
 ghost use Rattle.tw_diskcmd.specs.Disks.{IsLeft};
@@ -12,7 +14,9 @@ ghost use Rattle.tw_app.specs.declared.outcome.Outcome.TheVariants.{Undone};
 ghost use Rattle.tw_text.specs.declared.fault.CommandFault.TheVariants.{NoMemory as NoMemoryFault};
 ghost use Rattle.tw_app.specs.Around.{around, outside, span};
 ghost use Rattle.tw_app.specs.Commands.{files_of};
+ghost use Rattle.tw_app.specs.MapRuns.{AsksMap, IsMapRun};
 ghost use Rattle.tw_app.specs.Outcomes.{TakesMemory, status_of as status_of_outcome};
+ghost use Rattle.tw_app.specs.Audits.{AsksAudit, IsAuditOf, IsClashRun, IsFoundRun, IsStandingRun};
 ghost use Rattle.tw_app.specs.Running.{Ends, EndsWith, work};
 ghost use Rattle.tw_app.specs.Statuses.{AreOf, IsAcceptedRun, IsIdle, IsStatus, IsVerify};
 
@@ -131,11 +135,12 @@ fn run_to_the_end<D: Disk, I: Inputs, S: Sink>(
 /// Does all that the program does for its words, which don't hold its own name, and answers its
 /// status with the disk; whatever it has to say is written to the sink.
 ///
-/// - 0: the command's output was written whole: the report of an accepted proof, the proof, the evidence
-///   or the message that was made, the fork that evidence shows, or the anchor line of the service or step
-///   that was made.
-/// - 1: the proof or the evidence isn't accepted, or the parts don't fit; `rejected`, the lowest reason
-///   that stands and its fields, or `Gap` and the number of the part.
+/// - 0: the command's output was written whole: the report of an accepted proof or of one that stands
+///   in histories, the proof, the evidence or the message that was made, the fork that evidence shows, the
+///   bounds that map files show, an atlas, or the anchor line of the service or step that was made.
+/// - 1: the proof, the evidence or a map file isn't accepted, or the parts or the map files don't fit;
+///   `rejected`, the lowest reason that stands and its fields, or `Gap` and the number of the part, of map
+///   files that of the second; or, of an audit, `unheld` and the thread that the histories don't have.
 /// - 2: the words have no form; `usage` and the number of the first word at which none goes on, or 0
 ///   where the words have a form whose work isn't built yet.
 /// - 3: the inputs failed; `fault input`.
@@ -146,10 +151,12 @@ fn run_to_the_end<D: Disk, I: Inputs, S: Sink>(
 ///   fields.
 /// - 8: the disk has no service that can serve the command; `store`, why, and the slot or the page.
 /// - 9: a file isn't what the command reads; `unreadable` or `unsound`, the file and where.
+/// - 10: of an audit's texts two different ones have one digest; `clash`, and both with the digest.
 ///
-/// The words are judged first; then all files are read, anchors before a proof, and of a proof that is
-/// judged no piece of 4,096 bytes behind its first bad byte; then what the files hold is judged, that of
-/// a proof last; then comes the disk. A command that works on no directory hands the disk back as it is.
+/// The words are judged first; then all files are read, anchors before a proof, and a proof that is judged
+/// no further than needed (a tested promise: no piece of 4,096 bytes behind its first bad byte); then what
+/// the files hold is judged, that of a proof last; then comes the disk. A command that works on no directory
+/// hands the disk back as it is.
 pub fn run<D: Disk, I: Inputs, S: Sink>(
     alloc: Global,
     words: &[String],
@@ -179,6 +186,41 @@ pub fn run<D: Disk, I: Inputs, S: Sink>(
     // service and step. Of a link: the service has the authenticator that is told at the step that is named.
     ensures accepted { result.status ≡ 0 → AreOf IsVerify (map string_bytes words.now)
         → IsAcceptedRun (I.told inputs.old) (map string_bytes words.now) (S.taken out.old) (S.taken out.new) }
+    // Status 0 of `audit`: the proof file is there, and its bytes spell a proof that is accepted under the anchors of the
+    // anchors file, which is there and has no bad line. The other files are there and are those of sound histories, of
+    // different services and together within the limit, which have the threads held. Those are the anchors held of the
+    // services and steps that the proof names, and the threads that it carries. No two different texts of these histories
+    // and of the proof have one SHA-256 digest. What the proof's report claims is so of the histories, by the report's own
+    // hops, and its lines from the second on were written whole behind `stands`.
+    ensures stands { result.status ≡ 0 → AreOf AsksAudit (map string_bytes words.now)
+        → IsStandingRun (I.told inputs.old) (map string_bytes words.now) (S.taken out.old) (S.taken out.new) }
+    // Status 10: the words are `audit`, and all this is so but for the texts and the report: two of these texts, both of
+    // bytes, differ and have one SHA-256 digest. The first text whose digest an earlier different one has and the earliest
+    // such text were written whole, with the digest.
+    ensures clash { result.status ≡ 10
+        → IsClashRun (I.told inputs.old) (map string_bytes words.now) (S.taken out.old) (S.taken out.new) }
+    // Where the words are `audit`, the inputs tell the bytes of all its files, the anchors file has no bad line, and the
+    // other files are those of sound histories, of different services and together within the limit: an audit of the proof
+    // file's bytes tells exactly what is so of these, unless the inputs or the sink failed or there was no memory. Where the
+    // bytes aren't accepted, the status is 1, with the lowest reason that stands. Where they are, and the histories don't have
+    // all threads held, it is 1, with the first of them that they lack and what they have there. Where they have them, and
+    // two different texts of the histories and the proof have one SHA-256 digest, it is 10, with the pair: the first text
+    // whose digest an earlier different one has, and the earliest such text. Where no two have, it is 0, with the report.
+    ensures finds { (bytes : List ℕ) (anchors : List AnchorThread) (family : List History) →
+        IsAuditOf (I.told inputs.old) (map string_bytes words.now) bytes anchors family →
+        IsFoundRun (around (map string_bytes words.now)
+        (outside (asked (I.told inputs.old) (I.faults inputs.old) (I.faults inputs.new)) disk result.disk)
+        (span (S.taken out.old) (S.taken out.new)) (span (S.faults out.old) (S.faults out.new))) result.status bytes anchors family }
+    // Status 0 of `checkmap`: its files are there. Where the inputs tell their bytes, they hold a low and a high map file, of one
+    // step of a service and of one peer, and anchors without a bad line, under which both map files are accepted. The bounds
+    // that they show were written whole. And in every list of sound histories that has the anchors that are held of both tops,
+    // either two different texts of these histories and of the files, both of bytes, have one SHA-256 digest, or the service
+    // has the step, the peer has one of the number `upto`, and the bounds are those of their histories. `low` is the greatest
+    // step of the peer in threads that the service received before its step, and 0 where there is none. `high` is the least
+    // step of the peer up to `upto` that received a thread of the service of its step or of a later one, and `none` where none
+    // did.
+    ensures between { result.status ≡ 0 → AreOf AsksMap (map string_bytes words.now)
+        → IsMapRun (I.told inputs.old) (map string_bytes words.now) (S.taken out.old) (S.taken out.new) }
     // There are no other statuses than 0 to 10.
     ensures statuses { IsStatus result.status }
 

@@ -10,14 +10,16 @@ ghost use Rattle.tw_app.specs.Outcomes.{outcome_by};
 ghost use Rattle.tw_app.specs.declared.outcome.Outcome.TheVariants.{Made as OfThread, Written as OfBytes};
 ghost use Rattle.tw_app.specs.Running.{HasOutcome, work};
 
-use crate::outcome::{Outcome, accused, fork_judged, joined, judged, made, written};
+use crate::outcome::{
+    Outcome, accused, audited, fork_judged, joined, judged, made, mapped, planned, written,
+};
 use std::alloc::Global;
 use tw_base::{Bytes, Thread};
 use tw_disk::Disk;
 use tw_diskcmd::{Worked, append, make, prove, prove_link, tell};
 use tw_filecmd::{join_files, show, verify_file, verify_one};
 use tw_outside::Inputs;
-use tw_reachcmd::{accuse_linked, accuse_pair, check_fork};
+use tw_reachcmd::{accuse_linked, accuse_pair, audit_files, check_fork, check_maps, plan_files};
 use tw_text::CommandFault;
 use tw_words::{Command, WordFault, read_words};
 
@@ -95,6 +97,34 @@ fn follow<D: Disk, I: Inputs>(
         },
         Command::VerifyOne { proof, anchor } => Followed {
             outcome: judged(verify_one(alloc, inputs, proof.as_str(), *anchor)),
+            disk,
+        },
+        Command::CheckMap { low, high, anchors } => Followed {
+            outcome: mapped(check_maps(
+                alloc,
+                inputs,
+                low.as_str(),
+                high.as_str(),
+                anchors.as_str(),
+            )),
+            disk,
+        },
+        Command::Atlas { name, pos, files } => Followed {
+            outcome: planned(plan_files(alloc, inputs, *name, *pos, files.as_slice())),
+            disk,
+        },
+        Command::Audit {
+            proof,
+            anchors,
+            histories,
+        } => Followed {
+            outcome: audited(audit_files(
+                alloc,
+                inputs,
+                proof.as_str(),
+                anchors.as_str(),
+                histories.as_slice(),
+            )),
             disk,
         },
         Command::Accuse {

@@ -47,7 +47,11 @@ pub fn status_laws<D: Disk>()
     // Status 0 of `accuse`: all files are there and hold the proofs of two received threads and, where one is named, a link.
     // The bytes written spell the evidence that these make, and are accepted, with that fork, under all anchors under
     // which it shows one. Status 0 of `checkfork`: the file is there, the anchors file is there and has no bad line, and the
-    // lines written are those of the fork that the file's bytes show under these anchors.
+    // lines written are those of the fork that the file's bytes show under these anchors. Status 0 of `audit`: the lines
+    // written are those of the report that stands. Status 0 of `atlas`: all files are there and hold receipts, and the lines
+    // written are those of the atlas of their hops from the step that is named. Status 0 of `checkmap`: all files are there
+    // and hold a low and a high map file; the anchors file has no bad line; both are accepted under its anchors, and the lines
+    // written are those of the bounds that they show.
     ensures done { (a : Around D) → Ends D.view a 0 → IsDoneRun D.view a }
 
     // Status 1: the words are `verify` or `strict`, the proof file is there, its bytes spell no proof that is accepted
@@ -57,7 +61,12 @@ pub fn status_laws<D: Disk>()
     // of another command that comes to an answer of this status, whose text was written whole. Of `accuse` all files are there
     // and hold the proofs of two received threads and, where one is named, a link, and the number written is that of the
     // part that doesn't fit. Of `checkfork` the file is there, the anchors file is there and has no bad line, and the line
-    // names the first reason that stands against the file's bytes under these anchors.
+    // names the first reason that stands against the file's bytes under these anchors. Of `audit` all files are there, the
+    // anchors file has no bad line, and the other ones are of sound histories; the line names the lowest reason that stands
+    // against the proof, carried threads allowed, or else the first thread held that the histories don't have. Of `checkmap`
+    // all files are there and hold a low and a high map file, and the anchors file has no bad line; the line says that the
+    // second doesn't fit the first, where they don't speak of one step of one service and of one peer, or else names the
+    // lowest reason that stands against them under these anchors.
     ensures rejected { (a : Around D) → Ends D.view a 1 → IsRejectedRun a ⊎ IsGapRun a ⊎ IsAnsweredRun D.view a 1 }
     // Status 2: the words have no form, and the number written is that of the first word at which none goes on; or they
     // have one that isn't built, and it is 0.
@@ -99,7 +108,15 @@ pub fn status_laws<D: Disk>()
     // the file is longer; else the first byte at which no history file goes on; else the first step that breaks a rule of
     // sound histories, and its first broken rule. Status 9 of `accuse`: all files are there, and the line tells the first
     // that holds no part of its kind, and its first byte at which none goes on. Status 9 of `checkfork`: as of `verify`.
+    // Status 9 of `atlas`: all files are there, and the line tells the first that doesn't hold receipts alone, and its first
+    // byte at which none goes on, or the first one behind as many as there may be. Status 9 of `audit`: all files are there,
+    // and the line tells the first bad line of the anchors file; or else of the first file that is no history beside those
+    // before it the byte of what is left of the limit, its first byte at which none goes on, its first step that breaks a
+    // rule, or the byte of its name, where a file before it is of that service. Status 9 of `checkmap`: all files are there,
+    // and the line tells the first of both that holds no map file of its kind, and its first byte at which none goes on; or
+    // else the first bad line of the anchors file.
     ensures unreadable { (a : Around D) → Ends D.view a 9 → (bad : BadInput) × IsUndoneRun D.view a (Unreadable bad) }
-    // Status 10: the words are of a command that comes to an answer of this status, and its text was written whole.
+    // Status 10: the words are of a command that comes to an answer of this status, and its text was written whole. (That
+    // the command is `audit` alone, `clash` of `run` says.)
     ensures clash { (a : Around D) → Ends D.view a 10 → IsAnsweredRun D.view a 10 }
 {}

@@ -1,16 +1,20 @@
 // All that the program does, over any disk, inputs and sink.
 #![tactic(auto)]
 
+mod alike;
 mod ending;
 mod following;
 mod judging;
 mod laws;
+mod mapping;
 mod outcome;
 mod printing;
 mod store;
 
+pub use alike::one_answer_laws;
 pub use ending::{Ran, end_without_memory, run};
 pub use judging::judging_laws;
 pub use laws::status_laws;
+pub use mapping::map_run_laws;
 pub use outcome::Outcome;
 pub use store::{Store, StoreAccess, store_laws, store_of};

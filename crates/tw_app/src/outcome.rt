@@ -1,15 +1,16 @@
 // What a run of the program comes to.
 
 ghost use Rattle.std.specs.Prelude.{◌≡◌};
-ghost use Rattle.tw_app.specs.Outcomes.{of_accused, of_fork, outcome_by};
+ghost use Rattle.tw_app.specs.Outcomes.{of_accused, of_audited, of_fork, of_mapped, of_planned, outcome_by};
 ghost use Rattle.tw_app.specs.declared.outcome.Outcome.TheVariants.{Joined as OfJoined, Judged as OfVerdict, Made as OfThread, Written as OfBytes};
 
 use tw_base::{Bytes, Thread};
 use tw_chain::Verdict;
 use tw_evidence::ForkVerdict;
 use tw_filecmd::Joined;
-use tw_reachcmd::{Accused, Answer};
+use tw_reachcmd::{Accused, Answer, Audited, Planned};
 use tw_text::CommandFault;
+use tw_tmap::MapVerdict;
 
 /// What a run comes to, apart from whether its text could be written.
 #[derive(Drop, Debug)]
@@ -87,6 +88,36 @@ pub(crate) fn fork_judged(came: Result<ForkVerdict, CommandFault>) -> Outcome
 {
     match came {
         Ok(verdict) => Outcome::Answered(Answer::Fork(verdict)),
+        Err(fault) => Outcome::Undone(fault),
+    }
+}
+
+/// The outcome of an atlas.
+pub(crate) fn planned(came: Result<Planned, CommandFault>) -> Outcome
+    ensures { result ≡ outcome_by of_planned came }
+{
+    match came {
+        Ok(planned) => Outcome::Answered(Answer::Planned(planned)),
+        Err(fault) => Outcome::Undone(fault),
+    }
+}
+
+/// The outcome of an audit.
+pub(crate) fn audited(came: Result<Audited, CommandFault>) -> Outcome
+    ensures { result ≡ outcome_by of_audited came }
+{
+    match came {
+        Ok(audited) => Outcome::Answered(Answer::Audited(audited)),
+        Err(fault) => Outcome::Undone(fault),
+    }
+}
+
+/// The outcome of map files that were judged.
+pub(crate) fn mapped(came: Result<MapVerdict, CommandFault>) -> Outcome
+    ensures { result ≡ outcome_by of_mapped came }
+{
+    match came {
+        Ok(verdict) => Outcome::Answered(Answer::Mapped(verdict)),
         Err(fault) => Outcome::Undone(fault),
     }
 }

@@ -68,9 +68,7 @@ module _ (dig : List ℕ → List ℕ) (size : (text : List ℕ) → length (dig
         record {
           accepted = accepted;
           has_held = has;
-          first = some;
-          clash = c;
-          digests = (refl, sym (ap dig (sym c.1) ∙ c.0.one_digest ∙ ap dig c.2));
+          pair = record { first = some; clash = c; digests = (refl, sym (ap dig (sym c.1) ∙ c.0.one_digest ∙ ap dig c.2)) };
         }
 
     -- what is found of an accepted proof is so
@@ -120,7 +118,7 @@ module _ (dig : List ℕ → List ℕ) (size : (text : List ℕ) → length (dig
         where
           by : (r : Result Finding AuditFault) → AnswerMeans dig family anchors p r → TellsClash dig (audited_texts dig family p) r
           by (Ok (Stands report)) holds = holds.no_clash clash
-          by (Ok (Clash one other digest)) clashes = (clashes.clash.0, clashes.clash.1, clashes.clash.2, clashes.digests.0)
+          by (Ok (Clash one other digest)) clashes = clashes.pair
           by (Ok (NotAccepted reason)) rejects = rejects.0 accepted
           by (Err (NotHeld t found)) lacks = missing-none t found lacks
           by (Err NoMemory) free = tt
@@ -131,7 +129,7 @@ module _ (dig : List ℕ → List ℕ) (size : (text : List ℕ) → length (dig
         where
           by : (r : Result Finding AuditFault) → AnswerMeans dig family anchors p r → (r ≡ Ok (Stands (report_of p))) ⊎ (r ≡ Err NoMemory)
           by (Ok (Stands report)) holds = inl (ap (λ told. Ok (Stands told)) holds.is_report)
-          by (Ok (Clash one other digest)) clashes = absurd (apart clashes.clash.0)
+          by (Ok (Clash one other digest)) clashes = absurd (apart clashes.pair.clash.0)
           by (Ok (NotAccepted reason)) rejects = absurd (rejects.0 accepted)
           by (Err (NotHeld t found)) lacks = absurd (missing-none t found lacks)
           by (Err NoMemory) free = inr refl

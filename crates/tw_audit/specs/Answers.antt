@@ -16,6 +16,13 @@ use Rattle.tw_audit.specs.declared.finding.Finding.{Finding}
 use Rattle.tw_audit.specs.declared.finding.Finding.TheVariants.{Stands, Clash, NotAccepted}
 use Rattle.tw_audit.specs.Auditing.{audited_texts, auth_in}
 
+-- two texts that differ, both among these and of bytes, and their one digest: the first text that clashes with an earlier one, and the
+-- earliest with which it does
+pub record IsClashPair (dig : List ℕ → List ℕ) (texts : List (List ℕ)) (one other digest : List ℕ) : Type 0 where
+  pub first : clash_pair dig texts ≡ Some (record { one = one; other = other })
+  pub clash : (c : Clashing dig texts) × (c.one ≡ one) × (c.other ≡ other)
+  pub digests : (dig one ≡ digest) × (dig other ≡ digest)
+
 module _ (dig : List ℕ → List ℕ) (family : List History) (anchors : List Thread) (p : Proof) where
   -- the proof is accepted, the histories have the threads held, no two of their texts and the proof's clash, and what the
   -- proof's report claims is so of them, by the report's own hops; where it has no hops the times rise
@@ -27,14 +34,11 @@ module _ (dig : List ℕ → List ℕ) (family : List History) (anchors : List T
     pub facts : Facts dig family report.hops report.claim
     pub times : TimesRise report.hops report.claim
 
-  -- the proof is accepted, the histories have the threads held, and these two of their texts and the proof's clash: the first
-  -- one whose digest an earlier different one has, and the earliest such
+  -- the proof is accepted, the histories have the threads held, and of their texts and the proof's these are the pair that clashes
   pub record TextsClash (one other digest : List ℕ) : Type 0 where
     pub accepted : IsAccepted dig anchors p
     pub has_held : HasThreads dig family (held anchors p)
-    pub first : clash_pair dig (audited_texts dig family p) ≡ Some (record { one = one; other = other })
-    pub clash : (c : Clashing dig (audited_texts dig family p)) × (c.one ≡ one) × (c.other ≡ other)
-    pub digests : (dig one ≡ digest) × (dig other ≡ digest)
+    pub pair : IsClashPair dig (audited_texts dig family p) one other digest
 
   -- the proof is accepted, and of the threads held this is the first that the histories don't have; they have this authenticator
   -- at its step, or none
@@ -51,8 +55,8 @@ module _ (dig : List ℕ → List ℕ) (family : List History) (anchors : List T
   AnswerMeans (Err (NotHeld t found)) = ThreadMissing t found
   AnswerMeans (Err NoMemory) = Unit {0}
 
--- want of memory, or a clash of two different texts of bytes, both among these, with one digest, which the answer tells
+-- want of memory, or the pair of these texts that clashes, which the answer tells with its digest
 abbrev pub TellsClash : (dig : List ℕ → List ℕ) (texts : List (List ℕ)) → Result Finding AuditFault → Type 0
-TellsClash dig texts (Ok (Clash one other digest)) = (c : Clashing dig texts) × (c.one ≡ one) × (c.other ≡ other) × (dig one ≡ digest)
+TellsClash dig texts (Ok (Clash one other digest)) = IsClashPair dig texts one other digest
 TellsClash dig texts (Err NoMemory) = Unit {0}
 TellsClash dig texts _ = ⊥

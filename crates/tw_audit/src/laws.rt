@@ -25,8 +25,8 @@ pub fn audit_laws<H: Hasher>()
     // differ and have the digest; a thread that isn't held is the first that the histories don't have.
     ensures means { (family : List History) (anchors : List Thread) (bytes : List ℕ) (p : Proof) (result : Result Finding AuditFault) →
         AllSound family → Spells proof_layout bytes p → IsAudit H.dig family anchors bytes result → AnswerMeans H.dig family anchors p result }
-    // Where two texts of sound histories that have the threads held and of an accepted proof clash, an audit tells such a
-    // pair, or there was no memory.
+    // Where two texts of sound histories that have the threads held and of an accepted proof clash, an audit tells a pair, or
+    // there was no memory: the first of the texts whose digest an earlier different one has, and the earliest such one.
     ensures finds { (family : List History) (anchors : List Thread) (bytes : List ℕ) (p : Proof) (result : Result Finding AuditFault) →
         AllSound family → Spells proof_layout bytes p → IsAccepted H.dig anchors p → HasThreads H.dig family (held anchors p) →
         Clash H.dig (audited_texts H.dig family p) → IsAudit H.dig family anchors bytes result → TellsClash H.dig (audited_texts H.dig family p) result }

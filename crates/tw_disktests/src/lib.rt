@@ -16,6 +16,8 @@ mod file_inputs;
 #[cfg(test)]
 mod folders;
 #[cfg(test)]
+mod reaching_runs;
+#[cfg(test)]
 mod runs;
 #[cfg(test)]
 mod showing;

@@ -1,3 +1,9 @@
 pub mod FileFronts
 pub mod EvidenceFiles
 pub mod PartFiles
+pub mod MapFiles
+pub mod TellingAll
+pub mod ReceiptFiles
+pub mod HistoryFiles
+pub mod KeptFronts
+pub mod AuditFiles

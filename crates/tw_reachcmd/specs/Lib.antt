@@ -3,4 +3,13 @@ pub mod Held
 pub mod Parts
 pub mod Forks
 pub mod Accusing
+pub mod Maps
+pub mod ReadMaps
+pub mod Planning
+pub mod ReadingReceipts
+pub mod Histories
+pub mod Reading
+pub mod Fronts
+pub mod Auditing
+pub mod AuditTexts
 pub mod Answers

@@ -4,10 +4,16 @@ ghost use Rattle.std.specs.Prelude.{◌≡◌, IfOk};
 ghost use Rattle.tw_reachcmd.specs.Answers.{answer_status as answer_status_of, answer_text};
 
 use crate::accusing::Accused;
+use crate::audit_text::print_audited;
+use crate::auditing::Audited;
+use crate::planning::Planned;
 use std::alloc::Global;
+use tw_atlas::print_atlas;
+use tw_audit::Finding;
 use tw_base::{Bytes, NoMemory};
 use tw_evidence::{ForkVerdict, print_fork};
 use tw_text::print_gap;
+use tw_tmap::{MapVerdict, print_map};
 
 /// What a command came to that was done.
 #[derive(Drop, Debug)]
@@ -16,6 +22,12 @@ pub enum Answer {
     Accused(Accused),
     /// The evidence of a fork was judged.
     Fork(ForkVerdict),
+    /// A proof was held against histories.
+    Audited(Audited),
+    /// Where receipts lead from a step was found.
+    Planned(Planned),
+    /// Two map files were judged.
+    Mapped(MapVerdict),
 }
 
 /// The status of a run that came to this answer.
@@ -24,8 +36,16 @@ pub fn answer_status(answer: &Answer) -> u8
     ensures { result ≡ answer_status_of answer.now }
 {
     match answer {
-        Answer::Accused(Accused::Whole(_)) | Answer::Fork(ForkVerdict::Yes(_)) => 0,
-        Answer::Accused(Accused::Unfit { .. }) | Answer::Fork(ForkVerdict::No(_)) => 1,
+        Answer::Accused(Accused::Whole(_))
+        | Answer::Fork(ForkVerdict::Yes(_))
+        | Answer::Planned(_)
+        | Answer::Mapped(MapVerdict::Yes { .. })
+        | Answer::Audited(Audited::Found(Finding::Stands(_))) => 0,
+        Answer::Accused(Accused::Unfit { .. })
+        | Answer::Fork(ForkVerdict::No(_))
+        | Answer::Mapped(MapVerdict::No(_) | MapVerdict::Gap)
+        | Answer::Audited(Audited::Found(Finding::NotAccepted(_)) | Audited::Unheld { .. }) => 1,
+        Answer::Audited(Audited::Found(Finding::Clash { .. })) => 10,
     }
 }
 
@@ -38,5 +58,13 @@ pub fn print_answer(alloc: Global, answer: &Answer) -> Result<Bytes, NoMemory>
         Answer::Accused(Accused::Whole(evidence)) => Bytes::from_slice(alloc, evidence.as_slice()),
         Answer::Accused(Accused::Unfit { place }) => print_gap(alloc, *place),
         Answer::Fork(verdict) => print_fork(alloc, verdict),
+        Answer::Audited(audited) => print_audited(alloc, audited),
+        Answer::Planned(planned) => print_atlas(
+            alloc,
+            &planned.start.from,
+            planned.start.step,
+            &planned.atlas,
+        ),
+        Answer::Mapped(verdict) => print_map(alloc, verdict),
     }
 }

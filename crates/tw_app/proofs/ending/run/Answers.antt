@@ -1,4 +1,7 @@
-use Rattle.tw_app.proofs.Endings.{accepted, crash, statuses, unwritten}
+use Rattle.tw_app.proofs.Endings.{accepted, clash, crash, statuses, unwritten}
+use Rattle.tw_app.proofs.Audits.{clashes, stands}
+use Rattle.tw_app.proofs.AuditsFound.{finds}
+use Rattle.tw_app.proofs.MapRuns.{between}
 use Rattle.tw_app.proofs.ending.run.Goals as goal
 
 pub returns-clause-accepted : goal.returns-clause-accepted
@@ -12,3 +15,17 @@ returns-clause-crash g c = crash g.D.Disk.view g.met.D.Disk.only_now g.met.D.Dis
 
 pub returns-clause-unwritten : goal.returns-clause-unwritten
 returns-clause-unwritten g c = unwritten g.D.Disk.view g.met.D.Disk.only_now g.met.D.Disk.as_it_reads _ _ c.run_to_the_end.ensures
+
+pub returns-clause-stands : goal.returns-clause-stands
+returns-clause-stands g c = stands g.D.Disk.view _ _ c.run_to_the_end.ensures
+
+pub returns-clause-clash : goal.returns-clause-clash
+returns-clause-clash g c = λ tenth.
+    let run = c.run_to_the_end.ensures in
+    clashes g.D.Disk.view _ _ run tenth (clash g.D.Disk.view g.met.D.Disk.only_now g.met.D.Disk.as_it_reads _ _ run tenth)
+
+pub returns-clause-finds : goal.returns-clause-finds
+returns-clause-finds g c = λ bytes anchors family is. finds g.D.Disk.view _ _ bytes anchors family is c.run_to_the_end.ensures
+
+pub returns-clause-between : goal.returns-clause-between
+returns-clause-between g c = between g.D.Disk.view _ _ c.run_to_the_end.ensures
