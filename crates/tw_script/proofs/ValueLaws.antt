@@ -1,0 +1,47 @@
+-- Words are taken as values, one after another.
+use Rattle.std.proofs.Common.{◌≡◌, ℕ, List, [], ◌∷◌, ◌++◌, Option, Some, None, option_map, Ok, Err, ap, sym, ◌∙◌, refl, append-nil, append_assoc}
+use Rattle.tw_script.specs.LineForms.{all_values}
+use Rattle.tw_script.specs.Takings.{Reads}
+use Rattle.tw_script.specs.declared.stop.Stop.{Stop}
+use Rattle.tw_script.specs.declared.stop.Stop.TheVariants.{NotAllowed, NoMemory}
+
+module _ {V : Type 0} where
+  -- values that were taken, and then those of the rest
+  abbrev pub behind : List V → Option (List V) → Option (List V)
+  behind values more = option_map (λ rest. values ++ rest) more
+
+  behind-none : (more : Option (List V)) → behind [] more ≡ more
+  behind-none (Some rest) = refl
+  behind-none None = refl
+
+  behind-one : (values : List V) (v : V) (more : Option (List V)) → behind values (option_map (λ rest. v ∷ rest) more) ≡ behind (values ++ v ∷ []) more
+  behind-one values v (Some rest) = ap (λ (vs : List V). Some vs) (sym (append_assoc values (v ∷ []) rest))
+  behind-one values v None = refl
+
+module _ {V : Type 0} (part : List ℕ → Option V) where
+  -- so many of all words are taken, as these values, and these are left
+  pub record AreTaken (all left : List (List ℕ)) (values : List V) : Type 0 where
+    pub are : all_values part all ≡ behind values (all_values part left)
+
+  pub none-taken : (all : List (List ℕ)) → AreTaken all all []
+  none-taken all = record { are = sym (behind-none (all_values part all)) }
+
+  module _ (all left : List (List ℕ)) (values : List V) where
+    pub more-taken : (word : List ℕ) (v : V) → AreTaken all (word ∷ left) values → part word ≡ Some v → AreTaken all left (values ++ v ∷ [])
+    unfolding all_values
+    more-taken word v before some = record {
+      are = before.are ∙ rw some (behind-one values v (all_values part left));
+    }
+
+    pub taken-stops : (word : List ℕ) → AreTaken all (word ∷ left) values → part word ≡ None → all_values part all ≡ None
+    unfolding all_values
+    taken-stops word before none = before.are ∙ rw none refl
+
+    pub stop-taken : {Y Z : Type 0} (view : Y → V) (views : Z → List V) (word : List ℕ) (stop : Stop) → AreTaken all (word ∷ left) values
+        → Reads (part word) view (Err stop) → Reads (all_values part all) views (Err stop)
+    stop-taken view views word NotAllowed before none = taken-stops word before none
+    stop-taken view views word NoMemory before free = tt
+
+  pub all-taken : (all : List (List ℕ)) (values : List V) → AreTaken all [] values → all_values part all ≡ Some values
+  unfolding all_values
+  all-taken all values before = before.are ∙ ap (λ (vs : List V). Some vs) (append-nil values)

@@ -1,0 +1,11 @@
+pub mod LineWords
+pub mod LineForms
+pub mod LineTable
+pub mod Injected
+pub mod Allowed
+pub mod Scripts
+pub mod ScriptLines
+pub mod AskedWords
+pub mod Takings
+pub mod LineTakings
+pub mod ScriptSteps

@@ -1,0 +1,109 @@
+// The lines of scripts.
+
+use tw_base::{Bytes, EventList, Name, Sequence};
+
+/// A line of a script, with the values of its words in their order. A number of a message or of a file counts those that
+/// the script's lines make, from 1.
+#[derive(Drop, Debug)]
+pub enum Line {
+    /// `service NAME`: makes a service.
+    Service {
+        name: Name,
+    },
+    /// `hostile NAME`: declares a hostile name, which is no service's.
+    Hostile {
+        name: Name,
+    },
+    /// `append NAME BYTES ..`: appends a step with these events to the service's history.
+    Append {
+        service: Name,
+        events: EventList,
+    },
+    /// `send NAME SINCE`: makes the next message, of the service's last step, since a step.
+    Send {
+        service: Name,
+        since: u64,
+    },
+    /// `inject NAME BYTES`: makes the next message of these bytes, in a hostile name.
+    Inject {
+        name: Name,
+        bytes: Bytes,
+    },
+    /// `deliver N NAME`: gives a message to the service.
+    Deliver {
+        message: u64,
+        service: Name,
+    },
+    /// `drop N`: a message is lost.
+    Lose {
+        message: u64,
+    },
+    /// `crash NAME CALL CHOICE`: the service's next append or delivery is stopped at this device call, counted from 1.
+    Crash {
+        service: Name,
+        call: u64,
+        choice: CrashChoice,
+    },
+    /// `prove NAME ..`: makes the next file, a proof of the service's history.
+    Prove {
+        service: Name,
+        asked: AskedProof,
+    },
+    /// `join N N ..`: joins files, at least two, into the next one.
+    Join {
+        files: Sequence<u64>,
+    },
+    /// `anchor NAME STEP`: holds the service's authenticator at a step, from 1 to 2^40 - 1.
+    Anchor {
+        service: Name,
+        step: u64,
+    },
+    /// `verify N`: judges a file under the anchors held.
+    Verify {
+        file: u64,
+    },
+}
+
+/// What a proof is asked of, with the words that the command `prove` has behind its folder. Where `top` is None the last step
+/// is meant.
+#[derive(Clone, Copy, Drop, Debug)]
+pub enum AskedProof {
+    /// `event STEP INDEX [TOP]`: that an event stands in a step.
+    OfEvent {
+        step: u64,
+        index: u64,
+        top: Option<u64>,
+    },
+    /// `thread STEP PEER K [TOP]`: that a peer's step is archived by a step.
+    OfThread {
+        step: u64,
+        peer: Name,
+        k: u64,
+        top: Option<u64>,
+    },
+    /// `absent STEP PEER K [TOP]`: that a peer's step isn't archived by a step.
+    OfAbsence {
+        step: u64,
+        peer: Name,
+        k: u64,
+        top: Option<u64>,
+    },
+    /// `link STEP [TOP]`: the authenticator of a step.
+    OfLink {
+        step: u64,
+        top: Option<u64>,
+    },
+}
+
+/// What a crash leaves of each page that was written since the last good barrier.
+#[derive(Clone, Copy, PartialEq, Eq, Drop, Debug)]
+pub enum CrashChoice {
+    /// `0`: its old bytes, with the old page count.
+    Old,
+    /// `1`: its new bytes.
+    New,
+    /// `2`: zeros.
+    Zeros,
+    /// `3`: bytes of the value 1.
+    Ones,
+}
