@@ -1,6 +1,9 @@
-//! Tests of the crates that hold proofs against more than their anchors: audits, atlases, maps, and evidence of a fork.
+//! Tests of the crates that hold proofs against more than their anchors: audits, atlases, maps, evidence of a fork, and
+//! histories taken over; and of scripts.
 #![tactic(auto)]
 
+#[cfg(test)]
+mod adoptions;
 #[cfg(test)]
 mod atlases;
 #[cfg(test)]
@@ -9,3 +12,5 @@ mod audits;
 mod evidence;
 #[cfg(test)]
 mod maps;
+#[cfg(test)]
+mod scripts;

@@ -1,0 +1,7 @@
+pub mod SameTexts
+pub mod SameHistories
+pub mod Fronts
+pub mod HearingLaws
+pub mod StopLaws
+pub mod WeighingLaws
+pub mod AdoptionLaws

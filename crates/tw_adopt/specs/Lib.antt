@@ -1,0 +1,5 @@
+pub mod FirstSteps
+pub mod Adopting
+pub mod Binding
+pub mod Hearing
+pub mod Stops

@@ -1,0 +1,50 @@
+// The laws of histories that are the same up to a step, and of taking over a history.
+
+ghost use Rattle.std.specs.Prelude.{◌≡◌, ◌≤◌, ◌++◌, ℕ, List, length, Ok, Result, IfErr};
+ghost use Rattle.tw_base.specs.declared.history.thread.Thread.{Thread};
+ghost use Rattle.tw_base.specs.history.Auth.{auth};
+ghost use Rattle.tw_base.specs.history.History.{History};
+ghost use Rattle.tw_base.specs.history.HistoryCodec.{history_bytes};
+ghost use Rattle.tw_base.specs.history.HistoryTexts.{history_texts};
+ghost use Rattle.tw_base.specs.history.Sound.{IsSound};
+ghost use Rattle.tw_base.specs.kinds.Clash.{OrClash};
+ghost use Rattle.tw_adopt.specs.Adopting.{AreGood, IsAdoption, IsFirstFault};
+ghost use Rattle.tw_adopt.specs.FirstSteps.{Same, first_steps};
+ghost use Rattle.tw_adopt.specs.declared.adopted.AdoptFault.{AdoptFault};
+ghost use Rattle.tw_adopt.specs.declared.adopted.AdoptFault.TheVariants.{NoMemory};
+ghost use Rattle.tw_adopt.specs.declared.adopted.Adopted.{Adopted};
+ghost use Rattle.tw_adopt.specs.declared.receiving.Receiving.{Receiving};
+
+use tw_base::Hasher;
+
+/// What an authenticator says of a history: all that it stands for.
+pub fn same_laws<H: Hasher>()
+    // Two sound histories that have one authenticator at a step that both have are of one service, and have the same contents,
+    // times and trees of the archive at each step up to there; or two different texts of theirs, both of bytes, have one digest.
+    ensures same { (h other : History) (step : ℕ) → IsSound h → IsSound other → step ≤ length h.steps → step ≤ length other.steps →
+        auth H.dig h step ≡ auth H.dig other step → OrClash H.dig (history_texts H.dig h ++ history_texts H.dig other) (Same h other step) }
+{}
+
+/// What the first steps of a history keep of it.
+pub fn first_steps_laws<H: Hasher>()
+    // The first steps of a sound history are sound.
+    ensures sound { (h : History) (count : ℕ) → IsSound h → IsSound (first_steps h count) }
+    // They are the same as the history up to each of them, and have its authenticator there.
+    ensures same { (h : History) (count step : ℕ) → step ≤ count → step ≤ length h.steps →
+        Same h (first_steps h count) step × (auth H.dig (first_steps h count) step ≡ auth H.dig h step) }
+    // Their file isn't longer than the history's.
+    ensures short { (h : History) (count : ℕ) → length (history_bytes (first_steps h count)) ≤ length (history_bytes h) }
+{}
+
+/// That a history is taken over exactly where no proof has a fault, but for want of memory.
+pub fn adopt_laws<H: Hasher>()
+    // Where none of the proofs has a fault, each proof before it being good, the history is taken over, or there was no memory.
+    ensures complete { (anchors : List Thread) (h : History) (proofs : List (List ℕ)) (result : Result Adopted AdoptFault) →
+        ((fault : AdoptFault) → IsFirstFault H.dig anchors h 1 proofs fault → ⊥) → IsAdoption H.dig anchors h proofs result → IfErr result (λ fault. fault ≡ NoMemory) }
+    // Where one has a fault, each proof before it being good, it isn't taken over.
+    ensures refused { (anchors : List Thread) (h : History) (proofs : List (List ℕ)) (fault : AdoptFault) (a : Adopted) →
+        IsFirstFault H.dig anchors h 1 proofs fault → IsAdoption H.dig anchors h proofs (Ok a) → ⊥ }
+    // Where each is good, none has a fault.
+    ensures good { (anchors : List Thread) (h : History) (proofs : List (List ℕ)) (shown : List Receiving) (fault : AdoptFault) →
+        AreGood H.dig anchors h proofs shown → IsFirstFault H.dig anchors h 1 proofs fault → ⊥ }
+{}
