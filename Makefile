@@ -13,7 +13,7 @@ PROOF = crates/timeweave/data/p
 AUTH = 9f9cc8f6baef592ed6bf90b106ebe7b882f59a1cc9803a6d1eef6974da5f87ed
 OTHER = 0f9cc8f6baef592ed6bf90b106ebe7b882f59a1cc9803a6d1eef6974da5f87ed
 
-.PHONY: build demo test check crash wrong-bodies bench install
+.PHONY: build demo test check crash fuzz wrong-bodies bench install
 
 # Builds the program. Only a proved program is built: the first build on a machine proves every crate below it first, which takes
 # long; later ones prove what changed, and what is proved serves the gate too.
@@ -22,8 +22,8 @@ build:
 	python3 tools/build.py timeweave
 
 # Builds the program, and shows a proof accepted, the same proof rejected under another authenticator, two services that keep
-# their histories on disk, proofs from a history that recorded threads of other services, and one that an event of a service precedes
-# an event of another.
+# their histories on disk, proofs from a history that recorded threads of other services, one that an event of a service precedes
+# an event of another, and an audit of such a one.
 demo: build
 	@echo; echo '$$ timeweave verify p a 1 $(AUTH)'
 	@$(PROGRAM) verify $(PROOF) a 1 $(AUTH)
@@ -32,6 +32,7 @@ demo: build
 	@echo; examples/two_services.sh $(PROGRAM)
 	@echo; examples/archived_threads.sh $(PROGRAM)
 	@echo; examples/event_chain.sh $(PROGRAM)
+	@echo; examples/audited_chain.sh $(PROGRAM)
 
 # The gate: every proof, wrong body, test and program, and then the acceptance run.
 test:
@@ -51,6 +52,14 @@ $(TREES):
 # Tries all that a loss of power may leave of a store on the built program, of which `make check` tries some.
 crash: | $(PROGRAM)
 	python3 tests/acceptance/power.py $(PROGRAM)
+
+# Runs the built program beside the reference on inputs drawn by chance, for so many seconds, and writes the first run that differs into fuzz.json;
+# `make check` does 2,000 such runs. The same seed gives the same runs: `make fuzz SECONDS=600 SEED=another`.
+SECONDS ?= 60
+SEED ?= 1
+
+fuzz: | $(PROGRAM)
+	python3 tests/acceptance/fuzz.py $(PROGRAM) $(SECONDS) $(SEED)
 
 # The wrong bodies that the gate leaves out, which tries those that tell most; over a copy of this tree. `make wrong-bodies
 # NAMES="tw_base tw_disk"` tries those of these crates alone.

@@ -28,6 +28,7 @@ from picture import drawn  # noqa: E402
 from rivals import all_rivals  # noqa: E402
 from stores import Store, events_file  # noqa: E402
 from timing import best_times  # noqa: E402
+from whole_histories import audit_lines  # noqa: E402
 
 FRONT = 4 * 4096
 TRUE = "/bin/true"
@@ -92,8 +93,18 @@ class Bench:
     def prove(self, store, step):
         return [self.program, "prove", store.folder, "event", str(step), "0"]
 
-    def append(self, store):
-        return [self.program, "append", store.folder, self.events]
+    def append(self, store, *time):
+        return [self.program, "append", store.folder, self.events, *time]
+
+    def tell(self, store, since):
+        return [self.program, "thread", store.folder, str(since)]
+
+    def link(self, store, step):
+        return [self.program, "prove", store.folder, "link", str(step)]
+
+    def one_sync(self, store):
+        """The row of a program that opens a store, syncs it and ends, where there is a C compiler."""
+        return [("the calls of one sync", [self.calls, f"open 3 r {store.path}", "sync 3"])] if self.calls else []
 
     def same_calls(self, label, words, store=None):
         """The row of the same calls in C, where they can be traced."""
@@ -125,10 +136,11 @@ def compared(title, rows, runs, before=lambda: None):
 
 
 def comparisons(bench):
-    """`verify`, `prove` and `append` beside nothing, beside the same calls in C, and beside other programs."""
+    """The commands beside nothing, beside the same calls in C, and beside other programs."""
     plan, store = bench.plan, Kept(bench.folder, bench.plan.compared)
     rivals, missing = all_rivals(bench.folder, plan.compared)
-    prove, append = bench.prove(store, 1), bench.append(store)
+    prove, append, timed = bench.prove(store, 1), bench.append(store), bench.append(store, "1700000000")
+    tell, far, link = bench.tell(store, store.count - 1), bench.tell(store, 1), bench.link(store, 1)
     wanted = [
         ("verify", [
             *bench.same_calls(f"the calls of `verify`, {size_of(bench.deep)}", bench.deep),
@@ -136,11 +148,23 @@ def comparisons(bench):
             (f"`timeweave verify`, {size_of(bench.deep)}", bench.deep),
         ], plan.runs, lambda: None),
         ("prove", [*bench.same_calls("the calls of `prove`", prove), ("`timeweave prove`, step 1", prove)], plan.runs, lambda: None),
-        ("append", [*bench.same_calls("the calls of `append`", append, store), ("`timeweave append`", append)], plan.appends, store.put_back),
+        ("append", [
+            *bench.same_calls("the calls of `append`", append, store),
+            ("`timeweave append`", append),
+            *bench.same_calls("the calls of `append`, at a time", timed, store),
+            ("`timeweave append`, at a time", timed),
+        ], plan.appends, store.put_back),
+        ("thread", [
+            *bench.one_sync(store),
+            *bench.same_calls("the calls of `thread`", tell),
+            ("`timeweave thread`, since the step before", tell),
+            ("`timeweave thread`, since step 1", far),
+        ], plan.runs, lambda: None),
+        ("prove link", [*bench.same_calls("the calls of `prove link`", link), ("`timeweave prove`, link to step 1", link)], plan.runs, lambda: None),
     ]
     text = []
     for title, rows, runs, before in wanted:
-        text += compared(title, rows + rivals[title], runs, before)
+        text += compared(title, rows + rivals.get(title, []), runs, before)
     missing += [name for name in ("strace", "cc") if not shutil.which(name)]
     if missing:
         text += ["", f"Not installed, so that what needs them isn't measured: {', '.join(missing)}."]
@@ -166,6 +190,32 @@ def store_tables(bench):
         "", "`append` of one event, beside a program in C that makes the same calls on files (`same_calls.c`):", "",
         f"| steps before | the calls alone, best of {bench.plan.appends}, in microseconds | `append`, the same | ratio |", "|---|---|---|---|",
         *appends,
+    ]
+
+
+def growth_table(bench):
+    """What each command reads and computes on stores of several sizes."""
+    asked = {
+        "`append`": lambda store: bench.append(store),
+        "`append`, at a time": lambda store: bench.append(store, "1700000000"),
+        "`thread`, since step 1": lambda store: bench.tell(store, 1),
+        "`prove link`, step 1": lambda store: bench.link(store, 1),
+        "`prove event`, step 1": lambda store: bench.prove(store, 1),
+    }
+    if not shutil.which("valgrind"):
+        return ["", "Growth wasn't measured: valgrind isn't installed."]
+    lines = []
+    for count in bench.plan.stores:
+        store, cells = Kept(bench.folder, count), []
+        for words in (command(store) for command in asked.values()):
+            pages = bench.pages(words)
+            store.put_back()
+            cells.append(f"{pages}; {counted(words, bench.folder)[0]:,}")
+            store.put_back()
+        lines.append(f"| {count:,} | {' | '.join(cells)} |")
+    return [
+        "", "Whole pages that each command reads, and all its instructions, with the loader and the C library, on stores of steps of one event each:", "",
+        f"| steps | {' | '.join(asked)} |", f"|---{'|---' * len(asked)}|", *lines,
     ]
 
 
@@ -231,7 +281,7 @@ def introduction(plan):
         f"By `make bench`, on {platform.machine()} with {os.cpu_count()} processors, {platform.system()}. Each time is that of a whole command, the",
         "best of many runs that took turns; ratios are to `/bin/true`, which is what starting a program takes.", "",
         f"The longer proof of `verify` has a path of 40 links, from step {TOP_STEP:,} to step {STEP}, and is of one of 1,024 events. The store of",
-        f"`prove` and `append` has {plan.compared:,} steps of one event each; the table and the repository beside it have as many rows and commits.",
+        f"the other commands has {plan.compared:,} steps of one event each; the table and the repository beside it have as many rows and commits.",
         "The rows of the calls are of a program in C, `same_calls.c`, that makes the calls on files that `strace` sees the command make. The other",
         "programs give something else than a proof gives (`rivals.py` says what each does): they tell how long commands take that are known.", "",
         "![each command's time as a ratio to /bin/true](RESULTS.svg)",
@@ -245,7 +295,8 @@ def main():
     plan = Plan(is_trial)
     with tempfile.TemporaryDirectory() as folder:
         bench = Bench(program, folder, plan)
-        text = introduction(plan) + comparisons(bench) + store_tables(bench) + shown_tables(bench) + instruction_table(bench)
+        text = introduction(plan) + comparisons(bench) + store_tables(bench) + growth_table(bench) + shown_tables(bench)
+        text += audit_lines(program, folder, plan.histories, plan.histories[0]) + instruction_table(bench)
         text += in_process_lines(bench)
         text += tree_lines(plan, folder)
     result = "\n".join(text) + "\n"

@@ -1,4 +1,4 @@
-"""How long commands take: the best time of many runs that take turns."""
+"""How long commands take: the best time of many runs that take turns; and what one run costs by itself."""
 
 import os
 import shutil
@@ -30,3 +30,14 @@ def best_times(commands, runs, before=lambda: None):
             best[i] = min(best[i], seconds(words, null))
     os.close(null)
     return best
+
+
+def cost(words):
+    """The processor time of a run of a command, in seconds, which other work beside it hardly changes, and the most memory that it has at a time, in bytes."""
+    null = os.open("/dev/null", os.O_RDWR)
+    child = os.posix_spawn(words[0], words, os.environ, file_actions=[(os.POSIX_SPAWN_DUP2, null, 1)])
+    _, status, usage = os.wait4(child, 0)
+    os.close(null)
+    if status:
+        sys.exit(f"{' '.join(words)} ended with status {os.waitstatus_to_exitcode(status)}")
+    return usage.ru_utime + usage.ru_stime, usage.ru_maxrss * 1024

@@ -14,8 +14,11 @@ _timeweave_forms=(
     "verify FILE NAME POS HEX"
     "strict FILE FILE"
     "join FILE FILE .."
+    "checkmap FILE FILE FILE"
+    "audit FILE FILE FILE .."
     "accuse FILE FILE FILE"
     "checkfork FILE FILE"
+    "atlas NAME POS FILE .."
 )
 
 # Whether the words before the one that is completed are those of the form that is given part by part.

@@ -14,6 +14,7 @@ TOP = Path(__file__).resolve().parent.parent
 sys.path.insert(0, str(TOP / "tests/acceptance"))
 
 import chains  # noqa: E402
+import maps  # noqa: E402
 import reference  # noqa: E402
 import tree_pages  # noqa: E402
 import trees  # noqa: E402
@@ -221,6 +222,31 @@ def chain():
     return lines
 
 
+def between():
+    """The steps of the example of maps, in the order in which they were made: two services that received a thread of one another."""
+    ledger, notary, made = maps.example()
+    low, high = maps.bounds(ledger, maps.ENTRY, notary, len(notary.steps))
+    at = {step: 10 + 7 * place for place, step in enumerate(made)}
+    rows = {}
+    for name, history in (("notary", notary), ("ledger", ledger)):
+        rows[name] = name.ljust(at[name, len(history.steps)] + 1)
+        for number in range(1, len(history.steps) + 1):
+            rows[name] = rows[name][: at[name, number]] + str(number) + rows[name][at[name, number] + 1 :]
+    received, sent = (at["notary", low], at["ledger", 2]), (at["ledger", len(ledger.steps)], at["notary", high])
+    ways = []
+    for row in range(1, 6):
+        line = [" "] * 90
+        line[received[0] + row * (received[1] - received[0]) // 6] = "\\"
+        line[sent[1] - row * (sent[1] - sent[0]) // 6] = "/"
+        ways.append("".join(line).rstrip())
+    entry = at["ledger", maps.ENTRY]
+    return [
+        rows["notary"], *ways, rows["ledger"],
+        f"{'|':>{entry + 1}}",
+        f"{'the entry':>{entry + 5}}: low {low}, high {high}, upto {len(notary.steps)}",
+    ]
+
+
 def message():
     """The message of the last step of the tutorial's history since step 11, byte by byte."""
     data = reference.message_bytes(SHOP, 13, 11)
@@ -322,7 +348,7 @@ def versions():
     ]
 
 
-PICTURES = {"heights": heights, "coming": coming, "step": step, "links": links, "tree": tree, "proof": proof, "absence": absence, "chain": chain, "message": message, "receipt": receipt, "pages": pages, "half": half, "versions": versions}
+PICTURES = {"heights": heights, "coming": coming, "step": step, "links": links, "tree": tree, "proof": proof, "absence": absence, "chain": chain, "between": between, "message": message, "receipt": receipt, "pages": pages, "half": half, "versions": versions}
 
 
 def drawn(text):

@@ -105,7 +105,7 @@ def spent_by(process):
 
 def timed_functions(name, folder):
     """Each function of a crate of the clone with the processor seconds that its proof took; the first one has those of the start too."""
-    with subprocess.Popen(rattle_words(name, folder), cwd=f"{folder}/clone/crates/{name}", stdout=subprocess.PIPE, text=True) as check:
+    with subprocess.Popen(rattle_words(name, folder), cwd=f"{folder}/clone/crates/{name}", stdout=subprocess.PIPE, stderr=subprocess.STDOUT, text=True) as check:
         before = None
         for line in check.stdout:
             checked_one = CHECKED.match(line)

@@ -256,15 +256,13 @@ def cases():
 # ---- an example
 
 
-def write_example(folder):
-    """Three histories, a proof over them and its anchors, and one of them with another event."""
+def example():
+    """Three histories, a proof over them and its anchors, and one of them with another event, by the names of their files."""
     way = chain()
-    for name, history in way.family.items():
-        (folder / name).write_bytes(history.bytes())
-    (folder / "proof").write_bytes(way.bytes())
-    (folder / "lines").write_bytes(lines_of(way.anchors()))
-    (folder / "changed").write_bytes(changed_step(way.family["beta"], 1, [b"another"]))
+    changed = changed_step(way.family["beta"], 1, [b"another"])
+    return {**dict(zip(way.family, files_of(way))), "proof": way.bytes(), "lines": lines_of(way.anchors()), "changed": changed}
 
 
 if __name__ == "__main__":
-    write_example(Path(sys.argv[1]))
+    for file, contents in example().items():
+        (Path(sys.argv[1]) / file).write_bytes(contents)

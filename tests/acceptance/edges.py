@@ -8,6 +8,7 @@ import subprocess
 import threading
 import time
 
+import maps
 import reference
 from failing import plain_rights
 from steps import LIMIT, Room, Skipped, Wrong, case
@@ -180,7 +181,9 @@ def opened_once(room):
     room.put("h", history)
     room.put("p", LEAST)
     room.put("k", f"a 1 {HEX}\n".encode() + b"b 1 " + b"0" * 64 + b"\n")
-    for words, files in ((f"verify p a 1 {HEX}", "p"), ("verify p k", "kp"), ("show h 1 0", "h")):
+    for name, file in (("l", "low"), ("m", "high"), ("n", "lines")):
+        room.put(name, maps.handed_out()[file])
+    for words, files in ((f"verify p a 1 {HEX}", "p"), ("verify p k", "kp"), ("show h 1 0", "h"), ("checkmap l m n", "lmn")):
         status, _, calls = calls_of(room.program, words.split(), room.folder)
         opened = [os.path.basename(call.path) for call in calls if call.name == "openat" and call.path.startswith(str(room.folder))]
         sought = sum(call.name == "lseek" for call in calls)

@@ -15,7 +15,7 @@ from beside import ended, locked, started, waits
 from edges import LEAST, expect
 from failing import READING
 from steps import Skipped, Wrong, case
-from stores import Store, events_file
+from stores import PAGE, Store, events_file
 from tracing import calls_of
 
 # Least size, greatest size, and step of the memory in which the program's start is tried.
@@ -110,6 +110,18 @@ def syncs(room):
         expect(found, wanted, f"timeweave {words}, whose sync answers {error}")
 
 
+def full_step_calls(room):
+    """the first step of a store, with 64 events of 1,024 bytes, takes 24 writes and syncs behind the sync of opening"""
+    room.made("calls", [])
+    room.put("e", events_file([bytes(1024)] * 64))
+    path = os.path.realpath(room.folder / "d/timeline.tw")
+    status, _, calls = calls_of(room.program, ["append", "d", "e"], room.folder)
+    made = [call.name for call in calls if call.path == path and call.name in ("fsync", "pwrite64")]
+    found = status, made.count("pwrite64"), made.count("fsync"), len(room.store()) // PAGE
+    # (17 event pages and the step's, a body, and two gates)
+    expect(found, (0, 21, 4, 22), "timeweave append d e, its writes, its syncs, and the pages then")
+
+
 def shown_stays(room):
     """what `prove` shows of an append that was killed before its last sync stays, whatever a loss of power takes"""
     room.made("power", power.EARLIER)
@@ -164,6 +176,6 @@ def many_parts(room):
 
 def cases():
     works = (
-        devices, block_device, pipes_and_others, put_back, syncs, shown_stays, no_memory_for_words, many_parts,
+        devices, block_device, pipes_and_others, put_back, syncs, full_step_calls, shown_stays, no_memory_for_words, many_parts,
     )
     return [case(work, "guarded") for work in works]

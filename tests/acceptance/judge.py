@@ -9,15 +9,9 @@ import sys
 from pathlib import Path
 
 from chains import verdict
-
-
-def anchors_of(text):
-    """The anchors of a file's lines: for each service its step and authenticator."""
-    lines = (line.split(" ") for line in text.splitlines())
-    return {name: (int(step), bytes.fromhex(auth)) for name, step, auth in lines}
-
+from reference import read_anchors
 
 if __name__ == "__main__":
-    told, status = verdict(Path(sys.argv[1]).read_bytes(), anchors_of(Path(sys.argv[2]).read_text()), sys.argv[3:] == ["strict"])
+    told, status = verdict(Path(sys.argv[1]).read_bytes(), read_anchors(Path(sys.argv[2]).read_bytes()), sys.argv[3:] == ["strict"])
     sys.stdout.write(told)
     sys.exit(status)

@@ -2,9 +2,15 @@
 each step under several tops; each change and cut of both files, files that don't fit, and anchors that aren't held.
 
 What the program is to say is what `verdict` says here, in Python over hashlib.
+
+    python3 tests/acceptance/maps.py FOLDER    writes the histories `ledger` and `notary` into the folder, of which each received a thread of
+                                               the other, with the map files `low` and `high` of an entry of the ledger, `other`, the high
+                                               file of another step, and `lines`, the anchors that they need
 """
 
+import sys
 from functools import cache
+from pathlib import Path
 
 from histories import History
 from proofs import BAD_ORDER, Opening, read_path, unbound
@@ -152,15 +158,18 @@ def anchors_of(*ends):
     return {history.name: (step, history.line().auths[step]) for history, step in ends}
 
 
+def lines_of(anchors):
+    """The anchors file."""
+    return "".join(f"{service} {step} {auth.hex()}\n" for service, (step, auth) in anchors.items()).encode()
+
+
 # ---- cases
 
 
 def judged(name, low, high, anchors):
     """The case of these files under anchors, as the reference judges them."""
     text, status = verdict(low, high, anchors)
-    lines = "".join(f"{service} {step} {auth.hex()}\n" for service, (step, auth) in anchors.items()).encode()
-    files = {"low": low, "high": high, "k": lines}
-    return {"name": name, "files": files, "words": ["checkmap", "low", "high", "k"], "status": status, "stdout": text}
+    return {"name": name, "files": {"low": low, "high": high, "k": lines_of(anchors)}, "words": ["checkmap", "low", "high", "k"], "status": status, "stdout": text}
 
 
 def accepted_maps():
@@ -200,6 +209,7 @@ def files_that_do_not_fit():
     for name, other in (("another step", high_bytes(peer, 10, "mill", 6)), ("another service", high_bytes(peer, 10, "zoo", 5))):
         yield judged(name, low, other, anchors)
     yield judged("another peer", low_bytes(own, 5, "zoo", 9), high, anchors)
+    yield judged("another step, none held", low, high_bytes(peer, 10, "mill", 6), {})
     yield judged("the other way", low_bytes(peer, 5, "mill", 9), high, anchors)
     yield judged("changed for each other", high, low, anchors)
 
@@ -230,3 +240,52 @@ def cases():
     for group in groups():
         for case in group():
             yield {**case, "name": f"{group.__name__}: {case['name']}"}
+
+
+# ---- an example
+
+# The ledger's step of the entry, and the entry.
+ENTRY = 3
+CONTRACT = b"the contract"
+
+
+def example():
+    """The history of a ledger, whose entry lies between two steps of a notary; and that of the notary, which claims a time at each step of events,
+    nine in the morning of a day. Beside them the steps of both in the order in which they were made."""
+    ledger, notary, made = History("ledger"), History("notary"), []
+
+    def records(history, text, day=None):
+        history.append([text])
+        history.steps[-1].time = day and 1_769_331_600 + 86_400 * day
+        made.append((history.name, len(history.steps)))
+
+    def receives(history, other):
+        history.receive(other.name, len(other.steps), other.line().auths[-1])
+        made.append((history.name, len(history.steps)))
+
+    records(notary, b"opened on Monday", 1)
+    records(ledger, b"opened")
+    records(notary, b"opened on Tuesday", 2)
+    receives(ledger, notary)
+    records(notary, b"opened on Wednesday", 3)
+    records(ledger, CONTRACT)
+    records(ledger, b"sent")
+    receives(notary, ledger)
+    records(notary, b"opened on Friday", 5)
+    return ledger, notary, made
+
+
+def handed_out():
+    """What both services hand out, and another high file: the bytes of each file."""
+    ledger, notary, _ = example()
+    top, upto = len(ledger.steps), len(notary.steps)
+    return {
+        "ledger": ledger.bytes(), "notary": notary.bytes(), "low": low_bytes(ledger, ENTRY, "notary", top),
+        "high": high_bytes(notary, upto, "ledger", ENTRY), "other": high_bytes(notary, upto, "ledger", ENTRY + 1),
+        "lines": lines_of(anchors_of((ledger, top), (notary, upto))),
+    }
+
+
+if __name__ == "__main__":
+    for file, content in handed_out().items():
+        (Path(sys.argv[1]) / file).write_bytes(content)

@@ -79,8 +79,8 @@ def root_records(room):
     # the record of 3 steps stands in page 3 from place 26 on: the service, the last step from place 42 on, its page from place 82 on,
     # its archive's page, label and number of threads from place 90 on
     heads = [changed(good, 3, 42, be(step, 8)) for step in (0, 2**40)] + [changed(good, 3, 82, be(page, 8)) for page in (0, 3, 10, 2**40)]
-    # (a store whose record counts a thread is none yet, whatever the page of its archive)
-    archives = (4, 0), (9, 0), (0, 1), (1, 1), (3, 1), (4, 1), (9, 3), (10, 1), (2**40, 3), (4, 4), (4, 2**40)
+    # (there are no more threads than steps, and a page exactly where there are some)
+    archives = (4, 0), (9, 0), (0, 1), (1, 1), (3, 1), (10, 1), (2**40, 3), (4, 4), (4, 2**40)
     changes = heads + [changed(good, 3, 90, be(page, 8) + LABEL + be(threads, 8)) for page, threads in archives]
     # the length of the record stands at place 24; there are only records of 112 bytes, and of 120 with a time of at most 2^40 - 1 behind
     for size, behind in ((111, b""), (113, b""), (119, be(5, 8)), (121, be(5, 8)), (120, be(2**40, 8)), (120, be(2**63, 8)), (128, be(5, 8) * 2)):
@@ -93,18 +93,19 @@ def root_records(room):
 
 
 def archives_kept(room):
-    """stores whose root record has another label than that of the empty archive are served, and an append keeps it"""
+    """stores whose root record has another archive than the empty one are served, and an append keeps it, and the number of threads"""
     steps = [[b"a"], [b"b"], [b"c"], [b"d"]]
     room.put("last", events_file(steps[3]))
     store = room.made("root", steps[:3])
     good = room.store()
-    (room.folder / "d/timeline.tw").write_bytes(changed(good, 3, 98, LABEL))
-    room.expect("prove d event 1 0", 0, reference.proof_bytes(store.line, 1, 0, 3))
-    longer = Store("root", steps, [NO_ARCHIVE] * 3 + [(0, LABEL)])
-    longer.kept = {3: (0, LABEL, 0), 4: (0, LABEL, 0)}
-    room.expect("append d last", 0, longer.anchor(4))
-    room.expect_store(longer.file())
-    room.expect("prove d event 2 0", 0, reference.proof_bytes(longer.line, 2, 0, 4))
+    for page, threads in ((0, 0), (4, 1), (9, 3)):
+        (room.folder / "d/timeline.tw").write_bytes(changed(good, 3, 90, be(page, 8) + LABEL + be(threads, 8)))
+        room.expect("prove d event 1 0", 0, reference.proof_bytes(store.line, 1, 0, 3))
+        longer = Store("root", steps, [NO_ARCHIVE] * 3 + [(page, LABEL)])
+        longer.kept = {3: (page, LABEL, threads), 4: (page, LABEL, threads)}
+        room.expect("append d last", 0, longer.anchor(4))
+        room.expect_store(longer.file())
+        room.expect("prove d event 2 0", 0, reference.proof_bytes(longer.line, 2, 0, 4))
 
 
 def pages_with_times(room):

@@ -9,6 +9,7 @@ import random
 import atlases
 import audits
 import forks
+import maps
 from chains import least_way
 from proofs import LINK, THREAD, Proof
 from reference import Malformed
@@ -39,9 +40,9 @@ def evidence_files():
         yield {"name": f"accuse: bad from {name} on", "files": {**files, **bad}, "words": words, "status": 9, "stdout": f"unreadable {name} byte 0\n"}
 
 
-def accused_bytes(parts):
-    """What the program writes of the bytes of three parts, and its status."""
-    for name, data, kind in zip(("first", "second", "link"), parts, (THREAD, THREAD, LINK)):
+def accused_bytes(parts, names=("first", "second", "link")):
+    """What the program writes of the bytes of two or three parts of these names, and its status."""
+    for name, data, kind in zip(names, parts, (THREAD, THREAD, LINK)):
         try:
             Proof(data, {kind})
         except Malformed as bad:
@@ -85,6 +86,25 @@ def audited_files():
         yield {"name": f"audit: {name}", "files": {**files, **bad}, "words": words, "status": 9, "stdout": told}
 
 
+def mapped_files():
+    """Of `checkmap` the low file first, then the high one, then the lines of the anchors; and then whether both fit."""
+    own, peer = maps.exchange()
+    words, bad = ["checkmap", "low", "high", "k"], {"low": b"no", "high": b"no", "k": b"mill 1\n"}
+    files = maps.judged("files", maps.low_bytes(own, 5, "bank", 9), maps.high_bytes(peer, 10, "mill", 5), maps.anchors_of((own, 9), (peer, 10)))["files"]
+    yield from missing("checkmap", words, files, bad)
+    apart = {"high": maps.high_bytes(peer, 10, "mill", 6), "k": bad["k"]}
+    for name, wrong, told in (
+        ("all bad", bad, "unreadable low byte 0\n"),
+        ("a bad high file and bad lines", {**bad, "low": files["low"]}, "unreadable high byte 0\n"),
+        ("bad lines, and files that don't fit", apart, "unreadable k line 1\n"),
+        ("more than is read behind a low file", {"low": files["low"] + bytes(5 * 2**20)}, f"unreadable low byte {len(files['low'])}\n"),
+    ):
+        yield {"name": f"checkmap: {name}", "files": {**files, **wrong}, "words": words, "status": 9, "stdout": told}
+
+
 def cases():
     yield from evidence_files()
     yield from changed_parts()
+    yield from receipt_files()
+    yield from audited_files()
+    yield from mapped_files()

@@ -7,6 +7,7 @@ The acceptance cases take their expected bytes, digests and places from here, an
                                                     anchor of its last step
 """
 
+import re
 import sys
 from hashlib import sha256
 from typing import NamedTuple
@@ -364,6 +365,23 @@ def read_message(data):
         read.digests(1 + top_level(start))
     read.end()
     return service, step, auth, since
+
+
+# ---- anchors files
+
+MOST_ANCHORS = 64
+
+
+def read_anchors(data):
+    """The anchors of a file: for each service its step and authenticator; raises Malformed with the number of the first line that can't follow
+    those before it."""
+    anchors = {}
+    for number, line in enumerate(data.removesuffix(b"\n").split(b"\n") if data else (), 1):
+        fields = re.fullmatch(rb"([a-z0-9-]{1,16}) ([1-9][0-9]{,12}) ([0-9a-fA-F]{64})", line)
+        if number > MOST_ANCHORS or not fields or int(fields[2]) > LAST_STEP or fields[1].decode() in anchors:
+            raise Malformed(number)
+        anchors[fields[1].decode()] = int(fields[2]), bytes.fromhex(fields[3].decode())
+    return anchors
 
 
 # ---- a timeline that nobody has to build: its links lead to digests made up for the purpose

@@ -8,7 +8,7 @@ those of proofs that an event precedes another and of joining in precedence.py, 
 commands over several files read in reaching.py, those of the scripts that one copies in entries.py and daily.py,
 those of services in steps.py, pages.py and failing.py, those of an archive's tree in pages in tree_runs.py, which run a program of their
 own, those of the program's edge to the system in edges.py, of programs at one time in beside.py, what it keeps itself from in guarded.py,
-and of lost power and failing system calls in power.py and faults.py; documents.py and cited.py check the documents,
+of lost power and failing system calls in power.py and faults.py, and runs by chance in fuzz.py; documents.py and cited.py check the documents,
 installed.py what `make install` copies, library.py the library for C and Python over the proofs of all of them, shown.py the examples to copy, and sources.py the sources.
 A case has
 
@@ -39,6 +39,8 @@ from concurrent.futures import ThreadPoolExecutor
 from pathlib import Path
 
 import archives
+import atlases
+import audits
 import beside
 import cited
 import daily
@@ -48,10 +50,12 @@ import entries
 import failing
 import faults
 import forks
+import fuzz
 import generated
 import guarded
 import installed
 import library
+import maps
 import messages
 import pages
 import power
@@ -169,6 +173,9 @@ def all_cases():
     yield from archives.cases()
     yield from precedence.cases()
     yield from forks.cases()
+    yield from atlases.cases()
+    yield from audits.cases()
+    yield from maps.cases()
     yield from reaching.cases()
     yield from steps.cases()
     yield from pages.cases()
@@ -180,6 +187,7 @@ def all_cases():
     yield from guarded.cases()
     yield from power.cases()
     yield from faults.cases()
+    yield from fuzz.cases()
     yield from documents.cases()
     yield from cited.cases()
     yield from installed.cases()

@@ -3,8 +3,13 @@
 import os
 import re
 import subprocess
+import sys
+from collections import Counter
 from pathlib import Path
+from xml.etree import ElementTree
 
+import atlases
+import audits
 import reference
 from stores import Store
 from steps import Wrong, case
@@ -78,11 +83,14 @@ def manual_examples(room):
         raise Wrong("\n".join([*wrong, done.stderr]))
 
 
+VERDICTS = ("accepted ", "rejected ", "stands", "unheld ", "unreadable ")
+
+
 def verdicts(room, name, wanted):
     """Runs a script of examples/ that shows what it runs; its verdicts have to be these."""
     linked(room)
     status, shown = script(room, name, room.program)
-    found = [line for line in shown.splitlines() if line.startswith(("accepted ", "rejected "))]
+    found = [line for line in shown.splitlines() if line.startswith(VERDICTS)]
     if (status, found) != (0, wanted):
         raise Wrong(f"  {name}\n  wanted {wanted}\n  got    {status} {shown!r}")
 
@@ -107,5 +115,43 @@ def fork_evidence(room):
     verdicts(room, "fork_evidence.sh", [*proofs, "accepted fork", *refused])
 
 
+def between_steps(room):
+    """an entry's place between two steps of a notary is shown as the example shows it"""
+    refused = ["rejected Gap 2", "rejected 7 BadTree 0", "rejected 3 NotHeld notary 5"]
+    verdicts(room, "between_steps.sh", ["accepted exists", "accepted map", "accepted exists", "accepted exists", *refused])
+
+
+def audited_chain(room):
+    """a proof is held against histories, good ones and others, as the example shows it"""
+    files = audits.example()
+    files["cut"] = files["beta"][:100]
+    anchors = reference.read_anchors(files["lines"])
+    held = (
+        ("alpha", "beta", "gamma"), ("alpha", "changed", "gamma"), ("alpha", "gamma"), ("alpha", "cut", "gamma"), ("alpha", "beta", "gamma", "changed"),
+    )
+    told = [audits.audited(files["proof"], anchors, [(name, files[name]) for name in names])[0].split("\n")[0] for names in held]
+    verdicts(room, "audited_chain.sh", ["accepted precedes", *told, "rejected 6 BadEvent 3"])
+
+
+def reached_steps(room):
+    """the picture of an atlas has a row for each service, a line for each leg, and a filled stop for each arrival"""
+    linked(room)
+    status, output = script(room, "reached_steps.sh", room.program)
+    wanted = atlases.atlas_text(atlases.CHAIN, "alpha", 2) + "$ python3 atlas_picture.py < atlas > atlas.svg\n$ grep -c '<line' atlas.svg\n2\n"
+    if status or wanted not in output or not output.endswith(atlases.atlas_text(atlases.CHAIN, "alpha", 4)):
+        raise Wrong(f"  reached_steps.sh\n  wanted {wanted!r}\n  got    {status} {output!r}")
+    grid = [atlases.Hop(f"g{row}", column, f"g{row + 1}", column) for row in range(9) for column in range(1, 9)]
+    for hops, service, step in ((atlases.CHAIN, "alpha", 2), (atlases.CIRCLE, "a", 5), (grid, "g0", 1), ([], "alone", 7)):
+        told = atlases.atlas_text(hops, service, step)
+        ran = subprocess.run([sys.executable, TOP / "examples/atlas_picture.py"], input=told, capture_output=True, text=True, timeout=60)
+        kinds = Counter((part.tag.rpartition("}")[2], part.get("class")) for part in ElementTree.fromstring(ran.stdout).iter())
+        legs, arrivals = told.count("\nleg "), told.count("\narrive ")
+        found = kinds["line", None], kinds["circle", "first"], kinds["circle", "later"], kinds["text", "service"]
+        # (the title is a text of that kind too)
+        if found != (legs, arrivals, legs + 1 - arrivals, arrivals + 1):
+            raise Wrong(f"  atlas_picture.py of\n{told}\n  found {found}")
+
+
 def cases():
-    return [case(work, "shown") for work in (log_of_digests, archived_threads, event_chain, fork_evidence, manual_examples)]
+    shown = (log_of_digests, archived_threads, event_chain, fork_evidence, between_steps, audited_chain, reached_steps, manual_examples)
+    return [case(work, "shown") for work in shown]

@@ -9,9 +9,7 @@ from time import sleep
 
 import reference
 import seen
-from stores import PAGE, Store, events_file
-
-LIMIT = 1048576
+from stores import LIMIT, PAGE, Store, events_file
 
 # The cases that couldn't be run here, each with what it needs.
 SKIPPED = []

@@ -1,10 +1,13 @@
 """The file of a service's store, byte by byte: gates, bodies, event pages and step pages."""
 
 import reference
-from reference import be, padded
+from reference import Malformed, Reader, be, padded
 
 PAGE = 4096
 PIECE = 4085
+
+# The most bytes of an events file.
+LIMIT = 1048576
 
 
 def page(data):
@@ -14,6 +17,17 @@ def page(data):
 def events_file(events):
     """The events file of these events."""
     return b"TWE1" + be(len(events), 4) + b"".join(be(len(event), 4) + event for event in events)
+
+
+def read_events(data):
+    """The events of an events file; raises Malformed where it is none."""
+    if len(data) > LIMIT:
+        raise Malformed(LIMIT)
+    read = Reader(data)
+    read.text(b"TWE1")
+    events = [read.bytes(read.number(4, 0, 2**32 - 1)) for _ in range(read.number(4, 0, 2**32 - 1))]
+    read.end()
+    return events
 
 
 def time_bytes(time):

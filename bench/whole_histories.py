@@ -1,0 +1,101 @@
+"""What `audit` takes on histories of several sizes: time, room, and instructions beside those of the hashes.
+
+    python3 bench/whole_histories.py PROGRAM [MIB ..]    prints these tables alone, for histories of these sizes
+"""
+
+import os
+import resource
+import shutil
+import subprocess
+import sys
+import tempfile
+from pathlib import Path
+
+TOP = Path(__file__).resolve().parent.parent
+sys.path.insert(0, str(TOP / "tests/acceptance"))
+
+from instructions import counted  # noqa: E402
+from proofs import Proof  # noqa: E402
+from reference import be, climbed, padded  # noqa: E402
+from timing import cost  # noqa: E402
+
+MIB = 2**20
+
+# What ends a step that adds no node to the archive: none, and the root.
+NO_NODES = bytes(6)
+
+
+def full_step(number):
+    """Step number + 1, of 300 events of 200 bytes, of which no two are the same: an event that stands twice is one text, and takes no room."""
+    return b"\x01" + be(300, 4) + b"".join(be(200, 4) + be(300 * number + event, 8) + bytes(192) for event in range(300)) + NO_NODES
+
+
+def empty_step(number):
+    """One without events, but for the first, which has one of no bytes."""
+    return b"\x01" + (be(0, 4) if number else be(1, 4) + be(0, 4)) + NO_NODES
+
+
+# What stands in each history, and up to how many MiB it is tried: each step without events has 11 bytes, and takes 500 of memory.
+KINDS = (("300 events of 200 bytes a step", full_step, 64), ("no event but the first", empty_step, 16))
+
+
+def history_file(path, size, step):
+    """Writes a history of about so many bytes; answers its number of steps."""
+    count = size // len(step(1))
+    with open(path, "wb") as file:
+        file.write(b"TWH1" + padded("bench") + be(count, 8))
+        file.writelines(map(step, range(count)))
+    return count
+
+
+def audit_words(program, folder, size, step):
+    """The words of an audit of the first event's proof against such a history, and how many steps that has."""
+    history, proof, lines = (f"{folder}/{name}" for name in ("audited", "proof", "lines"))
+    count = history_file(history, size - 100, step)
+    data = subprocess.run([program, "show", history, "1", "0"], check=True, capture_output=True).stdout
+    Path(proof).write_bytes(data)
+    shown = Proof(data)
+    Path(lines).write_text(f"bench {count} {climbed(shown.path, shown.top, shown.step, shown.auth).hex()}\n")
+    return [program, "audit", proof, lines, history], count
+
+
+def of_memory(room, size):
+    """The most memory in MiB, and how many times the file that is; it is told from what this script has on, as which each command begins."""
+    own = resource.getrusage(resource.RUSAGE_SELF).ru_maxrss * 1024
+    return f"{room / MIB:,.0f} | {room / size / MIB:.1f}" if room > 1.1 * own else f"under {own / MIB:.0f} | ?"
+
+
+def audit_lines(program, folder, sizes, counted_size):
+    """The tables of audits of histories of so many MiB."""
+    times, counts = [], []
+    for name, step, most in KINDS:
+        for size in (size for size in sizes if size <= most):
+            words, steps = audit_words(program, folder, size * MIB, step)
+            took, room = cost(words)
+            times.append(f"| {size} | {name} | {steps:,} | {took * 1e3:,.0f} | {took * 1e3 / size:.1f} | {of_memory(room, size)} |")
+            if size == counted_size and shutil.which("valgrind"):
+                total, own, inside, blocks = counted(words, folder)
+                ratios = [f"{part / inside:.2f}" if inside else "?" for part in (own, total)]
+                counts.append(f"| {name} | {blocks:,} | {inside:,} | {own:,} | {ratios[0]} | {total:,} | {ratios[1]} |")
+    text = [
+        "", "`audit` of a proof against one history, all texts of which it keeps:", "",
+        "| MiB | history | steps | processor time, in milliseconds | milliseconds a MiB | most memory, in MiB | times the file |",
+        "|---|---|---|---|---|---|---|", *times,
+    ]
+    if counts:
+        text += [
+            "", f"The same on {counted_size} MiB, in instructions:", "",
+            "| history | blocks hashed | inside the compression function | the program's own code | ratio | in all | ratio |",
+            "|---|---|---|---|---|---|---|", *counts,
+        ]
+    return text
+
+
+def main():
+    sizes = [int(word) for word in sys.argv[2:]] or [1, 4, 16]
+    with tempfile.TemporaryDirectory() as folder:
+        print("\n".join(audit_lines(os.path.realpath(sys.argv[1]), folder, sizes, min(sizes))))
+
+
+if __name__ == "__main__":
+    main()

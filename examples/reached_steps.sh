@@ -1,0 +1,20 @@
+#!/bin/sh
+# From receipts that a user collected to a picture of where a step leads: which services have recorded it, directly or over others, and each at
+# which step first. No command writes receipts yet, so a script of the acceptance run does.
+#
+#     examples/reached_steps.sh PROGRAM
+set -e
+
+script=$(realpath "$(dirname "$0")/../tests/acceptance/atlases.py")
+picture=$(realpath "$(dirname "$0")/atlas_picture.py")
+. "$(dirname "$0")/shown.sh"
+
+python3 "$script" receipts
+cp "$picture" .
+run "timeweave atlas alpha 2 receipts > atlas"
+run "cat atlas"
+run "python3 atlas_picture.py < atlas > atlas.svg"
+# A line for each leg.
+run "grep -c '<line' atlas.svg"
+# From a later step nothing leads on: the receipt is of an earlier one.
+run "timeweave atlas alpha 4 receipts"
