@@ -12,7 +12,8 @@ use Rattle.tw_disk.specs.Found.Found.{Is, Bad}
 use Rattle.tw_skiplist.specs.Readings.{found_proof, found_way}
 use Rattle.tw_skiplist.specs.Records.{info_record}
 use Rattle.tw_steppage.specs.StepBytes.{step_codec}
-use Rattle.tw_steppage.specs.StepPages.{keeps_field_rules, keeps_link_rules, page_of_step, step_in}
+use Rattle.tw_steppage.specs.StepPages.{keeps_field_rules, keeps_link_rules}
+use Rattle.tw_skiplist.specs.PagesOfSteps.{page_of_step, step_in}
 use Rattle.tw_skiplist.specs.Walks.{info_in}
 use Rattle.tw_disk.proofs.FoundLaws.{same_found}
 use Rattle.tw_disk.proofs.SpelledLaws.{is-spelled}

@@ -92,12 +92,12 @@ pub record Grown (dig : List ℕ → List ℕ) (ps : Image) (h : History) (head 
   pub more : Image
   pub new : Head
   pub is : appended dig ps head content archive time ≡ Is (record { pages = ps ++ more; value = new })
-  pub keeps : (s : Step) → s.content ≡ content → s.time ≡ time → archive.label ≡ tree_label dig (tree (plus h s) (suc (length h.steps)))
+  pub keeps : MayBeKept (bare_step content time) → archive.page < 4 + length ps → 4 + length ps < 2 ^ 47
+      → (s : Step) → s.content ≡ content → s.time ≡ time → archive.label ≡ tree_label dig (tree (plus h s) (suc (length h.steps)))
       → (longer : Keeps dig (ps ++ more) (plus h s) new) × GoOn places longer.places (length h.steps) archive.page
 
 module _ (dig : List ℕ → List ℕ) (size : (text : List ℕ) → IsDigest (dig text)) (ps : Image) (h : History) (head : Head) (keeps : Keeps dig ps h head)
-    (content : Content) (archive : Root) (time : Option ℕ) (short : head.step < LAST_STEP) (may : MayBeKept (bare_step content time))
-    (low : archive.page < 4 + length ps) (room : 4 + length ps < 2 ^ 47) where
+    (content : Content) (archive : Root) (time : Option ℕ) (short : head.step < LAST_STEP) where
   abbrev n : ℕ
   n = length h.steps
 
@@ -148,8 +148,8 @@ module _ (dig : List ℕ → List ℕ) (size : (text : List ℕ) → IsDigest (d
   some_first : 0 < length bytes → first_page ps (length bytes) ≡ 4 + length ps
   some_first some = ap (λ (b : Bool). if b then 0 else 4 + length ps) (ne_eqb (length bytes) 0 (λ none. omega (arith, none, some)))
 
-  few : piece_count (length bytes) ≤ 18
-  few =
+  few : MayBeKept (bare_step content time) → piece_count (length bytes) ≤ 18
+  few may =
       let sum = length-stream (events_in content) in
       let limits : MayRecord (events_in content) = may_record (Some (bare_step content time)) may in
       omega (arith, sum, limits.are.count, limits.fit)
@@ -161,7 +161,8 @@ module _ (dig : List ℕ → List ℕ) (size : (text : List ℕ) → IsDigest (d
   pieces = event_pages (suc n) bytes (piece_count (length bytes))
 
   -- a step of this content and time, where the archive is that of the longer history
-  module _ (s : Step) (content_is : s.content ≡ content) (time_is : s.time ≡ time) (archived : archive.label ≡ tree_label dig (tree (plus h s) (suc n))) where
+  module _ (may : MayBeKept (bare_step content time)) (low : archive.page < 4 + length ps) (room : 4 + length ps < 2 ^ 47)
+      (s : Step) (content_is : s.content ≡ content) (time_is : s.time ≡ time) (archived : archive.label ≡ tree_label dig (tree (plus h s) (suc n))) where
     abbrev longer : History
     longer = plus h s
 
@@ -229,7 +230,7 @@ module _ (dig : List ℕ → List ℕ) (size : (text : List ℕ) → IsDigest (d
         let pieces_are : event_pages (suc n) own (piece_count (length bytes)) ≡ pieces = ap (λ (b : List ℕ). event_pages (suc n) b (piece_count (length bytes))) (sym own_is) in
         let all : length own ≤ MOST_PIECE_BYTES * piece_count (length bytes) = subst (λ (m : ℕ). m ≤ MOST_PIECE_BYTES * piece_count (length bytes)) lengths (count_all (length bytes)) in
         let kept = KeepsSteps-plus dig ps h places s archive.page keeps.keeps (omega (arith, short, keeps.step)) may_be (piece_count (length bytes)) place.first place.page all
-        (λ none. no_first (lengths ∙ none)) (λ some. some_first (omega (arith, some, lengths))) refl (omega (arith, room, few)) (omega (arith, under)) (omega (arith, low)) f links fields_of links_of in
+        (λ none. no_first (lengths ∙ none)) (λ some. some_first (omega (arith, some, lengths))) refl (omega (arith, room, few may)) (omega (arith, under)) (omega (arith, low)) f links fields_of links_of in
         let there = subst (λ (x : Image). KeepsSteps dig ((ps ++ x) ++ page ∷ []) longer more_places) pieces_are kept in (
           record {
             places = more_places;

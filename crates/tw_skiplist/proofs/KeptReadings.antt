@@ -26,7 +26,8 @@ use Rattle.tw_skiplist.specs.Infos.{IsInfoOf}
 use Rattle.tw_skiplist.specs.Keeping.{Keeps, KeepsSteps, Place, fields_at, link_to, links_at, place_of}
 use Rattle.tw_skiplist.specs.Readings.{found_events, found_link, found_path, found_proof, found_step, found_way}
 use Rattle.tw_skiplist.specs.Records.{info_record, link_record}
-use Rattle.tw_steppage.specs.StepPages.{link_of, no_ref, page_of_step}
+use Rattle.tw_steppage.specs.StepPages.{link_of, no_ref}
+use Rattle.tw_skiplist.specs.PagesOfSteps.{page_of_step}
 use Rattle.tw_skiplist.specs.Walks.{collect_along, collected, head_ref, hop_in, info_in, link_in, walk}
 use Rattle.tw_disk.proofs.FoundLaws.{is_on}
 use Rattle.tw_skiplist.proofs.Kept.{get_or-links_to, kept_link_in, kept_page}

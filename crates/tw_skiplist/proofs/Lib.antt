@@ -1,4 +1,5 @@
 pub mod Contents
+pub mod EventSpelling
 pub mod EventWords
 pub mod FewEvents
 pub mod Growing
@@ -10,6 +11,7 @@ pub mod Once
 pub mod PieceCounts
 pub mod Plus
 pub mod Recording
+pub mod RecordLaws
 pub mod Shapes
 pub mod Spelling
 pub mod Streams

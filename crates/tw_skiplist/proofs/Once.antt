@@ -13,7 +13,8 @@ use Rattle.tw_steppage.specs.declared.link.StepRef.{StepRef}
 use Rattle.tw_steppage.specs.declared.fields.StepFields.{StepFields}
 use Rattle.tw_skiplist.specs.Keeping.{AreAlike, Keeps, KeepsSteps, KeepsStream, Place, fields_at, links_at, place_of}
 use Rattle.tw_steppage.specs.StepBytes.{piece, stream}
-use Rattle.tw_steppage.specs.StepPages.{link_of, no_ref, page_of_step}
+use Rattle.tw_steppage.specs.StepPages.{link_of, no_ref}
+use Rattle.tw_skiplist.specs.PagesOfSteps.{page_of_step}
 use Rattle.tw_skiplist.proofs.Contents.{may_record}
 use Rattle.tw_skiplist.proofs.Kept.{get_or-links_to, kept_page}
 use Rattle.tw_skiplist.proofs.EventWords.{found-events}

@@ -1,7 +1,7 @@
 -- How many event pages a stream has, and what they have.
 use Rattle.std.proofs.Common.{◌≡◌, ℕ, suc, ◌+◌, ◌-◌, ◌*◌, ◌<◌, ◌≤◌, List, [], ap, ◌∙◌, arith}
 use Rattle.tw_disk.specs.Image.{Image}
-use Rattle.tw_skiplist.specs.declared.info.StepInfo.{StepInfo}
+use Rattle.tw_skiplist.specs.declared.info.EventsAt.{EventsAt}
 use Rattle.tw_steppage.specs.declared.limits.TheConstants.{MOST_PIECE_BYTES}
 use Rattle.tw_skiplist.specs.Events.{last_page, piece_behind, piece_count, pieces_from, stream_in}
 use Rattle.tw_disk.specs.Found.{◌>>=◌}
@@ -20,25 +20,25 @@ count_needed size number l = omega arith
 pub count_all : (size : ℕ) → size ≤ MOST_PIECE_BYTES * piece_count size
 count_all size = omega arith
 
-module _ (ps : Image) (info : StepInfo) (number : ℕ) (before : List ℕ) where
-  pub pieces-here : info.stream.size ≤ MOST_PIECE_BYTES * number → pieces_from ps info (piece_count info.stream.size - number) number before ≡ Is before
+module _ (ps : Image) (at : EventsAt) (number : ℕ) (before : List ℕ) where
+  pub pieces-here : at.stream.size ≤ MOST_PIECE_BYTES * number → pieces_from ps at (piece_count at.stream.size - number) number before ≡ Is before
   unfolding pieces_from
-  pieces-here end = ap (λ (more : ℕ). pieces_from ps info more number before) (let e : piece_count info.stream.size - number ≡ 0 = omega (arith, count_end info.stream.size number end) in e)
+  pieces-here end = ap (λ (more : ℕ). pieces_from ps at more number before) (let e : piece_count at.stream.size - number ≡ 0 = omega (arith, count_end at.stream.size number end) in e)
 
-  pub pieces-on : MOST_PIECE_BYTES * number < info.stream.size → pieces_from ps info (piece_count info.stream.size - number) number before
-      ≡ (piece_behind ps info number before >>= pieces_from ps info (piece_count info.stream.size - (number + 1)) (number + 1))
+  pub pieces-on : MOST_PIECE_BYTES * number < at.stream.size → pieces_from ps at (piece_count at.stream.size - number) number before
+      ≡ (piece_behind ps at number before >>= pieces_from ps at (piece_count at.stream.size - (number + 1)) (number + 1))
   unfolding pieces_from
   pieces-on more =
       let next : suc number ≡ number + 1 = omega arith in
-      let under = count_more info.stream.size number more in
-      ap (λ (left : ℕ). pieces_from ps info left number before) (let e : piece_count info.stream.size - number ≡ suc (piece_count info.stream.size - (number + 1)) = omega (arith, under) in e)
-      ∙ ap (λ (n : ℕ). piece_behind ps info number before >>= pieces_from ps info (piece_count info.stream.size - (number + 1)) n) next
+      let under = count_more at.stream.size number more in
+      ap (λ (left : ℕ). pieces_from ps at left number before) (let e : piece_count at.stream.size - number ≡ suc (piece_count at.stream.size - (number + 1)) = omega (arith, under) in e)
+      ∙ ap (λ (n : ℕ). piece_behind ps at number before >>= pieces_from ps at (piece_count at.stream.size - (number + 1)) n) next
 
-pub pieces-begin : (ps : Image) (info : StepInfo) → stream_in ps info ≡ pieces_from ps info (piece_count info.stream.size - 0) 0 []
-pieces-begin ps info = ap (λ (more : ℕ). pieces_from ps info more 0 []) (let e : piece_count info.stream.size ≡ piece_count info.stream.size - 0 = omega arith in e)
+pub pieces-begin : (ps : Image) (at : EventsAt) → stream_in ps at ≡ pieces_from ps at (piece_count at.stream.size - 0) 0 []
+pieces-begin ps at = ap (λ (more : ℕ). pieces_from ps at more 0 []) (let e : piece_count at.stream.size ≡ piece_count at.stream.size - 0 = omega arith in e)
 
-pub last_page-on : (info : StepInfo) (number : ℕ) → last_page info (number + 1) ≡ info.stream.page + number
-last_page-on info number = ap (last_page info) (let e : number + 1 ≡ suc number = omega arith in e)
+pub last_page-on : (at : EventsAt) (number : ℕ) → last_page at (number + 1) ≡ at.stream.page + number
+last_page-on at number = ap (last_page at) (let e : number + 1 ≡ suc number = omega arith in e)
 
 -- the event pages of a stream, one by one
 pub ruleset pieces_go_on = (pieces-here, pieces-on, pieces-begin, last_page-on, count_more, count_end)

@@ -4,6 +4,7 @@ use Rattle.tw_base.specs.format.Codecs.{Codec, many, sized_codec}
 use Rattle.tw_base.specs.declared.kinds.limits.TheConstants.{MOST_EVENTS, MOST_EVENT_BYTES, MOST_STEP_BYTES}
 use Rattle.tw_base.specs.declared.kinds.limits.TheConstants.{PAGE_SIZE}
 use Rattle.tw_disk.specs.Image.{Image}
+use Rattle.tw_skiplist.specs.declared.info.EventsAt.{EventsAt}
 use Rattle.tw_skiplist.specs.declared.info.StepInfo.{StepInfo}
 use Rattle.tw_steppage.specs.declared.limits.TheConstants.{MOST_PIECE_BYTES, MOST_STREAM_BYTES}
 use Rattle.tw_disk.specs.Found.{Found, when, ◌>>=◌, bytes_in, spelled}
@@ -18,12 +19,12 @@ piece_count size = (size + (MOST_PIECE_BYTES - 1)) / MOST_PIECE_BYTES
 abbrev pub piece_size : (size number : ℕ) → ℕ
 piece_size size number = min (size - MOST_PIECE_BYTES * number) MOST_PIECE_BYTES
 
-module _ (pages : Image) (info : StepInfo) where
+module _ (pages : Image) (at : EventsAt) where
   -- the piece of the step's stream that the event page of this number has; the event pages follow one another
   abbrev pub piece_in : (number : ℕ) → Found (List ℕ)
   piece_in number =
-      bytes_in pages (info.stream.page + number)
-      >>= spelled (info.stream.page + number) PAGE_SIZE (piece_codec info.step number (piece_size info.stream.size number))
+      bytes_in pages (at.stream.page + number)
+      >>= spelled (at.stream.page + number) PAGE_SIZE (piece_codec at.step number (piece_size at.stream.size number))
 
   -- the same behind what is before it
   abbrev pub piece_behind : (number : ℕ) → (before : List ℕ) → Found (List ℕ)
@@ -36,12 +37,12 @@ module _ (pages : Image) (info : StepInfo) where
 
   -- all pieces of the stream
   abbrev pub stream_in : Found (List ℕ)
-  stream_in = pieces_from (piece_count info.stream.size) 0 []
+  stream_in = pieces_from (piece_count at.stream.size) 0 []
 
 -- the page that is read last: the step's own where its stream has no bytes
-abbrev pub last_page : StepInfo → (pieces : ℕ) → ℕ
-last_page info zero = info.page
-last_page info (suc number) = info.stream.page + number
+abbrev pub last_page : EventsAt → (pieces : ℕ) → ℕ
+last_page at zero = at.page
+last_page at (suc number) = at.stream.page + number
 
 -- each event behind its length, which takes four bytes
 abbrev pub events_codec : (count : ℕ) → Codec (List (List ℕ))
@@ -55,9 +56,16 @@ may_be_recorded events = nat_le (length events) MOST_EVENTS && nat_le (sum_by (�
 unfoldable pub events_in : (page count : ℕ) → (stream : List ℕ) → Found (List (List ℕ))
 events_in page count stream = spelled page 0 (events_codec count) stream >>= (λ events. when (may_be_recorded events) page events)
 
--- The events of a step, from its event pages. The step's page is bad where the info tells of a longer stream than
--- any step's, as none from a page does, and the page that is read last where the stream spells no such events.
-unfoldable pub events_of_info : Image → StepInfo → Found (List (List ℕ))
-events_of_info pages info =
-    if nat_lt MOST_STREAM_BYTES info.stream.size then Bad info.page
-    else (stream_in pages info >>= events_in (last_page info (piece_count info.stream.size)) info.count)
+-- The events of a step, from its event pages. The step's page is bad where a longer stream is told than any step's, as none from a page
+-- is, and the page that is read last where the stream spells no such events.
+unfoldable pub events_from : Image → EventsAt → Found (List (List ℕ))
+events_from pages at =
+    if nat_lt MOST_STREAM_BYTES at.stream.size then Bad at.page
+    else (stream_in pages at >>= events_in (last_page at (piece_count at.stream.size)) at.count)
+
+-- where an info tells that the step's events stand
+abbrev pub events_told : StepInfo → EventsAt
+events_told info = record { step = info.step; page = info.page; count = info.count; stream = info.stream }
+
+abbrev pub events_of_info : Image → StepInfo → Found (List (List ℕ))
+events_of_info pages info = events_from pages (events_told info)

@@ -1,3 +1,4 @@
+pub mod PagesOfSteps
 pub mod Keeping
 pub mod Walks
 pub mod Records
@@ -7,3 +8,4 @@ pub mod Infos
 pub mod ListFaults
 pub mod ScanSteps
 pub mod Readings
+pub mod StepRecords

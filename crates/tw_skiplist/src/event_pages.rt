@@ -10,11 +10,11 @@ ghost use Rattle.tw_skiplist.specs.ListFaults.{list_faults};
 ghost use Rattle.tw_base.specs.history.Limits.{MayRecord};
 ghost use Rattle.tw_skiplist.specs.ScanSteps.{HasEventAt, IsNoEventAt};
 ghost use Rattle.tw_disk.specs.Found.Found.{Is, Bad};
-ghost use Rattle.tw_skiplist.specs.Events.{events_in, last_page, piece_behind, piece_count, piece_size as piece_size_of, stream_in};
+ghost use Rattle.tw_skiplist.specs.Events.{events_from, events_in, last_page, piece_behind, piece_count, piece_size as piece_size_of, stream_in};
 ghost use Rattle.tw_steppage.specs.StepBytes.{piece_codec};
 
 use crate::fault::ListFault;
-use crate::info::StepInfo;
+use crate::info::EventsAt;
 use std::alloc::Global;
 use tw_base::limits::{MOST_EVENT_BYTES, MOST_EVENTS, MOST_STEP_BYTES, PAGE_SIZE};
 use tw_base::{Bytes, EventList, NoMemory, Page};
@@ -54,26 +54,26 @@ fn piece_from(
 // Reads the event page of this number of the step, and appends its piece of the stream.
 fn add_piece<P: Pages>(
     pages: &mut P,
-    info: &StepInfo,
+    at: &EventsAt,
     number: u16,
     into: &mut Bytes,
 ) -> Result<(), ListFault>
-    requires page { info.now.stream.page + number < 2 ^ 64 }
-    requires more { MOST_PIECE_BYTES * number < info.now.stream.size }
+    requires page { at.now.stream.page + number < 2 ^ 64 }
+    requires more { MOST_PIECE_BYTES * number < at.now.stream.size }
     ensures reads { ReadsPages list_faults P.view P.same pages.old pages.new (λ _. into.new) result
-        (λ ps. piece_behind ps info.now number into.old) }
-    ensures next { OnOk result (info.now.stream.page + number + 1 < 2 ^ 64) }
+        (λ ps. piece_behind ps at.now number into.old) }
+    ensures next { OnOk result (at.now.stream.page + number + 1 < 2 ^ 64) }
 {
-    let page = info.stream.page + number as u64;
-    let count = piece_size(info.stream.size, number);
+    let page = at.stream.page + number as u64;
+    let count = piece_size(at.stream.size, number);
     let mut bytes = [0; PAGE_SIZE];
     read_page(pages, page, &mut bytes)?;
-    let piece = piece_from(&bytes, page, info.step, number, count)?;
+    let piece = piece_from(&bytes, page, at.step, number, count)?;
     into.extend_from_slice(piece)?;
     Ok(())
 }
 
-// The number of a page that an info tells of is one that a `u64` has.
+// The number of a page that is told is one that a `u64` has.
 fn page_range(page: u64)
     ensures { page < 2 ^ 64 }
 {}
@@ -81,31 +81,31 @@ fn page_range(page: u64)
 /// The bytes that the event pages of a step have, and the page that was read last before them or
 /// among them.
 #[derive(Drop)]
-pub(crate) struct StreamRead {
-    pub bytes: Bytes,
-    pub last: u64,
+struct StreamRead {
+    bytes: Bytes,
+    last: u64,
 }
 
 /// Reads the event pages of a step.
 #[tactic(auto, using(crate::proofs::PieceCounts::pieces_go_on))]
-pub(crate) fn read_stream<P: Pages>(
+fn read_stream<P: Pages>(
     alloc: Global,
     pages: &mut P,
-    info: &StepInfo,
+    at: &EventsAt,
 ) -> Result<StreamRead, ListFault>
-    requires { info.now.stream.size ≤ MOST_STREAM_BYTES }
+    requires { at.now.stream.size ≤ MOST_STREAM_BYTES }
     ensures reads { ReadsPages list_faults P.view P.same pages.old pages.new (λ r. r.bytes) result
-        (λ ps. stream_in ps info.now) }
-    ensures last { IfOk result (λ r. r.last ≡ last_page info.now (piece_count info.now.stream.size)) }
+        (λ ps. stream_in ps at.now) }
+    ensures last { IfOk result (λ r. r.last ≡ last_page at.now (piece_count at.now.stream.size)) }
 {
-    let size = info.stream.size as u64;
-    page_range(info.stream.page);
+    let size = at.stream.size as u64;
+    page_range(at.stream.page);
     let mut bytes = Bytes::new(alloc);
-    let mut last = info.page;
+    let mut last = at.page;
     let mut number = 0u16;
     while MOST_PIECE_BYTES * (number as u64) < size {
-        add_piece(pages, info, number, &mut bytes)?;
-        last = info.stream.page + number as u64;
+        add_piece(pages, at, number, &mut bytes)?;
+        last = at.stream.page + number as u64;
         number += 1;
     }
     Ok(StreamRead { bytes, last })
@@ -140,11 +140,7 @@ fn event_size(bytes: &[u8], at: usize) -> Option<usize>
 
 /// The events that the bytes spell, as many as the count, if they spell any within the limits of
 /// a step.
-pub(crate) fn read_events(
-    alloc: Global,
-    bytes: &[u8],
-    count: u32,
-) -> Result<Option<EventList>, NoMemory>
+fn read_events(alloc: Global, bytes: &[u8], count: u32) -> Result<Option<EventList>, NoMemory>
     ensures answer { IfOk result (λ found. (page : ℕ)
         → MatchOption found (events_in page count bytes.now ≡ Bad page)
         (λ events. events_in page count bytes.now ≡ Is events)) }
@@ -167,4 +163,25 @@ pub(crate) fn read_events(
         return Ok(None);
     }
     Ok(Some(events))
+}
+
+/// The events of a step, from where they stand.
+#[tactic(auto, unfolding(crate::specs::Events::events_from))]
+pub(crate) fn read_from<P: Pages>(
+    alloc: Global,
+    pages: &mut P,
+    at: &EventsAt,
+) -> Result<EventList, ListFault>
+    ensures reads { ReadsPages list_faults P.view P.same pages.old pages.new (λ x. x) result
+        (λ ps. events_from ps at.now) }
+    ensures counted { IfOk result (λ events. MayRecord events × (length events ≡ at.now.count)) }
+{
+    if at.stream.size as u64 > MOST_STREAM_BYTES {
+        return Err(ListFault::BadPage { page: at.page });
+    }
+    let StreamRead { bytes, last } = read_stream(alloc, pages, at)?;
+    match read_events(alloc, bytes.as_slice(), at.count)? {
+        None => Err(ListFault::BadPage { page: last }),
+        Some(events) => Ok(events),
+    }
 }

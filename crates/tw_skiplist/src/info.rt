@@ -36,3 +36,13 @@ pub struct StepLink {
     pub path: Path,
     pub auth: Digest,
 }
+
+/// Where the events of a step stand: the step and its page, their number, and their stream in event
+/// pages.
+#[derive(Clone, Copy, Drop)]
+pub(crate) struct EventsAt {
+    pub step: u64,
+    pub page: u64,
+    pub count: u32,
+    pub stream: StreamRef,
+}

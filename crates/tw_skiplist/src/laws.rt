@@ -1,13 +1,13 @@
 // The laws of pages that keep a history, and of what is read of them, on which the service builds.
 
-ghost use Rattle.std.specs.Prelude.{◌≡◌, ℕ, suc, ◌+◌, ◌<◌, ◌≤◌, ◌^◌, List, [], ◌++◌, length, Option};
+ghost use Rattle.std.specs.Prelude.{◌≡◌, ℕ, suc, ◌+◌, ◌<◌, ◌≤◌, ◌^◌, List, [], ◌++◌, length, Option, Some};
 ghost use Rattle.tw_disk.specs.declared.limits.TheConstants.{FIRST_PAGE};
 ghost use Rattle.tw_disk.specs.Image.{Image};
 ghost use Rattle.tw_base.specs.declared.history.content.Content.{Content};
 ghost use Rattle.tw_base.specs.declared.history.root.Root.{Root};
 ghost use Rattle.tw_base.specs.declared.kinds.limits.TheConstants.{LAST_STEP};
 ghost use Rattle.tw_base.specs.history.Auth.{auth, tree_label};
-ghost use Rattle.tw_base.specs.history.History.{History, Step, events_at, plus};
+ghost use Rattle.tw_base.specs.history.History.{History, Step, events_at, plus, step_at};
 ghost use Rattle.tw_base.specs.history.Tree.{tree};
 ghost use Rattle.tw_skipproof.specs.HistoryProofs.{IsPathOf};
 ghost use Rattle.tw_skipproof.specs.declared.path.Path.{Path};
@@ -20,6 +20,7 @@ ghost use Rattle.tw_skiplist.specs.Events.{events_of_info};
 ghost use Rattle.tw_disk.specs.Found.Found.{Is};
 ghost use Rattle.tw_skiplist.specs.Infos.{IsInfoOf};
 ghost use Rattle.tw_skiplist.specs.Keeping.{AreAlike, GoOn, Keeps, MayBeKept, Place, place_of};
+ghost use Rattle.tw_skiplist.specs.StepRecords.{content_of, found_records, record_at, records_down};
 ghost use Rattle.tw_skiplist.specs.Readings.{found_events, found_link, found_path, found_proof, found_step};
 
 use tw_base::Hasher;
@@ -48,10 +49,10 @@ pub fn keeping_laws<H: Hasher>()
 
 /// What is read of pages that keep a history under the head is the history's, and no page is bad: a
 /// step, under the head or under the link that leads to it, a path from a step down to another (or to
-/// step 0), both under a top, the events of a step that was told, and those of a step. After one more
-/// step, of events or of a thread within the limits of a step, the pages are the earlier ones and more;
-/// where the archive is that of the longer history, they keep it under the new head. Before it fewer than
-/// 2^47 pages are used.
+/// step 0), both under a top, the events of a step that was told, and those of a step; the records of all steps, and
+/// what each of them recorded. After one more
+/// step the pages are the earlier ones and more; where it is within the limits of a step and the archive is
+/// that of the longer history, they keep it under the new head, while fewer than 2^47 pages are used.
 pub fn reading_laws<H: Hasher>()
     // Where pages keep a history under the head, each of its steps is found in them, so no page met is bad, and what is
     // found of it is the history's.
@@ -83,16 +84,23 @@ pub fn reading_laws<H: Hasher>()
     // Where pages keep a history under the head, the events that are found of each of its steps are the history's.
     ensures events { (ps : Image) (h : History) (head : Head) (i : ℕ) → Keeps H.dig ps h head → 1 ≤ i → i ≤ head.step →
         found_events H.dig ps head i ≡ Is (events_at h i) }
-    // Where they keep one that may have a further step, a step of a content and a time within the limits is found, while
-    // fewer than 2^47 pages are used and the archive's page is one of them: its pages are the earlier ones with more
-    // behind them. And where the archive's label is that of the tree after such a step, they keep under its head the
-    // history with that step, at the earlier places and one with the archive's page.
+    // Where pages keep a history under the head, the records that are found are those of its steps, the last one first.
+    ensures records { (ps : Image) (h : History) (head : Head) → (kept : Keeps H.dig ps h head)
+        → found_records ps head ≡ Is (records_down H.dig h kept.places (length h.steps)) }
+    // What is found of the record of one of its steps is what the step recorded.
+    ensures content { (ps : Image) (h : History) (head : Head) (i : ℕ) (s : Step)
+        → (kept : Keeps H.dig ps h head) → 1 ≤ i → i ≤ head.step → step_at h i ≡ Some s
+        → content_of ps (record_at H.dig h kept.places i) ≡ Is s.content }
+    // Where they keep one that may have a further step, that step is found, whatever its content, its time and its
+    // archive: its pages are the earlier ones with more behind them. And where content and time are within the limits of
+    // a step, the archive's page is one of the pages, fewer than 2^47 pages are used, and the archive's label is that of
+    // the tree after such a step, they keep under its head the history with that step, at the earlier places and one
+    // with the archive's page.
     ensures appended { (ps : Image) (h : History) (head : Head) (content : Content) (archive : Root) (time : Option ℕ)
-        → (kept : Keeps H.dig ps h head) → head.step < LAST_STEP →
-        MayBeKept (bare_step content time) → archive.page < FIRST_PAGE + length ps → FIRST_PAGE + length ps < 2 ^ 47 →
-        (more : Image) × (new : Head)
+        → (kept : Keeps H.dig ps h head) → head.step < LAST_STEP → (more : Image) × (new : Head)
         × (appended H.dig ps head content archive time ≡ Is (record { pages = ps ++ more; value = new }))
-        × ((s : Step) → s.content ≡ content → s.time ≡ time
+        × (MayBeKept (bare_step content time) → archive.page < FIRST_PAGE + length ps → FIRST_PAGE + length ps < 2 ^ 47
+        → (s : Step) → s.content ≡ content → s.time ≡ time
         → archive.label ≡ tree_label H.dig (tree (plus h s) (suc (length h.steps))) →
         (longer : Keeps H.dig (ps ++ more) (plus h s) new)
         × GoOn kept.places longer.places (length h.steps) archive.page) }

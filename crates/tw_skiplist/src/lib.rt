@@ -11,6 +11,8 @@ mod laws;
 mod pieces;
 mod reading;
 mod records;
+mod step_page;
+mod step_records;
 mod walking;
 
 pub use adding::{append, append_thread};
@@ -19,3 +21,4 @@ pub use head::Head;
 pub use info::{StepInfo, StepLink, StepProof};
 pub use laws::{keeping_laws, reading_laws};
 pub use reading::{events, events_of, link, path, prove, step};
+pub use step_records::{StepRecord, read_content, read_records};

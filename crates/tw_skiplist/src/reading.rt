@@ -6,15 +6,15 @@ ghost use Rattle.tw_disk.specs.Answers.{ReadsPages, ReadsWhere};
 ghost use Rattle.tw_skipproof.specs.Paths.{HasShape};
 ghost use Rattle.tw_skiplist.specs.Infos.{IsTold};
 ghost use Rattle.tw_skiplist.specs.ListFaults.{NoStepUnless, list_faults};
-ghost use Rattle.tw_skiplist.specs.Events.{events_of_info};
+ghost use Rattle.tw_skiplist.specs.Events.{events_of_info, events_told};
 ghost use Rattle.tw_skiplist.specs.Readings.{found_events, found_link, found_path, found_proof, found_step, found_way};
 ghost use Rattle.tw_skiplist.specs.Walks.{head_ref};
 
 use crate::collecting::{Collected, collect, read_info};
-use crate::event_pages::{StreamRead, read_events, read_stream};
+use crate::event_pages::read_from;
 use crate::fault::ListFault;
 use crate::head::Head;
-use crate::info::{StepInfo, StepLink, StepProof};
+use crate::info::{EventsAt, StepInfo, StepLink, StepProof};
 use crate::walking::descend;
 use std::alloc::Global;
 use tw_base::limits::LAST_STEP;
@@ -22,7 +22,6 @@ use tw_base::{EventList, Hasher};
 use tw_disk::Pages;
 use tw_skipproof::Path;
 use tw_steppage::StepRef;
-use tw_steppage::limits::MOST_STREAM_BYTES;
 
 // The link that the head is.
 fn link_to_head(head: &Head) -> StepRef
@@ -65,6 +64,18 @@ pub fn step<P: Pages, H: Hasher>(
     }
     let link = descend(pages, &link_to_head(head), last, i)?;
     read_info::<P, H>(alloc, pages, &link, i)
+}
+
+// Where the info tells that the step's events stand.
+fn at_of(info: &StepInfo) -> EventsAt
+    ensures { result ≡ events_told info.now }
+{
+    EventsAt {
+        step: info.step,
+        page: info.page,
+        count: info.count,
+        stream: info.stream,
+    }
 }
 
 // The way from the step n down to the step i, of the history whose head is given.
@@ -211,7 +222,6 @@ pub fn prove<P: Pages, H: Hasher>(
 /// step's, else the first event page that isn't of its kind, or, if their stream spells no such
 /// events, the last of them (the step's page if there is none). It never comes where the info is of
 /// a step that the pages keep, and NoStep never comes.
-#[tactic(auto, unfolding(crate::specs::Events::events_of_info))]
 pub fn events_of<P: Pages>(
     alloc: Global,
     pages: &mut P,
@@ -228,14 +238,7 @@ pub fn events_of<P: Pages>(
     // Over any pages, told or not, the events of a step are within the limits and as many as it counts.
     ensures counted { IfOk result (λ events. MayRecord events × (length events ≡ info.now.count)) }
 {
-    if info.stream.size as u64 > MOST_STREAM_BYTES {
-        return Err(ListFault::BadPage { page: info.page });
-    }
-    let StreamRead { bytes, last } = read_stream(alloc, pages, info)?;
-    match read_events(alloc, bytes.as_slice(), info.count)? {
-        None => Err(ListFault::BadPage { page: last }),
-        Some(events) => Ok(events),
-    }
+    read_from(alloc, pages, &at_of(info))
 }
 
 /// The events of the step i of the history whose head is given (a step below 2^40), found as by

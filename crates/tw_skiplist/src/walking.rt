@@ -4,18 +4,20 @@ ghost use Rattle.std.specs.Prelude.{◌≡◌, suc, ◌<◌, ◌≤◌, ◌^◌,
 ghost use Rattle.tw_base.specs.kinds.Levels.{top_level};
 ghost use Rattle.tw_disk.specs.Answers.{ReadsPages};
 ghost use Rattle.tw_disk.specs.WalkFaults.{walk_faults};
-ghost use Rattle.tw_steppage.specs.StepPages.{HasRanges, page_of_step};
+ghost use Rattle.tw_steppage.specs.StepPages.{HasRanges};
+ghost use Rattle.tw_skiplist.specs.PagesOfSteps.{page_of_step};
 ghost use Rattle.tw_skiplist.specs.Walks.{link_in, walk};
 
 use crate::records::link_at;
+use crate::step_page::read_step_page;
 use tw_base::limits::PAGE_SIZE;
 use tw_base::power_of_two;
 use tw_disk::{Pages, WalkFault, read_page};
 use tw_skipproof::next_hop;
-use tw_steppage::{StepPage, StepRef, read_step_page};
+use tw_steppage::{StepPage, StepRef};
 
 /// Reads the page of a step (below 2^40).
-#[tactic(auto, unfolding(tw_steppage::specs::StepPages::page_of_step))]
+#[tactic(auto, unfolding(crate::specs::PagesOfSteps::page_of_step))]
 pub(crate) fn read_step<P: Pages>(
     pages: &mut P,
     page: u64,

@@ -1,12 +1,9 @@
 -- What an event page spells.
-use Rattle.std.proofs.Common.{◌≡◌, ℕ, List, length, take, drop, refl, ap, sym, ◌∙◌, Bool, true, false}
-use Rattle.std.specs.Prelude.{◌↔◌, IsTrue}
+use Rattle.std.proofs.Common.{◌≡◌, ℕ, List, length, take, drop, ap, ◌∙◌}
 use Rattle.std.proofs.lemmas.List.{take_at}
 use Rattle.tw_base.specs.format.Codecs.{HasBytes, behind, bytes_codec}
 use Rattle.tw_base.specs.format.PageBytes.{IsPageOf}
 use Rattle.tw_base.proofs.lemmas.format.CodecLaws.{Lawful, lawful}
-use Rattle.tw_disk.specs.Found.{spelled, when}
-use Rattle.tw_disk.proofs.SpelledLaws.{page-is, page-none}
 use Rattle.tw_steppage.specs.StepBytes.{event_page_bytes, piece_codec}
 
 pub piece-lawful : (step number count : ℕ) → Lawful (piece_codec step number count)
@@ -18,7 +15,8 @@ pub event_page_of : (step number count : ℕ) (page bytes : List ℕ) → page �
 unfolding event_page_bytes piece_codec behind bytes_codec
 event_page_of step number count page bytes is fits = record { bytes = is; fits = fits }
 
-of_event_page : (step number count : ℕ) (page bytes : List ℕ) → IsPageOf (piece_codec step number count) page bytes → (page ≡ event_page_bytes step number bytes) × (length bytes ≡ count)
+-- and only then
+pub of_event_page : (step number count : ℕ) (page bytes : List ℕ) → IsPageOf (piece_codec step number count) page bytes → (page ≡ event_page_bytes step number bytes) × (length bytes ≡ count)
 unfolding event_page_bytes piece_codec behind bytes_codec
 of_event_page step number count page bytes is = (is.bytes, is.fits.0)
 
@@ -26,15 +24,3 @@ of_event_page step number count page bytes is = (is.bytes, is.fits.0)
 pub piece_read : (step number count : ℕ) (page bytes : List ℕ) → page ≡ event_page_bytes step number bytes → length bytes ≡ count → take count (drop 11 page) ≡ bytes
 unfolding event_page_bytes piece_codec behind bytes_codec
 piece_read step number count page bytes is size = ap (λ (p : List ℕ). take count (drop 11 p)) is ∙ take_at bytes _ count size
-
--- the bytes spell the piece that stands in them where they are the event page of that one, and else none
-pub event_page_spells : (step number count : ℕ) (bytes : List ℕ) (is : Bool) → (IsTrue is ↔ (bytes ≡ event_page_bytes step number (take count (drop 11 bytes)))) → HasBytes count (take count (drop 11 bytes))
-    → (page : ℕ) → spelled page 4096 (piece_codec step number count) bytes ≡ when is page (take count (drop 11 bytes))
-event_page_spells step number count bytes true tells has = λ page.
-    page-is page (piece_codec step number count) (piece-lawful step number count) bytes (take count (drop 11 bytes))
-    (event_page_of step number count bytes (take count (drop 11 bytes)) (tells.0 refl) has)
-event_page_spells step number count bytes false tells has = λ page.
-    page-none page (piece_codec step number count) (piece-lawful step number count) bytes (λ other is.
-    let own = of_event_page step number count bytes other is in
-    let bad : IsTrue false = tells.1 (own.0 ∙ ap (λ (b : List ℕ). event_page_bytes step number b) (sym (piece_read step number count bytes other own.0 own.1))) in
-    cc)

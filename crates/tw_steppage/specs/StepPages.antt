@@ -1,12 +1,9 @@
--- The pages of steps.
+-- What the page of a step tells, and where it may stand.
 use Rattle.std.specs.Prelude.{ℕ, suc, zero, ◌^◌, ◌≤◌, ◌==◌, ◌&&◌, List, [], length, nat_lt, slice_index_or, Bool, true, IfSome, if◌then◌else◌}
-use Rattle.tw_base.specs.declared.kinds.limits.TheConstants.{LAST_STEP, MOST_EVENTS, PAGE_SIZE}
+use Rattle.tw_base.specs.declared.kinds.limits.TheConstants.{LAST_STEP, MOST_EVENTS}
 use Rattle.tw_base.specs.history.Limits.{IsTimeWithinLimits}
-use Rattle.tw_disk.specs.Image.{Image}
 use Rattle.tw_steppage.specs.declared.link.StepRef.{StepRef}
 use Rattle.tw_steppage.specs.declared.fields.StepFields.{StepFields}
-use Rattle.tw_disk.specs.Found.{Found, when, ◌>>=◌, bytes_in, spelled}
-use Rattle.tw_steppage.specs.StepBytes.{step_codec}
 
 abbrev pub no_ref : StepRef
 no_ref = record { page = 0; auth = [] }
@@ -31,12 +28,3 @@ unfoldable pub keeps_link_rules : (page step : ℕ) → List StepRef → (count 
 keeps_link_rules page step links zero = true
 keeps_link_rules page step links (suc level) =
     keeps_link_rules page step links level && lies_below (step == 2 ^ level) (link_of links level).page page
-
--- the fields and links that the bytes spell, if they may stand in the page of this number as the page of this step
-unfoldable pub step_in : (page step : ℕ) → List ℕ → Found (StepFields × List StepRef)
-step_in page step bytes =
-    spelled page PAGE_SIZE (step_codec step) bytes >>= (λ p. when (keeps_field_rules page p.0 && keeps_link_rules page step p.1 (length p.1)) page p)
-
--- the same of the page of this number
-unfoldable pub page_of_step : Image → (page step : ℕ) → Found (StepFields × List StepRef)
-page_of_step pages page step = bytes_in pages page >>= step_in page step

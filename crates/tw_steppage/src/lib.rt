@@ -10,4 +10,6 @@ mod page;
 pub use fields::{StepFields, StreamRef};
 pub use laws::page_laws;
 pub use link::StepRef;
-pub use page::{StepPage, event_page, event_piece, is_event_page, read_step_page, step_page};
+pub use page::{
+    StepPage, event_page, event_piece, is_event_page, keeps_rules, step_page, take_step,
+};

@@ -8,10 +8,7 @@ ghost use Rattle.tw_base.specs.kinds.Levels.{top_level as top_level_of};
 ghost use Rattle.tw_base.specs.kinds.Lists.{Each};
 ghost use Rattle.tw_base.specs.format.Taking.{Takes};
 ghost use Rattle.tw_steppage.specs.StepBytes.{body_codec, counts_codec, event_page_bytes, kind_of as kind_of_fields, kinds_codec, links_codec, page_thread_codec, piece_codec, received_codec, ref_codec, step_codec, step_page_bytes};
-ghost use Rattle.tw_steppage.specs.StepPages.{HasRanges, keeps_field_rules as field_rules, keeps_link_rules as link_rules, lies_below as is_below, step_in};
-ghost use Rattle.tw_base.specs.declared.kinds.limits.TheConstants.{PAGE_SIZE};
-ghost use Rattle.tw_disk.specs.Found.{spelled, when};
-ghost use Rattle.tw_disk.specs.Found.Found.{Is, Bad};
+ghost use Rattle.tw_steppage.specs.StepPages.{keeps_field_rules as field_rules, keeps_link_rules as link_rules, lies_below as is_below};
 
 use crate::fields::{StepFields, StreamRef};
 use crate::limits::{MOST_LINKS, MOST_PIECE_BYTES, MOST_STREAM_BYTES};
@@ -19,8 +16,8 @@ use crate::link::StepRef;
 use arrayvec::ArrayVec;
 use tw_base::limits::{LAST_STEP, LAST_TIME, MOST_EVENTS};
 use tw_base::{
-    Page, PageFront, ReadFault, Root, Thread, page_to, power_of_two, take_digest, take_name,
-    take_number, take_text, top_level,
+    Page, PageFront, ReadFault, Root, Thread, power_of_two, take_digest, take_name, take_number,
+    take_text, top_level,
 };
 
 // ---- links
@@ -333,9 +330,9 @@ fn take_kinds(bytes: &[u8], at: &mut u64, step: u64) -> Result<StepPage, ReadFau
     take_body(bytes, at, step, kind)
 }
 
-// Takes the fields and the links of the step.
+/// Takes the fields and the links of the page of this step.
 #[tactic(auto, unfolding(crate::specs::StepBytes::step_codec, tw_base::specs::format::Codecs::behind))]
-fn take_step(bytes: &[u8], at: &mut u64, step: u64) -> Result<StepPage, ReadFault>
+pub fn take_step(bytes: &[u8], at: &mut u64, step: u64) -> Result<StepPage, ReadFault>
     requires within { at.old ≤ length bytes.now }
     requires step { step < 2 ^ 40 }
     ensures takes { Takes (step_codec step) (λ p. (p.fields, p.links.items)) bytes.now at.old at.new result }
@@ -371,31 +368,12 @@ fn keeps_link_rules(page: u64, step: u64, links: &[StepRef]) -> bool
     true
 }
 
-fn keeps_rules(page: u64, step: u64, found: &StepPage) -> bool
+/// Whether fields and links may stand in the page of this number as those of this step.
+pub fn keeps_rules(page: u64, step: u64, found: &StepPage) -> bool
     requires { length found.now.links.items ≤ MOST_LINKS }
     ensures { result ≡ (field_rules page found.now.fields && link_rules page step found.now.links.items (length found.now.links.items)) }
 {
     keeps_field_rules(page, &found.fields) && keeps_link_rules(page, step, found.links.as_slice())
-}
-
-/// The fields and links of the page of this step, where the bytes are one that may stand in the page
-/// of this number.
-pub fn read_step_page(page: u64, step: u64, bytes: &Page) -> Option<StepPage>
-    requires { step < 2 ^ 40 }
-    ensures answer { MatchOption result (step_in page step bytes.now ≡ Bad page) (λ p. step_in page step bytes.now ≡ Is (p.fields, p.links.items)) }
-    ensures link_count { IfSome result (λ p. length p.links.items ≡ suc (top_level_of step)) }
-    ensures ranges { IfSome result (λ p. HasRanges p.fields) }
-{
-    let mut at = 0;
-    let read = take_step(bytes, &mut at, step);
-    let Some(found) = page_to(bytes, at, read) else {
-        return None;
-    };
-    if keeps_rules(page, step, &found) {
-        Some(found)
-    } else {
-        None
-    }
 }
 
 /// The bytes of a stream that stand in an event page that has so many.
@@ -406,20 +384,12 @@ pub fn event_piece(bytes: &Page, count: usize) -> &[u8]
     &bytes[11..11 + count]
 }
 
-// Whether the bytes are the event page of the piece that stands in them.
-fn is_page_of(bytes: &Page, step: u64, number: u16, count: usize) -> bool
+/// Whether the bytes are the event page of this number of the step with so many bytes of its stream,
+/// those that stand in it.
+pub fn is_event_page(bytes: &Page, step: u64, number: u16, count: usize) -> bool
     requires { count ≤ MOST_PIECE_BYTES }
     ensures answer { IsTrue result ↔ (bytes.now ≡ event_page_bytes step number (take count (drop 11 bytes.now))) }
     ensures piece { HasBytes count (take count (drop 11 bytes.now)) }
 {
     *bytes == event_page(step, number, event_piece(bytes, count))
-}
-
-/// Whether the bytes are the event page of this number of the step with so many bytes of its stream,
-/// those that stand in it.
-pub fn is_event_page(bytes: &Page, step: u64, number: u16, count: usize) -> bool
-    requires { count ≤ MOST_PIECE_BYTES }
-    ensures { (page : ℕ) → spelled page PAGE_SIZE (piece_codec step number count) bytes.now ≡ when result page (take count (drop 11 bytes.now)) }
-{
-    is_page_of(bytes, step, number, count)
 }

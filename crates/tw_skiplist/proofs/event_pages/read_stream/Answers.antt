@@ -6,10 +6,10 @@ use Rattle.tw_skiplist.proofs.event_pages.read_stream.Goals as goal
 
 pub loop-number-init : goal.loop-number-init
 loop-number-init g c =
-    let info = c.args.info.now in
+    let at = c.args.at.now in
     record {
       reads = record {
-        on = λ ps told. pieces-begin ps info ∙ ap (λ (b : List ℕ). pieces_from ps info (piece_count info.stream.size - 0) 0 b) (sym c.new-bytes.ensures);
+        on = λ ps told. pieces-begin ps at ∙ ap (λ (b : List ℕ). pieces_from ps at (piece_count at.stream.size - 0) 0 b) (sym c.new-bytes.ensures);
         kept = only_reads_itself g.P.Pages.view g.P.Pages.same _ _ (g.met.P.Pages.same_itself _);
         later = omega arith;
       };

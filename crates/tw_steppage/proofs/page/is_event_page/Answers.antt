@@ -1,5 +1,10 @@
-use Rattle.tw_steppage.proofs.EventPages.{event_page_spells}
+use Rattle.std.proofs.Common.{drop, subst, arith, length-drop}
+use Rattle.std.proofs.lemmas.List.{length-take-le}
+use Rattle.tw_base.specs.kinds.Bytes.{AreBytes}
 use Rattle.tw_steppage.proofs.page.is_event_page.Goals as goal
 
-pub returns : goal.returns
-returns c = event_page_spells c.args.step c.args.number c.args.count c.args.bytes.now c.is_page_of.result c.is_page_of.ensures.answer c.is_page_of.ensures.piece
+pub returns-clause-piece : goal.returns-clause-piece
+returns-clause-piece c =
+    let bytes = c.args.bytes.now in
+    let size = length-drop 11 bytes in
+    (length-take-le c.args.count (drop 11 bytes) (omega (arith, size, c.requires)), subst AreBytes c.event_piece.ensures c.event_page.ensures.bytes)

@@ -6,11 +6,12 @@ use Rattle.tw_steppage.specs.declared.link.StepRef.{StepRef}
 use Rattle.tw_steppage.specs.declared.page.StepPage.{StepPage}
 use Rattle.tw_disk.specs.Found.{Found, when, ◌>>=◌, spelled}
 use Rattle.tw_steppage.specs.StepBytes.{step_codec}
-use Rattle.tw_steppage.specs.StepPages.{keeps_field_rules, keeps_link_rules, step_in}
+use Rattle.tw_steppage.specs.StepPages.{keeps_field_rules, keeps_link_rules}
+use Rattle.tw_skiplist.specs.PagesOfSteps.{step_in}
 use Rattle.tw_disk.proofs.FoundLaws.{is_on}
 use Rattle.tw_disk.proofs.SpelledLaws.{page-is, page-none}
 use Rattle.tw_steppage.proofs.StepCodecs.{in-ranges, links-count, step-lawful}
-use Rattle.tw_steppage.proofs.page.read_step_page.Goals as goal
+use Rattle.tw_skiplist.proofs.step_page.read_step_page.Goals as goal
 
 abbrev parts : StepPage → StepFields × List StepRef
 parts p = (p.fields, p.links.items)

@@ -1,0 +1,4 @@
+pub mod Roots
+pub mod Refusals
+pub mod Limits
+pub mod Finds
