@@ -1,5 +1,5 @@
 -- What a call that only reads makes: where its table refuses it, where it answers, and where it meets a fault.
-use Rattle.std.proofs.Common.{◌≡◌, ◌⊎◌, ℕ, ◌≤◌, List, refl, ap, sym, ◌∙◌, subst, arith, inl, inr, ⊎_elim, false}
+use Rattle.std.proofs.Common.{◌≡◌, ◌⊎◌, ℕ, ◌≤◌, List, refl, ap, sym, subst, arith, inl, inr, ⊎_elim, false}
 use Rattle.std.specs.Prelude.{◌↔◌, IsTrue, MatchOption, Option, Some, None, Result, Ok, Err, IfErr}
 use Rattle.tw_base.specs.history.History.{History}
 use Rattle.tw_base.specs.kinds.Faults.{Rose}
@@ -9,31 +9,32 @@ use Rattle.tw_disk.specs.Found.Found.{Is}
 use Rattle.tw_disk.specs.Image.{Image}
 use Rattle.tw_pages.specs.Same.{IsSameStore, count_of}
 use Rattle.tw_pages.specs.SameSteps.{is_same_itself}
-use Rattle.tw_service.specs.declared.refusal.Refusal.{Refusal}
-use Rattle.tw_service.specs.declared.refusal.Refusal.TheVariants.{DiskFault}
-use Rattle.tw_service.specs.declared.root.RootRecord.{RootRecord}
+use Rattle.tw_answers.specs.declared.refusal.Refusal.{Refusal}
+use Rattle.tw_answers.specs.declared.refusal.Refusal.TheVariants.{DiskFault}
+use Rattle.tw_answers.specs.declared.root.RootRecord.{RootRecord}
 use Rattle.tw_service.specs.declared.service.Service.{Service}
-use Rattle.tw_service.specs.Asking.{Asks}
-use Rattle.tw_service.specs.Finds.{IsRefusalOf}
+use Rattle.tw_service.specs.Asking.{AsksOr}
+use Rattle.tw_answers.specs.Finds.{IsRefusalOf}
 use Rattle.tw_service.specs.Keeps.{KeepsHistory}
 use Rattle.tw_service.specs.Machine.{Call, IsStepOf, Reply}
 use Rattle.tw_service.specs.Machine.Reply.{Refused}
-use Rattle.tw_service.specs.Refusals.{IsBadPage, IsFault}
+use Rattle.tw_answers.specs.Refusals.{IsBadPage, IsFault}
 use Rattle.tw_service.specs.Serves.{Serves, disk_of, has_failed, pages_of, record_of}
-use Rattle.tw_service.proofs.Answering.{IsTold, answers_fault, answers_refusal, is_disk_fault}
-use Rattle.tw_service.proofs.FoundAnswers.{table_found}
+use Rattle.tw_answers.proofs.TableAnswers.{IsTold}
+use Rattle.tw_service.proofs.Answering.{answers_fault, answers_refusal, is_disk_fault}
+use Rattle.tw_answers.proofs.FoundAnswers.{table_found}
 use Rattle.tw_service.proofs.Serving.{read_keeps, read_leaves}
 
 abbrev fails : (T : Type 0) → Refusal → Result T Refusal
 fails T why = Err why
 
-module _ {D H : Type 0} {g : _} {k : _} (view : D → DiskView) (only_now : (d : D) (c : Image) → (view d).left_since (view d).moment c → (view d).may_leave c) (dig : List ℕ → List ℕ) {T : Type 0} (call : Call) (reply : T → Reply)
+module _ {D H : Type 0} {g : _} {k : _} (view : D → DiskView) (only_now : (d : D) (c : Image) → (view d).left_since (view d).moment c → (view d).may_leave c) (dig : List ℕ → List ℕ) {T : Type 0} (Own : Refusal → Type 0) (call : Call) (reply : T → Reply)
     (table : Option Refusal) (found : Image → Found (Result T Refusal)) where
   -- the table's refusal
   pub asked_refused : (s : Service D H g k) (r : Refusal) → Some r ≡ table → (IsFault r → ⊥) → ((ps : Image) → pages_of view s ≡ Some ps → found ps ≡ Is (Err r))
-      → (has_failed s ≡ false → (h : History) → Serves dig view s h → IsTold r × IsStepOf dig h call (Refused r) h) → Asks dig view call reply table found s s (Err r)
+      → (has_failed s ≡ false → (h : History) → Serves dig view s h → IsTold r × IsStepOf dig h call (Refused r) h) → AsksOr dig view Own call reply table found s s (Err r)
   asked_refused s r is told finds step = record {
-    table = subst (λ (o : Option Refusal). MatchOption o (IfErr (fails T r) IsFault) (λ why. fails T r ≡ Err why)) is refl;
+    table = subst (λ (o : Option Refusal). MatchOption o (IfErr (fails T r) (λ why. IsFault why ⊎ Own why)) (λ why. fails T r ≡ Err why)) is refl;
     answer = λ ps list. table_found r (found ps) told (finds ps list);
     machine = λ whole h served. let own = step whole h served in answers_refusal dig h call reply (Serves dig view s) r own.0 own.1 served;
     same = λ h served. (served, read_leaves view only_now dig s.recorded.store s.recorded.store s.recorded.root h (is_same_itself view s.recorded.store) served);
@@ -51,7 +52,7 @@ module _ {D H : Type 0} {g : _} {k : _} (view : D → DiskView) (only_now : (d :
     serves_on h served = subst (λ (r : RootRecord). IsAtRest (view (disk_of t)) (KeepsHistory dig t.recorded.store r h)) (sym root) (read_keeps view only_now dig s.recorded.store t.recorded.store s.recorded.root h same count served)
 
     pub asked_ok : (x : T) → t.is_broken ≡ s.is_broken → ((ps : Image) → pages_of view s ≡ Some ps → found ps ≡ Is (Ok x))
-        → (has_failed s ≡ false → (h : History) → Serves dig view s h → IsStepOf dig h call (reply x) h) → Asks dig view call reply table found s t (Ok x)
+        → (has_failed s ≡ false → (h : History) → Serves dig view s h → IsStepOf dig h call (reply x) h) → AsksOr dig view Own call reply table found s t (Ok x)
     asked_ok x flag finds step = record {
       table = subst (λ (o : Option Refusal). MatchOption o (Unit {0}) (λ why. ◌≡◌ {A = Result T Refusal} (Ok x) (Err why))) none tt;
       answer = finds;
@@ -64,10 +65,28 @@ module _ {D H : Type 0} {g : _} {k : _} (view : D → DiskView) (only_now : (d :
       later = later;
     }
 
+    -- it is refused by what was found
+    pub asked_own : (r : Refusal) → Own r → IsTold r → s.is_broken ≡ false → IsTrue t.is_broken ↔ (r ≡ DiskFault) → ((ps : Image) → pages_of view s ≡ Some ps → IsRefusalOf r (found ps))
+        → (has_failed s ≡ false → (h : History) → Serves dig view s h → IsStepOf dig h call (Refused r) h) → AsksOr dig view Own call reply table found s t (Err r)
+    asked_own r own told whole flag finds step = record {
+      table = subst (λ (o : Option Refusal). MatchOption o (IsFault r ⊎ Own r) (λ why. fails T r ≡ Err why)) none (inr own);
+      answer = finds;
+      machine = λ good h served. answers_refusal dig h call reply (Serves dig view t) r told (step good h served) (serves_on h served);
+      same = λ h served. (serves_on h served, read_leaves view only_now dig s.recorded.store t.recorded.store s.recorded.root h same served);
+      unwritten = same;
+      kept = root;
+      broken = ((λ failed. absurd (no_fault (flag.0 failed))), (λ either. ⊎_elim (λ failed. let was = subst (λ b. IsTrue b) whole failed in absurd cc) (λ is. absurd (told.0 (is_disk_fault T r is))) either));
+      fault = λ is. absurd (told.0 (is_disk_fault T r is));
+      later = later;
+    }
+      where
+        no_fault : r ≡ DiskFault → ⊥
+        no_fault is = told.0 (subst IsFault (sym is) tt)
+
     pub asked_err : (r : Refusal) → IsFault r → s.is_broken ≡ false → IsTrue t.is_broken ↔ (r ≡ DiskFault) → ((ps : Image) → pages_of view s ≡ Some ps → IsRefusalOf r (found ps))
-        → ((h : History) → Serves dig view s h → IsBadPage r → ⊥) → (r ≡ DiskFault → Rose (view (disk_of s)).faults (view (disk_of t)).faults) → Asks dig view call reply table found s t (Err r)
+        → ((h : History) → Serves dig view s h → IsBadPage r → ⊥) → (r ≡ DiskFault → Rose (view (disk_of s)).faults (view (disk_of t)).faults) → AsksOr dig view Own call reply table found s t (Err r)
     asked_err r fault whole flag finds good rose = record {
-      table = subst (λ (o : Option Refusal). MatchOption o (IsFault r) (λ why. fails T r ≡ Err why)) none fault;
+      table = subst (λ (o : Option Refusal). MatchOption o (IsFault r ⊎ Own r) (λ why. fails T r ≡ Err why)) none (inl fault);
       answer = finds;
       machine = λ whole h served. answers_fault dig h call reply (Serves dig view t) r fault (good h served) (inr (serves_on h served));
       same = λ h served. (serves_on h served, read_leaves view only_now dig s.recorded.store t.recorded.store s.recorded.root h same served);

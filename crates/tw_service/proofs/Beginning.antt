@@ -20,10 +20,10 @@ use Rattle.tw_pages.specs.StoreValue.{IsKept, disk_of, opening_of, staged_of}
 use Rattle.tw_pages.specs.Store.{Opening, OpensAs, used_of}
 use Rattle.tw_pages.specs.declared.store.Store.{Store}
 use Rattle.tw_skiplist.proofs.Growing.{Keeps-first}
-use Rattle.tw_service.specs.declared.root.RootRecord.{RootRecord}
+use Rattle.tw_answers.specs.declared.root.RootRecord.{RootRecord}
 use Rattle.tw_service.specs.Keeps.{KeepsHistory}
-use Rattle.tw_service.specs.Roots.{FitsStore, root_bytes}
-use Rattle.tw_service.proofs.RootLaws.{root-fits}
+use Rattle.tw_answers.specs.Roots.{FitsStore, root_bytes}
+use Rattle.tw_answers.proofs.RootLaws.{root-fits}
 use Rattle.tw_service.specs.Stands.{HasRoot, IsBlankOrNew, KeepsWhole, StandsFor, greatest, no_history}
 
 pub sound_none : (name : List ℕ) → IsName name → IsSound (no_history name)

@@ -1,14 +1,13 @@
 -- The greatest one of times, and the table's line on the clock.
-use Rattle.std.proofs.Common.{◌≡◌, ℕ, ◌≤◌, List, [], ◌∷◌, ◌++◌, refl, ap, sym, ◌∙◌, subst, arith, Bool, true, false}
-use Rattle.std.specs.Prelude.{Option, Some, None, IfSome, MatchOption, max, nat_lt, if◌then◌else◌}
+use Rattle.std.proofs.Common.{◌≡◌, ℕ, ◌≤◌, List, [], ◌∷◌, ◌++◌, refl, ap, ◌∙◌, arith, Bool, true, false}
+use Rattle.std.specs.Prelude.{Option, Some, None, IfSome, max, nat_lt, if◌then◌else◌}
 use Rattle.std.specs.Option.{option_to_list}
 use Rattle.std.proofs.lemmas.Bool.{ltb-false}
 use Rattle.std.proofs.lemmas.List.{append-nil}
 use Rattle.tw_base.specs.history.Limits.{IsTimeWithinLimits}
 use Rattle.tw_base.specs.kinds.Lists.{Each}
-use Rattle.tw_service.specs.declared.refusal.Refusal.{Refusal}
-use Rattle.tw_service.specs.declared.refusal.Refusal.TheVariants.{ClockBack}
-use Rattle.tw_service.specs.Limits.{clock_refusal}
+use Rattle.tw_answers.specs.declared.refusal.Refusal.TheVariants.{ClockBack}
+use Rattle.tw_answers.specs.Limits.{clock_refusal}
 use Rattle.tw_service.specs.Stands.{greater, greatest}
 
 abbrev AtMost : ℕ → Option ℕ → Type 0

@@ -25,24 +25,25 @@ use Rattle.tw_skiplist.specs.Readings.{found_link, found_path, found_proof}
 use Rattle.tw_disk.proofs.FoundLaws.{is_on, same_found}
 use Rattle.tw_skiplist.proofs.KeptEvents.{events_are}
 use Rattle.tw_skiplist.proofs.KeptReadings.{link_found, path_found, proof_found}
-use Rattle.tw_service.specs.declared.refusal.Refusal.{Refusal}
-use Rattle.tw_service.specs.declared.refusal.Refusal.TheVariants.{NoEvent}
-use Rattle.tw_service.specs.Finds.{IsRefusalOf, event_proof, found_thread, link_of, link_proof, part_of, path_down, proof_bytes, thread_at, unless}
-use Rattle.tw_service.specs.Limits.{append_refusal, event_refusal}
+use Rattle.tw_answers.specs.declared.refusal.Refusal.{Refusal}
+use Rattle.tw_answers.specs.declared.refusal.Refusal.TheVariants.{NoEvent}
+use Rattle.tw_answers.specs.Finds.{IsRefusalOf, event_proof, link_of, link_proof, part_of, path_down, proof_bytes, unless}
+use Rattle.tw_service.specs.Finds.{found_thread, thread_at}
+use Rattle.tw_answers.specs.Limits.{append_refusal, event_refusal}
 use Rattle.tw_service.specs.Machine.{MakesLink, last_thread}
-use Rattle.tw_service.specs.Refusals.{IsBadPage, IsFault, IsNoEvent}
+use Rattle.tw_answers.specs.Refusals.{IsBadPage, IsFault, IsNoEvent}
 use Rattle.tw_chain.specs.declared.proof.LinkProof.{LinkProof}
 use Rattle.tw_chain.specs.declared.proof.Proof.TheVariants.{Linked}
 use Rattle.tw_chain.specs.OwnProofs.{IsLinkProofOf}
 use Rattle.tw_chain.specs.Proofs.{proof_bytes as bytes_of_proof}
 use Rattle.tw_chain.proofs.OwnSpelling.{own-spelled}
 use Rattle.tw_skipproof.specs.declared.path.Path.{Path}
-use Rattle.tw_service.specs.declared.root.RootRecord.{RootRecord}
+use Rattle.tw_answers.specs.declared.root.RootRecord.{RootRecord}
 use Rattle.tw_service.specs.EventSteps.{with_events}
 use Rattle.tw_service.specs.Stands.{KeepsWhole}
 use Rattle.tw_service.proofs.WholePages.{added_whole}
-use Rattle.tw_service.proofs.Answering.{has_event}
-use Rattle.tw_service.proofs.FoundAnswers.{no_bad_found, no_event_found, value_found}
+use Rattle.tw_answers.proofs.TableAnswers.{has_event}
+use Rattle.tw_answers.proofs.FoundAnswers.{no_bad_found, no_event_found, value_found}
 
 -- ---- the thread of the next step
 

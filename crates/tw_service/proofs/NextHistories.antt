@@ -25,7 +25,7 @@ use Rattle.tw_archive.proofs.SoundNext.{same-length, sound-plus}
 use Rattle.tw_skiplist.specs.Appended.{events_in, thread_in}
 use Rattle.tw_skiplist.specs.Keeping.{AreAlike, Place, archive_at}
 use Rattle.tw_service.specs.EventSteps.{event_step, with_events}
-use Rattle.tw_service.specs.Limits.{clock_refusal}
+use Rattle.tw_answers.specs.Limits.{clock_refusal}
 use Rattle.tw_service.specs.Stands.{greater, greatest, greatest_time, step_pages}
 use Rattle.tw_service.proofs.GreatestTimes.{allowed, greatest-more}
 

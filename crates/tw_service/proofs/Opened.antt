@@ -15,11 +15,11 @@ use Rattle.tw_pages.specs.declared.store.Store.{Store}
 use Rattle.tw_pages.proofs.Once.{opens_once}
 use Rattle.tw_pages.proofs.NotRefused.{not_refused}
 use Rattle.tw_pages.proofs.StillKept.{kept_opens}
-use Rattle.tw_service.specs.declared.root.RootRecord.{RootRecord}
+use Rattle.tw_answers.specs.declared.root.RootRecord.{RootRecord}
 use Rattle.tw_service.specs.Keeps.{KeepsHistory}
-use Rattle.tw_service.specs.Roots.{IsAllowed, root_bytes}
+use Rattle.tw_answers.specs.Roots.{IsAllowed, root_bytes}
 use Rattle.tw_service.specs.Stands.{HasRoot, IsNotOpenedFor, KeepsWhole, OpensWith, StandsFor}
-use Rattle.tw_service.proofs.RootLaws.{root_once}
+use Rattle.tw_answers.proofs.RootLaws.{root_once}
 
 module _ {D : Type 0} {g : _} (view : D → DiskView) (dig : List ℕ → List ℕ)
     (store : Store D g) (c : Image) (at : IsAtRest (view (disk_of store)) (λ i. (i ≡ c) × IsKept store i)) (root : List ℕ) (root_is : root ≡ root_of store)

@@ -1,5 +1,5 @@
 -- From what a store says of its images to what they stand for.
-use Rattle.std.proofs.Common.{◌≡◌, ℕ, ◌+◌, ◌*◌, ◌^◌, ◌<◌, ◌≤◌, List, [], ◌∷◌, ◌++◌, length, refl, ap, sym, ◌∙◌, arith, subst, inl, inr, ⊎_elim, Bool}
+use Rattle.std.proofs.Common.{◌≡◌, ℕ, suc, ◌+◌, ◌*◌, ◌^◌, ◌<◌, ◌≤◌, List, [], ◌∷◌, ◌++◌, length, refl, ap, sym, ◌∙◌, arith, subst, inl, inr, ⊎_elim, Bool, append_assoc, length-append}
 use Rattle.std.specs.Prelude.{IfSome, Option, Some, None, is_some}
 use Rattle.std.specs.Option.{option_map}
 use Rattle.std.proofs.lemmas.List.{append-nil}
@@ -8,12 +8,16 @@ use Rattle.tw_disk.specs.Disk.{DiskView, IsAtRest, LeavesOnly, Reads}
 use Rattle.tw_disk.proofs.Moments.{goes_on, leaves_weaker}
 use Rattle.tw_base.specs.declared.kinds.limits.TheConstants.{LAST_STEP}
 use Rattle.tw_base.specs.declared.history.root.Root.{Root}
-use Rattle.tw_base.specs.history.History.{History}
+use Rattle.tw_base.specs.declared.history.thread.Thread.{Thread}
+use Rattle.tw_base.specs.history.Asking.{with_entry}
+use Rattle.tw_base.specs.history.History.{History, Step, plus}
 use Rattle.tw_base.specs.history.Sound.{IsSound}
 use Rattle.tw_base.specs.kinds.Names.{IsName}
 use Rattle.tw_base.proofs.lemmas.kinds.DigestBytes.{IsDigest, auth-digest, tree_label-digest}
-use Rattle.tw_base.specs.history.Tree.{tree}
-use Rattle.tw_base.specs.declared.history.content.Content.TheVariants.{Events}
+use Rattle.tw_base.specs.history.Tree.{Tree, entries, tree}
+use Rattle.tw_archive.specs.Archives.{MayArchive}
+use Rattle.tw_rbtree.specs.Standing.{HasNamed, StandsWith}
+use Rattle.tw_base.specs.declared.history.content.Content.TheVariants.{Events, Received}
 use Rattle.tw_pages.specs.StoreValue.{IsKept, disk_of, next_opening, opening_of, staged_of}
 use Rattle.tw_pages.specs.Same.{IsSameStore, count_of, list_of, pages_of}
 use Rattle.tw_pages.specs.Store.{IsAbove, Opening, OpensAs, OpensAsEither, used_of}
@@ -26,17 +30,18 @@ use Rattle.tw_disk.specs.Found.Found.{Is}
 use Rattle.tw_disk.proofs.FoundLaws.{same_found}
 use Rattle.tw_skiplist.proofs.Growing.{head_page}
 use Rattle.tw_base.specs.history.Limits.{IsTimeWithinLimits, MayRecord}
-use Rattle.tw_service.specs.declared.limits.TheConstants.{MOST_PAGES_OF_A_STEP}
-use Rattle.tw_service.specs.declared.root.RootRecord.{RootRecord}
+use Rattle.tw_answers.specs.declared.limits.TheConstants.{MOST_PAGES_OF_A_STEP}
+use Rattle.tw_answers.specs.declared.root.RootRecord.{RootRecord}
 use Rattle.tw_service.specs.EventSteps.{with_events}
 use Rattle.tw_service.specs.Keeps.{KeepsHistory}
-use Rattle.tw_service.specs.Limits.{clock_refusal}
-use Rattle.tw_service.specs.NextRecords.{event_record}
-use Rattle.tw_service.specs.Roots.{FitsStore, root_bytes}
+use Rattle.tw_answers.specs.Limits.{clock_refusal}
+use Rattle.tw_service.specs.Archiving.{IsStagedBehind, entry_of}
+use Rattle.tw_service.specs.NextRecords.{event_record, next_record}
+use Rattle.tw_answers.specs.Roots.{FitsStore, root_bytes}
 use Rattle.tw_service.specs.Stands.{HasRoot, KeepsWhole, StandsFor, StandsForOneOf}
-use Rattle.tw_service.proofs.RootLaws.{root-fits, root-name, root-time}
+use Rattle.tw_answers.proofs.RootLaws.{root-fits, root-name, root-time}
 use Rattle.tw_service.proofs.NextHistories.{sound_plus}
-use Rattle.tw_service.proofs.WholePages.{added_whole, archive_low, threads_few, threads_page}
+use Rattle.tw_service.proofs.WholePages.{AddedThread, added_thread, added_whole, archive_low, last_low, names, threads_few, threads_page, tree_named}
 use Rattle.tw_service.proofs.GreatestTimes.{greater-within}
 
 no_items : (pages : Image) → length pages ≡ 0 → pages ≡ []
@@ -191,6 +196,65 @@ module _ {D : Type 0} {g : _} (view : D → DiskView) (only_now : (d : D) (c : I
     where
       some_same : {x y : Image} → Some x ≡ Some y → x ≡ y
       some_same e = cc
+
+  -- a step that archives a thread, which was found and put behind pages of its archive's tree
+  pub record PutThread (old mid : Store D g) (r : RootRecord) (head : Head) (archive : Root) (h : History) (t : Thread) (time : Option ℕ) : Type 0 where
+    pub step : Step
+    pub content : step.content ≡ Received t
+    pub at_time : step.time ≡ time
+    pub put : Put old mid r (next_record r head archive (r.threads + 1) time) h (plus h step)
+
+  module _ (size : (text : List ℕ) → IsDigest (dig text)) (old mid : Store D g) (r : RootRecord) (head : Head) (archive : Root) (h : History) (t : Thread) (time : Option ℕ) (same : IsSameStore view old mid)
+      (rest : IsAtRest (view (disk_of old)) (KeepsHistory dig old r h)) (staged : IsStagedBehind dig (opening_of old rest.image).pages r t time (list_of view mid) head archive)
+      (behind : 4 + length (opening_of old rest.image).pages ≤ archive.page) (may : MayArchive h t time) (short : r.head.step < LAST_STEP) (one_more : head.step ≡ r.head.step + 1)
+      (few : 4 + length (opening_of old rest.image).pages ≤ 4 + MOST_PAGES_OF_A_STEP * r.head.step) (all_few : length staged.pages ≤ MOST_PAGES_OF_A_STEP * head.step) (commits : mid.generation ≤ r.head.step + 1) where
+    abbrev before : Image
+    before = (opening_of old rest.image).pages
+
+    abbrev whole : KeepsWhole dig before h r
+    whole = rest.has.keeps
+
+    new_tree : (tree_now : Tree) × StandsWith dig (HasNamed (names dig before h r whole)) (before ++ staged.tree_pages) archive tree_now × (entries tree_now ≡ with_entry (entries (tree h (length h.steps))) (entry_of r.head.step t))
+    new_tree = staged.tree (names dig before h r whole) (last_low dig before h r whole) (tree h (length h.steps)) (tree_named dig before h r whole)
+
+    lists : entries new_tree.0 ≡ with_entry (entries (tree h (length h.steps))) (record { thread = t; archived = suc (length h.steps) })
+    lists = new_tree.2 ∙ ap (λ (k : ℕ). with_entry (entries (tree h (length h.steps))) (record { thread = t; archived = k })) (let e : r.head.step + 1 ≡ suc (length h.steps) = omega (arith, whole.steps.step) in e)
+
+    added : AddedThread dig before h r staged.tree_pages archive t time
+    added = added_thread dig size before h r whole staged.tree_pages archive new_tree.0 t time behind new_tree.1 lists short may.thread may.limit
+        (let sum = length-append before staged.tree_pages in omega (arith, sum, staged.few, few, short))
+
+    pages_same : (before ++ staged.tree_pages) ++ added.more ≡ staged.pages
+    pages_same = ap (λ (n : Next Head). n.pages) (same_found (record { pages = (before ++ staged.tree_pages) ++ added.more; value = added.new }) (record { pages = staged.pages; value = head }) (sym added.is ∙ staged.is))
+
+    head_same : added.new ≡ head
+    head_same = ap (λ (n : Next Head). n.value) (same_found (record { pages = (before ++ staged.tree_pages) ++ added.more; value = added.new }) (record { pages = staged.pages; value = head }) (sym added.is ∙ staged.is))
+
+    put_behind : before ++ (staged.tree_pages ++ added.more) ≡ staged.pages
+    put_behind = sym (append_assoc before staged.tree_pages added.more) ∙ pages_same
+
+    pub put_thread : PutThread old mid r head archive h t time
+    put_thread = record {
+      step = added.step;
+      content = added.content;
+      at_time = added.at_time;
+      put = record {
+        same = same;
+        rest = rest;
+        more = staged.tree_pages ++ added.more;
+        told = staged.told ∙ ap (λ (qs : Image). Some qs) (sym put_behind);
+        keeps = subst (λ (x : Head). KeepsWhole dig (before ++ (staged.tree_pages ++ added.more)) (plus h added.step) (next_record r x archive (r.threads + 1) time)) head_same
+            (subst (λ (qs : Image). KeepsWhole dig qs (plus h added.step) (next_record r added.new archive (r.threads + 1) time)) (append_assoc before staged.tree_pages added.more) added.keeps);
+        sound = added.sound rest.has.sound may;
+        on = refl;
+        named = refl;
+        within = greater-within r.time time (root-time (is_some r.time) r rest.has.has.allowed.spelled) may.limit;
+        one_more = one_more;
+        room = short;
+        pages = subst (λ (qs : Image). length qs ≤ MOST_PAGES_OF_A_STEP * head.step) (sym put_behind) all_few;
+        commits = commits;
+      };
+    }
 
   module _ (size : (text : List ℕ) → IsDigest (dig text)) (old mid : Store D g) (r next : RootRecord) (h longer : History) (put : Put old mid r next h longer) (root : List ℕ) (root_is : root ≡ root_bytes next) where
     abbrev ps : Image

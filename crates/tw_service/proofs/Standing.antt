@@ -9,12 +9,12 @@ use Rattle.tw_pages.specs.declared.open.StoreFault.TheVariants.{NotAStore}
 use Rattle.tw_pages.proofs.Once.{opens_once}
 use Rattle.tw_pages.proofs.NotRefused.{not_refused, refused_once}
 use Rattle.tw_skiplist.proofs.Once.{keeps_alike}
-use Rattle.tw_service.specs.declared.root.RootRecord.{RootRecord}
+use Rattle.tw_answers.specs.declared.root.RootRecord.{RootRecord}
 use Rattle.tw_service.specs.Stands.{HasRoot, IsNotOpenedFor, IsServed, KeepsWhole, Served, StandsFor}
 use Rattle.tw_service.specs.Stands.Served.{Opened, Unopened}
 use Rattle.tw_pages.proofs.Bodies.{used_fits}
 use Rattle.tw_service.proofs.NextHistories.{one_history}
-use Rattle.tw_service.proofs.RootLaws.{root_once}
+use Rattle.tw_answers.proofs.RootLaws.{root_once}
 
 -- an image that opens with a root record has no other one, and is refused for no reason
 module _ (image : Image) (o : Opening) (opens : OpensAs o image) (r : RootRecord) (has : HasRoot o r) where

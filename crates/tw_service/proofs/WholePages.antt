@@ -30,10 +30,10 @@ use Rattle.tw_skiplist.specs.Appended.{appended}
 use Rattle.tw_skiplist.specs.Keeping.{GoOn, Keeps, Place, archive_at, place_of}
 use Rattle.tw_skiplist.proofs.Growing.{Keeps-grows}
 use Rattle.tw_skiplist.proofs.KeptAppended.{Grown, grown}
-use Rattle.tw_service.specs.declared.root.RootRecord.{RootRecord}
+use Rattle.tw_answers.specs.declared.root.RootRecord.{RootRecord}
 use Rattle.tw_service.specs.EventSteps.{event_step, with_events}
 use Rattle.tw_service.specs.NextRecords.{event_record, next_record}
-use Rattle.tw_service.specs.Roots.{HasLastPage}
+use Rattle.tw_answers.specs.Roots.{HasLastPage}
 use Rattle.tw_service.specs.Stands.{KeepsWhole, greater, step_pages}
 use Rattle.tw_service.proofs.NextHistories.{few-received, longer-length, longer-time, none-received, one-received, same_tree}
 
@@ -147,9 +147,9 @@ pub added_whole : (dig : List ℕ → List ℕ) (size : (text : List ℕ) → Is
     → r.head.step < LAST_STEP → MayRecord events → IsTimeWithinLimits time → 4 + length ps < 2 ^ 47 → AddedWhole dig ps h r events time
 added_whole dig size ps h r whole events time short limits within room =
     let step : Step = event_step (root_of (step_at h (length h.steps))) events time in
-    let own = grown dig size ps h r.head whole.steps (Events events) r.archive time short (record { content = limits.are; together = limits.fit; time = within }) (archive_low dig ps h r whole) room in
+    let own = grown dig size ps h r.head whole.steps (Events events) r.archive time short in
     let label : r.archive.label ≡ tree_label dig (tree (plus h step) (suc (length h.steps))) = ap (λ (x : Root). x.label) whole.archive ∙ ap (λ (t : Tree). tree_label dig t) (sym (same_tree h events time)) in
-    let kept = own.keeps step refl refl label in
+    let kept = own.keeps (record { content = limits.are; together = limits.fit; time = within }) (archive_low dig ps h r whole) room step refl refl label in
     record { more = own.more; new = own.new; is = own.is; keeps = events_on dig ps h r whole own.more events time own.new kept.0 kept.1 }
 
 -- ---- of a thread
@@ -183,7 +183,7 @@ module _ (dig : List ℕ → List ℕ) (size : (text : List ℕ) → IsDigest (d
   base = Keeps-grows dig ps tree_pages h r.head whole.steps
 
   put : Grown dig (ps ++ tree_pages) h r.head base.0.places (Received t) root time
-  put = grown dig size (ps ++ tree_pages) h r.head base.0 (Received t) root time short (record { content = is_thread; together = lit≤ tt; time = within }) root_low room
+  put = grown dig size (ps ++ tree_pages) h r.head base.0 (Received t) root time short
 
   abbrev rest : Image
   rest = tree_pages ++ put.more
@@ -208,7 +208,7 @@ module _ (dig : List ℕ → List ℕ) (size : (text : List ℕ) → IsDigest (d
   label = stands.label ∙ ap (λ (x : Tree). tree_label dig x) (sym (grown-tree dig ps rest h (step_pages own_places) (archive_at dig h own_places) root tree_now t time whole.trees has listed_now.0 listed_now.1))
 
   kept : (longer : Keeps dig ((ps ++ tree_pages) ++ put.more) (plus h s) put.new) × GoOn base.0.places longer.places (length h.steps) root.page
-  kept = put.keeps s refl refl label
+  kept = put.keeps (record { content = is_thread; together = lit≤ tt; time = within }) root_low room s refl refl label
 
   on : GoOn own_places kept.0.places (length h.steps) root.page
   on = subst (λ (qs : List Place). GoOn qs kept.0.places (length h.steps) root.page) base.1 kept.1

@@ -1,25 +1,25 @@
--- What a call of a service makes that only reads, and finds no refusal of its own in the pages.
+-- What a call of a service makes that only reads.
 use Rattle.std.specs.Prelude.{◌≡◌, ◌⊎◌, ◌↔◌, ℕ, ◌≤◌, List, Option, Some, Result, Err, IfErr, IsTrue, MatchOption, false}
 use Rattle.tw_base.specs.history.History.{History}
 use Rattle.tw_base.specs.kinds.Faults.{Rose}
 use Rattle.tw_disk.specs.Disk.{DiskView, LeavesOnly}
 use Rattle.tw_disk.specs.Found.{Found}
 use Rattle.tw_disk.specs.Image.{Image}
-use Rattle.tw_service.specs.declared.refusal.Refusal.{Refusal}
-use Rattle.tw_service.specs.declared.refusal.Refusal.TheVariants.{DiskFault}
+use Rattle.tw_answers.specs.declared.refusal.Refusal.{Refusal}
+use Rattle.tw_answers.specs.declared.refusal.Refusal.TheVariants.{DiskFault}
 use Rattle.tw_service.specs.declared.service.Service.{Service}
-use Rattle.tw_service.specs.Finds.{IsAnswer}
+use Rattle.tw_answers.specs.Finds.{IsAnswer}
 use Rattle.tw_service.specs.Machine.{Answers, Call, Reply}
-use Rattle.tw_service.specs.Refusals.{IsFault}
+use Rattle.tw_answers.specs.Refusals.{IsFault}
 use Rattle.tw_service.specs.Serves.{HasSameDisk, Serves, disk_of, has_failed, name_of, pages_of, record_of}
 use Rattle.tw_service.specs.Stands.{StandsFor}
 
 module _ {D H : Type 0} {g : _} {k : _} (dig : List ℕ → List ℕ) (view : D → DiskView) where
-  -- the call, whose table says this, over pages in which this is found
-  pub record Asks {T : Type 0} (call : Call) (reply : T → Reply) (refusal : Option Refusal) (found : Image → Found (Result T Refusal)) (old new : Service D H g k) (result : Result T Refusal) : Type 0 where
-    -- each refusal of the table comes exactly where its line is the first that stands; else only faults of the disk, of its pages and
-    -- of memory are left
-    pub table : MatchOption refusal (IfErr result IsFault) (λ why. result ≡ Err why)
+  -- the call, whose table says this, over pages in which this is found, maybe with a refusal of its own
+  pub record AsksOr {T : Type 0} (Own : Refusal → Type 0) (call : Call) (reply : T → Reply) (refusal : Option Refusal) (found : Image → Found (Result T Refusal)) (old new : Service D H g k) (result : Result T Refusal) : Type 0 where
+    -- each refusal of the table comes exactly where its line is the first that stands; else only those of its own and faults of the disk,
+    -- of its pages and of memory are left
+    pub table : MatchOption refusal (IfErr result (λ why. IsFault why ⊎ Own why)) (λ why. result ≡ Err why)
     -- over told pages, whatever they keep, the answer is what is found in them, a disk fault and want of memory excepted
     pub answer : (ps : Image) → pages_of view old ≡ Some ps → IsAnswer result (found ps)
     -- where a history is served and no earlier call met a disk fault, the call is a step of the machine, with the same exceptions
@@ -34,3 +34,7 @@ module _ {D H : Type 0} {g : _} {k : _} (dig : List ℕ → List ℕ) (view : D 
     -- a disk fault comes only where the disk's count of faults rose, which never falls
     pub fault : result ≡ Err DiskFault → Rose (view (disk_of old)).faults (view (disk_of new)).faults
     pub later : (view (disk_of old)).faults ≤ (view (disk_of new)).faults
+
+  -- the same of a call that has no refusal of its own
+  abbrev pub Asks : {T : Type 0} → (call : Call) (reply : T → Reply) (refusal : Option Refusal) (found : Image → Found (Result T Refusal)) (old new : Service D H g k) (result : Result T Refusal) → Type 0
+  Asks call reply refusal found old new result = AsksOr (λ why. ⊥) call reply refusal found old new result

@@ -5,7 +5,7 @@ use Rattle.tw_base.specs.history.Sound.{IsSound}
 use Rattle.tw_disk.specs.Image.{Image}
 use Rattle.tw_pages.specs.declared.store.Store.{Store}
 use Rattle.tw_pages.specs.StoreValue.{IsKept, opening_of, staged_of}
-use Rattle.tw_service.specs.declared.root.RootRecord.{RootRecord}
+use Rattle.tw_answers.specs.declared.root.RootRecord.{RootRecord}
 use Rattle.tw_service.specs.Stands.{HasRoot, KeepsWhole}
 
 -- the store, over this content of its disk, keeps this history under this root record, and nothing is staged

@@ -1,12 +1,13 @@
 pub mod EventSteps
-pub mod Roots
 pub mod Stands
-pub mod Refusals
-pub mod Limits
+pub mod Receiving
 pub mod Finds
+pub mod Mapping
+pub mod Archiving
 pub mod Machine
 pub mod NextRecords
 pub mod Keeps
+pub mod TakingIn
 pub mod Serves
 pub mod Adding
 pub mod Asking

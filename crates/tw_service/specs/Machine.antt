@@ -1,34 +1,56 @@
 -- The service as a machine whose state is one sound history: which replies and next states each call has.
-use Rattle.std.specs.Prelude.{◌≡◌, ℕ, List, length, Option, Result, Ok, Err, MatchOption, false}
+use Rattle.std.specs.Prelude.{◌≡◌, ◌⊎◌, ℕ, suc, ◌+◌, ◌-◌, ◌*◌, ◌^◌, ◌<◌, ◌≤◌, List, length, Option, Result, Ok, Err, MatchOption, false}
+use Rattle.tw_base.specs.declared.history.content.Content.TheVariants.{Received}
+use Rattle.tw_base.specs.declared.history.thread.Key.{Key}
 use Rattle.tw_base.specs.declared.history.thread.Thread.{Thread}
 use Rattle.tw_base.specs.history.Auth.{auth}
-use Rattle.tw_base.specs.history.History.{History}
+use Rattle.tw_base.specs.history.Entries.{key_of}
+use Rattle.tw_base.specs.history.History.{History, Step, plus}
+use Rattle.tw_base.specs.history.Sound.{IsSound}
+use Rattle.tw_base.specs.history.Tree.{entries, tree}
 use Rattle.tw_base.specs.format.Formats.{Spells}
+use Rattle.tw_archive.specs.Judging.{judged}
+use Rattle.tw_chain.specs.declared.proof.AbsenceProof.{AbsenceProof}
 use Rattle.tw_chain.specs.declared.proof.LinkProof.{LinkProof}
-use Rattle.tw_chain.specs.declared.proof.Proof.TheVariants.{Linked}
-use Rattle.tw_chain.specs.OwnProofs.{IsLinkProofOf}
+use Rattle.tw_chain.specs.declared.proof.Proof.TheVariants.{Archived, Absent, Linked}
+use Rattle.tw_chain.specs.declared.proof.ThreadProof.{ThreadProof}
+use Rattle.tw_chain.specs.OwnProofs.{IsAbsenceProofOf, IsLinkProofOf, IsThreadProofOf}
 use Rattle.tw_chain.specs.Proofs.{proof_layout}
+use Rattle.tw_msg.specs.declared.message.Message.{Message}
+use Rattle.tw_msg.specs.declared.receipt.Receipt.{Receipt}
+use Rattle.tw_msg.specs.HistoryMessages.{thread_at_step}
 use Rattle.tw_skipproof.specs.declared.path.Path.{Path}
 use Rattle.tw_skipproof.specs.HistoryProofs.{IsPathOf, MakesExistence}
 use Rattle.tw_service.specs.EventSteps.{with_events}
-use Rattle.tw_service.specs.declared.refusal.Refusal.{Refusal}
-use Rattle.tw_service.specs.declared.refusal.Refusal.TheVariants.{BadPage, DiskFault, Reopen, NoMemory}
-use Rattle.tw_service.specs.Limits.{append_refusal, link_refusal, proof_refusal, thread_refusal}
+use Rattle.tw_service.specs.declared.receiving.Reception.{Reception}
+use Rattle.tw_service.specs.declared.receiving.Reception.TheVariants.{Refuse, Known, Archive}
+use Rattle.tw_answers.specs.declared.refusal.Refusal.{Refusal}
+use Rattle.tw_answers.specs.declared.refusal.Refusal.TheVariants.{BadPage, DiskFault, Reopen, NoMemory}
+use Rattle.tw_answers.specs.Limits.{absence_refusal, append_refusal, link_refusal, order_refusal, own_refusal, proof_refusal, thread_proof_refusal, thread_refusal, top_refusal}
+use Rattle.tw_service.specs.Mapping.{MakesHigh, MakesLow}
+use Rattle.tw_service.specs.Receiving.{reception, refuse_or}
 use Rattle.tw_service.specs.Stands.{greatest_time}
 
 pub data Call : Type 0 where
   Append : (events : List (List ℕ)) (time : Option ℕ) → Call
+  Receive : (message : Message) (time : Option ℕ) → Call
   TellThread : (since : ℕ) → Call
   ProveEvent : (step index top : ℕ) → Call
+  ProveThread : (step : ℕ) (key : Key) (top : ℕ) → Call
+  ProveAbsent : (step : ℕ) (key : Key) (top : ℕ) → Call
   ProveLink : (step top : ℕ) → Call
+  ProveLow : (step : ℕ) (peer : List ℕ) (top : ℕ) → Call
+  ProveHigh : (step : ℕ) (peer : List ℕ) (top : ℕ) → Call
   CountSteps : Call
   TellHead : Call
   TellName : Call
 
 pub data Reply : Type 0 where
   OfThread : Thread → Reply
+  OfReceipt : Receipt → Reply
   OfPath : Path → Reply
   OfProof : List ℕ → Reply
+  OfFile : List ℕ → Reply
   OfNumber : ℕ → Reply
   OfName : List ℕ → Reply
   Refused : Refusal → Reply
@@ -37,21 +59,59 @@ pub data Reply : Type 0 where
 abbrev pub last_thread : (dig : List ℕ → List ℕ) → History → Thread
 last_thread dig h = record { from = h.name; step = length h.steps; auth = auth dig h (length h.steps) }
 
--- the next state of a call that isn't refused
-abbrev pub NextOf : Call → (h next : History) → Type 0
-NextOf (Append events time) h next = next ≡ with_events h events time
-NextOf (TellThread since) h next = next ≡ h
-NextOf (ProveEvent step index top) h next = next ≡ h
-NextOf (ProveLink step top) h next = next ≡ h
-NextOf CountSteps h next = next ≡ h
-NextOf TellHead h next = next ≡ h
-NextOf TellName h next = next ≡ h
+-- the history with one more step that archives the thread, with this time or none: it adds any nodes, and has any root
+abbrev pub Archives : Thread → (time : Option ℕ) → (h next : History) → Type 0
+Archives t time h next = (s : Step) × (next ≡ plus h s) × (s.content ≡ Received t) × (s.time ≡ time)
 
 -- what the table of `append` says of a history
 abbrev pub append_table : History → List (List ℕ) → (time : Option ℕ) → Option Refusal
 append_table h events time = append_refusal false (length h.steps) (greatest_time h) events time
 
+-- so many nodes above a place in a tree of so many entries, whose pages have some number of levels: at most 9 for each level; and each
+-- level more takes 13 times the entries, so that of no entries there is no node
+abbrev pub IsFewNodes : (entries nodes : ℕ) → Type 0
+IsFewNodes entries nodes = (levels : ℕ) × (nodes ≤ 9 * levels) × (0 < levels → 2 * 13 ^ (levels - 1) ≤ entries + 1)
+
 module _ (dig : List ℕ → List ℕ) where
+  -- the receipt by which a step of the history tells that it received the thread
+  abbrev pub receipt_by : History → (step : ℕ) → Thread → Receipt
+  receipt_by h step t = record { by = thread_at_step dig h step; thread = t }
+
+  -- what becomes of a message by the archive of the history
+  abbrev pub received_as : History → Message → (time : Option ℕ) → Reception
+  received_as h m time =
+      refuse_or (own_refusal false h.name m.thread.from) (reception (length h.steps) (greatest_time h) time (judged dig (entries (tree h (length h.steps))) m))
+
+  -- the next state of a call that isn't refused; a message may be one that is known, and then the state stays
+  abbrev pub NextOf : Call → (h next : History) → Type 0
+  NextOf (Append events time) h next = next ≡ with_events h events time
+  NextOf (Receive m time) h next = (next ≡ h) ⊎ ((received_as h m time ≡ Archive) × Archives m.thread time h next × IsSound next)
+  NextOf (TellThread since) h next = next ≡ h
+  NextOf (ProveEvent step index top) h next = next ≡ h
+  NextOf (ProveThread step key top) h next = next ≡ h
+  NextOf (ProveAbsent step key top) h next = next ≡ h
+  NextOf (ProveLink step top) h next = next ≡ h
+  NextOf (ProveLow step peer top) h next = next ≡ h
+  NextOf (ProveHigh step peer top) h next = next ≡ h
+  NextOf CountSteps h next = next ≡ h
+  NextOf TellHead h next = next ≡ h
+  NextOf TellName h next = next ≡ h
+
+  -- the machine's reply to a message and its next state: the receipt of the step that received the thread, where it is known; else of the next
+  -- step, with which the history is sound
+  abbrev pub RepliesTo : (h : History) → Message → (time : Option ℕ) → Reply → (next : History) → Reception → Type 0
+  RepliesTo h m time reply next (Refuse refusal) = (next ≡ h) × (reply ≡ Refused refusal)
+  RepliesTo h m time reply next (Known archived) = (next ≡ h) × (reply ≡ OfReceipt (receipt_by h archived m.thread))
+  RepliesTo h m time reply next Archive =
+      Archives m.thread time h next × IsSound next × (reply ≡ OfReceipt (receipt_by next (suc (length h.steps)) m.thread))
+
+  -- the bytes spell the history's own proof, under this top, that a step up to this one received a thread of the key, and that none did
+  abbrev pub MakesThread : History → (step : ℕ) → Key → (top : ℕ) → (bytes : List ℕ) → Type 0
+  MakesThread h step key top bytes = (p : ThreadProof) × Spells proof_layout bytes (Archived p) × IsThreadProofOf dig h step top p × (key_of p.entry ≡ key)
+
+  abbrev pub MakesAbsence : History → (step : ℕ) → Key → (top : ℕ) → (bytes : List ℕ) → Type 0
+  MakesAbsence h step key top bytes = (p : AbsenceProof) × Spells proof_layout bytes (Absent p) × IsAbsenceProofOf dig h step top p × (p.key ≡ key)
+
   -- the bytes spell the history's own proof of the step's authenticator, under this top
   abbrev pub MakesLink : History → (step top : ℕ) → (bytes : List ℕ) → Type 0
   MakesLink h step top bytes = (p : LinkProof) × Spells proof_layout bytes (Linked p) × IsLinkProofOf dig h step top p
@@ -62,6 +122,7 @@ module _ (dig : List ℕ → List ℕ) where
       MatchOption (append_table h events time)
       (NextOf (Append events time) h next × (reply ≡ OfThread (last_thread dig next)))
       (λ refusal. (next ≡ h) × (reply ≡ Refused refusal))
+  IsStepOf h (Receive m time) reply next = RepliesTo h m time reply next (received_as h m time)
   IsStepOf h (TellThread since) reply next =
       (next ≡ h) × MatchOption (thread_refusal false (length h.steps) since)
       ((path : Path) × IsPathOf dig h path.links (length h.steps) since × (reply ≡ OfPath path))
@@ -70,9 +131,25 @@ module _ (dig : List ℕ → List ℕ) where
       (next ≡ h) × MatchOption (proof_refusal false h step index top)
       ((bytes : List ℕ) × MakesExistence dig h step index top bytes × (reply ≡ OfProof bytes))
       (λ refusal. reply ≡ Refused refusal)
+  IsStepOf h (ProveThread step key top) reply next =
+      (next ≡ h) × MatchOption (thread_proof_refusal false h step key top)
+      ((bytes : List ℕ) × MakesThread h step key top bytes × (reply ≡ OfProof bytes))
+      (λ refusal. reply ≡ Refused refusal)
+  IsStepOf h (ProveAbsent step key top) reply next =
+      (next ≡ h) × MatchOption (absence_refusal false h step key top)
+      ((bytes : List ℕ) × MakesAbsence h step key top bytes × (reply ≡ OfProof bytes))
+      (λ refusal. reply ≡ Refused refusal)
   IsStepOf h (ProveLink step top) reply next =
       (next ≡ h) × MatchOption (link_refusal false (length h.steps) step top)
       ((bytes : List ℕ) × MakesLink h step top bytes × (reply ≡ OfProof bytes))
+      (λ refusal. reply ≡ Refused refusal)
+  IsStepOf h (ProveLow step peer top) reply next =
+      (next ≡ h) × MatchOption (order_refusal false (length h.steps) step top)
+      ((bytes : List ℕ) × MakesLow dig h step peer top bytes × (reply ≡ OfFile bytes))
+      (λ refusal. reply ≡ Refused refusal)
+  IsStepOf h (ProveHigh step peer top) reply next =
+      (next ≡ h) × MatchOption (top_refusal false (length h.steps) top)
+      ((bytes : List ℕ) × MakesHigh dig h step peer top bytes × (reply ≡ OfFile bytes))
       (λ refusal. reply ≡ Refused refusal)
   IsStepOf h CountSteps reply next = (next ≡ h) × (reply ≡ OfNumber (length h.steps))
   IsStepOf h TellHead reply next = (next ≡ h) × (reply ≡ OfThread (last_thread dig h))

@@ -6,9 +6,9 @@ use Rattle.tw_disk.specs.Answers.{Next}
 use Rattle.tw_disk.specs.Found.{Found}
 use Rattle.tw_disk.specs.Found.Found.{Is, Bad}
 use Rattle.tw_skiplist.specs.declared.head.Head.{Head}
-use Rattle.tw_service.specs.declared.refusal.Refusal.{Refusal}
-use Rattle.tw_service.specs.declared.root.RootRecord.{RootRecord}
-use Rattle.tw_service.specs.Refusals.{OfBadPage}
+use Rattle.tw_answers.specs.declared.refusal.Refusal.{Refusal}
+use Rattle.tw_answers.specs.declared.root.RootRecord.{RootRecord}
+use Rattle.tw_answers.specs.Refusals.{OfBadPage}
 use Rattle.tw_service.specs.Stands.{greater}
 
 -- it has this head, this archive with so many threads, and the greater time

@@ -8,7 +8,7 @@ use Rattle.tw_disk.specs.Disk.{DiskView, IsAtRest}
 use Rattle.tw_pages.specs.StoreValue.{disk_of as disk_below}
 use Rattle.tw_pages.specs.Same.{IsSameStore, list_of}
 use Rattle.tw_skiplist.specs.declared.head.Head.{Head}
-use Rattle.tw_service.specs.declared.root.RootRecord.{RootRecord}
+use Rattle.tw_answers.specs.declared.root.RootRecord.{RootRecord}
 use Rattle.tw_service.specs.declared.service.Service.{Service}
 use Rattle.tw_service.specs.Keeps.{KeepsHistory}
 

@@ -9,8 +9,8 @@ use Rattle.tw_pages.specs.declared.open.StoreFault.{StoreFault}
 use Rattle.tw_pages.specs.declared.open.StoreFault.TheVariants.{NotAStore}
 use Rattle.tw_archive.specs.Archives.{KeepsTrees}
 use Rattle.tw_skiplist.specs.Keeping.{Keeps, Place, archive_at, place_of}
-use Rattle.tw_service.specs.declared.root.RootRecord.{RootRecord}
-use Rattle.tw_service.specs.Roots.{IsAllowed, root_bytes}
+use Rattle.tw_answers.specs.declared.root.RootRecord.{RootRecord}
+use Rattle.tw_answers.specs.Roots.{IsAllowed, root_bytes}
 
 -- the history of this name that has no step
 abbrev pub no_history : (name : List ℕ) → History

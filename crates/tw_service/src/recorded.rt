@@ -6,17 +6,18 @@ ghost use Rattle.tw_base.specs.history.Limits.{IsTimeWithinLimits, MayRecord};
 ghost use Rattle.tw_disk.specs.declared.limits.TheConstants.{FIRST_PAGE};
 ghost use Rattle.tw_pages.specs.StoreValue.{generation_of, is_broken, root_of, staged_of};
 ghost use Rattle.tw_pages.specs.Same.{count_of};
-ghost use Rattle.tw_service.specs.Limits.{clock_refusal};
+ghost use Rattle.tw_answers.specs.Limits.{clock_refusal};
 ghost use Rattle.tw_service.specs.NextRecords.{AddsAs, event_record, next_record};
-ghost use Rattle.tw_service.specs.Roots.{root_bytes};
+ghost use Rattle.tw_answers.specs.Roots.{root_bytes};
 ghost use Rattle.tw_service.specs.Stands.{greater};
-ghost use Rattle.tw_service.specs.declared.limits.TheConstants.{MOST_PAGES_OF_A_STEP};
+ghost use Rattle.tw_answers.specs.declared.limits.TheConstants.{MOST_PAGES_OF_A_STEP};
 
-use crate::refusal::Refusal;
-use crate::root::{RootRecord, root_record};
+use crate::receiving::{Reception, receipt_of_step, receive_by};
 use std::alloc::Global;
+use tw_answers::{Refusal, RootRecord, root_record};
 use tw_base::{EventList, Hasher, Root};
 use tw_disk::Disk;
+use tw_msg::{Message, Receipt};
 use tw_pages::Store;
 use tw_skiplist::{Head, append};
 
@@ -26,6 +27,7 @@ pub(crate) struct Recorded<D: Disk> {
     pub(crate) store: Store<D>,
     pub(crate) root: RootRecord,
     ghost short: { root.head.step ≤ LAST_STEP },
+    ghost few_threads: { root.threads ≤ root.head.step },
     ghost recorded: { root_of store ≡ root_bytes root },
     ghost few_pages: { count_of store ≤ FIRST_PAGE + MOST_PAGES_OF_A_STEP * root.head.step },
     ghost few_commits: { generation_of store ≤ root.head.step + 1 },
@@ -47,7 +49,7 @@ fn later_time(clock: Option<u64>, time: Option<u64>) -> Option<u64>
 
 /// The root record after one more step, with this head, this archive with so many threads, and the
 /// greater time.
-fn next_root(
+pub(crate) fn next_root(
     root: &RootRecord,
     head: Head,
     archive: Root,
@@ -73,8 +75,11 @@ impl<D: Disk> Recorded<D> {
     ghost use Rattle.tw_disk.specs.Image.{Image};
     ghost use Rattle.tw_pages.specs.StoreValue.{disk_of};
     ghost use Rattle.tw_pages.specs.Same.{IsSameStore, list_of};
-    ghost use Rattle.tw_service.specs.Refusals.{IsBadPage, IsFault};
+    ghost use Rattle.tw_answers.specs.Refusals.{IsBadPage, IsFault};
+    ghost use Rattle.tw_base.specs.history.Limits.{IsThread};
+    ghost use Rattle.tw_msg.specs.Messages.{IsLinked};
     ghost use Rattle.tw_skiplist.specs.Appended.{appended};
+    ghost use Rattle.tw_service.specs.TakingIn.{TakesIn};
     ghost use Rattle.tw_service.specs.EventSteps.{with_events};
     ghost use Rattle.tw_service.specs.Keeps.{KeepsHistory};
     ghost use Rattle.tw_service.specs.Stands.{StandsForOneOf};
@@ -137,6 +142,32 @@ impl<D: Disk> Recorded<D> {
                     }
                 }
             }
+        }
+    }
+
+    /// Answers a message by what the archive has of it, and archives its thread where that is to be.
+    pub(crate) fn receive<H: Hasher>(
+        &mut self,
+        alloc: Global,
+        message: &Message,
+        time: Option<u64>,
+    ) -> Result<Receipt, Refusal>
+        requires linked { IsLinked message.now }
+        requires thread { IsThread message.now.thread }
+        requires time { IsTimeWithinLimits time }
+        requires whole { is_broken self.old.store ≡ false }
+        ensures receives { TakesIn H.dig D.view message.now time self.old.store self.new.store self.old.root self.new.root result }
+    {
+        match receive_by::<Store<D>, H>(&mut self.store, &self.root, message, time)? {
+            Reception::Refuse(refusal) => Err(refusal),
+            Reception::Known { archived } => receipt_of_step::<Store<D>, H>(
+                alloc,
+                &mut self.store,
+                &self.root,
+                archived,
+                &message.thread,
+            ),
+            Reception::Archive => self.archive::<H>(alloc, &message.thread, time),
         }
     }
 }

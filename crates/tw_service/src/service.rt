@@ -1,16 +1,19 @@
 // Services.
 ghost use Rattle.std.specs.Prelude.{◌≡◌, ◌⊎◌, ◌≤◌, ◌*◌, ◌<◌, ◌^◌, ◌+◌, true, false};
+ghost use Rattle.tw_base.specs.kinds.Names.{IsName};
 ghost use Rattle.tw_pages.specs.StoreValue.{is_broken as store_is_broken};
 
-use crate::limits::{append_refusal, link_refusal, order_refusal, thread_refusal};
-use crate::proving::{make_link, make_proof, path_down};
 use crate::recorded::Recorded;
-use crate::refusal::{Refusal, is_disk_fault};
-use crate::root::{RootRecord, read_root, root_record};
 use std::alloc::Global;
 use std::marker::PhantomData;
-use tw_base::{Bytes, EventList, Hasher, Name, Root, Thread, empty_tree, genesis};
+use tw_answers::{
+    Refusal, RootRecord, append_refusal, is_disk_fault, link_refusal, make_absence, make_link,
+    make_proof, make_thread, order_refusal, own_refusal, path_down, read_root, root_record,
+    thread_refusal,
+};
+use tw_base::{Bytes, EventList, Hasher, Key, Name, ReadFault, Root, Thread, empty_tree, genesis};
 use tw_disk::{Disk, Pages};
+use tw_msg::{Message as MessageRead, Receipt, message_laws, read_message};
 use tw_pages::{Store, StoreFault};
 use tw_skiplist::Head;
 use tw_skipproof::Path;
@@ -18,11 +21,18 @@ use tw_skipproof::Path;
 /// A service: one sound history on a disk, where its pages keep one.
 #[derive(Drop)]
 pub struct Service<D: Disk, H: Hasher> {
-    alloc: Global,
-    recorded: Recorded<D>,
-    is_broken: bool,
+    pub(crate) alloc: Global,
+    pub(crate) recorded: Recorded<D>,
+    pub(crate) is_broken: bool,
     hasher: PhantomData<H>,
     ghost tells_faults: { is_broken ≡ false → store_is_broken recorded.store ≡ false },
+}
+
+/// A name has letters, and zeros behind them.
+fn name_law(name: &Name)
+    ensures { IsName name.now }
+{
+    name.as_bytes();
 }
 
 impl<D: Disk, H: Hasher> Service<D, H> {
@@ -40,13 +50,24 @@ impl<D: Disk, H: Hasher> Service<D, H> {
     ghost use Rattle.tw_disk.specs.Image.{Image};
     ghost use Rattle.tw_pages.specs.Slots.{IsTaken};
     ghost use Rattle.tw_pages.specs.declared.open.StoreFault.{StoreFault as Fault};
-    ghost use Rattle.tw_service.specs.Refusals.{IsFault, IsNoEvent};
-    ghost use Rattle.tw_service.specs.Adding.{Appends, Steps};
-    ghost use Rattle.tw_service.specs.Asking.{Asks};
-    ghost use Rattle.tw_service.specs.Finds.{IsAnswer, found_event, found_link_proof, found_message, found_thread};
-    ghost use Rattle.tw_service.specs.Limits.{append_refusal as append_refusal_of, link_refusal as link_refusal_of, order_refusal as order_refusal_of, proof_refusal, thread_refusal as thread_refusal_of};
-    ghost use Rattle.tw_service.specs.Machine.{Answers, IsStepOf, MakesLink, last_thread};
-    ghost use Rattle.tw_service.specs.Machine.Call.{Append, CountSteps, ProveEvent, ProveLink, TellHead, TellName, TellThread};
+    ghost use Rattle.tw_answers.specs.Refusals.{IsFault, IsHasThread, IsNoEvent, IsNoThread};
+    ghost use Rattle.tw_base.specs.format.Formats.{Spells};
+    ghost use Rattle.tw_base.specs.history.Tree.{entries, tree};
+    ghost use Rattle.tw_chain.specs.declared.proof.AbsenceProof.{AbsenceProof};
+    ghost use Rattle.tw_chain.specs.declared.proof.Proof.TheVariants.{Absent, Archived};
+    ghost use Rattle.tw_chain.specs.declared.proof.ThreadProof.{ThreadProof};
+    ghost use Rattle.tw_chain.specs.Proofs.{proof_layout};
+    ghost use Rattle.tw_treeproof.specs.Answers.{ancestors_of};
+    ghost use Rattle.tw_base.specs.history.Limits.{IsThread};
+    ghost use Rattle.tw_msg.specs.Messages.{IsLinked};
+    ghost use Rattle.tw_service.specs.Adding.{Appends, Receives, ReceivesBytes, Steps};
+    ghost use Rattle.tw_base.specs.history.Limits.{IsStep};
+    ghost use Rattle.tw_service.specs.Asking.{Asks, AsksOr};
+    ghost use Rattle.tw_answers.specs.Finds.{IsAnswer, found_absence, found_event, found_link_proof, found_message, found_thread_proof};
+    ghost use Rattle.tw_service.specs.Finds.{found_thread};
+    ghost use Rattle.tw_answers.specs.Limits.{append_refusal as append_refusal_of, link_refusal as link_refusal_of, order_refusal as order_refusal_of, proof_refusal, thread_refusal as thread_refusal_of};
+    ghost use Rattle.tw_service.specs.Machine.{Answers, IsFewNodes, IsStepOf, MakesAbsence, MakesLink, MakesThread, last_thread};
+    ghost use Rattle.tw_service.specs.Machine.Call.{Append, CountSteps, ProveAbsent, ProveEvent, ProveLink, ProveThread, TellHead, TellName, TellThread};
     ghost use Rattle.tw_service.specs.Machine.Reply.{OfName, OfNumber, OfPath, OfProof, OfThread};
     ghost use Rattle.tw_service.specs.Serves.{HasSameDisk, Serves, archive_of, clock_of, disk_of, has_failed, head_of, name_of, pages_of, record_of, steps_of, thread_of, threads_of};
     ghost use Rattle.tw_service.specs.Stands.{IsBlankOrNew, IsNotOpenedFor, OpensWith, StandsFor, StandsForOneOf, greater, no_history};
@@ -295,6 +316,96 @@ impl<D: Disk, H: Hasher> Service<D, H> {
         self.add(events, Some(time))
     }
 
+    /// Archives the thread of the message that these bytes are in a step of its own, and answers the
+    /// receipt of that step; or, where the archive has the thread, that of the step that received it, and
+    /// makes none. After `Ok`, where a history is served, the step and its pages are on the disk, as after
+    /// `append`.
+    ///
+    /// Refusals, the first that stands: `Reopen` where an earlier call on this value answered `DiskFault`;
+    /// `Malformed` where the bytes are no message, with the first byte at which none goes on; `Own` where
+    /// the message is of this service itself; what the archive has of the message, which is `Forked`,
+    /// `Stale` or `BadLink`, with what is kept; and, where the thread is to be archived, `Full` where there
+    /// are 2^40 - 1 steps. `BadPage` tells the first page met that isn't of its kind, the one read last
+    /// where the step that is told to have received the thread is above the last one, or the root's page of
+    /// the archive where one reading of it contradicts another; it never comes where a history is served. All memory is taken before the first write, so after
+    /// `NoMemory` the disk is as before. After `DiskFault` this value has to be given up, as after that of
+    /// `append`.
+    pub fn receive(&mut self, bytes: &[u8]) -> Result<Receipt, Refusal>
+        // Receiving bytes without a time. Those that are no message are refused: after a disk fault by `Reopen`, and else by
+        // `Malformed` with the first byte at which no message goes on, want of memory excepted; nothing has changed then. Those
+        // that are a message are received as that message is, where no earlier call met a disk fault and there was
+        // memory to read it, and by `Reopen` after such a call.
+        ensures { ReceivesBytes H.dig D.view bytes.now None self.old self.new result }
+    {
+        self.take_bytes(bytes, None)
+    }
+
+    /// Archives the thread of the message that these bytes are, as `receive` does, in a step of this time,
+    /// in seconds, which is at most 2^40 - 1. The time is what the caller claims: no clock is read. A
+    /// thread that the archive has is answered whatever the time.
+    ///
+    /// Refusals are those of `receive`, and after them `ClockBack` where the time is below the greatest
+    /// time of the steps so far, with both.
+    pub fn receive_at(&mut self, bytes: &[u8], time: u64) -> Result<Receipt, Refusal>
+        requires { time ≤ LAST_TIME }
+        // Receiving bytes at a time does what receiving them without one does, with the message received at this time.
+        ensures { ReceivesBytes H.dig D.view bytes.now (Some time) self.old self.new result }
+    {
+        self.take_bytes(bytes, Some(time))
+    }
+
+    /// Reads the message, and archives its thread with this time or none.
+    fn take_bytes(&mut self, bytes: &[u8], time: Option<u64>) -> Result<Receipt, Refusal>
+        requires { IsTimeWithinLimits time }
+        ensures { ReceivesBytes H.dig D.view bytes.now time self.old self.new result }
+    {
+        if self.is_broken {
+            return Err(Refusal::Reopen);
+        }
+        message_laws();
+        match read_message(self.alloc, bytes) {
+            Ok(message) => {
+                let received = self.take(&message, time);
+                drop(message);
+                received
+            }
+            Err(ReadFault::Malformed { place }) => Err(Refusal::Malformed { place }),
+            Err(ReadFault::NoMemory) => Err(Refusal::NoMemory),
+        }
+    }
+
+    /// Archives the thread of a message that was read, with this time or none, as `receive` and
+    /// `receive_at` do. No memory is needed before the message's service is looked at, so `Own` comes
+    /// exactly.
+    pub fn take(&mut self, message: &MessageRead, time: Option<u64>) -> Result<Receipt, Refusal>
+        requires linked { IsLinked message.now }
+        requires thread { IsThread message.now.thread }
+        requires time { IsTimeWithinLimits time }
+        // Receiving a message. `Reopen` and `Own` come exactly where their lines are the first that stand. Over told
+        // pages, whatever they keep, what becomes of the message is what the archive's pages tell of it, and the answer is
+        // by that, a disk fault and want of memory excepted: `Forked`, `Stale`, `BadLink`, `Full` or `ClockBack`; the
+        // receipt of the step that received the thread; or that of the next step. Where a history is served, every image
+        // that a crash since the start may leave stands for it or for a next one, with one more step that archives the
+        // thread at this time, and so does the content, which is told still, after `DiskFault` too; after `Ok` the call is
+        // a step of the machine to what is then served, at rest; after a refusal but `DiskFault` nothing was written, and
+        // the history is served as before. The record has one thread more, the next head and the greater time after a step
+        // was made, and stays as it was where the thread is known and after each refusal, over whatever store. The value
+        // remembers that a call answered `DiskFault`, which comes only where the disk's count of faults rose.
+        ensures { Receives H.dig D.view message.now time self.old self.new result }
+    {
+        let name = &self.recorded.root.name;
+        if let Some(refusal) = own_refusal(self.is_broken, name, &message.thread.from) {
+            return Err(refusal);
+        }
+        match self.recorded.receive::<H>(self.alloc, message, time) {
+            Ok(receipt) => Ok(receipt),
+            Err(refusal) => {
+                self.is_broken = is_disk_fault(&refusal);
+                Err(refusal)
+            }
+        }
+    }
+
     /// Adds a step of these events, with this time or none.
     fn add(&mut self, events: &EventList, time: Option<u64>) -> Result<Thread, Refusal>
         requires { IsTimeWithinLimits time }
@@ -418,6 +529,102 @@ impl<D: Disk, H: Hasher> Service<D, H> {
             &self.recorded.root.name,
             &self.recorded.root.head,
             step,
+            top,
+        ) {
+            Ok(bytes) => Ok(bytes),
+            Err(refusal) => {
+                self.is_broken = is_disk_fault(&refusal);
+                Err(refusal)
+            }
+        }
+    }
+
+    /// The proof that a step received a thread of the key, of the steps up to this one, under that top: the
+    /// entry of the key in the step's archive, with its place.
+    ///
+    /// Condition: the key's step is within 1 to 2^40 - 1. Refusals, the first that stands: `Reopen` where an
+    /// earlier call on this value answered `DiskFault`; `NoStep` where 1 <= step <= top <= the last step
+    /// doesn't hold, with the last step; `NoThread` where no step up to that one received a thread of the key.
+    /// `BadPage` tells the first page met that isn't of its kind, or the root's page of an archive whose pages
+    /// don't fit one another; it never comes where a history is served. It writes nothing.
+    pub fn prove_thread(&mut self, step: u64, key: &Key, top: u64) -> Result<Bytes, Refusal>
+        requires { IsStep key.now.step }
+        // Asking for the proof of a thread. Each refusal of the table that needs no page comes exactly where its line is
+        // the first that stands; else only `NoThread`, `DiskFault`, `BadPage` and `NoMemory` are left. Over told pages,
+        // whatever they keep, the answer is what is found in them, a disk fault and want of memory excepted. Where a
+        // history is served and no earlier call met a disk fault, the call is a step of the machine. Whatever the answer,
+        // the history is served as before, at rest, nothing is written, and the root record is as before. The value
+        // remembers that a call answered `DiskFault`, which comes only where the disk's count of faults rose.
+        ensures asks { AsksOr H.dig D.view IsNoThread (ProveThread step key.now top) (λ bytes. OfProof bytes) (order_refusal_of (has_failed self.old) (steps_of self.old) step top)
+            (λ ps. found_thread_proof H.dig ps (name_of self.old) (head_of self.old) step key.now top (has_failed self.old)) self.old self.new result }
+        // The proof is the history's own proof of a thread of that key under that top.
+        ensures made { IfOk result (λ bytes. (h : History) → Serves H.dig D.view self.old h → MakesThread H.dig h step key.now top bytes) }
+        // Where a history is served, the tree proof has at most 9 nodes above its place for each level of the archive's pages, of
+        // which each one more takes 13 times the threads; over an archive of no thread it has none.
+        ensures size { IfOk result (λ bytes. (h : History) → Serves H.dig D.view self.old h → (p : ThreadProof) → Spells proof_layout bytes (Archived p)
+            → IsFewNodes (length (entries (tree h step))) (length (ancestors_of p.shown))) }
+        // The proof is accepted under every list of anchors whose anchor of the service and top has the history's
+        // authenticator of the top.
+        ensures accepted { IfOk result (λ bytes. (h : History) → Serves H.dig D.view self.old h
+            → (anchors : List ThreadOf) (anchor : ThreadOf) → anchor_of anchors h.name top ≡ Some anchor → anchor.auth ≡ auth H.dig h top
+            → Accepts H.dig anchors bytes) }
+    {
+        let root = &self.recorded.root;
+        if let Some(refusal) = order_refusal(self.is_broken, root.head.step, step, top) {
+            return Err(refusal);
+        }
+        match make_thread::<Store<D>, H>(
+            self.alloc,
+            &mut self.recorded.store,
+            &self.recorded.root.name,
+            &self.recorded.root.head,
+            step,
+            key,
+            top,
+        ) {
+            Ok(bytes) => Ok(bytes),
+            Err(refusal) => {
+                self.is_broken = is_disk_fault(&refusal);
+                Err(refusal)
+            }
+        }
+    }
+
+    /// The proof that no step received a thread of the key, of the steps up to this one, under that top: the
+    /// empty place of the key in the step's archive.
+    ///
+    /// Condition and refusals are those of `prove_thread`, but for `HasThread` in place of `NoThread`, where a
+    /// step up to that one received a thread of the key, with that step.
+    pub fn prove_absent(&mut self, step: u64, key: &Key, top: u64) -> Result<Bytes, Refusal>
+        requires { IsStep key.now.step }
+        // Asking for the proof that there is no thread does, by what is found for it and with `HasThread` in place of
+        // `NoThread`, what asking for the proof of a thread does.
+        ensures asks { AsksOr H.dig D.view IsHasThread (ProveAbsent step key.now top) (λ bytes. OfProof bytes) (order_refusal_of (has_failed self.old) (steps_of self.old) step top)
+            (λ ps. found_absence H.dig ps (name_of self.old) (head_of self.old) step key.now top (has_failed self.old)) self.old self.new result }
+        // The proof is the history's own proof, under that top, that no step up to that one received a thread of that key.
+        ensures made { IfOk result (λ bytes. (h : History) → Serves H.dig D.view self.old h → MakesAbsence H.dig h step key.now top bytes) }
+        // Where a history is served, the tree proof has at most 9 nodes above its place for each level of the archive's pages, of
+        // which each one more takes 13 times the threads; over an archive of no thread it has none.
+        ensures size { IfOk result (λ bytes. (h : History) → Serves H.dig D.view self.old h → (p : AbsenceProof) → Spells proof_layout bytes (Absent p)
+            → IsFewNodes (length (entries (tree h step))) (length (ancestors_of p.shown))) }
+        // The proof is accepted under every list of anchors whose anchor of the service and top has the history's
+        // authenticator of the top.
+        ensures accepted { IfOk result (λ bytes. (h : History) → Serves H.dig D.view self.old h
+            → (anchors : List ThreadOf) (anchor : ThreadOf) → anchor_of anchors h.name top ≡ Some anchor → anchor.auth ≡ auth H.dig h top
+            → Accepts H.dig anchors bytes) }
+    {
+        name_law(&key.from);
+        let root = &self.recorded.root;
+        if let Some(refusal) = order_refusal(self.is_broken, root.head.step, step, top) {
+            return Err(refusal);
+        }
+        match make_absence::<Store<D>, H>(
+            self.alloc,
+            &mut self.recorded.store,
+            &self.recorded.root.name,
+            &self.recorded.root.head,
+            step,
+            key,
             top,
         ) {
             Ok(bytes) => Ok(bytes),

@@ -1,5 +1,5 @@
-//! Tests of steps in pages, of messages judged by an archive in pages, and of services over a disk in memory: each public call that takes
-//! memory once, and calls that fail.
+//! Tests of steps in pages, of messages judged by an archive in pages, and of services over a disk in memory: calls that take memory, and
+//! calls that fail.
 #![tactic(auto)]
 
 #[cfg(test)]

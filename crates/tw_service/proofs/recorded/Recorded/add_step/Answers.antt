@@ -1,4 +1,4 @@
-use Rattle.std.proofs.Common.{◌≡◌, ◌+◌, ◌*◌, ◌^◌, ◌<◌, ◌≤◌, ℕ, List, length, ◌∙◌, ap, inl, refl, subst, sym, arith}
+use Rattle.std.proofs.Common.{◌≡◌, ◌+◌, ◌*◌, ◌^◌, ◌<◌, ◌≤◌, ℕ, List, length, ◌∙◌, ap, inl, subst, sym, arith}
 use Rattle.std.specs.Prelude.{None, Option, Some}
 use Rattle.tw_base.specs.declared.history.content.Content.TheVariants.{Events}
 use Rattle.tw_base.specs.declared.kinds.limits.TheConstants.{LAST_STEP}
@@ -14,14 +14,14 @@ use Rattle.tw_pages.specs.SameSteps.{is_same_on, told_pages}
 use Rattle.tw_pages.specs.StoreValue.{disk_of, opening_of}
 use Rattle.tw_skiplist.specs.Appended.{appended}
 use Rattle.tw_skiplist.specs.declared.head.Head.{Head}
-use Rattle.tw_service.specs.declared.root.RootRecord.{RootRecord}
+use Rattle.tw_answers.specs.declared.root.RootRecord.{RootRecord}
 use Rattle.tw_service.specs.EventSteps.{with_events}
 use Rattle.tw_service.specs.Keeps.{KeepsHistory}
 use Rattle.tw_service.specs.NextRecords.{event_record}
-use Rattle.tw_service.specs.Limits.{clock_refusal}
-use Rattle.tw_service.specs.Roots.{root_bytes}
+use Rattle.tw_answers.specs.Limits.{clock_refusal}
+use Rattle.tw_answers.specs.Roots.{root_bytes}
 use Rattle.tw_service.specs.Stands.{StandsForOneOf}
-use Rattle.tw_service.proofs.FoundAnswers.{no_bad_page, page_found}
+use Rattle.tw_answers.proofs.FoundAnswers.{no_bad_page, page_found}
 use Rattle.tw_service.proofs.WholePages.{added_whole}
 use Rattle.tw_service.proofs.Serving.{Put, commit_keeps, commit_leaves, commit_tells, put_events, rest_stands, same_leaves, same_tells, told_list}
 use Rattle.tw_service.proofs.recorded.Recorded.add_step.Goals as goal

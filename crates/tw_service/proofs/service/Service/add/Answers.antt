@@ -15,18 +15,20 @@ use Rattle.tw_pages.specs.SameSteps.{is_same_itself}
 use Rattle.tw_pages.specs.StoreValue.{disk_of}
 use Rattle.tw_skiplist.specs.Appended.{appended}
 use Rattle.tw_skiplist.specs.declared.head.Head.{Head}
-use Rattle.tw_service.specs.declared.refusal.Refusal.{Refusal}
+use Rattle.tw_answers.specs.declared.refusal.Refusal.{Refusal}
 use Rattle.tw_service.specs.EventSteps.{with_events}
-use Rattle.tw_service.specs.Finds.{IsRefusalOf, found_thread, thread_at, unless}
+use Rattle.tw_answers.specs.Finds.{IsRefusalOf, unless}
+use Rattle.tw_service.specs.Finds.{found_thread, thread_at}
 use Rattle.tw_service.specs.Keeps.{KeepsHistory}
-use Rattle.tw_service.specs.Limits.{append_refusal}
+use Rattle.tw_answers.specs.Limits.{append_refusal}
 use Rattle.tw_service.specs.Machine.{append_table}
 use Rattle.tw_service.specs.Machine.Call.{Append}
 use Rattle.tw_service.specs.Machine.Reply.{OfThread}
 use Rattle.tw_service.specs.Serves.{Serves}
 use Rattle.tw_service.specs.Stands.{greatest_time}
-use Rattle.tw_service.proofs.Answering.{IsTold, NoFault, answers_fault, answers_refusal, append_done, append_no_fault, append_refused, append_told, is_disk_fault, of_some}
-use Rattle.tw_service.proofs.FoundAnswers.{fault_page, page_on, table_found}
+use Rattle.tw_answers.proofs.TableAnswers.{IsTold, NoFault, append_no_fault, append_told, of_some}
+use Rattle.tw_service.proofs.Answering.{answers_fault, answers_refusal, append_done, append_refused, is_disk_fault}
+use Rattle.tw_answers.proofs.FoundAnswers.{fault_page, page_on, table_found}
 use Rattle.tw_service.proofs.Serving.{rest_stands, same_leaves, same_tells, still_keeps}
 use Rattle.tw_service.proofs.service.Service.add.Goals as goal
 

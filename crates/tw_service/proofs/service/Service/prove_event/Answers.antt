@@ -5,15 +5,16 @@ use Rattle.tw_disk.specs.Disk.{IsAtRest}
 use Rattle.tw_pages.specs.StoreValue.{disk_of}
 use Rattle.tw_pages.specs.SameSteps.{is_same_itself}
 use Rattle.tw_service.specs.Keeps.{KeepsHistory}
-use Rattle.tw_service.specs.Limits.{order_refusal}
+use Rattle.tw_answers.specs.Limits.{order_refusal}
 use Rattle.tw_service.specs.Machine.Call.{ProveEvent}
 use Rattle.tw_service.specs.Machine.Reply.{OfProof}
-use Rattle.tw_service.proofs.Answering.{IsTold, NoFault, answers_fault, answers_refusal, is_disk_fault, no_event_told, of_some, order_no_fault, order_told, proof_disordered, proof_made, proof_without_event}
+use Rattle.tw_answers.proofs.TableAnswers.{IsTold, NoFault, no_event_told, of_some, order_no_fault, order_told}
+use Rattle.tw_service.proofs.Answering.{answers_fault, answers_refusal, is_disk_fault, proof_disordered, proof_made, proof_without_event}
 use Rattle.tw_pages.specs.StoreValue.{opening_of}
 use Rattle.tw_disk.specs.Found.{Found}
-use Rattle.tw_service.specs.declared.refusal.Refusal.{Refusal}
-use Rattle.tw_service.specs.Finds.{IsRefusalOf, event_proof, found_event, unless}
-use Rattle.tw_service.proofs.FoundAnswers.{table_found}
+use Rattle.tw_answers.specs.declared.refusal.Refusal.{Refusal}
+use Rattle.tw_answers.specs.Finds.{IsRefusalOf, event_proof, found_event, unless}
+use Rattle.tw_answers.proofs.FoundAnswers.{table_found}
 use Rattle.tw_service.proofs.KeptAnswers.{answer_makes, answer_refuses}
 use Rattle.tw_service.proofs.Serving.{read_keeps, read_leaves, told_list}
 use Rattle.tw_service.proofs.service.Service.prove_event.Goals as goal

@@ -1,20 +1,18 @@
 use Rattle.std.proofs.Common.{◌≡◌, ◌∙◌, ℕ, ◌≤◌, List, Bool, ap, subst, sym, refl, false}
-use Rattle.std.specs.Prelude.{is_some, Option, None, Some, Result, Ok}
-use Rattle.tw_base.specs.history.History.{History}
+use Rattle.std.specs.Prelude.{is_some, Option, None, Some, Result}
 use Rattle.tw_disk.specs.Found.{Found}
-use Rattle.tw_disk.specs.Found.Found.{Is}
-use Rattle.tw_disk.proofs.FoundLaws.{same_found}
 use Rattle.tw_pages.specs.StoreValue.{opening_of}
 use Rattle.tw_chain.specs.declared.proof.Proof.TheVariants.{Linked}
 use Rattle.tw_chain.proofs.Completeness.{own-accepted}
-use Rattle.tw_service.specs.declared.refusal.Refusal.{Refusal}
-use Rattle.tw_service.specs.Finds.{IsRefusalOf, found_link_proof, link_proof, unless}
-use Rattle.tw_service.specs.Limits.{link_refusal}
+use Rattle.tw_answers.specs.declared.refusal.Refusal.{Refusal}
+use Rattle.tw_answers.specs.Finds.{IsRefusalOf, found_link_proof, link_proof, unless}
+use Rattle.tw_answers.specs.Limits.{link_refusal}
 use Rattle.tw_service.specs.Machine.Call.{ProveLink}
 use Rattle.tw_service.specs.Machine.Reply.{OfProof}
-use Rattle.tw_service.proofs.Answering.{IsTold, NoFault, of_some, link_no_fault, link_refused, link_told, link_made}
+use Rattle.tw_answers.proofs.TableAnswers.{IsTold, NoFault, of_some, link_no_fault, link_told}
+use Rattle.tw_service.proofs.Answering.{link_refused, link_made}
 use Rattle.tw_service.proofs.Asked.{asked_err, asked_ok, asked_refused}
-use Rattle.tw_service.proofs.FoundAnswers.{of_disk_fault}
+use Rattle.tw_answers.proofs.FoundAnswers.{of_disk_fault}
 use Rattle.tw_service.proofs.KeptAnswers.{link_answer, link_good}
 use Rattle.tw_service.proofs.Serving.{told_list}
 use Rattle.tw_service.proofs.service.Service.prove_link.Goals as goal
@@ -31,7 +29,7 @@ returns-in-Some-clause-asks g c =
     let top = c.args.top in
     let last = s.recorded.root.head.step in
     let is = sym c.in-Some.is ∙ c.link_refusal.ensures.answer in
-    asked_refused d.view g.met.D.Disk.only_now g.H.Hasher.dig (ProveLink step top) (λ (b : List ℕ). OfProof b) (link_refusal s.is_broken last step top) (λ ps. found_link_proof g.H.Hasher.dig ps s.recorded.root.name s.recorded.root.head s.is_broken step top) s c.in-Some.refusal is
+    asked_refused d.view g.met.D.Disk.only_now g.H.Hasher.dig (λ why. ⊥) (ProveLink step top) (λ (b : List ℕ). OfProof b) (link_refusal s.is_broken last step top) (λ ps. found_link_proof g.H.Hasher.dig ps s.recorded.root.name s.recorded.root.head s.is_broken step top) s c.in-Some.refusal is
     (of_some NoFault _ c.in-Some.refusal is (link_no_fault s.is_broken last step top))
     (λ ps list. ap (λ (o : Option Refusal). unless o (link_proof g.H.Hasher.dig ps s.recorded.root.name s.recorded.root.head step top)) (sym is))
     (λ whole h served.
@@ -68,7 +66,7 @@ returns-in-Ok-clause-asks g c =
     let top = c.args.top in
     let last = r.root.head.step in
     let none = sym c.in_default.is ∙ c.link_refusal.ensures.answer in
-    asked_ok d.view g.met.D.Disk.only_now g.H.Hasher.dig (ProveLink step top) (λ (b : List ℕ). OfProof b) (link_refusal s.is_broken last step top) (λ ps. found_link_proof g.H.Hasher.dig ps r.root.name r.root.head s.is_broken step top) s _ none refl
+    asked_ok d.view g.met.D.Disk.only_now g.H.Hasher.dig (λ why. ⊥) (ProveLink step top) (λ (b : List ℕ). OfProof b) (link_refusal s.is_broken last step top) (λ ps. found_link_proof g.H.Hasher.dig ps r.root.name r.root.head s.is_broken step top) s _ none refl
     c.in-Ok.ensures.reads.kept.same_kept c.in-Ok.ensures.reads.kept.used_kept c.in-Ok.ensures.reads.faults.later c.in-Ok.bytes refl
     (λ ps list. ap (λ (o : Option Refusal). unless o (link_proof g.H.Hasher.dig ps r.root.name r.root.head step top)) (sym none) ∙ c.in-Ok.ensures.reads.answer ps list)
     (λ whole h served.
@@ -86,7 +84,7 @@ returns-in-Err-clause-asks g c =
     let top = c.args.top in
     let last = r.root.head.step in
     let none = sym c.in_default.is ∙ c.link_refusal.ensures.answer in
-    asked_err d.view g.met.D.Disk.only_now g.H.Hasher.dig (ProveLink step top) (λ (b : List ℕ). OfProof b) (link_refusal s.is_broken last step top) (λ ps. found_link_proof g.H.Hasher.dig ps r.root.name r.root.head s.is_broken step top) s _ none refl
+    asked_err d.view g.met.D.Disk.only_now g.H.Hasher.dig (λ why. ⊥) (ProveLink step top) (λ (b : List ℕ). OfProof b) (link_refusal s.is_broken last step top) (λ ps. found_link_proof g.H.Hasher.dig ps r.root.name r.root.head s.is_broken step top) s _ none refl
     c.in-Err.ensures.reads.kept.same_kept c.in-Err.ensures.reads.kept.used_kept c.in-Err.ensures.reads.faults.later c.in-Err.refusal c.in-Err.ensures.reads.own (c.link_refusal.ensures.whole (ap is_some c.in_default.is)) c.is_disk_fault-self.ensures
     (λ ps list. subst (λ (f : Found (Result (List ℕ) Refusal)). IsRefusalOf c.in-Err.refusal f) (ap (λ (o : Option Refusal). unless o (link_proof g.H.Hasher.dig ps r.root.name r.root.head step top)) none) (c.in-Err.ensures.reads.answer ps list))
     (λ h served.

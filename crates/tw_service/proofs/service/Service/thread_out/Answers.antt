@@ -1,20 +1,17 @@
-use Rattle.std.proofs.Common.{◌≡◌, ◌∙◌, ℕ, ◌≤◌, Bool, ap, subst, sym, refl, false}
-use Rattle.std.specs.Prelude.{is_some, Option, None, Some, Result, Ok}
-use Rattle.tw_base.specs.history.History.{History}
+use Rattle.std.proofs.Common.{◌≡◌, ◌∙◌, ℕ, Bool, ap, subst, sym, refl, false}
+use Rattle.std.specs.Prelude.{is_some, Option, None, Some, Result}
 use Rattle.tw_disk.specs.Found.{Found}
-use Rattle.tw_disk.specs.Found.Found.{Is}
-use Rattle.tw_disk.proofs.FoundLaws.{same_found}
 use Rattle.tw_pages.specs.StoreValue.{opening_of}
 use Rattle.tw_skipproof.specs.declared.path.Path.{Path}
-use Rattle.tw_skipproof.specs.HistoryProofs.{IsPathOf}
-use Rattle.tw_service.specs.declared.refusal.Refusal.{Refusal}
-use Rattle.tw_service.specs.Finds.{IsRefusalOf, found_message, path_down, unless}
-use Rattle.tw_service.specs.Limits.{thread_refusal}
+use Rattle.tw_answers.specs.declared.refusal.Refusal.{Refusal}
+use Rattle.tw_answers.specs.Finds.{IsRefusalOf, found_message, path_down, unless}
+use Rattle.tw_answers.specs.Limits.{thread_refusal}
 use Rattle.tw_service.specs.Machine.Call.{TellThread}
 use Rattle.tw_service.specs.Machine.Reply.{OfPath}
-use Rattle.tw_service.proofs.Answering.{IsTold, NoFault, of_some, thread_no_fault, thread_refused, thread_told, thread_told_so}
+use Rattle.tw_answers.proofs.TableAnswers.{IsTold, NoFault, of_some, thread_no_fault, thread_told}
+use Rattle.tw_service.proofs.Answering.{thread_refused, thread_told_so}
 use Rattle.tw_service.proofs.Asked.{asked_err, asked_ok, asked_refused}
-use Rattle.tw_service.proofs.FoundAnswers.{of_disk_fault}
+use Rattle.tw_answers.proofs.FoundAnswers.{of_disk_fault}
 use Rattle.tw_service.proofs.KeptAnswers.{path_answer, path_good}
 use Rattle.tw_service.proofs.Serving.{told_list}
 use Rattle.tw_service.proofs.service.Service.thread_out.Goals as goal
@@ -30,7 +27,7 @@ returns-in-Some-clause-asks g c =
     let since = c.args.since in
     let last = s.recorded.root.head.step in
     let is = sym c.in-Some.is ∙ c.thread_refusal.ensures.answer in
-    asked_refused d.view g.met.D.Disk.only_now g.H.Hasher.dig (TellThread since) (λ (p : Path). OfPath p) (thread_refusal s.is_broken last since) (λ ps. found_message g.H.Hasher.dig ps s.recorded.root.head s.is_broken since) s c.in-Some.refusal is
+    asked_refused d.view g.met.D.Disk.only_now g.H.Hasher.dig (λ why. ⊥) (TellThread since) (λ (p : Path). OfPath p) (thread_refusal s.is_broken last since) (λ ps. found_message g.H.Hasher.dig ps s.recorded.root.head s.is_broken since) s c.in-Some.refusal is
     (of_some NoFault _ c.in-Some.refusal is (thread_no_fault s.is_broken last since))
     (λ ps list. ap (λ (o : Option Refusal). unless o (path_down g.H.Hasher.dig ps s.recorded.root.head since)) (sym is))
     (λ whole h served.
@@ -53,7 +50,7 @@ returns-in-Ok-clause-asks g c =
     let since = c.args.since in
     let last = r.root.head.step in
     let none = sym c.in_default.is ∙ c.thread_refusal.ensures.answer in
-    asked_ok d.view g.met.D.Disk.only_now g.H.Hasher.dig (TellThread since) (λ (p : Path). OfPath p) (thread_refusal s.is_broken last since) (λ ps. found_message g.H.Hasher.dig ps r.root.head s.is_broken since) s _ none refl
+    asked_ok d.view g.met.D.Disk.only_now g.H.Hasher.dig (λ why. ⊥) (TellThread since) (λ (p : Path). OfPath p) (thread_refusal s.is_broken last since) (λ ps. found_message g.H.Hasher.dig ps r.root.head s.is_broken since) s _ none refl
     c.in-Ok.ensures.reads.kept.same_kept c.in-Ok.ensures.reads.kept.used_kept c.in-Ok.ensures.reads.faults.later c.in-Ok.path refl
     (λ ps list. ap (λ (o : Option Refusal). unless o (path_down g.H.Hasher.dig ps r.root.head since)) (sym none) ∙ c.in-Ok.ensures.reads.answer ps list)
     (λ whole h served.
@@ -70,7 +67,7 @@ returns-in-Err-clause-asks g c =
     let since = c.args.since in
     let last = r.root.head.step in
     let none = sym c.in_default.is ∙ c.thread_refusal.ensures.answer in
-    asked_err d.view g.met.D.Disk.only_now g.H.Hasher.dig (TellThread since) (λ (p : Path). OfPath p) (thread_refusal s.is_broken last since) (λ ps. found_message g.H.Hasher.dig ps r.root.head s.is_broken since) s _ none refl
+    asked_err d.view g.met.D.Disk.only_now g.H.Hasher.dig (λ why. ⊥) (TellThread since) (λ (p : Path). OfPath p) (thread_refusal s.is_broken last since) (λ ps. found_message g.H.Hasher.dig ps r.root.head s.is_broken since) s _ none refl
     c.in-Err.ensures.reads.kept.same_kept c.in-Err.ensures.reads.kept.used_kept c.in-Err.ensures.reads.faults.later c.in-Err.refusal c.in-Err.ensures.reads.own (c.thread_refusal.ensures.whole (ap is_some c.in_default.is)) c.is_disk_fault-self.ensures
     (λ ps list. subst (λ (f : Found (Result Path Refusal)). IsRefusalOf c.in-Err.refusal f) (ap (λ (o : Option Refusal). unless o (path_down g.H.Hasher.dig ps r.root.head since)) none) (c.in-Err.ensures.reads.answer ps list))
     (λ h served.

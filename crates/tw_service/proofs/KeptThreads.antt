@@ -1,0 +1,304 @@
+-- What is found of threads and of their absence, in pages that keep a history whole, is the history's.
+use Rattle.std.proofs.Common.{◌≡◌, ℕ, ◌*◌, ◌≤◌, List, length, refl, ap, sym, ◌∙◌, subst, arith}
+use Rattle.std.specs.Prelude.{false, MatchOption, Option, Some, None, Result, Ok, Err}
+use Rattle.tw_base.specs.declared.history.root.Root.{Root}
+use Rattle.tw_base.specs.declared.history.thread.Entry.{Entry}
+use Rattle.tw_base.specs.declared.history.thread.Key.{Key}
+use Rattle.tw_base.specs.declared.history.tree_proof.Ancestor.{Ancestor}
+use Rattle.tw_base.specs.declared.history.tree_proof.Ask.{Ask}
+use Rattle.tw_base.specs.declared.history.tree_proof.Ask.TheVariants.{Present, Absent as OfNone}
+use Rattle.tw_base.specs.declared.history.tree_proof.TreeProof.{TreeProof}
+use Rattle.tw_base.specs.format.Formats.{Spells}
+use Rattle.tw_base.specs.history.Asking.{entry_with}
+use Rattle.tw_base.specs.history.Entries.{key_of}
+use Rattle.tw_base.specs.history.History.{History}
+use Rattle.tw_base.specs.history.Limits.{IsStep}
+use Rattle.tw_base.specs.history.Sound.{IsSound}
+use Rattle.tw_base.specs.history.Tree.{Tree, entries, tree}
+use Rattle.tw_base.specs.kinds.Names.{IsName}
+use Rattle.tw_base.proofs.lemmas.history.Members.{in-with}
+use Rattle.tw_base.proofs.lemmas.history.Trees.{IsArchived, tree-archived}
+use Rattle.tw_base.proofs.lemmas.format.FormatLaws.{one_value}
+use Rattle.tw_base.proofs.lemmas.kinds.DigestBytes.{IsDigest}
+use Rattle.tw_base.proofs.lemmas.kinds.ListLemmas.{Each-in}
+use Rattle.tw_disk.specs.Found.{Found, ◌>>=◌}
+use Rattle.tw_disk.specs.Found.Found.{Is, Bad}
+use Rattle.tw_disk.specs.Image.{Image}
+use Rattle.tw_disk.proofs.FoundLaws.{is_on, same_found}
+use Rattle.tw_rbtree.specs.Standing.{StandsFor}
+use Rattle.tw_rbtree.specs.Ways.{found_with}
+use Rattle.tw_rbtree.proofs.RootWays.{root-way, with-found}
+use Rattle.tw_rbtree.proofs.TreeHeights.{stands-height}
+use Rattle.tw_treeproof.specs.Answers.{ancestors_of}
+use Rattle.tw_treeproof.specs.Making.{place_of, proof_of, way_up}
+use Rattle.tw_treeproof.proofs.OwnProofs.{at-ancestors}
+use Rattle.tw_archive.proofs.Archiving.{entry_at-archived}
+use Rattle.tw_archive.proofs.Peers.{with-key}
+use Rattle.tw_chain.specs.declared.proof.AbsenceProof.{AbsenceProof}
+use Rattle.tw_chain.specs.declared.proof.Proof.{Proof}
+use Rattle.tw_chain.specs.declared.proof.Proof.TheVariants.{Archived, Absent}
+use Rattle.tw_chain.specs.declared.proof.ThreadProof.{ThreadProof}
+use Rattle.tw_chain.specs.OwnProofs.{IsAbsenceProofOf, IsThreadProofOf}
+use Rattle.tw_chain.specs.Proofs.{proof_bytes as bytes_of_proof, proof_layout}
+use Rattle.tw_chain.proofs.ArchiveAnswers.{has-received, lacks-received}
+use Rattle.tw_chain.proofs.OwnSpelling.{own-few, own-spelled}
+use Rattle.tw_skipproof.specs.HistoryProofs.{IsPartOf, IsPathOf}
+use Rattle.tw_skiplist.specs.declared.info.StepProof.{StepProof}
+use Rattle.tw_skiplist.specs.Infos.{IsInfoOf}
+use Rattle.tw_skiplist.specs.Readings.{found_proof}
+use Rattle.tw_skiplist.proofs.KeptReadings.{proof_found}
+use Rattle.tw_answers.specs.declared.refusal.Refusal.{Refusal}
+use Rattle.tw_answers.specs.declared.refusal.Refusal.TheVariants.{BadPage, HasThread, NoThread}
+use Rattle.tw_answers.specs.declared.root.RootRecord.{RootRecord}
+use Rattle.tw_answers.specs.Finds.{IsRefusalOf, absence_bytes, absence_in, absence_proof, found_absence_of, found_thread_of, part_of, thread_bytes, thread_in, thread_proof, tree_shown, written}
+use Rattle.tw_answers.specs.Limits.{absence_refusal, has_thread, no_thread, thread_proof_refusal}
+use Rattle.tw_answers.specs.Refusals.{IsBadPage, IsHasThread, IsNoThread}
+use Rattle.tw_answers.proofs.TableAnswers.{IsTold}
+use Rattle.tw_answers.proofs.TreeAnswers.{shown-stands}
+use Rattle.tw_service.specs.Machine.{IsFewNodes, IsStepOf, MakesAbsence, MakesThread}
+use Rattle.tw_service.specs.Machine.Call.{ProveAbsent, ProveThread}
+use Rattle.tw_service.specs.Machine.Reply.{OfProof, Refused}
+use Rattle.tw_service.specs.Stands.{KeepsWhole}
+use Rattle.tw_service.proofs.WholePages.{tree_at}
+
+-- where something is found, no page is bad
+pub no_bad_is : {X : Type 0} (refusal : Refusal) (found : Found (Result X Refusal)) (x : Result X Refusal) → found ≡ Is x → IsRefusalOf refusal found → IsBadPage refusal → ⊥
+no_bad_is {X} (BadPage page) found x is there bad = (let both : ◌≡◌ {A = Found (Result X Refusal)} (Is x) (Bad page) = sym is ∙ there in absurd cc)
+no_bad_is _ found x is there bad = bad
+
+-- bytes spell one proof
+pub one_thread : (bytes : List ℕ) (p q : ThreadProof) → Spells proof_layout bytes (Archived p) → Spells proof_layout bytes (Archived q) → p ≡ q
+one_thread bytes p q one other = let same : ◌≡◌ {A = Proof} (Archived p) (Archived q) = one_value proof_layout bytes (Archived p) (Archived q) one other in cc
+
+pub one_absence : (bytes : List ℕ) (p q : AbsenceProof) → Spells proof_layout bytes (Absent p) → Spells proof_layout bytes (Absent q) → p ≡ q
+one_absence bytes p q one other = let same : ◌≡◌ {A = Proof} (Absent p) (Absent q) = one_value proof_layout bytes (Absent p) (Absent q) one other in cc
+
+-- a tree proof that is the tree's own has few nodes
+few_nodes : (dig : List ℕ → List ℕ) (ps : Image) (root : Root) (t : Tree) (asked : Ask) (shown : TreeProof) → StandsFor dig ps root t → shown ≡ proof_of dig t asked → IsFewNodes (length (entries t)) (length (ancestors_of shown))
+few_nodes dig ps root t asked shown stands is =
+    let w = root-way dig ps asked root t stands in
+    let same = w.up ∙ sym (at-ancestors dig (place_of asked t) (way_up dig asked t)) in
+    let few : length (ancestors_of (proof_of dig t asked)) ≤ 9 * w.levels = subst (λ (xs : List Ancestor). length xs ≤ 9 * w.levels) same w.few in
+    (w.levels, subst (λ (p : TreeProof). length (ancestors_of p) ≤ 9 * w.levels) (sym is) few, w.many)
+
+module _ (dig : List ℕ → List ℕ) (size : (text : List ℕ) → IsDigest (dig text)) (ps : Image) (h : History) (r : RootRecord) (whole : KeepsWhole dig ps h r) (sound : IsSound h) (name : List ℕ) (named : h.name ≡ name)
+    (step : ℕ) (key : Key) (top : ℕ) (some : 1 ≤ step) (order : step ≤ top) (below : top ≤ r.head.step) where
+  abbrev es : List Entry
+  es = entries (tree h step)
+
+  top_within : top ≤ length h.steps
+  top_within = omega (arith, below, whole.steps.step)
+
+  within : step ≤ length h.steps
+  within = omega (arith, order, below, whole.steps.step)
+
+  pub told : (proof : StepProof) × (found_proof dig ps r.head top step ≡ Is proof) × IsPathOf dig h proof.path.links top step × IsInfoOf dig ps h whole.steps.places step proof.info
+  told = proof_found dig size ps h r.head whole.steps top step some order below
+
+  abbrev root : Root
+  root = told.0.info.archive
+
+  pub stands : StandsFor dig ps root (tree h step)
+  stands = subst (λ (x : Root). StandsFor dig ps x (tree h step)) (sym told.3.archive) (tree_at dig ps h r whole step within)
+
+  part : IsPartOf dig h step top (part_of name top told.0)
+  part = record { service = sym named; at_step = told.3.step; at_top = refl; path = told.2; opening = told.3.opening }
+
+  low : (asked : Ask) (shown : TreeProof) → shown ≡ proof_of dig (tree h step) asked → IsFewNodes (length es) (length (ancestors_of shown))
+  low asked shown is = few_nodes dig ps root (tree h step) asked shown stands is
+
+  entry_found : (o : Option Entry) → entry_with es key ≡ o → found_with dig ps root key ≡ Is o
+  entry_found o is = with-found dig ps root (tree h step) key stands ∙ ap (λ (q : Option Entry). Is q) is
+
+  -- ---- a thread
+
+  abbrev made_thread : Entry → ThreadProof
+  made_thread e = record { at = part_of name top told.0; entry = e; shown = proof_of dig (tree h step) (Present e) }
+
+  same_key : (e : Entry) → entry_with es key ≡ Some e → key_of e ≡ key
+  same_key e is = with-key es key e is
+
+  own_entry : (e : Entry) → entry_with es key ≡ Some e → entry_with es (key_of e) ≡ Some e
+  own_entry e is = ap (λ (x : Key). entry_with es x) (same_key e is) ∙ is
+
+  own_thread : (e : Entry) → entry_with es key ≡ Some e → IsThreadProofOf dig h step top (made_thread e)
+  own_thread e is =
+      let at = Each-in (IsArchived h step) es e (tree-archived h step) (in-with es key e is) in
+      record {
+        at = part;
+        received = has-received h step e (own_entry e is);
+        before = (let same = entry_at-archived h at.0 e at.2 in omega (arith, same, at.1));
+        shown = refl;
+      }
+
+  abbrev thread_answer : Option Entry → Found (Result (List ℕ) Refusal)
+  thread_answer None = Is (Err NoThread)
+  thread_answer (Some e) = Is (Ok (bytes_of_proof (Archived (made_thread e))))
+
+  shown_thread : (o : Option Entry) → entry_with es key ≡ o → (found_thread_of dig ps root key >>= written (thread_bytes name top told.0)) ≡ thread_answer o
+  unfolding found_thread_of
+  shown_thread None is = ap (λ f. f >>= written (thread_bytes name top told.0)) (is_on (found_with dig ps root key) (thread_in dig ps root) None (entry_found None is))
+  shown_thread (Some e) is =
+      ap (λ f. f >>= written (thread_bytes name top told.0))
+      (is_on (found_with dig ps root key) (thread_in dig ps root) (Some e) (entry_found (Some e) is)
+      ∙ is_on (tree_shown dig ps root (Present e)) (λ tree. Is (Ok (record { entry = e; tree = tree }))) (proof_of dig (tree h step) (Present e)) (shown-stands dig ps root (Present e) (tree h step) stands (own_entry e is)))
+
+  pub thread_is : (o : Option Entry) → entry_with es key ≡ o → thread_proof dig ps name r.head step key top ≡ thread_answer o
+  unfolding thread_proof
+  thread_is o is =
+      is_on (found_proof dig ps r.head top step) (λ proof. found_thread_of dig ps proof.info.archive key >>= written (thread_bytes name top proof)) told.0 told.1
+      ∙ shown_thread o is
+
+  pub makes : (e : Entry) → entry_with es key ≡ Some e → MakesThread dig h step key top (bytes_of_proof (Archived (made_thread e)))
+  makes e is =
+      let own = own_thread e is in
+      let height = stands-height dig ps root (tree h step) stands in
+      let few = own-few dig h step top (λ t. (size t).0) (λ t. (size t).1) sound order top_within (Archived (made_thread e)) (omega (arith, height)) own in
+      (made_thread e, own-spelled dig h step top (λ t. (size t).0) (λ t. (size t).1) sound order top_within (Archived (made_thread e)) (omega (arith, some, order)) few own, own, same_key e is)
+
+  -- what is found is the history's own proof, or that there is none
+  pub thread_made : (bytes : List ℕ) → thread_proof dig ps name r.head step key top ≡ Is (Ok bytes) → MakesThread dig h step key top bytes × (no_thread (entry_with es key) ≡ None)
+  thread_made bytes found = by (entry_with es key) refl
+    where
+      ok_ok : (x y : List ℕ) → ◌≡◌ {A = Result (List ℕ) Refusal} (Ok x) (Ok y) → x ≡ y
+      ok_ok x y e = cc
+
+      err_ok : (q : Refusal) (x : List ℕ) → ◌≡◌ {A = Result (List ℕ) Refusal} (Err q) (Ok x) → ⊥
+      err_ok q x e = cc
+
+      by : (o : Option Entry) → entry_with es key ≡ o → MakesThread dig h step key top bytes × (no_thread (entry_with es key) ≡ None)
+      by None is = absurd (err_ok NoThread bytes (same_found (Err NoThread) (Ok bytes) (sym (thread_is None is) ∙ found)))
+      by (Some e) is = (
+        subst (MakesThread dig h step key top) (ok_ok (bytes_of_proof (Archived (made_thread e))) bytes (same_found (Ok (bytes_of_proof (Archived (made_thread e)))) (Ok bytes) (sym (thread_is (Some e) is) ∙ found))) (makes e is),
+        ap no_thread is,
+      )
+
+  pub thread_refuses : (refusal : Refusal) → IsNoThread refusal → IsRefusalOf refusal (thread_proof dig ps name r.head step key top) → no_thread (entry_with es key) ≡ Some refusal
+  thread_refuses NoThread none found = by (entry_with es key) refl
+    where
+      ok_err : (x : List ℕ) → ◌≡◌ {A = Result (List ℕ) Refusal} (Ok x) (Err NoThread) → ⊥
+      ok_err x e = cc
+
+      by : (o : Option Entry) → entry_with es key ≡ o → no_thread (entry_with es key) ≡ Some NoThread
+      by None is = ap no_thread is
+      by (Some e) is = absurd (ok_err (bytes_of_proof (Archived (made_thread e))) (same_found (Ok (bytes_of_proof (Archived (made_thread e)))) (Err NoThread) (sym (thread_is (Some e) is) ∙ found)))
+  thread_refuses _ none found = absurd none
+
+  pub thread_good : (refusal : Refusal) → IsRefusalOf refusal (thread_proof dig ps name r.head step key top) → IsBadPage refusal → ⊥
+  thread_good refusal found = by (entry_with es key) refl
+    where
+      by : (o : Option Entry) → entry_with es key ≡ o → IsBadPage refusal → ⊥
+      by None is = no_bad_is refusal (thread_proof dig ps name r.head step key top) (Err NoThread) (thread_is None is) found
+      by (Some e) is = no_bad_is refusal (thread_proof dig ps name r.head step key top) (Ok (bytes_of_proof (Archived (made_thread e)))) (thread_is (Some e) is) found
+
+  -- a proof that the history has itself has few nodes
+  pub thread_few : (p : ThreadProof) → IsThreadProofOf dig h step top p → IsFewNodes (length es) (length (ancestors_of p.shown))
+  thread_few p own = low (Present p.entry) p.shown own.shown
+
+  -- ---- an absence
+
+  abbrev made_absence : AbsenceProof
+  made_absence = record { at = part_of name top told.0; key = key; shown = proof_of dig (tree h step) (OfNone key) }
+
+  abbrev absence_answer : Option Entry → Found (Result (List ℕ) Refusal)
+  absence_answer None = Is (Ok (bytes_of_proof (Absent made_absence)))
+  absence_answer (Some e) = Is (Err (HasThread e.archived))
+
+  shown_absence : (o : Option Entry) → entry_with es key ≡ o → (found_absence_of dig ps root key >>= written (absence_bytes name key top told.0)) ≡ absence_answer o
+  unfolding found_absence_of
+  shown_absence None is =
+      ap (λ (f : Found (Result TreeProof Refusal)). f >>= written (absence_bytes name key top told.0))
+      (is_on (found_with dig ps root key) (absence_in dig ps root key) None (entry_found None is)
+      ∙ is_on (tree_shown dig ps root (OfNone key)) (λ tree. Is (Ok tree)) (proof_of dig (tree h step) (OfNone key)) (shown-stands dig ps root (OfNone key) (tree h step) stands is))
+  shown_absence (Some e) is = ap (λ (f : Found (Result TreeProof Refusal)). f >>= written (absence_bytes name key top told.0)) (is_on (found_with dig ps root key) (absence_in dig ps root key) (Some e) (entry_found (Some e) is))
+
+  pub absence_is : (o : Option Entry) → entry_with es key ≡ o → absence_proof dig ps name r.head step key top ≡ absence_answer o
+  unfolding absence_proof
+  absence_is o is =
+      is_on (found_proof dig ps r.head top step) (λ proof. found_absence_of dig ps proof.info.archive key >>= written (absence_bytes name key top proof)) told.0 told.1
+      ∙ shown_absence o is
+
+  module _ (is_name : IsName key.from) (is_step : IsStep key.step) where
+    own_absence : entry_with es key ≡ None → IsAbsenceProofOf dig h step top made_absence
+    own_absence none = record {
+      from_1 = omega (arith, some);
+      at = part;
+      name = is_name;
+      key = is_step;
+      none = lacks-received h step sound within key none;
+      shown = refl;
+    }
+
+    pub lacks : entry_with es key ≡ None → MakesAbsence dig h step key top (bytes_of_proof (Absent made_absence))
+    lacks none =
+        let own = own_absence none in
+        let height = stands-height dig ps root (tree h step) stands in
+        let few = own-few dig h step top (λ t. (size t).0) (λ t. (size t).1) sound order top_within (Absent made_absence) (omega (arith, height)) own in
+        (made_absence, own-spelled dig h step top (λ t. (size t).0) (λ t. (size t).1) sound order top_within (Absent made_absence) (omega (arith, some, order)) few own, own, refl)
+
+    pub absence_made : (bytes : List ℕ) → absence_proof dig ps name r.head step key top ≡ Is (Ok bytes) → MakesAbsence dig h step key top bytes × (has_thread (entry_with es key) ≡ None)
+    absence_made bytes found = by (entry_with es key) refl
+      where
+        ok_ok : (x y : List ℕ) → ◌≡◌ {A = Result (List ℕ) Refusal} (Ok x) (Ok y) → x ≡ y
+        ok_ok x y e = cc
+
+        err_ok : (q : Refusal) (x : List ℕ) → ◌≡◌ {A = Result (List ℕ) Refusal} (Err q) (Ok x) → ⊥
+        err_ok q x e = cc
+
+        by : (o : Option Entry) → entry_with es key ≡ o → MakesAbsence dig h step key top bytes × (has_thread (entry_with es key) ≡ None)
+        by None is = (
+          subst (MakesAbsence dig h step key top) (ok_ok (bytes_of_proof (Absent made_absence)) bytes (same_found (Ok (bytes_of_proof (Absent made_absence))) (Ok bytes) (sym (absence_is None is) ∙ found))) (lacks is),
+          ap has_thread is,
+        )
+        by (Some e) is = absurd (err_ok (HasThread e.archived) bytes (same_found (Err (HasThread e.archived)) (Ok bytes) (sym (absence_is (Some e) is) ∙ found)))
+
+  pub absence_refuses : (refusal : Refusal) → IsHasThread refusal → IsRefusalOf refusal (absence_proof dig ps name r.head step key top) → has_thread (entry_with es key) ≡ Some refusal
+  absence_refuses (HasThread archived) has found = by (entry_with es key) refl
+    where
+      ok_err : (x : List ℕ) → ◌≡◌ {A = Result (List ℕ) Refusal} (Ok x) (Err (HasThread archived)) → ⊥
+      ok_err x e = cc
+
+      err_err : (one other : ℕ) → ◌≡◌ {A = Result (List ℕ) Refusal} (Err (HasThread one)) (Err (HasThread other)) → one ≡ other
+      err_err one other e = cc
+
+      by : (o : Option Entry) → entry_with es key ≡ o → has_thread (entry_with es key) ≡ Some (HasThread archived)
+      by None is = absurd (ok_err (bytes_of_proof (Absent made_absence)) (same_found (Ok (bytes_of_proof (Absent made_absence))) (Err (HasThread archived)) (sym (absence_is None is) ∙ found)))
+      by (Some e) is = ap has_thread is ∙ ap (λ (k : ℕ). Some (HasThread k)) (err_err e.archived archived (same_found (Err (HasThread e.archived)) (Err (HasThread archived)) (sym (absence_is (Some e) is) ∙ found)))
+  absence_refuses _ has found = absurd has
+
+  pub absence_good : (refusal : Refusal) → IsRefusalOf refusal (absence_proof dig ps name r.head step key top) → IsBadPage refusal → ⊥
+  absence_good refusal found = by (entry_with es key) refl
+    where
+      by : (o : Option Entry) → entry_with es key ≡ o → IsBadPage refusal → ⊥
+      by None is = no_bad_is refusal (absence_proof dig ps name r.head step key top) (Ok (bytes_of_proof (Absent made_absence))) (absence_is None is) found
+      by (Some e) is = no_bad_is refusal (absence_proof dig ps name r.head step key top) (Err (HasThread e.archived)) (absence_is (Some e) is) found
+
+  pub absence_few : (p : AbsenceProof) → IsAbsenceProofOf dig h step top p → IsFewNodes (length es) (length (ancestors_of p.shown))
+  absence_few p own = low (OfNone p.key) p.shown own.shown
+
+-- ---- the machine
+
+module _ (dig : List ℕ → List ℕ) (h : History) (step : ℕ) (key : Key) (top : ℕ) where
+  pub thread_refused : (r : Refusal) → Some r ≡ thread_proof_refusal false h step key top → IsStepOf dig h (ProveThread step key top) (Refused r) h
+  thread_refused r is = (refl, subst (λ o. MatchOption o ((bytes : List ℕ) × MakesThread dig h step key top bytes × (Refused r ≡ OfProof bytes)) (λ refusal. Refused r ≡ Refused refusal)) is refl)
+
+  pub thread_proved : (bytes : List ℕ) → None ≡ thread_proof_refusal false h step key top → MakesThread dig h step key top bytes → IsStepOf dig h (ProveThread step key top) (OfProof bytes) h
+  thread_proved bytes is makes =
+      (refl, subst (λ o. MatchOption o ((bs : List ℕ) × MakesThread dig h step key top bs × (OfProof bytes ≡ OfProof bs)) (λ refusal. OfProof bytes ≡ Refused refusal)) is (bytes, makes, refl))
+
+  pub absence_refused : (r : Refusal) → Some r ≡ absence_refusal false h step key top → IsStepOf dig h (ProveAbsent step key top) (Refused r) h
+  absence_refused r is = (refl, subst (λ o. MatchOption o ((bytes : List ℕ) × MakesAbsence dig h step key top bytes × (Refused r ≡ OfProof bytes)) (λ refusal. Refused r ≡ Refused refusal)) is refl)
+
+  pub absence_proved : (bytes : List ℕ) → None ≡ absence_refusal false h step key top → MakesAbsence dig h step key top bytes → IsStepOf dig h (ProveAbsent step key top) (OfProof bytes) h
+  absence_proved bytes is makes =
+      (refl, subst (λ o. MatchOption o ((bs : List ℕ) × MakesAbsence dig h step key top bs × (OfProof bytes ≡ OfProof bs)) (λ refusal. OfProof bytes ≡ Refused refusal)) is (bytes, makes, refl))
+
+-- ---- refusals of a proof's own
+
+pub no_thread_told : (r : Refusal) → IsNoThread r → IsTold r
+no_thread_told NoThread is = ((λ fault. fault), (λ same. cc))
+no_thread_told _ is = absurd is
+
+pub has_thread_told : (r : Refusal) → IsHasThread r → IsTold r
+has_thread_told (HasThread archived) is = ((λ fault. fault), (λ same. cc))
+has_thread_told _ is = absurd is

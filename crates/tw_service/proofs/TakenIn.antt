@@ -1,0 +1,329 @@
+-- What a store makes of a message: where its archive was read, where the receipt was, and where a step was added.
+use Rattle.std.proofs.Common.{◌≡◌, ◌≢◌, ◌⊎◌, ℕ, suc, ◌+◌, ◌<◌, ◌≤◌, List, [], length, refl, ap, sym, ◌∙◌, subst, arith, inl, inr, ⊎_elim, Bool, true, false}
+use Rattle.std.specs.Prelude.{Option, Some, None, Result, Ok, Err, IfErr, IfOk, IsErrAnd, OnErr, if◌then◌else◌}
+use Rattle.std.specs.Str.{bytes_eq}
+use Rattle.std.proofs.lemmas.Bool.{false_from_ne_true}
+use Rattle.std.proofs.lemmas.Slice.Eq.{bytes_eq-Decides}
+use Rattle.tw_base.specs.declared.kinds.limits.TheConstants.{LAST_STEP}
+use Rattle.tw_base.specs.declared.history.root.Root.{Root}
+use Rattle.tw_base.specs.history.Auth.{auth}
+use Rattle.tw_base.specs.history.History.{History}
+use Rattle.tw_base.specs.history.Limits.{IsStep, IsThread, IsTimeWithinLimits}
+use Rattle.tw_base.specs.history.Sound.{IsSound}
+use Rattle.tw_base.specs.history.Tree.{entries, tree}
+use Rattle.tw_base.specs.kinds.Faults.{Rose}
+use Rattle.tw_base.proofs.lemmas.kinds.DigestBytes.{IsDigest}
+use Rattle.tw_disk.specs.Answers.{IsShared, SaysOf, has_failed, is_of_disk}
+use Rattle.tw_disk.specs.Disk.{DiskView, IsAtRest, LeavesOnly, Reads}
+use Rattle.tw_disk.specs.Found.{Found}
+use Rattle.tw_disk.specs.Found.Found.{Is, Bad}
+use Rattle.tw_disk.specs.Image.{Image}
+use Rattle.tw_disk.proofs.FoundLaws.{same_found}
+use Rattle.tw_disk.proofs.Moments.{goes_on}
+use Rattle.tw_msg.specs.declared.message.Message.{Message}
+use Rattle.tw_msg.specs.declared.receipt.Receipt.{Receipt}
+use Rattle.tw_msg.specs.Messages.{IsLinked}
+use Rattle.tw_pages.specs.declared.store.Store.{Store}
+use Rattle.tw_pages.specs.Same.{IsSameStore, count_of, list_of}
+use Rattle.tw_pages.specs.SameSteps.{is_same_on}
+use Rattle.tw_pages.specs.StoreValue.{disk_of, is_broken, opening_of, staged_of}
+use Rattle.tw_archive.specs.Archives.{MayArchive}
+use Rattle.tw_archive.specs.Judging.{judged}
+use Rattle.tw_skiplist.specs.declared.head.Head.{Head}
+use Rattle.tw_answers.specs.declared.refusal.Refusal.{Refusal}
+use Rattle.tw_answers.specs.declared.refusal.Refusal.TheVariants.{Own, BadPage, DiskFault, NoMemory}
+use Rattle.tw_answers.specs.declared.root.RootRecord.{RootRecord}
+use Rattle.tw_answers.specs.Finds.{IsAnswer}
+use Rattle.tw_answers.specs.Limits.{clock_refusal, own_refusal}
+use Rattle.tw_answers.specs.Refusals.{IsBadPage, IsFault, refusals}
+use Rattle.tw_answers.proofs.FoundAnswers.{table_found}
+use Rattle.tw_answers.proofs.TableAnswers.{is_bad_fault}
+use Rattle.tw_service.specs.declared.receiving.Reception.{Reception}
+use Rattle.tw_service.specs.declared.receiving.Reception.TheVariants.{Refuse, Known, Archive}
+use Rattle.tw_service.specs.Archiving.{AnswersArchived, ReceivesAs}
+use Rattle.tw_service.specs.Finds.{found_receipt, found_reception, receipt_at, receipt_of}
+use Rattle.tw_service.specs.Keeps.{KeepsHistory}
+use Rattle.tw_service.specs.Machine.{Archives, IsStepOf, RepliesTo, receipt_by, received_as}
+use Rattle.tw_service.specs.Machine.Call.{Receive}
+use Rattle.tw_service.specs.Machine.Reply.{OfReceipt, Refused}
+use Rattle.tw_service.specs.NextRecords.{next_record}
+use Rattle.tw_service.specs.Receiving.{TellsOf, reception, refuse_or}
+use Rattle.tw_service.specs.Stands.{KeepsWhole, StandsForOneOf, greatest_time}
+use Rattle.tw_service.specs.TakingIn.{TakesIn}
+use Rattle.tw_service.proofs.Received.{taken_err, taken_known, tells_told}
+use Rattle.tw_service.proofs.Receptions.{answer-knows, archive-accepts, may_archive, receipt_kept, reception_kept}
+use Rattle.tw_service.proofs.Serving.{read_keeps, rest_stands, same_leaves, still_keeps, told_list}
+
+abbrev fails : Refusal → Result Receipt Refusal
+fails why = Err why
+
+-- ---- refusals that were handed on
+
+pub handed_on : (P : Result Receipt Refusal → Type 0) (result : Result Receipt Refusal) (r : Refusal) → IsErrAnd result (λ q. q ≡ r) → P (Err r) → P result
+handed_on P (Ok x) r is holds = absurd is
+handed_on P (Err q) r is holds = subst (λ (x : Refusal). P (Err x)) (sym is) holds
+
+pub shared_fault : (r : Refusal) → IsShared (refusals r) → IsFault r
+shared_fault (BadPage page) is = tt
+shared_fault DiskFault is = tt
+shared_fault NoMemory is = tt
+shared_fault _ is = absurd is
+
+-- after one that isn't of the disk the pages are unbroken
+still_whole : (r : Refusal) → IsFault r → (broken : Bool) → (is_of_disk (refusals r) ≡ false → broken ≡ false) → (r ≡ DiskFault) ⊎ (broken ≡ false)
+still_whole (BadPage page) fault broken good = inr (good refl)
+still_whole DiskFault fault broken good = inl refl
+still_whole NoMemory fault broken good = inr (good refl)
+still_whole _ fault broken good = absurd fault
+
+-- what is found of a message is no answer to a fault
+module _ (dig : List ℕ → List ℕ) (ps : Image) (root : RootRecord) (m : Message) (time : Option ℕ) (head : Head) (archive : Root) where
+  abbrev Answered : Refusal → Found Reception → Type 0
+  Answered r found = ReceivesAs dig ps root m time head archive (Err r) found
+
+  of_disk : (found : Found Reception) → Answered DiskFault found
+  of_disk (Bad page) = tt
+  of_disk (Is (Refuse refusal)) = tt
+  of_disk (Is (Known archived)) = tt
+  of_disk (Is Archive) = record { tree_pages = []; grown = root.archive; answer = tt; few = tt; tree = tt; step = tt }
+
+  of_memory : (found : Found Reception) → Answered NoMemory found
+  of_memory (Bad page) = tt
+  of_memory (Is (Refuse refusal)) = tt
+  of_memory (Is (Known archived)) = tt
+  of_memory (Is Archive) = record { tree_pages = []; grown = root.archive; answer = tt; few = tt; tree = tt; step = tt }
+
+  pub fault_answered : (r : Refusal) → IsFault r → (found : Found Reception) → SaysOf refusals (refusals r) found → Answered r found
+  fault_answered (BadPage page) fault found is = subst (Answered (BadPage page)) (sym is) refl
+  fault_answered DiskFault fault found is = of_disk found
+  fault_answered NoMemory fault found is = of_memory found
+  fault_answered _ fault found is = absurd fault
+
+-- a bad page where something is found
+no_bad : (r : Refusal) (found : Found Reception) (x : Reception) → found ≡ Is x → SaysOf refusals (refusals r) found → IsBadPage r → ⊥
+no_bad (BadPage page) found x is there bad = (let both : ◌≡◌ {A = Found Reception} (Is x) (Bad page) = sym is ∙ there in cc)
+no_bad _ found x is there bad = bad
+
+no_bad_receipt : (r : Refusal) (found : Found (Result Receipt Refusal)) (x : Receipt) → found ≡ Is (Ok x) → IsAnswer (fails r) found → IsBadPage r → ⊥
+no_bad_receipt (BadPage page) found x is there bad = (let both : ◌≡◌ {A = Found (Result Receipt Refusal)} (Is (Ok x)) (Bad page) = sym is ∙ there in cc)
+no_bad_receipt _ found x is there bad = bad
+
+-- ---- what becomes of a message by a history
+
+pub own_none : (name from : List ℕ) → from ≢ name → own_refusal false name from ≡ None
+unfolding own_refusal
+own_none name from other = ap (λ (b : Bool). if b then Some Own else None) (false_from_ne_true (bytes_eq from name) (λ same. other ((bytes_eq-Decides from name).0 same)))
+
+module _ (dig : List ℕ → List ℕ) (ps : Image) (h : History) (r : RootRecord) (whole : KeepsWhole dig ps h r) (m : Message) (time : Option ℕ) (named : h.name ≡ r.name) (other : m.thread.from ≢ r.name)
+    (x : Reception) (found : found_reception dig ps r.name r.head r.archive r.time m time ≡ Is x) where
+  abbrev becomes : Reception
+  becomes = reception (length h.steps) (greatest_time h) time (judged dig (entries (tree h (length h.steps))) m)
+
+  becomes_is : becomes ≡ x
+  becomes_is = same_found becomes x (sym (reception_kept dig ps h r whole m r.name time) ∙ found)
+
+  pub received_is : received_as dig h m time ≡ x
+  received_is = ap (λ (o : Option Refusal). refuse_or o becomes) (own_none h.name m.thread.from (subst (λ (n : List ℕ). m.thread.from ≢ n) (sym named) other)) ∙ becomes_is
+
+  pub refused_so : (refusal : Refusal) → x ≡ Refuse refusal → IsStepOf dig h (Receive m time) (Refused refusal) h
+  refused_so refusal is = subst (λ (y : Reception). RepliesTo dig h m time (Refused refusal) h y) (sym (received_is ∙ is)) (refl, refl)
+
+  pub known_so : (size : (text : List ℕ) → IsDigest (dig text)) (archived : ℕ) → x ≡ Known archived
+      → (found_receipt dig ps r.name r.head archived m.thread ≡ Is (Ok (receipt_of r.name archived (auth dig h archived) m.thread)))
+      × ((receipt : Receipt) → found_receipt dig ps r.name r.head archived m.thread ≡ Is (Ok receipt) → IsStepOf dig h (Receive m time) (OfReceipt receipt) h)
+  known_so size archived is =
+      let knows = answer-knows (length h.steps) (greatest_time h) time (judged dig (entries (tree h (length h.steps))) m) archived (becomes_is ∙ is) in
+      let own = receipt_kept dig ps h r whole m size r.name archived knows in (
+        own,
+        λ receipt found_too.
+            let same : receipt_of r.name archived (auth dig h archived) m.thread ≡ receipt =
+            ok_ok _ receipt (same_found (Ok (receipt_of r.name archived (auth dig h archived) m.thread)) (Ok receipt) (sym own ∙ found_too)) in
+            subst (λ (y : Reception). RepliesTo dig h m time (OfReceipt receipt) h y) (sym (received_is ∙ is))
+            (refl, ap OfReceipt (sym same ∙ (λ j. record { by = record { from = sym named j; step = archived; auth = auth dig h archived }; thread = m.thread }))),
+      )
+    where
+      ok_ok : (y z : Receipt) → ◌≡◌ {A = Result Receipt Refusal} (Ok y) (Ok z) → y ≡ z
+      ok_ok y z e = cc
+
+  pub may_so : x ≡ Archive → IsLinked m → IsThread m.thread → IsTimeWithinLimits time → (r.head.step < LAST_STEP) × (clock_refusal r.time time ≡ None) → MayArchive h m.thread time
+  may_so is linked is_thread within room =
+      may_archive dig ps h r whole m time linked is_thread (subst (λ (n : List ℕ). m.thread.from ≢ n) (sym named) other)
+      (archive-accepts (length h.steps) (greatest_time h) time (judged dig (entries (tree h (length h.steps))) m) (becomes_is ∙ is)).0 within
+      (ap (λ (o : Option ℕ). clock_refusal o time) (sym whole.time) ∙ room.1) (let short = room.0 in let ends = whole.steps.step in omega (arith, short, ends))
+
+-- ---- the archive was read
+
+module _ {D : Type 0} {g : _} (view : D → DiskView) (only_now : (d : D) (c : Image) → (view d).left_since (view d).moment c → (view d).may_leave c) (dig : List ℕ → List ℕ) (size : (text : List ℕ) → IsDigest (dig text))
+    (m : Message) (time : Option ℕ) (old mid : Store D g) (root : RootRecord) (same : IsSameStore view old mid) (count : count_of mid ≡ count_of old) (later : (view (disk_of old)).faults ≤ (view (disk_of mid)).faults) where
+  abbrev finds : Image → Found Reception
+  finds ps = found_reception dig ps root.name root.head root.archive root.time m time
+
+  -- and met a fault
+  pub taken_fault : (r : Refusal) → IsFault r → ((ps : Image) → list_of view old ≡ Some ps → SaysOf refusals (refusals r) (finds ps)) → (is_of_disk (refusals r) ≡ false → is_broken mid ≡ false)
+      → (is_of_disk (refusals r) ≡ true → Rose (view (disk_of old)).faults (view (disk_of mid)).faults) → TakesIn dig view m time old mid root root (Err r)
+  taken_fault r fault says good rose =
+      taken_err view only_now dig m time old mid root same count r (inl fault) (λ ps list. fault_answered dig ps root m time root.head root.archive r fault (finds ps) (says ps list)) (still_whole r fault (is_broken mid) good)
+      (λ h rest other. (
+        (λ no. absurd (no fault)),
+        (λ bad. no_bad r (finds (opening_of old rest.image).pages) _ (reception_kept dig (opening_of old rest.image).pages h root rest.has.keeps m root.name time) (says (opening_of old rest.image).pages (told_list view only_now dig old root h rest)) bad),
+      ))
+      (λ is. rose (ap (λ (q : Refusal). is_of_disk (refusals q)) is)) later
+
+  -- and the message is refused
+  module _ (x : Reception) (found : (ps : Image) → list_of view old ≡ Some ps → finds ps ≡ Is x) (unbroken : is_broken mid ≡ false) where
+    pub taken_refused : (r : Refusal) → x ≡ Refuse r → TellsOf dig root.head.step root.time time m r → TakesIn dig view m time old mid root root (Err r)
+    taken_refused r is tells =
+        let told = tells_told dig root.head.step root.time time m r tells in
+        taken_err view only_now dig m time old mid root same count r (inr tells)
+        (λ ps list. subst (ReceivesAs dig ps root m time root.head root.archive (Err r)) (sym (found ps list ∙ ap (λ (y : Reception). Is y) is)) (table_found r (Is (Err r)) told.0 refl))
+        (inr unbroken)
+        (λ h rest other. (
+          (λ no. refused_so dig (opening_of old rest.image).pages h root rest.has.keeps m time rest.has.named other x (found (opening_of old rest.image).pages (told_list view only_now dig old root h rest)) r is),
+          (λ bad. told.0 (is_bad_fault r bad)),
+        ))
+        (λ fault. absurd (told.0 (subst IsFault (sym fault) tt))) later
+
+    -- its thread is known, and the receipt was read
+    module _ (archived : ℕ) (is : x ≡ Known archived) (is_step : IsStep archived) (new : Store D g) (same_now : IsSameStore view old new) (count_now : count_of new ≡ count_of old)
+        (later_now : (view (disk_of old)).faults ≤ (view (disk_of new)).faults) where
+      as_known : (result : Result Receipt Refusal) (ps : Image) → list_of view old ≡ Some ps → IsAnswer result (found_receipt dig ps root.name root.head archived m.thread) → ReceivesAs dig ps root m time root.head root.archive result (finds ps)
+      as_known result ps list answer = subst (ReceivesAs dig ps root m time root.head root.archive result) (sym (found ps list ∙ ap (λ (y : Reception). Is y) is)) answer
+
+      pub taken_receipt : (result : Result Receipt Refusal) → ((ps : Image) → list_of view old ≡ Some ps → IsAnswer result (found_receipt dig ps root.name root.head archived m.thread)) → IfErr result IsFault
+          → IfOk result (λ receipt. (receipt.thread ≡ m.thread) × (receipt.by.from ≡ root.name) × (receipt.by.step ≡ archived) × (archived ≤ root.head.step))
+          → (has_failed refusals result ≡ false → is_broken new ≡ false) → (has_failed refusals result ≡ true → Rose (view (disk_of old)).faults (view (disk_of new)).faults) → TakesIn dig view m time old new root root result
+      taken_receipt (Ok receipt) answer own by good rose =
+          taken_known view only_now dig m time old new root same_now count_now receipt (λ ps list. as_known (Ok receipt) ps list (answer ps list)) (good refl) (by.0, by.1) (subst IsStep (sym by.2) is_step)
+          (let step = by.2 in let low = by.3 in omega (arith, step, low))
+          (λ h rest other.
+          let list = told_list view only_now dig old root h rest in
+          let ps = (opening_of old rest.image).pages in
+          (known_so dig ps h root rest.has.keeps m time rest.has.named other x (found ps list) size archived is).1 receipt (answer ps list))
+          later_now
+      taken_receipt (Err r) answer own by good rose =
+          taken_err view only_now dig m time old new root same_now count_now r (inl own) (λ ps list. as_known (Err r) ps list (answer ps list)) (still_whole r own (is_broken new) good)
+          (λ h rest other. (
+            (λ no. absurd (no own)),
+            (λ bad.
+                let list = told_list view only_now dig old root h rest in
+                let ps = (opening_of old rest.image).pages in
+                no_bad_receipt r (found_receipt dig ps root.name root.head archived m.thread) _ (known_so dig ps h root rest.has.keeps m time rest.has.named other x (found ps list) size archived is).0 (answer ps list) bad),
+          ))
+          (λ fault. rose (ap (λ (q : Refusal). is_of_disk (refusals q)) fault)) later_now
+
+    -- it was archived
+    module _ (is : x ≡ Archive) (linked : IsLinked m) (is_thread : IsThread m.thread) (within : IsTimeWithinLimits time) (room : (root.head.step < LAST_STEP) × (clock_refusal root.time time ≡ None))
+        (list_kept : list_of view mid ≡ list_of view old) (new : Store D g) (after : RootRecord) (clean : staged_of new ≡ []) where
+      may : (h : History) → IsAtRest (view (disk_of old)) (KeepsHistory dig old root h) → m.thread.from ≢ root.name → MayArchive h m.thread time
+      may h rest other =
+          may_so dig (opening_of old rest.image).pages h root rest.has.keeps m time rest.has.named other x (found (opening_of old rest.image).pages (told_list view only_now dig old root h rest)) is linked is_thread within room
+
+      becomes_so : (h : History) → IsAtRest (view (disk_of old)) (KeepsHistory dig old root h) → m.thread.from ≢ root.name → received_as dig h m time ≡ Archive
+      becomes_so h rest other =
+          received_is dig (opening_of old rest.image).pages h root rest.has.keeps m time rest.has.named other x (found (opening_of old rest.image).pages (told_list view only_now dig old root h rest)) ∙ is
+
+      mid_rest : (h : History) → IsAtRest (view (disk_of old)) (KeepsHistory dig old root h) → IsAtRest (view (disk_of mid)) (KeepsHistory dig mid root h)
+      mid_rest h rest = read_keeps view only_now dig old mid root h same count rest
+
+      abbrev OfResult : Result Receipt Refusal → Type 0
+      OfResult result = IfOk result (λ receipt. (after ≡ next_record root after.head after.archive (root.threads + 1) time) × (after.head.step ≡ root.head.step + 1) × (receipt ≡ receipt_at root.name after.head m.thread))
+
+      abbrev OfSteps : Result Receipt Refusal → Type 0
+      OfSteps result = (h : History) → IsAtRest (view (disk_of mid)) (KeepsHistory dig mid root h) → MayArchive h m.thread time
+          → (next : History) × ((next ≡ h) ⊎ (Archives m.thread time h next × IsSound next))
+          × LeavesOnly (view (disk_of mid)) (view (disk_of new)) (StandsForOneOf dig root.name h next)
+          × Reads (view (disk_of new)) (StandsForOneOf dig root.name h next)
+          × IfOk result (λ receipt. Archives m.thread time h next × IsSound next × IsAtRest (view (disk_of new)) (KeepsHistory dig new after next))
+
+      -- the receipt is that of the next history's last step
+      own_receipt : (h next : History) (receipt : Receipt) → length h.steps ≡ root.head.step → OfResult (Ok receipt) → IsAtRest (view (disk_of new)) (KeepsHistory dig new after next) → receipt ≡ receipt_by dig next (suc (length h.steps)) m.thread
+      own_receipt h next receipt ends of rest =
+          let step : length next.steps ≡ suc (length h.steps) = (let own = rest.has.keeps.steps.step in let one = of.1 in omega (arith, own, one, ends)) in
+          let named : root.name ≡ next.name = sym (rest.has.named ∙ ap (λ (r : RootRecord). r.name) of.0) in
+          of.2
+          ∙ (λ j. record { by = record { from = named j; step = (rest.has.keeps.steps.step ∙ step) j; auth = (rest.has.keeps.steps.auth ∙ ap (auth dig next) step) j }; thread = m.thread })
+
+      any_moment : (h next : History) → IsAtRest (view (disk_of old)) (KeepsHistory dig old root h) → LeavesOnly (view (disk_of mid)) (view (disk_of new)) (StandsForOneOf dig root.name h next)
+          → LeavesOnly (view (disk_of old)) (view (disk_of new)) (StandsForOneOf dig root.name h next)
+      any_moment h next rest run = goes_on (view (disk_of old)) (view (disk_of mid)) (view (disk_of new)) (StandsForOneOf dig root.name h next)
+          (same_leaves view only_now dig old mid (StandsForOneOf dig root.name h next) same (λ i left. inl (rest_stands view only_now dig old root h rest i left))) run
+
+      -- after a refusal
+      still : (r : Refusal) → after ≡ root → (r ≡ DiskFault) ⊎ IsSameStore view mid new → (h : History) → IsAtRest (view (disk_of old)) (KeepsHistory dig old root h) → (r ≡ DiskFault) ⊎ IsAtRest (view (disk_of new)) (KeepsHistory dig new after h)
+      still r stays either h rest =
+          ⊎_elim (λ is_fault. inl is_fault)
+          (λ same_too. inr (subst (λ (x : RootRecord). IsAtRest (view (disk_of new)) (KeepsHistory dig new x h)) (sym stays) (still_keeps view only_now dig mid new root h same_too clean (mid_rest h rest)))) either
+
+      same_so : (r : Refusal) → (r ≡ DiskFault) ⊎ IsSameStore view mid new → (r ≡ DiskFault) ⊎ IsSameStore view old new
+      same_so r either = ⊎_elim (λ is_fault. inl is_fault) (λ same_too. inr (is_same_on view old mid new same same_too)) either
+
+      abbrev Archived : Result Receipt Refusal → Type 0
+      Archived result = (ps : Image) → list_of view mid ≡ Some ps → AnswersArchived dig ps root m.thread time after.head after.archive result
+
+      as_archive : (result : Result Receipt Refusal) → Archived result → (ps : Image) → list_of view old ≡ Some ps → ReceivesAs dig ps root m time after.head after.archive result (finds ps)
+      as_archive result answer ps list = subst (ReceivesAs dig ps root m time after.head after.archive result) (sym (found ps list ∙ ap (λ (y : Reception). Is y) is)) (answer ps (list_kept ∙ list))
+
+      rose_on : Rose (view (disk_of mid)).faults (view (disk_of new)).faults → Rose (view (disk_of old)).faults (view (disk_of new)).faults
+      rose_on rose = omega (arith, rose, later)
+
+      -- the next history, of which the message is accepted
+      is_next : (h next : History) → received_as dig h m time ≡ Archive → (next ≡ h) ⊎ (Archives m.thread time h next × IsSound next) → (next ≡ h) ⊎ ((received_as dig h m time ≡ Archive) × Archives m.thread time h next × IsSound next)
+      is_next h next accepted either = ⊎_elim (λ stays. inl stays) (λ more. inr (accepted, more.0, more.1)) either
+
+      pub taken_archived : (result : Result Receipt Refusal) → OfResult result → IfErr result IsFault → OnErr result (after ≡ root) → OfSteps result → IfErr result (λ r. (r ≡ DiskFault) ⊎ IsSameStore view mid new) → Archived result
+          → IfErr result (λ r. IsBadPage r → (h : History) → IsAtRest (view (disk_of mid)) (KeepsHistory dig mid root h) → MayArchive h m.thread time → ⊥)
+          → (result ≡ Err DiskFault) ⊎ (is_broken new ≡ false) → (result ≡ Err DiskFault → Rose (view (disk_of mid)).faults (view (disk_of new)).faults)
+          → (view (disk_of mid)).faults ≤ (view (disk_of new)).faults → TakesIn dig view m time old new root after result
+      taken_archived (Ok receipt) of own kept steps same_after answer good whole fault later_on = record {
+        tells = tt;
+        answer = as_archive (Ok receipt) answer;
+        steps = λ h rest other.
+            let accepted = becomes_so h rest other in
+            let run = steps h (mid_rest h rest) (may h rest other) in
+            let done = run.4 in
+            record {
+              next = run.0;
+              is_next = is_next h run.0 accepted run.1;
+              any_moment = any_moment h run.0 rest run.2;
+              told = run.3;
+              done = (
+                subst (λ (y : Reception). RepliesTo dig h m time (OfReceipt receipt) run.0 y) (sym accepted)
+                    (done.0, done.1, ap OfReceipt (own_receipt h run.0 receipt (sym rest.has.keeps.steps.step) of done.2)),
+                done.2,
+              );
+              kept = tt;
+              refused = tt;
+              good = tt;
+            };
+        receipt = (ap (λ (x : Receipt). x.thread) of.2, ap (λ (x : Receipt). x.by.from) of.2);
+        record_is = inr (of.2, of.1, of.0);
+        kept = tt;
+        same = tt;
+        whole = whole;
+        fault = λ e. rose_on (fault e);
+        later = omega (arith, later, later_on);
+      }
+      taken_archived (Err r) of own kept steps same_after answer good whole fault later_on = record {
+        tells = inl own;
+        answer = as_archive (Err r) answer;
+        steps = λ h rest other.
+            let accepted = becomes_so h rest other in
+            let run = steps h (mid_rest h rest) (may h rest other) in
+            record {
+              next = run.0;
+              is_next = is_next h run.0 accepted run.1;
+              any_moment = any_moment h run.0 rest run.2;
+              told = run.3;
+              done = tt;
+              kept = still r kept same_after h rest;
+              refused = λ no. absurd (no own);
+              good = λ bad. good bad h (mid_rest h rest) (may h rest other);
+            };
+        receipt = tt;
+        record_is = tt;
+        kept = kept;
+        same = same_so r same_after;
+        whole = whole;
+        fault = λ e. rose_on (fault e);
+        later = omega (arith, later, later_on);
+      }

@@ -1,0 +1,94 @@
+use Rattle.std.proofs.Common.{◌≡◌, ◌∙◌, ℕ, ◌<◌, ◌≤◌, List, Bool, length, ap, subst, sym, refl, arith, false}
+use Rattle.std.specs.Prelude.{is_some, Option, None, Some, Result, Ok}
+use Rattle.tw_base.specs.declared.kinds.limits.TheConstants.{LAST_STEP}
+use Rattle.tw_base.specs.history.History.{History}
+use Rattle.tw_disk.specs.Found.{Found}
+use Rattle.tw_disk.specs.Found.Found.{Is}
+use Rattle.tw_pages.specs.StoreValue.{opening_of}
+use Rattle.tw_answers.specs.declared.refusal.Refusal.{Refusal}
+use Rattle.tw_answers.specs.Finds.{IsRefusalOf, unless}
+use Rattle.tw_answers.specs.Limits.{order_refusal}
+use Rattle.tw_answers.proofs.FoundAnswers.{of_disk_fault}
+use Rattle.tw_answers.proofs.TableAnswers.{IsTold, NoFault, of_some, order_no_fault, order_told}
+use Rattle.tw_service.specs.Machine.Call.{ProveLow}
+use Rattle.tw_service.specs.Machine.Reply.{OfFile}
+use Rattle.tw_service.specs.Mapping.{found_low, low_file}
+use Rattle.tw_service.proofs.Asked.{asked_err, asked_ok, asked_refused}
+use Rattle.tw_service.proofs.KeptMaps.{low_answer, low_good, low_made, low_refused}
+use Rattle.tw_service.proofs.Serving.{told_list}
+use Rattle.tw_service.proofs.service.Service.prove_low.Goals as goal
+
+-- the table of a served history
+to_table : (broken : Bool) (last step top n : ℕ) (o : Option Refusal) → o ≡ order_refusal broken last step top → broken ≡ false → last ≡ n → o ≡ order_refusal false n step top
+to_table broken last step top n o is whole ends = is ∙ (λ j. order_refusal (whole j) (ends j) step top)
+
+few : (step top last n : ℕ) → step ≤ top → top ≤ last → last ≡ n → n ≤ LAST_STEP → step ≤ LAST_STEP
+few step top last n order within ends short = omega (arith, order, within, ends, short)
+
+pub returns-in-Some-clause-asks : goal.returns-in-Some-clause-asks
+returns-in-Some-clause-asks g c =
+    let d = g.D.Disk in
+    let s = c.args.self.now in
+    let r = s.recorded in
+    let step = c.args.step in
+    let peer = c.args.peer in
+    let top = c.args.top in
+    let last = r.root.head.step in
+    let is = sym c.in-Some.is ∙ c.order_refusal.ensures.answer in
+    asked_refused d.view g.met.D.Disk.only_now g.H.Hasher.dig (λ why. ⊥) (ProveLow step peer top) (λ (b : List ℕ). OfFile b) (order_refusal s.is_broken last step top) (λ ps. found_low g.H.Hasher.dig ps s.recorded.root.head step peer top s.recorded.root.name s.is_broken) s c.in-Some.refusal is
+    (of_some NoFault _ c.in-Some.refusal is (order_no_fault s.is_broken last step top))
+    (λ ps list. ap (λ (o : Option Refusal). unless o (low_file g.H.Hasher.dig ps s.recorded.root.head step peer top s.recorded.root.name)) (sym is))
+    (λ whole h served.
+    let told = to_table s.is_broken last step top _ (Some c.in-Some.refusal) is whole served.has.keeps.steps.step in
+    (of_some IsTold _ c.in-Some.refusal told (order_told _ step top), low_refused g.H.Hasher.dig h step peer top c.in-Some.refusal told))
+
+pub returns-in-Ok-clause-made : goal.returns-in-Ok-clause-made
+returns-in-Ok-clause-made g c = λ h served.
+    let d = g.D.Disk in
+    let s = c.args.self.now in
+    let r = s.recorded in
+    let step = c.args.step in
+    let peer = c.args.peer in
+    let top = c.args.top in
+    let last = r.root.head.step in
+    let list = told_list d.view g.met.D.Disk.only_now g.H.Hasher.dig r.store r.root h served in
+    low_answer g.H.Hasher.dig (λ text. (g.met.H.Hasher.size text, g.met.H.Hasher.bytes text)) (opening_of r.store served.image).pages h r.root.head served.has.keeps.steps served.has.keeps.trees served.has.sound r.root.name served.has.named
+    peer c.see_name.ensures step top (c.order_refusal.ensures.order (ap is_some c.in_default.is)).0 (few step top r.root.head.step _ (c.order_refusal.ensures.order (ap is_some c.in_default.is)).1 (c.order_refusal.ensures.order (ap is_some c.in_default.is)).2 served.has.keeps.steps.step served.has.sound.length) (omega (arith, (c.order_refusal.ensures.order (ap is_some c.in_default.is)).0, (c.order_refusal.ensures.order (ap is_some c.in_default.is)).1)) (c.order_refusal.ensures.order (ap is_some c.in_default.is)).2 (c.order_refusal.ensures.order (ap is_some c.in_default.is)).1 c.in-Ok.bytes (c.in-Ok.ensures.reads.answer _ list)
+
+pub returns-in-Ok-clause-asks : goal.returns-in-Ok-clause-asks
+returns-in-Ok-clause-asks g c =
+    let d = g.D.Disk in
+    let s = c.args.self.now in
+    let r = s.recorded in
+    let step = c.args.step in
+    let peer = c.args.peer in
+    let top = c.args.top in
+    let last = r.root.head.step in
+    let none = sym c.in_default.is ∙ c.order_refusal.ensures.answer in
+    asked_ok d.view g.met.D.Disk.only_now g.H.Hasher.dig (λ why. ⊥) (ProveLow step peer top) (λ (b : List ℕ). OfFile b) (order_refusal s.is_broken last step top) (λ ps. found_low g.H.Hasher.dig ps s.recorded.root.head step peer top s.recorded.root.name s.is_broken) s _ none refl
+    c.in-Ok.ensures.reads.kept.same_kept c.in-Ok.ensures.reads.kept.used_kept c.in-Ok.ensures.reads.faults.later c.in-Ok.bytes refl
+    (λ ps list. ap (λ (o : Option Refusal). unless o (low_file g.H.Hasher.dig ps s.recorded.root.head step peer top s.recorded.root.name)) (sym none) ∙ c.in-Ok.ensures.reads.answer ps list)
+    (λ whole h served.
+    let list = told_list d.view g.met.D.Disk.only_now g.H.Hasher.dig r.store r.root h served in
+    let made = low_answer g.H.Hasher.dig (λ text. (g.met.H.Hasher.size text, g.met.H.Hasher.bytes text)) (opening_of r.store served.image).pages h r.root.head served.has.keeps.steps served.has.keeps.trees served.has.sound r.root.name served.has.named
+    peer c.see_name.ensures step top (c.order_refusal.ensures.order (ap is_some c.in_default.is)).0 (few step top r.root.head.step _ (c.order_refusal.ensures.order (ap is_some c.in_default.is)).1 (c.order_refusal.ensures.order (ap is_some c.in_default.is)).2 served.has.keeps.steps.step served.has.sound.length) (omega (arith, (c.order_refusal.ensures.order (ap is_some c.in_default.is)).0, (c.order_refusal.ensures.order (ap is_some c.in_default.is)).1)) (c.order_refusal.ensures.order (ap is_some c.in_default.is)).2 (c.order_refusal.ensures.order (ap is_some c.in_default.is)).1 c.in-Ok.bytes (c.in-Ok.ensures.reads.answer _ list) in
+    low_made g.H.Hasher.dig h step peer top c.in-Ok.bytes (to_table s.is_broken last step top _ None none whole served.has.keeps.steps.step) made)
+
+pub returns-in-Err-clause-asks : goal.returns-in-Err-clause-asks
+returns-in-Err-clause-asks g c =
+    let d = g.D.Disk in
+    let s = c.args.self.now in
+    let r = s.recorded in
+    let step = c.args.step in
+    let peer = c.args.peer in
+    let top = c.args.top in
+    let last = r.root.head.step in
+    let none = sym c.in_default.is ∙ c.order_refusal.ensures.answer in
+    asked_err d.view g.met.D.Disk.only_now g.H.Hasher.dig (λ why. ⊥) (ProveLow step peer top) (λ (b : List ℕ). OfFile b) (order_refusal s.is_broken last step top) (λ ps. found_low g.H.Hasher.dig ps s.recorded.root.head step peer top s.recorded.root.name s.is_broken) s _ none refl
+    c.in-Err.ensures.reads.kept.same_kept c.in-Err.ensures.reads.kept.used_kept c.in-Err.ensures.reads.faults.later c.in-Err.refusal c.in-Err.ensures.reads.own (c.order_refusal.ensures.whole (ap is_some c.in_default.is)) c.is_disk_fault-self.ensures
+    (λ ps list. subst (λ (f : Found (Result (List ℕ) Refusal)). IsRefusalOf c.in-Err.refusal f) (ap (λ (o : Option Refusal). unless o (low_file g.H.Hasher.dig ps s.recorded.root.head step peer top s.recorded.root.name)) none) (c.in-Err.ensures.reads.answer ps list))
+    (λ h served.
+    let list = told_list d.view g.met.D.Disk.only_now g.H.Hasher.dig r.store r.root h served in
+    low_good g.H.Hasher.dig (λ text. (g.met.H.Hasher.size text, g.met.H.Hasher.bytes text)) (opening_of r.store served.image).pages h r.root.head served.has.keeps.steps served.has.keeps.trees served.has.sound r.root.name served.has.named
+    peer c.see_name.ensures step top (c.order_refusal.ensures.order (ap is_some c.in_default.is)).0 (few step top r.root.head.step _ (c.order_refusal.ensures.order (ap is_some c.in_default.is)).1 (c.order_refusal.ensures.order (ap is_some c.in_default.is)).2 served.has.keeps.steps.step served.has.sound.length) (omega (arith, (c.order_refusal.ensures.order (ap is_some c.in_default.is)).0, (c.order_refusal.ensures.order (ap is_some c.in_default.is)).1)) (c.order_refusal.ensures.order (ap is_some c.in_default.is)).2 (c.order_refusal.ensures.order (ap is_some c.in_default.is)).1 c.in-Err.refusal (c.in-Err.ensures.reads.answer _ list))
+    (λ is. c.in-Err.ensures.reads.faults.rose (of_disk_fault c.in-Err.refusal is))

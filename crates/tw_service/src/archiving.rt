@@ -1,0 +1,172 @@
+// A step that archives a thread: the pages of its archive's tree, and then its own.
+
+ghost use Rattle.std.specs.Prelude.{◌≡◌, ◌⊎◌, ℕ, ◌+◌, ◌<◌, ◌≤◌, ◌^◌, IfErr, IfOk, Some, false};
+ghost use Rattle.tw_base.specs.history.Asking.{with_entry};
+ghost use Rattle.tw_base.specs.history.Limits.{IsStep, IsTimeWithinLimits};
+ghost use Rattle.tw_base.specs.history.Tree.{Tree, entries};
+ghost use Rattle.tw_disk.specs.Answers.{AddsBy, AnswersAs, FaultsRise, has_failed};
+ghost use Rattle.tw_disk.specs.Image.{Image};
+ghost use Rattle.tw_disk.specs.Pages.{OnlyAdds};
+ghost use Rattle.tw_rbtree.specs.Standing.{HasNamed, Named, StandsWith};
+ghost use Rattle.tw_service.specs.Archiving.{ArchivesAs, IsStagedBehind, entry_of};
+ghost use Rattle.tw_service.specs.Finds.{found_room};
+ghost use Rattle.tw_answers.specs.Refusals.{IsFault, refusals};
+
+use crate::receiving::receipt_by;
+use crate::recorded::{Recorded, next_root};
+use std::alloc::Global;
+use tw_answers::{Refusal, RootRecord, refusal_of_tree, root_record};
+use tw_base::limits::LAST_STEP;
+use tw_base::{Entry, Hasher, Root, Thread};
+use tw_disk::{Disk, Pages};
+use tw_msg::Receipt;
+use tw_pages::Store;
+use tw_rbtree::insert;
+use tw_skiplist::{Head, append_thread};
+
+/// A step that was staged: its head, and its archive.
+#[derive(Clone, Copy, Drop)]
+pub(crate) struct Staged {
+    pub head: Head,
+    pub archive: Root,
+}
+
+/// The thread as the next step receives it.
+fn next_entry(root: &RootRecord, thread: &Thread) -> Entry
+    requires { root.now.head.step < LAST_STEP }
+    ensures { result ≡ entry_of root.now.head.step thread.now }
+{
+    Entry {
+        thread: *thread,
+        archived: root.head.step + 1,
+    }
+}
+
+/// Stages the pages of the archive's tree with the thread, as the next step receives it, and answers its
+/// root.
+fn stage_tree<P: Pages, H: Hasher>(
+    alloc: Global,
+    pages: &mut P,
+    root: &RootRecord,
+    thread: &Thread,
+) -> Result<Root, Refusal>
+    requires used { (P.view pages.old).used < 2 ^ 47 }
+    requires short { root.now.head.step < LAST_STEP }
+    requires range { IsStep thread.now.step }
+    ensures adds { AddsBy refusals P.view P.same pages.old pages.new result (IfErr result IsFault) (AnswersAs refusals (λ (_ : Root). tt))
+        (λ ps. found_room H.dig ps root.now.archive thread.now) }
+    ensures inserted { (ps : Image) → (P.view pages.old).list ≡ Some ps → (named : Named) → named.below ≤ (P.view pages.old).used →
+        (t : Tree) → StandsWith H.dig (HasNamed named) ps root.now.archive t →
+        IfOk result (λ new. (now : Image) × (grown : Tree) × ((P.view pages.new).list ≡ Some now)
+        × StandsWith H.dig (HasNamed named) now new grown × (entries grown ≡ with_entry (entries t) (entry_of root.now.head.step thread.now))) }
+    ensures behind { IfOk result (λ new. (P.view pages.old).used ≤ new.page) }
+    ensures few { (P.view pages.new).used ≤ (P.view pages.old).used + 23 }
+{
+    let entry = next_entry(root, thread);
+    match insert::<P, H>(alloc, pages, &root.archive, entry) {
+        Ok(new) => Ok(new),
+        Err(fault) => Err(refusal_of_tree(&root.archive, fault)),
+    }
+}
+
+/// Stages the pages of the step that archives the thread, at this time or none: those of its archive's
+/// tree, and then its own.
+pub(crate) fn stage_thread<P: Pages, H: Hasher>(
+    alloc: Global,
+    pages: &mut P,
+    root: &RootRecord,
+    thread: &Thread,
+    time: Option<u64>,
+) -> Result<Staged, Refusal>
+    requires used { (P.view pages.old).used < 2 ^ 46 }
+    requires short { root.now.head.step < LAST_STEP }
+    requires range { IsStep thread.now.step }
+    requires time { IsTimeWithinLimits time }
+    ensures staged { (ps : Image) → (P.view pages.old).list ≡ Some ps → IfOk result (λ new. IsStagedBehind H.dig ps root.now thread.now time (P.view pages.new).list new.head new.archive) }
+    ensures page { (ps : Image) → (P.view pages.old).list ≡ Some ps → IfErr result (ArchivesAs H.dig ps root.now thread.now time) }
+    ensures own { IfErr result IsFault }
+    ensures behind { IfOk result (λ new. (P.view pages.old).used ≤ new.archive.page) }
+    ensures step { IfOk result (λ new. new.head.step ≡ root.now.head.step + 1) }
+    ensures few { (P.view pages.new).used ≤ (P.view pages.old).used + 42 }
+    ensures kept { OnlyAdds P.view P.same pages.old pages.new (has_failed refusals result ≡ false) }
+    ensures faults { FaultsRise refusals P.view P.same pages.old pages.new result }
+{
+    let archive = stage_tree::<P, H>(alloc, pages, root, thread)?;
+    let head = append_thread::<P, H>(alloc, pages, &root.head, thread, &archive, time)?;
+    Ok(Staged { head, archive })
+}
+
+impl<D: Disk> Recorded<D> {
+    ghost use Rattle.std.specs.Prelude.{OnErr, None, Err};
+    ghost use Rattle.tw_base.specs.history.History.{History};
+    ghost use Rattle.tw_base.specs.history.Limits.{IsThread};
+    ghost use Rattle.tw_base.specs.history.Sound.{IsSound};
+    ghost use Rattle.tw_base.specs.kinds.Faults.{Rose};
+    ghost use Rattle.tw_archive.specs.Archives.{MayArchive};
+    ghost use Rattle.tw_disk.specs.Disk.{IsAtRest, LeavesOnly, Reads};
+    ghost use Rattle.tw_pages.specs.StoreValue.{disk_of, is_broken};
+    ghost use Rattle.tw_pages.specs.Same.{IsSameStore, list_of};
+    ghost use Rattle.tw_service.specs.Archiving.{AnswersArchived};
+    ghost use Rattle.tw_service.specs.Finds.{receipt_at};
+    ghost use Rattle.tw_service.specs.Keeps.{KeepsHistory};
+    ghost use Rattle.tw_answers.specs.Limits.{clock_refusal};
+    ghost use Rattle.tw_service.specs.Machine.{Archives};
+    ghost use Rattle.tw_service.specs.NextRecords.{next_record};
+    ghost use Rattle.tw_answers.specs.Refusals.{IsBadPage};
+    ghost use Rattle.tw_service.specs.Stands.{StandsForOneOf};
+
+    /// Adds the step that archives the thread, at this time or none, to the history that the store keeps,
+    /// and commits it with the next record; answers the step's receipt. All memory is taken before the
+    /// first write. Where it refuses, nothing is staged, and the record is as before.
+    pub(crate) fn archive<H: Hasher>(
+        &mut self,
+        alloc: Global,
+        thread: &Thread,
+        time: Option<u64>,
+    ) -> Result<Receipt, Refusal>
+        requires step { self.old.root.head.step < LAST_STEP }
+        requires thread { IsThread thread.now }
+        requires time { IsTimeWithinLimits time }
+        requires whole { is_broken self.old.store ≡ false }
+        ensures root { IfOk result (λ receipt. (self.new.root ≡ next_record self.old.root self.new.root.head self.new.root.archive (self.old.root.threads + 1) time)
+            × (self.new.root.head.step ≡ self.old.root.head.step + 1) × (receipt ≡ receipt_at self.old.root.name self.new.root.head thread.now)) }
+        ensures kept { OnErr result (self.new.root ≡ self.old.root) }
+        ensures whole { (result ≡ Err Refusal.DiskFault) ⊎ (is_broken self.new.store ≡ false) }
+        ensures answers { IfErr result IsFault }
+        ensures steps { (h : History) → IsAtRest (D.view (disk_of self.old.store)) (KeepsHistory H.dig self.old.store self.old.root h) → MayArchive h thread.now time
+            → (next : History) × ((next ≡ h) ⊎ (Archives thread.now time h next × IsSound next))
+            × LeavesOnly (D.view (disk_of self.old.store)) (D.view (disk_of self.new.store)) (StandsForOneOf H.dig self.old.root.name h next)
+            × Reads (D.view (disk_of self.new.store)) (StandsForOneOf H.dig self.old.root.name h next)
+            × IfOk result (λ receipt. Archives thread.now time h next × IsSound next × IsAtRest (D.view (disk_of self.new.store)) (KeepsHistory H.dig self.new.store self.new.root next)) }
+        ensures same { IfErr result (λ refusal. (refusal ≡ Refusal.DiskFault) ⊎ IsSameStore D.view self.old.store self.new.store) }
+        ensures answer { (ps : Image) → list_of D.view self.old.store ≡ Some ps → AnswersArchived H.dig ps self.old.root thread.now time self.new.root.head self.new.root.archive result }
+        ensures good { IfErr result (λ refusal. IsBadPage refusal → (h : History) → IsAtRest (D.view (disk_of self.old.store)) (KeepsHistory H.dig self.old.store self.old.root h)
+            → MayArchive h thread.now time → ⊥) }
+        ensures fault { result ≡ Err Refusal.DiskFault → Rose ((D.view (disk_of self.old.store)).faults) ((D.view (disk_of self.new.store)).faults) }
+        ensures later { (D.view (disk_of self.old.store)).faults ≤ (D.view (disk_of self.new.store)).faults }
+    {
+        let added = stage_thread::<Store<D>, H>(alloc, &mut self.store, &self.root, thread, time);
+        match added {
+            Err(refusal) => {
+                self.store.discard();
+                Err(refusal)
+            }
+            Ok(staged) => {
+                let root = &self.root;
+                let next = next_root(root, staged.head, staged.archive, root.threads + 1, time);
+                let bytes = root_record(&next);
+                let receipt = receipt_by(&next, next.head.step, &next.head.auth, thread);
+                match self.store.commit(bytes.as_slice()) {
+                    Ok(()) => {
+                        self.root = next;
+                        Ok(receipt)
+                    }
+                    Err(_) => {
+                        self.store.discard();
+                        Err(Refusal::DiskFault)
+                    }
+                }
+            }
+        }
+    }
+}
