@@ -3,6 +3,7 @@ use Rattle.std.proofs.Common.{◌≡◌, ℕ, ◌+◌, ◌≤◌, List, [], ◌�
 use Rattle.std.specs.Prelude.{Some, nat_lt, if◌then◌else◌, Result, Ok, Err, IfErr}
 use Rattle.std.specs.Str.{bytes_eq}
 use Rattle.std.proofs.lemmas.Bool.{false≢true}
+use Rattle.std.proofs.lemmas.List.{length-take-le}
 use Rattle.std.proofs.lemmas.Option.{cond_some, none-some, same_Some}
 use Rattle.std.proofs.lemmas.Slice.Eq.{bytes_eq-Decides}
 use Rattle.tw_base.specs.declared.history.report.Claim.{Claim}
@@ -25,14 +26,16 @@ use Rattle.tw_chain.specs.Proofs.{proof_codec}
 use Rattle.tw_chain.proofs.Headline.{headline}
 use Rattle.tw_chain.proofs.ProofCodec.{proof-lawful}
 use Rattle.tw_adopt.specs.FirstSteps.{auth_within}
+use Rattle.tw_adopt.proofs.Fronts.{same-first_steps, sound-first_steps}
 use Rattle.tw_adopt.proofs.SameHistories.{histories-same}
 use Rattle.tw_adopt.specs.declared.adopted.AdoptFault.{AdoptFault}
 use Rattle.tw_adopt.specs.declared.adopted.AdoptFault.TheVariants.{Part, Stranger, Differs, NoMemory}
 use Rattle.tw_adopt.specs.declared.adopted.Adopted.{Adopted}
 use Rattle.tw_adopt.specs.declared.receiving.Receiving.{Receiving}
 use Rattle.tw_adopt.specs.Adopting.{AreGood, IsAdoption, IsFault, IsFirstFault, IsGood, Shows, adopted_by, further, furthest, receiving_of}
-use Rattle.tw_adopt.specs.Binding.{AreSo, BindsAdoption, IsOnly, IsShown, last_receiving}
+use Rattle.tw_adopt.specs.Binding.{AreSo, BindsAdoption, IsKept, IsOnly, IsShown, last_receiving}
 use Rattle.tw_adopt.specs.Hearing.{IsWeighed}
+use Rattle.tw_adopt.specs.Stops.{IsTaken}
 use Rattle.tw_adopt.proofs.WeighingLaws.{within-some}
 
 -- ---- what a claim that shows something says of histories
@@ -92,13 +95,13 @@ module _ (dig : List ℕ → List ℕ) (anchors : List Thread) (h : History) whe
       furthest-one (bytes ∷ proofs) proofs first rest (bytes, inl refl, good.0) (λ r found. one-behind bytes proofs r found) good.1
 
   -- the receiving that is shown is that of the last step that is taken over
-  last-is : (r : Receiving) → r.entry.thread.from ≡ h.name → auth dig h r.entry.thread.step ≡ r.entry.thread.auth → r ≡ last_receiving dig h (adopted_by r)
+  last-is : (r : Receiving) → r.entry.thread.from ≡ h.name → auth dig h r.entry.thread.step ≡ r.entry.thread.auth → r ≡ last_receiving dig h (adopted_by h r)
   last-is r name held = λ i. record {
     by = r.by;
     entry = record { thread = record { from = name i; step = r.entry.thread.step; auth = sym held i }; archived = r.entry.archived };
   }
 
-  shown-of : (proofs : List (List ℕ)) (r : Receiving) → IsGoodOne proofs r → IsShown dig h anchors proofs (adopted_by r)
+  shown-of : (proofs : List (List ℕ)) (r : Receiving) → IsGoodOne proofs r → IsShown dig h anchors proofs (adopted_by h r)
   shown-of proofs r one =
       let shows : Shows dig anchors h one.0 r = one.2.0 in
       let known = within-some dig h r.entry.thread.step r.entry.thread.auth one.2.1 in
@@ -114,7 +117,13 @@ module _ (dig : List ℕ → List ℕ) (anchors : List Thread) (h : History) whe
         (λ fact. inl (shown-received dig family (hops_of accepts.0) h.name (claim_of accepts.0) r shows.1 fact.0))
 
     module _ (sound : IsSound h) where
-      only-of : (r : Receiving) → r.entry.thread.step ≤ length h.steps → IsOnly dig h (adopted_by r)
+      kept-of : (r : Receiving) → r.entry.thread.step ≤ length h.steps → IsKept dig h (adopted_by h r)
+      kept-of r within =
+          let step : ℕ = r.entry.thread.step in
+          let both = same-first_steps dig h step step (omega arith) within in
+          record { sound = sound-first_steps h step sound; last = length-take-le step h.steps within; same = both.0; auth_same = both.1 }
+
+      only-of : (r : Receiving) → r.entry.thread.step ≤ length h.steps → IsOnly dig h (adopted_by h r)
       only-of r within = λ other sound_other its e. histories-same dig size are h other r.entry.thread.step sound sound_other within its (sym e)
 
       -- where the history is taken over, all of that is so
@@ -124,13 +133,17 @@ module _ (dig : List ℕ → List ℕ) (anchors : List Thread) (h : History) whe
           let r : Receiving = furthest is.0 is.1 in
           let one : IsGoodOne proofs r = good-one proofs is.0 is.1 is.2 in
           let within = (within-some dig h r.entry.thread.step r.entry.thread.auth one.2.1).0 in
-          subst (λ (b : Adopted). (b.upto ≤ length h.steps) × IsOnly dig h b × IsShown dig h anchors proofs b × AreSo dig h anchors proofs) (sym is.3)
-          (within, only-of r within, shown-of proofs r one, so-of proofs)
+          subst (λ (b : Adopted). IsKept dig h b × IsOnly dig h b × IsShown dig h anchors proofs b × AreSo dig h anchors proofs) (sym is.3)
+          (kept-of r within, only-of r within, shown-of proofs r one, so-of proofs)
 
   -- ---- the answer, by what was found
 
-  pub taken-answer : (proofs : List (List ℕ)) (t : Receiving) (a : Adopted) → IsWeighed dig anchors h proofs (Ok t) → a ≡ adopted_by t → IsAdoption dig anchors h proofs (Ok a)
-  taken-answer proofs t a weighed taken = (weighed.0, weighed.1, weighed.2, taken ∙ ap adopted_by weighed.3)
+  pub taken-answer : (proofs : List (List ℕ)) (t : Receiving) (result : Result Adopted AdoptFault) → IsWeighed dig anchors h proofs (Ok t) → IsTaken h t result → IsAdoption dig anchors h proofs result
+  taken-answer proofs t (Ok a) weighed taken = (weighed.0, weighed.1, weighed.2, taken ∙ ap (adopted_by h) weighed.3)
+  taken-answer proofs t (Err NoMemory) weighed taken = tt
+  taken-answer proofs t (Err (Part number reason)) weighed taken = absurd taken
+  taken-answer proofs t (Err (Stranger number)) weighed taken = absurd taken
+  taken-answer proofs t (Err (Differs number step held found)) weighed taken = absurd taken
 
   pub fault-answer : (proofs : List (List ℕ)) (fault : AdoptFault) → IsWeighed dig anchors h proofs (Err fault) → IsAdoption dig anchors h proofs (Err fault)
   fault-answer proofs NoMemory weighed = tt

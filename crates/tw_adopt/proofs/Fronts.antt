@@ -9,7 +9,7 @@ use Rattle.tw_base.specs.declared.history.thread.Entry.{Entry}
 use Rattle.tw_base.specs.format.Codecs.{behind, by_kind, counted, many, name_codec, number_codec, pair, seen}
 use Rattle.tw_base.specs.format.Fields.{number_bytes}
 use Rattle.tw_base.specs.history.Auth.{auth}
-use Rattle.tw_base.specs.history.History.{History, Node, Step, plus, step_at, thread_of, time_of, times}
+use Rattle.tw_base.specs.history.History.{History, Node, Step, plus, step_at, thread_of, time_of}
 use Rattle.tw_base.specs.history.HistoryCodec.{history_bytes, history_codec, history_magic, step_codec}
 use Rattle.tw_base.specs.history.Rules.{KeepsRule, NodesFit, Rule}
 use Rattle.tw_base.specs.history.Rules.Rule.{EventsFit, HoldsAllThreads, IsOfAnother, NodesAreKnown, StepsRise, TimesDontFall, TreesRise}

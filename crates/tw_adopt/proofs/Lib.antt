@@ -1,7 +1,10 @@
 pub mod SameTexts
 pub mod SameHistories
 pub mod Fronts
+pub mod TableFronts
 pub mod HearingLaws
 pub mod StopLaws
 pub mod WeighingLaws
 pub mod AdoptionLaws
+pub mod LowestReasons
+pub mod OneAnswer

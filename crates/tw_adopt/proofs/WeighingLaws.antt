@@ -1,6 +1,6 @@
 -- What was heard of proofs, weighed against the history.
 use Rattle.std.proofs.Common.{◌≡◌, ℕ, ◌+◌, ◌<◌, ◌≤◌, List, [], ◌∷◌, length, Bool, true, false, refl, ap, sym, ◌∙◌, subst, arith, inl, inr}
-use Rattle.std.specs.Prelude.{◌≢◌, Option, Some, None, nat_le, if◌then◌else◌, Result, Ok, Err}
+use Rattle.std.specs.Prelude.{◌≢◌, Option, Some, None, nat_le, nat_lt, if◌then◌else◌, Result, Ok, Err, IfOk}
 use Rattle.std.proofs.lemmas.Bool.{false≢true, leb-true}
 use Rattle.std.proofs.lemmas.Option.{none-some, same_Some}
 use Rattle.std.proofs.lemmas.Slice.Eq.{bytes_eq-Decides}
@@ -12,16 +12,16 @@ use Rattle.tw_adopt.specs.FirstSteps.{auth_within}
 use Rattle.tw_adopt.specs.declared.adopted.AdoptFault.{AdoptFault}
 use Rattle.tw_adopt.specs.declared.adopted.AdoptFault.TheVariants.{Part, Stranger, Differs, NoMemory}
 use Rattle.tw_adopt.specs.declared.receiving.Receiving.{Receiving}
-use Rattle.tw_adopt.specs.Adopting.{AreGood, IsFirstFault, IsOther, furthest}
+use Rattle.tw_adopt.specs.Adopting.{AreGood, IsFirstFault, IsOther, further, furthest}
 use Rattle.tw_adopt.specs.Hearing.{AreHeard, IsWeighed}
 use Rattle.tw_adopt.specs.Stops.{differing, is_found}
 
 -- what was found is the authenticator, or isn't
-found-is : (found : Option (List ℕ)) (held : List ℕ) → is_found found held ≡ true → found ≡ Some held
+pub found-is : (found : Option (List ℕ)) (held : List ℕ) → is_found found held ≡ true → found ≡ Some held
 found-is None held is = absurd (false≢true is)
 found-is (Some auth) held is = ap (λ (a : List ℕ). Some a) ((bytes_eq-Decides auth held).0 is)
 
-found-not : (found : Option (List ℕ)) (held : List ℕ) → is_found found held ≡ false → found ≢ Some held
+pub found-not : (found : Option (List ℕ)) (held : List ℕ) → is_found found held ≡ false → found ≢ Some held
 found-not None held is same = none-some held same
 found-not (Some auth) held is same =
     false≢true (sym is ∙ (bytes_eq-Decides auth held).1 (same_Some auth held same))
@@ -33,6 +33,15 @@ within-some dig h step held is = by (nat_le step (length h.steps)) refl is
     by : (b : Bool) → nat_le step (length h.steps) ≡ b → (if b then Some (auth dig h step) else None) ≡ Some held → (step ≤ length h.steps) × (auth dig h step ≡ held)
     by true test same = (leb-true step (length h.steps) test, same_Some (auth dig h step) held same)
     by false test same = absurd (none-some held same)
+
+-- what holds of all that was shown, holds of the furthest
+pub furthest-each : (P : Receiving → Type 0) (first : Receiving) (rest : List Receiving) → P first → Each P rest → P (furthest first rest)
+furthest-each P first [] one all = one
+furthest-each P first (t ∷ rest) one all = furthest-each P (further first t) rest (by (nat_lt first.entry.thread.step t.entry.thread.step)) all.1
+  where
+    by : (b : Bool) → P (if b then t else first)
+    by true = all.0
+    by false = one
 
 -- a fault that shows something is no want of memory
 fault-known : (dig : List ℕ → List ℕ) (anchors : List Thread) (h : History) (proofs : List (List ℕ)) (fault : AdoptFault) → IsFirstFault dig anchors h 1 proofs fault
@@ -113,3 +122,17 @@ module _ (dig : List ℕ → List ℕ) (h : History) where
     decided proofs (first ∷ rest) None result heard none stops goes some =
         subst (λ r. IsWeighed dig anchors h proofs r) (sym (goes first rest refl refl))
         (first, rest, heard-good 1 proofs (first ∷ rest) heard (none-differs 1 (first ∷ rest) (sym none)), refl)
+
+  -- what is decided is of a step that the history has
+  pub decided-inside : (shown : List Receiving) (stopped : Option AdoptFault) (result : Result Receiving AdoptFault) → None ≡ differing dig h 1 shown
+      → ((fault : AdoptFault) → stopped ≡ Some fault → result ≡ Err fault)
+      → ((first : Receiving) (rest : List Receiving) → stopped ≡ None → shown ≡ first ∷ rest → result ≡ Ok (furthest first rest))
+      → (stopped ≡ None → 0 < length shown) → IfOk result (λ r. r.entry.thread.step ≤ length h.steps)
+  decided-inside shown (Some fault) result none stops goes some =
+      subst (λ (r : Result Receiving AdoptFault). IfOk r (λ r. r.entry.thread.step ≤ length h.steps)) (sym (stops fault refl)) tt
+  decided-inside [] None result none stops goes some = absurd (let never = some refl in omega (arith, never))
+  decided-inside (first ∷ rest) None result none stops goes some =
+      let agree = none-differs 1 (first ∷ rest) (sym none) in
+      let held : Agrees (furthest first rest) = furthest-each Agrees first rest agree.0 agree.1 in
+      subst (λ (r : Result Receiving AdoptFault). IfOk r (λ r. r.entry.thread.step ≤ length h.steps)) (sym (goes first rest refl refl))
+      (within-some dig h (furthest first rest).entry.thread.step (furthest first rest).entry.thread.auth held).0

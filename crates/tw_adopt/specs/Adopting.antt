@@ -8,7 +8,7 @@ use Rattle.tw_base.specs.history.History.{History}
 use Rattle.tw_chain.specs.declared.verdict.Verdict.TheVariants.{No}
 use Rattle.tw_chain.specs.Accepting.{Accepts, claim_of}
 use Rattle.tw_chain.specs.Reasons.{IsVerdict}
-use Rattle.tw_adopt.specs.FirstSteps.{auth_within}
+use Rattle.tw_adopt.specs.FirstSteps.{auth_within, first_steps}
 use Rattle.tw_adopt.specs.declared.adopted.AdoptFault.{AdoptFault}
 use Rattle.tw_adopt.specs.declared.adopted.AdoptFault.TheVariants.{Part, Stranger, Differs, NoMemory}
 use Rattle.tw_adopt.specs.declared.adopted.Adopted.{Adopted}
@@ -30,11 +30,12 @@ furthest first [] = first
 furthest first (r ∷ rest) = furthest (further first r) rest
 
 -- the history is taken over up to the step of the thread that was received
-abbrev pub adopted_by : Receiving → Adopted
-adopted_by r = record {
+abbrev pub adopted_by : History → Receiving → Adopted
+adopted_by h r = record {
   upto = r.entry.thread.step;
   by = r.by;
   archived = r.entry.archived;
+  history = first_steps h r.entry.thread.step;
 }
 
 module _ (dig : List ℕ → List ℕ) (anchors : List Thread) (h : History) where
@@ -82,6 +83,6 @@ module _ (dig : List ℕ → List ℕ) (anchors : List Thread) (h : History) whe
   -- what is answered of the proofs: where each is good, how far the history is taken over by what they show; else the fault of the
   -- first that isn't. Want of memory is free
   abbrev pub IsAdoption : List (List ℕ) → Result Adopted AdoptFault → Type 0
-  IsAdoption proofs (Ok a) = (first : Receiving) × (rest : List Receiving) × AreGood proofs (first ∷ rest) × (a ≡ adopted_by (furthest first rest))
+  IsAdoption proofs (Ok a) = (first : Receiving) × (rest : List Receiving) × AreGood proofs (first ∷ rest) × (a ≡ adopted_by h (furthest first rest))
   IsAdoption proofs (Err NoMemory) = Unit {0}
   IsAdoption proofs (Err fault) = IsFirstFault 1 proofs fault

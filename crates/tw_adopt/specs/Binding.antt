@@ -17,6 +17,13 @@ use Rattle.tw_adopt.specs.declared.receiving.Receiving.{Receiving}
 use Rattle.tw_adopt.specs.Adopting.{Shows}
 
 module _ (dig : List ℕ → List ℕ) (h : History) where
+  -- what is taken over is sound, and the same as the history up to its own last step, where both have one authenticator
+  pub record IsKept (a : Adopted) : Type 0 where
+    pub sound : IsSound a.history
+    pub last : length a.history.steps ≡ a.upto
+    pub same : Same h a.history a.upto
+    pub auth_same : auth dig a.history a.upto ≡ auth dig h a.upto
+
   -- every sound history that has the same authenticator at the last step that is taken over is the same up to there; or two texts of
   -- both histories clash
   abbrev pub IsOnly : Adopted → Type 0
@@ -48,5 +55,5 @@ module _ (dig : List ℕ → List ℕ) (h : History) where
 
     -- where the history is taken over, all of that is so
     abbrev pub BindsAdoption : Result Adopted AdoptFault → Type 0
-    BindsAdoption (Ok a) = (a.upto ≤ length h.steps) × IsOnly a × IsShown a × AreSo
+    BindsAdoption (Ok a) = IsKept a × IsOnly a × IsShown a × AreSo
     BindsAdoption (Err fault) = Unit {0}

@@ -1,5 +1,5 @@
 -- What a pass over a history keeps of it: its authenticators at the steps that were shown.
-use Rattle.std.specs.Prelude.{◌≡◌, ℕ, ◌+◌, ◌≤◌, List, [], ◌∷◌, Bool, false, Option, Some, None, ◌==◌, find, if◌then◌else◌}
+use Rattle.std.specs.Prelude.{◌≡◌, ℕ, ◌+◌, ◌≤◌, List, [], ◌∷◌, Bool, false, Option, Some, None, ◌==◌, find, if◌then◌else◌, Result, Ok, Err}
 use Rattle.std.specs.Option.{option_map, option_map_or}
 use Rattle.std.specs.Str.{bytes_eq}
 use Rattle.tw_base.specs.history.Auth.{auth}
@@ -7,9 +7,11 @@ use Rattle.tw_base.specs.history.History.{History}
 use Rattle.tw_base.specs.kinds.Lists.{Each, In}
 use Rattle.tw_adopt.specs.FirstSteps.{auth_within}
 use Rattle.tw_adopt.specs.declared.adopted.AdoptFault.{AdoptFault}
-use Rattle.tw_adopt.specs.declared.adopted.AdoptFault.TheVariants.{Differs}
+use Rattle.tw_adopt.specs.declared.adopted.AdoptFault.TheVariants.{Differs, NoMemory}
+use Rattle.tw_adopt.specs.declared.adopted.Adopted.{Adopted}
 use Rattle.tw_adopt.specs.declared.stops.Stop.{Stop}
 use Rattle.tw_adopt.specs.declared.receiving.Receiving.{Receiving}
+use Rattle.tw_adopt.specs.Adopting.{adopted_by}
 
 -- the authenticator that was kept at this step
 abbrev pub stopped_at : List Stop → (step : ℕ) → Option (List ℕ)
@@ -39,3 +41,9 @@ module _ (dig : List ℕ → List ℕ) (h : History) where
   differing number (t ∷ shown) =
       if is_found (auth_within dig h t.entry.thread.step) t.entry.thread.auth then differing (number + 1) shown
       else Some (Differs number t.entry.thread.step t.entry.thread.auth (auth_within dig h t.entry.thread.step))
+
+-- the history is taken over by what was shown, or there was no memory
+abbrev pub IsTaken : History → Receiving → Result Adopted AdoptFault → Type 0
+IsTaken h t (Ok a) = a ≡ adopted_by h t
+IsTaken h t (Err NoMemory) = Unit {0}
+IsTaken h t (Err _) = ⊥

@@ -1,12 +1,13 @@
 // How far a history is taken over, or why it isn't.
 
 use tw_base::{Bytes, Digest, Name, NoMemory, Reason, Sequence};
+use tw_history::History;
 
 /// Proofs, each as its bytes.
 pub type ProofList = Sequence<Bytes>;
 
 /// How far a history is taken over.
-#[derive(Clone, Copy, PartialEq, Eq, Debug, Drop)]
+#[derive(Drop, Debug)]
 pub struct Adopted {
     /// The last step that is taken over: the greatest of the threads that the proofs show as received.
     pub upto: u64,
@@ -14,6 +15,8 @@ pub struct Adopted {
     pub by: Name,
     /// The step of that service that received it.
     pub archived: u64,
+    /// The steps of the history up to this one.
+    pub history: History,
 }
 
 /// Why a history isn't taken over: the fault of the first proof that has one, with the proof's number, counted

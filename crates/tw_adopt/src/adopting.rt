@@ -1,13 +1,15 @@
 // Taking over a history.
 
-ghost use Rattle.std.specs.Prelude.{◌≡◌, ◌<◌, ℕ, List, None, length};
+ghost use Rattle.std.specs.Prelude.{◌≡◌, ◌<◌, ◌≤◌, ℕ, List, None, length};
 ghost use Rattle.tw_base.specs.declared.history.thread.Thread.{Thread as ThreadMeant};
 ghost use Rattle.tw_base.specs.history.Sound.{IsSound};
-ghost use Rattle.tw_adopt.specs.Adopting.{IsAdoption, adopted_by};
+ghost use Rattle.tw_adopt.specs.Adopting.{IsAdoption};
 ghost use Rattle.tw_adopt.specs.Binding.{BindsAdoption};
 ghost use Rattle.tw_adopt.specs.Hearing.{AreHeard};
+ghost use Rattle.tw_adopt.specs.Stops.{IsTaken};
 
 use crate::adopted::{AdoptFault, Adopted, ProofList};
+use crate::front::first_steps;
 use crate::hearing::{Heard, hear_all};
 use crate::receiving::Receiving;
 use crate::weighing::weigh;
@@ -15,14 +17,20 @@ use std::alloc::Global;
 use tw_base::{Hasher, NoMemory, Thread};
 use tw_history::History;
 
-/// How far the history is taken over by the thread that was received.
-fn taken_by(receiving: &Receiving) -> Adopted
-    ensures { result ≡ adopted_by receiving.now }
+/// The history, taken over up to the thread that was received.
+fn taken_by(alloc: Global, history: &History, receiving: &Receiving) -> Result<Adopted, AdoptFault>
+    requires { receiving.now.entry.thread.step ≤ length history.now.steps }
+    ensures { IsTaken history.now receiving.now result }
 {
-    Adopted {
-        upto: receiving.entry.thread.step,
-        by: receiving.by,
-        archived: receiving.entry.archived,
+    let upto = receiving.entry.thread.step;
+    match first_steps(alloc, history, upto) {
+        Ok(front) => Ok(Adopted {
+            upto,
+            by: receiving.by,
+            archived: receiving.entry.archived,
+            history: front,
+        }),
+        Err(NoMemory) => Err(AdoptFault::NoMemory),
     }
 }
 
@@ -37,7 +45,7 @@ fn adopt_heard<H: Hasher>(
         IsAdoption H.dig anchors history.now proofs result }
 {
     match weigh::<H>(alloc, history, heard) {
-        Ok(last) => Ok(taken_by(&last)),
+        Ok(last) => taken_by(alloc, history, &last),
         Err(fault) => Err(fault),
     }
 }
@@ -65,16 +73,16 @@ fn answer<H: Hasher>(
 /// How far the history is taken over by the proofs, of which there is one at least (the command takes 64). Each
 /// has to be accepted under the anchors, not in the strict form, as one that a service received a thread of the
 /// history's service, of a step at which the history has the thread's authenticator. Then the answer is the
-/// greatest of these steps, with the service that received the thread of that step and the step at which it
-/// did, by the first proof of such a thread: the history is taken over up to there (`first_steps_laws`). Else the first proof that isn't so is told:
+/// history's steps up to the greatest of these steps, with the service that received the thread of that step
+/// and the step at which it did, by the first proof of such a thread. Else the first proof that isn't so is told:
 /// `Part` where it isn't accepted, with the lowest reason; `Stranger` where it is of another kind, or of a thread
 /// of another service; `Differs` where the history has another authenticator, or no such step.
 ///
-/// Every sound history that has the history's authenticator at the last step that is taken over is of the same
-/// service and has the same contents, times and trees up to there, or two different texts, both of bytes, have one
-/// digest.
+/// Where the history is sound, so is what is taken over, and every sound history that has the history's
+/// authenticator at its last step is of the same service and has the same contents, times and trees up to there, or
+/// two different texts, both of bytes, have one digest.
 ///
-/// The history is passed once, to the last of these steps.
+/// The history is passed once, to the last of these steps, and the steps that are taken over are copied.
 pub fn adopt<H: Hasher>(
     alloc: Global,
     history: &History,
@@ -87,9 +95,9 @@ pub fn adopt<H: Hasher>(
     // greatest of these steps, with who received the thread of that step, and when, by the first such proof. Else the fault of
     // the first proof that isn't so is told, with its number.
     ensures answer { IsAdoption H.dig anchors.now history.now proofs.now result }
-    // Where a sound history is taken over, it has the last step that is taken over. Every sound history that has the history's
-    // authenticator there is of the same service and has the same contents, times and trees up to there, or two different
-    // texts of both, both of bytes, have one digest. One of the proofs shows that the
+    // Where a sound history is taken over, what is taken over is sound, and the same as the history up to its last step. Every
+    // sound history that has the history's authenticator there is of the same service and has the same contents, times and
+    // trees up to there, or two different texts of both, both of bytes, have one digest. One of the proofs shows that the
     // service that is told received the thread of this authenticator, at the step that is told. What any of the proofs shows
     // is so in every list of sound histories that has the threads held of this proof, or two different texts of these
     // histories and of the proof, both of bytes, have one digest.

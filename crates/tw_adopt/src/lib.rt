@@ -3,6 +3,7 @@
 
 mod adopted;
 mod adopting;
+mod front;
 mod hearing;
 mod laws;
 mod receiving;

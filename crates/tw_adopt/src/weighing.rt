@@ -1,6 +1,6 @@
 // Weighing what was heard against the history.
 
-ghost use Rattle.std.specs.Prelude.{◌≡◌, ◌<◌, ℕ, List, ◌∷◌, None, Some, Ok, Err, length};
+ghost use Rattle.std.specs.Prelude.{◌≡◌, ◌<◌, ◌≤◌, ℕ, List, ◌∷◌, None, Some, Ok, Err, length, IfOk};
 ghost use Rattle.tw_base.specs.declared.history.thread.Thread.{Thread};
 ghost use Rattle.tw_base.specs.history.History.{History as HistoryMeant};
 ghost use Rattle.tw_adopt.specs.Adopting.{further as further_of, furthest as furthest_of};
@@ -95,9 +95,11 @@ fn agreed(heard: &Heard) -> Result<Receiving, AdoptFault>
 /// What is found of the proofs, by what was kept of the history at each step shown.
 fn decide(heard: &Heard, stops: &[Stop]) -> Result<Receiving, AdoptFault>
     requires { heard.now.fault ≡ None → 0 < length heard.now.shown.items }
-    ensures { (dig : List ℕ → List ℕ) (anchors : List Thread) (h : HistoryMeant) (proofs : List (List ℕ)) →
+    ensures weighed { (dig : List ℕ → List ℕ) (anchors : List Thread) (h : HistoryMeant) (proofs : List (List ℕ)) →
         AreHeard dig anchors h 1 proofs heard.now.shown.items heard.now.fault → AnswersFor dig h heard.now.shown.items stops.now →
         IsWeighed dig anchors h proofs result }
+    ensures inside { (dig : List ℕ → List ℕ) (h : HistoryMeant) → AnswersFor dig h heard.now.shown.items stops.now →
+        IfOk result (λ r. r.entry.thread.step ≤ length h.steps) }
 {
     match first_differing(heard.shown.as_slice(), stops) {
         Some(fault) => Err(fault),
@@ -112,8 +114,9 @@ pub(crate) fn weigh<H: Hasher>(
     heard: &Heard,
 ) -> Result<Receiving, AdoptFault>
     requires { heard.now.fault ≡ None → 0 < length heard.now.shown.items }
-    ensures { (anchors : List Thread) (proofs : List (List ℕ)) →
+    ensures weighed { (anchors : List Thread) (proofs : List (List ℕ)) →
         AreHeard H.dig anchors history.now 1 proofs heard.now.shown.items heard.now.fault → IsWeighed H.dig anchors history.now proofs result }
+    ensures inside { IfOk result (λ r. r.entry.thread.step ≤ length history.now.steps) }
 {
     match stops_of::<H>(alloc, history, heard.shown.as_slice()) {
         Ok(stops) => decide(heard, stops.as_slice()),

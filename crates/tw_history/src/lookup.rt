@@ -14,7 +14,7 @@ use crate::step::{Node, Step};
 use tw_base::{Content, Entry, Thread};
 
 /// The steps and the nodes that the history is a table of.
-pub(crate) fn table_of(history: &History) -> (&[Step], &[Node])
+pub fn table_of(history: &History) -> (&[Step], &[Node])
     ensures steps { history.now.steps ≡ steps_of_table result.0.now result.1.now }
     ensures count { length history.now.steps ≡ length result.0.now }
     ensures table { IsTable result.0.now result.1.now }

@@ -25,14 +25,14 @@ use tw_base::{
 };
 
 /// The four bytes at the head of a history file.
-pub(crate) const MAGIC: [u8; 4] = *b"TWH1";
+pub const MAGIC: [u8; 4] = *b"TWH1";
 
 /// The bytes of the history's file: `TWH1`, the name, the number of steps, and then for each step
 /// its time, if any, its content, its new nodes and its root. They spell the history. The time is linear in their
 /// number. TooLong comes exactly where there would be more than 67,108,864 of them, and tells how
 /// many.
 pub fn write_history(alloc: Global, history: &History) -> Result<Bytes, HistoryFault>
-    // The bytes written of a history are those of the format. No command writes one yet.
+    // The bytes written of a history are those of the format.
     ensures bytes { IfOk result (λ bytes. bytes ≡ history_bytes history.now) }
     // The bytes that are written spell the history.
     ensures spelled { IfOk result (λ bytes. Spells history_layout bytes history.now) }
@@ -115,11 +115,12 @@ fn kind_of(time: Option<u64>, content: &Content) -> u64
     }
 }
 
-/// Appends the kind of what a step records, its time, if any, and its content.
+/// Appends the kind of what a step records, its time, if any, and its content, as a history file has them.
 #[tactic(auto, unfolding(tw_base::specs::format::Codecs::number_codec))]
-fn put_recorded(into: &mut Bytes, time: Option<u64>, content: &Content) -> Result<(), NoMemory>
+pub fn put_recorded(into: &mut Bytes, time: Option<u64>, content: &Content) -> Result<(), NoMemory>
     requires content { IsInRange content.now }
     requires time { IsTimeWithinLimits time }
+    // What a step records is appended as its codec writes it.
     ensures { Puts recorded_codec (time, content.now) into.old into.new result }
 {
     put_number(into, kind_of(time, content), 1)?;

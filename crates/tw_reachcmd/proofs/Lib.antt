@@ -7,3 +7,4 @@ pub mod ReceiptFiles
 pub mod HistoryFiles
 pub mod KeptFronts
 pub mod AuditFiles
+pub mod AdoptFiles

@@ -12,4 +12,7 @@ pub mod Reading
 pub mod Fronts
 pub mod Auditing
 pub mod AuditTexts
+pub mod Adopting
+pub mod AdoptReading
+pub mod AdoptTexts
 pub mod Answers

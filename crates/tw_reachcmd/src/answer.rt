@@ -4,6 +4,8 @@ ghost use Rattle.std.specs.Prelude.{◌≡◌, IfOk};
 ghost use Rattle.tw_reachcmd.specs.Answers.{answer_status as answer_status_of, answer_text};
 
 use crate::accusing::Accused;
+use crate::adopt_text::print_taken;
+use crate::adopting::Taken;
 use crate::audit_text::print_audited;
 use crate::auditing::Audited;
 use crate::planning::Planned;
@@ -28,6 +30,8 @@ pub enum Answer {
     Planned(Planned),
     /// Two map files were judged.
     Mapped(MapVerdict),
+    /// A history was to be taken over.
+    Taken(Taken),
 }
 
 /// The status of a run that came to this answer.
@@ -40,10 +44,12 @@ pub fn answer_status(answer: &Answer) -> u8
         | Answer::Fork(ForkVerdict::Yes(_))
         | Answer::Planned(_)
         | Answer::Mapped(MapVerdict::Yes { .. })
+        | Answer::Taken(Taken::File(_))
         | Answer::Audited(Audited::Found(Finding::Stands(_))) => 0,
         Answer::Accused(Accused::Unfit { .. })
         | Answer::Fork(ForkVerdict::No(_))
         | Answer::Mapped(MapVerdict::No(_) | MapVerdict::Gap)
+        | Answer::Taken(Taken::Fault(_))
         | Answer::Audited(Audited::Found(Finding::NotAccepted(_)) | Audited::Unheld { .. }) => 1,
         Answer::Audited(Audited::Found(Finding::Clash { .. })) => 10,
     }
@@ -66,5 +72,6 @@ pub fn print_answer(alloc: Global, answer: &Answer) -> Result<Bytes, NoMemory>
             &planned.atlas,
         ),
         Answer::Mapped(verdict) => print_map(alloc, verdict),
+        Answer::Taken(taken) => print_taken(alloc, taken),
     }
 }

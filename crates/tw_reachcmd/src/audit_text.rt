@@ -59,7 +59,7 @@ fn print_unheld(alloc: Global, held: &Thread, found: &Option<Digest>) -> Result<
 }
 
 /// What the histories have at a step: an authenticator, or none.
-fn found_field(alloc: Global, found: &Option<Digest>) -> Result<Field, NoMemory>
+pub(crate) fn found_field(alloc: Global, found: &Option<Digest>) -> Result<Field, NoMemory>
     ensures { IfOk result (λ field. field ≡ found_field_of found.now) }
 {
     match found {

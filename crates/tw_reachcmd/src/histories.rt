@@ -31,7 +31,7 @@ pub(crate) struct Family {
 
 /// Why a file holds no history beside others.
 #[derive(Drop)]
-enum HistoryRefusal {
+pub(crate) enum HistoryRefusal {
     /// What is told of it.
     Bad(BadInput),
     /// There was no memory for it.
@@ -142,7 +142,7 @@ impl Family {
 
 /// The history that the bytes of the named file hold beside those before, which left so many bytes of the
 /// limit.
-fn history_beside(
+pub(crate) fn history_beside(
     alloc: Global,
     file: &str,
     bytes: &[u8],

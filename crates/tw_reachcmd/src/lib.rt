@@ -1,7 +1,9 @@
-// The commands over files that reach beyond one proof: audits, atlases, maps, and the evidence of a fork.
+// The commands over files that reach beyond one proof: audits, atlases, maps, histories taken over, and the evidence of a fork.
 #![tactic(auto)]
 
 mod accusing;
+mod adopt_text;
+mod adopting;
 mod anchors;
 mod answer;
 mod audit_text;
@@ -15,6 +17,7 @@ mod planning;
 mod reading;
 
 pub use accusing::{Accused, accuse_linked, accuse_pair};
+pub use adopting::{Taken, adopt_files};
 pub use answer::{Answer, answer_status, print_answer};
 pub use auditing::{Audited, audit_files};
 pub use forks::check_fork;

@@ -7,7 +7,7 @@ use tw_adopt::{AdoptFault, Adopted, ProofList, adopt};
 use tw_base::{
     Bytes, Digest, Name, NoMemory, Thread, Weak, put_digest, put_name, put_number, put_text,
 };
-use tw_history::{History, read_history};
+use tw_history::{History, read_history, write_history};
 
 /// Two steps of one event of no bytes each, as a history file has them behind their number.
 const TWO: &[u8] = &[
@@ -120,6 +120,8 @@ fn as_far_as_it_was_received(rt: HostRuntime) {
             assert_eq!(rt; adopted.upto, 1);
             assert_eq!(rt; adopted.archived, 1);
             assert!(rt; adopted.by == named(&rt, b"b"));
+            let file = write_history(alloc, &adopted.history).expect(&rt, "a file");
+            assert_eq!(rt; file.len(), 43);
         }
         Err(_) => assert!(rt; false, "it isn't taken over"),
     }
