@@ -1,0 +1,307 @@
+-- What the calls of a follower answer.
+use Rattle.std.proofs.Common.{◌≡◌, ◌≢◌, ℕ, ◌≤◌, List, Bool, true, false, length, refl, ap, sym, ◌∙◌, subst, arith, inl, inr, ◌⊎◌, ⊎_elim}
+use Rattle.std.specs.Prelude.{◌↔◌, IfErr, IfOk, IsTrue, MatchResult, Result, Ok, Err, Some}
+use Rattle.tw_base.specs.declared.history.thread.Thread.{Thread}
+use Rattle.tw_base.specs.history.Auth.{auth}
+use Rattle.tw_base.specs.history.History.{History}
+use Rattle.tw_base.specs.kinds.Faults.{Rose}
+use Rattle.tw_disk.specs.Answers.{AnswersAs, IsShared, is_of_disk}
+use Rattle.tw_disk.specs.Disk.{DiskView, IsAtRest, LeavesOnly, Reads}
+use Rattle.tw_disk.specs.Image.{Image}
+use Rattle.tw_disk.proofs.FoundLaws.{same_found}
+use Rattle.tw_msg.specs.HistoryMessages.{MakesMessage, thread_at_step}
+use Rattle.tw_pages.specs.Same.{IsSameStore, count_of}
+use Rattle.tw_pages.specs.SameSteps.{is_same_itself}
+use Rattle.tw_pages.specs.StoreValue.{opening_of}
+use Rattle.tw_follow.specs.declared.follower.Follower.{Follower}
+use Rattle.tw_follow.specs.declared.judging.Offered.{Offered}
+use Rattle.tw_follow.specs.declared.judging.Offered.TheVariants.{Known, Moves}
+use Rattle.tw_follow.specs.declared.refusal.FollowRefusal.{FollowRefusal}
+use Rattle.tw_follow.specs.declared.refusal.FollowRefusal.TheVariants.{Malformed, BadPage, DiskFault, Reopen, NoMemory}
+use Rattle.tw_follow.specs.declared.root.RootRecord.{RootRecord}
+use Rattle.tw_follow.specs.Calls.{Offers, Tells}
+use Rattle.tw_follow.specs.Follows.{Follows, HasSameDisk, KeepsHeads, disk_of, has_failed, head_of, pages_of, record_of}
+use Rattle.tw_follow.specs.HeadLists.{HasHead, Kept, with_head}
+use Rattle.tw_follow.specs.HeadPages.{found_heads}
+use Rattle.tw_follow.specs.Offers.{AnswersOffer, Judges, answer_to, judged}
+use Rattle.tw_follow.specs.Refusals.{IsFault, refusals}
+use Rattle.tw_follow.specs.Runs.{MovesBy}
+use Rattle.tw_follow.specs.Stands.{StandsFor, StandsForOneOf}
+use Rattle.tw_follow.proofs.Following.{read_keeps, read_leaves, rest_head, rest_stands, same_leaves, same_tells, still_keeps, told_list}
+use Rattle.tw_follow.proofs.Offering.{IsJudged, IsMoved, judges-once, judges-table, moved-is, one-message, own-judged, sort_of}
+
+-- ---- refusals
+
+refusal_in : {T : Type 0} → FollowRefusal → Result T FollowRefusal → FollowRefusal
+refusal_in other (Ok x) = other
+refusal_in other (Err refusal) = refusal
+
+pub same_refusal : (T : Type 0) (r s : FollowRefusal) → ◌≡◌ {A = Result T FollowRefusal} (Err r) (Err s) → r ≡ s
+unfolding refusal_in
+same_refusal T r s e = ap (λ (x : Result T FollowRefusal). refusal_in r x) e
+
+pub never_ok : (T : Type 0) (x : T) (r : FollowRefusal) → ◌≡◌ {A = Result T FollowRefusal} (Ok x) (Err r) → ⊥
+never_ok T x r e = cc
+
+pub reopen_is_none : Reopen ≢ DiskFault
+reopen_is_none e = cc
+
+pub memory_is_none : NoMemory ≢ DiskFault
+memory_is_none e = cc
+
+pub malformed_is_none : (place : ℕ) → Malformed place ≢ DiskFault
+malformed_is_none place e = cc
+
+pub not_both : (b : Bool) → b ≡ false → IsTrue b → ⊥
+not_both true e is = cc
+not_both false e is = cc
+
+shared_fault : (r : FollowRefusal) → IsShared (refusals r) → IsFault r
+shared_fault (BadPage page) s = tt
+shared_fault DiskFault s = tt
+shared_fault NoMemory s = tt
+shared_fault r s = absurd s
+
+no_fall : (n : ℕ) → n ≤ n
+no_fall n = omega arith
+
+module _ {D H : Type 0} {g : _} {k : _} (view : D → DiskView) (only_now : (d : D) (c : Image) → (view d).left_since (view d).moment c → (view d).may_leave c) (dig : List ℕ → List ℕ) where
+  -- ---- a call that makes nothing
+
+  module _ (f : Follower D H g k) where
+    still : (kept : Kept) → Follows dig view f kept → LeavesOnly (view (disk_of f)) (view (disk_of f)) (λ i. StandsFor dig i kept)
+    still kept follows = read_leaves view only_now dig f.recorded.store f.recorded.store f.recorded.root kept (is_same_itself view f.recorded.store) follows
+
+    still_one_of : (kept next : Kept) → Follows dig view f kept → LeavesOnly (view (disk_of f)) (view (disk_of f)) (StandsForOneOf dig kept next)
+    still_one_of kept next follows = same_leaves view only_now dig f.recorded.store f.recorded.store (StandsForOneOf dig kept next) (is_same_itself view f.recorded.store)
+        (λ i left. inl (rest_stands view only_now dig f.recorded.store f.recorded.root kept follows i left))
+
+    reads : (kept next : Kept) → Follows dig view f kept → Reads (view (disk_of f)) (StandsForOneOf dig kept next)
+    reads kept next follows = same_tells view only_now dig f.recorded.store f.recorded.store f.recorded.root kept next (is_same_itself view f.recorded.store) follows
+
+    -- a refused offer
+    pub refused_offer : (bytes : List ℕ) (r : FollowRefusal) → AnswersOffer dig (has_failed f) (head_of f) bytes (Err r) → r ≢ DiskFault → Offers dig view bytes f f (Err r)
+    refused_offer bytes r table other = record {
+      table = table;
+      steps = λ kept follows. record {
+        next = kept;
+        goes = inl (tt, refl);
+        any_moment = still_one_of kept kept follows;
+        told = reads kept kept follows;
+        done = tt;
+        refused = inr (follows, still kept follows);
+      };
+      head = tt;
+      same = tt;
+      kept = refl;
+      unwritten = inr (is_same_itself view f.recorded.store);
+      broken = (λ failed. inl failed, λ either. ⊎_elim (λ failed. failed) (λ e. absurd (other (same_refusal Thread r DiskFault e))) either);
+      fault = λ e. absurd (other (same_refusal Thread r DiskFault e));
+      later = no_fall ((view (disk_of f)).faults);
+    }
+
+    -- an offer of the head itself
+    pub known_offer : (bytes : List ℕ) → has_failed f ≡ false → Judges dig (head_of f) bytes (Ok Known) → Offers dig view bytes f f (Ok (head_of f))
+    known_offer bytes whole judges = record {
+      table = subst (λ (b : Bool). AnswersOffer dig b (head_of f) bytes (Ok (head_of f))) (sym whole) (Known, judges, refl);
+      steps = λ kept follows.
+          let is = rest_head view only_now dig f.recorded.store f.recorded.root kept follows in
+          record {
+            next = kept;
+            goes = inl (tt, refl);
+            any_moment = still_one_of kept kept follows;
+            told = reads kept kept follows;
+            done = (inl ((subst (λ (t : Thread). Judges dig t bytes (Ok Known)) (sym is) judges, sym is), refl), follows);
+            refused = tt;
+          };
+      head = (refl, refl);
+      same = λ e. (refl, is_same_itself view f.recorded.store);
+      kept = tt;
+      unwritten = tt;
+      broken = (λ failed. inl failed, λ either. ⊎_elim (λ failed. failed) (λ e. absurd (never_ok Thread (head_of f) DiskFault e)) either);
+      fault = λ e. absurd (never_ok Thread (head_of f) DiskFault e);
+      later = no_fall ((view (disk_of f)).faults);
+    }
+
+    -- the heads aren't told after a disk fault
+    pub reopened_heads : has_failed f ≡ true → Tells dig view f f (Err Reopen)
+    reopened_heads failed = record {
+      reopen = (λ e. failed_is failed, λ is. refl);
+      faults = inl refl;
+      answer = λ whole. absurd (not_both (has_failed f) whole (failed_is failed));
+      heads = tt;
+      still = λ kept follows. (follows, still kept follows);
+      unwritten = is_same_itself view f.recorded.store;
+      record_ = refl;
+      broken = (λ is. inl is, λ either. ⊎_elim (λ is. is) (λ e. absurd (reopen_is_none (same_refusal (List Thread) Reopen DiskFault e))) either);
+      fault = λ e. absurd (reopen_is_none (same_refusal (List Thread) Reopen DiskFault e));
+      later = no_fall ((view (disk_of f)).faults);
+    }
+      where
+        failed_is : has_failed f ≡ true → IsTrue (has_failed f)
+        failed_is e = e
+
+  -- ---- a call that moves the head
+
+  module _ (old new : Follower D H g k) (bytes : List ℕ) (head : Thread) (whole : has_failed old ≡ false) (judges : Judges dig (head_of old) bytes (Ok (Moves head)))
+      (any_moment : (kept : Kept) → Follows dig view old kept → LeavesOnly (view (disk_of old)) (view (disk_of new)) (StandsForOneOf dig kept (with_head kept head)))
+      (told : (kept : Kept) → Follows dig view old kept → Reads (view (disk_of new)) (StandsForOneOf dig kept (with_head kept head)))
+      (later : (view (disk_of old)).faults ≤ (view (disk_of new)).faults) where
+    is : IsMoved dig (head_of old) judges.0 head
+    is = moved-is dig (head_of old) judges.0 head judges.2
+
+    by : (kept : Kept) → Follows dig view old kept → MovesBy dig kept bytes judges.0 (with_head kept head)
+    by kept follows =
+        let same = rest_head view only_now dig old.recorded.store old.recorded.root kept follows in
+        record {
+          spelled = judges.1;
+          moves = ap (λ (t : Thread). judged dig t judges.0) same ∙ judges.2 ∙ ap (λ (t : Thread). Ok (Moves t)) is.thread_is;
+          adds = ap (λ (t : Thread). with_head kept t) is.thread_is;
+        }
+
+    pub moved_offer : (thread : Thread) → (thread ≡ head) × (head_of new ≡ head) → ((kept : Kept) → Follows dig view old kept → Follows dig view new (with_head kept head))
+        → (IsTrue (has_failed new) ↔ (◌≡◌ {A = Result Thread FollowRefusal} (Ok thread) (Err DiskFault))) → Offers dig view bytes old new (Ok thread)
+    moved_offer thread heads done broken = record {
+      table = subst (λ (b : Bool). AnswersOffer dig b (head_of old) bytes (Ok thread)) (sym whole) (Moves head, judges, heads.0);
+      steps = λ kept follows. record {
+        next = with_head kept head;
+        goes = inr (judges.0, by kept follows);
+        any_moment = any_moment kept follows;
+        told = told kept follows;
+        done = (inr (judges.0, (by kept follows, heads.0 ∙ is.thread_is)), done kept follows);
+        refused = tt;
+      };
+      head = (heads.0 ∙ sym heads.1, ap (λ (t : Thread). t.from) (heads.0 ∙ is.thread_is) ∙ is.from);
+      same = λ e. absurd (later_differs (ap (λ (t : Thread). t.step) (sym (heads.0 ∙ is.thread_is) ∙ e)));
+      kept = tt;
+      unwritten = tt;
+      broken = (λ failed. absurd (never_ok Thread thread DiskFault (broken.0 failed)), λ either. ⊎_elim (λ failed. absurd (not_both (has_failed old) whole failed)) (λ e. absurd (never_ok Thread thread DiskFault e)) either);
+      fault = λ e. absurd (never_ok Thread thread DiskFault e);
+      later = later;
+    }
+      where
+        later_differs : judges.0.thread.step ≡ (head_of old).step → ⊥
+        later_differs e = omega (arith, is.above, e)
+
+    pub stopped_offer : (r : FollowRefusal) → (r ≡ DiskFault) ⊎ (r ≡ NoMemory) → (record_of new ≡ record_of old) × ((r ≡ DiskFault) ⊎ HasSameDisk view old new)
+        → (IsTrue (has_failed new) ↔ (◌≡◌ {A = Result Thread FollowRefusal} (Err r) (Err DiskFault)))
+        → (◌≡◌ {A = Result Thread FollowRefusal} (Err r) (Err DiskFault) → Rose (view (disk_of old)).faults (view (disk_of new)).faults) → Offers dig view bytes old new (Err r)
+    stopped_offer r which kept_is broken fault = record {
+      table = subst (λ (b : Bool). AnswersOffer dig b (head_of old) bytes (Err r)) (sym whole) (answers r which);
+      steps = λ kept follows. record {
+        next = with_head kept head;
+        goes = inr (judges.0, by kept follows);
+        any_moment = any_moment kept follows;
+        told = told kept follows;
+        done = tt;
+        refused = ⊎_elim (λ e. inl e) (λ same. inr (
+          subst (λ (x : RootRecord). IsAtRest (view (disk_of new)) (KeepsHeads dig new.recorded.store x kept)) (sym kept_is.0)
+              (still_keeps view only_now dig old.recorded.store new.recorded.store old.recorded.root kept same new.recorded.clean follows),
+          read_leaves view only_now dig old.recorded.store new.recorded.store old.recorded.root kept same follows,
+        )) kept_is.1;
+      };
+      head = tt;
+      same = tt;
+      kept = kept_is.0;
+      unwritten = kept_is.1;
+      broken = (λ failed. inr (broken.0 failed), λ either. ⊎_elim (λ failed. absurd (not_both (has_failed old) whole failed)) broken.1 either);
+      fault = fault;
+      later = later;
+    }
+      where
+        answers : (q : FollowRefusal) → (q ≡ DiskFault) ⊎ (q ≡ NoMemory) → AnswersOffer dig false (head_of old) bytes (Err q)
+        answers q (inl e) = subst (λ (x : FollowRefusal). AnswersOffer dig false (head_of old) bytes (Err x)) (sym e) (head, judges)
+        answers q (inr e) = subst (λ (x : FollowRefusal). AnswersOffer dig false (head_of old) bytes (Err x)) (sym e) tt
+
+    pub moves_answer : (result : Result Thread FollowRefusal) → IfOk result (λ thread. (thread ≡ head) × (head_of new ≡ head)) → IfErr result (λ r. (r ≡ DiskFault) ⊎ (r ≡ NoMemory))
+        → IfOk result (λ _. (kept : Kept) → Follows dig view old kept → Follows dig view new (with_head kept head))
+        → IfErr result (λ r. (record_of new ≡ record_of old) × ((r ≡ DiskFault) ⊎ HasSameDisk view old new))
+        → (IsTrue (has_failed new) ↔ (result ≡ Err DiskFault)) → (result ≡ Err DiskFault → Rose (view (disk_of old)).faults (view (disk_of new)).faults) → Offers dig view bytes old new result
+    moves_answer (Ok thread) heads answers done kept_is broken fault = moved_offer thread heads done broken
+    moves_answer (Err r) heads answers done kept_is broken fault = stopped_offer r answers kept_is broken fault
+
+  -- ---- telling the heads
+
+  module _ (old new : Follower D H g k) (whole : has_failed old ≡ false) (same : IsSameStore view old.recorded.store new.recorded.store) (count : count_of new.recorded.store ≡ count_of old.recorded.store)
+      (record_is : record_of new ≡ record_of old) (later : (view (disk_of old)).faults ≤ (view (disk_of new)).faults) where
+    kept_on : (kept : Kept) → Follows dig view old kept → Follows dig view new kept × LeavesOnly (view (disk_of old)) (view (disk_of new)) (λ i. StandsFor dig i kept)
+    kept_on kept follows = (
+      subst (λ (x : RootRecord). IsAtRest (view (disk_of new)) (KeepsHeads dig new.recorded.store x kept)) (sym record_is)
+          (read_keeps view only_now dig old.recorded.store new.recorded.store old.recorded.root kept same count follows),
+      read_leaves view only_now dig old.recorded.store new.recorded.store old.recorded.root kept same follows,
+    )
+
+    pub told_heads : (heads : List Thread) → ((ps : Image) → pages_of view old ≡ Some ps → AnswersAs refusals (λ (hs : List Thread). hs) (Ok heads) (found_heads ps (record_of old))) → has_failed new ≡ has_failed old
+        → Tells dig view old new (Ok heads)
+    told_heads heads answer failed = record {
+      reopen = (λ e. absurd (never_ok (List Thread) heads Reopen e), λ is. absurd (not_both (has_failed old) whole is));
+      faults = tt;
+      answer = λ _. answer;
+      heads = λ kept follows.
+          same_found heads kept.heads (sym (answer (opening_of old.recorded.store follows.image).pages (told_list view only_now dig old.recorded.store old.recorded.root kept follows)) ∙ follows.has.keeps.found);
+      still = kept_on;
+      unwritten = same;
+      record_ = record_is;
+      broken = (λ is. inl (subst (λ (b : Bool). IsTrue b) failed is), λ either. ⊎_elim (λ is. subst (λ (b : Bool). IsTrue b) (sym failed) is) (λ e. absurd (never_ok (List Thread) heads DiskFault e)) either);
+      fault = λ e. absurd (never_ok (List Thread) heads DiskFault e);
+      later = later;
+    }
+
+    pub untold_heads : (r : FollowRefusal) → ((ps : Image) → pages_of view old ≡ Some ps → AnswersAs refusals (λ (hs : List Thread). hs) (Err r) (found_heads ps (record_of old))) → IsShared (refusals r)
+        → (IsTrue (has_failed new) ↔ (r ≡ DiskFault)) → (is_of_disk (refusals r) ≡ true → Rose (view (disk_of old)).faults (view (disk_of new)).faults) → Tells dig view old new (Err r)
+    untold_heads r answer shared broken rose = record {
+      reopen = (λ e. absurd (subst (λ (x : FollowRefusal). IsShared (refusals x)) (same_refusal (List Thread) r Reopen e) shared), λ is. absurd (not_both (has_failed old) whole is));
+      faults = inr (shared_fault r shared);
+      answer = λ _. answer;
+      heads = tt;
+      still = kept_on;
+      unwritten = same;
+      record_ = record_is;
+      broken = (λ is. inr (ap (λ (x : FollowRefusal). Err x) (broken.0 is)), λ either. ⊎_elim (λ is. absurd (not_both (has_failed old) whole is)) (λ e. broken.1 (same_refusal (List Thread) r DiskFault e)) either);
+      fault = λ e. rose (ap (λ (x : FollowRefusal). is_of_disk (refusals x)) (same_refusal (List Thread) r DiskFault e));
+      later = later;
+    }
+
+-- ---- the message of a history that has the head
+
+module _ (dig : List ℕ → List ℕ) (h : History) (head : Thread) (bytes : List ℕ) (name : h.name ≡ head.from) (has : HasHead dig h head) (makes : MakesMessage dig h head.step bytes) where
+  own : (offered : Offered) × (judged dig head makes.0 ≡ Ok offered) × (answer_to head offered ≡ thread_at_step dig h (length h.steps))
+  own = own-judged dig h head makes.0 name has makes.2
+
+  offered_in : Offered → Result Offered FollowRefusal → Offered
+  offered_in other (Ok offered) = offered
+  offered_in other (Err r) = other
+
+  same_offered : (one other : Offered) → ◌≡◌ {A = Result Offered FollowRefusal} (Ok one) (Ok other) → one ≡ other
+  unfolding offered_in
+  same_offered one other e = ap (λ (x : Result Offered FollowRefusal). offered_in one x) e
+
+  none_wanted : (offered : Offered) → ◌≡◌ {A = Result Offered FollowRefusal} (Ok offered) (Err NoMemory) → ⊥
+  none_wanted offered e = cc
+
+  -- what is answered to it is the history's last thread
+  pub own-answer : (offered : Offered) → Judges dig head bytes (Ok offered) → answer_to head offered ≡ thread_at_step dig h (length h.steps)
+  own-answer offered j =
+      let same = same_offered offered own.0 (judges-once dig head bytes (Ok offered) (Ok own.0) j (judges-table dig head bytes (Ok own.0) makes.0 makes.1 own.1) (none_wanted offered) (none_wanted own.0)) in
+      ap (answer_to head) same ∙ own.2
+
+  -- it is refused for want of memory alone
+  pub own-refused : (r : FollowRefusal) → Judges dig head bytes (Err r) → r ≡ NoMemory
+  own-refused r j = by (sort_of dig head bytes (Err r) j)
+    where
+      by : (◌≡◌ {A = Result Offered FollowRefusal} (Err r) (Err NoMemory)) ⊎ IsJudged dig head bytes (Err r) → r ≡ NoMemory
+      by (inl e) = same_refusal Offered r NoMemory e
+      by (inr (inl a)) = absurd (a.2 makes.0 makes.1)
+      by (inr (inr b)) = absurd (let never : ◌≡◌ {A = Result Offered FollowRefusal} (Ok own.0) (Err r) = sym own.1 ∙ ap (judged dig head) (one-message bytes makes.0 b.0 makes.1 b.1) ∙ b.2 in never_ok Offered own.0 r never)
+
+  pub own-told : (thread : Thread) → thread ≡ thread_at_step dig h (length h.steps) → (thread.step ≡ length h.steps) × (thread.auth ≡ auth dig h (length h.steps))
+  own-told thread e = (ap (λ (t : Thread). t.step) e, ap (λ (t : Thread). t.auth) e)
+
+  -- whatever a follower answers to it by its table
+  pub own-by : (is_broken : Bool) (result : Result Thread FollowRefusal) → AnswersOffer dig is_broken head bytes result
+      → MatchResult result (λ thread. (thread.step ≡ length h.steps) × (thread.auth ≡ auth dig h (length h.steps))) (λ r. (r ≡ Reopen) ⊎ (r ≡ DiskFault) ⊎ (r ≡ NoMemory))
+  own-by true (Ok thread) is = absurd (never_ok Thread thread Reopen is)
+  own-by true (Err r) is = inl (same_refusal Thread r Reopen is)
+  own-by false (Ok thread) (offered, judges, is) = own-told thread (is ∙ own-answer offered judges)
+  own-by false (Err DiskFault) t = inr (inl refl)
+  own-by false (Err r) t = inr (inr (own-refused r t))

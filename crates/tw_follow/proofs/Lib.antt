@@ -1,0 +1,13 @@
+pub mod Spelling
+pub mod Pages
+pub mod Walks
+pub mod Lists
+pub mod Growing
+pub mod Offering
+pub mod Running
+pub mod Counted
+pub mod Opened
+pub mod Beginning
+pub mod Following
+pub mod Standing
+pub mod Answering

@@ -1,0 +1,9 @@
+pub mod Refusals
+pub mod Roots
+pub mod HeadPages
+pub mod HeadLists
+pub mod Offers
+pub mod Runs
+pub mod Stands
+pub mod Follows
+pub mod Calls

@@ -1,0 +1,78 @@
+// Judging what is offered.
+
+ghost use Rattle.std.specs.Prelude.{◌≡◌};
+ghost use Rattle.tw_msg.specs.Messages.{IsLinked};
+ghost use Rattle.tw_follow.specs.Offers.{judged, leads as leads_from};
+
+use crate::refusal::FollowRefusal;
+use tw_base::{Hasher, Thread};
+use tw_msg::Message;
+use tw_skipproof::climb;
+
+/// What becomes of a message that isn't refused.
+#[derive(Clone, Copy, Debug, PartialEq, Eq, Drop)]
+pub enum Offered {
+    /// It is the head.
+    Known,
+    /// It is a later head.
+    Moves { head: Thread },
+}
+
+/// Whether the message's link leads down to the head's step, and climbs from the head's authenticator to the
+/// message's.
+fn leads<H: Hasher>(head: &Thread, message: &Message) -> bool
+    requires { IsLinked message.now }
+    ensures { result ≡ leads_from H.dig head.now message.now }
+{
+    if message.since != head.step {
+        return false;
+    }
+    match climb::<H>(
+        &message.link,
+        message.thread.step,
+        message.since,
+        &head.auth,
+    ) {
+        Some(reached) => reached == message.thread.auth,
+        None => false,
+    }
+}
+
+/// What becomes of a message over a head. The first line that fits decides:
+///
+/// - it is of another service: `Other`;
+/// - its step is below the head's: `Stale`;
+/// - it is of the head's step, with the head's authenticator: `Known`;
+/// - it is of the head's step, with another one: `Forked`;
+/// - its link doesn't lead down to the head's step, or doesn't climb from the head's authenticator: `BadLink`;
+/// - otherwise `Moves`.
+#[tactic(auto, unfolding(crate::specs::Offers::judged))]
+pub(crate) fn judge<H: Hasher>(head: &Thread, message: &Message) -> Result<Offered, FollowRefusal>
+    requires { IsLinked message.now }
+    ensures { result ≡ judged H.dig head.now message.now }
+{
+    let thread = &message.thread;
+    if thread.from != head.from {
+        return Err(FollowRefusal::Other { name: thread.from });
+    }
+    if thread.step < head.step {
+        return Err(FollowRefusal::Stale { last: head.step });
+    }
+    if thread.step == head.step {
+        if thread.auth == head.auth {
+            return Ok(Offered::Known);
+        }
+        return Err(FollowRefusal::Forked {
+            step: head.step,
+            kept: head.auth,
+            offered: thread.auth,
+        });
+    }
+    if leads::<H>(head, message) {
+        return Ok(Offered::Moves { head: *thread });
+    }
+    Err(FollowRefusal::BadLink {
+        last: head.step,
+        kept: head.auth,
+    })
+}

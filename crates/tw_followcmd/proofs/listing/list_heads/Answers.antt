@@ -1,0 +1,30 @@
+use Rattle.std.proofs.Common.{subst, sym}
+use Rattle.std.specs.Prelude.{Err}
+use Rattle.tw_follow.specs.Follows.{disk_of}
+use Rattle.tw_text.specs.declared.fault.CommandFault.{CommandFault}
+use Rattle.tw_followcmd.specs.Listing.{HeadsComes}
+use Rattle.tw_followcmd.proofs.AtRest.{left_on}
+use Rattle.tw_followcmd.proofs.Landings.{leaves_of_heads}
+use Rattle.tw_followcmd.proofs.Listed.{unserved}
+use Rattle.tw_followcmd.proofs.listing.list_heads.Goals as goal
+
+pub returns-in-Ok-clause-comes : goal.returns-in-Ok-clause-comes
+returns-in-Ok-clause-comes g c =
+    c.list_by.ensures.comes (g.D.Disk.view c.args.disk).content (g.D.Disk.view c.args.disk).faults
+    c.in-Ok.ensures.opened (λ k reads. c.in-Ok.ensures.follows reads.image k reads.told reads.stands) c.in-Ok.ensures.later
+
+pub returns-in-Ok-clause-leaves : goal.returns-in-Ok-clause-leaves
+returns-in-Ok-clause-leaves g c =
+    let d = g.D.Disk in
+    leaves_of_heads d.view c.args.disk c.list_by.result.disk c.list_by.result.outcome
+    (left_on d.view c.args.disk (disk_of c.in-Ok.follower) c.list_by.result.disk (c.in-Ok.ensures.unchanged, c.in-Ok.ensures.any_moment) c.list_by.ensures.leaves)
+    (λ k reads. c.list_by.ensures.rests k (c.in-Ok.ensures.follows reads.image k reads.told reads.stands))
+
+pub returns-in-Err-clause-comes : goal.returns-in-Err-clause-comes
+returns-in-Err-clause-comes g c =
+    let d = g.D.Disk in
+    subst (λ (f : CommandFault). HeadsComes (d.view c.args.disk).content (d.view c.args.disk).faults (d.view c.in-Err.disk).faults (Err f)) (sym c.fault_of_store.ensures)
+    (unserved (d.view c.args.disk).content (d.view c.args.disk).faults (d.view c.in-Err.disk).faults c.in-Err.fault c.in-Err.ensures.refused c.in-Err.ensures.answers c.in-Err.ensures.fault)
+
+pub returns-in-Err-clause-leaves : goal.returns-in-Err-clause-leaves
+returns-in-Err-clause-leaves g c = (c.in-Err.ensures.unchanged, c.in-Err.ensures.any_moment_err)

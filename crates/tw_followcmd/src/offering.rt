@@ -1,0 +1,112 @@
+// The command that offers a message.
+
+ghost use Rattle.std.specs.Prelude.{◌≡◌, ◌≤◌, ℕ, List, Option, Some, IfErr, IfOk, false};
+ghost use Rattle.sha2.specs.Sha256.{sha256};
+ghost use Rattle.tw_base.specs.format.Formats.{Spells};
+ghost use Rattle.tw_base.specs.history.Limits.{IsThread};
+ghost use Rattle.tw_disk.specs.Image.{Image};
+ghost use Rattle.tw_follow.specs.Follows.{Follows, disk_of, has_failed, pages_of, record_of};
+ghost use Rattle.tw_follow.specs.HeadLists.{Kept};
+ghost use Rattle.tw_follow.specs.Stands.{OpensWith};
+ghost use Rattle.tw_msg.specs.Messages.{IsLinked, message_layout};
+ghost use Rattle.tw_outside.specs.Asked.{asked};
+ghost use Rattle.tw_followcmd.specs.Disks.{IsLeft, ReadsAs};
+ghost use Rattle.tw_followcmd.specs.Offering.{IsMessageIn, MessageComes, OfferComes, OfferLeaves};
+ghost use Rattle.tw_followcmd.specs.OfferSteps.{ComesOfFile, LeavesOffered, WritesNothing};
+
+use crate::faults::{bad_byte, fault_of_follower, fault_of_store};
+use crate::worked::Worked;
+use std::alloc::Global;
+use tw_base::{ReadFault, Sha, Thread};
+use tw_disk::Disk;
+use tw_filecmd::limits::FILE_READ;
+use tw_follow::Follower;
+use tw_msg::{Message, message_laws, read_message};
+use tw_outside::{Inputs, read_all};
+use tw_text::CommandFault;
+
+/// Offers the message of the named file to the follower on the disk, and answers its head then, which is
+/// the message's thread. The file is read and judged before the disk is touched.
+pub fn offer<D: Disk, I: Inputs>(
+    alloc: Global,
+    disk: D,
+    inputs: &mut I,
+    file: &str,
+) -> Worked<D, Thread>
+    requires { I.may_ask inputs.old file.now }
+    // What `offer` comes to is what its file, the disk and the counts of faults allow: the head, or a fault with its
+    // cause.
+    ensures comes { OfferComes (asked (I.told inputs.old) (I.faults inputs.old) (I.faults inputs.new))
+        (D.view disk).content (D.view disk).faults (D.view result.disk).faults file.now result.outcome }
+    // It leaves the disk as is right for what it came to.
+    ensures leaves { OfferLeaves D.view disk result.disk (I.told inputs.old) file.now result.outcome }
+{
+    message_laws();
+    match read_offer(alloc, inputs, file) {
+        Ok(message) => offer_message(alloc, disk, &message),
+        Err(fault) => Worked {
+            outcome: Err(fault),
+            disk,
+        },
+    }
+}
+
+/// The message of the named file, or what comes of a file that isn't read or is none.
+fn read_offer<I: Inputs>(alloc: Global, inputs: &mut I, file: &str) -> Result<Message, CommandFault>
+    requires { I.may_ask inputs.old file.now }
+    ensures read { IfOk result (IsMessageIn (I.told inputs.old) file.now) }
+    ensures stopped { IfErr result (ComesOfFile (asked (I.told inputs.old) (I.faults inputs.old) (I.faults inputs.new)) file.now) }
+{
+    let bytes = read_all(alloc, inputs, file, FILE_READ)?;
+    match read_message(alloc, bytes.as_slice()) {
+        Ok(message) => Ok(message),
+        Err(ReadFault::Malformed { place }) => Err(bad_byte(alloc, file, place)?),
+        Err(ReadFault::NoMemory) => Err(CommandFault::NoMemory),
+    }
+}
+
+/// Offers the message to the follower on the disk.
+fn offer_message<D: Disk>(alloc: Global, disk: D, message: &Message) -> Worked<D, Thread>
+    requires linked { IsLinked message.now }
+    requires thread { IsThread message.now.thread }
+    ensures comes { (bytes : List ℕ) → Spells message_layout bytes message.now
+        → MessageComes (D.view disk).content (D.view disk).faults (D.view result.disk).faults message.now result.outcome }
+    ensures leaves { (bytes : List ℕ) → Spells message_layout bytes message.now → (k : Kept) → ReadsAs (D.view disk).content k
+        → LeavesOffered D.view disk result.disk message.now k result.outcome }
+    ensures unwritten { (bytes : List ℕ) → Spells message_layout bytes message.now → WritesNothing result.outcome → IsLeft D.view disk result.disk }
+{
+    match Follower::<D, Sha>::open(alloc, disk) {
+        Ok(follower) => offer_to(follower, message),
+        Err((disk, fault)) => Worked {
+            outcome: Err(fault_of_store(fault)),
+            disk,
+        },
+    }
+}
+
+/// Offers the message to the follower, and gives its disk back.
+fn offer_to<D: Disk>(follower: Follower<D, Sha>, message: &Message) -> Worked<D, Thread>
+    requires whole { has_failed follower ≡ false }
+    requires linked { IsLinked message.now }
+    requires thread { IsThread message.now.thread }
+    ensures comes { (bytes : List ℕ) → Spells message_layout bytes message.now → (found : Option Image) (before : ℕ)
+        → ((image : Image) → found ≡ Some image → OpensWith sha256 image (record_of follower) (λ ps. pages_of D.view follower ≡ Some ps))
+        → ((k : Kept) → ReadsAs found k → Follows sha256 D.view follower k) → before ≤ (D.view (disk_of follower)).faults
+        → MessageComes found before (D.view result.disk).faults message.now result.outcome }
+    ensures leaves { (bytes : List ℕ) → Spells message_layout bytes message.now → (k : Kept) → Follows sha256 D.view follower k
+        → LeavesOffered D.view (disk_of follower) result.disk message.now k result.outcome }
+    ensures unwritten { (bytes : List ℕ) → Spells message_layout bytes message.now → WritesNothing result.outcome
+        → IsLeft D.view (disk_of follower) result.disk }
+{
+    let mut follower = follower;
+    match follower.take(message) {
+        Ok(head) => Worked {
+            outcome: Ok(head),
+            disk: follower.close(),
+        },
+        Err(refusal) => Worked {
+            outcome: Err(fault_of_follower(refusal)),
+            disk: follower.close(),
+        },
+    }
+}
