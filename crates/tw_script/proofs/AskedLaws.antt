@@ -4,13 +4,13 @@ use Rattle.std.specs.Option.{option_and_then, option_map_or}
 use Rattle.std.specs.Result.{result_ok}
 use Rattle.std.specs.Str.{bytes_eq}
 use Rattle.tw_base.specs.declared.kinds.limits.TheConstants.{LAST_STEP}
-use Rattle.tw_words.specs.CommandLine.{prove_absent, prove_event, prove_link, prove_thread, proofs as proofs_of_commands}
-use Rattle.tw_words.specs.Forms.{Form as CommandForm, Reading, choose as choose_command, go_on, maybe as maybe_command, maybe_number as maybe_of_command, name_value, next as next_command, nothing as nothing_more, number_value, then_form as then_command}
+use Rattle.tw_words.specs.CommandLine.{prove_absent, prove_event, prove_link, prove_thread}
+use Rattle.tw_words.specs.Forms.{Form as CommandForm, go_on, maybe as maybe_command, maybe_number as maybe_of_command, name_value, next as next_command, nothing as nothing_more, number_value, then_form as then_command}
 use Rattle.tw_words.specs.declared.command.Command.{Command}
 use Rattle.tw_words.specs.declared.command.Command.TheVariants.{ProveEvent, ProveThread, ProveAbsent, ProveLink}
 use Rattle.tw_script.specs.AskedWords.{AskAlike, asked_of}
-use Rattle.tw_script.specs.LineForms.{Form, choose, any_number_value, maybe, maybe_number, next, nothing, then_form}
-use Rattle.tw_script.specs.LineTable.{asked_proof, of_absence, of_event, of_link, of_thread, proofs}
+use Rattle.tw_script.specs.LineForms.{Form, any_number_value, maybe, maybe_number, next, nothing, then_form}
+use Rattle.tw_script.specs.LineTable.{asked_proof, of_absence, of_event, of_link, of_thread}
 use Rattle.tw_script.specs.declared.line.AskedProof.{AskedProof}
 use Rattle.tw_script.specs.declared.line.AskedProof.TheVariants.{OfEvent, OfThread, OfAbsence, OfLink}
 

@@ -1,5 +1,5 @@
 -- A bad line that is told is the first one.
-use Rattle.std.proofs.Common.{◌≡◌, ℕ, zero, suc, ◌+◌, List, [], ◌∷◌, ◌++◌, length, take, Bool, true, false, nat_lt, Option, Some, None, Result, Ok, Err, if◌then◌else◌, ap, subst, sym, ◌∙◌, refl, arith}
+use Rattle.std.proofs.Common.{◌≡◌, ℕ, suc, ◌+◌, List, [], ◌∷◌, ◌++◌, length, take, Bool, true, false, nat_lt, Option, Some, None, Result, Ok, Err, if◌then◌else◌, ap, sym, ◌∙◌, refl, arith}
 use Rattle.tw_script.specs.Allowed.{made_by, nothing_made}
 use Rattle.tw_script.specs.ScriptLines.{IsBadLine, IsFirstBad}
 use Rattle.tw_script.specs.Scripts.{allowed_line, in_front, is_skipped, line_number_at, line_texts, read_lines, script_of, told}
@@ -7,7 +7,6 @@ use Rattle.tw_script.specs.declared.limits.TheConstants.{MOST_SCRIPT_BYTES}
 use Rattle.tw_script.specs.declared.line.Line.{Line}
 use Rattle.tw_script.specs.declared.made.Made.{Made}
 use Rattle.tw_script.specs.declared.script.NumberedLine.{NumberedLine}
-use Rattle.tw_script.specs.declared.script.ScriptFault.{ScriptFault}
 use Rattle.tw_script.specs.declared.script.ScriptFault.TheVariants.{BadLine, TooLong}
 use Rattle.tw_script.proofs.ReadingSteps.{numbered, read-line, read-none, read-skipped, read-stops}
 

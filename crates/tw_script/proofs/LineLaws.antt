@@ -1,17 +1,16 @@
 -- The lines that are read are those of the texts, with their numbers.
-use Rattle.std.proofs.Common.{◌≡◌, ℕ, zero, suc, ◌+◌, ◌≤◌, List, [], ◌∷◌, length, slice_get, Bool, true, false, nat_lt, Option, Some, None, Result, Ok, Err, if◌then◌else◌, ap, subst, sym, ◌∙◌, refl, inl, inr, arith}
+use Rattle.std.proofs.Common.{◌≡◌, ℕ, zero, suc, ◌+◌, List, [], ◌∷◌, length, slice_get, Bool, true, false, nat_lt, Option, Some, None, Result, Ok, Err, if◌then◌else◌, ap, subst, sym, ◌∙◌, refl, inl, inr, arith}
 use Rattle.std.specs.Option.{option_and_then}
 use Rattle.tw_base.specs.kinds.Lists.{Each, In}
 use Rattle.tw_script.specs.Allowed.{made_by, may_follow, nothing_made}
 use Rattle.tw_script.specs.LineTable.{line_of}
-use Rattle.tw_script.specs.ScriptLines.{AreAllowed, AreLines, IsLineOf, IsScript, RiseFrom}
+use Rattle.tw_script.specs.ScriptLines.{AreLines, IsLineOf, IsScript, RiseFrom}
 use Rattle.tw_script.specs.Scripts.{allowed_line, in_front, is_skipped, line_number_at, line_texts, read_lines, script_of, told}
 use Rattle.tw_script.specs.declared.limits.TheConstants.{MOST_SCRIPT_BYTES}
 use Rattle.tw_script.specs.declared.line.Line.{Line}
 use Rattle.tw_script.specs.declared.made.Made.{Made}
 use Rattle.tw_script.specs.declared.script.NumberedLine.{NumberedLine}
-use Rattle.tw_script.specs.declared.script.ScriptFault.{ScriptFault}
-use Rattle.tw_script.specs.declared.script.ScriptFault.TheVariants.{BadLine, TooLong}
+use Rattle.tw_script.specs.declared.script.ScriptFault.TheVariants.{TooLong}
 use Rattle.tw_script.proofs.ReadingSteps.{numbered, read-line, read-none, read-skipped, read-stops}
 
 -- a text's line is its form's, and may follow

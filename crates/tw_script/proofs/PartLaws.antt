@@ -1,6 +1,6 @@
 -- The parts of a text, one after another.
-use Rattle.std.proofs.Common.{◌≡◌, ℕ, suc, ◌+◌, ◌-◌, ◌≤◌, List, [], ◌∷◌, length, take, drop, position, Bool, true, false, not, cond, Option, Some, None, nat_lt, ap, subst, sym, ◌∙◌, refl, inl, inr, arith, le-leb, leb-true}
-use Rattle.std.specs.List.{count_by, position_or_len, slice_split}
+use Rattle.std.proofs.Common.{◌≡◌, ℕ, suc, ◌+◌, ◌-◌, ◌≤◌, List, [], ◌∷◌, length, take, drop, position, Bool, true, false, cond, Some, None, nat_lt, ap, subst, sym, ◌∙◌, refl, inl, inr, arith, le-leb, leb-true}
+use Rattle.std.specs.List.{position_or_len, slice_split}
 use Rattle.std.proofs.lemmas.Bool.{cases_lt}
 use Rattle.std.proofs.Math.Seq.{take-length}
 use Rattle.std.proofs.lemmas.List.{length-drop}

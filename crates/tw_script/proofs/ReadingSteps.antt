@@ -1,7 +1,7 @@
 -- Texts are read one after another.
-use Rattle.std.proofs.Common.{◌≡◌, ℕ, suc, ◌+◌, ◌≤◌, List, [], ◌∷◌, ◌++◌, length, Bool, true, false, Option, Some, None, Result, Ok, Err, ap, subst, sym, ◌∙◌, refl, arith, append-nil, append_assoc}
+use Rattle.std.proofs.Common.{◌≡◌, ℕ, suc, ◌+◌, ◌≤◌, List, [], ◌∷◌, ◌++◌, length, Bool, true, false, Some, None, Result, Ok, Err, ap, subst, sym, ◌∙◌, refl, arith, append-nil, append_assoc}
 use Rattle.tw_msg.specs.AnchorsFile.{is_line_feed}
-use Rattle.tw_script.specs.Allowed.{made_by, nothing_made, with_file, with_message, with_name, without_message}
+use Rattle.tw_script.specs.Allowed.{made_by, nothing_made}
 use Rattle.tw_script.specs.LineTakings.{TakesText}
 use Rattle.tw_script.specs.ScriptSteps.{ReadsLines, ahead, fault_at}
 use Rattle.tw_script.specs.Takings.{parts_left}

@@ -1,5 +1,5 @@
 -- Words are taken as values, one after another.
-use Rattle.std.proofs.Common.{◌≡◌, ℕ, List, [], ◌∷◌, ◌++◌, Option, Some, None, option_map, Ok, Err, ap, sym, ◌∙◌, refl, append-nil, append_assoc}
+use Rattle.std.proofs.Common.{◌≡◌, ℕ, List, [], ◌∷◌, ◌++◌, Option, Some, None, option_map, Err, ap, sym, ◌∙◌, refl, append-nil, append_assoc}
 use Rattle.tw_script.specs.LineForms.{all_values}
 use Rattle.tw_script.specs.Takings.{Reads}
 use Rattle.tw_script.specs.declared.stop.Stop.{Stop}

@@ -1,5 +1,5 @@
 -- What the code's walk over the words of a line answers, by the forms.
-use Rattle.std.specs.Prelude.{◌≡◌, ℕ, List, [], ◌∷◌, Bool, true, false, Option, Some, None, Result, Ok, Err}
+use Rattle.std.specs.Prelude.{◌≡◌, ℕ, List, [], Bool, true, false, Option, Some, None, Result, Ok, Err}
 use Rattle.std.specs.List.{slice_split}
 use Rattle.tw_msg.specs.AnchorsFile.{is_blank}
 use Rattle.tw_script.specs.LineForms.{next}

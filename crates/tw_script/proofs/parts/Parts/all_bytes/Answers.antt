@@ -1,4 +1,4 @@
-use Rattle.std.proofs.Common.{◌≡◌, ◌∷◌, ℕ, List, subst}
+use Rattle.std.proofs.Common.{◌∷◌, ℕ, List, subst}
 use Rattle.std.proofs.lemmas.Result.{err_from_is_err_and}
 use Rattle.tw_script.specs.LineWords.{bytes_value}
 use Rattle.tw_script.specs.Takings.{words_left}

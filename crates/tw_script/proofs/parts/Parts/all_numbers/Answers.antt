@@ -1,4 +1,4 @@
-use Rattle.std.proofs.Common.{◌≡◌, ◌∷◌, ℕ, List, subst, sym}
+use Rattle.std.proofs.Common.{◌∷◌, ℕ, List, subst, sym}
 use Rattle.tw_script.specs.LineForms.{any_number_value}
 use Rattle.tw_script.specs.Takings.{words_left}
 use Rattle.tw_script.proofs.ValueLaws.{AreTaken, all-taken, more-taken, taken-stops}

@@ -1,0 +1,3 @@
+mod AnsweredCalls
+mod Threads
+mod Wavering

@@ -1,0 +1,286 @@
+-- What a service publishes is of its history.
+use Rattle.std.proofs.Common.{◌≡◌, ◌⊎◌, ℕ, suc, zero, ◌-◌, ◌<◌, ◌≤◌, List, [], ◌∷◌, length, refl, ap, sym, ◌∙◌, subst, arith, inl, inr, ⊎_elim, Bool, true, false}
+use Rattle.std.specs.Option.{option_map_or}
+use Rattle.std.specs.Prelude.{◌&&◌, if◌then◌else◌, nat_le, MatchOption, Option, Some, None}
+use Rattle.std.proofs.lemmas.Bool.{leb-true}
+use Rattle.std.proofs.lemmas.List.{length_push}
+use Rattle.std.proofs.lemmas.Option.{slice_get_cases}
+use Rattle.tw_base.specs.declared.history.thread.Key.{Key}
+use Rattle.tw_base.specs.declared.history.thread.Thread.{Thread}
+use Rattle.tw_base.specs.format.Formats.{Spells}
+use Rattle.tw_base.specs.history.Auth.{auth}
+use Rattle.tw_base.specs.history.Tree.{tree}
+use Rattle.tw_treeproof.specs.Making.{proof_of}
+use Rattle.tw_base.specs.history.History.{History, Step, plus, step_at, thread_of}
+use Rattle.tw_base.specs.kinds.Lists.{In}
+use Rattle.tw_base.proofs.lemmas.format.CodecLaws.{unambiguous}
+use Rattle.tw_base.proofs.lemmas.history.Plus.{auth-plus}
+use Rattle.tw_chain.specs.declared.proof.Proof.{Proof}
+use Rattle.tw_chain.specs.declared.proof.Proof.TheVariants.{Exists, Archived, Absent, Linked}
+use Rattle.tw_chain.specs.Proofs.{proof_codec, proof_layout}
+use Rattle.tw_chain.proofs.ProofCodec.{from_existence, proof-lawful}
+use Rattle.tw_skipproof.specs.declared.existence.Part.{Part}
+use Rattle.tw_skipproof.specs.declared.path.Path.{Path}
+use Rattle.tw_skipproof.specs.HistoryProofs.{IsPartOf, IsPathOf, MakesExistence}
+use Rattle.tw_answers.specs.declared.refusal.Refusal.{Refusal}
+use Rattle.tw_answers.specs.declared.refusal.Refusal.TheVariants.{NoStep}
+use Rattle.tw_answers.specs.Limits.{absence_refusal, is_in_order, link_refusal, or_else, order_refusal, proof_refusal, thread_proof_refusal, thread_refusal, top_refusal}
+use Rattle.tw_msg.specs.declared.message.Message.{Message}
+use Rattle.tw_msg.specs.HistoryMessages.{thread_at_step}
+use Rattle.tw_service.specs.Mapping.{MakesHigh, MakesLow}
+use Rattle.tw_tmap.specs.declared.map_file.HighFile.{HighFile}
+use Rattle.tw_tmap.specs.declared.map_file.LowFile.{LowFile}
+use Rattle.tw_tmap.specs.declared.map_file.LowPart.{LowPart}
+use Rattle.tw_tmap.specs.Checking.{low_ask, low_part}
+use Rattle.tw_tmap.specs.MapFiles.{high_codec, low_codec}
+use Rattle.tw_tmap.proofs.MapCodec.{high-lawful, low-lawful}
+use Rattle.tw_service.specs.Machine.{Call, IsStepOf, MakesAbsence, MakesLink, MakesThread, NextOf, Reply, append_table, last_thread}
+use Rattle.tw_service.specs.Machine.Call.{Append, Receive, TellThread, ProveEvent, ProveThread, ProveAbsent, ProveLink, ProveLow, ProveHigh, CountSteps, TellHead, TellName}
+use Rattle.tw_service.specs.Machine.Reply.{OfThread, OfReceipt, OfPath, OfProof, OfFile, Refused}
+use Rattle.tw_service.proofs.ReceivingLaws.{own-receipt}
+use Rattle.tw_runs.specs.Published.{IsReplyTo, IsThreadOf, Publishes, PublishesBy, high_threads, low_threads, own_threads, thread_before}
+
+-- ---- tables that don't refuse
+
+none_first : (o q : Option Refusal) → or_else o q ≡ None → o ≡ None
+none_first None q none = refl
+none_first (Some r) q none = none
+
+passes : (b : Bool) (r : Refusal) → (if b then None else Some r) ≡ None → b ≡ true
+passes true r none = refl
+passes false r none = absurd cc
+
+both : (a b : Bool) → (a && b) ≡ true → (a ≡ true) × (b ≡ true)
+both true b is = (refl, is)
+both false b is = absurd cc
+
+order_within : (last step top : ℕ) → order_refusal false last step top ≡ None → step ≤ last
+unfolding order_refusal
+order_within last step top none =
+    let outer = both (nat_le 1 step && nat_le step top) (nat_le top last) (passes (is_in_order last step top) (NoStep last) none) in
+    let inner = both (nat_le 1 step) (nat_le step top) outer.0 in
+    omega (arith, leb-true step top inner.1, leb-true top last outer.1)
+
+link_within : (last step top : ℕ) → link_refusal false last step top ≡ None → step ≤ last
+unfolding link_refusal
+link_within last step top none =
+    let outer = both (nat_le step top) (nat_le 1 top && nat_le top last) (passes (nat_le step top && (nat_le 1 top && nat_le top last)) (NoStep last) none) in
+    let inner = both (nat_le 1 top) (nat_le top last) outer.1 in
+    omega (arith, leb-true step top outer.0, leb-true top last inner.1)
+
+top_within : (last top : ℕ) → top_refusal false last top ≡ None → top ≤ last
+unfolding top_refusal
+top_within last top none = leb-true top last (both (nat_le 1 top) (nat_le top last) (passes (nat_le 1 top && nat_le top last) (NoStep last) none)).1
+
+module _ (dig : List ℕ → List ℕ) where
+  -- ---- threads of a history
+
+  pub last_own : (h : History) → IsThreadOf dig h (last_thread dig h)
+  last_own h = record { from = refl; within = omega arith; auth = refl }
+
+  -- one more step keeps them
+  pub own_plus : (h : History) (s : Step) (t : Thread) → IsThreadOf dig h t → IsThreadOf dig (plus h s) t
+  own_plus h s t own =
+      record { from = own.from; within = omega (arith, own.within, length_push h.steps s); auth = own.auth ∙ sym (auth-plus h s dig t.step own.within) }
+
+  -- two of one step are one
+  pub own_once : (h : History) (t u : Thread) → IsThreadOf dig h t → IsThreadOf dig h u → t.step ≡ u.step → t ≡ u
+  own_once h t u one other same =
+      let from : t.from ≡ u.from = one.from ∙ sym other.from in
+      let auths : t.auth ≡ u.auth = one.auth ∙ ap (λ (i : ℕ). auth dig h i) same ∙ sym other.auth in
+      λ j. record { from = from j; step = same j; auth = auths j }
+
+  -- ---- proofs
+
+  before_own : (h : History) (step top : ℕ) (p : Part) → IsPartOf dig h step top p → step ≤ length h.steps → IsThreadOf dig h (thread_before p)
+  before_own h step top p part within = record {
+    from = part.service;
+    within = omega (arith, part.at_step, within);
+    auth = sym part.opening.binds.prev ∙ ap (λ (i : ℕ). auth dig h (i - 1)) (sym part.at_step);
+  }
+
+  -- the only thread of a proof that bytes spell
+  only_thread : (bytes : List ℕ) (p q : Proof) (t u : Thread) → Spells proof_layout bytes p → Spells proof_layout bytes q → In t (own_threads p) → own_threads q ≡ u ∷ [] → t ≡ u
+  only_thread bytes p q t u spelled made there is =
+      let same : p ≡ q = (unambiguous proof_codec proof-lawful).one_value bytes p q spelled made in
+      let in_one : In t (u ∷ []) = subst (λ (us : List Thread). In t us) (ap (λ (x : Proof). own_threads x) same ∙ is) there in
+      ⊎_elim (λ e. e) (λ no. absurd no) in_one
+
+  event_own : (h : History) (step index top : ℕ) (bytes : List ℕ) → proof_refusal false h step index top ≡ None → MakesExistence dig h step index top bytes
+      → (t : Thread) → Publishes (OfProof bytes) t → IsThreadOf dig h t
+  event_own h step index top bytes none makes t told =
+      let order = order_within (length h.steps) step top (none_first (order_refusal false (length h.steps) step top) _ none) in
+      let is = only_thread bytes told.0 (Exists makes.0) t (thread_before makes.0.at) told.1 (from_existence bytes makes.0 makes.1) told.2 refl in
+      subst (λ (u : Thread). IsThreadOf dig h u) (sym is) (before_own h step top makes.0.at makes.2.at order)
+
+  link_own : (h : History) (step top : ℕ) (bytes : List ℕ) → link_refusal false (length h.steps) step top ≡ None → MakesLink dig h step top bytes
+      → (t : Thread) → Publishes (OfProof bytes) t → IsThreadOf dig h t
+  link_own h step top bytes none makes t told =
+      let p = makes.0 in
+      let order = link_within (length h.steps) step top none in
+      let own : IsThreadOf dig h (record { from = p.service; step = p.step; auth = p.auth }) = record {
+        from = makes.2.service;
+        within = omega (arith, makes.2.at_step, order);
+        auth = makes.2.given ∙ ap (λ (i : ℕ). auth dig h i) (sym makes.2.at_step);
+      } in
+      let is = only_thread bytes told.0 (Linked p) t (record { from = p.service; step = p.step; auth = p.auth }) told.1 makes.1 told.2 refl in
+      subst (λ (u : Thread). IsThreadOf dig h u) (sym is) own
+
+  thread_own : (h : History) (step : ℕ) (key : Key) (top : ℕ) (bytes : List ℕ) → thread_proof_refusal false h step key top ≡ None → MakesThread dig h step key top bytes
+      → (t : Thread) → Publishes (OfProof bytes) t → IsThreadOf dig h t
+  thread_own h step key top bytes none makes t told =
+      let order = order_within (length h.steps) step top (none_first (order_refusal false (length h.steps) step top) _ none) in
+      let is = only_thread bytes told.0 (Archived makes.0) t (thread_before makes.0.at) told.1 makes.1 told.2 refl in
+      subst (λ (u : Thread). IsThreadOf dig h u) (sym is) (before_own h step top makes.0.at makes.2.at order)
+
+  absence_own : (h : History) (step : ℕ) (key : Key) (top : ℕ) (bytes : List ℕ) → absence_refusal false h step key top ≡ None → MakesAbsence dig h step key top bytes
+      → (t : Thread) → Publishes (OfProof bytes) t → IsThreadOf dig h t
+  absence_own h step key top bytes none makes t told =
+      let order = order_within (length h.steps) step top (none_first (order_refusal false (length h.steps) step top) _ none) in
+      let is = only_thread bytes told.0 (Absent makes.0) t (thread_before makes.0.at) told.1 makes.1 told.2 refl in
+      subst (λ (u : Thread). IsThreadOf dig h u) (sym is) (before_own h step top makes.0.at makes.2.at order)
+
+  -- ---- map files
+
+  shown_own : (h : History) (step top : ℕ) (f : LowFile) (t : Thread) → step ≤ length h.steps → (o : Option LowPart)
+      → MatchOption o (step ≡ 1) (λ p. (1 < step) × IsPartOf dig h (step - 1) top (low_part f p) × (p.shown ≡ proof_of dig (tree h (step - 1)) (low_ask f)))
+      → In t (option_map_or (λ p. thread_before (low_part f p) ∷ []) o []) → IsThreadOf dig h t
+  shown_own h step top f t within None is there = absurd there
+  shown_own h step top f t within (Some p) is there =
+      let one = ⊎_elim (λ e. e) (λ no_other. absurd no_other) there in
+      subst (λ (u : Thread). IsThreadOf dig h u) (sym one) (before_own h (step - 1) top (low_part f p) is.1 (omega (arith, within)))
+
+  low_own : (h : History) (step : ℕ) (peer : List ℕ) (top : ℕ) (bytes : List ℕ) → order_refusal false (length h.steps) step top ≡ None → MakesLow dig h step peer top bytes
+      → (t : Thread) → PublishesBy (ProveLow step peer top) (OfFile bytes) t → IsThreadOf dig h t
+  low_own h step peer top bytes none makes t told =
+      let same = (unambiguous low_codec low-lawful).one_value bytes told.0 makes.0 told.1 makes.1 in
+      let there = subst (λ (f : LowFile). In t (low_threads f)) same told.2 in
+      shown_own h step top makes.0 t (order_within (length h.steps) step top none) makes.0.shown makes.2.shown there
+
+  high_own : (h : History) (step : ℕ) (peer : List ℕ) (top : ℕ) (bytes : List ℕ) → top_refusal false (length h.steps) top ≡ None → MakesHigh dig h step peer top bytes
+      → (t : Thread) → PublishesBy (ProveHigh step peer top) (OfFile bytes) t → IsThreadOf dig h t
+  high_own h step peer top bytes none makes t told =
+      let f = makes.0 in
+      let same = (unambiguous high_codec high-lawful).one_value bytes told.0 f told.1 makes.1 in
+      let one = ⊎_elim (λ e. e) (λ no_other. absurd no_other) (subst (λ (x : HighFile). In t (high_threads x)) same told.2) in
+      let own : IsThreadOf dig h (record { from = f.service; step = f.top - 1; auth = f.opening.prev }) = record {
+        from = makes.2.of_peer;
+        within = omega (arith, makes.2.at_top, top_within (length h.steps) top none);
+        auth = sym makes.2.opening.binds.prev ∙ ap (λ (i : ℕ). auth dig h (i - 1)) (sym makes.2.at_top);
+      } in
+      subst (λ (u : Thread). IsThreadOf dig h u) (sym one) own
+
+  -- ---- receipts
+
+  -- the step that received a thread is one of the history
+  received_within : (h : History) (step : ℕ) (t : Thread) → thread_of (step_at h step) ≡ Some t → step ≤ length h.steps
+  received_within h zero t is = omega arith
+  received_within h (suc i) t is = ⊎_elim
+      (λ there. omega (arith, there.1))
+      (λ none. absurd (let no = ap (λ (o : Option Step). thread_of o) (sym none.1) ∙ is in cc))
+      (slice_get_cases h.steps i).1
+
+  -- a receipt that is answered is by a step of the next history
+  receipt_own : (h next : History) (m : Message) (time : Option ℕ) (reply : Reply) → IsReplyTo (Receive m time) reply → IsStepOf dig h (Receive m time) reply next
+      → (t : Thread) → Publishes reply t → IsThreadOf dig next t
+  receipt_own h next m time (OfReceipt r) kind is t told =
+      let own = own-receipt dig h m time next r is in
+      let within = received_within next r.by.step r.thread own.received in
+      let by : IsThreadOf dig next (thread_at_step dig next r.by.step) = record { from = refl; within = within; auth = refl } in
+      subst (λ (u : Thread). IsThreadOf dig next u) (sym (told ∙ own.by)) by
+  receipt_own h next m time _ kind is t told = absurd kind
+
+  -- ---- replies
+
+  -- a call that is refused, or answered by bytes, publishes what the bytes do
+  by_bytes : (h : History) (table : Option Refusal) (Makes : List ℕ → Type 0) (reply : Reply) (t : Thread)
+      → MatchOption table ((bytes : List ℕ) × Makes bytes × (reply ≡ OfProof bytes)) (λ refusal. reply ≡ Refused refusal)
+      → (table ≡ None → (bytes : List ℕ) → Makes bytes → Publishes (OfProof bytes) t → IsThreadOf dig h t) → Publishes reply t → IsThreadOf dig h t
+  by_bytes h None Makes reply t made own told = own refl made.0 made.1 (subst (λ (r : Reply). Publishes r t) made.2 told)
+  by_bytes h (Some refusal) Makes reply t made own told = absurd (subst (λ (r : Reply). Publishes r t) made told)
+
+  by_path : (table : Option Refusal) (Makes : Type 0) (reply : Reply) (t : Thread) → (Makes → Publishes reply t → ⊥)
+      → MatchOption table Makes (λ refusal. reply ≡ Refused refusal) → Publishes reply t → ⊥
+  by_path None Makes reply t untold made told = untold made told
+  by_path (Some refusal) Makes reply t untold made told = subst (λ (r : Reply). Publishes r t) made told
+
+  -- a call that is refused, or answered by a map file
+  by_file : (h : History) (call : Call) (table : Option Refusal) (Makes : List ℕ → Type 0) (reply : Reply) (t : Thread)
+      → MatchOption table ((bytes : List ℕ) × Makes bytes × (reply ≡ OfFile bytes)) (λ refusal. reply ≡ Refused refusal)
+      → ((refusal : Refusal) → PublishesBy call (Refused refusal) t → ⊥)
+      → (table ≡ None → (bytes : List ℕ) → Makes bytes → PublishesBy call (OfFile bytes) t → IsThreadOf dig h t) → PublishesBy call reply t → IsThreadOf dig h t
+  by_file h call None Makes reply t made untold own told = own refl made.0 made.1 (subst (λ (r : Reply). PublishesBy call r t) made.2 told)
+  by_file h call (Some refusal) Makes reply t made untold own told = absurd (untold refusal (subst (λ (r : Reply). PublishesBy call r t) made told))
+
+  by_append : (h next : History) (events : List (List ℕ)) (time : Option ℕ) (table : Option Refusal) (reply : Reply) (t : Thread)
+      → MatchOption table (NextOf dig (Append events time) h next × (reply ≡ OfThread (last_thread dig next))) (λ refusal. (next ≡ h) × (reply ≡ Refused refusal))
+      → Publishes reply t → IsThreadOf dig next t
+  by_append h next events time None reply t done told =
+      let is : t ≡ last_thread dig next = subst (λ (r : Reply). Publishes r t) done.1 told in
+      subst (λ (u : Thread). IsThreadOf dig next u) (sym is) (last_own next)
+  by_append h next events time (Some refusal) reply t done told = absurd (subst (λ (r : Reply). Publishes r t) done.1 told)
+
+  -- what a step of the machine publishes is of the history behind it
+  pub told_own : (h : History) (call : Call) (reply : Reply) (next : History) → IsReplyTo call reply → IsStepOf dig h call reply next → (t : Thread) → PublishesBy call reply t → IsThreadOf dig next t
+  told_own h (Append events time) reply next kind is t told = by_append h next events time (append_table h events time) reply t is told
+  told_own h (Receive m time) reply next kind is t told = receipt_own h next m time reply kind is t told
+  told_own h (TellThread since) reply next kind is t told =
+      absurd (by_path (thread_refusal false (length h.steps) since) ((path : Path) × IsPathOf dig h path.links (length h.steps) since × (reply ≡ OfPath path)) reply t
+      (λ made shown. subst (λ (r : Reply). Publishes r t) made.2 shown) is.1 told)
+  told_own h (ProveEvent step index top) reply next kind is t told =
+      subst (λ (n : History). IsThreadOf dig n t) (sym is.0)
+      (by_bytes h (proof_refusal false h step index top) (λ bytes. MakesExistence dig h step index top bytes) reply t is.1 (λ none bytes makes shown. event_own h step index top bytes none makes t shown) told)
+  told_own h (ProveThread step key top) reply next kind is t told =
+      subst (λ (n : History). IsThreadOf dig n t) (sym is.0)
+      (by_bytes h (thread_proof_refusal false h step key top) (λ bytes. MakesThread dig h step key top bytes) reply t is.1 (λ none bytes makes shown. thread_own h step key top bytes none makes t shown) told)
+  told_own h (ProveAbsent step key top) reply next kind is t told =
+      subst (λ (n : History). IsThreadOf dig n t) (sym is.0)
+      (by_bytes h (absence_refusal false h step key top) (λ bytes. MakesAbsence dig h step key top bytes) reply t is.1 (λ none bytes makes shown. absence_own h step key top bytes none makes t shown) told)
+  told_own h (ProveLink step top) reply next kind is t told =
+      subst (λ (n : History). IsThreadOf dig n t) (sym is.0)
+      (by_bytes h (link_refusal false (length h.steps) step top) (λ bytes. MakesLink dig h step top bytes) reply t is.1 (λ none bytes makes shown. link_own h step top bytes none makes t shown) told)
+  told_own h (ProveLow step peer top) reply next kind is t told =
+      subst (λ (n : History). IsThreadOf dig n t) (sym is.0)
+      (by_file h (ProveLow step peer top) (order_refusal false (length h.steps) step top) (λ bytes. MakesLow dig h step peer top bytes) reply t is.1 (λ refusal shown. shown) (λ none bytes makes shown. low_own h step peer top bytes none makes t shown) told)
+  told_own h (ProveHigh step peer top) reply next kind is t told =
+      subst (λ (n : History). IsThreadOf dig n t) (sym is.0)
+      (by_file h (ProveHigh step peer top) (top_refusal false (length h.steps) top) (λ bytes. MakesHigh dig h step peer top bytes) reply t is.1 (λ refusal shown. shown) (λ none bytes makes shown. high_own h step peer top bytes none makes t shown) told)
+  told_own h CountSteps reply next kind is t told = absurd (subst (λ (r : Reply). Publishes r t) is.1 told)
+  told_own h TellHead reply next kind is t told =
+      let one : t ≡ last_thread dig h = subst (λ (r : Reply). Publishes r t) is.1 told in
+      subst (λ (n : History). IsThreadOf dig n t) (sym is.0) (subst (λ (u : Thread). IsThreadOf dig h u) (sym one) (last_own h))
+  told_own h TellName reply next kind is t told = absurd (subst (λ (r : Reply). Publishes r t) is.1 told)
+
+  -- ---- the next history
+
+  -- it has the threads of the one before
+  pub next_has : (call : Call) (h next : History) → NextOf dig call h next → (t : Thread) → IsThreadOf dig h t → IsThreadOf dig next t
+  next_has (Append events time) h next is t own = subst (λ (n : History). IsThreadOf dig n t) (sym is) (own_plus h _ t own)
+  next_has (Receive m time) h next (inl is) t own = subst (λ (n : History). IsThreadOf dig n t) (sym is) own
+  next_has (Receive m time) h next (inr is) t own = subst (λ (n : History). IsThreadOf dig n t) (sym is.1.1) (own_plus h is.1.0 t own)
+  next_has (TellThread since) h next is t own = subst (λ (n : History). IsThreadOf dig n t) (sym is) own
+  next_has (ProveEvent step index top) h next is t own = subst (λ (n : History). IsThreadOf dig n t) (sym is) own
+  next_has (ProveThread step key top) h next is t own = subst (λ (n : History). IsThreadOf dig n t) (sym is) own
+  next_has (ProveAbsent step key top) h next is t own = subst (λ (n : History). IsThreadOf dig n t) (sym is) own
+  next_has (ProveLink step top) h next is t own = subst (λ (n : History). IsThreadOf dig n t) (sym is) own
+  next_has (ProveLow step peer top) h next is t own = subst (λ (n : History). IsThreadOf dig n t) (sym is) own
+  next_has (ProveHigh step peer top) h next is t own = subst (λ (n : History). IsThreadOf dig n t) (sym is) own
+  next_has CountSteps h next is t own = subst (λ (n : History). IsThreadOf dig n t) (sym is) own
+  next_has TellHead h next is t own = subst (λ (n : History). IsThreadOf dig n t) (sym is) own
+  next_has TellName h next is t own = subst (λ (n : History). IsThreadOf dig n t) (sym is) own
+
+  -- and its name
+  pub next_name : (call : Call) (h next : History) → NextOf dig call h next → next.name ≡ h.name
+  next_name (Append events time) h next is = ap (λ (n : History). n.name) is
+  next_name (Receive m time) h next (inl is) = ap (λ (n : History). n.name) is
+  next_name (Receive m time) h next (inr is) = ap (λ (n : History). n.name) is.1.1
+  next_name (TellThread since) h next is = ap (λ (n : History). n.name) is
+  next_name (ProveEvent step index top) h next is = ap (λ (n : History). n.name) is
+  next_name (ProveThread step key top) h next is = ap (λ (n : History). n.name) is
+  next_name (ProveAbsent step key top) h next is = ap (λ (n : History). n.name) is
+  next_name (ProveLink step top) h next is = ap (λ (n : History). n.name) is
+  next_name (ProveLow step peer top) h next is = ap (λ (n : History). n.name) is
+  next_name (ProveHigh step peer top) h next is = ap (λ (n : History). n.name) is
+  next_name CountSteps h next is = ap (λ (n : History). n.name) is
+  next_name TellHead h next is = ap (λ (n : History). n.name) is
+  next_name TellName h next is = ap (λ (n : History). n.name) is

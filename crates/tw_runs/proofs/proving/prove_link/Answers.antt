@@ -1,0 +1,11 @@
+use Rattle.std.proofs.Common.{ℕ, List, refl}
+use Rattle.tw_service.specs.Machine.Call.{ProveLink}
+use Rattle.tw_service.specs.Machine.Reply.{OfProof}
+use Rattle.tw_runs.proofs.AnsweredCalls.{link_reopens, reads}
+use Rattle.tw_runs.proofs.proving.prove_link.Goals as goal
+
+pub returns : goal.returns
+returns g c =
+    let a = c.prove_link.ensures.asks in
+    reads g.H.Hasher.dig g.D.Disk.view (ProveLink c.args.step c.args.top) (λ (bytes : List ℕ). OfProof bytes) _ _ g.met.D.Disk.only_now (λ h. refl) (λ h next r is. is.0) (λ x. tt) _
+    (link_reopens _ _ _ _ _ _ a.table) a.machine a.same a.kept a.unwritten a.broken

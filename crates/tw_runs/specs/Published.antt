@@ -1,0 +1,77 @@
+-- The threads of its own history that a service publishes.
+use Rattle.std.specs.Prelude.{◌≡◌, ℕ, ◌-◌, ◌≤◌, List, [], ◌∷◌, length}
+use Rattle.std.specs.Option.{option_map_or}
+use Rattle.tw_base.specs.declared.history.thread.Thread.{Thread}
+use Rattle.tw_base.specs.format.Formats.{Spells}
+use Rattle.tw_base.specs.history.Auth.{auth}
+use Rattle.tw_base.specs.history.History.{History}
+use Rattle.tw_base.specs.kinds.Lists.{In}
+use Rattle.tw_chain.specs.declared.proof.Proof.{Proof}
+use Rattle.tw_chain.specs.declared.proof.Proof.TheVariants.{Exists, Precedes, Archived, Absent, Linked}
+use Rattle.tw_chain.specs.Proofs.{proof_layout}
+use Rattle.tw_service.specs.Machine.{Call, Reply}
+use Rattle.tw_service.specs.Machine.Call.{Append, Receive, TellThread, ProveEvent, ProveThread, ProveAbsent, ProveLink, ProveLow, ProveHigh, CountSteps, TellHead, TellName}
+use Rattle.tw_service.specs.Machine.Reply.{OfThread, OfReceipt, OfPath, OfProof, OfFile, OfNumber, OfName, Refused}
+use Rattle.tw_skipproof.specs.declared.existence.Part.{Part}
+use Rattle.tw_tmap.specs.declared.map_file.HighFile.{HighFile}
+use Rattle.tw_tmap.specs.declared.map_file.LowFile.{LowFile}
+use Rattle.tw_tmap.specs.Checking.{low_part}
+use Rattle.tw_tmap.specs.MapFiles.{high_layout, low_layout}
+
+-- the thread of the step before the one that the part opens
+abbrev pub thread_before : Part → Thread
+thread_before p = record { from = p.service; step = p.step - 1; auth = p.opening.prev }
+
+-- the threads of the prover's own history that stand in a proof; no service makes one from event to event
+abbrev pub own_threads : Proof → List Thread
+own_threads (Exists p) = thread_before p.at ∷ []
+own_threads (Precedes p) = []
+own_threads (Archived p) = thread_before p.at ∷ []
+own_threads (Absent p) = thread_before p.at ∷ []
+own_threads (Linked p) = record { from = p.service; step = p.step; auth = p.auth } ∷ []
+
+-- those that stand in the map files of a service
+abbrev pub low_threads : LowFile → List Thread
+low_threads f = option_map_or (λ p. thread_before (low_part f p) ∷ []) f.shown []
+
+abbrev pub high_threads : HighFile → List Thread
+high_threads f = record { from = f.service; step = f.top - 1; auth = f.opening.prev } ∷ []
+
+-- the reply publishes the thread. A path has labels alone; the thread of the message that it belongs to is that of `head`
+abbrev pub Publishes : Reply → Thread → Type 0
+Publishes (OfThread thread) t = t ≡ thread
+Publishes (OfReceipt receipt) t = t ≡ receipt.by
+Publishes (OfPath path) t = ⊥
+Publishes (OfProof bytes) t = (p : Proof) × Spells proof_layout bytes p × In t (own_threads p)
+Publishes (OfFile bytes) t = ⊥
+Publishes (OfNumber number) t = ⊥
+Publishes (OfName name) t = ⊥
+Publishes (Refused refusal) t = ⊥
+
+-- so does the call by its reply; a map file is of the kind that was asked for
+abbrev pub PublishesBy : Call → Reply → Thread → Type 0
+PublishesBy (ProveLow step peer top) (OfFile bytes) t = (f : LowFile) × Spells low_layout bytes f × In t (low_threads f)
+PublishesBy (ProveHigh step peer top) (OfFile bytes) t = (f : HighFile) × Spells high_layout bytes f × In t (high_threads f)
+PublishesBy _ reply t = Publishes reply t
+
+-- the call has replies of this kind
+abbrev pub IsReplyTo : Call → Reply → Type 0
+IsReplyTo (Append events time) (OfThread thread) = Unit {0}
+IsReplyTo (Receive message time) (OfReceipt receipt) = Unit {0}
+IsReplyTo (TellThread since) (OfPath path) = Unit {0}
+IsReplyTo (ProveEvent step index top) (OfProof bytes) = Unit {0}
+IsReplyTo (ProveThread step key top) (OfProof bytes) = Unit {0}
+IsReplyTo (ProveAbsent step key top) (OfProof bytes) = Unit {0}
+IsReplyTo (ProveLink step top) (OfProof bytes) = Unit {0}
+IsReplyTo (ProveLow step peer top) (OfFile bytes) = Unit {0}
+IsReplyTo (ProveHigh step peer top) (OfFile bytes) = Unit {0}
+IsReplyTo CountSteps (OfNumber number) = Unit {0}
+IsReplyTo TellHead (OfThread thread) = Unit {0}
+IsReplyTo TellName (OfName name) = Unit {0}
+IsReplyTo _ _ = ⊥
+
+-- the thread is one of the history: of one of its steps, or of step 0, with the authenticator of that step
+pub record IsThreadOf (dig : List ℕ → List ℕ) (h : History) (t : Thread) : Type 0 where
+  pub from : t.from ≡ h.name
+  pub within : t.step ≤ length h.steps
+  pub auth : t.auth ≡ auth dig h t.step

@@ -1,0 +1,9 @@
+pub mod Members
+pub mod Births
+pub mod Ordered
+pub mod Growing
+pub mod MachineSteps
+pub mod LineSteps
+pub mod Leading
+pub mod Closing
+pub mod Together

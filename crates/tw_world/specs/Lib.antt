@@ -1,0 +1,4 @@
+pub mod Worlds
+pub mod Telling
+pub mod Runs
+pub mod Order

@@ -1,0 +1,96 @@
+-- The text of what is told of a schedule's lines.
+use Rattle.std.specs.Prelude.{ℕ, List, [], ◌∷◌, ◌++◌, codes, decimal, length, Bool, false}
+use Rattle.std.specs.List.{count_by}
+use Rattle.std.specs.Str.{bytes_eq}
+use Rattle.serde_json.specs.Data.{Data, Members, member, no_members, number, object, put, unsigned}
+use Rattle.serde_json.specs.Written.{compact_text}
+use Rattle.tw_answers.specs.declared.refusal.Refusal.{Refusal}
+use Rattle.tw_answers.specs.declared.refusal.Refusal.TheVariants.{Malformed, Own, Stale, Forked, BadLink, NoStep, NoEvent, NoThread, HasThread, TooMany, TooLong, Full, ClockBack, BadPage, DiskFault, Reopen, NoMemory}
+use Rattle.tw_base.specs.history.History.{History}
+use Rattle.tw_base.specs.kinds.Names.{name_text}
+use Rattle.tw_script.specs.declared.script.NumberedLine.{NumberedLine}
+use Rattle.tw_text.specs.Lines.{line}
+use Rattle.tw_text.specs.declared.field.Field.{Field}
+use Rattle.tw_text.specs.declared.field.Field.TheVariants.{Number, Word}
+use Rattle.tw_world.specs.declared.told.Answer.{Answer}
+use Rattle.tw_world.specs.declared.told.Answer.TheVariants.{Done, Stepped, Sent, Archived, Filed, Accepted, Rejected, NotJoined, Refused, Nothing}
+use Rattle.tw_world.specs.declared.told.Told.{Told}
+use Rattle.tw_world.specs.declared.told.Told.TheVariants.{Plain, Crashed, Stopped}
+
+abbrev pub refusal_name : Refusal → List ℕ
+refusal_name (Malformed place) = codes "Malformed"
+refusal_name Own = codes "Own"
+refusal_name (Stale last) = codes "Stale"
+refusal_name (Forked step kept offered) = codes "Forked"
+refusal_name (BadLink last kept) = codes "BadLink"
+refusal_name (NoStep last) = codes "NoStep"
+refusal_name (NoEvent count) = codes "NoEvent"
+refusal_name NoThread = codes "NoThread"
+refusal_name (HasThread archived) = codes "HasThread"
+refusal_name (TooMany count) = codes "TooMany"
+refusal_name (TooLong bytes) = codes "TooLong"
+refusal_name Full = codes "Full"
+refusal_name (ClockBack last given) = codes "ClockBack"
+refusal_name (BadPage page) = codes "BadPage"
+refusal_name DiskFault = codes "DiskFault"
+refusal_name Reopen = codes "Reopen"
+refusal_name NoMemory = codes "NoMemory"
+
+-- ---- a line
+
+abbrev pub answer_fields : Answer → List Field
+answer_fields Done = Word (codes "ok") ∷ []
+answer_fields (Stepped step) = Word (codes "step") ∷ Number step ∷ []
+answer_fields (Sent n) = Word (codes "message") ∷ Number n ∷ []
+answer_fields (Archived step) = Word (codes "receipt") ∷ Number step ∷ []
+answer_fields (Filed n) = Word (codes "file") ∷ Number n ∷ []
+answer_fields Accepted = Word (codes "accepted") ∷ []
+answer_fields (Rejected reason) = Word (codes "rejected") ∷ Number reason ∷ []
+answer_fields (NotJoined place) = Word (codes "rejected") ∷ Word (codes "Gap") ∷ Number place ∷ []
+answer_fields (Refused refusal) = Word (codes "refused") ∷ Word (refusal_name refusal) ∷ []
+answer_fields Nothing = Word (codes "none") ∷ []
+
+abbrev pub reopened_fields : (steps : ℕ) → List Field
+reopened_fields steps = Word (codes "reopened") ∷ Number steps ∷ []
+
+abbrev pub told_fields : Told → List Field
+told_fields (Plain answer) = answer_fields answer
+told_fields (Crashed answer steps) = answer_fields answer ++ reopened_fields steps
+told_fields (Stopped steps) = Word (codes "stopped") ∷ reopened_fields steps
+
+-- the line's number in the file, and its answer
+abbrev pub told_line : (n : ℕ) → Told → List ℕ
+told_line n told = line (decimal n) (told_fields told)
+
+-- those of a script's lines, one after another
+unfoldable pub told_lines : List NumberedLine → List Told → List ℕ
+told_lines (l ∷ lines) (told ∷ more) = told_line l.number told ++ told_lines lines more
+told_lines _ _ = []
+
+-- ---- the last line
+
+-- the first field is this word
+abbrev pub begins_with : (word : List ℕ) → List Field → Bool
+begins_with word (Word first ∷ fields) = bytes_eq first word
+begins_with word _ = false
+
+-- how many answers begin with the word
+abbrev pub count_of : (word : List ℕ) → List Told → ℕ
+count_of word told = count_by (λ (t : Told). begins_with word (told_fields t)) told
+
+-- the numbers of steps of histories, by their names
+unfoldable pub steps_by_name : List History → Members
+steps_by_name [] = no_members
+steps_by_name (h ∷ family) = put (name_text h.name) (number (unsigned (length h.steps))) (steps_by_name family)
+
+abbrev pub summary : List Told → List History → Data
+summary told family =
+    object (member (codes "accepted") (number (unsigned (count_of (codes "accepted") told)))
+    (member (codes "none") (number (unsigned (count_of (codes "none") told)))
+    (member (codes "refused") (number (unsigned (count_of (codes "refused") told)))
+    (member (codes "rejected") (number (unsigned (count_of (codes "rejected") told)))
+    (member (codes "services") (object (steps_by_name family)) no_members)))))
+
+-- all that is written of a script's lines, what is told of them, and the histories at the end
+abbrev pub replayed_text : List NumberedLine → List Told → List History → List ℕ
+replayed_text lines told family = told_lines lines told ++ compact_text (summary told family) ++ codes "\n"
