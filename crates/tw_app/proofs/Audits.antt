@@ -5,10 +5,12 @@ use Rattle.tw_disk.specs.Disk.{DiskView}
 use Rattle.tw_outside.specs.TakenBytes.{Appends}
 use Rattle.tw_words.specs.CommandLine.{command_of}
 use Rattle.tw_words.specs.declared.command.Command.{Command}
-use Rattle.tw_words.specs.declared.command.Command.TheVariants.{Accuse, Append, Atlas, Audit, CheckFork, CheckMap, Init, Join, ProveEvent, ProveLink, Show, Strict, Thread, VerifyFile, VerifyOne}
+use Rattle.tw_words.specs.declared.command.Command.TheVariants.{Accuse, Adopt, Append, Atlas, Audit, CheckFork, CheckMap, Heads, Init, Join, Offer, ProveAbsent, ProveEvent, ProveLink, ProveThread, MapLow, MapHigh, Receive, Show, Strict, Thread, VerifyFile, VerifyOne, Watch}
 use Rattle.tw_text.specs.declared.fault.CommandFault.{CommandFault}
 use Rattle.tw_text.specs.Faults.{fault_status}
 use Rattle.tw_audit.specs.declared.finding.Finding.TheVariants.{Clash, NotAccepted, Stands}
+use Rattle.tw_reachcmd.specs.declared.adopting.Taken.{Taken as TakenHistory}
+use Rattle.tw_reachcmd.specs.declared.adopting.Taken.TheVariants.{File, Fault}
 use Rattle.tw_reachcmd.specs.declared.auditing.Audited.{Audited as AuditedProof}
 use Rattle.tw_reachcmd.specs.declared.auditing.Audited.TheVariants.{Found, Unheld}
 use Rattle.tw_evidence.specs.declared.fork.ForkVerdict.{ForkVerdict}
@@ -22,7 +24,7 @@ use Rattle.tw_reachcmd.specs.AuditTexts.{audited_status, audited_text}
 use Rattle.tw_app.specs.declared.outcome.Outcome.{Outcome}
 use Rattle.tw_app.specs.declared.outcome.Outcome.TheVariants.{Undone}
 use Rattle.tw_app.specs.Around.{Around, Outside}
-use Rattle.tw_app.specs.Outcomes.{of_accused, of_audited, of_fork, of_mapped, outcome_by, status_of, text_of}
+use Rattle.tw_app.specs.Outcomes.{of_accused, of_audited, of_fork, of_mapped, of_taken, outcome_by, status_of, text_of}
 use Rattle.tw_app.specs.Running.{Ends, EndsWith, HaveNoForm, IsUntouched, work}
 use Rattle.tw_app.specs.Audits.{AsksAudit, IsClashRun, IsStandingRun}
 use Rattle.tw_app.specs.Statuses.{AreOf, IsAnsweredRun}
@@ -57,6 +59,10 @@ low_map (bounds.Yes low high upto) is = omega (arith, is)
 low_map (bounds.No reason) is = omega (arith, is)
 low_map bounds.Gap is = omega (arith, is)
 
+low_taken : (taken : TakenHistory) → status_of (of_taken taken) ≡ 10 → ⊥
+low_taken (File bytes) is = omega (arith, is)
+low_taken (Fault fault) is = omega (arith, is)
+
 -- no other command comes to an answer of this status
 asks_audit : {D : Type 0} (view : D → DiskView) (o : Outside D) (c : Command) (text : List ℕ) → (work view o c).answers 10 text → AsksAudit c
 asks_audit view o (Audit proof anchors histories) text has = tt
@@ -64,7 +70,15 @@ asks_audit view o (Init name) text has = absurd (let is = has.2 in omega (arith,
 asks_audit view o (Append file time) text has = absurd (let is = has.2 in omega (arith, is))
 asks_audit view o (Thread since) text has = absurd (let is = has.2 in omega (arith, is))
 asks_audit view o (ProveEvent step index top) text has = absurd (let is = has.2 in omega (arith, is))
+asks_audit view o (Receive file time) text has = absurd (let is = has.2 in omega (arith, is))
+asks_audit view o (ProveThread step peer k top) text has = absurd (let is = has.2 in omega (arith, is))
+asks_audit view o (ProveAbsent step peer k top) text has = absurd (let is = has.2 in omega (arith, is))
 asks_audit view o (ProveLink step top) text has = absurd (let is = has.2 in omega (arith, is))
+asks_audit view o (Watch name) text has = absurd (let is = has.2 in omega (arith, is))
+asks_audit view o (Offer file) text has = absurd (let is = has.2 in omega (arith, is))
+asks_audit view o Heads text has = absurd (let is = has.2 in omega (arith, is))
+asks_audit view o (MapLow step peer top) text has = absurd (let is = has.2 in omega (arith, is))
+asks_audit view o (MapHigh pos peer top) text has = absurd (let is = has.2 in omega (arith, is))
 asks_audit view o (Show history step index) text has = absurd (let is = has.2 in omega (arith, is))
 asks_audit view o (Atlas name pos files) text has = absurd (let is = has.2 in omega (arith, is))
 asks_audit view o (Join files) text has = absurd (not_joined has.0 10 (λ k. omega arith) (λ k. omega arith) (sym has.2))
@@ -72,6 +86,7 @@ asks_audit view o (VerifyFile proof anchors) text has = absurd (not_verdict has.
 asks_audit view o (VerifyOne proof anchor) text has = absurd (not_verdict has.0 10 (λ k. omega arith) (λ k. omega arith) (sym has.2))
 asks_audit view o (Strict proof anchors) text has = absurd (not_verdict has.0 10 (λ k. omega arith) (λ k. omega arith) (sym has.2))
 asks_audit view o (Accuse first second link) text has = absurd (low_accused has.0 has.2)
+asks_audit view o (Adopt history anchors proof more) text has = absurd (low_taken has.0 has.2)
 asks_audit view o (CheckFork file anchors) text has = absurd (low_fork has.0 has.2)
 asks_audit view o (CheckMap low high anchors) text has = absurd (low_map has.0 has.2)
 asks_audit view o _ text has = absurd has

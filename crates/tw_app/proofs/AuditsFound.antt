@@ -1,6 +1,6 @@
 -- What an audit tells, where the inputs tell the bytes of all its files and nothing hinders it.
 use Rattle.std.proofs.Common.{◌≡◌, ◌∙◌, ℕ, List, [], ◌∷◌, ap, sym, subst, inl, inr}
-use Rattle.std.specs.Prelude.{false, map, Option, MatchOption, Result, Ok, Err}
+use Rattle.std.specs.Prelude.{false, Option, MatchOption, Result, Ok, Err}
 use Rattle.sha2.specs.Sha256.{sha256}
 use Rattle.tw_base.specs.declared.history.report.Reason.{Reason}
 use Rattle.tw_base.specs.declared.history.report.Report.{Report}
@@ -20,7 +20,6 @@ use Rattle.tw_text.specs.declared.refusal.BadInput.TheVariants.{BadByte, BadLine
 use Rattle.tw_chain.specs.declared.proof.Proof.{Proof}
 use Rattle.tw_chain.specs.Accepting.{Accepts, IsAccepted, held, report_of}
 use Rattle.tw_chain.specs.Reasons.{IsLowest}
-use Rattle.tw_msg.specs.AnchorsFile.{AllGood, anchor, lines}
 use Rattle.tw_audit.specs.declared.finding.Finding.TheVariants.{Clash, NotAccepted, Stands}
 use Rattle.tw_audit.specs.Answers.{AnswerMeans, IsClashPair, ThreadMissing}
 use Rattle.tw_audit.specs.Auditing.{IsAudit, audited_texts}
@@ -35,7 +34,7 @@ use Rattle.tw_app.specs.Audits.{EndsIn, FindsOf, IsAuditOf, IsFoundRun}
 use Rattle.tw_app.specs.Outcomes.{of_audited, outcome_by, status_of, text_of}
 use Rattle.tw_app.specs.Running.{Ends, EndsWith, HaveNoForm, IsOutcomeOf, IsUntouched, work}
 use Rattle.tw_app.proofs.OneFamily.{histories_not_bad, histories_once}
-use Rattle.tw_app.proofs.ToldFiles.{good_not_bad, same, there}
+use Rattle.tw_app.proofs.ToldFiles.{good_not_bad, has_anchors_of}
 
 -- a thread that the family lacks isn't one of those that it has
 missing-none : (family : List History) (anchors : List Thread) (p : Proof) (t : Thread) (found : Option (List ℕ)) → HasThreads sha256 family (held anchors p)
@@ -100,11 +99,7 @@ module _ {D : Type 0} (view : D → DiskView) (a : Around D) (status : ℕ) (byt
   Ending = IsFoundRun a status bytes anchors family
 
   good : HasAnchors a.outside.inputs.told is.anchors_file anchors
-  good = record {
-    there = there a.outside.inputs.told is.anchors_file is.anchor_bytes is.anchors_told;
-    good = λ others tells. subst (λ (b : List ℕ). AllGood (lines b)) (same a.outside.inputs.told is.anchors_file is.anchor_bytes others is.anchors_told tells) is.are_anchors.good;
-    same = λ others tells. is.are_anchors.are ∙ ap (λ (b : List ℕ). map anchor (lines b)) (same a.outside.inputs.told is.anchors_file is.anchor_bytes others is.anchors_told tells);
-  }
+  good = has_anchors_of a.outside.inputs.told is.anchors_file is.anchor_bytes is.anchors_told anchors is.are_anchors
 
   by_result : (r : Result Audited CommandFault) → AuditComes a.outside.inputs is.proof_file is.anchors_file is.history_files r
       → (outcome : Outcome) → outcome ≡ outcome_by of_audited r → EndsWith a.taken a.sink_faults status outcome → Ending

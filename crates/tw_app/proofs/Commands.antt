@@ -10,7 +10,7 @@ use Rattle.tw_outside.specs.Asked.{Asked}
 use Rattle.tw_outside.specs.Files.{Files}
 use Rattle.tw_words.specs.CommandLine.{command_of}
 use Rattle.tw_words.specs.declared.command.Command.{Command}
-use Rattle.tw_words.specs.declared.command.Command.TheVariants.{Accuse, Append, Atlas, Audit, CheckFork, CheckMap, Init, Join, ProveEvent, ProveLink, Show, VerifyFile, VerifyOne, Strict}
+use Rattle.tw_words.specs.declared.command.Command.TheVariants.{Accuse, Adopt, Append, Atlas, Audit, CheckFork, CheckMap, Init, Join, ProveEvent, ProveThread, ProveAbsent, ProveLink, MapLow, MapHigh, Receive, Show, VerifyFile, VerifyOne, Strict, Watch, Offer, Heads}
 use Rattle.tw_words.specs.declared.command.Command.TheVariants as command
 use Rattle.tw_text.specs.declared.fault.CommandFault.{CommandFault}
 use Rattle.tw_text.specs.declared.fault.CommandFault.TheVariants.{InputFault, DiskFault, NoMemory, Unserved}
@@ -23,14 +23,23 @@ use Rattle.tw_filecmd.specs.Joining.{JoinComes}
 use Rattle.tw_filecmd.specs.Showing.{ShowComes}
 use Rattle.tw_filecmd.specs.Verifying.{HasAnchors, IsJudged, VerifyFileComes, VerifyOneComes}
 use Rattle.tw_diskcmd.specs.Disks.{IsLeft, Keeps, ReadLeaves, ReadsAs}
+use Rattle.tw_diskcmd.specs.Receiving.{ReceiveComes, ReceiveLeaves, ReceiveSafe}
 use Rattle.tw_diskcmd.specs.WorkSteps.{WritesNothing}
 use Rattle.tw_diskcmd.proofs.AtRest.{left_keeps, untouched_left}
-use Rattle.tw_diskcmd.proofs.CommandLaws.{HasCauses, IsSafe, append_causes, append_is_safe, init_causes, init_is_safe, link_causes, prove_causes, reading_is_safe, thread_causes}
+use Rattle.tw_diskcmd.proofs.CommandLaws.{HasCauses, IsSafe, absence_causes, append_causes, append_is_safe, init_causes, init_is_safe, link_causes, map_high_causes, map_low_causes, prove_causes, reading_is_safe, receive_causes, receive_is_safe, thread_causes, thread_proof_causes}
+use Rattle.tw_followcmd.specs.Disks.{ReadsAs as ReadsAsList}
+use Rattle.tw_followcmd.specs.Listing.{HeadsComes, HeadsLeaves, HeadsSafe}
+use Rattle.tw_followcmd.specs.Offering.{OfferComes, OfferLeaves, OfferSafe}
+use Rattle.tw_followcmd.specs.OfferSteps.{WritesNothing as MovesNothing}
+use Rattle.tw_followcmd.specs.Watching.{WatchComes, WatchLeaves, WatchSafe}
+use Rattle.tw_followcmd.proofs.CommandLaws.{HasCauses as HasListCauses, IsSafe as IsSafeList, heads_causes, heads_is_safe, offer_causes, offer_is_safe, watch_causes, watch_is_safe}
+use Rattle.tw_follow.specs.HeadLists.{Kept}
 use Rattle.tw_app.specs.declared.outcome.Outcome.{Outcome}
-use Rattle.tw_app.specs.declared.outcome.Outcome.TheVariants.{Judged, Written, Joined, Made, Answered, BadWords, Undone}
+use Rattle.tw_app.specs.declared.outcome.Outcome.TheVariants.{Judged, Written, Joined, Made, Received, Answered, BadWords, Undone}
 use Rattle.tw_reachcmd.specs.declared.answer.Answer.{Answer}
 use Rattle.tw_reachcmd.specs.declared.answer.Answer.TheVariants as answers
 use Rattle.tw_reachcmd.specs.Accusing.{AccuseComes}
+use Rattle.tw_reachcmd.specs.Adopting.{AdoptComes}
 use Rattle.tw_reachcmd.specs.Auditing.{AuditComes}
 use Rattle.tw_reachcmd.specs.Forks.{CheckForkComes}
 use Rattle.tw_reachcmd.specs.Maps.{CheckMapComes}
@@ -38,13 +47,16 @@ use Rattle.tw_reachcmd.specs.Planning.{AtlasComes}
 use Rattle.tw_app.specs.declared.store.StoreAccess.{StoreAccess}
 use Rattle.tw_app.specs.declared.store.StoreAccess.TheVariants.{Read, Write}
 use Rattle.tw_app.specs.Around.{Outside, found_of}
-use Rattle.tw_app.specs.Commands.{IsSomeFile, NamesFile}
+use Rattle.tw_app.specs.Commands.{IsOfFollower, IsSomeFile, NamesFile}
 use Rattle.tw_app.specs.Outcomes.{TakesMemory, outcome_by, status_of, text_of}
 use Rattle.tw_app.specs.Running.{IsAnswerBy, IsDoneBy, IsOutcomeOf, IsUnbuilt, IsUntouched, UsesDisk, Work, by_results, over_files, reading, unbuilt, work, writing}
 use Rattle.tw_app.specs.Statuses.{AreOf, GivesAnchors, IsBuilt, IsVerify, is_strict, proof_file}
 
 pub of_option : (P : Command → Type 0) (words : List (List ℕ)) (c : Command) → command_of words ≡ Some c → P c → AreOf P words
 of_option P words c is holds = subst (λ o. MatchOption o ⊥ P) (sym is) holds
+
+pub of_words : (P : Command → Type 0) (words : List (List ℕ)) (c : Command) → command_of words ≡ Some c → AreOf P words → P c
+of_words P words c is holds = subst (λ o. MatchOption o ⊥ P) is holds
 
 pub fault_not_zero : (f : CommandFault) → fault_status f ≡ 0 → ⊥
 fault_not_zero InputFault zeroth = omega (arith, zeroth)
@@ -108,8 +120,14 @@ written_tells = record { value = λ x f is. cc; words = λ x n is. cc }
 judged_tells : Tells Judged
 judged_tells = record { value = λ x f is. cc; words = λ x n is. cc }
 
+received_tells : Tells Received
+received_tells = record { value = λ x f is. cc; words = λ x n is. cc }
+
 made_of_disk : TellsOfDisk Made
 made_of_disk = record { unjudged = λ x v is. cc; unjoined = λ x j is. cc; takes = λ x taken. taken; status = λ x. refl }
+
+received_of_disk : TellsOfDisk Received
+received_of_disk = record { unjudged = λ x v is. cc; unjoined = λ x j is. cc; takes = λ x taken. taken; status = λ x. refl }
 
 written_of_disk : TellsOfDisk Written
 written_of_disk = record { unjudged = λ x v is. cc; unjoined = λ x j is. cc; takes = λ x taken. taken; status = λ x. refl }
@@ -192,7 +210,7 @@ module _ {D : Type 0} (view : D → DiskView)
     pub undone : (f : CommandFault) → w.does (Undone f) → w.undone f
     pub input : w.undone InputFault → IsBuilt view c × NamesFile c × Rose o.inputs.before o.inputs.after
     pub disk : w.undone DiskFault → w.uses_disk × Rose (view o.disk.before).faults (view o.disk.after).faults
-    pub serves : (h : History) → ReadsAs (view o.disk.before).content h → (why : StoreCause) → w.undone (Unserved why) → ⊥
+    pub serves : (IsOfFollower c → ⊥) → (h : History) → ReadsAs (view o.disk.before).content h → (why : StoreCause) → w.undone (Unserved why) → ⊥
     pub memory : (outcome : Outcome) → TakesMemory outcome → w.does outcome → w.does (Undone NoMemory)
     pub untouched : IsUntouched view o → w.does (Undone NoMemory)
     pub idle : (outcome : Outcome) → (status_of outcome ≡ 0 → ⊥) → (status_of outcome ≡ 5 → ⊥) → w.does outcome → Left
@@ -209,7 +227,7 @@ module _ {D : Type 0} (view : D → DiskView)
     undone = λ f came. came;
     input = λ came. absurd came.0;
     disk = λ came. absurd came.0;
-    serves = λ h reads why came. came.0;
+    serves = λ _ h reads why came. came.0;
     memory = λ outcome takes came. (tt, came.1);
     untouched = λ is. (tt, is);
     idle = λ outcome zeroth fifth came. same_left came.1;
@@ -218,8 +236,31 @@ module _ {D : Type 0} (view : D → DiskView)
     joining = λ place came. absurd came.0;
   }
 
+  -- the causes of what a command comes to, that of a follower's disk or another
+  record Causes {X : Type 0} (c : Command) (NamesFile UsesDisk : Type 0) (Comes : Result X CommandFault → Type 0) : Type 0 where
+    input : Comes (Err InputFault) → NamesFile × Rose o.inputs.before o.inputs.after
+    disk : Comes (Err DiskFault) → UsesDisk × Rose (view o.disk.before).faults (view o.disk.after).faults
+    serves : (IsOfFollower c → ⊥) → (h : History) → ReadsAs (view o.disk.before).content h → (why : StoreCause) → Comes (Err (Unserved why)) → ⊥
+    memory : Comes (Err NoMemory)
+
+  of_service : {X : Type 0} {NamesFile UsesDisk : Type 0} {Comes : Result X CommandFault → Type 0} → (c : Command) → HasCauses o.inputs (found_of view o) NamesFile UsesDisk Comes
+      → Causes c NamesFile UsesDisk Comes
+  of_service c causes = record { input = causes.input; disk = causes.disk; serves = λ _. causes.serves; memory = causes.memory }
+
+  of_follower : {X : Type 0} {NamesFile UsesDisk : Type 0} {Comes : Result X CommandFault → Type 0} → (c : Command) → IsOfFollower c
+      → HasListCauses o.inputs (view o.disk.before).content (view o.disk.before).faults (view o.disk.after).faults NamesFile UsesDisk Comes → Causes c NamesFile UsesDisk Comes
+  of_follower c is causes = record { input = causes.input; disk = causes.disk; serves = λ other. absurd (other is); memory = causes.memory }
+
+  moves_nothing : {X : Type 0} → (r : Result X CommandFault) → WritesNothing r → MovesNothing r
+  moves_nothing (Ok x) nothing = nothing
+  moves_nothing (Err DiskFault) nothing = nothing
+  moves_nothing _ nothing = tt
+
+  safe_list : {X : Type 0} {Leaves : Result X CommandFault → Type 0} {Safe : Type 0} → IsSafeList view o.disk.before o.disk.after Leaves Safe → IsSafe view o.disk.before o.disk.after Leaves Safe
+  safe_list safe = record { idle = λ r left nothing. safe.idle r left (moves_nothing r nothing); no_memory = safe.no_memory; safe = safe.safe }
+
   module _ {X : Type 0} (c : Command) (of : X → Outcome) (tells : Tells of) (Comes Leaves : Result X CommandFault → Type 0) (Safe : Type 0) (access : Option StoreAccess)
-      (causes : HasCauses o.inputs (found_of view o) (NamesFile c) (UsesDisk access) Comes) (built : IsBuilt view c) where
+      (causes : Causes c (NamesFile c) (UsesDisk access) Comes) (built : IsBuilt view c) where
     abbrev May : Result X CommandFault → Type 0
     May r = Comes r × Leaves r
 
@@ -238,7 +279,7 @@ module _ {D : Type 0} (view : D → DiskView)
       undone = λ f came. undone_of of tells May f came;
       input = λ may. let failed = causes.input may.0 in (built, failed.0, failed.1);
       disk = λ may. causes.disk may.0;
-      serves = λ h reads why may. causes.serves h reads why may.0;
+      serves = λ other h reads why may. causes.serves other h reads why may.0;
       memory = λ outcome takes came. no_memory (memory came.0 (subst TakesMemory came.2 takes) came.1.1);
       untouched = λ is. no_memory (untouched is);
       idle = λ outcome zeroth fifth came. idle came.0 (λ is. zeroth (ap status_of came.2 ∙ is)) (λ is. fifth (ap status_of came.2 ∙ is)) came.1.1;
@@ -269,18 +310,25 @@ module _ {D : Type 0} (view : D → DiskView)
       → ((x : X) (v : Verdict) → Judged v ≡ of x → Comes (Ok x) → Judges o.inputs.told c v)
       → ((x : X) (place : ℕ) → Joined (Unfit place) ≡ of x → Comes (Ok x) → LeavesGap o.inputs c place) → Row c (over_files view o of Comes)
   files_row c of tells Comes causes built judging joining =
-      row c of tells Comes (λ r. IsUntouched view o) (IsUntouched view o × Keeps view o.disk.before o.disk.after) None causes built
+      row c of tells Comes (λ r. IsUntouched view o) (IsUntouched view o × Keeps view o.disk.before o.disk.after) None (of_service c causes) built
       (λ r takes same. same) (λ is. is) (λ r zeroth fifth same. same_left same) (λ r same. same_safe same) judging joining
 
   -- one that makes a service or a step, and one that reads a proof from a disk
   made_row : {Comes Leaves : Result Thread CommandFault → Type 0} {Safe : Type 0} → (c : Command) → IsBuilt view c
       → HasCauses o.inputs (found_of view o) (NamesFile c) (Unit {0}) Comes → IsSafe view o.disk.before o.disk.after Leaves Safe → Row c (writing view o Made Comes Leaves Safe)
-  made_row {Comes} {Leaves} {Safe} c built causes is_safe = disk_row c Made made_tells Comes Leaves Safe (Some Write) causes built made_of_disk is_safe
+  made_row {Comes} {Leaves} {Safe} c built causes is_safe = disk_row c Made made_tells Comes Leaves Safe (Some Write) (of_service c causes) built made_of_disk is_safe
+
+  received_row : (file : List ℕ) (time : Option ℕ) → Row (Receive file time) (work view o (Receive file time))
+  received_row file time =
+      disk_row (Receive file time) Received received_tells (ReceiveComes o.inputs (found_of view o) file time)
+      (ReceiveLeaves view o.disk.before o.disk.after o.inputs.told file time) (ReceiveSafe view o.disk.before o.disk.after o.inputs.told file time) (Some Write)
+      (of_service (Receive file time) (receive_causes o.inputs (found_of view o) file time)) (λ p n came. no_usage Received received_tells n came.0 came.2) received_of_disk
+      (receive_is_safe view o.disk.before o.disk.after only_now as_it_reads o.inputs.told file time)
 
   written_row : {Comes : Result (List ℕ) CommandFault → Type 0} → (c : Command) → IsBuilt view c
       → HasCauses o.inputs (found_of view o) (NamesFile c) (Unit {0}) Comes → Row c (reading view o Written Comes)
   written_row {Comes} c built causes =
-      disk_row c Written written_tells Comes (ReadLeaves view o.disk.before o.disk.after) (Left × Keeps view o.disk.before o.disk.after) (Some Read) causes built
+      disk_row c Written written_tells Comes (ReadLeaves view o.disk.before o.disk.after) (Left × Keeps view o.disk.before o.disk.after) (Some Read) (of_service c causes) built
       written_of_disk (reading_is_safe view o.disk.before o.disk.after)
 
   show_row : (history : List ℕ) (step index : ℕ) → Row (Show history step index) (work view o (Show history step index))
@@ -353,6 +401,12 @@ module _ {D : Type 0} (view : D → DiskView)
       (record { input = λ rose. (tt, rose); disk = λ came. absurd came.2; serves = λ h reads why came. came.2; memory = tt })
       (λ p n came. no_usage _ (answered_tells answers.Audited) n came.0 came.2)
 
+  adopt_row : (history anchors proof : List ℕ) (more : List (List ℕ)) → Row (Adopt history anchors proof more) (work view o (Adopt history anchors proof more))
+  adopt_row history anchors proof more =
+      answer_row (Adopt history anchors proof more) answers.Taken (AdoptComes o.inputs history anchors (proof ∷ more))
+      (record { input = λ rose. (tt, rose); disk = λ came. absurd came; serves = λ h reads why came. came; memory = tt })
+      (λ p n came. no_usage _ (answered_tells answers.Taken) n came.0 came.2)
+
   check_fork_row : (file anchors : List ℕ) → Row (CheckFork file anchors) (work view o (CheckFork file anchors))
   check_fork_row file anchors =
       answer_row (CheckFork file anchors) answers.Fork (CheckForkComes o.inputs file anchors)
@@ -373,10 +427,21 @@ module _ {D : Type 0} (view : D → DiskView)
   rows (Append file time) =
       made_row (Append file time) (λ p n came. no_usage Made made_tells n came.0 came.2) (append_causes o.inputs (found_of view o) file time)
       (append_is_safe view o.disk.before o.disk.after only_now as_it_reads o.inputs.told file time)
+  rows (Receive file time) = received_row file time
   rows (command.Thread since) = written_row (command.Thread since) (λ p n came. no_usage Written written_tells n came.0 came.2) (thread_causes o.inputs (found_of view o) since)
   rows (ProveEvent step index top) =
       written_row (ProveEvent step index top) (λ p n came. no_usage Written written_tells n came.0 came.2) (prove_causes o.inputs (found_of view o) step index top)
+  rows (ProveThread step peer k top) =
+      written_row (ProveThread step peer k top) (λ p n came. no_usage Written written_tells n came.0 came.2)
+      (thread_proof_causes o.inputs (found_of view o) step (record { from = peer; step = k }) top)
+  rows (ProveAbsent step peer k top) =
+      written_row (ProveAbsent step peer k top) (λ p n came. no_usage Written written_tells n came.0 came.2)
+      (absence_causes o.inputs (found_of view o) step (record { from = peer; step = k }) top)
   rows (ProveLink step top) = written_row (ProveLink step top) (λ p n came. no_usage Written written_tells n came.0 came.2) (link_causes o.inputs (found_of view o) step top)
+  rows (MapLow step peer top) =
+      written_row (MapLow step peer top) (λ p n came. no_usage Written written_tells n came.0 came.2) (map_low_causes o.inputs (found_of view o) step peer top)
+  rows (MapHigh pos peer top) =
+      written_row (MapHigh pos peer top) (λ p n came. no_usage Written written_tells n came.0 came.2) (map_high_causes o.inputs (found_of view o) pos peer top)
   rows (Show history step index) = show_row history step index
   rows (Join files) = join_row files
   rows (VerifyFile proof anchors) =
@@ -387,9 +452,35 @@ module _ {D : Type 0} (view : D → DiskView)
   rows (CheckMap low high anchors) = check_map_row low high anchors
   rows (Atlas name pos files) = atlas_row name pos files
   rows (Audit proof anchors histories) = audit_row proof anchors histories
+  rows (Adopt history anchors proof more) = adopt_row history anchors proof more
   rows (Accuse first second link) = accuse_row first second link
   rows (CheckFork file anchors) = check_fork_row file anchors
+  rows (Watch name) =
+      disk_row (Watch name) Made made_tells (WatchComes (view o.disk.before).content (view o.disk.before).faults (view o.disk.after).faults name)
+      (WatchLeaves view o.disk.before o.disk.after name) (WatchSafe view o.disk.before o.disk.after name) (Some Write)
+      (of_follower (Watch name) tt (watch_causes o.inputs (view o.disk.before).content (view o.disk.before).faults (view o.disk.after).faults name))
+      (λ p n came. no_usage Made made_tells n came.0 came.2) made_of_disk (safe_list (watch_is_safe view o.disk.before o.disk.after only_now as_it_reads name))
+  rows (Offer file) =
+      disk_row (Offer file) Made made_tells (OfferComes o.inputs (view o.disk.before).content (view o.disk.before).faults (view o.disk.after).faults file)
+      (OfferLeaves view o.disk.before o.disk.after o.inputs.told file) (OfferSafe view o.disk.before o.disk.after o.inputs.told file) (Some Write)
+      (of_follower (Offer file) tt (offer_causes o.inputs (view o.disk.before).content (view o.disk.before).faults (view o.disk.after).faults file))
+      (λ p n came. no_usage Made made_tells n came.0 came.2) made_of_disk (safe_list (offer_is_safe view o.disk.before o.disk.after only_now as_it_reads o.inputs.told file))
+  rows Heads =
+      disk_row Heads Written written_tells (HeadsComes (view o.disk.before).content (view o.disk.before).faults (view o.disk.after).faults)
+      (HeadsLeaves view o.disk.before o.disk.after) (HeadsSafe view o.disk.before o.disk.after) (Some Read)
+      (of_follower Heads tt (heads_causes o.inputs (view o.disk.before).content (view o.disk.before).faults (view o.disk.after).faults))
+      (λ p n came. no_usage Written written_tells n came.0 came.2) written_of_disk (safe_list (heads_is_safe view o.disk.before o.disk.after))
   rows _ = unbuilt_row _
+
+  -- a disk that reads as a list of heads serves each command of a follower
+  pub serves_list : (c : Command) → IsOfFollower c → (k : Kept) → ReadsAsList (view o.disk.before).content k → (why : StoreCause) → (work view o c).undone (Unserved why) → ⊥
+  serves_list (Watch name) of k reads why came =
+      (watch_causes o.inputs (view o.disk.before).content (view o.disk.before).faults (view o.disk.after).faults name).serves k reads why came.0
+  serves_list (Offer file) of k reads why came =
+      (offer_causes o.inputs (view o.disk.before).content (view o.disk.before).faults (view o.disk.after).faults file).serves k reads why came.0
+  serves_list Heads of k reads why came =
+      (heads_causes o.inputs (view o.disk.before).content (view o.disk.before).faults (view o.disk.after).faults).serves k reads why came.0
+  serves_list _ of k reads why came = absurd of
 
 -- a command that judges comes to a verdict or isn't done
 of_result : (o : Outcome) (r : Result Verdict CommandFault) → o ≡ outcome_by Judged r → ((v : Verdict) × (o ≡ Judged v)) ⊎ ((f : CommandFault) × (o ≡ Undone f))

@@ -31,22 +31,25 @@ use Rattle.tw_chain.specs.Accepting.{carried, proof_texts, report_of}
 use Rattle.tw_filecmd.specs.declared.joining.Joined.{Joined as JoinedProofs}
 use Rattle.tw_filecmd.specs.declared.joining.Joined.TheVariants.{Whole, Unfit}
 use Rattle.tw_diskcmd.specs.Disks.{IsLeft, ReadsAs}
+use Rattle.tw_follow.specs.HeadLists.{Kept}
+use Rattle.tw_followcmd.specs.Disks.{ReadsAs as ReadsAsList}
 use Rattle.tw_app.specs.declared.outcome.Outcome.{Outcome}
-use Rattle.tw_app.specs.declared.outcome.Outcome.TheVariants.{Judged, Written, Joined, Made, Answered, BadWords, Undone}
+use Rattle.tw_app.specs.declared.outcome.Outcome.TheVariants.{Judged, Written, Joined, Made, Received, Answered, BadWords, Undone}
 use Rattle.tw_evidence.specs.declared.fork.ForkVerdict.TheVariants as fork
 use Rattle.tw_reachcmd.specs.declared.accusing.Accused.TheVariants as accused
 use Rattle.tw_audit.specs.declared.finding.Finding.TheVariants as finding
 use Rattle.tw_tmap.specs.declared.map_verdict.MapVerdict.TheVariants as bounds
 use Rattle.tw_reachcmd.specs.declared.answer.Answer.{Answer}
+use Rattle.tw_reachcmd.specs.declared.adopting.Taken.TheVariants as taken
 use Rattle.tw_reachcmd.specs.declared.auditing.Audited.TheVariants as audited
 use Rattle.tw_reachcmd.specs.declared.answer.Answer.TheVariants as answers
 use Rattle.tw_app.specs.Around.{Around, Writes}
-use Rattle.tw_app.specs.Commands.{NamesFile}
+use Rattle.tw_app.specs.Commands.{IsOfFollower, NamesFile}
 use Rattle.tw_app.specs.Outcomes.{TakesMemory, status_of, text_of}
 use Rattle.tw_app.specs.Running.{Ends, EndsWith, HasOutcome, HaveNoForm, IsUntouched, Work, work}
 use Rattle.tw_app.specs.Statuses.{AreOf, DiskFailed, IsAcceptedRun, IsAnsweredRun, IsBuilt, IsDiskFaultRun, IsDoneRun, IsGapRun, IsIdle, IsInputFaultRun, IsRejectedRun, IsStatus, IsUndoneRun, IsUsageRun, IsVerify, IsWork}
 use Rattle.tw_app.proofs.Words.{no_text_outcome}
-use Rattle.tw_app.proofs.Commands.{Judges, LeavesGap, Row, fault_not_zero, of_option, rows, same_left, verdict_or_fault}
+use Rattle.tw_app.proofs.Commands.{Judges, LeavesGap, Row, fault_not_zero, of_option, of_words, rows, same_left, serves_list, verdict_or_fault}
 
 pub zero_not_four : (n : ℕ) → n ≡ 0 → n ≡ 4 → ⊥
 zero_not_four n zeroth fourth = omega (arith, zeroth, fourth)
@@ -70,6 +73,8 @@ not_answer (answers.Audited (audited.Unheld held found)) n zeroth first tenth to
 not_answer (answers.Mapped (bounds.Yes low high upto)) n zeroth first tenth told = zeroth told
 not_answer (answers.Mapped (bounds.No reason)) n zeroth first tenth told = first told
 not_answer (answers.Mapped bounds.Gap) n zeroth first tenth told = first told
+not_answer (answers.Taken (taken.File bytes)) n zeroth first tenth told = zeroth told
+not_answer (answers.Taken (taken.Fault fault)) n zeroth first tenth told = first told
 not_answer (answers.Fork (fork.Yes shown)) n zeroth first tenth told = zeroth told
 not_answer (answers.Fork (fork.No reason)) n zeroth first tenth told = first told
 
@@ -277,6 +282,7 @@ module _ {D : Type 0} (view : D → DiskView)
         by (Undone f) has first written = absurd (not_fault f 1 first (omega arith))
         by (Written bytes) has first written = absurd (omega (arith, first))
         by (Made thread) has first written = absurd (omega (arith, first))
+        by (Received receipt) has first written = absurd (omega (arith, first))
         by (BadWords n) has first written = absurd (omega (arith, first))
 
     pub clash : status ≡ 10 → IsAnsweredRun view a 10
@@ -394,8 +400,13 @@ module _ {D : Type 0} (view : D → DiskView)
     pub unserved : status ≡ 8 → (cause : StoreCause) × IsUndoneRun view a (Unserved cause)
     unserved is = unserved_by is (λ cause has written. (cause, said (Unserved cause) (λ none. none) has written))
 
-    pub complete : status ≡ 8 → (h : History) → ReadsAs (view a.outside.disk.before).content h → ⊥
-    complete is h reads = unserved_by is (λ cause has written. undone_by (Unserved cause) (λ none. none) has (λ c of undone. (known c).serves h reads cause undone))
+    pub complete : status ≡ 8 → (AreOf IsOfFollower a.words → ⊥) → (h : History) → ReadsAs (view a.outside.disk.before).content h → ⊥
+    complete is other h reads = unserved_by is (λ cause has written. undone_by (Unserved cause) (λ none. none) has
+        (λ c of undone. (known c).serves (λ follows. other (of_option IsOfFollower a.words c of follows)) h reads cause undone))
+
+    pub list_complete : status ≡ 8 → AreOf IsOfFollower a.words → (k : Kept) → ReadsAsList (view a.outside.disk.before).content k → ⊥
+    list_complete is follows k reads = unserved_by is (λ cause has written. undone_by (Unserved cause) (λ none. none) has
+        (λ c of undone. serves_list view only_now as_it_reads a.outside c (of_words IsOfFollower a.words c of follows) k reads cause undone))
 
     pub unreadable : status ≡ 9 → (bad : BadInput) × IsUndoneRun view a (Unreadable bad)
     unreadable is = says 9 is (λ k. omega arith) (omega arith, omega arith) by
@@ -426,6 +437,8 @@ module _ {D : Type 0} (view : D → DiskView)
     is_answer_status (answers.Mapped (bounds.Yes low high upto)) = inl refl
     is_answer_status (answers.Mapped (bounds.No reason)) = inr (inl refl)
     is_answer_status (answers.Mapped bounds.Gap) = inr (inl refl)
+    is_answer_status (answers.Taken (taken.File bytes)) = inl refl
+    is_answer_status (answers.Taken (taken.Fault fault)) = inr (inl refl)
     is_answer_status (answers.Fork (fork.Yes shown)) = inl refl
     is_answer_status (answers.Fork (fork.No reason)) = inr (inl refl)
 
@@ -436,6 +449,7 @@ module _ {D : Type 0} (view : D → DiskView)
     is_status (Joined (Whole proof)) = inl refl
     is_status (Joined (Unfit place)) = inr (inl refl)
     is_status (Made thread) = inl refl
+    is_status (Received receipt) = inl refl
     is_status (Answered answer) = is_answer_status answer
     is_status (BadWords n) = inr (inr (inl refl))
     is_status (Undone f) = fault_is_status f

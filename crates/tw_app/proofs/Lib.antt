@@ -8,8 +8,10 @@ pub mod MapRuns
 pub mod Audits
 pub mod OneReason
 pub mod OneFamily
+pub mod OneAdoption
 pub mod OneAtlas
 pub mod OneFork
 pub mod OneMap
 pub mod OneAnswer
 pub mod AuditsFound
+pub mod Adoptions

@@ -1,10 +1,12 @@
 -- Over files whose bytes are told, each command over files that reach beyond one proof comes to one answer; so two runs alike end alike.
-use Rattle.std.proofs.Common.{◌≡◌, ◌∙◌, ℕ, List, [], ap, sym, subst, inl, inr, refl, ◌⊎◌}
+use Rattle.std.proofs.Common.{◌≡◌, ◌∙◌, ℕ, List, [], ◌∷◌, ap, sym, subst, inl, inr, refl, ◌⊎◌}
 use Rattle.std.specs.Prelude.{Option, MatchOption, Result, Ok, Err}
 use Rattle.tw_base.specs.declared.history.thread.Key.{Key}
 use Rattle.tw_base.specs.declared.history.thread.Thread.{Thread}
 use Rattle.tw_base.specs.declared.kinds.limits.TheConstants.{MOST_HISTORY_BYTES}
 use Rattle.tw_base.specs.history.History.{History}
+use Rattle.tw_base.specs.history.HistoryCodec.{history_layout}
+use Rattle.tw_base.proofs.lemmas.format.FormatLaws.{one_value}
 use Rattle.tw_base.specs.kinds.Faults.{Rose}
 use Rattle.sha2.specs.Sha256.{sha256}
 use Rattle.tw_disk.specs.Disk.{DiskView}
@@ -12,7 +14,7 @@ use Rattle.tw_outside.specs.Asked.{Asked, asked}
 use Rattle.tw_outside.specs.Files.{Files}
 use Rattle.tw_words.specs.CommandLine.{command_of}
 use Rattle.tw_words.specs.declared.command.Command.{Command}
-use Rattle.tw_words.specs.declared.command.Command.TheVariants.{Accuse, Atlas, Audit, CheckFork, CheckMap}
+use Rattle.tw_words.specs.declared.command.Command.TheVariants.{Accuse, Adopt, Atlas, Audit, CheckFork, CheckMap}
 use Rattle.tw_text.specs.declared.fault.CommandFault.{CommandFault}
 use Rattle.tw_text.specs.declared.fault.CommandFault.TheVariants.{DiskFault, InputFault, NoMemory, Refused, Unreadable, Unserved}
 use Rattle.tw_text.specs.declared.refusal.BadInput.{BadInput}
@@ -28,6 +30,8 @@ use Rattle.tw_reachcmd.specs.declared.accusing.Accused.{Accused}
 use Rattle.tw_reachcmd.specs.declared.auditing.Audited.{Audited}
 use Rattle.tw_reachcmd.specs.declared.planning.Planned.{Planned}
 use Rattle.tw_reachcmd.specs.Accusing.{AccuseComes}
+use Rattle.tw_reachcmd.specs.declared.adopting.Taken.{Taken}
+use Rattle.tw_reachcmd.specs.Adopting.{AdoptComes, IsTaken}
 use Rattle.tw_reachcmd.specs.Auditing.{AuditComes, finding_answer}
 use Rattle.tw_reachcmd.specs.Forks.{CheckForkComes}
 use Rattle.tw_reachcmd.specs.Maps.{CheckMapComes}
@@ -36,8 +40,9 @@ use Rattle.tw_app.specs.declared.outcome.Outcome.{Outcome}
 use Rattle.tw_app.specs.Alike.{AreAlike, ReachesBeyond, TellsEach}
 use Rattle.tw_app.specs.Around.{Around, Writes}
 use Rattle.tw_app.specs.Commands.{files_of}
-use Rattle.tw_app.specs.Outcomes.{of_accused, of_audited, of_fork, of_mapped, of_planned, outcome_by, status_of, text_of}
+use Rattle.tw_app.specs.Outcomes.{of_accused, of_audited, of_fork, of_mapped, of_planned, of_taken, outcome_by, status_of, text_of}
 use Rattle.tw_app.specs.Running.{Ends, EndsWith, HaveNoForm, IsHindered, IsOutcomeOf, IsUntouched, work}
+use Rattle.tw_app.proofs.OneAdoption.{byte_not_broken, byte_once, file_not_bad, file_not_broken, rule_once, taken_once}
 use Rattle.tw_app.proofs.OneAtlas.{bad_receipts_once, hops_not_bad, hops_once, planned_once}
 use Rattle.tw_app.proofs.OneFamily.{bad_history_once, histories_not_bad, histories_once}
 use Rattle.tw_app.proofs.OneFork.{bad_parts_once, made_once, parts_not_bad, tells_parts}
@@ -260,6 +265,65 @@ module _ (told : Option Files) where
       not_done = λ x bad a b. audit_apart proof anchors histories tells k l m n x bad b a;
     }
 
+  module _ (history anchors proof : List ℕ) (more : List (List ℕ)) (tells : TellsEach told (files_of (Adopt history anchors proof more))) (m n k l : ℕ) where
+    abbrev One : Result Taken CommandFault → Type 0
+    One = AdoptComes (asked told m n) history anchors (proof ∷ more)
+
+    abbrev Other : Result Taken CommandFault → Type 0
+    Other = AdoptComes (asked told k l) history anchors (proof ∷ more)
+
+    adopt_done : (x y : Taken) → One (Ok x) → Other (Ok y) → x ≡ y
+    adopt_done x y a b =
+        let all = tell_all told (proof ∷ more) tells.1.1 in
+        let held : b.0 ≡ a.0 = anchors_once told anchors tells.1.0.0 tells.1.0.1 b.0 a.0 b.1 a.1 in
+        let one = a.3.holds tells.0.0 tells.0.1 in
+        let other = b.3.holds tells.0.0 tells.0.1 in
+        let same : other.0 ≡ one.0 = one_value history_layout tells.0.0 other.0 one.0 other.1.spelled one.1.spelled in
+        taken_once a.0 one.0 told (proof ∷ more) all.0 all.1 x y one.2
+        (subst (λ (h : History). IsTaken told a.0 (proof ∷ more) y h) same (subst (λ (t : List Thread). IsTaken told t (proof ∷ more) y other.0) held other.2))
+
+    adopt_bad : (bad other : BadInput) → One (Err (Unreadable bad)) → Other (Err (Unreadable other)) → bad ≡ other
+    adopt_bad (BadLine named p) (BadLine again q) a b = (
+        let names = a.0 ∙ sym b.0 in
+        let numbers = bad_line_once told anchors tells.1.0.0 tells.1.0.1 history p q a.1 b.1 in
+        λ i. BadLine (names i) (numbers i))
+    adopt_bad (BadByte named p) (BadByte again q) a b = (
+        let names = a.0 ∙ sym b.0 in
+        let places = byte_once tells.0.0 p q (a.2 tells.0.0 tells.0.1) (b.2 tells.0.0 tells.0.1) in
+        λ i. BadByte (names i) (places i))
+    adopt_bad (Unsound named step rule) (Unsound again later other) a b = (
+        let names = a.0 ∙ sym b.0 in
+        let both = rule_once tells.0.0 step rule later other (a.2 tells.0.0 tells.0.1) (b.2 tells.0.0 tells.0.1) in
+        let steps = both.0 in
+        let rules = both.1 in
+        λ i. Unsound (names i) (steps i) (rules i))
+    adopt_bad (BadByte named p) (Unsound again step rule) a b = absurd (byte_not_broken tells.0.0 p step rule (a.2 tells.0.0 tells.0.1) (b.2 tells.0.0 tells.0.1))
+    adopt_bad (Unsound named step rule) (BadByte again q) a b = absurd (byte_not_broken tells.0.0 q step rule (b.2 tells.0.0 tells.0.1) (a.2 tells.0.0 tells.0.1))
+    adopt_bad (BadLine named p) (BadByte again q) a b =
+        absurd (let of = a.3.holds tells.0.0 tells.0.1 in file_not_bad tells.0.0 of.0 q of.1 (b.2 tells.0.0 tells.0.1))
+    adopt_bad (BadLine named p) (Unsound again step rule) a b =
+        absurd (let of = a.3.holds tells.0.0 tells.0.1 in file_not_broken tells.0.0 of.0 step rule of.1 (b.2 tells.0.0 tells.0.1))
+    adopt_bad (BadByte named p) (BadLine again q) a b =
+        absurd (let of = b.3.holds tells.0.0 tells.0.1 in file_not_bad tells.0.0 of.0 p of.1 (a.2 tells.0.0 tells.0.1))
+    adopt_bad (Unsound named step rule) (BadLine again q) a b =
+        absurd (let of = b.3.holds tells.0.0 tells.0.1 in file_not_broken tells.0.0 of.0 step rule of.1 (a.2 tells.0.0 tells.0.1))
+
+    adopt_apart : (x : Taken) (bad : BadInput) → One (Ok x) → Other (Err (Unreadable bad)) → ⊥
+    adopt_apart x (BadLine named number) a b = good_not_bad told anchors tells.1.0.0 tells.1.0.1 a.0 history number a.1 b.1
+    adopt_apart x (BadByte named place) a b =
+        let of = a.3.holds tells.0.0 tells.0.1 in file_not_bad tells.0.0 of.0 place of.1 (b.2 tells.0.0 tells.0.1)
+    adopt_apart x (Unsound named step rule) a b =
+        let of = a.3.holds tells.0.0 tells.0.1 in file_not_broken tells.0.0 of.0 step rule of.1 (b.2 tells.0.0 tells.0.1)
+
+  module _ (history anchors proof : List ℕ) (more : List (List ℕ)) (tells : TellsEach told (files_of (Adopt history anchors proof more))) (m n k l : ℕ) where
+    adopt_agree : Agree (AdoptComes (asked told m n) history anchors (proof ∷ more)) (AdoptComes (asked told k l) history anchors (proof ∷ more))
+    adopt_agree = record {
+      done_once = adopt_done history anchors proof more tells m n k l;
+      bad_once = adopt_bad history anchors proof more tells m n k l;
+      not_bad = adopt_apart history anchors proof more tells m n k l;
+      not_done = λ x bad a b. adopt_apart history anchors proof more tells k l m n x bad b a;
+    }
+
 -- ---- each command comes of files alone
 
 module _ (a : Asked) where
@@ -274,6 +338,9 @@ module _ (a : Asked) where
 
   atlas_files : (start : Key) (files : List (List ℕ)) → IsOfFiles a.before a.after (AtlasComes a start files)
   atlas_files start files = record { input = λ failed. failed.1; disk = λ came. came; refused = λ refusal came. came; unserved = λ cause came. came }
+
+  adopt_files : (history anchors : List ℕ) (proofs : List (List ℕ)) → IsOfFiles a.before a.after (AdoptComes a history anchors proofs)
+  adopt_files history anchors proofs = record { input = λ rose. rose; disk = λ came. came; refused = λ refusal came. came; unserved = λ cause came. came }
 
   audit_files : (proof anchors : List ℕ) (histories : List (List ℕ)) → IsOfFiles a.before a.after (AuditComes a proof anchors histories)
   audit_files proof anchors histories =
@@ -373,6 +440,12 @@ module _ {D : Type 0} (view : D → DiskView) (one other : Around D) (alike : Ar
       (audit_files one.outside.inputs proof anchors histories) (audit_files other.outside.inputs proof anchors histories)
       (subst (λ (t : Option Files). Agree (AuditComes (asked told m n) proof anchors histories) (AuditComes (asked t k l) proof anchors histories)) (sym alike.same_told)
       (audit_agree told proof anchors histories tells m n k l))
+      (IsUntouched view one.outside) (IsUntouched view other.outside) x y came comes ends ended
+  by_command (Adopt history anchors proof more) reaches tells x y came comes ends ended =
+      alike_ends of_taken (AdoptComes one.outside.inputs history anchors (proof ∷ more)) (AdoptComes other.outside.inputs history anchors (proof ∷ more))
+      (adopt_files one.outside.inputs history anchors (proof ∷ more)) (adopt_files other.outside.inputs history anchors (proof ∷ more))
+      (subst (λ (t : Option Files). Agree (AdoptComes (asked told m n) history anchors (proof ∷ more)) (AdoptComes (asked t k l) history anchors (proof ∷ more))) (sym alike.same_told)
+      (adopt_agree told history anchors proof more tells m n k l))
       (IsUntouched view one.outside) (IsUntouched view other.outside) x y came comes ends ended
   by_command _ reaches tells x y came comes ends ended = absurd reaches
 

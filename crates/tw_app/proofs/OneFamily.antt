@@ -17,7 +17,7 @@ use Rattle.tw_app.proofs.ToldFiles.{place_once}
 
 -- ---- the first broken rule
 
-sound_not_broken : (h : History) (step rule : ℕ) → IsSound h → IsFirstBroken h step rule → ⊥
+pub sound_not_broken : (h : History) (step rule : ℕ) → IsSound h → IsFirstBroken h step rule → ⊥
 sound_not_broken h step rule sound first = first.broken ((sound.steps first.i first.s first.there.1).rules first.broken_rule)
 
 module _ (h : History) where
@@ -53,7 +53,7 @@ module _ (h : History) where
           subst (λ (k : ℕ). KeepsRule h k first.s first.broken_rule) at
           (subst (λ (s : Step). KeepsRule h second.i s first.broken_rule) same (second.lower first.broken_rule below))
 
-  broken_once : (step rule again other : ℕ) → IsFirstBroken h step rule → IsFirstBroken h again other → (step ≡ again) × (rule ≡ other)
+  pub broken_once : (step rule again other : ℕ) → IsFirstBroken h step rule → IsFirstBroken h again other → (step ≡ again) × (rule ≡ other)
   broken_once step rule again other first second = (
     (let at = one_index step rule again other first second in let here = first.there.0 in let there = second.there.0 in omega (arith, at, here, there)),
     elim (cases_lt rule other) [

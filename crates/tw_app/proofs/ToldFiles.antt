@@ -1,13 +1,14 @@
 -- What the bytes of files determine that the inputs tell.
-use Rattle.std.proofs.Common.{◌≡◌, ◌∙◌, ℕ, ◌≤◌, List, [], ◌∷◌, refl, sym, subst, arith, inl, inr}
+use Rattle.std.proofs.Common.{◌≡◌, ◌∙◌, ℕ, ◌≤◌, List, [], ◌∷◌, map, refl, ap, sym, subst, arith, inl, inr}
 use Rattle.std.specs.Prelude.{true, false, Option, Some, IsSome}
 use Rattle.std.proofs.lemmas.Bool.{cases_lt}
 use Rattle.tw_base.specs.declared.history.thread.Thread.{Thread}
 use Rattle.tw_base.specs.format.Formats.{Format, IsPlace, Spells}
 use Rattle.tw_base.proofs.lemmas.format.FormatLaws.{one_value}
 use Rattle.tw_outside.specs.Files.{Files, IsThere, Tells}
-use Rattle.tw_msg.specs.AnchorsFile.{IsFirstBadLine, is_good, lines}
+use Rattle.tw_msg.specs.AnchorsFile.{AllGood, IsFirstBadLine, anchor, is_good, lines}
 use Rattle.tw_filecmd.specs.Verifying.{HasAnchors, HasBadLine}
+use Rattle.tw_reachcmd.specs.Anchors.{AreAnchorsOf}
 use Rattle.tw_reachcmd.specs.Held.{Holds, HoldsNone, TellAll}
 use Rattle.tw_app.specs.Alike.{TellsEach}
 
@@ -62,6 +63,14 @@ first_bad_once all one other is also = elim (cases_lt is.index also.index) [
     apart i good bad = let both : true ≡ false = sym good ∙ bad in cc
 
 module _ (told : Option Files) (file bytes : List ℕ) (tells : Tells told file bytes) where
+  -- a file of good lines has their anchors
+  pub has_anchors_of : (anchors : List Thread) → AreAnchorsOf bytes anchors → HasAnchors told file anchors
+  has_anchors_of anchors are = record {
+    there = there told file bytes tells;
+    good = λ others other. subst (λ (b : List ℕ). AllGood (lines b)) (same told file bytes others tells other) are.good;
+    same = λ others other. are.are ∙ ap (λ (b : List ℕ). map anchor (lines b)) (same told file bytes others tells other);
+  }
+
   pub anchors_once : (one other : List Thread) → HasAnchors told file one → HasAnchors told file other → one ≡ other
   anchors_once one other has also = has.same bytes tells ∙ sym (also.same bytes tells)
 

@@ -4,7 +4,7 @@ use Rattle.tw_base.specs.kinds.Lists.{Each}
 use Rattle.tw_outside.specs.Files.{Files, Tells}
 use Rattle.tw_words.specs.CommandLine.{command_of}
 use Rattle.tw_words.specs.declared.command.Command.{Command}
-use Rattle.tw_words.specs.declared.command.Command.TheVariants.{CheckMap, Audit, Atlas, Accuse, CheckFork}
+use Rattle.tw_words.specs.declared.command.Command.TheVariants.{CheckMap, Audit, Adopt, Atlas, Accuse, CheckFork}
 use Rattle.tw_app.specs.Around.{Around}
 use Rattle.tw_app.specs.Commands.{files_of}
 
@@ -12,6 +12,7 @@ use Rattle.tw_app.specs.Commands.{files_of}
 abbrev pub ReachesBeyond : Command → Type 0
 ReachesBeyond (CheckMap low high anchors) = Unit {0}
 ReachesBeyond (Audit proof anchors histories) = Unit {0}
+ReachesBeyond (Adopt history anchors proof more) = Unit {0}
 ReachesBeyond (Atlas name pos files) = Unit {0}
 ReachesBeyond (Accuse first second link) = Unit {0}
 ReachesBeyond (CheckFork file anchors) = Unit {0}

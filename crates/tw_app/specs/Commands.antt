@@ -1,12 +1,12 @@
 -- Which files the commands name.
 use Rattle.std.specs.Prelude.{ℕ, List, [], ◌∷◌, Some, None}
 use Rattle.tw_words.specs.declared.command.Command.{Command}
-use Rattle.tw_words.specs.declared.command.Command.TheVariants.{Append, Receive, Show, Join, VerifyFile, VerifyOne, Strict, CheckMap, Audit, Atlas, Accuse, CheckFork, Replay}
+use Rattle.tw_words.specs.declared.command.Command.TheVariants.{Append, Receive, Show, Join, VerifyFile, VerifyOne, Strict, CheckMap, Audit, Atlas, Accuse, CheckFork, Adopt, Watch, Offer, Heads, Replay}
 
 -- the files that a command's words name, in their order; a directory is none
 abbrev pub files_of : Command → List (List ℕ)
 files_of (Append file time) = file ∷ []
-files_of (Receive file) = file ∷ []
+files_of (Receive file time) = file ∷ []
 files_of (Show history step index) = history ∷ []
 files_of (Join files) = files
 files_of (VerifyFile proof anchors) = proof ∷ anchors ∷ []
@@ -18,8 +18,17 @@ files_of (Atlas name pos files) = files
 files_of (Accuse first second None) = first ∷ second ∷ []
 files_of (Accuse first second (Some link)) = first ∷ second ∷ link ∷ []
 files_of (CheckFork file anchors) = file ∷ anchors ∷ []
+files_of (Adopt history anchors proof more) = history ∷ anchors ∷ proof ∷ more
+files_of (Offer file) = file ∷ []
 files_of (Replay file) = file ∷ []
 files_of _ = []
+
+-- the command works on the disk of a follower
+abbrev pub IsOfFollower : Command → Type 0
+IsOfFollower (Watch name) = Unit {0}
+IsOfFollower (Offer file) = Unit {0}
+IsOfFollower Heads = Unit {0}
+IsOfFollower _ = ⊥
 
 -- there is a file
 abbrev pub IsSomeFile : (files : List (List ℕ)) → Type 0

@@ -1,6 +1,7 @@
 pub mod Alike
 pub mod Around
 pub mod Audits
+pub mod Adoptions
 pub mod Commands
 pub mod Judging
 pub mod MapRuns

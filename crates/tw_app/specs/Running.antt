@@ -1,5 +1,5 @@
 -- What each command does, what a run of the program comes to, and how it ends.
-use Rattle.std.specs.Prelude.{◌≡◌, ◌⊎◌, ℕ, List, true, false, Option, Some, None, Result, Ok, Err, MatchOption}
+use Rattle.std.specs.Prelude.{◌≡◌, ◌⊎◌, ℕ, List, ◌∷◌, true, false, Option, Some, None, Result, Ok, Err, MatchOption}
 use Rattle.tw_base.specs.kinds.Faults.{Rose}
 use Rattle.tw_disk.specs.Disk.{DiskView}
 use Rattle.tw_outside.specs.TakenBytes.{Appends, AppendsPart}
@@ -7,7 +7,7 @@ use Rattle.tw_words.specs.CommandLine.{IsFirstBad, command_of}
 use Rattle.tw_words.specs.declared.command.Command.{Command}
 use Rattle.tw_text.specs.declared.fault.CommandFault.{CommandFault}
 use Rattle.tw_text.specs.declared.fault.CommandFault.TheVariants.{NoMemory}
-use Rattle.tw_words.specs.declared.command.Command.TheVariants.{Init, Append, Thread, ProveEvent, ProveLink, Show, Join, VerifyFile, VerifyOne, Strict, CheckMap, Audit, Atlas, Accuse, CheckFork}
+use Rattle.tw_words.specs.declared.command.Command.TheVariants.{Init, Append, Thread, Receive, ProveEvent, ProveThread, ProveAbsent, ProveLink, MapLow, MapHigh, Show, Join, VerifyFile, VerifyOne, Strict, CheckMap, Audit, Adopt, Atlas, Accuse, CheckFork, Watch, Offer, Heads}
 use Rattle.tw_filecmd.specs.Joining.{JoinComes}
 use Rattle.tw_filecmd.specs.Showing.{ShowComes}
 use Rattle.tw_filecmd.specs.Verifying.{VerifyFileComes, VerifyOneComes}
@@ -15,19 +15,26 @@ use Rattle.tw_diskcmd.specs.Appending.{AppendComes, AppendLeaves, AppendSafe}
 use Rattle.tw_diskcmd.specs.Disks.{IsLeft, Keeps, ReadLeaves}
 use Rattle.tw_diskcmd.specs.Linking.{LinkComes}
 use Rattle.tw_diskcmd.specs.Making.{InitComes, InitLeaves, InitSafe}
+use Rattle.tw_diskcmd.specs.Mapping.{MapHighComes, MapLowComes}
 use Rattle.tw_diskcmd.specs.Proving.{ProveComes}
+use Rattle.tw_diskcmd.specs.Receiving.{ReceiveComes, ReceiveLeaves, ReceiveSafe}
 use Rattle.tw_diskcmd.specs.Telling.{ThreadComes}
+use Rattle.tw_diskcmd.specs.ThreadProofs.{AbsenceComes, ThreadProofComes}
+use Rattle.tw_followcmd.specs.Listing.{HeadsComes, HeadsLeaves, HeadsSafe}
+use Rattle.tw_followcmd.specs.Offering.{OfferComes, OfferLeaves, OfferSafe}
+use Rattle.tw_followcmd.specs.Watching.{WatchComes, WatchLeaves, WatchSafe}
 use Rattle.tw_reachcmd.specs.Accusing.{AccuseComes}
+use Rattle.tw_reachcmd.specs.Adopting.{AdoptComes}
 use Rattle.tw_reachcmd.specs.Auditing.{AuditComes}
 use Rattle.tw_reachcmd.specs.Forks.{CheckForkComes}
 use Rattle.tw_reachcmd.specs.Maps.{CheckMapComes}
 use Rattle.tw_reachcmd.specs.Planning.{AtlasComes}
 use Rattle.tw_app.specs.declared.outcome.Outcome.{Outcome}
-use Rattle.tw_app.specs.declared.outcome.Outcome.TheVariants.{Judged, Written, Joined, Made, BadWords, Undone}
+use Rattle.tw_app.specs.declared.outcome.Outcome.TheVariants.{Judged, Written, Joined, Made, Received, BadWords, Undone}
 use Rattle.tw_app.specs.declared.store.StoreAccess.{StoreAccess}
 use Rattle.tw_app.specs.declared.store.StoreAccess.TheVariants.{Read, Write}
 use Rattle.tw_app.specs.Around.{Around, Outside, Span, found_of}
-use Rattle.tw_app.specs.Outcomes.{of_accused, of_audited, of_fork, of_mapped, of_planned, outcome_by, status_of, text_of}
+use Rattle.tw_app.specs.Outcomes.{of_accused, of_audited, of_fork, of_mapped, of_planned, of_taken, outcome_by, status_of, text_of}
 
 -- ---- what a command does
 
@@ -121,8 +128,15 @@ module _ {D : Type 0} (view : D → DiskView) (o : Outside D) where
       writing Made (AppendComes o.inputs (found_of view o) file time) (AppendLeaves view o.disk.before o.disk.after o.inputs.told file time)
       (AppendSafe view o.disk.before o.disk.after o.inputs.told file time)
   work (Thread since) = reading Written (ThreadComes (found_of view o) since)
+  work (Receive file time) =
+      writing Received (ReceiveComes o.inputs (found_of view o) file time) (ReceiveLeaves view o.disk.before o.disk.after o.inputs.told file time)
+      (ReceiveSafe view o.disk.before o.disk.after o.inputs.told file time)
   work (ProveEvent step index top) = reading Written (ProveComes (found_of view o) step index top)
+  work (ProveThread step peer k top) = reading Written (ThreadProofComes step (record { from = peer; step = k }) top (found_of view o))
+  work (ProveAbsent step peer k top) = reading Written (AbsenceComes step (record { from = peer; step = k }) top (found_of view o))
   work (ProveLink step top) = reading Written (LinkComes (found_of view o) step top)
+  work (MapLow step peer top) = reading Written (MapLowComes step peer top (found_of view o))
+  work (MapHigh pos peer top) = reading Written (MapHighComes pos peer top (found_of view o))
   work (Show history step index) = over_files Written (ShowComes o.inputs history step index)
   work (Join files) = over_files Joined (JoinComes o.inputs files)
   work (VerifyFile proof anchors) = over_files Judged (VerifyFileComes o.inputs proof anchors false)
@@ -131,8 +145,19 @@ module _ {D : Type 0} (view : D → DiskView) (o : Outside D) where
   work (CheckMap low high anchors) = over_files of_mapped (CheckMapComes o.inputs low high anchors)
   work (Atlas name pos files) = over_files of_planned (AtlasComes o.inputs (record { from = name; step = pos }) files)
   work (Audit proof anchors histories) = over_files of_audited (AuditComes o.inputs proof anchors histories)
+  work (Adopt history anchors proof more) = over_files of_taken (AdoptComes o.inputs history anchors (proof ∷ more))
   work (Accuse first second link) = over_files of_accused (AccuseComes o.inputs first second link)
   work (CheckFork file anchors) = over_files of_fork (CheckForkComes o.inputs file anchors)
+  work (Watch name) =
+      writing Made (WatchComes (view o.disk.before).content (view o.disk.before).faults (view o.disk.after).faults name)
+      (WatchLeaves view o.disk.before o.disk.after name) (WatchSafe view o.disk.before o.disk.after name)
+  work (Offer file) =
+      writing Made (OfferComes o.inputs (view o.disk.before).content (view o.disk.before).faults (view o.disk.after).faults file)
+      (OfferLeaves view o.disk.before o.disk.after o.inputs.told file) (OfferSafe view o.disk.before o.disk.after o.inputs.told file)
+  work Heads =
+      by_results Written
+      (λ result. HeadsComes (view o.disk.before).content (view o.disk.before).faults (view o.disk.after).faults result × HeadsLeaves view o.disk.before o.disk.after result)
+      (HeadsSafe view o.disk.before o.disk.after) (Some Read)
   work _ = unbuilt
 
 -- ---- what words come to

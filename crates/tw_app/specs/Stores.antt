@@ -3,7 +3,7 @@ use Rattle.std.specs.Prelude.{◌≡◌, ℕ, List, [], Option, Some, None, Matc
 use Rattle.std.specs.Option.{option_map}
 use Rattle.tw_words.specs.CommandLine.{command_of}
 use Rattle.tw_words.specs.declared.command.Command.{Command}
-use Rattle.tw_words.specs.declared.command.Command.TheVariants.{Init, Append, Thread, ProveEvent, ProveLink}
+use Rattle.tw_words.specs.declared.command.Command.TheVariants.{Init, Append, Thread, Receive, ProveEvent, ProveThread, ProveAbsent, ProveLink, MapLow, MapHigh, Watch, Offer, Heads}
 use Rattle.tw_app.specs.declared.store.Store.{Store}
 use Rattle.tw_app.specs.declared.store.StoreAccess.{StoreAccess}
 use Rattle.tw_app.specs.declared.store.StoreAccess.TheVariants.{Read, Write}
@@ -13,8 +13,16 @@ abbrev pub access_of : Command → Option StoreAccess
 access_of (Init name) = Some Write
 access_of (Append file time) = Some Write
 access_of (Thread since) = Some Read
+access_of (Receive file time) = Some Write
 access_of (ProveEvent step index top) = Some Read
+access_of (ProveThread step peer k top) = Some Read
+access_of (ProveAbsent step peer k top) = Some Read
 access_of (ProveLink step top) = Some Read
+access_of (MapLow step peer top) = Some Read
+access_of (MapHigh pos peer top) = Some Read
+access_of (Watch name) = Some Write
+access_of (Offer file) = Some Write
+access_of Heads = Some Read
 access_of _ = None
 
 -- the store that the words ask for: that of their command, in the folder that the second word names

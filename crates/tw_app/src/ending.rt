@@ -12,6 +12,7 @@ ghost use Rattle.tw_words.specs.CommandLine.{command_of};
 ghost use Rattle.tw_text.specs.Lines.{anchor_text, no_memory_text};
 ghost use Rattle.tw_app.specs.declared.outcome.Outcome.TheVariants.{Undone};
 ghost use Rattle.tw_text.specs.declared.fault.CommandFault.TheVariants.{NoMemory as NoMemoryFault};
+ghost use Rattle.tw_app.specs.Adoptions.{AsksAdoption, IsAdoptedRun, IsAdoptingRun, IsAdoptionOf};
 ghost use Rattle.tw_app.specs.Around.{around, outside, span};
 ghost use Rattle.tw_app.specs.Commands.{files_of};
 ghost use Rattle.tw_app.specs.MapRuns.{AsksMap, IsMapRun};
@@ -28,8 +29,9 @@ use tw_base::{NoMemory, Thread};
 use tw_chain::Verdict;
 use tw_disk::Disk;
 use tw_filecmd::Joined;
+use tw_msg::write_receipt;
 use tw_outside::{Inputs, Sink, write_all};
-use tw_reachcmd::{Accused, Answer, answer_status};
+use tw_reachcmd::{Accused, Answer, Taken, answer_status};
 use tw_text::{CommandFault, anchor_line, fault_disk, fault_input, fault_status, no_memory};
 
 /// Status 4: the sink failed.
@@ -74,7 +76,8 @@ fn status_of(outcome: &Outcome) -> u8
         Outcome::Judged(Verdict::Yes(_))
         | Outcome::Written(_)
         | Outcome::Joined(Joined::Whole(_))
-        | Outcome::Made(_) => 0,
+        | Outcome::Made(_)
+        | Outcome::Received(_) => 0,
         Outcome::Judged(Verdict::No(_)) => 1,
         Outcome::Joined(Joined::Unfit { .. }) => 1,
         Outcome::Answered(answer) => answer_status(answer),
@@ -95,11 +98,13 @@ fn conclude<S: Sink>(alloc: Global, outcome: &Outcome, out: &mut S) -> u8
         Outcome::Undone(CommandFault::DiskFault) => tell(out, status, fault_disk()),
         Outcome::Undone(CommandFault::NoMemory) => tell(out, status, no_memory()),
         Outcome::Made(thread) => tell_thread(out, status, thread),
+        Outcome::Received(receipt) => tell(out, status, &write_receipt(receipt)),
         Outcome::Written(bytes) => tell(out, status, bytes.as_slice()),
         Outcome::Joined(Joined::Whole(proof)) => tell(out, status, proof.as_slice()),
         Outcome::Answered(Answer::Accused(Accused::Whole(evidence))) => {
             tell(out, status, evidence.as_slice())
         }
+        Outcome::Answered(Answer::Taken(Taken::File(bytes))) => tell(out, status, bytes.as_slice()),
         _ => match print(alloc, outcome) {
             Ok(text) => tell(out, status, text.as_slice()),
             Err(NoMemory) => tell(out, fault_status(&CommandFault::NoMemory), no_memory()),
@@ -136,16 +141,19 @@ fn run_to_the_end<D: Disk, I: Inputs, S: Sink>(
 /// status with the disk; whatever it has to say is written to the sink.
 ///
 /// - 0: the command's output was written whole: the report of an accepted proof or of one that stands
-///   in histories, the proof, the evidence or the message that was made, the fork that evidence shows, the
-///   bounds that map files show, an atlas, or the anchor line of the service or step that was made.
+///   in histories, the proof, the evidence or the message that was made, the receipt of a message that was
+///   received, the fork that evidence shows, the bounds that map files show, an atlas, the file of the history
+///   that is taken over, or the anchor line of the service or step that was made.
 /// - 1: the proof, the evidence or a map file isn't accepted, or the parts or the map files don't fit;
 ///   `rejected`, the lowest reason that stands and its fields, or `Gap` and the number of the part, of map
-///   files that of the second; or, of an audit, `unheld` and the thread that the histories don't have.
+///   files that of the second; of proofs by which a history is to be taken over the first fault; or, of an audit,
+///   `unheld` and the thread that the histories don't have.
 /// - 2: the words have no form; `usage` and the number of the first word at which none goes on, or 0
 ///   where the words have a form whose work isn't built yet.
 /// - 3: the inputs failed; `fault input`.
 /// - 4: the sink failed; a part of the text was written. A step that was made stands.
-/// - 5: the disk failed; `fault disk`. Of `append` it may hold the step or not, of `init` the service.
+/// - 5: the disk failed; `fault disk`. Of `append` and `receive` it may hold the step or not, of `init` the
+///   service.
 /// - 6: there was no memory; `no memory`. No step was made.
 /// - 7: what was asked for isn't there or may not be made; `refused`, the refusal's name and its
 ///   fields.
@@ -211,6 +219,26 @@ pub fn run<D: Disk, I: Inputs, S: Sink>(
         IsFoundRun (around (map string_bytes words.now)
         (outside (asked (I.told inputs.old) (I.faults inputs.old) (I.faults inputs.new)) disk result.disk)
         (span (S.taken out.old) (S.taken out.new)) (span (S.faults out.old) (S.faults out.new))) result.status bytes anchors family }
+    // Status 0 of `adopt`: its files are there. Where the inputs tell their bytes, the anchors file has no bad line, the history
+    // file is that of a sound history, and each proof file's bytes are those of a proof that is accepted under the anchors
+    // and shows that a service received a thread of the history's service, of which the history has the authenticator. The
+    // bytes written are the file of the history's steps up to the greatest step of these threads. This front of the history
+    // is sound, and the same as the history up to its last step. Every sound history that has the history's authenticator
+    // there is of the same service and has the same contents, times and trees up to there, or two different texts of both,
+    // both of bytes, have one SHA-256 digest. One of the proofs shows who received the thread of that authenticator. And
+    // what each proof shows is so in every list of sound histories that has the anchors and the carried threads held of it,
+    // or two different texts of these histories and of the proof, both of bytes, have one SHA-256 digest.
+    ensures adopted { result.status ≡ 0 → AreOf AsksAdoption (map string_bytes words.now)
+        → IsAdoptedRun (I.told inputs.old) (map string_bytes words.now) (S.taken out.old) (S.taken out.new) }
+    // Where the words are `adopt`, the inputs tell the bytes of all its files, the anchors file has no bad line, and the history
+    // file is that of a sound history: unless the inputs or the sink failed or there was no memory, each of the proofs is good
+    // and the status 0, with the file of the steps up to the furthest that they show; or one has a fault, each before it being
+    // good, and the status is 1, with the line of that fault.
+    ensures adopts { (h : History) (anchors : List AnchorThread) (proofs : List (List ℕ)) →
+        IsAdoptionOf (I.told inputs.old) (map string_bytes words.now) h anchors proofs →
+        IsAdoptingRun (around (map string_bytes words.now)
+        (outside (asked (I.told inputs.old) (I.faults inputs.old) (I.faults inputs.new)) disk result.disk)
+        (span (S.taken out.old) (S.taken out.new)) (span (S.faults out.old) (S.faults out.new))) result.status h anchors proofs }
     // Status 0 of `checkmap`: its files are there. Where the inputs tell their bytes, they hold a low and a high map file, of one
     // step of a service and of one peer, and anchors without a bad line, under which both map files are accepted. The bounds
     // that they show were written whole. And in every list of sound histories that has the anchors that are held of both tops,
@@ -225,9 +253,10 @@ pub fn run<D: Disk, I: Inputs, S: Sink>(
     ensures statuses { IsStatus result.status }
 
     // Whatever the status, where a disk stood for a history for good, each image that a crash at any moment may leave
-    // stands for it, or, at `append`, for it with a step of the file's events. After every other command than `append`
-    // the disk stands for it still, for good. At `append`, where the disk read as a history, with writes pending or
-    // not, each image is one that a crash might have left before, or stands for that history, or for it with that step.
+    // stands for it, or, at `append`, for it with a step of the file's events, or, at `receive`, for it with a step that archives
+    // the thread of the file's message, where the archive takes that, and with which it is sound. After every other
+    // command the disk stands for it still, for good. At these two, where the disk read as a history, with writes pending
+    // or not, each image is one that a crash might have left before, or stands for that history, or for it with that step.
     // What the disk reads as is told still, and stands for one of the two. At `init`, where the content was told, each
     // image is one that a crash might have left before, or is blank, or stands for the history of that name without
     // steps. What the disk then reads as is told still, and is such an image. Where a store was there, of a service or

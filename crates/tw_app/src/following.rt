@@ -4,22 +4,31 @@ ghost use Rattle.std.specs.Prelude.{◌≡◌, map, string_bytes, IfSome};
 ghost use Rattle.tw_base.specs.kinds.Lists.{Each};
 ghost use Rattle.tw_outside.specs.Asked.{asked};
 ghost use Rattle.tw_words.specs.CommandLine.{command_of};
+ghost use Rattle.tw_words.specs.Ranges.{IsWithinRanges};
 ghost use Rattle.tw_app.specs.Around.{outside};
 ghost use Rattle.tw_app.specs.Commands.{files_of};
 ghost use Rattle.tw_app.specs.Outcomes.{outcome_by};
-ghost use Rattle.tw_app.specs.declared.outcome.Outcome.TheVariants.{Made as OfThread, Written as OfBytes};
+ghost use Rattle.tw_app.specs.declared.outcome.Outcome.TheVariants.{Made as OfThread, Received as OfReceipt, Written as OfBytes};
 ghost use Rattle.tw_app.specs.Running.{HasOutcome, work};
 
 use crate::outcome::{
-    Outcome, accused, audited, fork_judged, joined, judged, made, mapped, planned, written,
+    Outcome, accused, audited, fork_judged, joined, judged, made, mapped, planned, received, taken,
+    written,
 };
 use std::alloc::Global;
-use tw_base::{Bytes, Thread};
+use tw_base::{Bytes, Key, Name, Thread};
 use tw_disk::Disk;
-use tw_diskcmd::{Worked, append, make, prove, prove_link, tell};
+use tw_diskcmd::{
+    Worked, append, make, map_high, map_low, prove, prove_absent, prove_link, prove_thread,
+    receive, tell,
+};
 use tw_filecmd::{join_files, show, verify_file, verify_one};
+use tw_followcmd::{Worked as FollowWorked, list_heads, offer, watch};
+use tw_msg::Receipt;
 use tw_outside::Inputs;
-use tw_reachcmd::{accuse_linked, accuse_pair, audit_files, check_fork, check_maps, plan_files};
+use tw_reachcmd::{
+    accuse_linked, accuse_pair, adopt_files, audit_files, check_fork, check_maps, plan_files,
+};
 use tw_text::CommandFault;
 use tw_words::{Command, WordFault, read_words};
 
@@ -62,7 +71,8 @@ fn follow<D: Disk, I: Inputs>(
     disk: D,
     inputs: &mut I,
 ) -> Followed<D>
-    requires { Each (I.may_ask inputs.old) (files_of command.now) }
+    requires files { Each (I.may_ask inputs.old) (files_of command.now) }
+    requires ranges { IsWithinRanges command.now }
     ensures { (work D.view (outside (asked (I.told inputs.old) (I.faults inputs.old) (I.faults inputs.new)) disk result.disk) command.now).does result.outcome }
 {
     match command {
@@ -71,10 +81,25 @@ fn follow<D: Disk, I: Inputs>(
             with_thread(append(alloc, disk, inputs, file.as_str(), *time))
         }
         Command::Thread { since } => with_bytes(tell(alloc, disk, *since)),
+        Command::Receive { file, time } => {
+            with_receipt(receive(alloc, disk, inputs, file.as_str(), *time))
+        }
         Command::ProveEvent { step, index, top } => {
             with_bytes(prove(alloc, disk, *step, *index, *top))
         }
+        Command::ProveThread { step, peer, k, top } => {
+            with_bytes(prove_thread(alloc, disk, *step, &key_of(*peer, *k), *top))
+        }
+        Command::ProveAbsent { step, peer, k, top } => {
+            with_bytes(prove_absent(alloc, disk, *step, &key_of(*peer, *k), *top))
+        }
         Command::ProveLink { step, top } => with_bytes(prove_link(alloc, disk, *step, *top)),
+        Command::MapLow { step, peer, top } => {
+            with_bytes(map_low(alloc, disk, *step, *peer, *top))
+        }
+        Command::MapHigh { pos, peer, top } => {
+            with_bytes(map_high(alloc, disk, *pos, *peer, *top))
+        }
         Command::Show {
             history,
             step,
@@ -127,6 +152,22 @@ fn follow<D: Disk, I: Inputs>(
             )),
             disk,
         },
+        Command::Adopt {
+            history,
+            anchors,
+            proof,
+            more,
+        } => Followed {
+            outcome: taken(adopt_files(
+                alloc,
+                inputs,
+                history.as_str(),
+                anchors.as_str(),
+                proof.as_str(),
+                more.as_slice(),
+            )),
+            disk,
+        },
         Command::Accuse {
             first,
             second,
@@ -153,6 +194,9 @@ fn follow<D: Disk, I: Inputs>(
             outcome: fork_judged(check_fork(alloc, inputs, file.as_str(), anchors.as_str())),
             disk,
         },
+        Command::Watch { name } => with_head(watch(alloc, disk, *name)),
+        Command::Offer { file } => with_head(offer(alloc, disk, inputs, file.as_str())),
+        Command::Heads => with_heads(list_heads(alloc, disk)),
         _ => Followed {
             outcome: Outcome::BadWords { number: 0 },
             disk,
@@ -171,7 +215,7 @@ fn with_thread<D>(worked: Worked<D, Thread>) -> Followed<D>
     }
 }
 
-/// What came of a command that makes a proof or a message.
+/// What came of a command that makes a proof, a map file or a message.
 fn with_bytes<D>(worked: Worked<D, Bytes>) -> Followed<D>
     ensures outcome { result.outcome ≡ outcome_by OfBytes worked.outcome }
     ensures disk { result.disk ≡ worked.disk }
@@ -180,4 +224,44 @@ fn with_bytes<D>(worked: Worked<D, Bytes>) -> Followed<D>
         outcome: written(worked.outcome),
         disk: worked.disk,
     }
+}
+
+/// What came of a command that makes a follower or offers it a message.
+fn with_head<D>(worked: FollowWorked<D, Thread>) -> Followed<D>
+    ensures outcome { result.outcome ≡ outcome_by OfThread worked.outcome }
+    ensures disk { result.disk ≡ worked.disk }
+{
+    Followed {
+        outcome: made(worked.outcome),
+        disk: worked.disk,
+    }
+}
+
+/// What came of a command that tells the heads of a follower.
+fn with_heads<D>(worked: FollowWorked<D, Bytes>) -> Followed<D>
+    ensures outcome { result.outcome ≡ outcome_by OfBytes worked.outcome }
+    ensures disk { result.disk ≡ worked.disk }
+{
+    Followed {
+        outcome: written(worked.outcome),
+        disk: worked.disk,
+    }
+}
+
+/// What came of a command that receives a message.
+fn with_receipt<D>(worked: Worked<D, Receipt>) -> Followed<D>
+    ensures outcome { result.outcome ≡ outcome_by OfReceipt worked.outcome }
+    ensures disk { result.disk ≡ worked.disk }
+{
+    Followed {
+        outcome: received(worked.outcome),
+        disk: worked.disk,
+    }
+}
+
+/// The key of a peer's step.
+fn key_of(peer: Name, step: u64) -> Key
+    ensures { result ≡ record { from = peer; step = step } }
+{
+    Key { from: peer, step }
 }

@@ -9,7 +9,10 @@ ghost use Rattle.tw_text.specs.declared.fault.CommandFault.TheVariants.{Refused,
 ghost use Rattle.tw_text.specs.declared.refusal.BadInput.{BadInput};
 ghost use Rattle.tw_text.specs.declared.refusal.Refusal.{Refusal};
 ghost use Rattle.tw_text.specs.declared.refusal.StoreCause.{StoreCause};
+ghost use Rattle.tw_follow.specs.HeadLists.{Kept};
+ghost use Rattle.tw_followcmd.specs.Disks.{ReadsAs as ReadsAsList};
 ghost use Rattle.tw_app.specs.Around.{Around, Writes};
+ghost use Rattle.tw_app.specs.Commands.{IsOfFollower};
 ghost use Rattle.tw_app.specs.Running.{Ends};
 ghost use Rattle.tw_app.specs.Statuses.{AreOf, DiskFailed, IsAnsweredRun, IsBuilt, IsDiskFaultRun, IsDoneRun, IsGapRun, IsInputFaultRun, IsRejectedRun, IsUndoneRun, IsUsageRun, IsWork};
 
@@ -31,6 +34,13 @@ pub fn status_laws<D: Disk>()
     // that event under that top, or under its last step, and a step of the machine; and the disk stands for it, at rest.
     // They are accepted under any anchors of which that of the history's name and top has the history's authenticator.
     // Status 0 of `prove link`: the same of the proof of the step's authenticator; the step may be 0.
+    // Status 0 of `prove thread`: the same of the proof that a step up to that one received a thread of the peer's step.
+    // Status 0 of `prove absent`: the same of the proof that none did.
+    // Status 0 of `map low`: what the disk read as opens as a service's store. Step, top and its last step are in their
+    // order, and the bytes written are the low file that is found in its pages, whatever these keep. And where the disk
+    // read as a history, with writes pending or not, they spell the low file that this history has of that step and peer
+    // under that top, and a step of the machine; and the disk stands for it, at rest.
+    // Status 0 of `map high`: the same of the high file of that top for that step of the peer; the top alone is in question.
     // Status 0 of `thread`: what the disk read as opens as a service's store, which has a step, and whose last one isn't
     // below the step that is named. The bytes written are the message of the last step that is found in its pages,
     // whatever these keep. And where the disk read as a history, with writes pending or not, they spell the message that
@@ -44,6 +54,13 @@ pub fn status_laws<D: Disk>()
     // events and the time of the words, if any, as it is found in its pages, whatever these keep. And where the disk read
     // as a history, with writes pending or not, adding these is a step of the machine, the line is that of the longer
     // history's last step, and the disk stands for the longer history, at rest.
+    // Status 0 of `receive`: the file is there and holds a message. What the disk read as opens as a service's store, of another
+    // name than the message's, and the bytes written are the receipt of the message's thread: by the step that its archive's
+    // pages tell to have received it, with the authenticator that its page tells; or by its next step, as it is found behind
+    // pages of a tree that has the thread besides what the archive had. And where the disk read as a history, with writes
+    // pending or not, it is the machine's reply by the receiving of that message, at the time of the words, if any: the receipt
+    // of the step that received the thread, and the disk stands for the history, at rest; or that of the last step of the
+    // history with one more, which received it and with which it is sound, and the disk stands for that, at rest.
     // Status 0 of `accuse`: all files are there and hold the proofs of two received threads and, where one is named, a link.
     // The bytes written spell the evidence that these make, and are accepted, with that fork, under all anchors under
     // which it shows one. Status 0 of `checkfork`: the file is there, the anchors file is there and has no bad line, and the
@@ -51,7 +68,9 @@ pub fn status_laws<D: Disk>()
     // written are those of the report that stands. Status 0 of `atlas`: all files are there and hold receipts, and the lines
     // written are those of the atlas of their hops from the step that is named. Status 0 of `checkmap`: all files are there
     // and hold a low and a high map file; the anchors file has no bad line; both are accepted under its anchors, and the lines
-    // written are those of the bounds that they show.
+    // written are those of the bounds that they show. Status 0 of `adopt`: all files are there, the anchors file has no bad line,
+    // the history file is that of a sound history, and the bytes written are the file of what is taken over of it by the
+    // proofs.
     ensures done { (a : Around D) → Ends D.view a 0 → IsDoneRun D.view a }
 
     // Status 1: the words are `verify` or `strict`, the proof file is there, its bytes spell no proof that is accepted
@@ -66,7 +85,8 @@ pub fn status_laws<D: Disk>()
     // against the proof, carried threads allowed, or else the first thread held that the histories don't have. Of `checkmap`
     // all files are there and hold a low and a high map file, and the anchors file has no bad line; the line says that the
     // second doesn't fit the first, where they don't speak of one step of one service and of one peer, or else names the
-    // lowest reason that stands against them under these anchors.
+    // lowest reason that stands against them under these anchors. Of `adopt` all files are there, the anchors file has no bad
+    // line, and the history file is that of a sound history; the line names the first fault of the proofs.
     ensures rejected { (a : Around D) → Ends D.view a 1 → IsRejectedRun a ⊎ IsGapRun a ⊎ IsAnsweredRun D.view a 1 }
     // Status 2: the words have no form, and the number written is that of the first word at which none goes on; or they
     // have one that isn't built, and it is 0.
@@ -81,27 +101,33 @@ pub fn status_laws<D: Disk>()
     ensures cut_short { (a : Around D) → Ends D.view a 4 → (DiskFailed D.view a → ⊥)
         → ((text : List ℕ) × IsWork D.view a (λ w. w.done text)) ⊎ IsLeft D.view a.outside.disk.before a.outside.disk.after }
     // Status 5: the words are of a command with a folder, the disk's count of faults rose, and `fault disk` was written
-    // whole. At `append` the events file was judged before.
+    // whole. At `append` and `receive` the file was judged before.
     ensures disk_fault { (a : Around D) → Ends D.view a 5 → IsDiskFaultRun D.view a }
     // Status 6: `no memory` was written whole.
     ensures no_memory { (a : Around D) → Ends D.view a 6 → Writes a no_memory_text }
     // Status 7 of `show`: the history file is there and is that of a sound history, which has no such step, or no such
     // event in it. The line written tells the last step, or the number of the step's events. Status 7 of `init`: a
-    // store was there. Status 7 of `append`, `prove` and `thread`: what the disk read as opens as a service's store, and the
-    // line written is the first refusal of its table that stands; `NoEvent` tells how many events the step's page counts.
+    // store was there. Status 7 of `append`, `receive`, `prove`, `map` and `thread`: what the disk read as opens as a
+    // service's store, and the line written is the first refusal of its table that stands; `NoEvent` tells how many events the step's
+    // page counts, `HasThread` the step that its archive tells to have received the thread, and of a message that isn't
+    // taken the line tells what its archive keeps.
     // Where the disk read as a history, with writes pending or not, it is the machine's refusal, nothing was written, and
     // the disk stands for that history, at rest.
     ensures refused { (a : Around D) → Ends D.view a 7 → (refusal : Refusal) × IsUndoneRun D.view a (Refused refusal) }
-    // Status 8: the words are `append`, `prove` or `thread`; at `append` the events file was judged before. With `Blank` and
-    // `NotAStore`, what the disk read as opens as no store of a service, for the reason that the line tells. With
+    // Status 8: the words are `append`, `receive`, `prove`, `map` or `thread`; at the first two the file was judged before. With
+    // `Blank` and `NotAStore`, what the disk read as opens as no store of a service, for the reason that the line tells. With
     // `BadPage`, what the disk read as opens as a service's store whose table refuses nothing before a page is read,
     // and stands for no history. The page told is the first that the command meets there that isn't of its kind, or, at
-    // `prove event`, the one read last where the event pages don't spell the step's events.
+    // `prove event`, the one read last where the event pages don't spell the step's events; at `receive` also the one read
+    // last where the step that is told to have received the thread is above the last one.
     ensures store { (a : Around D) → Ends D.view a 8 → (cause : StoreCause) × IsUndoneRun D.view a (Unserved cause) }
-    // Status 8 never comes where the disk read as a history.
-    ensures complete { (a : Around D) → Ends D.view a 8 → (h : History) → ReadsAs (D.view a.outside.disk.before).content h → ⊥ }
+    // Status 8 never comes where the disk read as a history, of another command than `watch`, `offer` and `heads`.
+    ensures complete { (a : Around D) → Ends D.view a 8 → (AreOf IsOfFollower a.words → ⊥) → (h : History) → ReadsAs (D.view a.outside.disk.before).content h → ⊥ }
+    // Status 8 of these three never comes where the disk read as a list of heads.
+    ensures list_complete { (a : Around D) → Ends D.view a 8 → AreOf IsOfFollower a.words → (k : Kept) → ReadsAsList (D.view a.outside.disk.before).content k → ⊥ }
     // Status 9 of `append`: the events file is there, and the line tells the byte of the limit, where the file is
-    // longer, else the first byte at which no events file goes on. Status 9 of `verify` and `strict`: proof and anchors
+    // longer, else the first byte at which no events file goes on. Status 9 of `receive`: the file is there, and the line tells
+    // the first byte at which no message goes on. Status 9 of `verify` and `strict`: proof and anchors
     // file are there, and the line written tells the first line of the anchors file that can't follow those before it.
     // Status 9 of `join`: all files are there, and the line tells the first that holds no proof, and its first byte at
     // which none goes on. Status 9 of `show`: the history file is there, and the line tells the byte of the limit, where
@@ -114,7 +140,8 @@ pub fn status_laws<D: Disk>()
     // before it the byte of what is left of the limit, its first byte at which none goes on, its first step that breaks a
     // rule, or the byte of its name, where a file before it is of that service. Status 9 of `checkmap`: all files are there,
     // and the line tells the first of both that holds no map file of its kind, and its first byte at which none goes on; or
-    // else the first bad line of the anchors file.
+    // else the first bad line of the anchors file. Status 9 of `adopt`: all files are there, and the line tells of the history
+    // file what that of `show` does; or, where that is the file of a sound history, the first bad line of the anchors file.
     ensures unreadable { (a : Around D) → Ends D.view a 9 → (bad : BadInput) × IsUndoneRun D.view a (Unreadable bad) }
     // Status 10: the words are of a command that comes to an answer of this status, and its text was written whole. (That
     // the command is `audit` alone, `clash` of `run` says.)

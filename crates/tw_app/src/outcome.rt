@@ -1,14 +1,15 @@
 // What a run of the program comes to.
 
 ghost use Rattle.std.specs.Prelude.{◌≡◌};
-ghost use Rattle.tw_app.specs.Outcomes.{of_accused, of_audited, of_fork, of_mapped, of_planned, outcome_by};
-ghost use Rattle.tw_app.specs.declared.outcome.Outcome.TheVariants.{Joined as OfJoined, Judged as OfVerdict, Made as OfThread, Written as OfBytes};
+ghost use Rattle.tw_app.specs.Outcomes.{of_accused, of_audited, of_fork, of_mapped, of_planned, of_taken, outcome_by};
+ghost use Rattle.tw_app.specs.declared.outcome.Outcome.TheVariants.{Joined as OfJoined, Judged as OfVerdict, Made as OfThread, Received as OfReceipt, Written as OfBytes};
 
 use tw_base::{Bytes, Thread};
 use tw_chain::Verdict;
 use tw_evidence::ForkVerdict;
 use tw_filecmd::Joined;
-use tw_reachcmd::{Accused, Answer, Audited, Planned};
+use tw_msg::Receipt;
+use tw_reachcmd::{Accused, Answer, Audited, Planned, Taken};
 use tw_text::CommandFault;
 use tw_tmap::MapVerdict;
 
@@ -23,6 +24,8 @@ pub enum Outcome {
     Joined(Joined),
     /// A service or a step was made: the thread of its last step.
     Made(Thread),
+    /// A message was received: the receipt of the step that archived its thread.
+    Received(Receipt),
     /// A command over files that reach beyond one proof was done.
     Answered(Answer),
     /// The words have no form, and this is the number of the first word, from 1, at which none goes
@@ -68,6 +71,16 @@ pub(crate) fn made(came: Result<Thread, CommandFault>) -> Outcome
 {
     match came {
         Ok(thread) => Outcome::Made(thread),
+        Err(fault) => Outcome::Undone(fault),
+    }
+}
+
+/// The outcome of a message that was received.
+pub(crate) fn received(came: Result<Receipt, CommandFault>) -> Outcome
+    ensures { result ≡ outcome_by OfReceipt came }
+{
+    match came {
+        Ok(receipt) => Outcome::Received(receipt),
         Err(fault) => Outcome::Undone(fault),
     }
 }
@@ -118,6 +131,16 @@ pub(crate) fn mapped(came: Result<MapVerdict, CommandFault>) -> Outcome
 {
     match came {
         Ok(verdict) => Outcome::Answered(Answer::Mapped(verdict)),
+        Err(fault) => Outcome::Undone(fault),
+    }
+}
+
+/// The outcome of a history that was to be taken over.
+pub(crate) fn taken(came: Result<Taken, CommandFault>) -> Outcome
+    ensures { result ≡ outcome_by of_taken came }
+{
+    match came {
+        Ok(taken) => Outcome::Answered(Answer::Taken(taken)),
         Err(fault) => Outcome::Undone(fault),
     }
 }

@@ -22,6 +22,9 @@ pub(crate) fn print(alloc: Global, outcome: &Outcome) -> Result<Bytes, NoMemory>
         Outcome::Answered(answer) => print_answer(alloc, answer),
         Outcome::BadWords { number } => print_usage(alloc, *number),
         Outcome::Undone(fault) => print_fault(alloc, fault),
-        Outcome::Written(_) | Outcome::Joined(Joined::Whole(_)) | Outcome::Made(_) => Err(NoMemory),
+        Outcome::Written(_)
+        | Outcome::Joined(Joined::Whole(_))
+        | Outcome::Made(_)
+        | Outcome::Received(_) => Err(NoMemory),
     }
 }

@@ -34,10 +34,19 @@ fn access_of(command: &Command) -> Option<StoreAccess>
     ensures { result ≡ access_of_command command.now }
 {
     match command {
-        Command::Init { .. } | Command::Append { .. } => Some(StoreAccess::Write),
-        Command::Thread { .. } | Command::ProveEvent { .. } | Command::ProveLink { .. } => {
-            Some(StoreAccess::Read)
-        }
+        Command::Init { .. }
+        | Command::Append { .. }
+        | Command::Receive { .. }
+        | Command::Watch { .. }
+        | Command::Offer { .. } => Some(StoreAccess::Write),
+        Command::Thread { .. }
+        | Command::ProveEvent { .. }
+        | Command::ProveThread { .. }
+        | Command::ProveAbsent { .. }
+        | Command::ProveLink { .. }
+        | Command::MapLow { .. }
+        | Command::MapHigh { .. }
+        | Command::Heads => Some(StoreAccess::Read),
         _ => None,
     }
 }

@@ -1,6 +1,6 @@
 -- What `append` comes to over inputs and a disk that tell what they hold is one thing.
 use Rattle.std.proofs.Common.{◌≡◌, ℕ, List, ap, sym, ◌∙◌, subst, arith, ◌⊎◌, inl, inr}
-use Rattle.std.specs.Prelude.{Option, Some, Result, Ok, Err}
+use Rattle.std.specs.Prelude.{Option, Some, Result, Err}
 use Rattle.tw_base.specs.declared.history.thread.Thread.{Thread}
 use Rattle.tw_base.specs.format.Formats.{IsPlace}
 use Rattle.tw_base.proofs.lemmas.format.FormatLaws.{one_value}

@@ -2,7 +2,6 @@
 use Rattle.std.proofs.Common.{◌≡◌, ◌∙◌, ◌≤◌, ◌<◌, ℕ, List, arith, refl, sym, subst, inl, inr, ◌⊎◌, ⊎_elim}
 use Rattle.std.proofs.lemmas.Bool.{cases_eq}
 use Rattle.std.specs.Prelude.{Some, Result, Ok, Err}
-use Rattle.tw_base.specs.declared.history.thread.Thread.{Thread}
 use Rattle.sha2.specs.Sha256.{sha256}
 use Rattle.tw_base.specs.history.History.{History}
 use Rattle.tw_disk.specs.Disk.{DiskView, IsAtRest, LeavesOnly, Reads}
@@ -156,9 +155,9 @@ module _ {D : Type 0} (view : D → DiskView) where
       (λ image. ⊎_elim (λ was. inl (stands.each image was)) (λ one. one)) left
 
   -- a run before it that left nothing new
-  pub leaves_from : (old mid new : D) (next : History) (h : History) (came : Result Thread CommandFault) → LeavesOnly (view old) (view mid) (view old).may_leave
+  pub leaves_from : {X : Type 0} → (old mid new : D) (next : History) (h : History) (came : Result X CommandFault) → LeavesOnly (view old) (view mid) (view old).may_leave
       → LeavesStep view mid new h next came → LeavesStep view old new h next came
-  leaves_from old mid new next h came run = by came
+  leaves_from {X} old mid new next h came run = by came
     where
       joined : LeavesOldOrOneOf view mid new h next → LeavesOldOrOneOf view old new h next
       joined left =
@@ -166,8 +165,8 @@ module _ {D : Type 0} (view : D → DiskView) where
           (leaves_weaker (view mid) (view new) (OldOrOneOf mid next h) (OldOrOneOf old next h)
           (λ image. ⊎_elim (λ was. inl (run.now image was)) (λ one. inr one)) left)
 
-      by : (came : Result Thread CommandFault) → LeavesStep view mid new h next came → LeavesStep view old new h next came
-      by (Ok thread) left = (left.0, joined left.1)
+      by : (came : Result X CommandFault) → LeavesStep view mid new h next came → LeavesStep view old new h next came
+      by (Ok value) left = (left.0, joined left.1)
       by (Err DiskFault) left = (joined left.0, left.1)
       by _ left = left
 

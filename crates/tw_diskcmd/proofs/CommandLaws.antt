@@ -1,22 +1,31 @@
 -- What holds of each command over a disk: each of its faults has its cause, and whatever it leaves is safe.
 use Rattle.std.proofs.Common.{◌≡◌, ◌∙◌, ℕ, List, ap, inl, inr}
 use Rattle.std.specs.Prelude.{Option, Some, Result, Ok, Err}
+use Rattle.sha2.specs.Sha256.{sha256}
+use Rattle.tw_base.specs.declared.history.thread.Key.{Key}
 use Rattle.tw_base.specs.declared.history.thread.Thread.{Thread}
 use Rattle.tw_base.specs.kinds.Faults.{Rose}
 use Rattle.tw_base.specs.history.History.{History}
 use Rattle.tw_disk.specs.Disk.{DiskView}
 use Rattle.tw_disk.specs.Image.{Image}
+use Rattle.tw_msg.specs.declared.message.Message.{Message}
+use Rattle.tw_msg.specs.declared.receipt.Receipt.{Receipt}
 use Rattle.tw_outside.specs.Asked.{Asked}
 use Rattle.tw_outside.specs.Files.{Files}
+use Rattle.tw_service.specs.Machine.{Call, NextOf}
+use Rattle.tw_service.specs.Machine.Call.{Append, Receive}
 use Rattle.tw_text.specs.declared.refusal.StoreCause.{StoreCause}
 use Rattle.tw_text.specs.declared.fault.CommandFault.{CommandFault}
 use Rattle.tw_text.specs.declared.fault.CommandFault.TheVariants.{Refused, Unserved, Unreadable, InputFault, DiskFault, NoMemory}
-use Rattle.tw_diskcmd.specs.Appending.{AppendComes, AppendLeaves, AppendSafe}
-use Rattle.tw_diskcmd.specs.Disks.{FoundDisk, IsLeft, Keeps, ReadLeaves, ReadsAs}
+use Rattle.tw_diskcmd.specs.Appending.{AppendComes, AppendLeaves, AppendSafe, AreEventsOf}
+use Rattle.tw_diskcmd.specs.Disks.{AddsSafe, FoundDisk, IsLeft, Keeps, ReadLeaves, ReadsAs}
 use Rattle.tw_diskcmd.specs.Linking.{LinkComes}
 use Rattle.tw_diskcmd.specs.Making.{InitComes, InitLeaves, InitSafe}
+use Rattle.tw_diskcmd.specs.Mapping.{MapHighComes, MapLowComes}
 use Rattle.tw_diskcmd.specs.Proving.{ProveComes}
+use Rattle.tw_diskcmd.specs.Receiving.{IsMessageIn, ReceiveComes, ReceiveLeaves, ReceiveSafe}
 use Rattle.tw_diskcmd.specs.Telling.{ThreadComes}
+use Rattle.tw_diskcmd.specs.ThreadProofs.{AbsenceComes, ThreadProofComes}
 use Rattle.tw_diskcmd.specs.WorkSteps.{WritesNothing}
 use Rattle.tw_diskcmd.proofs.AtRest.{left_begins, left_keeps, reads_as, rests_reads, untouched_left}
 
@@ -42,6 +51,32 @@ module _ (a : Asked) (t : FoundDisk) where
     memory = tt;
   }
 
+  pub receive_causes : (file : List ℕ) (time : Option ℕ) → HasCauses a t (Unit {0}) (Unit {0}) (ReceiveComes a t file time)
+  receive_causes file time = record {
+    input = λ rose. (tt, rose);
+    disk = λ came. (tt, came.2);
+    serves = λ h reads why came. came.2.machine h reads;
+    memory = tt;
+  }
+
+  pub thread_proof_causes : (step : ℕ) (key : Key) (top : Option ℕ) → HasCauses a t ⊥ (Unit {0}) (ThreadProofComes step key top t)
+  unfolding ThreadProofComes
+  thread_proof_causes step key top = record {
+    input = λ came. absurd came;
+    disk = λ rose. (tt, rose);
+    serves = λ h reads why came. came.machine h reads;
+    memory = tt;
+  }
+
+  pub absence_causes : (step : ℕ) (key : Key) (top : Option ℕ) → HasCauses a t ⊥ (Unit {0}) (AbsenceComes step key top t)
+  unfolding AbsenceComes
+  absence_causes step key top = record {
+    input = λ came. absurd came;
+    disk = λ rose. (tt, rose);
+    serves = λ h reads why came. came.machine h reads;
+    memory = tt;
+  }
+
   pub prove_causes : (step index : ℕ) (top : Option ℕ) → HasCauses a t ⊥ (Unit {0}) (ProveComes t step index top)
   unfolding ProveComes
   prove_causes step index top = record {
@@ -54,6 +89,24 @@ module _ (a : Asked) (t : FoundDisk) where
   pub link_causes : (step : ℕ) (top : Option ℕ) → HasCauses a t ⊥ (Unit {0}) (LinkComes t step top)
   unfolding LinkComes
   link_causes step top = record {
+    input = λ came. absurd came;
+    disk = λ rose. (tt, rose);
+    serves = λ h reads why came. came.machine h reads;
+    memory = tt;
+  }
+
+  pub map_low_causes : (step : ℕ) (peer : List ℕ) (top : Option ℕ) → HasCauses a t ⊥ (Unit {0}) (MapLowComes step peer top t)
+  unfolding MapLowComes
+  map_low_causes step peer top = record {
+    input = λ came. absurd came;
+    disk = λ rose. (tt, rose);
+    serves = λ h reads why came. came.machine h reads;
+    memory = tt;
+  }
+
+  pub map_high_causes : (step : ℕ) (peer : List ℕ) (top : Option ℕ) → HasCauses a t ⊥ (Unit {0}) (MapHighComes step peer top t)
+  unfolding MapHighComes
+  map_high_causes step peer top = record {
     input = λ came. absurd came;
     disk = λ rose. (tt, rose);
     serves = λ h reads why came. came.machine h reads;
@@ -100,22 +153,41 @@ module _ {D : Type 0} (view : D → DiskView) (old new : D) where
     init_safe name (Err DiskFault) left = left
     init_safe name _ left = left_safe name left
 
-    left_adds : (told : Option Files) (file : List ℕ) (time : Option ℕ) → IsLeft view old new → AppendSafe view old new told file time
-    left_adds told file time left = λ h. (λ reads. inl (left.1, record { image = reads.image; told = left.0 ∙ reads.told; stands = reads.stands }), λ stands. inl ((left_keeps view old new left h).0 stands).0)
+    left_adds : {X : Type 0} → (Has : X → Type 0) → (call : X → Call) → IsLeft view old new → AddsSafe view Has call old new
+    left_adds Has call left = λ h. (λ reads. inl (left.1, record { image = reads.image; told = left.0 ∙ reads.told; stands = reads.stands }), λ stands. inl ((left_keeps view old new left h).0 stands).0)
 
     append_safe : (told : Option Files) (file : List ℕ) (time : Option ℕ) (came : Result Thread CommandFault) → AppendLeaves view old new told file time came → AppendSafe view old new told file time
     append_safe told file time (Ok thread) left = λ h. (
-      λ reads. let adds = left.2.1 h reads in inr (left.0, left.1, (adds.0, adds.1, adds.2.1.0, rests_reads view as_it_reads new adds.0 h (ap (λ (n : History). n.name) adds.1) adds.2.0)),
-      λ stands. let adds = left.2.1 h (reads_as view as_it_reads old h stands) in inr (left.0, left.1, (adds.0, adds.1, adds.2.1.1 stands)),
+      λ reads. let adds = left.2.1 h reads in inr (left.0, left.1, adds.0, adds.1, adds.2.1.0, rests_reads view as_it_reads new adds.0 h (ap (λ (n : History). n.name) adds.1) adds.2.0),
+      λ stands. let adds = left.2.1 h (reads_as view as_it_reads old h stands) in inr (left.0, left.1, adds.0, adds.1, adds.2.1.1 stands),
     )
     append_safe told file time (Err DiskFault) left = λ h. (
-      λ reads. let adds = left.2 h reads in inr (left.0, left.1, (adds.0, adds.1, adds.2.1.0, adds.2.0)),
-      λ stands. let adds = left.2 h (reads_as view as_it_reads old h stands) in inr (left.0, left.1, (adds.0, adds.1, adds.2.1.1 stands)),
+      λ reads. let adds = left.2 h reads in inr (left.0, left.1, adds.0, adds.1, adds.2.1.0, adds.2.0),
+      λ stands. let adds = left.2 h (reads_as view as_it_reads old h stands) in inr (left.0, left.1, adds.0, adds.1, adds.2.1.1 stands),
     )
-    append_safe told file time (Err (Refused refusal)) left = left_adds told file time left.0
-    append_safe told file time (Err (Unreadable bad)) left = left_adds told file time (untouched_left view old new only_now left)
-    append_safe told file time (Err InputFault) left = left_adds told file time (untouched_left view old new only_now left)
-    append_safe told file time _ left = left_adds told file time left
+    append_safe told file time (Err (Refused refusal)) left = left_adds (AreEventsOf told file) (λ events. Append events time) left.0
+    append_safe told file time (Err (Unreadable bad)) left = left_adds (AreEventsOf told file) (λ events. Append events time) (untouched_left view old new only_now left)
+    append_safe told file time (Err InputFault) left = left_adds (AreEventsOf told file) (λ events. Append events time) (untouched_left view old new only_now left)
+    append_safe told file time _ left = left_adds (AreEventsOf told file) (λ events. Append events time) left
+
+    -- a next history by the receiving of a message has its name
+    next_named : (m : Message) (time : Option ℕ) (h next : History) → NextOf sha256 (Receive m time) h next → next.name ≡ h.name
+    next_named m time h next (inl same) = ap (λ (n : History). n.name) same
+    next_named m time h next (inr more) = ap (λ (n : History). n.name) more.1.1
+
+    receive_safe : (told : Option Files) (file : List ℕ) (time : Option ℕ) (came : Result Receipt CommandFault) → ReceiveLeaves view old new told file time came → ReceiveSafe view old new told file time
+    receive_safe told file time (Ok receipt) left = λ h. (
+      λ reads. let adds = left.2.1 h reads in inr (left.0, left.1, adds.0, adds.1, adds.2.2.0, rests_reads view as_it_reads new adds.0 h (next_named left.0 time h adds.0 adds.1) adds.2.1),
+      λ stands. let adds = left.2.1 h (reads_as view as_it_reads old h stands) in inr (left.0, left.1, adds.0, adds.1, adds.2.2.1 stands),
+    )
+    receive_safe told file time (Err DiskFault) left = λ h. (
+      λ reads. let adds = left.2 h reads in inr (left.0, left.1, adds.0, adds.1, adds.2.1.0, adds.2.0),
+      λ stands. let adds = left.2 h (reads_as view as_it_reads old h stands) in inr (left.0, left.1, adds.0, adds.1, adds.2.1.1 stands),
+    )
+    receive_safe told file time (Err (Refused refusal)) left = left_adds (IsMessageIn told file) (λ m. Receive m time) left.0
+    receive_safe told file time (Err (Unreadable bad)) left = left_adds (IsMessageIn told file) (λ m. Receive m time) (untouched_left view old new only_now left)
+    receive_safe told file time (Err InputFault) left = left_adds (IsMessageIn told file) (λ m. Receive m time) (untouched_left view old new only_now left)
+    receive_safe told file time _ left = left_adds (IsMessageIn told file) (λ m. Receive m time) left
 
     pub init_is_safe : (name : List ℕ) → IsSafe (InitLeaves view old new name) (InitSafe view old new name)
     init_is_safe name = record { idle = idle; no_memory = λ left. left; safe = init_safe name }
@@ -130,6 +202,17 @@ module _ {D : Type 0} (view : D → DiskView) (old new : D) where
       where
         idle : (r : Result Thread CommandFault) → AppendLeaves view old new told file time r → WritesNothing r → IsLeft view old new
         idle (Ok thread) left nothing = absurd nothing
+        idle (Err DiskFault) left nothing = absurd nothing
+        idle (Err (Refused refusal)) left nothing = left.0
+        idle (Err (Unreadable bad)) left nothing = untouched_left view old new only_now left
+        idle (Err InputFault) left nothing = untouched_left view old new only_now left
+        idle _ left nothing = left
+
+    pub receive_is_safe : (told : Option Files) (file : List ℕ) (time : Option ℕ) → IsSafe (ReceiveLeaves view old new told file time) (ReceiveSafe view old new told file time)
+    receive_is_safe told file time = record { idle = idle; no_memory = λ left. left; safe = receive_safe told file time }
+      where
+        idle : (r : Result Receipt CommandFault) → ReceiveLeaves view old new told file time r → WritesNothing r → IsLeft view old new
+        idle (Ok receipt) left nothing = absurd nothing
         idle (Err DiskFault) left nothing = absurd nothing
         idle (Err (Refused refusal)) left nothing = left.0
         idle (Err (Unreadable bad)) left nothing = untouched_left view old new only_now left

@@ -1,5 +1,5 @@
 -- From what a service answers to the asking for a proof to what the command comes to.
-use Rattle.std.proofs.Common.{◌≡◌, ◌∙◌, ℕ, ◌<◌, ◌≤◌, List, length, min, Bool, true, false, refl, ap, sym, subst, arith, inl, inr, ◌⊎◌, ⊎_elim}
+use Rattle.std.proofs.Common.{◌≡◌, ◌∙◌, ℕ, ◌<◌, ◌≤◌, List, length, min, Bool, true, false, refl, ap, sym, subst, arith, inl, inr, ◌⊎◌}
 use Rattle.std.specs.Prelude.{Option, Some, None, Result, Ok, Err, MatchOption, nat_lt, if◌then◌else◌}
 use Rattle.std.proofs.lemmas.Bool.{cases_lt, le-ltb}
 use Rattle.std.proofs.lemmas.Bool.Decides.{nat_tests}
@@ -20,24 +20,25 @@ use Rattle.tw_skiplist.specs.Events.{events_of_info}
 use Rattle.tw_disk.specs.Found.{Found, ◌>>=◌}
 use Rattle.tw_disk.specs.Found.Found.{Is, Bad}
 use Rattle.tw_skiplist.specs.Readings.{found_proof}
-use Rattle.tw_service.specs.declared.refusal.Refusal.{Refusal}
-use Rattle.tw_service.specs.declared.refusal.Refusal.TheVariants as service
-use Rattle.tw_service.specs.Refusals.{IsFault, IsNoEvent}
-use Rattle.tw_service.specs.Finds.{IsRefusalOf, event_proof, found_event, proof_bytes, unless}
-use Rattle.tw_service.specs.Limits.{event_refusal, is_in_order, or_else, order_refusal, proof_refusal}
+use Rattle.tw_answers.specs.declared.refusal.Refusal.{Refusal}
+use Rattle.tw_answers.specs.declared.refusal.Refusal.TheVariants as service
+use Rattle.tw_answers.specs.Refusals.{IsFault, IsNoEvent}
+use Rattle.tw_answers.specs.Finds.{IsRefusalOf, event_proof, found_event, proof_bytes, unless}
+use Rattle.tw_answers.specs.Limits.{event_refusal, is_in_order, or_else, order_refusal, proof_refusal}
 use Rattle.tw_service.specs.Machine.{Answers, IsStepOf, Reply}
 use Rattle.tw_service.specs.Machine.Call.{ProveEvent}
 use Rattle.tw_service.specs.Machine.Reply.{OfProof, Refused}
 use Rattle.tw_text.specs.declared.fault.CommandFault.{CommandFault}
 use Rattle.tw_text.specs.declared.fault.CommandFault.TheVariants as fault
-use Rattle.tw_service.specs.declared.root.RootRecord.{RootRecord}
-use Rattle.tw_service.proofs.Answering.{order_told}
+use Rattle.tw_answers.specs.declared.root.RootRecord.{RootRecord}
 use Rattle.tw_diskcmd.specs.Answers.{IsOpened, MachineRefuses}
 use Rattle.tw_diskcmd.specs.Disks.{FoundDisk, ReadsAs}
-use Rattle.tw_diskcmd.specs.Proving.{MachineProves, ProveComes, ProvesUnder, TableProves, proved, top_of}
+use Rattle.tw_diskcmd.specs.Proofs.{top_of}
+use Rattle.tw_diskcmd.specs.Proving.{MachineProves, ProveComes, ProvesUnder, TableProves, proved}
 use Rattle.tw_diskcmd.specs.Faults.{fault_of_service}
 use Rattle.tw_skipproof.proofs.WideIndex.{few_events, makes_at}
-use Rattle.tw_diskcmd.proofs.Results.{IsByTable, TellsOfDisk, allowed, done, machine_refuses, no_reopen, refused, same_err, table_refuses}
+use Rattle.tw_diskcmd.proofs.Results.{CanCome, IsByTable, TellsOfDisk, allowed, done, fault_can, machine_refuses, no_never, refused, same_err, table_refuses}
+use Rattle.tw_diskcmd.proofs.Tables.{order_can}
 
 -- ---- the table for the order of steps
 
@@ -51,6 +52,11 @@ order_of_order last step top r is none =
 
 abbrev Else : Refusal → Type 0
 Else r = IsFault r ⊎ IsNoEvent r
+
+else_can : (r : Refusal) → Else r → CanCome r
+else_can r (inl fault) = fault_can r fault
+else_can (service.NoEvent count) (inr none) = λ never. never
+else_can _ (inr none) = absurd none
 
 abbrev Table : Option Refusal → Result (List ℕ) Refusal → Type 0
 Table = IsByTable Else
@@ -197,7 +203,7 @@ module _ (t : FoundDisk) (step index at : ℕ) (asked : Option ℕ) (top : ℕ) 
   unfolding ProveComes
   proof_refused r came is table machine rose finds =
       refused (proved step index asked) (TableProves step asked) (MachineProves step index asked) t root pages opens r came is
-      (no_reopen (List ℕ) Else (order step asked root.head.step) (order_told root.head.step step (top_of asked root.head.step)) (λ is. ⊎_elim (λ no. no) (λ no. no) is) r (here_table (Err r) table)) rose
+      (no_never (List ℕ) Else (order step asked root.head.step) (order_can root.head.step step (top_of asked root.head.step)) else_can r (here_table (Err r) table)) rose
       (λ ps told. subst (IsRefusalOf r) (found_here ps) (finds ps told))
       (λ tells. by_table step asked root.head.step (order step asked root.head.step) refl r tells (here_table (Err r) table))
       (λ tells h reads. refused_here h reads (fault_of_service r) (machine_refuses h (ProveEvent step at top) (λ b. OfProof b) NewServes r tells (machine whole h (serves h reads))))

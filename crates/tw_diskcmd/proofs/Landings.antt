@@ -6,6 +6,8 @@ use Rattle.tw_base.specs.history.History.{History}
 use Rattle.tw_disk.specs.Disk.{DiskView, LeavesOnly}
 use Rattle.tw_disk.specs.Image.{Image}
 use Rattle.tw_base.specs.kinds.Faults.{Rose}
+use Rattle.tw_msg.specs.declared.message.Message.{Message}
+use Rattle.tw_msg.specs.declared.receipt.Receipt.{Receipt}
 use Rattle.tw_outside.specs.Asked.{Asked}
 use Rattle.tw_outside.specs.Files.{Files}
 use Rattle.tw_pages.specs.Slots.{IsTaken}
@@ -18,7 +20,8 @@ use Rattle.tw_diskcmd.specs.Appending.{AppendComes, AppendLeaves, AreEventsOf, S
 use Rattle.tw_diskcmd.specs.Disks.{FoundDisk, IsLeft, ReadLeaves, ReadsAs, Settles, found_disk}
 use Rattle.tw_diskcmd.specs.Faults.{fault_of_store}
 use Rattle.tw_diskcmd.specs.Making.{InitComes, InitLeaves, InitSafe}
-use Rattle.tw_diskcmd.specs.WorkSteps.{IsStop, LeavesStep, WritesNothing}
+use Rattle.tw_diskcmd.specs.Receiving.{IsMessageIn, MessageComes, ReceiveComes, ReceiveLeaves}
+use Rattle.tw_diskcmd.specs.WorkSteps.{IsStop, LeavesReceived, LeavesStep, WritesNothing}
 use Rattle.tw_diskcmd.proofs.AtRest.{no_call_left, old_or_one, one_of}
 
 -- ---- what the work comes to is what its command comes to
@@ -32,6 +35,15 @@ comes_of_step a t file events time (Err DiskFault) are comes = (events, are, com
 comes_of_step a t file events time (Err NoMemory) are comes = tt
 comes_of_step a t file events time _ are comes = absurd comes
 
+pub comes_of_message : (a : Asked) (t : FoundDisk) (file : List ℕ) (m : Message) (time : Option ℕ) (came : Result Receipt CommandFault) → IsMessageIn a.told file m
+    → MessageComes m time t came → ReceiveComes a t file time came
+comes_of_message a t file m time (Ok receipt) is comes = (m, is, comes)
+comes_of_message a t file m time (Err (Refused refusal)) is comes = (m, is, comes)
+comes_of_message a t file m time (Err (Unserved cause)) is comes = (m, is, comes)
+comes_of_message a t file m time (Err DiskFault) is comes = (m, is, comes)
+comes_of_message a t file m time (Err NoMemory) is comes = tt
+comes_of_message a t file m time _ is comes = absurd comes
+
 -- a service that isn't made: only where there is one, or where the disk failed
 pub unmade : (t : FoundDisk) (name : List ℕ) (f : StoreFault) (came : CommandFault) → came ≡ fault_of_store f → (f ≡ store.Taken) ⊎ (f ≡ store.DiskFault)
     → (f ≡ store.Taken → (image : Image) → t.found ≡ Some image → IsTaken image) → (f ≡ store.DiskFault → Rose t.before t.after)
@@ -44,12 +56,12 @@ unmade t name f came is (inr failed) has fault = subst (λ (c : CommandFault). I
 module _ {D : Type 0} (view : D → DiskView) where
   module _ (old new : D) where
     -- a disk that reads as a history isn't opened only where it failed
-    pub unopened_leaves : (events : List (List ℕ)) (time : Option ℕ) (h : History) → ReadsAs (view old).content h → (view new).content ≡ (view old).content
+    pub unopened_leaves : (X : Type 0) (h next : History) → ReadsAs (view old).content h → (view new).content ≡ (view old).content
         → (f : StoreFault) (came : CommandFault) → came ≡ fault_of_store f → f ≡ store.DiskFault
-        → LeavesOnly (view old) (view new) (view old).may_leave → LeavesStep view old new h (with_events h events time) (Err came)
-    unopened_leaves events time h reads same f came is fault left =
-        subst (λ (c : CommandFault). LeavesStep view old new h (with_events h events time) (Err c)) (sym (is ∙ ap fault_of_store fault))
-        (old_or_one view old new (with_events h events time) h left, record { image = reads.image; told = same ∙ reads.told; has = inl reads.stands })
+        → LeavesOnly (view old) (view new) (view old).may_leave → LeavesStep view old new {X = X} h next (Err came)
+    unopened_leaves X h next reads same f came is fault left =
+        subst (λ (c : CommandFault). LeavesStep view old new {X = X} h next (Err c)) (sym (is ∙ ap fault_of_store fault))
+        (old_or_one view old new next h left, record { image = reads.image; told = same ∙ reads.told; has = inl reads.stands })
 
     pub leaves_of_step : (told : Option Files) (before after : ℕ) (file : List ℕ) (events : List (List ℕ)) (time : Option ℕ) (came : Result Thread CommandFault) → AreEventsOf told file events
         → StepComes (found_disk (view old).content before after) events time came
@@ -84,6 +96,31 @@ module _ {D : Type 0} (view : D → DiskView) where
     leaves_of_step told before after file events time (Err NoMemory) are comes leaves nothing = nothing tt
     leaves_of_step told before after file events time _ are comes leaves nothing = absurd comes
 
+    pub leaves_of_message : (told : Option Files) (before after : ℕ) (file : List ℕ) (m : Message) (time : Option ℕ) (came : Result Receipt CommandFault) → IsMessageIn told file m
+        → MessageComes m time (found_disk (view old).content before after) came
+        → ((h : History) → ReadsAs (view old).content h → LeavesReceived view old new m time h came)
+        → (WritesNothing came → IsLeft view old new)
+        → ReceiveLeaves view old new told file time came
+    leaves_of_message told before after file m time (Ok receipt) is comes leaves nothing = (
+      m,
+      is,
+      (
+        comes,
+        λ h reads.
+            let left = leaves h reads in (left.0, left.1, (left.2, left.3.0, (left.3.1, λ stands. one_of view old new left.0 h stands left.3.1))),
+      ),
+    )
+    leaves_of_message told before after file m time (Err DiskFault) is comes leaves nothing = (
+      m,
+      is,
+      λ h reads.
+          let left = leaves h reads in (left.0, left.1, (left.3.1, (left.3.0, λ stands. one_of view old new left.0 h stands left.3.0))),
+    )
+    leaves_of_message told before after file m time (Err (Refused refusal)) is comes leaves nothing = (nothing tt, λ h reads. let left = leaves h reads in left.3)
+    leaves_of_message told before after file m time (Err (Unserved cause)) is comes leaves nothing = nothing tt
+    leaves_of_message told before after file m time (Err NoMemory) is comes leaves nothing = nothing tt
+    leaves_of_message told before after file m time _ is comes leaves nothing = absurd comes
+
     -- a command that only reads leaves a disk that settles, or that wasn't opened
     pub leaves_of_reading : {X : Type 0} → (came : Result X CommandFault) → IsLeft view old new → Settles view old new → ReadLeaves view old new came
     leaves_of_reading (Ok value) left settles = (left, settles)
@@ -116,3 +153,10 @@ module _ {D : Type 0} (view : D → DiskView) where
   stop_leaves only_now disk told file time InputFault stop = refl
   stop_leaves only_now disk told file time NoMemory stop = no_call_left view disk (only_now disk)
   stop_leaves only_now disk told file time _ stop = absurd stop
+
+  pub stop_receives : (only_now : (d : D) (image : Image) → (view d).left_since (view d).moment image → (view d).may_leave image) (disk : D) (told : Option Files) (file : List ℕ) (time : Option ℕ) (came : CommandFault) → IsStop came
+      → ReceiveLeaves view disk disk told file time (Err came)
+  stop_receives only_now disk told file time (Unreadable bad) stop = refl
+  stop_receives only_now disk told file time InputFault stop = refl
+  stop_receives only_now disk told file time NoMemory stop = no_call_left view disk (only_now disk)
+  stop_receives only_now disk told file time _ stop = absurd stop

@@ -9,3 +9,8 @@ pub mod AskedCalls
 pub mod LinkAnswers
 pub mod ThreadAnswers
 pub mod Appendings
+pub mod Tables
+pub mod ThreadProofAnswers
+pub mod MapAnswers
+pub mod MessageFiles
+pub mod Received

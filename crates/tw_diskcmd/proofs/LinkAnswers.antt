@@ -1,6 +1,6 @@
 -- From what a service answers to the asking for the proof of a link to what the command comes to.
 use Rattle.std.proofs.Common.{◌≡◌, ◌∙◌, ℕ, List, length, Bool, false, refl, ap, sym, subst}
-use Rattle.std.specs.Prelude.{Option, Some, None, Result, Ok, Err}
+use Rattle.std.specs.Prelude.{Option, Some, Result, Ok, Err}
 use Rattle.sha2.specs.Sha256.{sha256}
 use Rattle.tw_base.specs.declared.history.thread.Thread.{Thread}
 use Rattle.tw_base.specs.history.Anchors.{anchor_of}
@@ -10,24 +10,24 @@ use Rattle.tw_base.specs.kinds.Faults.{Rose}
 use Rattle.tw_chain.specs.Accepting.{Accepts}
 use Rattle.tw_disk.specs.Found.Found.{Is}
 use Rattle.tw_disk.specs.Image.{Image}
-use Rattle.tw_service.specs.declared.refusal.Refusal.{Refusal}
-use Rattle.tw_service.specs.declared.refusal.Refusal.TheVariants as service
-use Rattle.tw_service.specs.declared.root.RootRecord.{RootRecord}
-use Rattle.tw_service.specs.Finds.{IsRefusalOf, found_link_proof}
-use Rattle.tw_service.specs.Limits.{link_refusal}
+use Rattle.tw_answers.specs.declared.refusal.Refusal.{Refusal}
+use Rattle.tw_answers.specs.declared.refusal.Refusal.TheVariants as service
+use Rattle.tw_answers.specs.declared.root.RootRecord.{RootRecord}
+use Rattle.tw_answers.specs.Finds.{IsRefusalOf, found_link_proof}
+use Rattle.tw_answers.specs.Limits.{link_refusal}
 use Rattle.tw_service.specs.Machine.{Answers, MakesLink}
 use Rattle.tw_service.specs.Machine.Call.{ProveLink}
 use Rattle.tw_service.specs.Machine.Reply.{OfProof}
-use Rattle.tw_service.specs.Refusals.{IsFault}
-use Rattle.tw_service.proofs.Answering.{link_told}
+use Rattle.tw_answers.specs.Refusals.{IsFault}
 use Rattle.tw_text.specs.declared.fault.CommandFault.{CommandFault}
 use Rattle.tw_diskcmd.specs.Answers.{IsOpened}
 use Rattle.tw_diskcmd.specs.Disks.{FoundDisk, ReadsAs}
 use Rattle.tw_diskcmd.specs.Faults.{fault_of_service}
 use Rattle.tw_diskcmd.specs.Linking.{LinkComes, Links, LinksUnder, link_call, link_table, linked}
-use Rattle.tw_diskcmd.specs.Proving.{top_of}
+use Rattle.tw_diskcmd.specs.Proofs.{top_of}
 use Rattle.tw_diskcmd.proofs.AskedCalls.{asked_done, asked_refused}
 use Rattle.tw_diskcmd.proofs.Results.{Table, allowed}
+use Rattle.tw_diskcmd.proofs.Tables.{link_can}
 
 module _ (t : FoundDisk) (step : ℕ) (asked : Option ℕ) (top : ℕ) (is_broken : Bool) (root : RootRecord) (pages : Option Image) (opens : IsOpened t.found root pages) (whole : is_broken ≡ false)
     (top_is : top ≡ top_of asked root.head.step) (OldServes NewServes : History → Type 0) (serves : (h : History) → ReadsAs t.found h → OldServes h)
@@ -66,6 +66,6 @@ module _ (t : FoundDisk) (step : ℕ) (asked : Option ℕ) (top : ℕ) (is_broke
   unfolding LinkComes
   link_refused r came is table machine rose found =
       asked_refused (linked step asked) (link_table step asked) (link_call step asked) (Links step asked) t root pages opens (List ℕ) (λ b. OfProof b) NewServes r came is
-      (link_told root.head.step step (top_of asked root.head.step)) (subst (λ (o : Option Refusal). Table {X = List ℕ} o (Err r)) table_is table)
+      (link_can root.head.step step (top_of asked root.head.step)) (subst (λ (o : Option Refusal). Table {X = List ℕ} o (Err r)) table_is table)
       (λ h reads. subst (λ (to : ℕ). Answers sha256 h (ProveLink step to) (λ b. OfProof b) (Err r) NewServes) (the_top h reads) (machine whole h (serves h reads)))
       (λ same. rose (ap (λ (q : Refusal). Err q) same)) (λ ps told. subst (IsRefusalOf r) (found_is ps) (found ps told))

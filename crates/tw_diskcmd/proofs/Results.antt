@@ -1,5 +1,5 @@
 -- From what a service answers, or isn't opened for, to what a command comes to; and one answer over a told disk.
-use Rattle.std.proofs.Common.{◌≡◌, ◌∙◌, ℕ, refl, ap, sym, subst, ◌⊎◌, ⊎_elim}
+use Rattle.std.proofs.Common.{◌≡◌, ◌∙◌, ℕ, refl, ap, sym, subst, ◌⊎◌, inl, inr, ⊎_elim}
 use Rattle.std.specs.Prelude.{Option, Some, None, Result, Ok, Err, IfErr, MatchOption, ◌≢◌}
 use Rattle.sha2.specs.Sha256.{sha256}
 use Rattle.tw_base.specs.kinds.Faults.{Rose}
@@ -9,21 +9,21 @@ use Rattle.tw_pages.specs.declared.open.StoreFault.{StoreFault}
 use Rattle.tw_pages.specs.declared.open.StoreFault.TheVariants as store
 use Rattle.tw_disk.specs.Found.{Found}
 use Rattle.tw_disk.specs.Found.Found.{Is}
-use Rattle.tw_service.specs.Finds.{IsRefusalOf}
+use Rattle.tw_answers.specs.Finds.{IsRefusalOf}
 use Rattle.tw_service.specs.Machine.{Answers, Call, Reply}
-use Rattle.tw_service.specs.Refusals.{IsFault}
+use Rattle.tw_answers.specs.Refusals.{IsFault}
 use Rattle.tw_service.specs.Stands.{IsNotOpenedFor, Served}
 use Rattle.tw_service.specs.Stands.Served.{Opened, Unopened}
-use Rattle.tw_service.specs.declared.refusal.Refusal.{Refusal}
-use Rattle.tw_service.specs.declared.refusal.Refusal.TheVariants as service
-use Rattle.tw_service.specs.declared.root.RootRecord.{RootRecord}
-use Rattle.tw_service.proofs.Answering.{IsTold, Of}
+use Rattle.tw_answers.specs.declared.refusal.Refusal.{Refusal}
+use Rattle.tw_answers.specs.declared.refusal.Refusal.TheVariants as service
+use Rattle.tw_answers.specs.declared.root.RootRecord.{RootRecord}
+use Rattle.tw_answers.proofs.TableAnswers.{Of}
 use Rattle.tw_service.proofs.Standing.{served_once, stands_opened}
 use Rattle.tw_text.specs.declared.refusal.StoreCause.{StoreCause}
 use Rattle.tw_text.specs.declared.refusal.StoreCause.TheVariants.{Blank, NotAStore}
 use Rattle.tw_text.specs.declared.fault.CommandFault.{CommandFault}
 use Rattle.tw_text.specs.declared.fault.CommandFault.TheVariants as fault
-use Rattle.tw_diskcmd.specs.Answers.{ComesTo, IsOpened, IsResult, MachineRefuses, TableRefuses, TellsContent, answer_over, result_of}
+use Rattle.tw_diskcmd.specs.Answers.{ComesOver, ComesTo, IsOpened, IsResult, IsResultOver, IsTheAnswer, MachineRefuses, TableAnswersOr, TableRefuses, TellsContent, answer_over, result_of}
 use Rattle.tw_diskcmd.specs.Disks.{FoundDisk, ReadsAs, found_disk}
 use Rattle.tw_diskcmd.specs.Faults.{fault_of_service, fault_of_store}
 
@@ -34,7 +34,22 @@ abbrev pub TellsOfDisk : Refusal → Type 0
 TellsOfDisk service.DiskFault = ⊥
 TellsOfDisk service.NoMemory = ⊥
 TellsOfDisk service.Reopen = ⊥
+TellsOfDisk (service.Malformed place) = ⊥
 TellsOfDisk _ = Unit {0}
+
+-- that never come of a service that was just opened, to a message that was read before
+abbrev pub IsNever : Refusal → Type 0
+IsNever service.Reopen = Unit {0}
+IsNever (service.Malformed place) = Unit {0}
+IsNever _ = ⊥
+
+abbrev pub CanCome : Refusal → Type 0
+CanCome r = IsNever r → ⊥
+
+pub fault_can : (r : Refusal) → IsFault r → CanCome r
+fault_can service.Reopen fault never = fault
+fault_can (service.Malformed place) fault never = fault
+fault_can _ fault never = never
 
 module _ {X : Type 0} where
   -- one that is found is the answer
@@ -42,6 +57,7 @@ module _ {X : Type 0} where
   found_result service.DiskFault f tells is = absurd tells
   found_result service.NoMemory f tells is = absurd tells
   found_result service.Reopen f tells is = absurd tells
+  found_result (service.Malformed place) f tells is = absurd tells
   found_result _ f tells is = sym (ap result_of is)
 
   abbrev failed : Refusal → Result X Refusal
@@ -58,10 +74,17 @@ pub allowed : {X : Type 0} (Else : Refusal → Type 0) (table : Option Refusal) 
 allowed Else None x is = refl
 allowed {X} Else (Some r) x is = let other : ◌≡◌ {A = Result X Refusal} (Ok x) (Err r) = is in cc
 
--- that a call before met a disk fault is refused by no table of a service that was just opened
-pub no_reopen : (X : Type 0) (Else : Refusal → Type 0) (table : Option Refusal) → Of IsTold table → (Else service.Reopen → ⊥) → (r : Refusal) → IsByTable {X = X} Else table (Err r) → r ≡ service.Reopen → ⊥
-no_reopen X Else None told never r is same = never (subst Else same is)
-no_reopen X Else (Some q) told never r is same = told.1 (same_err {X = X} r q is ∙ same)
+-- what never comes is refused by no table of a service that was just opened
+pub no_never : (X : Type 0) (Else : Refusal → Type 0) (table : Option Refusal) → Of CanCome table → ((q : Refusal) → Else q → CanCome q) → (r : Refusal) → IsByTable {X = X} Else table (Err r) → CanCome r
+no_never X Else None can others r is never = others r is never
+no_never X Else (Some q) can others r is never = can (subst IsNever (sym (same_err {X = X} r q is)) never)
+
+-- of a call that has no refusals but the table's and faults
+pub only_faults : {X : Type 0} (table : Option Refusal) (result : Result X Refusal) → IsByTable (λ why. IsFault why ⊎ ⊥) table result → IsByTable IsFault table result
+only_faults None (Ok x) is = tt
+only_faults None (Err r) (inl fault) = fault
+only_faults None (Err r) (inr other) = absurd other
+only_faults (Some q) result is = is
 
 pub table_refuses : {S : Type 0} (table : S → Option Refusal) (last : S) (r : Refusal) → table last ≡ Some r → TableRefuses table (fault_of_service r)
 table_refuses table last (service.BadPage page) is = tt
@@ -87,13 +110,94 @@ pub machine_refuses : {T : Type 0} (h : History) (call : Call) (reply : T → Re
 machine_refuses h call reply Serves service.DiskFault tells is = absurd tells
 machine_refuses h call reply Serves service.NoMemory tells is = absurd tells
 machine_refuses h call reply Serves service.Reopen tells is = absurd tells
+machine_refuses h call reply Serves (service.Malformed place) tells is = absurd tells
 machine_refuses h call reply Serves (service.BadPage page) tells is = is
 machine_refuses h call reply Serves r tells is = (r, refl, is.0)
 
+-- ---- refusals besides those of a table
+
+module _ (X : Type 0) (Further : Refusal → Type 0) (table : (last : ℕ) → Option Refusal) (last : ℕ) where
+  abbrev Refuses : Refusal → Type 0
+  Refuses r = TableAnswersOr {X = X} Further table (Err (fault_of_service r))
+
+  further_refuses : (r : Refusal) → table last ≡ None → Further r → Refuses r
+  further_refuses (service.BadPage page) none further = tt
+  further_refuses r none further = (r, refl, (last, inr (none, further)))
+
+  first_refuses : (r : Refusal) → table last ≡ Some r → Refuses r
+  first_refuses (service.BadPage page) is = tt
+  first_refuses r is = (r, refl, (last, inl is))
+
+  fault_refuses : (r : Refusal) → TellsOfDisk r → IsFault r → Refuses r
+  fault_refuses (service.BadPage page) tells fault = tt
+  fault_refuses service.DiskFault tells fault = absurd tells
+  fault_refuses service.NoMemory tells fault = absurd tells
+  fault_refuses _ tells fault = absurd fault
+
+  pub by_table_or : (T : Type 0) (o : Option Refusal) → table last ≡ o → (r : Refusal) → TellsOfDisk r → IsByTable {X = T} (λ why. IsFault why ⊎ Further why) o (Err r) → Refuses r
+  by_table_or T None none r tells (inl fault) = fault_refuses r tells fault
+  by_table_or T None none r tells (inr further) = further_refuses r none further
+  by_table_or T (Some q) some r tells is = first_refuses r (some ∙ ap (λ (x : Refusal). Some x) (same_err {X = T} r q is))
+
 -- ---- what a command comes to
 
+module _ {X : Type 0} (Over : Served → Result X CommandFault → Type 0) (ByTable : Result X CommandFault → Type 0) (ByMachine : History → Result X CommandFault → Type 0) where
+  abbrev pub ComesBy : FoundDisk → Result X CommandFault → Type 0
+  ComesBy t result = ComesOver Over ByTable ByMachine t result
+
+  abbrev IsOneOver : Option Image → Result X CommandFault → Type 0
+  IsOneOver found result = IsResultOver Over ByTable ByMachine found result
+
+  -- of a service that was opened
+  module _ (t : FoundDisk) (root : RootRecord) (pages : Option Image) (opens : IsOpened t.found root pages) where
+    pub opened_result : (r : Result X CommandFault) → ((ps : Image) → pages ≡ Some ps → Over (Opened root ps) r) → ByTable r → ((h : History) → ReadsAs t.found h → ByMachine h r) → IsOneOver t.found r
+    opened_result r is table machine = record {
+      answer = λ image told. let o = opens image told in
+          (Opened root o.opening.pages, record { opening = o.opening; opens = o.opens; has = o.has; pages = refl }, is o.opening.pages o.pages);
+      table = table;
+      machine = machine;
+    }
+
+    by_refusal : (r : Refusal) → CanCome r → (failed {X = X} r ≡ Err service.DiskFault → Rose t.before t.after) → (TellsOfDisk r → IsOneOver t.found (Err (fault_of_service r)))
+        → ComesBy t (Err (fault_of_service r))
+    by_refusal service.DiskFault other rose tells = rose refl
+    by_refusal service.NoMemory other rose tells = tt
+    by_refusal service.Reopen other rose tells = absurd (other tt)
+    by_refusal (service.Malformed place) other rose tells = absurd (other tt)
+    by_refusal _ other rose tells = tells tt
+
+    pub opened_refusal : (r : Refusal) (came : CommandFault) → came ≡ fault_of_service r → CanCome r → (failed {X = X} r ≡ Err service.DiskFault → Rose t.before t.after)
+        → (TellsOfDisk r → IsOneOver t.found (Err (fault_of_service r))) → ComesBy t (Err came)
+    opened_refusal r came same other rose tells = subst (λ (f : CommandFault). ComesBy t (Err f)) (sym same) (by_refusal r other rose tells)
+
+  -- of a disk that isn't opened
+  module _ (told_so : (g : StoreFault) → Over (Unopened g) (Err (fault_of_store g))) (free : (cause : StoreCause) → ByTable (Err (fault.Unserved cause)))
+      (found : Option Image) (before after : ℕ) (f : StoreFault) (unopened : (image : Image) → found ≡ Some image → (f ≡ store.DiskFault) ⊎ IsNotOpenedFor image f)
+      (answers : (f ≢ store.Taken) × (f ≢ store.NoMemory)) (rose : f ≡ store.DiskFault → Rose before after) where
+    why : (g : StoreFault) → g ≡ f → (g ≡ store.DiskFault → ⊥) → (image : Image) → found ≡ Some image → IsNotOpenedFor image g
+    why g same other image told =
+        ⊎_elim (λ is. absurd (other (same ∙ is))) (λ is. subst (IsNotOpenedFor image) (sym same) is) (unopened image told)
+
+    one_unserved : (g : StoreFault) (cause : StoreCause) → fault_of_store g ≡ fault.Unserved cause → ((image : Image) → found ≡ Some image → IsNotOpenedFor image g) → IsOneOver found (Err (fault.Unserved cause))
+    one_unserved g cause is refuses = record {
+      answer = λ image told. (Unopened g, refuses image told, subst (λ (w : CommandFault). Over (Unopened g) (Err w)) is (told_so g));
+      table = free cause;
+      machine = λ h reads. absurd (stands_opened sha256 reads.image h.name h g reads.stands (refuses reads.image reads.told));
+    }
+
+    pub unopened_comes : (came : CommandFault) → came ≡ fault_of_store f → ComesBy (found_disk found before after) (Err came)
+    unopened_comes came is = subst (λ (w : CommandFault). ComesBy (found_disk found before after) (Err w)) (sym is) (by f refl)
+      where
+        by : (g : StoreFault) → g ≡ f → ComesBy (found_disk found before after) (Err (fault_of_store g))
+        by store.Taken same = absurd (answers.0 (sym same))
+        by store.Blank same = one_unserved store.Blank Blank refl (why store.Blank same (λ is. cc))
+        by (store.NotAStore slot) same = one_unserved (store.NotAStore slot) (NotAStore slot) refl (why (store.NotAStore slot) same (λ is. cc))
+        by store.DiskFault same = rose (sym same)
+        by store.NoMemory same = absurd (answers.1 (sym same))
+
+-- the same of a command whose answer is a function of what the disk is served as
 module _ {X : Type 0} (finds : RootRecord → Image → Found (Result X Refusal)) (ByTable : Result X CommandFault → Type 0) (ByMachine : History → Result X CommandFault → Type 0) where
-  abbrev Comes : FoundDisk → Result X CommandFault → Type 0
+  abbrev pub Comes : FoundDisk → Result X CommandFault → Type 0
   Comes t result = ComesTo finds ByTable ByMachine t result
 
   abbrev IsOne : Option Image → Result X CommandFault → Type 0
@@ -102,58 +206,19 @@ module _ {X : Type 0} (finds : RootRecord → Image → Found (Result X Refusal)
   -- of a service that was opened, and what it found
   module _ (t : FoundDisk) (root : RootRecord) (pages : Option Image) (opens : IsOpened t.found root pages) where
     pub done : (x : X) → ((ps : Image) → pages ≡ Some ps → finds root ps ≡ Is (Ok x)) → ByTable (Ok x) → ((h : History) → ReadsAs t.found h → ByMachine h (Ok x)) → Comes t (Ok x)
-    done x is table machine = record {
-      answer = λ image told. let o = opens image told in
-          (Opened root o.opening.pages, record { opening = o.opening; opens = o.opens; has = o.has; pages = refl }, sym (ap result_of (is o.opening.pages o.pages)));
-      table = table;
-      machine = machine;
-    }
+    done x is table machine = opened_result (IsTheAnswer finds) ByTable ByMachine t root pages opens (Ok x) (λ ps told. sym (ap result_of (is ps told))) table machine
 
-    one_refused : (r : Refusal) → TellsOfDisk r → ((ps : Image) → pages ≡ Some ps → IsRefusalOf r (finds root ps)) → ByTable (Err (fault_of_service r))
-        → ((h : History) → ReadsAs t.found h → ByMachine h (Err (fault_of_service r))) → IsOne t.found (Err (fault_of_service r))
-    one_refused r tells is table machine = record {
-      answer = λ image told. let o = opens image told in
-          (Opened root o.opening.pages, record { opening = o.opening; opens = o.opens; has = o.has; pages = refl }, found_result r (finds root o.opening.pages) tells (is o.opening.pages o.pages));
-      table = table;
-      machine = machine;
-    }
-
-    by_refusal : (r : Refusal) → (r ≡ service.Reopen → ⊥) → (failed {X = X} r ≡ Err service.DiskFault → Rose t.before t.after) → (TellsOfDisk r → IsOne t.found (Err (fault_of_service r)))
-        → Comes t (Err (fault_of_service r))
-    by_refusal service.DiskFault other rose tells = rose refl
-    by_refusal service.NoMemory other rose tells = tt
-    by_refusal service.Reopen other rose tells = absurd (other refl)
-    by_refusal _ other rose tells = tells tt
-
-    pub refused : (r : Refusal) (came : CommandFault) → came ≡ fault_of_service r → (r ≡ service.Reopen → ⊥) → (failed {X = X} r ≡ Err service.DiskFault → Rose t.before t.after)
+    pub refused : (r : Refusal) (came : CommandFault) → came ≡ fault_of_service r → CanCome r → (failed {X = X} r ≡ Err service.DiskFault → Rose t.before t.after)
         → ((ps : Image) → pages ≡ Some ps → IsRefusalOf r (finds root ps)) → (TellsOfDisk r → ByTable (Err (fault_of_service r)))
         → (TellsOfDisk r → (h : History) → ReadsAs t.found h → ByMachine h (Err (fault_of_service r))) → Comes t (Err came)
     refused r came same other rose is table machine =
-        subst (λ (f : CommandFault). Comes t (Err f)) (sym same) (by_refusal r other rose (λ tells. one_refused r tells is (table tells) (machine tells)))
+        opened_refusal (IsTheAnswer finds) ByTable ByMachine t root pages opens r came same other rose (λ tells.
+        opened_result (IsTheAnswer finds) ByTable ByMachine t root pages opens (Err (fault_of_service r)) (λ ps told. found_result r (finds root ps) tells (is ps told)) (table tells) (machine tells))
 
-  -- of a disk that isn't opened
-  module _ (free : (cause : StoreCause) → ByTable (Err (fault.Unserved cause))) (found : Option Image) (before after : ℕ) (f : StoreFault) (unopened : (image : Image) → found ≡ Some image → (f ≡ store.DiskFault) ⊎ IsNotOpenedFor image f)
-      (answers : (f ≢ store.Taken) × (f ≢ store.NoMemory)) (rose : f ≡ store.DiskFault → Rose before after) where
-    why : (g : StoreFault) → g ≡ f → (g ≡ store.DiskFault → ⊥) → (image : Image) → found ≡ Some image → IsNotOpenedFor image g
-    why g same other image told =
-        ⊎_elim (λ is. absurd (other (same ∙ is))) (λ is. subst (IsNotOpenedFor image) (sym same) is) (unopened image told)
-
-    one_unserved : (g : StoreFault) (cause : StoreCause) → fault_of_store g ≡ fault.Unserved cause → ((image : Image) → found ≡ Some image → IsNotOpenedFor image g) → IsOne found (Err (fault.Unserved cause))
-    one_unserved g cause is refuses = record {
-      answer = λ image told. (Unopened g, refuses image told, ap (λ (w : CommandFault). Err w) (sym is));
-      table = free cause;
-      machine = λ h reads. absurd (stands_opened sha256 reads.image h.name h g reads.stands (refuses reads.image reads.told));
-    }
-
-    pub unserved : (came : CommandFault) → came ≡ fault_of_store f → Comes (found_disk found before after) (Err came)
-    unserved came is = subst (λ (w : CommandFault). Comes (found_disk found before after) (Err w)) (sym is) (by f refl)
-      where
-        by : (g : StoreFault) → g ≡ f → Comes (found_disk found before after) (Err (fault_of_store g))
-        by store.Taken same = absurd (answers.0 (sym same))
-        by store.Blank same = one_unserved store.Blank Blank refl (why store.Blank same (λ is. cc))
-        by (store.NotAStore slot) same = one_unserved (store.NotAStore slot) (NotAStore slot) refl (why (store.NotAStore slot) same (λ is. cc))
-        by store.DiskFault same = rose (sym same)
-        by store.NoMemory same = absurd (answers.1 (sym same))
+  pub unserved : (free : (cause : StoreCause) → ByTable (Err (fault.Unserved cause))) (found : Option Image) (before after : ℕ) (f : StoreFault)
+      → ((image : Image) → found ≡ Some image → (f ≡ store.DiskFault) ⊎ IsNotOpenedFor image f) → (f ≢ store.Taken) × (f ≢ store.NoMemory) → (f ≡ store.DiskFault → Rose before after)
+      → (came : CommandFault) → came ≡ fault_of_store f → Comes (found_disk found before after) (Err came)
+  unserved free found before after f unopened answers rose came is = unopened_comes (IsTheAnswer finds) ByTable ByMachine (λ g. refl) free found before after f unopened answers rose came is
 
   -- ---- one answer
 

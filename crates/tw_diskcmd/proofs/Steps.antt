@@ -8,24 +8,25 @@ use Rattle.tw_disk.specs.Disk.{DiskView}
 use Rattle.tw_disk.specs.Image.{Image}
 use Rattle.tw_base.specs.kinds.Faults.{Rose}
 use Rattle.tw_disk.specs.Found.Found.{Is}
-use Rattle.tw_service.specs.declared.refusal.Refusal.{Refusal}
-use Rattle.tw_service.specs.declared.refusal.Refusal.TheVariants as service
-use Rattle.tw_service.specs.declared.root.RootRecord.{RootRecord}
+use Rattle.tw_answers.specs.declared.refusal.Refusal.{Refusal}
+use Rattle.tw_answers.specs.declared.refusal.Refusal.TheVariants as service
+use Rattle.tw_answers.specs.declared.root.RootRecord.{RootRecord}
 use Rattle.tw_service.specs.EventSteps.{with_events}
-use Rattle.tw_service.specs.Refusals.{IsFault}
-use Rattle.tw_service.specs.Finds.{IsRefusalOf, found_thread}
-use Rattle.tw_service.specs.Limits.{append_refusal}
+use Rattle.tw_answers.specs.Refusals.{IsFault}
+use Rattle.tw_answers.specs.Finds.{IsRefusalOf}
+use Rattle.tw_service.specs.Finds.{found_thread}
+use Rattle.tw_answers.specs.Limits.{append_refusal}
 use Rattle.tw_service.specs.Machine.{Answers, IsStepOf, append_table, last_thread}
 use Rattle.tw_service.specs.Machine.Call.{Append}
 use Rattle.tw_service.specs.Machine.Reply.{OfThread, Refused}
-use Rattle.tw_service.proofs.Answering.{append_told}
 use Rattle.tw_text.specs.declared.fault.CommandFault.{CommandFault}
 use Rattle.tw_diskcmd.specs.Answers.{IsOpened}
 use Rattle.tw_diskcmd.specs.Appending.{MachineAdds, StepComes, TableAdds, added, table_of}
 use Rattle.tw_diskcmd.specs.Disks.{FoundDisk, IsLeft, LeavesOldOrOneOf, ReadsAs, ReadsAsOneOf, Rests}
 use Rattle.tw_diskcmd.specs.Faults.{fault_of_service}
 use Rattle.tw_diskcmd.specs.WorkSteps.{LeavesStep, WritesNothing}
-use Rattle.tw_diskcmd.proofs.Results.{Table, allowed, by_table, done, machine_refuses, no_reopen, refused}
+use Rattle.tw_diskcmd.proofs.Results.{Table, allowed, by_table, done, fault_can, machine_refuses, no_never, refused}
+use Rattle.tw_diskcmd.proofs.Tables.{append_can}
 
 -- ---- a step of the machine
 
@@ -75,7 +76,7 @@ module _ (t : FoundDisk) (events : List (List ℕ)) (time : Option ℕ) (is_brok
       → StepComes t events time (Err came)
   step_refused r came is table machine rose finds =
       refused (added events time) (TableAdds events time) (MachineAdds events time) t root pages opens r came is
-      (no_reopen Thread IsFault (table_of events time here) (append_told root.head.step root.time events time) (λ is. is) r (whole_table (Err r) table)) rose
+      (no_never Thread IsFault (table_of events time here) (append_can root.head.step root.time events time) fault_can r (whole_table (Err r) table)) rose
       (λ ps told. subst (λ b. IsRefusalOf r (found_thread sha256 ps root.name root.head b root.time events time root.archive)) whole (finds ps told))
       (λ tells. by_table Thread (table_of events time) here (table_of events time here) refl r tells (whole_table (Err r) table))
       (λ tells h reads. machine_refuses h (Append events time) (λ t. OfThread t) NewServes r tells (machine h (serves h reads)))
@@ -87,29 +88,23 @@ module _ {D : Type 0} (view : D → DiskView)
   abbrev Kept : Type 0
   Kept = Rests view new h
 
-  pub step_leaves : (r : Refusal) (came : CommandFault) → came ≡ fault_of_service r → LeavesOldOrOneOf view old new h next × ReadsAsOneOf view new h next
-      → (r ≡ service.DiskFault) ⊎ Kept → LeavesStep view old new h next (Err came)
-  step_leaves r came is any kept = subst (λ (f : CommandFault). LeavesStep view old new h next (Err f)) (sym is) (by r kept)
+  pub step_leaves : (X : Type 0) (r : Refusal) (came : CommandFault) → came ≡ fault_of_service r → LeavesOldOrOneOf view old new h next × ReadsAsOneOf view new h next
+      → (r ≡ service.DiskFault) ⊎ Kept → LeavesStep view old new {X = X} h next (Err came)
+  step_leaves X r came is any kept = subst (λ (f : CommandFault). LeavesStep view old new {X = X} h next (Err f)) (sym is) (by r kept)
     where
       here : (r : Refusal) → (r ≡ service.DiskFault → ⊥) → (r ≡ service.DiskFault) ⊎ Kept → Kept
       here r other (inl same) = absurd (other same)
       here r other (inr kept) = kept
 
-      by : (r : Refusal) → (r ≡ service.DiskFault) ⊎ Kept → LeavesStep view old new h next (Err (fault_of_service r))
+      by : (r : Refusal) → (r ≡ service.DiskFault) ⊎ Kept → LeavesStep view old new {X = X} h next (Err (fault_of_service r))
       by service.DiskFault kept = any
       by service.Reopen kept = any
-      by service.Full kept = here service.Full (λ same. cc) kept
-      by (service.TooMany count) kept = here (service.TooMany count) (λ same. cc) kept
-      by (service.ClockBack last given) kept = here (service.ClockBack last given) (λ same. cc) kept
-      by (service.TooLong bytes) kept = here (service.TooLong bytes) (λ same. cc) kept
-      by (service.NoStep last) kept = here (service.NoStep last) (λ same. cc) kept
-      by (service.NoEvent count) kept = here (service.NoEvent count) (λ same. cc) kept
-      by (service.BadPage page) kept = here (service.BadPage page) (λ same. cc) kept
-      by service.NoMemory kept = here service.NoMemory (λ same. cc) kept
+      by (service.Malformed place) kept = any
+      by r kept = here r (λ same. cc) kept
 
 module _ {D : Type 0} (view : D → DiskView) (old new : D) where
   -- what it wrote: nothing, but where there was a disk fault
-  pub step_unwritten : (r : Refusal) (came : CommandFault) → came ≡ fault_of_service r
-      → (r ≡ service.DiskFault) ⊎ IsLeft view old new → WritesNothing {X = Thread} (Err came) → IsLeft view old new
-  step_unwritten r came is (inr left) nothing = left
-  step_unwritten r came is (inl fault) nothing = absurd (subst (λ (f : CommandFault). WritesNothing {X = Thread} (Err f)) (is ∙ ap fault_of_service fault) nothing)
+  pub step_unwritten : (X : Type 0) (r : Refusal) (came : CommandFault) → came ≡ fault_of_service r
+      → (r ≡ service.DiskFault) ⊎ IsLeft view old new → WritesNothing {X = X} (Err came) → IsLeft view old new
+  step_unwritten X r came is (inr left) nothing = left
+  step_unwritten X r came is (inl fault) nothing = absurd (subst (λ (f : CommandFault). WritesNothing {X = X} (Err f)) (is ∙ ap fault_of_service fault) nothing)

@@ -18,16 +18,16 @@ use Rattle.tw_msg.specs.Messages.{IsLinked, message_bytes, message_layout}
 use Rattle.tw_msg.proofs.OwnMessages.{leads-own}
 use Rattle.tw_skipproof.specs.declared.path.Path.{Path}
 use Rattle.tw_skipproof.specs.HistoryProofs.{IsPathOf}
-use Rattle.tw_service.specs.declared.refusal.Refusal.{Refusal}
-use Rattle.tw_service.specs.declared.refusal.Refusal.TheVariants as service
-use Rattle.tw_service.specs.declared.root.RootRecord.{RootRecord}
-use Rattle.tw_service.specs.Finds.{IsRefusalOf, found_message, thread_at}
-use Rattle.tw_service.specs.Limits.{thread_refusal}
+use Rattle.tw_answers.specs.declared.refusal.Refusal.{Refusal}
+use Rattle.tw_answers.specs.declared.refusal.Refusal.TheVariants as service
+use Rattle.tw_answers.specs.declared.root.RootRecord.{RootRecord}
+use Rattle.tw_answers.specs.Finds.{IsRefusalOf, found_message}
+use Rattle.tw_service.specs.Finds.{thread_at}
+use Rattle.tw_answers.specs.Limits.{thread_refusal}
 use Rattle.tw_service.specs.Machine.{Answers, last_thread}
 use Rattle.tw_service.specs.Machine.Call.{TellThread}
 use Rattle.tw_service.specs.Machine.Reply.{OfPath}
-use Rattle.tw_service.specs.Refusals.{IsFault, refusals}
-use Rattle.tw_service.proofs.Answering.{thread_told}
+use Rattle.tw_answers.specs.Refusals.{IsFault, refusals}
 use Rattle.tw_text.specs.declared.fault.CommandFault.{CommandFault}
 use Rattle.tw_text.specs.declared.fault.CommandFault.TheVariants.{NoMemory}
 use Rattle.tw_diskcmd.specs.Answers.{IsOpened}
@@ -36,6 +36,7 @@ use Rattle.tw_diskcmd.specs.Faults.{fault_of_service}
 use Rattle.tw_diskcmd.specs.Telling.{TellsSince, ThreadComes, bytes_with, message_of, thread_call, thread_table, told}
 use Rattle.tw_diskcmd.proofs.AskedCalls.{asked_done, asked_refused}
 use Rattle.tw_diskcmd.proofs.Results.{Table, allowed}
+use Rattle.tw_diskcmd.proofs.Tables.{thread_can}
 
 -- where the table refuses nothing, there is a step, and the earlier one isn't above the last
 in_order : (last since : ℕ) → thread_table since last ≡ None → (0 < last) × (since ≤ last)
@@ -126,5 +127,5 @@ module _ (t : FoundDisk) (since : ℕ) (is_broken : Bool) (root : RootRecord) (p
   unfolding ThreadComes
   thread_refused r came is table machine rose found =
       asked_refused (told since) (thread_table since) (thread_call since) (TellsSince since) t root pages opens Path (λ p. OfPath p) NewServes r came is
-      (thread_told root.head.step since) (subst (λ (o : Option Refusal). Table {X = Path} o (Err r)) table_is table) (λ h reads. machine whole h (serves h reads))
+      (thread_can root.head.step since) (subst (λ (o : Option Refusal). Table {X = Path} o (Err r)) table_is table) (λ h reads. machine whole h (serves h reads))
       (λ same. rose (ap (λ (q : Refusal). Err q) same)) (λ ps has. subst (IsRefusalOf r) (found_is ps) (refusal_on root since r (refusals r) _ (found ps has)))

@@ -1,5 +1,5 @@
 -- What a command over the disk of a service answers: a function of what the disk is served as.
-use Rattle.std.specs.Prelude.{◌≡◌, ℕ, Option, Some, None, Result, Ok, Err}
+use Rattle.std.specs.Prelude.{◌≡◌, ◌⊎◌, ℕ, Option, Some, None, Result, Ok, Err}
 use Rattle.sha2.specs.Sha256.{sha256}
 use Rattle.tw_base.specs.kinds.Faults.{Rose}
 use Rattle.tw_base.specs.history.History.{History}
@@ -10,8 +10,8 @@ use Rattle.tw_service.specs.Machine.{Call, IsStepOf}
 use Rattle.tw_service.specs.Machine.Reply.{Refused}
 use Rattle.tw_service.specs.Stands.{IsServed, OpensWith, Served}
 use Rattle.tw_service.specs.Stands.Served.{Opened, Unopened}
-use Rattle.tw_service.specs.declared.refusal.Refusal.{Refusal}
-use Rattle.tw_service.specs.declared.root.RootRecord.{RootRecord}
+use Rattle.tw_answers.specs.declared.refusal.Refusal.{Refusal}
+use Rattle.tw_answers.specs.declared.root.RootRecord.{RootRecord}
 use Rattle.tw_text.specs.declared.refusal.StoreCause.TheVariants.{BadPage}
 use Rattle.tw_text.specs.declared.fault.CommandFault.{CommandFault}
 use Rattle.tw_text.specs.declared.fault.CommandFault.TheVariants as fault
@@ -25,6 +25,10 @@ IsOpened found root pages = (image : Image) → found ≡ Some image → OpensWi
 -- ---- answers
 
 module _ {X : Type 0} where
+  -- where what the disk read as is told, this holds of what it is served as, and of the result
+  abbrev pub IsAnswerOver : (Over : Served → Result X CommandFault → Type 0) → (found : Option Image) → Result X CommandFault → Type 0
+  IsAnswerOver Over found result = (image : Image) → found ≡ Some image → (served : Served) × IsServed image served × Over served result
+
   -- what is found in a service's pages, as the command's result
   abbrev pub result_of : Found (Result X Refusal) → Result X CommandFault
   result_of (Is (Ok value)) = Ok value
@@ -36,9 +40,9 @@ module _ {X : Type 0} where
   answer_over finds (Opened root pages) = result_of (finds root pages)
   answer_over finds (Unopened why) = Err (fault_of_store why)
 
-  -- where what the disk read as is told, the result is the answer over what this is served as
-  abbrev pub IsAnswer : (finds : RootRecord → Image → Found (Result X Refusal)) → (found : Option Image) → Result X CommandFault → Type 0
-  IsAnswer finds found result = (image : Image) → found ≡ Some image → (served : Served) × IsServed image served × (result ≡ answer_over finds served)
+  -- the result is the answer over what the disk is served as
+  abbrev pub IsTheAnswer : (finds : RootRecord → Image → Found (Result X Refusal)) → Served → Result X CommandFault → Type 0
+  IsTheAnswer finds served result = result ≡ answer_over finds served
 
 -- ---- refusals
 
@@ -56,13 +60,19 @@ abbrev pub MachineRefuses : History → Call → CommandFault → Type 0
 MachineRefuses h call (fault.Unserved cause) = ⊥
 MachineRefuses h call why = IsRefusal (λ refusal. IsStepOf sha256 h call (Refused refusal) h) why
 
--- ---- answers of a command all of whose refusals are of one table
+-- ---- answers of a command whose refusals are of one table, or come after it
 
 module _ {X : Type 0} where
   -- for some number of steps the table refuses nothing, where there is an answer; else the refusal is the table's
   abbrev pub TableAnswers : (table : (last : ℕ) → Option Refusal) → Result X CommandFault → Type 0
   TableAnswers table (Ok value) = (last : ℕ) × (table last ≡ None)
   TableAnswers table (Err why) = TableRefuses table why
+
+  -- the same of a command that has refusals besides, for which pages are read: these come where the table refuses nothing
+  abbrev pub TableAnswersOr : (Further : Refusal → Type 0) → (table : (last : ℕ) → Option Refusal) → Result X CommandFault → Type 0
+  TableAnswersOr Further table (Ok value) = (last : ℕ) × (table last ≡ None)
+  TableAnswersOr Further table (Err (fault.Unserved cause)) = Unit {0}
+  TableAnswersOr Further table (Err why) = IsRefusal (λ refusal. (last : ℕ) × ((table last ≡ Some refusal) ⊎ ((table last ≡ None) × Further refusal))) why
 
   -- where the disk reads as this history: the answer is what is made of it, or else the machine refuses the call
   abbrev pub MachineAnswers : (call : History → Call) → (Makes : X → History → Type 0) → History → Result X CommandFault → Type 0
@@ -78,18 +88,26 @@ module _ {X : Type 0} where
   TellsContent (Err fault.NoMemory) = ⊥
   TellsContent _ = Unit {0}
 
-  module _ (finds : RootRecord → Image → Found (Result X Refusal)) (ByTable : Result X CommandFault → Type 0) (ByMachine : History → Result X CommandFault → Type 0) where
-    -- the result is the answer, the table allows it, and where the disk reads as a history, it is what the machine does
-    pub record IsResult (found : Option Image) (result : Result X CommandFault) : Type 0 where
-      pub answer : IsAnswer finds found result
+  module _ (Over : Served → Result X CommandFault → Type 0) (ByTable : Result X CommandFault → Type 0) (ByMachine : History → Result X CommandFault → Type 0) where
+    -- the result is an answer, the table allows it, and where the disk reads as a history, it is what the machine does
+    pub record IsResultOver (found : Option Image) (result : Result X CommandFault) : Type 0 where
+      pub answer : IsAnswerOver Over found result
       pub table : ByTable result
       pub machine : (h : History) → ReadsAs found h → ByMachine h result
 
     -- what it comes to; want of memory is free
+    abbrev pub ComesOver : FoundDisk → Result X CommandFault → Type 0
+    ComesOver t (Ok value) = IsResultOver t.found (Ok value)
+    ComesOver t (Err (fault.Refused refusal)) = IsResultOver t.found (Err (fault.Refused refusal))
+    ComesOver t (Err (fault.Unserved cause)) = IsResultOver t.found (Err (fault.Unserved cause))
+    ComesOver t (Err fault.DiskFault) = Rose t.before t.after
+    ComesOver t (Err fault.NoMemory) = Unit {0}
+    ComesOver t _ = ⊥
+
+  -- the same of a command whose answer is a function of what the disk is served as
+  module _ (finds : RootRecord → Image → Found (Result X Refusal)) (ByTable : Result X CommandFault → Type 0) (ByMachine : History → Result X CommandFault → Type 0) where
+    abbrev pub IsResult : (found : Option Image) → Result X CommandFault → Type 0
+    IsResult found result = IsResultOver (IsTheAnswer finds) ByTable ByMachine found result
+
     abbrev pub ComesTo : FoundDisk → Result X CommandFault → Type 0
-    ComesTo t (Ok value) = IsResult t.found (Ok value)
-    ComesTo t (Err (fault.Refused refusal)) = IsResult t.found (Err (fault.Refused refusal))
-    ComesTo t (Err (fault.Unserved cause)) = IsResult t.found (Err (fault.Unserved cause))
-    ComesTo t (Err fault.DiskFault) = Rose t.before t.after
-    ComesTo t (Err fault.NoMemory) = Unit {0}
-    ComesTo t _ = ⊥
+    ComesTo t result = ComesOver (IsTheAnswer finds) ByTable ByMachine t result

@@ -5,27 +5,26 @@ use Rattle.tw_base.specs.declared.history.thread.Thread.{Thread}
 use Rattle.tw_base.specs.format.Formats.{IsPlace, Spells, SpellsNothing}
 use Rattle.tw_base.specs.history.History.{History}
 use Rattle.tw_base.specs.kinds.Faults.{Rose}
-use Rattle.tw_disk.specs.Disk.{DiskView, LeavesOnly}
+use Rattle.tw_disk.specs.Disk.{DiskView}
 use Rattle.tw_disk.specs.Image.{Image}
 use Rattle.tw_msg.specs.EventsFile.{events_file}
 use Rattle.tw_outside.specs.Asked.{Asked}
 use Rattle.tw_outside.specs.Files.{Files, IsThere, Tells}
-use Rattle.tw_service.specs.declared.refusal.Refusal.{Refusal as ServiceRefusal}
+use Rattle.tw_answers.specs.declared.refusal.Refusal.{Refusal as ServiceRefusal}
 use Rattle.tw_disk.specs.Found.{Found}
 use Rattle.tw_service.specs.EventSteps.{with_events}
 use Rattle.tw_service.specs.Finds.{found_thread}
-use Rattle.tw_service.specs.Limits.{append_refusal}
-use Rattle.tw_service.specs.Machine.{IsStepOf, NextOf, last_thread}
+use Rattle.tw_answers.specs.Limits.{append_refusal}
+use Rattle.tw_service.specs.Machine.{IsStepOf, last_thread}
 use Rattle.tw_service.specs.Machine.Call.{Append}
 use Rattle.tw_service.specs.Machine.Reply.{OfThread}
-use Rattle.tw_service.specs.declared.root.RootRecord.{RootRecord}
-use Rattle.tw_service.specs.Stands.{StandsForOneOf}
+use Rattle.tw_answers.specs.declared.root.RootRecord.{RootRecord}
 use Rattle.tw_text.specs.declared.refusal.BadInput.TheVariants.{BadByte}
 use Rattle.tw_diskcmd.specs.declared.limits.TheConstants.{EVENTS_LIMIT}
 use Rattle.tw_text.specs.declared.fault.CommandFault.{CommandFault}
 use Rattle.tw_text.specs.declared.fault.CommandFault.TheVariants as fault
 use Rattle.tw_diskcmd.specs.Answers.{ComesTo, IsResult, MachineRefuses, TableRefuses, TellsContent}
-use Rattle.tw_diskcmd.specs.Disks.{Adds, FoundDisk, IsLeft, IsOf, KeepsOrAdds, LeavesOldOrOneOf, ReadsAs, ReadsAsOneOf, Settles, Stands}
+use Rattle.tw_diskcmd.specs.Disks.{Adds, AddsSafe, FoundDisk, IsLeft, KeepsOrAdds, Settles}
 
 -- the file is there; where the inputs tell its bytes, they are the events file of these events
 pub record AreEventsOf (told : Option Files) (file : List ℕ) (events : List (List ℕ)) : Type 0 where
@@ -95,13 +94,6 @@ module _ {D : Type 0} (view : D → DiskView) (old new : D) where
   AppendLeaves told file time (Err fault.InputFault) = new ≡ old
   AppendLeaves told file time _ = IsLeft view old new
 
-  -- Of a history that the disk read as, each image since is one that a crash might have left before, and the content is told still and
-  -- stands for it; or the file has events, and each image stands for it or for the next one, by the machine's adding of them, or is
-  -- one that might have been left before, and the content stands for one of the two. Of a history that it stood for for good, each
-  -- image stands for it, or for one of the two.
+  -- the next history is one by the machine's adding of the file's events
   abbrev pub AppendSafe : (told : Option Files) (file : List ℕ) (time : Option ℕ) → Type 0
-  AppendSafe told file time = (h : History) →
-      (ReadsAs (view old).content h → (LeavesOnly (view old) (view new) (view old).may_leave × ReadsAs (view new).content h)
-      ⊎ OfEvents told file (λ events. (next : History) × NextOf (Append events time) h next × LeavesOldOrOneOf view old new h next × ReadsAsOneOf view new h next))
-      × (Stands view old h → LeavesOnly (view old) (view new) (IsOf h)
-      ⊎ OfEvents told file (λ events. (next : History) × NextOf (Append events time) h next × LeavesOnly (view old) (view new) (StandsForOneOf sha256 h.name h next)))
+  AppendSafe told file time = AddsSafe view (AreEventsOf told file) (λ events. Append events time) old new

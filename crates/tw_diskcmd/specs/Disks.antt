@@ -67,7 +67,7 @@ module _ {D : Type 0} (view : D → DiskView) where
 
   -- of a history that the disk read as, with writes pending or not, there is a next one, by the machine's call, and this holds of both
   abbrev pub OfNext : Call → (old : D) → (P : (h next : History) → Type 0) → Type 0
-  OfNext call old P = (h : History) → ReadsAs (view old).content h → (next : History) × NextOf call h next × P h next
+  OfNext call old P = (h : History) → ReadsAs (view old).content h → (next : History) × NextOf sha256 call h next × P h next
 
   -- it is kept or the next one comes: the content is told still and stands for one of the two, and so do the images
   abbrev pub KeepsOrAdds : Call → (old new : D) → Type 0
@@ -76,6 +76,17 @@ module _ {D : Type 0} (view : D → DiskView) where
   -- the next one comes: the disk now stands for it, at rest
   abbrev pub Adds : Call → (old new : D) → Type 0
   Adds call old new = OfNext call old (λ h next. Rests new next × LeavesOneOf old new h next)
+
+  -- Of a history that the disk read as, each image since is one that a crash might have left before, and the content is told still and
+  -- stands for it; or there is something of which this holds, as a file has events or a message, and each image stands for the history
+  -- or for a next one, by the call with that, or is one that might have been left before, and the content stands for one of the two. Of
+  -- a history that the disk stood for for good, each image stands for it, or for one of the two.
+  abbrev pub AddsSafe : {X : Type 0} → (Has : X → Type 0) → (call : X → Call) → (old new : D) → Type 0
+  AddsSafe {X} Has call old new = (h : History) →
+      (ReadsAs (view old).content h → (LeavesOnly (view old) (view new) (view old).may_leave × ReadsAs (view new).content h)
+      ⊎ ((x : X) × Has x × (next : History) × NextOf sha256 (call x) h next × LeavesOldOrOneOf old new h next × ReadsAsOneOf new h next))
+      × (Stands old h → LeavesOnly (view old) (view new) (IsOf h)
+      ⊎ ((x : X) × Has x × (next : History) × NextOf sha256 (call x) h next × LeavesOnly (view old) (view new) (StandsForOneOf sha256 h.name h next)))
 
   -- an image that a crash might have left before, or a blank one, or one that stands for the history of this name that has no step
   abbrev pub IsOldOrBegun : (name : List ℕ) → (old : D) → Image → Type 0

@@ -2,8 +2,12 @@ pub mod Faults
 pub mod Disks
 pub mod Answers
 pub mod Making
+pub mod Receiving
+pub mod Proofs
 pub mod Appending
 pub mod Proving
 pub mod Linking
+pub mod ThreadProofs
+pub mod Mapping
 pub mod Telling
 pub mod WorkSteps

@@ -1,32 +1,23 @@
 -- `prove DIR link`: when the authenticator of a step of a service is proved, when it isn't, and what the command comes to.
-use Rattle.std.specs.Prelude.{◌≡◌, ℕ, List, length, Option, Some, Result, false}
+use Rattle.std.specs.Prelude.{ℕ, List, length, Option, Result, false}
 use Rattle.sha2.specs.Sha256.{sha256}
-use Rattle.tw_base.specs.declared.history.thread.Thread.{Thread}
-use Rattle.tw_base.specs.history.Anchors.{anchor_of}
-use Rattle.tw_base.specs.history.Auth.{auth}
 use Rattle.tw_base.specs.history.History.{History}
-use Rattle.tw_chain.specs.Accepting.{Accepts}
 use Rattle.tw_disk.specs.Found.{Found}
 use Rattle.tw_disk.specs.Image.{Image}
-use Rattle.tw_service.specs.declared.refusal.Refusal.{Refusal as ServiceRefusal}
-use Rattle.tw_service.specs.declared.root.RootRecord.{RootRecord}
-use Rattle.tw_service.specs.Finds.{found_link_proof}
-use Rattle.tw_service.specs.Limits.{link_refusal}
-use Rattle.tw_service.specs.Machine.{Call, IsStepOf, MakesLink}
+use Rattle.tw_answers.specs.declared.refusal.Refusal.{Refusal as ServiceRefusal}
+use Rattle.tw_answers.specs.declared.root.RootRecord.{RootRecord}
+use Rattle.tw_answers.specs.Finds.{found_link_proof}
+use Rattle.tw_answers.specs.Limits.{link_refusal}
+use Rattle.tw_service.specs.Machine.{Call, MakesLink}
 use Rattle.tw_service.specs.Machine.Call.{ProveLink}
-use Rattle.tw_service.specs.Machine.Reply.{OfProof}
 use Rattle.tw_text.specs.declared.fault.CommandFault.{CommandFault}
 use Rattle.tw_diskcmd.specs.Answers.{ComesTo, MachineAnswers, TableAnswers}
 use Rattle.tw_diskcmd.specs.Disks.{FoundDisk}
-use Rattle.tw_diskcmd.specs.Proving.{top_of}
+use Rattle.tw_diskcmd.specs.Proofs.{ProvesBy, top_of}
 
--- the bytes are the proof that the history has of its authenticator of the step under this top, and a step of the machine; so
--- whoever holds the history's authenticator of the top accepts them
-pub record LinksUnder (step top : ℕ) (proof : List ℕ) (h : History) : Type 0 where
-  pub makes : MakesLink sha256 h step top proof
-  pub machine : IsStepOf sha256 h (ProveLink step top) (OfProof proof) h
-  pub accepted : (anchors : List Thread) (anchor : Thread) → anchor_of anchors h.name top ≡ Some anchor
-      → anchor.auth ≡ auth sha256 h top → Accepts sha256 anchors proof
+-- the bytes are the proof that the history has of its authenticator of the step under this top
+abbrev pub LinksUnder : (step top : ℕ) → (proof : List ℕ) → History → Type 0
+LinksUnder step top proof h = ProvesBy (ProveLink step top) (MakesLink sha256 h step top) top proof h
 
 -- the proof of the step's authenticator that is found in a service's pages
 abbrev pub linked : (step : ℕ) (top : Option ℕ) → RootRecord → Image → Found (Result (List ℕ) ServiceRefusal)

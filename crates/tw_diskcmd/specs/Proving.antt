@@ -1,39 +1,25 @@
 -- `prove DIR event`: when an event of a service is proved, when it isn't, and what the command comes to.
-use Rattle.std.specs.Prelude.{◌≡◌, ℕ, List, length, Option, Some, None, Result, Ok, Err, false}
+use Rattle.std.specs.Prelude.{◌≡◌, ℕ, List, length, Option, None, Result, Ok, Err, false}
 use Rattle.sha2.specs.Sha256.{sha256}
-use Rattle.tw_base.specs.declared.history.thread.Thread.{Thread}
-use Rattle.tw_base.specs.history.Anchors.{anchor_of}
-use Rattle.tw_base.specs.history.Auth.{auth}
 use Rattle.tw_base.specs.history.History.{History}
-use Rattle.tw_chain.specs.Accepting.{Accepts}
 use Rattle.tw_skipproof.specs.HistoryProofs.{MakesExistence}
 use Rattle.tw_disk.specs.Image.{Image}
-use Rattle.tw_service.specs.declared.refusal.Refusal.{Refusal as ServiceRefusal}
+use Rattle.tw_answers.specs.declared.refusal.Refusal.{Refusal as ServiceRefusal}
 use Rattle.tw_disk.specs.Found.{Found}
-use Rattle.tw_service.specs.Finds.{found_event}
-use Rattle.tw_service.specs.Limits.{order_refusal}
-use Rattle.tw_service.specs.Machine.{IsStepOf}
+use Rattle.tw_answers.specs.Finds.{found_event}
+use Rattle.tw_answers.specs.Limits.{order_refusal}
 use Rattle.tw_service.specs.Machine.Call.{ProveEvent}
-use Rattle.tw_service.specs.Machine.Reply.{OfProof}
 use Rattle.tw_text.specs.declared.refusal.Refusal.TheVariants.{NoEvent}
 use Rattle.tw_text.specs.declared.fault.CommandFault.{CommandFault}
 use Rattle.tw_text.specs.declared.fault.CommandFault.TheVariants as fault
-use Rattle.tw_service.specs.declared.root.RootRecord.{RootRecord}
+use Rattle.tw_answers.specs.declared.root.RootRecord.{RootRecord}
 use Rattle.tw_diskcmd.specs.Answers.{ComesTo, MachineRefuses, TableRefuses}
 use Rattle.tw_diskcmd.specs.Disks.{FoundDisk}
+use Rattle.tw_diskcmd.specs.Proofs.{ProvesBy, top_of}
 
--- the top that the words give, or the last step where they give none
-abbrev pub top_of : (top : Option ℕ) → (last : ℕ) → ℕ
-top_of (Some top) last = top
-top_of None last = last
-
--- the bytes are the proof that the history has of this event under this top, and a step of the machine; so whoever holds the
--- history's authenticator of the top accepts them
-pub record ProvesUnder (step index top : ℕ) (proof : List ℕ) (h : History) : Type 0 where
-  pub makes : MakesExistence sha256 h step index top proof
-  pub machine : IsStepOf sha256 h (ProveEvent step index top) (OfProof proof) h
-  pub accepted : (anchors : List Thread) (anchor : Thread) → anchor_of anchors h.name top ≡ Some anchor
-      → anchor.auth ≡ auth sha256 h top → Accepts sha256 anchors proof
+-- the bytes are the proof that the history has of this event under this top
+abbrev pub ProvesUnder : (step index top : ℕ) → (proof : List ℕ) → History → Type 0
+ProvesUnder step index top proof h = ProvesBy (ProveEvent step index top) (MakesExistence sha256 h step index top) top proof h
 
 -- the proof of the event that is found in a service's pages
 abbrev pub proved : (step index : ℕ) (top : Option ℕ) → RootRecord → Image → Found (Result (List ℕ) ServiceRefusal)

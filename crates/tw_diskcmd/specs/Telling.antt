@@ -11,10 +11,11 @@ use Rattle.tw_msg.specs.declared.message.Message.{Message}
 use Rattle.tw_msg.specs.HistoryMessages.{IsMessageOf}
 use Rattle.tw_msg.specs.Messages.{Leads, message_bytes, message_layout}
 use Rattle.tw_skipproof.specs.declared.path.Path.{Path}
-use Rattle.tw_service.specs.declared.refusal.Refusal.{Refusal as ServiceRefusal}
-use Rattle.tw_service.specs.declared.root.RootRecord.{RootRecord}
-use Rattle.tw_service.specs.Finds.{found_message, thread_at}
-use Rattle.tw_service.specs.Limits.{thread_refusal}
+use Rattle.tw_answers.specs.declared.refusal.Refusal.{Refusal as ServiceRefusal}
+use Rattle.tw_answers.specs.declared.root.RootRecord.{RootRecord}
+use Rattle.tw_answers.specs.Finds.{found_message}
+use Rattle.tw_service.specs.Finds.{thread_at}
+use Rattle.tw_answers.specs.Limits.{thread_refusal}
 use Rattle.tw_service.specs.Machine.{Call, IsStepOf}
 use Rattle.tw_service.specs.Machine.Call.{TellThread}
 use Rattle.tw_service.specs.Machine.Reply.{OfPath}

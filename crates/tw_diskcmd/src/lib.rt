@@ -1,5 +1,5 @@
-// The commands over the disk of a service: making it, adding a step, proving an event and a link, and
-// telling the last step.
+// The commands over the disk of a service: making it, adding a step, receiving a message, proving an event, a
+// link, a thread and that there is none, making map files, and telling the last step.
 #![tactic(auto)]
 
 mod appending;
@@ -8,14 +8,20 @@ mod laws;
 mod limits;
 mod linking;
 mod making;
+mod mapping;
 mod proving;
+mod receiving;
 mod telling;
+mod threads;
 mod worked;
 
 pub use appending::append;
 pub use laws::{idle_laws, told_laws};
 pub use linking::prove_link;
 pub use making::make;
+pub use mapping::{map_high, map_low};
 pub use proving::prove;
+pub use receiving::receive;
 pub use telling::tell;
+pub use threads::{prove_absent, prove_thread};
 pub use worked::Worked;

@@ -7,7 +7,8 @@ ghost use Rattle.tw_disk.specs.Image.{Image};
 ghost use Rattle.tw_service.specs.Serves.{Serves, disk_of, has_failed, pages_of, record_of};
 ghost use Rattle.tw_diskcmd.specs.Answers.{IsOpened};
 ghost use Rattle.tw_diskcmd.specs.Disks.{IsLeft, ReadLeaves, ReadsAs, Rests, found_disk};
-ghost use Rattle.tw_diskcmd.specs.Proving.{ProveComes, top_of};
+ghost use Rattle.tw_diskcmd.specs.Proofs.{top_of};
+ghost use Rattle.tw_diskcmd.specs.Proving.{ProveComes};
 
 use crate::faults::{fault_of_service, fault_of_store};
 use crate::worked::Worked;

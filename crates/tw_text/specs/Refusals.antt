@@ -2,9 +2,9 @@
 use Rattle.std.specs.Prelude.{ℕ, List, [], ◌∷◌, codes}
 use Rattle.tw_text.specs.Lines.{line}
 use Rattle.tw_text.specs.declared.field.Field.{Field}
-use Rattle.tw_text.specs.declared.field.Field.TheVariants.{Word, Number}
+use Rattle.tw_text.specs.declared.field.Field.TheVariants.{Word, Number, Named, Hex}
 use Rattle.tw_text.specs.declared.refusal.Refusal.{Refusal}
-use Rattle.tw_text.specs.declared.refusal.Refusal.TheVariants.{NoStep, NoEvent, Taken, Full, TooMany, TooLong, ClockBack}
+use Rattle.tw_text.specs.declared.refusal.Refusal.TheVariants.{NoStep, NoEvent, NoThread, HasThread, Taken, Full, TooMany, TooLong, ClockBack, Own, Other, Stale, Forked, BadLink}
 use Rattle.tw_text.specs.declared.refusal.StoreCause.{StoreCause}
 use Rattle.tw_text.specs.declared.refusal.StoreCause.TheVariants.{Blank, NotAStore, BadPage}
 use Rattle.tw_text.specs.declared.refusal.BadInput.{BadInput}
@@ -14,11 +14,18 @@ use Rattle.tw_text.specs.declared.refusal.BadInput.TheVariants.{BadByte, BadLine
 abbrev pub refusal_fields : Refusal → List Field
 refusal_fields (NoStep last) = Word (codes "NoStep") ∷ Number last ∷ []
 refusal_fields (NoEvent count) = Word (codes "NoEvent") ∷ Number count ∷ []
+refusal_fields NoThread = Word (codes "NoThread") ∷ []
+refusal_fields (HasThread archived) = Word (codes "HasThread") ∷ Number archived ∷ []
 refusal_fields Taken = Word (codes "Taken") ∷ []
 refusal_fields Full = Word (codes "Full") ∷ []
 refusal_fields (TooMany count) = Word (codes "TooMany") ∷ Number count ∷ []
 refusal_fields (TooLong bytes) = Word (codes "TooLong") ∷ Number bytes ∷ []
 refusal_fields (ClockBack last given) = Word (codes "ClockBack") ∷ Number last ∷ Number given ∷ []
+refusal_fields Own = Word (codes "Own") ∷ []
+refusal_fields (Other name) = Word (codes "Other") ∷ Named name ∷ []
+refusal_fields (Stale last) = Word (codes "Stale") ∷ Number last ∷ []
+refusal_fields (Forked step kept offered) = Word (codes "Forked") ∷ Number step ∷ Hex kept ∷ Hex offered ∷ []
+refusal_fields (BadLink last kept) = Word (codes "BadLink") ∷ Number last ∷ Hex kept ∷ []
 
 abbrev pub refused_text : Refusal → List ℕ
 refused_text refusal = line (codes "refused") (refusal_fields refusal)

@@ -2,35 +2,74 @@
 
 ghost use Rattle.std.specs.Prelude.{◌≡◌, ◌∷◌, [], ◌++◌, codes, OnOk, IfOk};
 ghost use Rattle.tw_text.specs.Lines.{line};
-ghost use Rattle.tw_text.specs.declared.field.Field.TheVariants.{Number, Word};
+ghost use Rattle.tw_text.specs.declared.field.Field.TheVariants.{Hex, Number, Word};
 ghost use Rattle.tw_text.specs.declared.refusal.BadInput.TheVariants.{Unsound};
 ghost use Rattle.tw_text.specs.Refusals.{bad_input_text, cause_fields, refusal_fields, refused_text, store_text};
 
 use crate::field::{Field, FieldList};
 use crate::line::print_line;
 use std::alloc::Global;
-use tw_base::{Bytes, NoMemory};
+use tw_base::{Bytes, Digest, Name, NoMemory};
 
 /// Why there is no answer to what was asked.
 #[derive(Clone, Copy, PartialEq, Eq, Debug, Drop)]
 pub enum Refusal {
     /// The history has no such step, or not up to that top; its last one is this, 0 where it has
     /// none.
-    NoStep { last: u64 },
+    NoStep {
+        last: u64,
+    },
     /// The step has no event of that index; it has so many.
-    NoEvent { count: u32 },
+    NoEvent {
+        count: u32,
+    },
+    /// No step up to the one that is named received the thread.
+    NoThread,
+    /// A step up to the one that is named received the thread: this one.
+    HasThread {
+        archived: u64,
+    },
     /// There is a store already.
     Taken,
     /// The service has 2^40 - 1 steps.
     Full,
     /// There are more than 1,024 events: so many.
-    TooMany { count: u64 },
+    TooMany {
+        count: u64,
+    },
     /// An event is longer than 1,024 bytes, the first such one this; or, where none is, all together
     /// are longer than 65,536 bytes, and this long.
-    TooLong { bytes: u64 },
+    TooLong {
+        bytes: u64,
+    },
     /// The given time is below the greatest time of the steps so far. Both are told, the greatest one
     /// first.
-    ClockBack { last: u64, given: u64 },
+    ClockBack {
+        last: u64,
+        given: u64,
+    },
+    /// The message is of the service that is to receive it.
+    Own,
+    /// The message is of another service than the one that is followed: of this one.
+    Other {
+        name: Name,
+    },
+    /// The message's step is below the last one of its service that is kept, which is this one.
+    Stale {
+        last: u64,
+    },
+    /// Another authenticator of the message's step is kept. The step is told, the kept authenticator, and the offered one.
+    Forked {
+        step: u64,
+        kept: Digest,
+        offered: Digest,
+    },
+    /// The message's link doesn't lead up from the last step of its service that is kept. That step is told with its
+    /// authenticator; where none is kept, these are of step 0.
+    BadLink {
+        last: u64,
+        kept: Digest,
+    },
 }
 
 /// Why the disk has no service that can serve the command.
@@ -74,6 +113,8 @@ fn put_refusal(alloc: Global, fields: &mut FieldList, refusal: &Refusal) -> Resu
     match refusal {
         Refusal::NoStep { last } => put_number(alloc, fields, b"NoStep", *last),
         Refusal::NoEvent { count } => put_number(alloc, fields, b"NoEvent", *count as u64),
+        Refusal::NoThread => put_word(alloc, fields, b"NoThread"),
+        Refusal::HasThread { archived } => put_number(alloc, fields, b"HasThread", *archived),
         Refusal::Taken => put_word(alloc, fields, b"Taken"),
         Refusal::Full => put_word(alloc, fields, b"Full"),
         Refusal::TooMany { count } => put_number(alloc, fields, b"TooMany", *count),
@@ -81,6 +122,25 @@ fn put_refusal(alloc: Global, fields: &mut FieldList, refusal: &Refusal) -> Resu
         Refusal::ClockBack { last, given } => {
             put_number(alloc, fields, b"ClockBack", *last)?;
             fields.push(Field::Number(*given))
+        }
+        Refusal::Own => put_word(alloc, fields, b"Own"),
+        Refusal::Other { name } => {
+            put_word(alloc, fields, b"Other")?;
+            fields.push(Field::Named(*name))
+        }
+        Refusal::Stale { last } => put_number(alloc, fields, b"Stale", *last),
+        Refusal::Forked {
+            step,
+            kept,
+            offered,
+        } => {
+            put_number(alloc, fields, b"Forked", *step)?;
+            put_digest(alloc, fields, kept)?;
+            put_digest(alloc, fields, offered)
+        }
+        Refusal::BadLink { last, kept } => {
+            put_number(alloc, fields, b"BadLink", *last)?;
+            put_digest(alloc, fields, kept)
         }
     }
 }
@@ -162,6 +222,13 @@ fn put_number(
 {
     put_word(alloc, fields, word)?;
     fields.push(Field::Number(number))
+}
+
+/// Puts a digest at the end of the fields.
+fn put_digest(alloc: Global, fields: &mut FieldList, digest: &Digest) -> Result<(), NoMemory>
+    ensures { OnOk result (fields.new ≡ fields.old ++ Hex digest.now ∷ []) }
+{
+    fields.push(Field::Hex(Bytes::from_slice(alloc, &digest.0)?))
 }
 
 /// Puts a word at the end of the fields.

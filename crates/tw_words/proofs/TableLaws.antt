@@ -2,11 +2,11 @@
 use Rattle.std.proofs.Common.{◌≡◌, ℕ, ◌+◌, ◌-◌, ◌≤◌, List, length, refl, arith, Result, Ok, Err, IsOk, IsSome}
 use Rattle.std.specs.Result.{result_ok}
 use Rattle.tw_words.specs.Forms.{choose}
-use Rattle.tw_words.specs.CommandLine.{IsFirstBad, commands, init, append, thread, receive, prove, prove_event, prove_thread, prove_absent, prove_link, map, map_low, map_high, export, show, join, verify, verify_file, verify_one, strict, check_map, audit, atlas, accuse, accuse_two, accuse_linked, check_fork, replay, generate}
+use Rattle.tw_words.specs.CommandLine.{IsFirstBad, commands, init, append, thread, receive, prove, prove_event, prove_thread, prove_absent, prove_link, map, map_low, map_high, export, show, join, verify, verify_file, verify_one, strict, check_map, audit, atlas, accuse, accuse_two, accuse_linked, check_fork, adopt, watch, offer, heads, replay, generate}
 use Rattle.tw_words.proofs.FrontLaws.{EachExact, IsExact, Stops, exact-any, exact-choose, exact-digest, exact-either, exact-end, exact-maybe, exact-name, exact-number, exact-path, exact-paths}
 
 all_exact : EachExact commands
-unfolding init append thread receive prove prove_event prove_thread prove_absent prove_link map map_low map_high export show join verify verify_file verify_one strict check_map audit atlas accuse accuse_two accuse_linked check_fork replay generate
+unfolding init append thread receive prove prove_event prove_thread prove_absent prove_link map map_low map_high export show join verify verify_file verify_one strict check_map audit atlas accuse accuse_two accuse_linked check_fork adopt watch offer heads replay generate
 all_exact = search (exact-any, exact-choose, exact-digest, exact-either, exact-end, exact-maybe, exact-name, exact-number, exact-path, exact-paths) depth 20
 
 exact_table : IsExact (choose commands)

@@ -4,8 +4,8 @@ use Rattle.std.specs.Result.{result_ok}
 use Rattle.tw_base.specs.declared.kinds.limits.TheConstants.{LAST_STEP, LAST_TIME}
 use Rattle.tw_words.specs.Forms.{Form, any_paths, at_most_paths, choose, digest, either, end, maybe, maybe_up_to, name, number, path}
 use Rattle.tw_words.specs.declared.command.Command.{Command}
-use Rattle.tw_words.specs.declared.command.Command.TheVariants.{Init, Append, Thread, Receive, ProveEvent, ProveThread, ProveAbsent, ProveLink, MapLow, MapHigh, Export, Show, Join, VerifyFile, VerifyOne, Strict, CheckMap, Audit, Atlas, Accuse, CheckFork, Replay, Generate}
-use Rattle.tw_words.specs.declared.limits.TheConstants.{MOST_GENERATED, MOST_HISTORIES, MOST_RECEIPT_FILES}
+use Rattle.tw_words.specs.declared.command.Command.TheVariants.{Init, Append, Thread, Receive, ProveEvent, ProveThread, ProveAbsent, ProveLink, MapLow, MapHigh, Export, Show, Join, VerifyFile, VerifyOne, Strict, CheckMap, Audit, Atlas, Accuse, CheckFork, Adopt, Watch, Offer, Heads, Replay, Generate}
+use Rattle.tw_words.specs.declared.limits.TheConstants.{MOST_ADOPTING, MOST_GENERATED, MOST_HISTORIES, MOST_RECEIPT_FILES}
 use Rattle.tw_words.specs.declared.words.WordFault.{WordFault}
 use Rattle.tw_words.specs.declared.words.WordFault.TheVariants.{BadWord, NoMemory}
 
@@ -31,7 +31,7 @@ unfoldable pub thread : Form
 thread = path (λ dir. any_number (λ since. end (Thread since)))
 
 unfoldable pub receive : Form
-receive = path (λ dir. path (λ file. end (Receive file)))
+receive = path (λ dir. path (λ file. maybe_up_to LAST_TIME (λ time. Receive file time)))
 
 -- `prove DIR event`, and the other kinds of proofs
 unfoldable pub prove_event : Form
@@ -113,6 +113,19 @@ accuse = path (λ first. path (λ second. either (accuse_two first second) (accu
 unfoldable pub check_fork : Form
 check_fork = path (λ file. path (λ anchors. end (CheckFork file anchors)))
 
+-- at least one proof
+unfoldable pub adopt : Form
+adopt = path (λ history. path (λ anchors. path (λ proof. at_most_paths (MOST_ADOPTING - 1) (λ more. Adopt history anchors proof more))))
+
+unfoldable pub watch : Form
+watch = path (λ dir. name (λ name. end (Watch name)))
+
+unfoldable pub offer : Form
+offer = path (λ dir. path (λ file. end (Offer file)))
+
+unfoldable pub heads : Form
+heads = path (λ dir. end Heads)
+
 unfoldable pub replay : Form
 replay = path (λ file. end (Replay file))
 
@@ -126,7 +139,8 @@ commands =
     (codes "init", init) ∷ (codes "append", append) ∷ (codes "thread", thread) ∷ (codes "receive", receive) ∷ (codes "prove", prove)
     ∷ (codes "map", map) ∷ (codes "export", export) ∷ (codes "show", show) ∷ (codes "join", join) ∷ (codes "verify", verify)
     ∷ (codes "strict", strict) ∷ (codes "checkmap", check_map) ∷ (codes "audit", audit) ∷ (codes "atlas", atlas)
-    ∷ (codes "accuse", accuse) ∷ (codes "checkfork", check_fork) ∷ (codes "replay", replay) ∷ (codes "generate", generate) ∷ []
+    ∷ (codes "accuse", accuse) ∷ (codes "checkfork", check_fork) ∷ (codes "adopt", adopt) ∷ (codes "watch", watch)
+    ∷ (codes "offer", offer) ∷ (codes "heads", heads) ∷ (codes "replay", replay) ∷ (codes "generate", generate) ∷ []
 
 -- ---- the meaning of words
 

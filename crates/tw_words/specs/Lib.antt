@@ -1,3 +1,4 @@
 pub mod Forms
+pub mod Ranges
 pub mod Takings
 pub mod CommandLine

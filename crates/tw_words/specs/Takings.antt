@@ -1,6 +1,7 @@
 -- What the code's walk over words answers, by the forms.
 use Rattle.std.specs.Prelude.{◌≡◌, ℕ, List, Option, Result, Ok, Err, IsOk}
 use Rattle.tw_words.specs.Forms.{Reading, next}
+use Rattle.tw_words.specs.Ranges.{IsWithinRanges}
 use Rattle.tw_words.specs.declared.command.Command.{Command}
 use Rattle.tw_words.specs.declared.cursor.Stop.{Stop}
 use Rattle.tw_words.specs.declared.cursor.Stop.TheVariants.{At, NoMemory}
@@ -18,8 +19,9 @@ module _ {V Y : Type 0} where
   Takes part view old new (Err (At left)) = next part old ≡ Err left
   Takes part view old new (Err NoMemory) = ⊥
 
--- it is the command that was read, or there was no memory for that, or it tells how many words are left
+-- it is the command that was read, and its numbers lie in their ranges; or there was no memory for that, or it tells how many words are
+-- left
 abbrev pub Makes : Reading Command → Result Command Stop → Type 0
-Makes reading (Ok command) = reading ≡ Ok command
+Makes reading (Ok command) = (reading ≡ Ok command) × IsWithinRanges command
 Makes reading (Err (At left)) = reading ≡ Err left
 Makes reading (Err NoMemory) = IsOk reading

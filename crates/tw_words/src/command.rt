@@ -21,9 +21,10 @@ pub enum Command {
     Thread {
         since: u64,
     },
-    /// `receive DIR FILE`: archives the thread of a message.
+    /// `receive DIR FILE [TIME]`: archives the thread of a message in a step, at a claimed time.
     Receive {
         file: FilePath,
+        time: Option<ClaimedTime>,
     },
     /// `prove DIR event STEP INDEX [TOP]`: proves that an event stands in a step.
     ProveEvent {
@@ -118,6 +119,23 @@ pub enum Command {
         file: FilePath,
         anchors: FilePath,
     },
+    /// `adopt HISTORY ANCHORS PROOF ..`: takes over a lost service's history, as far as proofs of its peers show it.
+    Adopt {
+        history: FilePath,
+        anchors: FilePath,
+        proof: FilePath,
+        more: Sequence<FilePath>,
+    },
+    /// `watch DIR NAME`: makes the store of a follower of this service.
+    Watch {
+        name: Name,
+    },
+    /// `offer DIR FILE`: moves a follower's head by a message of the service.
+    Offer {
+        file: FilePath,
+    },
+    /// `heads DIR`: lists the heads that a follower keeps.
+    Heads,
     /// `replay FILE`: runs a script.
     Replay {
         file: FilePath,

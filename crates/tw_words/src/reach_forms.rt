@@ -8,7 +8,7 @@ ghost use Rattle.tw_words.specs.Takings.{Makes};
 use crate::command::Command;
 use crate::cursor::{Stop, Words};
 use crate::file_forms::{or_further, push_paths};
-use crate::limits::MOST_RECEIPT_FILES;
+use crate::limits::{MOST_ADOPTING, MOST_RECEIPT_FILES};
 use std::alloc::Global;
 use tw_base::Sequence;
 use tw_base::limits::LAST_STEP;
@@ -85,4 +85,23 @@ pub(crate) fn check_fork(alloc: Global, mut words: Words<'_>) -> Result<Command,
     let file = FilePath::new(alloc, file)?;
     let anchors = FilePath::new(alloc, anchors)?;
     Ok(Command::CheckFork { file, anchors })
+}
+
+/// `adopt HISTORY ANCHORS PROOF ..`
+#[tactic(auto, unfolding(crate::specs::CommandLine::adopt))]
+pub(crate) fn adopt(alloc: Global, mut words: Words<'_>) -> Result<Command, Stop>
+    ensures { Makes (forms.adopt (map string_bytes words.entry.left.now)) result }
+{
+    let history = words.path()?;
+    let anchors = words.path()?;
+    let proof = words.path()?;
+    let others = words.paths(MOST_ADOPTING - 1)?;
+    let mut more = Sequence::new(alloc);
+    push_paths(alloc, &mut more, others)?;
+    Ok(Command::Adopt {
+        history: FilePath::new(alloc, history)?,
+        anchors: FilePath::new(alloc, anchors)?,
+        proof: FilePath::new(alloc, proof)?,
+        more,
+    })
 }

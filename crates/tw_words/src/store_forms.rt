@@ -45,16 +45,16 @@ pub(crate) fn thread(mut words: Words<'_>) -> Result<Command, Stop>
     Ok(Command::Thread { since })
 }
 
-/// `receive DIR FILE`
+/// `receive DIR FILE [TIME]`
 #[tactic(auto, unfolding(crate::specs::CommandLine::receive))]
 pub(crate) fn receive(alloc: Global, mut words: Words<'_>) -> Result<Command, Stop>
     ensures { Makes (forms.receive (map string_bytes words.entry.left.now)) result }
 {
     words.path()?;
     let file = words.path()?;
-    words.end()?;
+    let time = words.maybe_time()?;
     let file = FilePath::new(alloc, file)?;
-    Ok(Command::Receive { file })
+    Ok(Command::Receive { file, time })
 }
 
 /// `prove DIR event`, `thread`, `absent` or `link`, each with what its kind has
@@ -166,4 +166,37 @@ pub(crate) fn export(mut words: Words<'_>) -> Result<Command, Stop>
     words.path()?;
     words.end()?;
     Ok(Command::Export)
+}
+
+/// `watch DIR NAME`
+#[tactic(auto, unfolding(crate::specs::CommandLine::watch))]
+pub(crate) fn watch(mut words: Words<'_>) -> Result<Command, Stop>
+    ensures { Makes (forms.watch (map string_bytes words.entry.left.now)) result }
+{
+    words.path()?;
+    let name = words.name()?;
+    words.end()?;
+    Ok(Command::Watch { name })
+}
+
+/// `offer DIR FILE`
+#[tactic(auto, unfolding(crate::specs::CommandLine::offer))]
+pub(crate) fn offer(alloc: Global, mut words: Words<'_>) -> Result<Command, Stop>
+    ensures { Makes (forms.offer (map string_bytes words.entry.left.now)) result }
+{
+    words.path()?;
+    let file = words.path()?;
+    words.end()?;
+    let file = FilePath::new(alloc, file)?;
+    Ok(Command::Offer { file })
+}
+
+/// `heads DIR`
+#[tactic(auto, unfolding(crate::specs::CommandLine::heads))]
+pub(crate) fn heads(mut words: Words<'_>) -> Result<Command, Stop>
+    ensures { Makes (forms.heads (map string_bytes words.entry.left.now)) result }
+{
+    words.path()?;
+    words.end()?;
+    Ok(Command::Heads)
 }

@@ -1,16 +1,17 @@
 // Reading the words of the command line.
 
-ghost use Rattle.std.specs.Prelude.{◌≡◌, map, IfNone, IfSome, IsErrAnd, MatchResult};
+ghost use Rattle.std.specs.Prelude.{◌≡◌, map, IfNone, IfOk, IfSome, IsErrAnd, MatchResult};
 ghost use Rattle.std.specs.String.{string_bytes};
 ghost use Rattle.tw_words.specs.CommandLine.{IsBadWord, command_of, commands};
 ghost use Rattle.tw_words.specs.Forms.{choose};
+ghost use Rattle.tw_words.specs.Ranges.{IsWithinRanges};
 ghost use Rattle.tw_words.specs.Takings.{Makes};
 
 use crate::command::Command;
 use crate::cursor::{Stop, Words};
 use crate::file_forms::{audit, check_map, generate, join, replay, show, strict, verify};
-use crate::reach_forms::{accuse, atlas, check_fork};
-use crate::store_forms::{append, export, init, map, prove, receive, thread};
+use crate::reach_forms::{accuse, adopt, atlas, check_fork};
+use crate::store_forms::{append, export, heads, init, map, offer, prove, receive, thread, watch};
 use std::alloc::Global;
 
 /// Why words are no command.
@@ -27,6 +28,8 @@ pub enum WordFault {
 pub fn read_words(alloc: Global, words: &[String]) -> Result<Command, WordFault>
     // Words that have a form are the command of that form.
     ensures form { IfSome (command_of (map string_bytes words.now)) (λ command. MatchResult result (λ c. c ≡ command) (λ e. e ≡ WordFault.NoMemory)) }
+    // The numbers of a command lie in the ranges that its form has for them.
+    ensures ranges { IfOk result IsWithinRanges }
     // Of words that have none the fault names the first word at which no form goes on.
     ensures no_form { IfNone (command_of (map string_bytes words.now)) (IsErrAnd result (IsBadWord (map string_bytes words.now))) }
 {
@@ -65,6 +68,10 @@ fn command(alloc: Global, words: Words<'_>) -> Result<Command, Stop>
         "atlas" => atlas(alloc, behind),
         "accuse" => accuse(alloc, behind),
         "checkfork" => check_fork(alloc, behind),
+        "adopt" => adopt(alloc, behind),
+        "watch" => watch(behind),
+        "offer" => offer(alloc, behind),
+        "heads" => heads(behind),
         "replay" => replay(alloc, behind),
         "generate" => generate(behind),
         _ => Err(words.stop()),

@@ -1,6 +1,7 @@
 use Rattle.tw_app.proofs.Endings.{accepted, clash, crash, statuses, unwritten}
 use Rattle.tw_app.proofs.Audits.{clashes, stands}
 use Rattle.tw_app.proofs.AuditsFound.{finds}
+use Rattle.tw_app.proofs.Adoptions.{adopted, adopts}
 use Rattle.tw_app.proofs.MapRuns.{between}
 use Rattle.tw_app.proofs.ending.run.Goals as goal
 
@@ -29,3 +30,9 @@ returns-clause-finds g c = λ bytes anchors family is. finds g.D.Disk.view _ _ b
 
 pub returns-clause-between : goal.returns-clause-between
 returns-clause-between g c = between g.D.Disk.view _ _ c.run_to_the_end.ensures
+
+pub returns-clause-adopted : goal.returns-clause-adopted
+returns-clause-adopted g c = adopted g.D.Disk.view _ _ c.run_to_the_end.ensures
+
+pub returns-clause-adopts : goal.returns-clause-adopts
+returns-clause-adopts g c = λ h anchors proofs is. adopts g.D.Disk.view _ _ h anchors proofs is c.run_to_the_end.ensures

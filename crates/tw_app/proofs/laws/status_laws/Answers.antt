@@ -1,5 +1,5 @@
 use Rattle.std.proofs.Common.{refl}
-use Rattle.tw_app.proofs.Endings.{built, clash, complete, cut_short, disk_fault, done, input_fault, no_memory, output_fault, refused, rejected, unreadable, unserved, usage}
+use Rattle.tw_app.proofs.Endings.{built, clash, complete, cut_short, disk_fault, done, input_fault, list_complete, no_memory, output_fault, refused, rejected, unreadable, unserved, usage}
 use Rattle.tw_app.proofs.laws.status_laws.Goals as goal
 
 pub returns-clause-built : goal.returns-clause-built
@@ -37,6 +37,9 @@ returns-clause-store g c = λ a run. unserved g.D.Disk.view g.met.D.Disk.only_no
 
 pub returns-clause-complete : goal.returns-clause-complete
 returns-clause-complete g c = λ a run. complete g.D.Disk.view g.met.D.Disk.only_now g.met.D.Disk.as_it_reads a 8 run refl
+
+pub returns-clause-list_complete : goal.returns-clause-list_complete
+returns-clause-list_complete g c = λ a run. list_complete g.D.Disk.view g.met.D.Disk.only_now g.met.D.Disk.as_it_reads a 8 run refl
 
 pub returns-clause-unreadable : goal.returns-clause-unreadable
 returns-clause-unreadable g c = λ a run. unreadable g.D.Disk.view g.met.D.Disk.only_now g.met.D.Disk.as_it_reads a 9 run refl

@@ -1,3 +1,4 @@
+use Rattle.tw_base.specs.declared.history.thread.Thread.{Thread}
 use Rattle.tw_service.specs.EventSteps.{with_events}
 use Rattle.tw_service.specs.Serves.{disk_of}
 use Rattle.tw_diskcmd.specs.Appending.{MachineAdds, TableAdds, added}
@@ -28,7 +29,7 @@ returns-in-Err-clause-comes g c =
 pub returns-in-Err-clause-leaves : goal.returns-in-Err-clause-leaves
 returns-in-Err-clause-leaves g c = λ h reads.
     let d = g.D.Disk in
-    unopened_leaves d.view c.args.disk c.in-Err.disk c.args.events.now c.args.time h reads c.in-Err.ensures.unchanged c.in-Err.fault c.fault_of_store.result c.fault_of_store.ensures
+    unopened_leaves d.view c.args.disk c.in-Err.disk Thread h (with_events h c.args.events.now c.args.time) reads c.in-Err.ensures.unchanged c.in-Err.fault c.fault_of_store.result c.fault_of_store.ensures
     (c.in-Err.ensures.served reads.image h.name h reads.told reads.stands) c.in-Err.ensures.any_moment_err
 
 pub returns-in-Ok-clause-unwritten : goal.returns-in-Ok-clause-unwritten

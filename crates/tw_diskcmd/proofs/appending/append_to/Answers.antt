@@ -1,6 +1,7 @@
 use Rattle.std.proofs.Common.{sym, subst, inl, inr, ⊎_elim}
 use Rattle.sha2.specs.Sha256.{sha256}
 use Rattle.tw_service.specs.EventSteps.{with_events}
+use Rattle.tw_base.specs.declared.history.thread.Thread.{Thread}
 use Rattle.tw_base.specs.kinds.Faults.{Rose}
 use Rattle.tw_disk.specs.Disk.{LeavesOnly, Reads}
 use Rattle.tw_service.specs.Stands.{StandsForOneOf}
@@ -50,7 +51,7 @@ returns-in-Err-clause-leaves g c = λ h served.
     let events = c.args.events.now in
     let made = c.in-Err.ensures.steps h served in
     let next = with_events h events c.args.time in
-    step_leaves d.view (disk_of old) c.close-in-Err.result h next c.in-Err.refusal c.fault_of_service.result c.fault_of_service.ensures
+    step_leaves d.view (disk_of old) c.close-in-Err.result h next Thread c.in-Err.refusal c.fault_of_service.result c.fault_of_service.ensures
     (subst
     (λ disk. LeavesOldOrOneOf d.view (disk_of old) disk h next × ReadsAsOneOf d.view disk h next)
     (sym c.close-in-Err.ensures.disk) (
@@ -68,5 +69,5 @@ returns-in-Err-clause-unwritten g c = λ nothing.
     let old = c.args.service in
     let new = c.add.new.service in
     subst (λ disk. IsLeft d.view (disk_of old) disk) (sym c.close-in-Err.ensures.disk)
-    (step_unwritten d.view (disk_of old) (disk_of new) c.in-Err.refusal c.fault_of_service.result c.fault_of_service.ensures
+    (step_unwritten d.view (disk_of old) (disk_of new) Thread c.in-Err.refusal c.fault_of_service.result c.fault_of_service.ensures
     (⊎_elim (λ is. inl is) (λ same. inr (same_left d.view g.met.D.Disk.only_now old new same)) c.in-Err.ensures.unwritten) nothing)

@@ -1,10 +1,13 @@
-use Rattle.std.proofs.Common.{◌∙◌, ap, sym, subst}
+use Rattle.std.proofs.Common.{◌∙◌, ap, sym, subst, ℕ, List}
+use Rattle.std.specs.Prelude.{Ok, Err}
 use Rattle.sha2.specs.Sha256.{sha256}
 use Rattle.tw_base.specs.kinds.Faults.{Rose}
-use Rattle.tw_service.specs.Serves.{Serves, disk_of, has_failed, name_of, pages_of, record_of}
+use Rattle.tw_answers.specs.Limits.{link_refusal}
+use Rattle.tw_service.specs.Serves.{Serves, disk_of, has_failed, name_of, pages_of, record_of, steps_of}
 use Rattle.tw_diskcmd.specs.Disks.{IsLeft, found_disk}
-use Rattle.tw_diskcmd.specs.Proving.{top_of}
+use Rattle.tw_diskcmd.specs.Proofs.{top_of}
 use Rattle.tw_diskcmd.proofs.AtRest.{own_rest, rose_since, same_left}
+use Rattle.tw_diskcmd.proofs.Results.{only_faults}
 use Rattle.tw_diskcmd.proofs.LinkAnswers.{link_done, link_refused}
 use Rattle.tw_diskcmd.proofs.linking.link_by.Goals as goal
 
@@ -15,7 +18,7 @@ returns-in-Ok-clause-comes g c = λ found before opens serves le.
     let asks = c.in-Ok.ensures.asks in
     link_done (found_disk found before (d.view c.close.result).faults) c.args.step c.args.top c.top_for-top.result (has_failed old) (record_of old) (pages_of d.view old) opens c.requires
     (c.top_for-top.ensures ∙ ap (top_of c.args.top) c.steps.ensures.value) (Serves sha256 d.view old) (Serves sha256 d.view c.prove_link.new.self) serves
-    (λ h served. sym c.steps.ensures.value ∙ c.steps.ensures.served h served) c.in-Ok.proof asks.table c.in-Ok.ensures.made c.in-Ok.ensures.accepted asks.machine asks.answer
+    (λ h served. sym c.steps.ensures.value ∙ c.steps.ensures.served h served) c.in-Ok.proof (only_faults {X = List ℕ} (link_refusal (has_failed old) (steps_of old) c.args.step c.top_for-top.result) (Ok c.in-Ok.proof) asks.table) c.in-Ok.ensures.made c.in-Ok.ensures.accepted asks.machine asks.answer
 
 pub returns-in-Ok-clause-leaves : goal.returns-in-Ok-clause-leaves
 returns-in-Ok-clause-leaves g c =
@@ -35,7 +38,7 @@ returns-in-Err-clause-comes g c = λ found before opens serves le.
     let asks = c.in-Err.ensures.asks in
     link_refused (found_disk found before (d.view c.close-in-Err.result).faults) c.args.step c.args.top c.top_for-top.result (has_failed old) (record_of old) (pages_of d.view old) opens c.requires
     (c.top_for-top.ensures ∙ ap (top_of c.args.top) c.steps.ensures.value) (Serves sha256 d.view old) (Serves sha256 d.view c.prove_link.new.self) serves
-    (λ h served. sym c.steps.ensures.value ∙ c.steps.ensures.served h served) c.in-Err.refusal c.fault_of_service.result c.fault_of_service.ensures asks.table asks.machine
+    (λ h served. sym c.steps.ensures.value ∙ c.steps.ensures.served h served) c.in-Err.refusal c.fault_of_service.result c.fault_of_service.ensures (only_faults {X = List ℕ} (link_refusal (has_failed old) (steps_of old) c.args.step c.top_for-top.result) (Err c.in-Err.refusal) asks.table) asks.machine
     (λ is. rose_since before (d.view (disk_of old)).faults (d.view c.close-in-Err.result).faults le
     (subst (λ disk. Rose (d.view (disk_of old)).faults (d.view disk).faults) (sym c.close-in-Err.ensures.disk) (asks.fault is)))
     asks.answer

@@ -3,7 +3,7 @@ use Rattle.sha2.specs.Sha256.{sha256}
 use Rattle.tw_base.specs.kinds.Faults.{Rose}
 use Rattle.tw_service.specs.Serves.{Serves, disk_of, pages_of}
 use Rattle.tw_diskcmd.specs.Disks.{IsLeft, found_disk}
-use Rattle.tw_diskcmd.specs.Proving.{top_of}
+use Rattle.tw_diskcmd.specs.Proofs.{top_of}
 use Rattle.tw_diskcmd.proofs.AtRest.{own_rest, rose_since, same_left}
 use Rattle.tw_diskcmd.proofs.EventProofs.{proof_done, proof_refused}
 use Rattle.tw_diskcmd.proofs.proving.prove_by.Goals as goal

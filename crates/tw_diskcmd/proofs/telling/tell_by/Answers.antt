@@ -1,10 +1,14 @@
 use Rattle.std.proofs.Common.{◌∙◌, ap, sym, subst}
+use Rattle.std.specs.Prelude.{Ok, Err}
 use Rattle.sha2.specs.Sha256.{sha256}
 use Rattle.tw_base.specs.declared.history.thread.Thread.{Thread}
 use Rattle.tw_base.specs.kinds.Faults.{Rose}
-use Rattle.tw_service.specs.Serves.{Serves, disk_of, has_failed, name_of, pages_of, record_of}
+use Rattle.tw_answers.specs.Limits.{thread_refusal}
+use Rattle.tw_skipproof.specs.declared.path.Path.{Path}
+use Rattle.tw_service.specs.Serves.{Serves, disk_of, has_failed, name_of, pages_of, record_of, steps_of}
 use Rattle.tw_diskcmd.specs.Disks.{IsLeft, found_disk}
 use Rattle.tw_diskcmd.proofs.AtRest.{own_rest, rose_since, same_left}
+use Rattle.tw_diskcmd.proofs.Results.{only_faults}
 use Rattle.tw_diskcmd.proofs.ThreadAnswers.{thread_refused, thread_written}
 use Rattle.tw_diskcmd.proofs.telling.tell_by.Goals as goal
 
@@ -15,7 +19,7 @@ returns-in-Ok-clause-comes g c = λ found before opens serves le.
     let asks = c.in-Ok.ensures.asks in
     thread_written (found_disk found before (d.view c.close.result).faults) c.args.since (has_failed old) (record_of old) (pages_of d.view old) opens c.requires
     (Serves sha256 d.view old) (Serves sha256 d.view c.thread_out.new.self) serves (λ h served. sym c.head-thread.ensures.value ∙ c.head-thread.ensures.served h served)
-    c.in-Ok.link asks.table c.in-Ok.ensures.made (record { thread = c.head-thread.result; since = c.args.since; link = c.in-Ok.link })
+    c.in-Ok.link (only_faults {X = Path} (thread_refusal (has_failed old) (steps_of old) c.args.since) (Ok c.in-Ok.link) asks.table) c.in-Ok.ensures.made (record { thread = c.head-thread.result; since = c.args.since; link = c.in-Ok.link })
     (ap (λ (thread : Thread). record { thread = thread; since = c.args.since; link = c.in-Ok.link }) c.head-thread.ensures.value) c.written.result c.written.ensures.bytes c.written.ensures.spelled c.written.ensures.memory asks.machine asks.answer
 
 pub returns-in-Ok-clause-leaves : goal.returns-in-Ok-clause-leaves
@@ -36,7 +40,7 @@ returns-in-Err-clause-comes g c = λ found before opens serves le.
     let asks = c.in-Err.ensures.asks in
     thread_refused (found_disk found before (d.view c.close-in-Err.result).faults) c.args.since (has_failed old) (record_of old) (pages_of d.view old) opens c.requires
     (Serves sha256 d.view old) (Serves sha256 d.view c.thread_out.new.self) serves (λ h served. sym c.head-thread.ensures.value ∙ c.head-thread.ensures.served h served)
-    c.in-Err.refusal c.fault_of_service.result c.fault_of_service.ensures asks.table asks.machine
+    c.in-Err.refusal c.fault_of_service.result c.fault_of_service.ensures (only_faults {X = Path} (thread_refusal (has_failed old) (steps_of old) c.args.since) (Err c.in-Err.refusal) asks.table) asks.machine
     (λ is. rose_since before (d.view (disk_of old)).faults (d.view c.close-in-Err.result).faults le
     (subst (λ disk. Rose (d.view (disk_of old)).faults (d.view disk).faults) (sym c.close-in-Err.ensures.disk) (asks.fault is)))
     asks.answer

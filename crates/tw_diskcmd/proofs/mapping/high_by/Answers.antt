@@ -1,0 +1,55 @@
+use Rattle.std.proofs.Common.{◌∙◌, ap, sym, subst, ℕ, List}
+use Rattle.std.specs.Prelude.{Ok, Err}
+use Rattle.sha2.specs.Sha256.{sha256}
+use Rattle.tw_base.specs.kinds.Faults.{Rose}
+use Rattle.tw_answers.specs.Limits.{top_refusal}
+use Rattle.tw_service.specs.Serves.{Serves, disk_of, has_failed, name_of, pages_of, record_of, steps_of}
+use Rattle.tw_diskcmd.specs.Disks.{IsLeft, found_disk}
+use Rattle.tw_diskcmd.specs.Proofs.{top_of}
+use Rattle.tw_diskcmd.proofs.AtRest.{own_rest, rose_since, same_left}
+use Rattle.tw_diskcmd.proofs.Results.{only_faults}
+use Rattle.tw_diskcmd.proofs.MapAnswers.{high_done, high_refused}
+use Rattle.tw_diskcmd.proofs.mapping.high_by.Goals as goal
+
+pub returns-in-Ok-clause-comes : goal.returns-in-Ok-clause-comes
+returns-in-Ok-clause-comes g c = λ found before opens serves le.
+    let d = g.D.Disk in
+    let old = c.args.service in
+    let asks = c.in-Ok.ensures.asks in
+    high_done (found_disk found before (d.view c.close.result).faults) c.args.step c.args.peer c.args.top c.top_for-top.result (has_failed old) (record_of old) (pages_of d.view old) opens c.requires.whole
+    (c.top_for-top.ensures ∙ ap (top_of c.args.top) c.steps.ensures.value) (Serves sha256 d.view old) (Serves sha256 d.view c.prove_high.new.self) serves
+    (λ h served. sym c.steps.ensures.value ∙ c.steps.ensures.served h served) c.in-Ok.file (only_faults {X = List ℕ} (top_refusal (has_failed old) (steps_of old) c.top_for-top.result) (Ok c.in-Ok.file) asks.table) c.in-Ok.ensures.made asks.machine asks.answer
+
+pub returns-in-Ok-clause-leaves : goal.returns-in-Ok-clause-leaves
+returns-in-Ok-clause-leaves g c =
+    let d = g.D.Disk in
+    let old = c.args.service in
+    subst (λ disk. IsLeft d.view (disk_of old) disk) (sym c.close.ensures.disk) (same_left d.view g.met.D.Disk.only_now old c.prove_high.new.self c.in-Ok.ensures.asks.unwritten)
+
+pub returns-in-Ok-clause-rests : goal.returns-in-Ok-clause-rests
+returns-in-Ok-clause-rests g c = λ h served.
+    let d = g.D.Disk in
+    own_rest d.view c.close.result (name_of c.prove_high.new.self) h (c.close.ensures.stands h (c.in-Ok.ensures.asks.same h served).0)
+
+pub returns-in-Err-clause-comes : goal.returns-in-Err-clause-comes
+returns-in-Err-clause-comes g c = λ found before opens serves le.
+    let d = g.D.Disk in
+    let old = c.args.service in
+    let asks = c.in-Err.ensures.asks in
+    high_refused (found_disk found before (d.view c.close-in-Err.result).faults) c.args.step c.args.peer c.args.top c.top_for-top.result (has_failed old) (record_of old) (pages_of d.view old) opens c.requires.whole
+    (c.top_for-top.ensures ∙ ap (top_of c.args.top) c.steps.ensures.value) (Serves sha256 d.view old) (Serves sha256 d.view c.prove_high.new.self) serves
+    (λ h served. sym c.steps.ensures.value ∙ c.steps.ensures.served h served) c.in-Err.refusal c.fault_of_service.result c.fault_of_service.ensures (only_faults {X = List ℕ} (top_refusal (has_failed old) (steps_of old) c.top_for-top.result) (Err c.in-Err.refusal) asks.table) asks.machine
+    (λ is. rose_since before (d.view (disk_of old)).faults (d.view c.close-in-Err.result).faults le
+    (subst (λ disk. Rose (d.view (disk_of old)).faults (d.view disk).faults) (sym c.close-in-Err.ensures.disk) (asks.fault is)))
+    asks.answer
+
+pub returns-in-Err-clause-leaves : goal.returns-in-Err-clause-leaves
+returns-in-Err-clause-leaves g c =
+    let d = g.D.Disk in
+    let old = c.args.service in
+    subst (λ disk. IsLeft d.view (disk_of old) disk) (sym c.close-in-Err.ensures.disk) (same_left d.view g.met.D.Disk.only_now old c.prove_high.new.self c.in-Err.ensures.asks.unwritten)
+
+pub returns-in-Err-clause-rests : goal.returns-in-Err-clause-rests
+returns-in-Err-clause-rests g c = λ h served.
+    let d = g.D.Disk in
+    own_rest d.view c.close-in-Err.result (name_of c.prove_high.new.self) h (c.close-in-Err.ensures.stands h (c.in-Err.ensures.asks.same h served).0)

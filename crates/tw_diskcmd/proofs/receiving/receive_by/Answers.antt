@@ -1,0 +1,86 @@
+use Rattle.std.proofs.Common.{◌≡◌, ◌<◌, ◌≤◌, ◌+◌, ℕ, ap, arith, sym, subst, inl, inr, ⊎_elim}
+use Rattle.std.specs.Prelude.{Option, Ok, Err}
+use Rattle.sha2.specs.Sha256.{sha256}
+use Rattle.tw_base.specs.declared.history.thread.Thread.{Thread}
+use Rattle.tw_base.specs.kinds.Faults.{Rose}
+use Rattle.tw_msg.specs.declared.receipt.Receipt.{Receipt}
+use Rattle.tw_service.specs.Adding.{Receives}
+use Rattle.tw_service.specs.Serves.{Serves, archive_of, disk_of, has_failed, head_of, name_of, pages_of, record_of, steps_of}
+use Rattle.tw_diskcmd.specs.Disks.{IsLeft, LeavesOldOrOneOf, ReadsAsOneOf, found_disk}
+use Rattle.tw_diskcmd.proofs.AtRest.{named_one_of, named_reads, own_rest, rose_since, same_left}
+use Rattle.tw_diskcmd.proofs.Received.{received_done, received_refused}
+use Rattle.tw_diskcmd.proofs.Steps.{step_leaves, step_unwritten}
+use Rattle.tw_diskcmd.proofs.receiving.receive_by.Goals as goal
+
+pub returns-in-Ok-clause-comes : goal.returns-in-Ok-clause-comes
+returns-in-Ok-clause-comes g c = λ found before opens serves le.
+    let d = g.D.Disk in
+    let old = c.args.service in
+    let new = c.take.new.self in
+    let r = subst (λ (time : Option ℕ). Receives sha256 d.view c.args.message.now time old new (Ok c.in-Ok.receipt)) c.seconds_of.ensures.value c.in-Ok.ensures in
+    let step : (0 < c.in-Ok.receipt.by.step) × (c.in-Ok.receipt.by.step ≤ steps_of old + 1) = elim r.record_is [
+      | inl known ↦ (known.0.0, omega (arith, known.1))
+      | inr made ↦
+          let same : c.in-Ok.receipt.by.step ≡ steps_of new = ap (λ (t : Thread). t.step) made.0 in
+          let next : steps_of new ≡ steps_of old + 1 = made.1 in (omega (arith, same, next), omega (arith, same, next))
+    ] in
+    received_done c.args.message.now c.args.time (found_disk found before (d.view c.close.result).faults) (has_failed old) (record_of old) (pages_of d.view old) opens c.requires.whole
+    (Serves sha256 d.view old) (Serves sha256 d.view new) serves (head_of new) (archive_of new) c.in-Ok.receipt
+    r.table r.answer r.receipt step (λ h served. let made = r.steps h served in (made.next, made.done.0))
+
+pub returns-in-Ok-clause-leaves : goal.returns-in-Ok-clause-leaves
+returns-in-Ok-clause-leaves g c = λ h served.
+    let d = g.D.Disk in
+    let old = c.args.service in
+    let new = c.take.new.self in
+    let r = subst (λ (time : Option ℕ). Receives sha256 d.view c.args.message.now time old new (Ok c.in-Ok.receipt)) c.seconds_of.ensures.value c.in-Ok.ensures in
+    let made = r.steps h served in (
+      made.next,
+      made.is_next,
+      made.done.0,
+      (
+        own_rest d.view c.close.result (name_of new) made.next (c.close.ensures.stands made.next made.done.1),
+        subst (λ disk. LeavesOldOrOneOf d.view (disk_of old) disk h made.next) (sym c.close.ensures.disk)
+            (named_one_of d.view (disk_of old) (disk_of new) (name_of old) made.next h served.has.named made.any_moment),
+      ),
+    )
+
+pub returns-in-Err-clause-comes : goal.returns-in-Err-clause-comes
+returns-in-Err-clause-comes g c = λ found before opens serves le.
+    let d = g.D.Disk in
+    let old = c.args.service in
+    let new = c.take.new.self in
+    let r = subst (λ (time : Option ℕ). Receives sha256 d.view c.args.message.now time old new (Err c.in-Err.refusal)) c.seconds_of.ensures.value c.in-Err.ensures in
+    received_refused c.args.message.now c.args.time (found_disk found before (d.view c.close-in-Err.result).faults) (has_failed old) (record_of old) (pages_of d.view old) opens c.requires.whole
+    (Serves sha256 d.view old) (Serves sha256 d.view new) serves (head_of new) (archive_of new) c.in-Err.refusal c.fault_of_service.result c.fault_of_service.ensures
+    r.table r.answer (λ h served. (r.steps h served).machine c.requires.whole)
+    (λ is. rose_since before (d.view (disk_of old)).faults (d.view c.close-in-Err.result).faults le
+    (subst (λ disk. Rose (d.view (disk_of old)).faults (d.view disk).faults) (sym c.close-in-Err.ensures.disk) (r.fault is)))
+
+pub returns-in-Err-clause-leaves : goal.returns-in-Err-clause-leaves
+returns-in-Err-clause-leaves g c = λ h served.
+    let d = g.D.Disk in
+    let old = c.args.service in
+    let new = c.take.new.self in
+    let r = subst (λ (time : Option ℕ). Receives sha256 d.view c.args.message.now time old new (Err c.in-Err.refusal)) c.seconds_of.ensures.value c.in-Err.ensures in
+    let made = r.steps h served in (
+      made.next,
+      made.is_next,
+      tt,
+      step_leaves d.view (disk_of old) c.close-in-Err.result h made.next Receipt c.in-Err.refusal c.fault_of_service.result c.fault_of_service.ensures
+          (subst (λ disk. LeavesOldOrOneOf d.view (disk_of old) disk h made.next × ReadsAsOneOf d.view disk h made.next) (sym c.close-in-Err.ensures.disk) (
+            named_one_of d.view (disk_of old) (disk_of new) (name_of old) made.next h served.has.named made.any_moment,
+            named_reads d.view (disk_of new) (name_of old) made.next h served.has.named made.told,
+          ))
+          (⊎_elim (λ is. inl is) (λ keeps. inr (own_rest d.view c.close-in-Err.result (name_of new) h (c.close-in-Err.ensures.stands h keeps.0))) made.refused),
+    )
+
+pub returns-in-Err-clause-unwritten : goal.returns-in-Err-clause-unwritten
+returns-in-Err-clause-unwritten g c = λ nothing.
+    let d = g.D.Disk in
+    let old = c.args.service in
+    let new = c.take.new.self in
+    let r = subst (λ (time : Option ℕ). Receives sha256 d.view c.args.message.now time old new (Err c.in-Err.refusal)) c.seconds_of.ensures.value c.in-Err.ensures in
+    subst (λ disk. IsLeft d.view (disk_of old) disk) (sym c.close-in-Err.ensures.disk)
+    (step_unwritten d.view (disk_of old) (disk_of new) Receipt c.in-Err.refusal c.fault_of_service.result c.fault_of_service.ensures
+    (⊎_elim (λ is. inl is) (λ same. inr (same_left d.view g.met.D.Disk.only_now old new same)) r.unwritten) nothing)

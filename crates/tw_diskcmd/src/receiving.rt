@@ -1,0 +1,135 @@
+// The command that archives the thread of a message.
+
+ghost use Rattle.std.specs.Prelude.{◌≡◌, ◌≤◌, ℕ, Option, IfErr, IfOk, false};
+ghost use Rattle.sha2.specs.Sha256.{sha256};
+ghost use Rattle.tw_base.specs.history.History.{History};
+ghost use Rattle.tw_base.specs.history.Limits.{IsThread, IsTimeWithinLimits};
+ghost use Rattle.tw_disk.specs.Image.{Image};
+ghost use Rattle.tw_msg.specs.Messages.{IsLinked};
+ghost use Rattle.tw_outside.specs.Asked.{asked};
+ghost use Rattle.tw_service.specs.Serves.{Serves, disk_of, has_failed, pages_of, record_of};
+ghost use Rattle.tw_diskcmd.specs.Answers.{IsOpened};
+ghost use Rattle.tw_diskcmd.specs.Disks.{IsLeft, ReadsAs, found_disk};
+ghost use Rattle.tw_diskcmd.specs.Receiving.{IsMessageIn, MessageComes, ReceiveComes, ReceiveLeaves};
+ghost use Rattle.tw_diskcmd.specs.WorkSteps.{ComesOfMessageFile, LeavesReceived, WritesNothing};
+
+use crate::faults::{bad_byte, fault_of_service, fault_of_store};
+use crate::worked::Worked;
+use std::alloc::Global;
+use tw_base::{ReadFault, Sha};
+use tw_disk::Disk;
+use tw_filecmd::limits::FILE_READ;
+use tw_msg::{Message, Receipt, message_laws, read_message};
+use tw_outside::{Inputs, read_all};
+use tw_service::Service;
+use tw_text::{ClaimedTime, CommandFault};
+
+/// Archives the thread of the message in the named file in a step of the service on the disk, at this time
+/// or at none, and answers the receipt of that step; or, where the archive has the thread, that of the step
+/// that received it. The file is read and judged before the disk is touched.
+pub fn receive<D: Disk, I: Inputs>(
+    alloc: Global,
+    disk: D,
+    inputs: &mut I,
+    file: &str,
+    time: Option<ClaimedTime>,
+) -> Worked<D, Receipt>
+    requires { I.may_ask inputs.old file.now }
+    // What `receive` comes to is what its file, the disk and the counts of faults allow: the receipt, or a fault with its
+    // cause.
+    ensures comes { ReceiveComes (asked (I.told inputs.old) (I.faults inputs.old) (I.faults inputs.new))
+        (found_disk (D.view disk).content (D.view disk).faults (D.view result.disk).faults) file.now time result.outcome }
+    // It leaves the disk as is right for what it came to.
+    ensures leaves { ReceiveLeaves D.view disk result.disk (I.told inputs.old) file.now time result.outcome }
+{
+    match read_thread(alloc, inputs, file) {
+        Ok(message) => receive_message(alloc, disk, &message, time),
+        Err(fault) => Worked {
+            outcome: Err(fault),
+            disk,
+        },
+    }
+}
+
+/// The message of the named file, or what comes of a file that isn't read or is none.
+fn read_thread<I: Inputs>(
+    alloc: Global,
+    inputs: &mut I,
+    file: &str,
+) -> Result<Message, CommandFault>
+    requires { I.may_ask inputs.old file.now }
+    ensures read { IfOk result (IsMessageIn (I.told inputs.old) file.now) }
+    ensures linked { IfOk result IsLinked }
+    ensures thread { IfOk result (λ message. IsThread message.thread) }
+    ensures stopped { IfErr result (ComesOfMessageFile (asked (I.told inputs.old) (I.faults inputs.old) (I.faults inputs.new)) file.now) }
+{
+    let bytes = read_all(alloc, inputs, file, FILE_READ)?;
+    message_laws();
+    match read_message(alloc, bytes.as_slice()) {
+        Ok(message) => Ok(message),
+        Err(ReadFault::Malformed { place }) => Err(bad_byte(alloc, file, place)?),
+        Err(ReadFault::NoMemory) => Err(CommandFault::NoMemory),
+    }
+}
+
+/// Archives the thread of the message in a step of the service on the disk.
+fn receive_message<D: Disk>(
+    alloc: Global,
+    disk: D,
+    message: &Message,
+    time: Option<ClaimedTime>,
+) -> Worked<D, Receipt>
+    requires linked { IsLinked message.now }
+    requires thread { IsThread message.now.thread }
+    ensures comes { MessageComes message.now time (found_disk (D.view disk).content (D.view disk).faults (D.view result.disk).faults) result.outcome }
+    ensures leaves { (h : History) → ReadsAs (D.view disk).content h → LeavesReceived D.view disk result.disk message.now time h result.outcome }
+    ensures unwritten { WritesNothing result.outcome → IsLeft D.view disk result.disk }
+{
+    match Service::<D, Sha>::open(alloc, disk) {
+        Ok(service) => receive_by(service, message, time),
+        Err((disk, fault)) => Worked {
+            outcome: Err(fault_of_store(fault)),
+            disk,
+        },
+    }
+}
+
+/// The seconds of the time, where there is one.
+fn seconds_of(time: Option<ClaimedTime>) -> Option<u64>
+    ensures value { result ≡ time }
+    ensures limit { IsTimeWithinLimits result }
+{
+    match time {
+        None => None,
+        Some(time) => Some(time.seconds()),
+    }
+}
+
+/// Archives the thread of the message by the service, and gives its disk back.
+fn receive_by<D: Disk>(
+    service: Service<D, Sha>,
+    message: &Message,
+    time: Option<ClaimedTime>,
+) -> Worked<D, Receipt>
+    requires whole { has_failed service ≡ false }
+    requires linked { IsLinked message.now }
+    requires thread { IsThread message.now.thread }
+    ensures comes { (found : Option Image) (before : ℕ) → IsOpened found (record_of service) (pages_of D.view service)
+        → ((h : History) → ReadsAs found h → Serves sha256 D.view service h) → before ≤ (D.view (disk_of service)).faults
+        → MessageComes message.now time (found_disk found before (D.view result.disk).faults) result.outcome }
+    ensures leaves { (h : History) → Serves sha256 D.view service h
+        → LeavesReceived D.view (disk_of service) result.disk message.now time h result.outcome }
+    ensures unwritten { WritesNothing result.outcome → IsLeft D.view (disk_of service) result.disk }
+{
+    let mut service = service;
+    match service.take(message, seconds_of(time)) {
+        Ok(receipt) => Worked {
+            outcome: Ok(receipt),
+            disk: service.close(),
+        },
+        Err(refusal) => Worked {
+            outcome: Err(fault_of_service(refusal)),
+            disk: service.close(),
+        },
+    }
+}
