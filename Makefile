@@ -22,8 +22,8 @@ build:
 	python3 tools/build.py timeweave
 
 # Builds the program, and shows a proof accepted, the same proof rejected under another authenticator, two services that keep
-# their histories on disk, proofs from a history that recorded threads of other services, one that an event of a service precedes
-# an event of another, and an audit of such a one.
+# their histories on disk, proofs of a service that received another one's step, one that an event of a service precedes an event
+# of another, over two services and over three, and an audit of such a one.
 demo: build
 	@echo; echo '$$ timeweave verify p a 1 $(AUTH)'
 	@$(PROGRAM) verify $(PROOF) a 1 $(AUTH)
@@ -31,6 +31,7 @@ demo: build
 	@$(PROGRAM) verify $(PROOF) a 1 $(OTHER); test $$? -eq 1
 	@echo; examples/two_services.sh $(PROGRAM)
 	@echo; examples/archived_threads.sh $(PROGRAM)
+	@echo; examples/chain_of_three.sh $(PROGRAM)
 	@echo; examples/event_chain.sh $(PROGRAM)
 	@echo; examples/audited_chain.sh $(PROGRAM)
 

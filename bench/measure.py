@@ -25,10 +25,11 @@ from in_process import in_process_lines  # noqa: E402
 from instructions import counted  # noqa: E402
 from paged_trees import tree_lines  # noqa: E402
 from picture import drawn  # noqa: E402
+from received_threads import receiving_lines  # noqa: E402
 from rivals import all_rivals  # noqa: E402
 from stores import Store, events_file  # noqa: E402
 from timing import best_times  # noqa: E402
-from whole_histories import audit_lines  # noqa: E402
+from whole_histories import history_lines  # noqa: E402
 
 FRONT = 4 * 4096
 TRUE = "/bin/true"
@@ -50,6 +51,7 @@ class Plan:
         self.inserts = 1_000 if is_trial else 10_000
         self.found = 1_000 if is_trial else 100_000
         self.checked = 1_000 if is_trial else 100_000
+        self.threads = ((20, 3),) if is_trial else ((1_000, 3), (1_000, 100), (10_000, 3), (10_000, 100), (10_000, 10_000))
 
 
 class Kept:
@@ -296,7 +298,8 @@ def main():
     with tempfile.TemporaryDirectory() as folder:
         bench = Bench(program, folder, plan)
         text = introduction(plan) + comparisons(bench) + store_tables(bench) + growth_table(bench) + shown_tables(bench)
-        text += audit_lines(program, folder, plan.histories, plan.histories[0]) + instruction_table(bench)
+        text += history_lines(program, folder, plan.histories, plan.histories[0]) + instruction_table(bench)
+        text += receiving_lines(bench, plan.threads, plan.appends)
         text += in_process_lines(bench)
         text += tree_lines(plan, folder)
     result = "\n".join(text) + "\n"

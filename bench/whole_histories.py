@@ -1,4 +1,4 @@
-"""What `audit` takes on histories of several sizes: time, room, and instructions beside those of the hashes.
+"""What `audit` and `adopt` take on histories of several sizes: time, room, and instructions beside those of the hashes.
 
     python3 bench/whole_histories.py PROGRAM [MIB ..]    prints these tables alone, for histories of these sizes
 """
@@ -14,6 +14,8 @@ from pathlib import Path
 TOP = Path(__file__).resolve().parent.parent
 sys.path.insert(0, str(TOP / "tests/acceptance"))
 
+from adoptions import Peer  # noqa: E402
+from audits import lines_of  # noqa: E402
 from instructions import counted  # noqa: E402
 from proofs import Proof  # noqa: E402
 from reference import be, climbed, padded  # noqa: E402
@@ -48,15 +50,33 @@ def history_file(path, size, step):
     return count
 
 
-def audit_words(program, folder, size, step):
-    """The words of an audit of the first event's proof against such a history, and how many steps that has."""
-    history, proof, lines = (f"{folder}/{name}" for name in ("audited", "proof", "lines"))
+def whole_history(program, folder, size, step):
+    """Writes such a history, of about so many bytes, and the line of its last step; answers the names of both files, the proof that it has of the
+    first event, its number of steps and the authenticator of the last one."""
+    history, lines = (f"{folder}/{name}" for name in ("whole", "lines"))
     count = history_file(history, size - 100, step)
     data = subprocess.run([program, "show", history, "1", "0"], check=True, capture_output=True).stdout
-    Path(proof).write_bytes(data)
     shown = Proof(data)
-    Path(lines).write_text(f"bench {count} {climbed(shown.path, shown.top, shown.step, shown.auth).hex()}\n")
+    auth = climbed(shown.path, shown.top, shown.step, shown.auth)
+    Path(lines).write_text(f"bench {count} {auth.hex()}\n")
+    return history, lines, data, count, auth
+
+
+def audit_words(program, folder, size, step):
+    """The words of an audit of the first event's proof against such a history, and how many steps that has."""
+    history, lines, data, count, _ = whole_history(program, folder, size, step)
+    proof = f"{folder}/proof"
+    Path(proof).write_bytes(data)
     return [program, "audit", proof, lines, history], count
+
+
+def adopt_words(program, folder, size, step):
+    """The words that take over the whole of such a history, of whose last step another service received the thread, and how many steps that has."""
+    history, lines, _, count, auth = whole_history(program, folder, size, step)
+    proof, peer = f"{folder}/proof", Peer("peer", ("bench", count, auth))
+    Path(proof).write_bytes(peer.proof(0))
+    Path(lines).write_bytes(lines_of(peer.anchor()))
+    return [program, "adopt", history, lines, proof], count
 
 
 def of_memory(room, size):
@@ -65,12 +85,12 @@ def of_memory(room, size):
     return f"{room / MIB:,.0f} | {room / size / MIB:.1f}" if room > 1.1 * own else f"under {own / MIB:.0f} | ?"
 
 
-def audit_lines(program, folder, sizes, counted_size):
-    """The tables of audits of histories of so many MiB."""
+def tables(head, words_of, program, folder, sizes, counted_size):
+    """The tables of a command on histories of so many MiB."""
     times, counts = [], []
     for name, step, most in KINDS:
         for size in (size for size in sizes if size <= most):
-            words, steps = audit_words(program, folder, size * MIB, step)
+            words, steps = words_of(program, folder, size * MIB, step)
             took, room = cost(words)
             times.append(f"| {size} | {name} | {steps:,} | {took * 1e3:,.0f} | {took * 1e3 / size:.1f} | {of_memory(room, size)} |")
             if size == counted_size and shutil.which("valgrind"):
@@ -78,7 +98,7 @@ def audit_lines(program, folder, sizes, counted_size):
                 ratios = [f"{part / inside:.2f}" if inside else "?" for part in (own, total)]
                 counts.append(f"| {name} | {blocks:,} | {inside:,} | {own:,} | {ratios[0]} | {total:,} | {ratios[1]} |")
     text = [
-        "", "`audit` of a proof against one history, all texts of which it keeps:", "",
+        "", head, "",
         "| MiB | history | steps | processor time, in milliseconds | milliseconds a MiB | most memory, in MiB | times the file |",
         "|---|---|---|---|---|---|---|", *times,
     ]
@@ -91,10 +111,18 @@ def audit_lines(program, folder, sizes, counted_size):
     return text
 
 
+def history_lines(program, folder, sizes, counted_size):
+    """The tables of audits and of takings over of histories of so many MiB."""
+    return [
+        *tables("`audit` of a proof against one history, all texts of which it keeps:", audit_words, program, folder, sizes, counted_size),
+        *tables("`adopt` of a history whose last step another service received, so that it is written whole:", adopt_words, program, folder, sizes, counted_size),
+    ]
+
+
 def main():
     sizes = [int(word) for word in sys.argv[2:]] or [1, 4, 16]
     with tempfile.TemporaryDirectory() as folder:
-        print("\n".join(audit_lines(os.path.realpath(sys.argv[1]), folder, sizes, min(sizes))))
+        print("\n".join(history_lines(os.path.realpath(sys.argv[1]), folder, sizes, min(sizes))))
 
 
 if __name__ == "__main__":

@@ -1,18 +1,31 @@
 #!/bin/sh
-# Shows that an event of one service precedes an event of another: the proofs of both events are made of the services' histories, and
-# joined with the proof that the one service received a thread of the other. No command receives threads yet, so a script of the
-# acceptance run makes the histories, the proof of the thread, and that of its link to a later step.
+# Shows that an event of one service precedes an event of another: the bank received the maker's line of step 2, by a message. The proofs of both
+# events are joined with the bank's proof that it received that line, and the maker's that the line is its own.
 #
 #     examples/event_chain.sh PROGRAM
 set -e
 
-script=$(realpath "$(dirname "$0")/../tests/acceptance/chains.py")
 . "$(dirname "$0")/shown.sh"
 
-python3 "$script" .
+run "mkdir maker bank"
+run "timeweave init maker maker"
+run "timeweave init bank bank"
+run "printf 'TWE1\\0\\0\\0\\1\\0\\0\\0\\7ordered' > order"
+run "printf 'TWE1\\0\\0\\0\\1\\0\\0\\0\\4paid' > payment"
+run "printf 'TWE1\\0\\0\\0\\0' > nothing"
+run "timeweave append maker order"
+run "timeweave append maker nothing"
+run "timeweave append bank nothing"
+run "timeweave thread maker 0 > message"
+run "timeweave receive bank message > receipt"
+run "timeweave append bank payment > lines"
+run "timeweave append maker nothing"
+run "timeweave append maker nothing >> lines"
 run "cat lines"
-run "timeweave show bank 3 0 > paid"
-run "timeweave show maker 1 0 > ordered"
+run "timeweave prove bank event 3 0 > paid"
+run "timeweave prove bank thread 2 maker 2 > thread"
+run "timeweave prove maker link 2 4 > link"
+run "timeweave prove maker event 1 0 2 > ordered"
 run "timeweave join paid thread link ordered > chain"
 run "timeweave verify chain lines"
 run "timeweave strict chain lines"

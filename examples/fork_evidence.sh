@@ -1,7 +1,7 @@
 #!/bin/sh
 # From a fork to a file that anybody checks. Two services received threads of a third one that no history of it has both: each hands out the
 # proof of its thread and its line, and whoever has the history with the later thread the link from its step down to the earlier one's. Of
-# these the evidence is made. No command receives threads yet, so a script of the acceptance run makes the proofs and the lines.
+# these the evidence is made. It takes a service that makes two histories, so a script of the acceptance run makes the proofs and the lines.
 #
 #     examples/fork_evidence.sh PROGRAM
 set -e

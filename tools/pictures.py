@@ -18,7 +18,7 @@ import maps  # noqa: E402
 import reference  # noqa: E402
 import tree_pages  # noqa: E402
 import trees  # noqa: E402
-from stores import PAGE, Store  # noqa: E402
+from stores import PAGE, Follower, Store  # noqa: E402
 
 # The history that the tutorial shows: thirteen steps of three events each.
 SHOP = reference.Timeline("shop", [[f"order {step}.{k}".encode() for k in range(3)] for step in range(1, 14)])
@@ -292,6 +292,22 @@ def pages():
     return lines + more
 
 
+def heads():
+    """The root record of a follower that kept two heads, and its head pages, byte by byte."""
+    follower = Follower("shop", [(5, SHOP.auths[5]), (13, SHOP.auths[13])])
+    data = follower.file()
+    lines = ["the root record"]
+    more, _ = dumped(data[2 * PAGE + 26 : 2 * PAGE + 90], [(16, "the service shop"), (8, "step 13"), (32, "its authenticator"), (8, "its page, 5")])
+    lines += more
+    for page, step, before in ((4, 5, "no head before it"), (5, 13, "the head before it, page 4")):
+        more, at = dumped(data[page * PAGE : (page + 1) * PAGE], [
+            (1, "4, a head page"), (8, f"step {step}"), (32, "its authenticator"), (8, before), (PAGE - 49, "zeros"),
+        ])
+        assert at == PAGE
+        lines += ["", f"page {page}, of the {'last' if step == 13 else 'first'} head", *more]
+    return lines
+
+
 def rising_versions(count):
     """The versions of an archive that received so many threads of a service alpha, those of its steps 1, 2, .. in order."""
     tree = tree_pages.PagedTree()
@@ -348,7 +364,7 @@ def versions():
     ]
 
 
-PICTURES = {"heights": heights, "coming": coming, "step": step, "links": links, "tree": tree, "proof": proof, "absence": absence, "chain": chain, "between": between, "message": message, "receipt": receipt, "pages": pages, "half": half, "versions": versions}
+PICTURES = {"heights": heights, "coming": coming, "step": step, "links": links, "tree": tree, "proof": proof, "absence": absence, "chain": chain, "between": between, "message": message, "receipt": receipt, "pages": pages, "heads": heads, "half": half, "versions": versions}
 
 
 def drawn(text):

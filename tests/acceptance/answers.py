@@ -8,27 +8,30 @@ import re
 from functools import cache
 from typing import NamedTuple
 
+import adoptions
 import atlases
 import audits
 import chains
 import forks
+import maps
 import proofs
 import reference
 from reaching import accused_bytes
 from reference import LAST_STEP, LAST_TIME, Malformed
 from seen import MANUAL
-from stores import Store, read_events
+from stores import Follower, Store, read_events
+from trees import EMPTY
 
 # What a command may answer that met a store whose bytes were changed: the status, and what its text begins with.
 OF_CHANGED_STORES = {0: b"", 5: b"fault disk\n", 7: b"refused ", 8: b"store "}
 
 
 class Trial(NamedTuple):
-    """Words, files by their names, the service in the folder `d` or None, and other bytes for its store or None."""
+    """Words, files by their names, the service or the follower in the folder `d` or None, and other bytes for its store or None."""
 
     words: list
     files: dict
-    service: Store | None = None
+    service: Store | Follower | None = None
     changed_store: bytes | None = None
 
     def store(self):
@@ -154,8 +157,20 @@ def joined(files, *names):
     return (made, 0) if isinstance(made, bytes) else (f"rejected Gap {made}\n", 1)
 
 
+def mapped(files, low, high, anchors):
+    """Both map files are judged before the anchors file, whose lines come before what the maps are held against."""
+    text, status = maps.verdict(files[low], files[high], {}, (low, high))
+    return (text, status) if status == 9 else maps.verdict(files[low], files[high], anchors_of(files, anchors), (low, high))
+
+
 def atlas(files, service, step, *names):
     return atlases.mapped(service, int(step), [(name, files[name]) for name in names])
+
+
+def taken_over(files, name, anchors, *names):
+    """The history is judged before the lines of the anchors."""
+    _, bad = audits.read_histories([(name, files[name])])
+    return (bad, 9) if bad else adoptions.adopted(files[name], anchors_of(files, anchors), [files[proof] for proof in names], name)
 
 
 OF_FILES = {
@@ -166,34 +181,82 @@ OF_FILES = {
     "accuse": lambda files, *names: accused_bytes([files[name] for name in names], names),
     "checkfork": lambda files, name, anchors: forks.verdict(files[name], anchors_of(files, anchors)),
     "audit": lambda files, proof, anchors, *names: audits.audited(files[proof], anchors_of(files, anchors), [(name, files[name]) for name in names]),
+    "adopt": taken_over,
     "atlas": atlas,
+    "checkmap": mapped,
 }
 
 
 def of_store(trial, command, rest):
     """What a command with a folder answers, once its words and files are there."""
     folder, *rest = rest
-    if command == "prove":
-        command, *rest = f"prove {rest[0]}", *rest[1:]
-    if command in ("prove thread", "prove absent"):
-        return Answer(2, b"usage 0\n", trial.store())
+    if command in ("prove", "map"):
+        command, *rest = f"{command} {rest[0]}", *rest[1:]
     events = None
+    if command == "receive":
+        try:
+            read(reference.read_message, trial.files, rest.pop(0))
+        except BadFile as bad:
+            return Answer(9, f"unreadable {bad}\n".encode(), trial.store())
     if command == "append":
         try:
             events = read(read_events, trial.files, rest.pop(0))
         except BadFile as bad:
             return Answer(9, f"unreadable {bad}\n".encode(), trial.store())
+    if command == "offer":
+        try:
+            message = read(linked_message, trial.files, rest[0])
+        except BadFile as bad:
+            return Answer(9, f"unreadable {bad}\n".encode(), trial.store())
     if folder != "d":
         return Answer(5, b"fault disk\n", trial.store())
     if trial.changed_store is not None:
-        return Answer(None, None, None if command in ("init", "append") else trial.store())
-    if command == "init":
-        made = Store(*rest, [])
-        return Answer(7, b"refused Taken\n", trial.store()) if trial.service else Answer(0, made.anchor(0), made.file())
+        return Answer(None, None, None if command in WRITING else trial.store())
+    if command in ("init", "watch"):
+        made = Store(*rest, []) if command == "init" else Follower(*rest)
+        return Answer(7, b"refused Taken\n", trial.store()) if trial.service else Answer(0, made.anchor(0) if command == "init" else made.head(), made.file())
     if trial.service is None:
         return Answer(8, b"store Blank\n", b"")
+    if (command in ("offer", "heads")) != isinstance(trial.service, Follower):
+        return Answer(8, b"store NotAStore %d\n" % trial.service.slot(), trial.store())
+    if command in ("map low", "map high"):
+        return Answer(None, None, trial.store())
+    if command == "heads":
+        return Answer(0, trial.service.heads(), trial.store())
+    if command == "offer":
+        return offered(trial.service, *message)
+    # (what comes of a message by the archive is compared by cases of its own)
+    if command == "receive":
+        return Answer(None, None, None)
+    if command in ("prove thread", "prove absent"):
+        return of_archive(trial.service, command, *rest)
     numbers = [int(word) for word in rest]
     return appended(trial.service, events, *numbers) if command == "append" else asked(trial.service, command, *numbers)
+
+
+def linked_message(data):
+    """The words of a message, and the records of its path."""
+    words = reference.read_message(data)
+    rest = reference.Reader(data[68:])
+    return *words, proofs.read_path(rest, words[1], words[3])
+
+
+def offered(follower, name, step, auth, since, path):
+    """What a follower answers that is offered a message."""
+    last, kept = follower.last()
+    refusal = None
+    if name != follower.name:
+        refusal = f"Other {name}"
+    elif step < last:
+        refusal = f"Stale {last}"
+    elif step == last and auth != kept:
+        refusal = f"Forked {last} {kept.hex()} {auth.hex()}"
+    elif step > last and (since != last or reference.climbed(path, step, since, kept) != auth):
+        refusal = f"BadLink {last} {kept.hex()}"
+    if refusal:
+        return Answer(7, f"refused {refusal}\n".encode(), follower.file())
+    moved = follower if step == last else follower.moved(step, auth)
+    return Answer(0, moved.head(), moved.file())
 
 
 def appended(service, events, at=None):
@@ -226,4 +289,18 @@ def asked(service, command, step, *rest):
     return Answer(0, output, service.file()) if output else Answer(7, b"refused NoEvent %d\n" % len(line.events(step)), service.file())
 
 
-OF_STORES = dict.fromkeys(("init", "append", "prove", "thread"))
+def of_archive(service, command, step, peer, number, top=None):
+    """What a service answers that received no thread, and is asked for one, or that it has none."""
+    line, last = service.line, len(service.line.steps)
+    step, top = int(step), last if top is None else int(top)
+    if not 1 <= step <= top <= last:
+        return Answer(7, b"refused NoStep %d\n" % last, service.file())
+    if command == "prove thread":
+        return Answer(7, b"refused NoThread\n", service.file())
+    return Answer(0, proofs.absent_proof(line, EMPTY, step, top, (peer, int(number))), service.file())
+
+
+# The commands that write a store.
+WRITING = ("init", "append", "receive", "watch", "offer")
+
+OF_STORES = dict.fromkeys(("init", "append", "receive", "prove", "map", "thread", "watch", "offer", "heads"))

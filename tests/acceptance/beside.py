@@ -8,7 +8,7 @@ import threading
 import reference
 import seen
 from failing import READING
-from proofs import link_proof
+from proofs import absent_proof, link_proof
 from steps import Wrong, case
 from stores import Store, events_file
 from tracing import needs
@@ -100,7 +100,8 @@ def waits(running):
 def waiting(room):
     """who writes waits for each other program, and who reads only for one that writes"""
     store = room.made("lock", [[b"x"]])
-    told = (reference.proof_bytes(store.line, 1, 0, 1), link_proof(store.line, 1, 1), reference.message_bytes(store.line, 1, 0))
+    line = store.line
+    told = (reference.proof_bytes(line, 1, 0, 1), link_proof(line, 1, 1), reference.message_bytes(line, 1, 0), absent_proof(line, reference.EMPTY, 1, 1, ("b", 1)))
     with locked(room, "-s"):
         for words, output in zip(READING, told):
             room.expect(words, 0, output)

@@ -16,7 +16,7 @@ PASS_OVER_MODES = (1, 2)
 LAST_STEP = 2**40 - 1
 
 # The commands that read a store and write nothing to it.
-READING = ("prove d event 1 0", "prove d link 1", "thread d 0")
+READING = ("prove d event 1 0", "prove d link 1", "thread d 0", "prove d absent 1 b 1")
 
 
 def plain_rights():

@@ -4,9 +4,9 @@
     python3 tests/acceptance/fuzz.py PROGRAM again FILE      does the run of a file once more
 
 A trial begins as words that a command has a form of, with good files and a good service: proofs of each kind, ways over several histories and their
-parts, evidence, histories, receipts, anchors, events files, stores. Most are then changed: bytes changed, cut, doubled, put in from another file, and set
+parts, evidence, histories, receipts, anchors, events files, messages, stores. Most are then changed: bytes changed, cut, doubled, put in from another file, and set
 to numbers at limits; words swapped, left out, doubled and changed for others; a file missing. Status, output and the service's store have to be what
-answers.py says; of a changed store it says what is allowed. Messages are written by `thread` alone: no command reads one yet.
+answers.py says; of a changed store it says what is allowed.
 
 The first run that differs is written into the file `fuzz.json`, with words, files and store, what is wanted and what was found.
 """
@@ -24,9 +24,11 @@ from functools import cache, lru_cache, partial
 from itertools import count
 from pathlib import Path
 
+import adoptions
 import atlases
 import audits
 import forks
+import maps
 import precedence
 import proofs
 import reference
@@ -34,7 +36,7 @@ from answers import Answer, Trial, forms, wanted
 from histories import reshaping, timed, woven
 from reference import LAST_STEP, LAST_TIME, be, listed
 from steps import Room, Wrong, case
-from stores import Store, events_file
+from stores import Follower, Store, events_file
 
 STORE, MOST_STORE = "d/timeline.tw", 1 << 26
 
@@ -113,6 +115,15 @@ def an_audit(rand):
     return Trial(["audit", "p", "k", *files], {"p": data, "k": audits.lines_of(anchors), **files})
 
 
+def an_adoption(rand):
+    """A history, and proofs of what others received of it."""
+    history = adoptions.lost(bool(rand.randrange(2)))
+    peers = [adoptions.Peer(name, adoptions.thread_of(history, rand.randrange(1, 7)), ("far", 9, bytes(32))) for name in ("one", "two")]
+    proofs = {f"p{number}": rand.choice(peers).proof(int(not rand.randrange(8))) for number in range(rand.randrange(1, 4))}
+    anchors = {name: anchor for peer in peers for name, anchor in peer.anchor().items()}
+    return Trial(["adopt", "h", "k", *proofs], {"h": history.bytes(), "k": audits.lines_of(anchors), **proofs})
+
+
 def a_join(rand):
     """The parts of a way."""
     files = {f"p{number}": part for number, part in enumerate(some_way(rand).parts())}
@@ -144,6 +155,15 @@ def an_atlas(rand):
     return Trial(["atlas", rand.choice(names), str(rand.randrange(1, steps)), *files], files)
 
 
+def a_map(rand):
+    """The map files of two histories."""
+    own, peer = maps.exchange() if rand.randrange(2) else reversed(maps.exchange())
+    step, upto = rand.randrange(1, len(own.steps) + 1), rand.randrange(1, len(peer.steps) + 1)
+    top = rand.randrange(step, len(own.steps) + 1)
+    low, high = maps.low_bytes(own, step, peer.name, top), maps.high_bytes(peer, upto, own.name, step)
+    return Trial(["checkmap", "l", "h", "k"], {"l": low, "h": high, "k": maps.lines_of(maps.anchors_of((own, top), (peer, upto)))})
+
+
 def an_append(rand):
     """Events for a service, at a time or none, some of them at or beyond the limits; or a service to make."""
     service = rand.choice((None, *map(some_service, range(12))))
@@ -158,11 +178,36 @@ def a_question(rand):
     """A service that is asked for a proof or a message."""
     service = rand.choice((None, *map(some_service, range(12))))
     step, top, index = (str(rand.randrange(most)) for most in (14, 14, 3))
-    words = rand.choice((["prove", "d", "event", step, index], ["prove", "d", "link", step], ["thread", "d", step]))
+    words = rand.choice((
+        ["prove", "d", "event", step, index], ["prove", "d", "link", step], ["thread", "d", step], ["prove", "d", "thread", step, "peer", index],
+        ["prove", "d", "absent", step, "peer", "1"],
+    ))
     return Trial([*words, *[top] * (words[0] == "prove" and rand.randrange(2))], {"e": events_file([b"x"])}, service)
 
 
-KINDS = (a_verdict, a_verdict, an_audit, a_join, a_show, a_fork, an_atlas, an_append, an_append, a_question)
+@cache
+def some_follower(number):
+    """One of the followers of one service, with none to 4 heads."""
+    rand, line = random.Random(f"follower {number}"), some_service(1).line
+    heads = sorted(rand.sample(range(1, len(line.steps) + 1), rand.randrange(min(5, len(line.steps) + 1))))
+    return Follower(line.name, [(step, line.auths[step]) for step in heads])
+
+
+def an_offer(rand):
+    """A follower that is offered a message of its service, of a fork of that one or of another service; or one that is made, or tells its heads."""
+    number = rand.randrange(12)
+    follower = rand.choice((None, some_service(0), *[some_follower(number)] * 6))
+    line = some_service(rand.choice((1, 1, 1, 1, 0))).line
+    step = rand.randrange(1, len(line.steps) + 1)
+    since = rand.choice((rand.randrange(step + 1), min(step, some_follower(number).last()[0])))
+    if not rand.randrange(3):
+        steps = [*line.steps[: rand.randrange(step)], *[[b"fork"]] * step]
+        line = reference.Timeline(line.name, steps[:step])
+    words = rand.choice((["offer", "d", "m"], ["offer", "d", "m"], ["offer", "d", "m"], ["heads", "d"], ["watch", "d", "new"]))
+    return Trial(words, {"m": reference.message_bytes(line, step, since)}, follower)
+
+
+KINDS = (a_verdict, a_verdict, an_audit, an_adoption, a_join, a_show, a_fork, an_atlas, a_map, an_append, an_append, a_question, an_offer)
 
 
 # ---- changes

@@ -6,6 +6,7 @@ first that isn't what the command reads is told, in the same order.
 
 import random
 
+import adoptions
 import atlases
 import audits
 import forks
@@ -86,6 +87,22 @@ def audited_files():
         yield {"name": f"audit: {name}", "files": {**files, **bad}, "words": words, "status": 9, "stdout": told}
 
 
+def adopted_files():
+    """Of `adopt` the history first, then the lines of the anchors; and then the proofs."""
+    words, files = ["adopt", "lost", "k", "first", "second"], adoptions.example()
+    files["k"] = files.pop("lines")
+    bad = {"lost": b"no", "k": b"one 1\n", "first": b"no", "second": b"no"}
+    yield from missing("adopt", words, {name: files[name] for name in words[1:]}, bad)
+    for name, wrong, told in (
+        ("all bad", bad, "unreadable lost byte 0\n"),
+        ("bad lines and bad proofs", {**bad, "lost": files["lost"]}, "unreadable k line 1\n"),
+        ("an unsound history and bad lines", {**bad, "lost": files["lost"][:-1] + b"\1"}, "unsound lost step 6 rule 3\n"),
+    ):
+        yield {"name": f"adopt: {name}", "files": {**files, **wrong}, "words": words, "status": 9, "stdout": told}
+    proofs = {"first": files["first"] + bytes(5 * 2**20), "second": b""}
+    yield {"name": "adopt: more than is read behind a proof", "files": {**files, **proofs}, "words": words, "status": 1, "stdout": "rejected 10 Part 1 1\n"}
+
+
 def mapped_files():
     """Of `checkmap` the low file first, then the high one, then the lines of the anchors; and then whether both fit."""
     own, peer = maps.exchange()
@@ -107,4 +124,5 @@ def cases():
     yield from changed_parts()
     yield from receipt_files()
     yield from audited_files()
+    yield from adopted_files()
     yield from mapped_files()

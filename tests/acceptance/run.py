@@ -6,9 +6,9 @@
 The cases stand in cases/*.json, those that are counted off in generated.py, those of proofs over archives and of links in archives.py,
 those of proofs that an event precedes another and of joining in precedence.py, those of evidence of a fork in forks.py, those of the order in which
 commands over several files read in reaching.py, those of the scripts that one copies in entries.py and daily.py,
-those of services in steps.py, pages.py and failing.py, those of an archive's tree in pages in tree_runs.py, which run a program of their
-own, those of the program's edge to the system in edges.py, of programs at one time in beside.py, what it keeps itself from in guarded.py,
-of lost power and failing system calls in power.py and faults.py, and runs by chance in fuzz.py; documents.py and cited.py check the documents,
+those of services in steps.py, pages.py and failing.py, those of what services tell and receive in messages.py and receiving.py, those of an archive's
+tree in pages in tree_runs.py, which run a program of their own, those of the program's edge to the system in edges.py, of programs at one time in beside.py, what it keeps itself from in guarded.py,
+of lost power and failing system calls in power.py and faults.py, runs by chance in fuzz.py, malformed input counted off in tables.py, and refused memory in refused.py; documents.py and cited.py check the documents,
 installed.py what `make install` copies, library.py the library for C and Python over the proofs of all of them, shown.py the examples to copy, and sources.py the sources.
 A case has
 
@@ -38,6 +38,7 @@ import tempfile
 from concurrent.futures import ThreadPoolExecutor
 from pathlib import Path
 
+import adoptions
 import archives
 import atlases
 import audits
@@ -49,23 +50,28 @@ import edges
 import entries
 import failing
 import faults
+import followers
 import forks
 import fuzz
 import generated
 import guarded
 import installed
 import library
+import mapped
 import maps
 import messages
 import pages
 import power
 import precedence
 import reaching
+import receiving
 import reference
+import refused
 import seen
 import shown
 import sources
 import steps
+import tables
 import tree_runs
 
 HERE = Path(__file__).resolve().parent
@@ -175,12 +181,16 @@ def all_cases():
     yield from forks.cases()
     yield from atlases.cases()
     yield from audits.cases()
+    yield from adoptions.cases()
     yield from maps.cases()
     yield from reaching.cases()
     yield from steps.cases()
     yield from pages.cases()
     yield from failing.cases()
     yield from messages.cases()
+    yield from mapped.cases()
+    yield from followers.cases()
+    yield from receiving.cases()
     yield from tree_runs.cases()
     yield from edges.cases()
     yield from beside.cases()
@@ -188,6 +198,8 @@ def all_cases():
     yield from power.cases()
     yield from faults.cases()
     yield from fuzz.cases()
+    yield from tables.cases()
+    yield from refused.cases()
     yield from documents.cases()
     yield from cited.cases()
     yield from installed.cases()

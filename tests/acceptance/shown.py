@@ -8,6 +8,7 @@ from collections import Counter
 from pathlib import Path
 from xml.etree import ElementTree
 
+import adoptions
 import atlases
 import audits
 import reference
@@ -100,6 +101,17 @@ def archived_threads(room):
     verdicts(room, "archived_threads.sh", ["accepted thread", "accepted absent", "accepted link", "rejected 7 BadTree 0"])
 
 
+def two_peers(room):
+    """two services that exchange messages prove to each other's friends what they received"""
+    needs("cmp", "diffutils")
+    verdicts(room, "two_peers.sh", ["accepted thread", "accepted thread", "accepted absent"])
+
+
+def chain_of_three(room):
+    """a chain over three services is made by commands alone, bound and carried"""
+    verdicts(room, "chain_of_three.sh", [*["accepted precedes"] * 3, "rejected 8 Carried 1"])
+
+
 def event_chain(room):
     """the proof that an event of one service precedes one of another is joined and judged as the demo shows it"""
     precedes = ["accepted precedes"]
@@ -133,6 +145,18 @@ def audited_chain(room):
     verdicts(room, "audited_chain.sh", ["accepted precedes", *told, "rejected 6 BadEvent 3"])
 
 
+def taken_over(room):
+    """a lost service's history is taken over as the example shows it"""
+    files = adoptions.example()
+    anchors = reference.read_anchors(files["lines"])
+    less, _ = adoptions.adopted(files["lost"], anchors, [files["first"]])
+    told = [
+        adoptions.adopted(data, anchors, [files[name] for name in names])[0].decode().rstrip()
+        for data, names in ((files["altered"], ("first", "second")), (less, ("second",)))
+    ]
+    verdicts(room, "taken_over.sh", ["accepted thread"] * 2 + told)
+
+
 def reached_steps(room):
     """the picture of an atlas has a row for each service, a line for each leg, and a filled stop for each arrival"""
     linked(room)
@@ -153,5 +177,8 @@ def reached_steps(room):
 
 
 def cases():
-    shown = (log_of_digests, archived_threads, event_chain, fork_evidence, between_steps, audited_chain, reached_steps, manual_examples)
+    shown = (
+        log_of_digests, archived_threads, two_peers, chain_of_three, event_chain, fork_evidence, between_steps, audited_chain, taken_over, reached_steps,
+        manual_examples,
+    )
     return [case(work, "shown") for work in shown]

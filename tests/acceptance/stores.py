@@ -1,4 +1,4 @@
-"""The file of a service's store, byte by byte: gates, bodies, event pages and step pages."""
+"""The file of a service's store, byte by byte: gates, bodies, event pages and step pages; and that of a follower's, with head pages."""
 
 import reference
 from reference import Malformed, Reader, be, padded
@@ -96,3 +96,45 @@ class Store:
 
     def anchor(self, step):
         return f"{self.line.name} {step} {self.line.auths[step].hex()}\n".encode()
+
+    def slot(self):
+        return len(self.line.steps) % 2
+
+
+class Follower:
+    """The store of a follower of the service of a name after these heads, each a step and its authenticator: a page for each."""
+
+    def __init__(self, name, heads=()):
+        self.name, self.kept = name, list(heads)
+
+    def last(self):
+        return self.kept[-1] if self.kept else (0, reference.genesis(self.name))
+
+    def anchor(self, step, auth):
+        return f"{self.name} {step} {auth.hex()}\n".encode()
+
+    def head(self):
+        return self.anchor(*self.last())
+
+    def heads(self):
+        return b"".join(self.anchor(*head) for head in self.kept)
+
+    def slot(self):
+        return len(self.kept) % 2
+
+    def body(self, generation, count):
+        step, auth = Follower(self.name, self.kept[:count]).last()
+        root = padded(self.name) + be(step, 8) + auth + be(3 + count if count else 0, 8)
+        return page(b"TWSTORE1" + be(generation, 8) + be(4 + count, 8) + be(len(root), 2) + root)
+
+    def file(self):
+        """The whole file: both gates open, the body of the last head in its slot and that of the one before in the other."""
+        count = len(self.kept)
+        bodies = [self.body(count + 1, count), self.body(count, max(count - 1, 0))]
+        if count % 2:
+            bodies.reverse()
+        pages = [page(b"\x04" + be(step, 8) + auth + be(3 + k if k else 0, 8)) for k, (step, auth) in enumerate(self.kept)]
+        return b"".join([page(b"\x01")] * 2 + bodies + pages)
+
+    def moved(self, step, auth):
+        return Follower(self.name, [*self.kept, (step, auth)])

@@ -1,0 +1,100 @@
+"""Acceptance cases of malformed input, counted off: of a small file of each grammar every byte changed, taken out and doubled, and each cut; the words of
+each form with each word changed; and every byte of a small store that tells something.
+
+The same of proofs of each kind, parts, histories, map files, evidence and receipts stands in generated.py, archives.py, precedence.py, maps.py, forks.py,
+reaching.py and atlases.py. What is wanted is what answers.py says.
+"""
+
+from functools import partial
+
+import reference
+from answers import Trial, forms, wanted
+from fuzz import ran, told
+from steps import Wrong, case
+from stores import PAGE, Store, events_file
+
+LEAST = reference.proof_bytes(reference.Timeline("a", [[b""]]), 1, 0, 1)
+
+# What comes in the place of a byte: another bit, and these bytes.
+BITS, ENDS = (1, 128), (0, 255)
+OF_LINES = (255, *b"\n 0F")
+
+# What comes in the place of a word.
+OTHER_WORDS = ("", "0", "00", "1", "-1", " ", "A", "a" * 17, "\udcff", "event", "thread", "0" * 64)
+
+# A word of each kind; of the kinds that aren't here, a number where it has a range or is counted, else the name of a file.
+NUMBERS = {"POS", "K", "INDEX", "STEP", "TOP", "SINCE", "TIME", "NUMBER", "STEPS"}
+OF_KIND = {"NAME": "a", "PEER": "b", "HEX": "0" * 64, "DIR": "d", "..": "f", **dict.fromkeys(NUMBERS, "1")}
+
+# The bytes of each page of a store's file that are changed, from its first on; the others are zero.
+TOLD = {0: 2, 1: 2, 2: 140, 3: 140, 4: 24, 5: 240, 6: 24, 7: 300}
+
+
+def tried(room, trial):
+    """Runs the trial, which has to answer as the reference says."""
+    said, found = wanted(trial), ran(room.program, trial.words, trial.files, trial.store())
+    if not said.allows(found):
+        raise Wrong(told(trial, said, found))
+
+
+def changes(data, values=ENDS):
+    """The bytes with each one changed, taken out and doubled, and each front of them."""
+    for place, byte in enumerate(data):
+        for value in {*(byte ^ bit for bit in BITS), *values} - {byte}:
+            yield data[:place] + bytes([value]) + data[place + 1 :]
+        yield data[:place] + data[place + 1 :]
+        yield data[:place] + data[place : place + 1] + data[place:]
+        yield data[:place]
+    yield data + b"\0"
+
+
+def anchors_files(room):
+    """a file of two anchors: what it is held against, or its first bad line"""
+    auths = [reference.Timeline("a", [[b""]]).auths[1].hex(), "0F" * 32]
+    lines = f"a 1 {auths[0]}\nzz-9 1099511627775 {auths[1]}\n".encode()
+    for data in changes(lines, OF_LINES):
+        tried(room, Trial(["verify", "p", "k"], {"p": LEAST, "k": data}))
+
+
+def events_files(room):
+    """a file of three events: the next step of a service, or the first bad byte"""
+    service = Store("shop", [[b"x"]])
+    for data in changes(events_file([b"ab", b"", b"\xff"])):
+        tried(room, Trial(["append", "d", "e"], {"e": data}, service))
+
+
+def messages(room):
+    """a message of a peer: what comes of it, or the first bad byte"""
+    service = Store("shop", [[b"x"]])
+    for data in changes(reference.message_bytes(reference.Timeline("peer", [[b"y"]]), 1, 0)):
+        tried(room, Trial(["receive", "d", "m"], {"m": data}, service))
+
+
+def words_of_forms(room):
+    """the words of each form, each of them changed for others, left out and doubled: the first bad word, or what the words are then"""
+    for form in forms():
+        words = [OF_KIND.get(kind, "f" if kind.isupper() else kind) for kind in form]
+        for place in range(len(words)):
+            for new in ([], words[place : place + 1] * 2, *([word] for word in OTHER_WORDS)):
+                tried(room, Trial(words[:place] + new + words[place + 1 :], {"f": b""}))
+
+
+def stores(words, room):
+    """each byte of a small store that tells something: an answer or a page, and a store that is only read is left as it was"""
+    service = Store("shop", [[b"x"], [b"y"]])
+    data = service.file()
+    for page, count in TOLD.items():
+        for place in range(page * PAGE, page * PAGE + count):
+            changed = data[:place] + bytes([data[place] ^ 1]) + data[place + 1 :]
+            tried(room, Trial(words.split(), {"e": events_file([b"z"])}, service, changed))
+
+
+# The commands that are asked over each changed store.
+OVER_STORES = ("append d e", "thread d 0", "prove d event 2 0", "prove d link 1", "prove d absent 2 b 1")
+
+
+def cases():
+    for work in (anchors_files, events_files, messages, words_of_forms):
+        yield case(work, "tables")
+    for words in OVER_STORES:
+        yield {**case(partial(stores, words)), "name": f"tables: {words}, over each changed store"}
