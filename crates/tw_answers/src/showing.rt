@@ -10,6 +10,7 @@ use crate::refusal::{Refusal, refusal_of_tree};
 use std::alloc::Global;
 use tw_base::limits::LAST_STEP;
 use tw_base::{Ask, Bytes, Entry, Hasher, Key, Name, NoMemory, Root, TreeProof};
+use tw_cache::{Shelf, Shelved};
 use tw_chain::{AbsenceProof, Proof, ThreadProof, write_proof};
 use tw_disk::Pages;
 use tw_rbtree::{get, path};
@@ -63,9 +64,9 @@ fn show_entry<P: Pages, H: Hasher>(
     Ok(shown_as(entry, tree))
 }
 
-/// The entry of the key in the tree under the root, with its place.
+/// The entry of the key in the tree under the root, with its place, by two ways down.
 #[tactic(auto, unfolding(crate::specs::Finds::found_thread_of))]
-fn show_thread<P: Pages, H: Hasher>(
+fn find_thread<P: Pages, H: Hasher>(
     alloc: Global,
     pages: &mut P,
     root: &Root,
@@ -80,9 +81,24 @@ fn show_thread<P: Pages, H: Hasher>(
     }
 }
 
-/// The place of the key in the tree under the root, which has no entry of it.
+/// The entry of the key in the tree under the root, with its place; a page that is kept is read once.
+fn show_thread<P: Pages, H: Hasher>(
+    alloc: Global,
+    pages: &mut P,
+    root: &Root,
+    key: &Key,
+) -> Result<EntryShown, Refusal>
+    ensures reads { ReadsOr refusals P.view P.same pages.old pages.new (λ x. x) result (IfErr result (λ refusal. IsFault refusal ⊎ IsNoThread refusal))
+        (λ ps. found_thread_of H.dig ps root.now key.now) }
+{
+    let mut shelf = Shelf::new(alloc);
+    let mut near = Shelved::over(pages, &mut shelf);
+    find_thread::<Shelved<P>, H>(alloc, &mut near, root, key)
+}
+
+/// The place of the key in the tree under the root, which has no entry of it, by two ways down.
 #[tactic(auto, unfolding(crate::specs::Finds::found_absence_of))]
-fn show_absence<P: Pages, H: Hasher>(
+fn find_absence<P: Pages, H: Hasher>(
     alloc: Global,
     pages: &mut P,
     root: &Root,
@@ -97,6 +113,21 @@ fn show_absence<P: Pages, H: Hasher>(
         }),
         None => Ok(show::<P, H>(alloc, pages, root, &Ask::Absent(*key))?),
     }
+}
+
+/// The place of the key in the tree under the root, which has no entry of it; a page that is kept is read once.
+fn show_absence<P: Pages, H: Hasher>(
+    alloc: Global,
+    pages: &mut P,
+    root: &Root,
+    key: &Key,
+) -> Result<TreeProof, Refusal>
+    ensures reads { ReadsOr refusals P.view P.same pages.old pages.new (λ x. x) result (IfErr result (λ refusal. IsFault refusal ⊎ IsHasThread refusal))
+        (λ ps. found_absence_of H.dig ps root.now key.now) }
+{
+    let mut shelf = Shelf::new(alloc);
+    let mut near = Shelved::over(pages, &mut shelf);
+    find_absence::<Shelved<P>, H>(alloc, &mut near, root, key)
 }
 
 /// The bytes of the proof of an entry of the step's archive.

@@ -15,6 +15,8 @@ use Rattle.tw_disk.specs.declared.limits.TheConstants.{FIRST_PAGE}
 use Rattle.tw_disk.specs.declared.pages.Pages.{Ghosts}
 use Rattle.tw_cache.specs.declared.cached.Cached.{Cached}
 use Rattle.tw_cache.specs.Keeping.{IsPageOf, AreOf, AddsAtMost}
+use Rattle.tw_cache.specs.Shelves.{kept_on}
+use Rattle.tw_cache.specs.declared.shelf.Shelf.{Shelf}
 
 -- what holds of each element of a list holds of those of any list within it
 All-within : {X : Type 0} (P : X → Type 0) (more less : List X) → ((x : X) → Contains less x → Contains more x) → All P more → All P less
@@ -85,16 +87,15 @@ adds-put old new number page (Ok was) put kept =
     rw entries (λ k d lt. adds-put_entries old number page _ (All-contains_itself (put_entries nat_eq old number page) k d lt))
 adds-put old new number page (Err refused) put kept = rw kept (λ k d lt. inl (All-contains_itself old.entries k d lt))
 
--- the value over these pages that keeps these
-abbrev cached : {P : Type 0} {g : Ghosts P} (pages : P) (kept : LruCache ℕ (Box Page)) → AreOf (g.view pages).list kept.entries → kept.cap ≡ 64 → Cached P g
-cached pages kept right most = record { pages = pages; kept = kept; right = right; most = most }
+-- the value over these pages with this shelf
+abbrev cached : {P : Type 0} {g : Ghosts P} (pages : P) (shelf : Shelf) → AreOf (g.view pages).list (kept_on shelf) → Cached P g
+cached pages shelf right = record { pages = pages; shelf = shelf; right = right }
 
--- two values over the same pages, with the same kept ones, are one
-pub one-value : {P : Type 0} {g : Ghosts P} (pages : P) (a b : LruCache ℕ (Box Page)) (a_right : AreOf (g.view pages).list a.entries) (b_right : AreOf (g.view pages).list b.entries)
-    (a_most : a.cap ≡ 64) (b_most : b.cap ≡ 64) → a ≡ b → cached {g = g} pages a a_right a_most ≡ cached {g = g} pages b b_right b_most
-one-value {g = g} pages a b a_right b_right a_most b_most same = λ i. record {
+-- two values over the same pages, with the same shelf, are one
+pub one-value : {P : Type 0} {g : Ghosts P} (pages : P) (a b : Shelf) (a_right : AreOf (g.view pages).list (kept_on a)) (b_right : AreOf (g.view pages).list (kept_on b))
+    → a ≡ b → cached {g = g} pages a a_right ≡ cached {g = g} pages b b_right
+one-value {g = g} pages a b a_right b_right same = λ i. record {
   pages = pages;
-  kept = same i;
-  right = is_prop→PathP (λ j. AreOf (g.view pages).list (same j).entries) (λ j. Prim.hlevel props) a_right b_right i;
-  most = is_prop→PathP (λ j. (same j).cap ≡ 64) (λ j. Prim.hlevel props) a_most b_most i;
+  shelf = same i;
+  right = is_prop→PathP (λ j. AreOf (g.view pages).list (kept_on (same j))) (λ j. Prim.hlevel props) a_right b_right i;
 }

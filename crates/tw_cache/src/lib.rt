@@ -4,5 +4,9 @@
 mod cached;
 mod keep;
 mod paged;
+mod shelf;
+mod shelved;
 
-pub use cached::{Cached, Room};
+pub use cached::Cached;
+pub use shelf::Shelf;
+pub use shelved::Shelved;

@@ -7,7 +7,7 @@ ghost use Rattle.tw_disk.specs.declared.limits.TheConstants.{FIRST_PAGE, NUMBER_
 ghost use Rattle.tw_cache.specs.Cached.{Keeps, inner_of};
 
 use crate::Cached;
-use crate::keep::keep;
+use crate::shelved::Shelved;
 use tw_base::{Failed, NoMemory, Page};
 use tw_disk::Pages;
 
@@ -29,7 +29,6 @@ impl<P: Pages> Pages for Cached<P> {
         self.pages.used()
     }
 
-    // Where there is no memory to keep the page, it is answered all the same.
     fn read(&mut self, page: u64, into: &mut Page) -> Result<(), Failed>
         requires low { FIRST_PAGE ≤ page }
         requires below { page < (P.view (inner_of self.old)).used }
@@ -44,13 +43,7 @@ impl<P: Pages> Pages for Cached<P> {
         // A page that is kept is answered, and the inner pages aren't asked.
         ensures without_reading { Keeps self.old page → IsOk result × (inner_of self.new ≡ inner_of self.old) }
     {
-        if let Some(kept) = self.kept.get(&page) {
-            *into = **kept;
-            return Ok(());
-        }
-        self.pages.read(page, into)?;
-        keep(&mut self.kept, page, into);
-        Ok(())
+        Shelved::over(&mut self.pages, &mut self.shelf).read(page, into)
     }
 
     fn stage(&mut self, page: &Page) -> Result<u64, NoMemory> {

@@ -22,7 +22,7 @@ use Rattle.tw_service.specs.Machine.Call.{Receive}
 use Rattle.tw_service.specs.Machine.Reply.{OfReceipt}
 use Rattle.tw_service.specs.Serves.{HasSameDisk, Serves, disk_of, has_failed, head_of, name_of, record_of}
 use Rattle.tw_service.specs.Stands.{StandsFor, StandsForOneOf}
-use Rattle.tw_answers.specs.Limits.{append_refusal, link_refusal, order_refusal, own_refusal, thread_refusal, top_refusal}
+use Rattle.tw_answers.specs.Limits.{append_refusal, broken_refusal, link_refusal, order_refusal, own_refusal, thread_refusal, top_refusal}
 use Rattle.tw_service.proofs.Serving.{rest_for_good}
 use Rattle.tw_runs.specs.Published.{IsReplyTo}
 use Rattle.tw_runs.specs.Runs.{IsAnswered, StaysAs, IsOpenedAs, replied}
@@ -37,6 +37,10 @@ module _ {X : Type 0} (answer : Result X Refusal) (Else : Type 0) where
   unfolding append_refusal
   append_reopens true steps clock events time says failed = says
   append_reopens false steps clock events time says failed = absurd cc
+
+  pub broken_reopens : (broken : Bool) → Says (broken_refusal broken) → IsTrue broken → answer ≡ Err Reopen
+  broken_reopens true says failed = says
+  broken_reopens false says failed = absurd cc
 
   pub thread_reopens : (broken : Bool) (last since : ℕ) → Says (thread_refusal broken last since) → IsTrue broken → answer ≡ Err Reopen
   unfolding thread_refusal

@@ -1,5 +1,5 @@
 -- What a service publishes is of its history.
-use Rattle.std.proofs.Common.{◌≡◌, ◌⊎◌, ℕ, suc, zero, ◌-◌, ◌<◌, ◌≤◌, List, [], ◌∷◌, length, refl, ap, sym, ◌∙◌, subst, arith, inl, inr, ⊎_elim, Bool, true, false}
+use Rattle.std.proofs.Common.{◌≡◌, ℕ, suc, zero, ◌-◌, ◌<◌, ◌≤◌, List, [], ◌∷◌, length, refl, ap, sym, ◌∙◌, subst, arith, inl, inr, ⊎_elim, Bool, true, false}
 use Rattle.std.specs.Option.{option_map_or}
 use Rattle.std.specs.Prelude.{◌&&◌, if◌then◌else◌, nat_le, MatchOption, Option, Some, None}
 use Rattle.std.proofs.lemmas.Bool.{leb-true}
@@ -12,6 +12,7 @@ use Rattle.tw_base.specs.history.Auth.{auth}
 use Rattle.tw_base.specs.history.Tree.{tree}
 use Rattle.tw_treeproof.specs.Making.{proof_of}
 use Rattle.tw_base.specs.history.History.{History, Step, plus, step_at, thread_of}
+use Rattle.tw_base.specs.history.HistoryCodec.{history_bytes}
 use Rattle.tw_base.specs.kinds.Lists.{In}
 use Rattle.tw_base.proofs.lemmas.format.CodecLaws.{unambiguous}
 use Rattle.tw_base.proofs.lemmas.history.Plus.{auth-plus}
@@ -35,7 +36,8 @@ use Rattle.tw_tmap.specs.Checking.{low_ask, low_part}
 use Rattle.tw_tmap.specs.MapFiles.{high_codec, low_codec}
 use Rattle.tw_tmap.proofs.MapCodec.{high-lawful, low-lawful}
 use Rattle.tw_service.specs.Machine.{Call, IsStepOf, MakesAbsence, MakesLink, MakesThread, NextOf, Reply, append_table, last_thread}
-use Rattle.tw_service.specs.Machine.Call.{Append, Receive, TellThread, ProveEvent, ProveThread, ProveAbsent, ProveLink, ProveLow, ProveHigh, CountSteps, TellHead, TellName}
+use Rattle.tw_service.specs.Exporting.{export_refusal}
+use Rattle.tw_service.specs.Machine.Call.{Append, Receive, TellThread, ProveEvent, ProveThread, ProveAbsent, ProveLink, ProveLow, ProveHigh, Export, CountSteps, TellHead, TellName}
 use Rattle.tw_service.specs.Machine.Reply.{OfThread, OfReceipt, OfPath, OfProof, OfFile, Refused}
 use Rattle.tw_service.proofs.ReceivingLaws.{own-receipt}
 use Rattle.tw_runs.specs.Published.{IsReplyTo, IsThreadOf, Publishes, PublishesBy, high_threads, low_threads, own_threads, thread_before}
@@ -245,6 +247,8 @@ module _ (dig : List ℕ → List ℕ) where
   told_own h (ProveHigh step peer top) reply next kind is t told =
       subst (λ (n : History). IsThreadOf dig n t) (sym is.0)
       (by_file h (ProveHigh step peer top) (top_refusal false (length h.steps) top) (λ bytes. MakesHigh dig h step peer top bytes) reply t is.1 (λ refusal shown. shown) (λ none bytes makes shown. high_own h step peer top bytes none makes t shown) told)
+  told_own h Export reply next kind is t told =
+      absurd (by_path (export_refusal false h) (reply ≡ OfFile (history_bytes h)) reply t (λ made shown. subst (λ (r : Reply). Publishes r t) made shown) is.1 told)
   told_own h CountSteps reply next kind is t told = absurd (subst (λ (r : Reply). Publishes r t) is.1 told)
   told_own h TellHead reply next kind is t told =
       let one : t ≡ last_thread dig h = subst (λ (r : Reply). Publishes r t) is.1 told in
@@ -265,6 +269,7 @@ module _ (dig : List ℕ → List ℕ) where
   next_has (ProveLink step top) h next is t own = subst (λ (n : History). IsThreadOf dig n t) (sym is) own
   next_has (ProveLow step peer top) h next is t own = subst (λ (n : History). IsThreadOf dig n t) (sym is) own
   next_has (ProveHigh step peer top) h next is t own = subst (λ (n : History). IsThreadOf dig n t) (sym is) own
+  next_has Export h next is t own = subst (λ (n : History). IsThreadOf dig n t) (sym is) own
   next_has CountSteps h next is t own = subst (λ (n : History). IsThreadOf dig n t) (sym is) own
   next_has TellHead h next is t own = subst (λ (n : History). IsThreadOf dig n t) (sym is) own
   next_has TellName h next is t own = subst (λ (n : History). IsThreadOf dig n t) (sym is) own
@@ -281,6 +286,7 @@ module _ (dig : List ℕ → List ℕ) where
   next_name (ProveLink step top) h next is = ap (λ (n : History). n.name) is
   next_name (ProveLow step peer top) h next is = ap (λ (n : History). n.name) is
   next_name (ProveHigh step peer top) h next is = ap (λ (n : History). n.name) is
+  next_name Export h next is = ap (λ (n : History). n.name) is
   next_name CountSteps h next is = ap (λ (n : History). n.name) is
   next_name TellHead h next is = ap (λ (n : History). n.name) is
   next_name TellName h next is = ap (λ (n : History). n.name) is

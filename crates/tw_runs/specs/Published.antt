@@ -10,7 +10,7 @@ use Rattle.tw_chain.specs.declared.proof.Proof.{Proof}
 use Rattle.tw_chain.specs.declared.proof.Proof.TheVariants.{Exists, Precedes, Archived, Absent, Linked}
 use Rattle.tw_chain.specs.Proofs.{proof_layout}
 use Rattle.tw_service.specs.Machine.{Call, Reply}
-use Rattle.tw_service.specs.Machine.Call.{Append, Receive, TellThread, ProveEvent, ProveThread, ProveAbsent, ProveLink, ProveLow, ProveHigh, CountSteps, TellHead, TellName}
+use Rattle.tw_service.specs.Machine.Call.{Append, Receive, TellThread, ProveEvent, ProveThread, ProveAbsent, ProveLink, ProveLow, ProveHigh, Export, CountSteps, TellHead, TellName}
 use Rattle.tw_service.specs.Machine.Reply.{OfThread, OfReceipt, OfPath, OfProof, OfFile, OfNumber, OfName, Refused}
 use Rattle.tw_skipproof.specs.declared.existence.Part.{Part}
 use Rattle.tw_tmap.specs.declared.map_file.HighFile.{HighFile}
@@ -48,7 +48,7 @@ Publishes (OfNumber number) t = ⊥
 Publishes (OfName name) t = ⊥
 Publishes (Refused refusal) t = ⊥
 
--- so does the call by its reply; a map file is of the kind that was asked for
+-- so does the call by its reply; a map file is of the kind that was asked for, and the file of a history has no authenticator of its own
 abbrev pub PublishesBy : Call → Reply → Thread → Type 0
 PublishesBy (ProveLow step peer top) (OfFile bytes) t = (f : LowFile) × Spells low_layout bytes f × In t (low_threads f)
 PublishesBy (ProveHigh step peer top) (OfFile bytes) t = (f : HighFile) × Spells high_layout bytes f × In t (high_threads f)
@@ -65,6 +65,7 @@ IsReplyTo (ProveAbsent step key top) (OfProof bytes) = Unit {0}
 IsReplyTo (ProveLink step top) (OfProof bytes) = Unit {0}
 IsReplyTo (ProveLow step peer top) (OfFile bytes) = Unit {0}
 IsReplyTo (ProveHigh step peer top) (OfFile bytes) = Unit {0}
+IsReplyTo Export (OfFile bytes) = Unit {0}
 IsReplyTo CountSteps (OfNumber number) = Unit {0}
 IsReplyTo TellHead (OfThread thread) = Unit {0}
 IsReplyTo TellName (OfName name) = Unit {0}

@@ -9,6 +9,6 @@ mod telling;
 
 pub use calls::{append, append_at, close, init, open, receive, receive_at};
 pub use laws::run_laws;
-pub use mapping::{prove_high, prove_low};
+pub use mapping::{export, prove_high, prove_low};
 pub use proving::{prove_absent, prove_event, prove_link, prove_thread};
 pub use telling::{head, name, steps, thread_out};

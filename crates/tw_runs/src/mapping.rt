@@ -1,8 +1,8 @@
-// The calls of a service that give map files, as what comes in a run.
+// The calls of a service that give files, those of maps and the history's own, as what comes in a run.
 
 ghost use Rattle.std.specs.Prelude.{◌<◌, ◌≤◌};
 ghost use Rattle.tw_base.specs.declared.kinds.limits.TheConstants.{LAST_STEP};
-ghost use Rattle.tw_service.specs.Machine.Call.{ProveHigh, ProveLow};
+ghost use Rattle.tw_service.specs.Machine.Call.{Export, ProveHigh, ProveLow};
 ghost use Rattle.tw_service.specs.Machine.Reply.{OfFile};
 ghost use Rattle.tw_runs.specs.Runs.{IsAnswered, replied};
 
@@ -36,4 +36,12 @@ pub fn prove_high<D: Disk, H: Hasher>(
     ensures { IsAnswered H.dig D.view (ProveHigh step peer top) (replied (λ bytes. OfFile bytes) result) service.old service.new }
 {
     service.prove_high(step, peer, top)
+}
+
+/// Gives the file of the whole history, by `Service::export`, with its answers.
+pub fn export<D: Disk, H: Hasher>(service: &mut Service<D, H>) -> Result<Bytes, Refusal>
+    // Asking for the history's file is a call of a run.
+    ensures { IsAnswered H.dig D.view Export (replied (λ bytes. OfFile bytes) result) service.old service.new }
+{
+    service.export()
 }

@@ -1,14 +1,13 @@
 -- The map files that are found in pages that keep a history are the history's.
-use Rattle.std.proofs.Common.{◌≡◌, ◌⊎◌, ℕ, ◌+◌, ◌-◌, ◌<◌, ◌≤◌, List, [], length, refl, ap, sym, ◌∙◌, subst, arith, inl, inr, Bool, true, false}
-use Rattle.std.specs.Prelude.{Option, Some, None, Result, Ok, MatchOption, nat_le, nat_lt, if◌then◌else◌}
-use Rattle.std.proofs.lemmas.Bool.{cases_lt, le-leb, lt-leb, lt-ltb, le-ltb}
+use Rattle.std.proofs.Common.{◌≡◌, ℕ, ◌-◌, ◌<◌, ◌≤◌, List, length, refl, ap, sym, ◌∙◌, subst, arith, inl, inr, Bool, false}
+use Rattle.std.specs.Prelude.{Option, Some, None, Result, Ok, MatchOption, nat_lt}
+use Rattle.std.proofs.lemmas.Bool.{cases_lt, lt-ltb, le-ltb}
 use Rattle.tw_base.specs.declared.history.root.Root.{Root}
 use Rattle.tw_base.specs.declared.history.thread.Entry.{Entry}
 use Rattle.tw_base.specs.declared.history.tree_proof.Ask.{Ask}
 use Rattle.tw_base.specs.declared.history.tree_proof.TreeProof.{TreeProof}
 use Rattle.tw_base.specs.declared.kinds.limits.TheConstants.{LAST_STEP}
 use Rattle.tw_base.specs.format.Codecs.{behind, name_codec, nothing, number_codec, optional, pair, present, seen}
-use Rattle.tw_base.specs.format.Formats.{Spells}
 use Rattle.tw_base.specs.history.EntryCodec.{entry_codec}
 use Rattle.tw_base.specs.history.History.{History}
 use Rattle.tw_base.specs.history.Sound.{IsSound}
@@ -19,7 +18,6 @@ use Rattle.tw_base.proofs.lemmas.history.EntryCodecLaws.{entry-fits}
 use Rattle.tw_base.proofs.lemmas.history.Trees.{IsArchived, entry_at-parts, received-sound, tree-archived, tree-rises}
 use Rattle.tw_base.proofs.lemmas.kinds.DigestBytes.{IsDigest}
 use Rattle.tw_base.proofs.lemmas.kinds.ListLemmas.{Each-map}
-use Rattle.tw_disk.specs.Found.{Found, ◌>>=◌}
 use Rattle.tw_disk.specs.Found.Found.{Is}
 use Rattle.tw_disk.specs.Image.{Image}
 use Rattle.tw_disk.proofs.FoundLaws.{is_on}
@@ -36,17 +34,14 @@ use Rattle.tw_skipproof.specs.HistoryProofs.{IsPartOf}
 use Rattle.tw_skipproof.proofs.PartOf.{part-fits-made, part_in_range-made, part_shaped-made}
 use Rattle.tw_skiplist.specs.declared.head.Head.{Head}
 use Rattle.tw_skiplist.specs.declared.info.StepInfo.{StepInfo}
-use Rattle.tw_skiplist.specs.declared.info.StepProof.{StepProof}
-use Rattle.tw_skiplist.specs.Infos.{IsInfoOf}
 use Rattle.tw_skiplist.specs.Keeping.{Keeps, archive_at}
-use Rattle.tw_skiplist.specs.Readings.{found_proof, found_step}
 use Rattle.tw_skiplist.proofs.KeptReadings.{proof_found, step_found}
 use Rattle.tw_tmap.specs.declared.map_file.HighFile.{HighFile}
 use Rattle.tw_tmap.specs.declared.map_file.LowFile.{LowFile}
 use Rattle.tw_tmap.specs.declared.map_file.LowPart.{LowPart}
-use Rattle.tw_tmap.specs.Checking.{high_part, low_part as part_before}
+use Rattle.tw_tmap.specs.Checking.{first_of, high_part, last_of, low_part as part_before}
 use Rattle.tw_tmap.specs.MapFiles.{high_bytes, high_codec, low_bytes, low_codec, low_part_codec}
-use Rattle.tw_tmap.specs.OwnFiles.{IsOwnHigh, IsOwnLow}
+use Rattle.tw_tmap.specs.OwnFiles.{IsOwnLow}
 use Rattle.tw_tmap.proofs.MapCodec.{high-lawful, low-lawful}
 use Rattle.tw_archive.specs.Archives.{KeepsTrees, named_at}
 use Rattle.tw_archive.proofs.Keeping.{stands-at}
@@ -63,7 +58,7 @@ use Rattle.tw_service.specs.Machine.Call.{ProveHigh, ProveLow}
 use Rattle.tw_service.specs.Machine.Reply.{OfFile, Refused}
 use Rattle.tw_service.specs.Stands.{step_pages}
 use Rattle.tw_service.proofs.MapAnswers.{before-none, before-told, high-told}
-use Rattle.tw_service.specs.Mapping.{MakesHigh, MakesLow, first_of, high_file, high_with, last_of, low_before, low_file, low_part, low_with}
+use Rattle.tw_service.specs.Mapping.{MakesHigh, MakesLow, high_file, high_with, low_before, low_file, low_part, low_with}
 
 part-parts : (p : Part) → (part_codec 0).Fits p → (path_codec p.top p.step).Fits p.path.links × (opening_codec 0 p.step).Fits p.opening
 unfolding part_codec seen pair

@@ -17,4 +17,9 @@ pub mod Serving
 pub mod Standing
 pub mod KeptAnswers
 pub mod KeptMaps
+pub mod ShortFiles
+pub mod PageNumberings
+pub mod KnownPages
+pub mod KeptExports
+pub mod ExportAnswers
 pub mod MapAnswers

@@ -1,10 +1,10 @@
 -- A fault of what is read for a map file, handed on.
 use Rattle.std.proofs.Common.{◌≡◌, ℕ, ◌-◌, ◌<◌, ◌≤◌, List, Bool, ap, sym, ◌∙◌, subst}
-use Rattle.std.specs.Prelude.{Option, Some, None, Result, Ok, Err, IfErr, IsErrAnd, nat_le, if◌then◌else◌}
+use Rattle.std.specs.Prelude.{Option, Some, None, Result, Ok, Err, IfErr, IsErrAnd, if◌then◌else◌}
 use Rattle.std.proofs.lemmas.Bool.{le-leb, lt-leb}
 use Rattle.tw_base.specs.declared.history.tree_proof.Ask.{Ask}
 use Rattle.tw_disk.specs.Answers.{AnswersAs, AnswersOr, FaultSort, RefusesAs, SaysOf, has_failed, is_of_disk}
-use Rattle.tw_disk.specs.Answers.FaultSort.{OfPage, OfDisk, OfMemory, OfCall}
+use Rattle.tw_disk.specs.Answers.FaultSort.{OfPage}
 use Rattle.tw_disk.specs.Found.{Found, ◌>>=◌}
 use Rattle.tw_disk.specs.Found.Found.{Is}
 use Rattle.tw_disk.specs.Image.{Image}
@@ -19,7 +19,8 @@ use Rattle.tw_answers.specs.declared.refusal.Refusal.{Refusal}
 use Rattle.tw_answers.specs.declared.refusal.Refusal.TheVariants.{BadPage, DiskFault, NoMemory}
 use Rattle.tw_answers.specs.Finds.{tree_shown}
 use Rattle.tw_answers.specs.Refusals.{IsFault, refusals}
-use Rattle.tw_service.specs.Mapping.{first_of, high_file, high_with, last_of, low_before, low_part}
+use Rattle.tw_tmap.specs.Checking.{first_of, last_of}
+use Rattle.tw_service.specs.Mapping.{high_file, high_with, low_before, low_part}
 
 module _ {X Y T : Type 0} (next : X → Found Y) (value : T → Y) where
   stays : (sort : FaultSort) (found : Found X) → SaysOf refusals sort found → SaysOf refusals sort (found >>= next)

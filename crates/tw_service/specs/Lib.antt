@@ -3,6 +3,7 @@ pub mod Stands
 pub mod Receiving
 pub mod Finds
 pub mod Mapping
+pub mod Exporting
 pub mod Archiving
 pub mod Machine
 pub mod NextRecords

@@ -5,6 +5,7 @@ use Rattle.tw_base.specs.declared.history.thread.Key.{Key}
 use Rattle.tw_base.specs.declared.history.thread.Thread.{Thread}
 use Rattle.tw_base.specs.history.Auth.{auth}
 use Rattle.tw_base.specs.history.Entries.{key_of}
+use Rattle.tw_base.specs.history.HistoryCodec.{history_bytes}
 use Rattle.tw_base.specs.history.History.{History, Step, plus}
 use Rattle.tw_base.specs.history.Sound.{IsSound}
 use Rattle.tw_base.specs.history.Tree.{entries, tree}
@@ -27,6 +28,7 @@ use Rattle.tw_service.specs.declared.receiving.Reception.TheVariants.{Refuse, Kn
 use Rattle.tw_answers.specs.declared.refusal.Refusal.{Refusal}
 use Rattle.tw_answers.specs.declared.refusal.Refusal.TheVariants.{BadPage, DiskFault, Reopen, NoMemory}
 use Rattle.tw_answers.specs.Limits.{absence_refusal, append_refusal, link_refusal, order_refusal, own_refusal, proof_refusal, thread_proof_refusal, thread_refusal, top_refusal}
+use Rattle.tw_service.specs.Exporting.{export_refusal}
 use Rattle.tw_service.specs.Mapping.{MakesHigh, MakesLow}
 use Rattle.tw_service.specs.Receiving.{reception, refuse_or}
 use Rattle.tw_service.specs.Stands.{greatest_time}
@@ -41,6 +43,7 @@ pub data Call : Type 0 where
   ProveLink : (step top : ℕ) → Call
   ProveLow : (step : ℕ) (peer : List ℕ) (top : ℕ) → Call
   ProveHigh : (step : ℕ) (peer : List ℕ) (top : ℕ) → Call
+  Export : Call
   CountSteps : Call
   TellHead : Call
   TellName : Call
@@ -93,6 +96,7 @@ module _ (dig : List ℕ → List ℕ) where
   NextOf (ProveLink step top) h next = next ≡ h
   NextOf (ProveLow step peer top) h next = next ≡ h
   NextOf (ProveHigh step peer top) h next = next ≡ h
+  NextOf Export h next = next ≡ h
   NextOf CountSteps h next = next ≡ h
   NextOf TellHead h next = next ≡ h
   NextOf TellName h next = next ≡ h
@@ -150,6 +154,10 @@ module _ (dig : List ℕ → List ℕ) where
   IsStepOf h (ProveHigh step peer top) reply next =
       (next ≡ h) × MatchOption (top_refusal false (length h.steps) top)
       ((bytes : List ℕ) × MakesHigh dig h step peer top bytes × (reply ≡ OfFile bytes))
+      (λ refusal. reply ≡ Refused refusal)
+  IsStepOf h Export reply next =
+      (next ≡ h) × MatchOption (export_refusal false h)
+      (reply ≡ OfFile (history_bytes h))
       (λ refusal. reply ≡ Refused refusal)
   IsStepOf h CountSteps reply next = (next ≡ h) × (reply ≡ OfNumber (length h.steps))
   IsStepOf h TellHead reply next = (next ≡ h) × (reply ≡ OfThread (last_thread dig h))

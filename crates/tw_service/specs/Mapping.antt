@@ -1,7 +1,5 @@
 -- The map files of a service: what is found of them in its pages, and which ones a history has.
-use Rattle.std.specs.Prelude.{ℕ, ◌-◌, ◌^◌, List, nat_le, Bool, Option, Some, None, Result, Ok, if◌then◌else◌}
-use Rattle.tw_base.specs.declared.history.tree_proof.Ask.{Ask}
-use Rattle.tw_base.specs.declared.history.tree_proof.Ask.TheVariants.{Above, Below}
+use Rattle.std.specs.Prelude.{ℕ, ◌-◌, List, nat_le, Bool, Option, Some, None, Result, Ok, if◌then◌else◌}
 use Rattle.tw_base.specs.declared.history.tree_proof.TreeProof.{TreeProof}
 use Rattle.tw_base.specs.format.Formats.{Spells}
 use Rattle.tw_base.specs.history.History.{History}
@@ -15,18 +13,12 @@ use Rattle.tw_skiplist.specs.Readings.{found_proof, found_step}
 use Rattle.tw_tmap.specs.declared.map_file.HighFile.{HighFile}
 use Rattle.tw_tmap.specs.declared.map_file.LowFile.{LowFile}
 use Rattle.tw_tmap.specs.declared.map_file.LowPart.{LowPart}
+use Rattle.tw_tmap.specs.Checking.{first_of, last_of}
 use Rattle.tw_tmap.specs.MapFiles.{high_bytes, high_layout, low_bytes, low_layout}
 use Rattle.tw_tmap.specs.OwnFiles.{IsOwnHigh, IsOwnLow}
 use Rattle.tw_answers.specs.Finds.{tree_shown, unless}
 use Rattle.tw_answers.specs.Limits.{order_refusal, top_refusal}
 use Rattle.tw_answers.specs.declared.refusal.Refusal.{Refusal}
-
--- the peer's last thread, and its first one of this step or of a later one, as the files ask for them
-abbrev pub last_of : (peer : List ℕ) → Ask
-last_of peer = Below (record { from = peer; step = 2 ^ 40 })
-
-abbrev pub first_of : (peer : List ℕ) (step : ℕ) → Ask
-first_of peer step = Above (record { from = peer; step = step - 1 })
 
 -- what a low file shows of the step before
 abbrev pub low_part : StepProof → TreeProof → LowPart

@@ -2,8 +2,10 @@
 
 ghost use Rattle.std.specs.Prelude.{◌≡◌, ◌⊎◌, ℕ, ◌+◌, ◌<◌, ◌≤◌, ◌^◌, IfErr, IfOk, Some, false};
 ghost use Rattle.tw_base.specs.history.Asking.{with_entry};
-ghost use Rattle.tw_base.specs.history.Limits.{IsStep, IsTimeWithinLimits};
+ghost use Rattle.tw_base.specs.history.Limits.{IsStep, IsThread, IsTimeWithinLimits};
 ghost use Rattle.tw_base.specs.history.Tree.{Tree, entries};
+ghost use Rattle.tw_cache.specs.Keeping.{AreOf};
+ghost use Rattle.tw_cache.specs.Shelves.{kept_on};
 ghost use Rattle.tw_disk.specs.Answers.{AddsBy, AnswersAs, FaultsRise, has_failed};
 ghost use Rattle.tw_disk.specs.Image.{Image};
 ghost use Rattle.tw_disk.specs.Pages.{OnlyAdds};
@@ -16,12 +18,13 @@ use crate::receiving::receipt_by;
 use crate::recorded::{Recorded, next_root};
 use std::alloc::Global;
 use tw_answers::{Refusal, RootRecord, refusal_of_tree, root_record};
+use tw_archive::insert_near;
 use tw_base::limits::LAST_STEP;
 use tw_base::{Entry, Hasher, Root, Thread};
+use tw_cache::Shelf;
 use tw_disk::{Disk, Pages};
 use tw_msg::Receipt;
 use tw_pages::Store;
-use tw_rbtree::insert;
 use tw_skiplist::{Head, append_thread};
 
 /// A step that was staged: its head, and its archive.
@@ -42,17 +45,19 @@ fn next_entry(root: &RootRecord, thread: &Thread) -> Entry
     }
 }
 
-/// Stages the pages of the archive's tree with the thread, as the next step receives it, and answers its
-/// root.
+/// Stages the pages of the archive's tree with the thread, as the next step receives it, and answers its root. Those of its pages that
+/// are on the shelf aren't read.
 fn stage_tree<P: Pages, H: Hasher>(
     alloc: Global,
     pages: &mut P,
+    shelf: &mut Shelf,
     root: &RootRecord,
     thread: &Thread,
 ) -> Result<Root, Refusal>
     requires used { (P.view pages.old).used < 2 ^ 47 }
     requires short { root.now.head.step < LAST_STEP }
     requires range { IsStep thread.now.step }
+    requires shelf { AreOf (P.view pages.old).list (kept_on shelf.old) }
     ensures adds { AddsBy refusals P.view P.same pages.old pages.new result (IfErr result IsFault) (AnswersAs refusals (λ (_ : Root). tt))
         (λ ps. found_room H.dig ps root.now.archive thread.now) }
     ensures inserted { (ps : Image) → (P.view pages.old).list ≡ Some ps → (named : Named) → named.below ≤ (P.view pages.old).used →
@@ -63,17 +68,17 @@ fn stage_tree<P: Pages, H: Hasher>(
     ensures few { (P.view pages.new).used ≤ (P.view pages.old).used + 23 }
 {
     let entry = next_entry(root, thread);
-    match insert::<P, H>(alloc, pages, &root.archive, entry) {
+    match insert_near::<P, H>(alloc, pages, shelf, &root.archive, entry) {
         Ok(new) => Ok(new),
         Err(fault) => Err(refusal_of_tree(&root.archive, fault)),
     }
 }
 
-/// Stages the pages of the step that archives the thread, at this time or none: those of its archive's
-/// tree, and then its own.
+/// Stages the pages of the step that archives the thread, at this time or none: those of its archive's tree, and then its own.
 pub(crate) fn stage_thread<P: Pages, H: Hasher>(
     alloc: Global,
     pages: &mut P,
+    shelf: &mut Shelf,
     root: &RootRecord,
     thread: &Thread,
     time: Option<u64>,
@@ -82,6 +87,7 @@ pub(crate) fn stage_thread<P: Pages, H: Hasher>(
     requires short { root.now.head.step < LAST_STEP }
     requires range { IsStep thread.now.step }
     requires time { IsTimeWithinLimits time }
+    requires shelf { AreOf (P.view pages.old).list (kept_on shelf.old) }
     ensures staged { (ps : Image) → (P.view pages.old).list ≡ Some ps → IfOk result (λ new. IsStagedBehind H.dig ps root.now thread.now time (P.view pages.new).list new.head new.archive) }
     ensures page { (ps : Image) → (P.view pages.old).list ≡ Some ps → IfErr result (ArchivesAs H.dig ps root.now thread.now time) }
     ensures own { IfErr result IsFault }
@@ -91,7 +97,7 @@ pub(crate) fn stage_thread<P: Pages, H: Hasher>(
     ensures kept { OnlyAdds P.view P.same pages.old pages.new (has_failed refusals result ≡ false) }
     ensures faults { FaultsRise refusals P.view P.same pages.old pages.new result }
 {
-    let archive = stage_tree::<P, H>(alloc, pages, root, thread)?;
+    let archive = stage_tree::<P, H>(alloc, pages, shelf, root, thread)?;
     let head = append_thread::<P, H>(alloc, pages, &root.head, thread, &archive, time)?;
     Ok(Staged { head, archive })
 }
@@ -99,7 +105,6 @@ pub(crate) fn stage_thread<P: Pages, H: Hasher>(
 impl<D: Disk> Recorded<D> {
     ghost use Rattle.std.specs.Prelude.{OnErr, None, Err};
     ghost use Rattle.tw_base.specs.history.History.{History};
-    ghost use Rattle.tw_base.specs.history.Limits.{IsThread};
     ghost use Rattle.tw_base.specs.history.Sound.{IsSound};
     ghost use Rattle.tw_base.specs.kinds.Faults.{Rose};
     ghost use Rattle.tw_archive.specs.Archives.{MayArchive};
@@ -115,12 +120,13 @@ impl<D: Disk> Recorded<D> {
     ghost use Rattle.tw_answers.specs.Refusals.{IsBadPage};
     ghost use Rattle.tw_service.specs.Stands.{StandsForOneOf};
 
-    /// Adds the step that archives the thread, at this time or none, to the history that the store keeps,
-    /// and commits it with the next record; answers the step's receipt. All memory is taken before the
-    /// first write. Where it refuses, nothing is staged, and the record is as before.
+    /// Adds the step that archives the thread, at this time or none, to the history that the store keeps, and commits it with the next
+    /// record; answers the step's receipt. All memory is taken before the first write. Where it refuses, nothing is staged, and the
+    /// record is as before.
     pub(crate) fn archive<H: Hasher>(
         &mut self,
         alloc: Global,
+        shelf: &mut Shelf,
         thread: &Thread,
         time: Option<u64>,
     ) -> Result<Receipt, Refusal>
@@ -128,6 +134,7 @@ impl<D: Disk> Recorded<D> {
         requires thread { IsThread thread.now }
         requires time { IsTimeWithinLimits time }
         requires whole { is_broken self.old.store ≡ false }
+        requires shelf { AreOf (list_of D.view self.old.store) (kept_on shelf.old) }
         ensures root { IfOk result (λ receipt. (self.new.root ≡ next_record self.old.root self.new.root.head self.new.root.archive (self.old.root.threads + 1) time)
             × (self.new.root.head.step ≡ self.old.root.head.step + 1) × (receipt ≡ receipt_at self.old.root.name self.new.root.head thread.now)) }
         ensures kept { OnErr result (self.new.root ≡ self.old.root) }
@@ -145,7 +152,14 @@ impl<D: Disk> Recorded<D> {
         ensures fault { result ≡ Err Refusal.DiskFault → Rose ((D.view (disk_of self.old.store)).faults) ((D.view (disk_of self.new.store)).faults) }
         ensures later { (D.view (disk_of self.old.store)).faults ≤ (D.view (disk_of self.new.store)).faults }
     {
-        let added = stage_thread::<Store<D>, H>(alloc, &mut self.store, &self.root, thread, time);
+        let added = stage_thread::<Store<D>, H>(
+            alloc,
+            &mut self.store,
+            shelf,
+            &self.root,
+            thread,
+            time,
+        );
         match added {
             Err(refusal) => {
                 self.store.discard();

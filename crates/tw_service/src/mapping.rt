@@ -1,49 +1,19 @@
 // The map files of a service.
 
 ghost use Rattle.std.specs.Prelude.{◌≡◌, ◌<◌, ◌≤◌, IfErr, IfOk};
-ghost use Rattle.tw_base.specs.kinds.Names.{IsName};
 ghost use Rattle.tw_disk.specs.Answers.{ReadsOr, ReadsWhere};
-ghost use Rattle.tw_tmap.specs.MapFiles.{high_bytes, low_bytes};
 ghost use Rattle.tw_answers.specs.Refusals.{IsFault, refusals};
-ghost use Rattle.tw_service.specs.Mapping.{first_of, high_file, high_with, last_of, low_before, low_file, low_part, low_with};
+ghost use Rattle.tw_service.specs.Mapping.{high_file, low_before, low_file, low_part};
 
-use crate::service::Service;
+use crate::service::{Service, name_law};
 use std::alloc::Global;
 use tw_answers::{Refusal, is_disk_fault, order_refusal, show, top_refusal};
 use tw_base::limits::LAST_STEP;
-use tw_base::{Ask, Bytes, Hasher, Key, Name, NoMemory, TreeProof};
+use tw_base::{Bytes, Hasher, Name, TreeProof};
 use tw_disk::{Disk, Pages};
 use tw_pages::Store;
-use tw_skiplist::{Head, StepInfo, StepProof, prove, step as read_step};
-use tw_tmap::{HighFile, LowFile, LowPart, write_high, write_low};
-
-/// Tells a proof that a name is one.
-fn see_name(name: &Name)
-    ensures { IsName name.now }
-{
-    let _bytes = name.as_bytes();
-}
-
-/// The question for the peer's last thread: no thread has a step of 2^40.
-fn ask_last(peer: &Name) -> Ask
-    ensures { result ≡ last_of peer.now }
-{
-    Ask::Below(Key {
-        from: *peer,
-        step: LAST_STEP + 1,
-    })
-}
-
-/// The question for the peer's first thread of this step or of a later one.
-fn ask_first(peer: &Name, step: u64) -> Ask
-    requires { 0 < step }
-    ensures { result ≡ first_of peer.now step }
-{
-    Ask::Above(Key {
-        from: *peer,
-        step: step - 1,
-    })
-}
+use tw_skiplist::{Head, StepProof, prove, step as read_step};
+use tw_tmap::{HighFile, LowFile, LowPart, ask_first, ask_last, write_high, write_low};
 
 /// What a low file shows of the step before.
 fn part_of(proof: StepProof, tree: TreeProof) -> LowPart
@@ -81,29 +51,6 @@ fn show_before<P: Pages, H: Hasher>(
     Ok(Some(part_of(proof, tree)))
 }
 
-/// The bytes of the low file with this part.
-fn write_part(
-    alloc: Global,
-    name: &Name,
-    step: u64,
-    peer: &Name,
-    top: u64,
-    shown: Option<LowPart>,
-) -> Result<Bytes, NoMemory>
-    ensures { IfOk result (λ bytes. bytes ≡ low_bytes (low_with name.now step peer.now top shown)) }
-{
-    let file = LowFile {
-        service: *name,
-        step,
-        peer: *peer,
-        top,
-        shown,
-    };
-    let bytes = write_low(alloc, &file);
-    drop(file);
-    bytes
-}
-
 /// The bytes of the low file of the step and this peer, under that top.
 #[tactic(auto, unfolding(crate::specs::Mapping::low_file))]
 pub(crate) fn make_low<P: Pages, H: Hasher>(
@@ -122,32 +69,16 @@ pub(crate) fn make_low<P: Pages, H: Hasher>(
         (λ ps. low_file H.dig ps head.now step peer.now top name.now) }
 {
     let shown = show_before::<P, H>(alloc, pages, head, step, peer, top)?;
-    Ok(write_part(alloc, name, step, peer, top, shown)?)
-}
-
-/// The bytes of the high file of a step that was read.
-fn write_top(
-    alloc: Global,
-    name: &Name,
-    step: u64,
-    peer: &Name,
-    top: u64,
-    info: StepInfo,
-    tree: TreeProof,
-) -> Result<Bytes, NoMemory>
-    ensures { IfOk result (λ bytes. bytes ≡ high_bytes (high_with name.now step peer.now top info tree)) }
-{
-    let file = HighFile {
+    let file = LowFile {
         service: *name,
-        top,
-        peer: *peer,
         step,
-        opening: info.opening,
-        shown: tree,
+        peer: *peer,
+        top,
+        shown,
     };
-    let bytes = write_high(alloc, &file);
+    let bytes = write_low(alloc, &file);
     drop(file);
-    bytes
+    Ok(bytes?)
 }
 
 /// The bytes of the high file of that top, for the step of the peer.
@@ -170,7 +101,17 @@ pub(crate) fn make_high<P: Pages, H: Hasher>(
 {
     let info = read_step::<P, H>(alloc, pages, head, top)?;
     let tree = show::<P, H>(alloc, pages, &info.archive, &ask_first(peer, step))?;
-    Ok(write_top(alloc, name, step, peer, top, info, tree)?)
+    let file = HighFile {
+        service: *name,
+        top,
+        peer: *peer,
+        step,
+        opening: info.opening,
+        shown: tree,
+    };
+    let bytes = write_high(alloc, &file);
+    drop(file);
+    Ok(bytes?)
 }
 
 impl<D: Disk, H: Hasher> Service<D, H> {
@@ -182,17 +123,14 @@ impl<D: Disk, H: Hasher> Service<D, H> {
     ghost use Rattle.tw_service.specs.Mapping.{MakesHigh, MakesLow, found_high, found_low};
     ghost use Rattle.tw_service.specs.Serves.{Serves, has_failed, head_of, name_of, steps_of};
 
-    /// The low map file of a step: with the high one that the peer gives for it, it shows between which
-    /// steps of the peer the step lies. Under the top it shows the step before, from step 2 on, and the
-    /// peer's last thread there; of step 1 no page is read.
+    /// The low map file of a step: with the high one that the peer gives for it, it shows between which steps of the peer the step lies.
+    /// Under the top it shows the step before, from step 2 on, and the peer's last thread there; of step 1 no page is read.
     ///
-    /// Refusals, the first that stands: `Reopen` where an earlier call on this value answered
-    /// `DiskFault`; `NoStep` where 1 <= step <= top <= the last step doesn't hold, with the last step.
-    /// `BadPage` tells the first page met that isn't of its kind, step pages before those of the
-    /// archive; it never comes where a history is served. It writes nothing.
+    /// Refusals, the first that stands: `Reopen` where an earlier call on this value answered `DiskFault`; `NoStep` where 1 <= step <=
+    /// top <= the last step doesn't hold, with the last step. `BadPage` tells the first page met that isn't of its kind, step pages
+    /// before those of the archive; it never comes where a history is served. It writes nothing.
     pub fn prove_low(&mut self, step: u64, peer: Name, top: u64) -> Result<Bytes, Refusal>
-        // Asking for a low file does, by its own table and what is found for it, what asking for the path of a message
-        // does.
+        // Asking for a low file does, by its own table and what is found for it, what asking for the path of a message does.
         ensures asks { Asks H.dig D.view (ProveLow step peer top) (λ bytes. OfFile bytes)
             (order_refusal_of (has_failed self.old) (steps_of self.old) step top)
             (λ ps. found_low H.dig ps (head_of self.old) step peer top (name_of self.old) (has_failed self.old))
@@ -205,7 +143,7 @@ impl<D: Disk, H: Hasher> Service<D, H> {
         if let Some(refusal) = order_refusal(self.is_broken, last, step, top) {
             return Err(refusal);
         }
-        see_name(&peer);
+        name_law(&peer);
         match make_low::<Store<D>, H>(
             self.alloc,
             &mut self.recorded.store,
@@ -223,16 +161,14 @@ impl<D: Disk, H: Hasher> Service<D, H> {
         }
     }
 
-    /// The high map file for a step of the peer, from 1 to 2^40 - 1, under that top, which is a step of this
-    /// service: it shows the service's first thread of that step or of a later one.
+    /// The high map file for a step of the peer, from 1 to 2^40 - 1, under that top, which is a step of this service: it shows the
+    /// service's first thread of that step or of a later one.
     ///
-    /// Refusals, the first that stands: `Reopen` where an earlier call on this value answered
-    /// `DiskFault`; `NoStep` where the top isn't within 1 to the last step, with the last step. `BadPage`
-    /// comes as in `prove_low`. It writes nothing.
+    /// Refusals, the first that stands: `Reopen` where an earlier call on this value answered `DiskFault`; `NoStep` where the top isn't
+    /// within 1 to the last step, with the last step. `BadPage` comes as in `prove_low`. It writes nothing.
     pub fn prove_high(&mut self, step: u64, peer: Name, top: u64) -> Result<Bytes, Refusal>
         requires { (0 < step) × (step ≤ LAST_STEP) }
-        // Asking for a high file does, by its own table and what is found for it, what asking for the path of a message
-        // does.
+        // Asking for a high file does, by its own table and what is found for it, what asking for the path of a message does.
         ensures asks { Asks H.dig D.view (ProveHigh step peer top) (λ bytes. OfFile bytes)
             (top_refusal_of (has_failed self.old) (steps_of self.old) top)
             (λ ps. found_high H.dig ps (head_of self.old) step peer top (name_of self.old) (has_failed self.old))
@@ -245,7 +181,7 @@ impl<D: Disk, H: Hasher> Service<D, H> {
         if let Some(refusal) = top_refusal(self.is_broken, last, top) {
             return Err(refusal);
         }
-        see_name(&peer);
+        name_law(&peer);
         match make_high::<Store<D>, H>(
             self.alloc,
             &mut self.recorded.store,

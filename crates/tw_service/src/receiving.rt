@@ -2,6 +2,8 @@
 
 ghost use Rattle.std.specs.Prelude.{◌≡◌, ◌<◌, ◌≤◌, ℕ, IfErr, IfOk, IsErr, None};
 ghost use Rattle.tw_base.specs.history.Limits.{IsStep};
+ghost use Rattle.tw_cache.specs.Keeping.{AreOf};
+ghost use Rattle.tw_cache.specs.Shelves.{kept_on};
 ghost use Rattle.tw_disk.specs.Answers.{ReadsOr, ReadsPages};
 ghost use Rattle.tw_disk.specs.Found.Found.{Bad};
 ghost use Rattle.tw_msg.specs.Messages.{IsLinked};
@@ -13,9 +15,10 @@ ghost use Rattle.tw_answers.specs.Refusals.{IsFault, refusals};
 
 use std::alloc::Global;
 use tw_answers::{Refusal, RootRecord, archive_refusal};
-use tw_archive::{Judgement, judge_in};
+use tw_archive::{Judgement, judge_near};
 use tw_base::limits::LAST_STEP;
 use tw_base::{Digest, Hasher, Thread};
+use tw_cache::Shelf;
 use tw_disk::Pages;
 use tw_msg::{Message, Receipt};
 use tw_skiplist::{ListFault, step};
@@ -31,8 +34,7 @@ pub enum Reception {
     Archive,
 }
 
-/// What becomes of a message by its judgement, where there are so many steps, of which `clock` is the
-/// greatest time.
+/// What becomes of a message by its judgement, where there are so many steps, of which `clock` is the greatest time.
 #[tactic(auto, unfolding(crate::specs::Receiving::reception))]
 fn reception_by(
     judgement: &Judgement,
@@ -64,23 +66,27 @@ fn reception_by(
     }
 }
 
-/// What becomes of the message, at this time or none, by the archive and the table.
+/// What becomes of the message, at this time or none, by the archive and the table. The archive's pages that are read are put on the
+/// shelf.
 #[tactic(auto, unfolding(crate::specs::Finds::found_reception))]
 pub(crate) fn receive_by<P: Pages, H: Hasher>(
     pages: &mut P,
+    shelf: &mut Shelf,
     root: &RootRecord,
     message: &Message,
     time: Option<u64>,
 ) -> Result<Reception, Refusal>
     requires short { root.now.head.step ≤ LAST_STEP }
     requires linked { IsLinked message.now }
+    requires shelf { AreOf (P.view pages.old).list (kept_on shelf.old) }
+    ensures shelf { AreOf (P.view pages.new).list (kept_on shelf.new) }
     ensures reads { ReadsPages refusals P.view P.same pages.old pages.new (λ r. r) result
         (λ ps. found_reception H.dig ps root.now.name root.now.head root.now.archive root.now.time message.now time) }
     ensures room { IfOk result (λ r. r ≡ Reception.Archive → (root.now.head.step < LAST_STEP) × (clock_refusal root.now.time time ≡ None)) }
     ensures tells { IfOk result (λ r. (refusal : RefusalOf) → r ≡ Reception.Refuse refusal → TellsOf H.dig root.now.head.step root.now.time time message.now refusal) }
     ensures known { IfOk result (λ r. (archived : ℕ) → r ≡ Reception.Known archived → IsStep archived) }
 {
-    let judgement = judge_in::<P, H>(pages, &root.archive, message)?;
+    let judgement = judge_near::<P, H>(pages, shelf, &root.archive, message)?;
     Ok(reception_by(&judgement, root.head.step, root.time, time))
 }
 

@@ -2,7 +2,7 @@
 
 ghost use Rattle.std.specs.Prelude.{◌≡◌, ◌⊎◌, ℕ, ◌+◌, ◌*◌, ◌<◌, ◌≤◌, [], IfOk, IfErr, OnErr, false, Some, None, Err};
 ghost use Rattle.tw_base.specs.declared.kinds.limits.TheConstants.{LAST_STEP};
-ghost use Rattle.tw_base.specs.history.Limits.{IsTimeWithinLimits, MayRecord};
+ghost use Rattle.tw_base.specs.history.Limits.{IsThread, IsTimeWithinLimits, MayRecord};
 ghost use Rattle.tw_disk.specs.declared.limits.TheConstants.{FIRST_PAGE};
 ghost use Rattle.tw_pages.specs.StoreValue.{generation_of, is_broken, root_of, staged_of};
 ghost use Rattle.tw_pages.specs.Same.{count_of};
@@ -16,6 +16,7 @@ use crate::receiving::{Reception, receipt_of_step, receive_by};
 use std::alloc::Global;
 use tw_answers::{Refusal, RootRecord, root_record};
 use tw_base::{EventList, Hasher, Root};
+use tw_cache::Shelf;
 use tw_disk::Disk;
 use tw_msg::{Message, Receipt};
 use tw_pages::Store;
@@ -47,8 +48,7 @@ fn later_time(clock: Option<u64>, time: Option<u64>) -> Option<u64>
     }
 }
 
-/// The root record after one more step, with this head, this archive with so many threads, and the
-/// greater time.
+/// The root record after one more step, with this head, this archive with so many threads, and the greater time.
 pub(crate) fn next_root(
     root: &RootRecord,
     head: Head,
@@ -76,7 +76,6 @@ impl<D: Disk> Recorded<D> {
     ghost use Rattle.tw_pages.specs.StoreValue.{disk_of};
     ghost use Rattle.tw_pages.specs.Same.{IsSameStore, list_of};
     ghost use Rattle.tw_answers.specs.Refusals.{IsBadPage, IsFault};
-    ghost use Rattle.tw_base.specs.history.Limits.{IsThread};
     ghost use Rattle.tw_msg.specs.Messages.{IsLinked};
     ghost use Rattle.tw_skiplist.specs.Appended.{appended};
     ghost use Rattle.tw_service.specs.TakingIn.{TakesIn};
@@ -84,9 +83,8 @@ impl<D: Disk> Recorded<D> {
     ghost use Rattle.tw_service.specs.Keeps.{KeepsHistory};
     ghost use Rattle.tw_service.specs.Stands.{StandsForOneOf};
 
-    /// Adds a step of these events, with this time or none, to the history that the store keeps, and
-    /// commits it with the next record. All memory is taken before the first write. Where it refuses,
-    /// nothing is staged, and the record is as before.
+    /// Adds a step of these events, with this time or none, to the history that the store keeps, and commits it with the next record. All
+    /// memory is taken before the first write. Where it refuses, nothing is staged, and the record is as before.
     pub(crate) fn add_step<H: Hasher>(
         &mut self,
         alloc: Global,
@@ -158,7 +156,8 @@ impl<D: Disk> Recorded<D> {
         requires whole { is_broken self.old.store ≡ false }
         ensures receives { TakesIn H.dig D.view message.now time self.old.store self.new.store self.old.root self.new.root result }
     {
-        match receive_by::<Store<D>, H>(&mut self.store, &self.root, message, time)? {
+        let mut shelf = Shelf::new(alloc);
+        match receive_by::<Store<D>, H>(&mut self.store, &mut shelf, &self.root, message, time)? {
             Reception::Refuse(refusal) => Err(refusal),
             Reception::Known { archived } => receipt_of_step::<Store<D>, H>(
                 alloc,
@@ -167,7 +166,7 @@ impl<D: Disk> Recorded<D> {
                 archived,
                 &message.thread,
             ),
-            Reception::Archive => self.archive::<H>(alloc, &message.thread, time),
+            Reception::Archive => self.archive::<H>(alloc, &mut shelf, &message.thread, time),
         }
     }
 }

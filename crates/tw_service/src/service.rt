@@ -29,7 +29,7 @@ pub struct Service<D: Disk, H: Hasher> {
 }
 
 /// A name has letters, and zeros behind them.
-fn name_law(name: &Name)
+pub(crate) fn name_law(name: &Name)
     ensures { IsName name.now }
 {
     name.as_bytes();
@@ -41,7 +41,7 @@ impl<D: Disk, H: Hasher> Service<D, H> {
     ghost use Rattle.tw_base.specs.history.Auth.{auth};
     ghost use Rattle.tw_base.specs.declared.kinds.limits.TheConstants.{LAST_TIME};
     ghost use Rattle.tw_base.specs.history.History.{History, events_at};
-    ghost use Rattle.tw_base.specs.history.Limits.{IsTimeWithinLimits};
+    ghost use Rattle.tw_base.specs.history.Limits.{IsStep, IsThread, IsTimeWithinLimits};
     ghost use Rattle.tw_base.specs.declared.history.thread.Thread.{Thread as ThreadOf};
     ghost use Rattle.tw_chain.specs.Accepting.{Accepts};
     ghost use Rattle.tw_skipproof.specs.HistoryProofs.{IsPathOf, MakesExistence};
@@ -58,10 +58,8 @@ impl<D: Disk, H: Hasher> Service<D, H> {
     ghost use Rattle.tw_chain.specs.declared.proof.ThreadProof.{ThreadProof};
     ghost use Rattle.tw_chain.specs.Proofs.{proof_layout};
     ghost use Rattle.tw_treeproof.specs.Answers.{ancestors_of};
-    ghost use Rattle.tw_base.specs.history.Limits.{IsThread};
     ghost use Rattle.tw_msg.specs.Messages.{IsLinked};
     ghost use Rattle.tw_service.specs.Adding.{Appends, Receives, ReceivesBytes, Steps};
-    ghost use Rattle.tw_base.specs.history.Limits.{IsStep};
     ghost use Rattle.tw_service.specs.Asking.{Asks, AsksOr};
     ghost use Rattle.tw_answers.specs.Finds.{IsAnswer, found_absence, found_event, found_link_proof, found_message, found_thread_proof};
     ghost use Rattle.tw_service.specs.Finds.{found_thread};
@@ -74,11 +72,10 @@ impl<D: Disk, H: Hasher> Service<D, H> {
 
     /// Makes a service of this name, without a step, on a disk that has no store.
     ///
-    /// A disk fault excepted, it answers `Taken` exactly where the disk has at least four pages and a gate
-    /// reads open, and then changes nothing; else only `DiskFault`, never `NoMemory`. A disk with four
-    /// pages and an open gate reads as before, and a crash leaves nothing else than before, whatever the
-    /// answer. Where a crash stops it, the disk is blank or stands for the empty history of the name, or is
-    /// what a crash might have left before; and so reads a disk that told its content and is given back.
+    /// A disk fault excepted, it answers `Taken` exactly where the disk has at least four pages and a gate reads open, and then changes
+    /// nothing; else only `DiskFault`, never `NoMemory`. A disk with four pages and an open gate reads as before, and a crash leaves
+    /// nothing else than before, whatever the answer. Where a crash stops it, the disk is blank or stands for the empty history of the
+    /// name, or is what a crash might have left before; and so reads a disk that told its content and is given back.
     pub fn init(alloc: Global, disk: D, name: Name) -> Result<Service<D, H>, (D, StoreFault)>
         // A new service serves the empty history of its name, at rest.
         ensures served { IfOk result (λ s. (c : Image) → (D.view disk).content ≡ Some c
@@ -155,9 +152,8 @@ impl<D: Disk, H: Hasher> Service<D, H> {
     /// Opens the service that a disk holds, after a barrier that makes it stable.
     ///
     /// `Blank` and `NotAStore` exactly where the store answers them; `NotAStore` with the slot that
-    /// counts, too, exactly where the root record is none of a service. Else only `DiskFault`, never
-    /// `NoMemory`. A disk that stands for a history is never refused. Whatever it answers, the disk reads
-    /// as before.
+    /// counts, too, exactly where the root record is none of a service. Else only `DiskFault`, never `NoMemory`. A disk that stands for a
+    /// history is never refused. Whatever it answers, the disk reads as before.
     pub fn open(alloc: Global, disk: D) -> Result<Service<D, H>, (D, StoreFault)>
         // A disk that reads as a history is opened as it, at rest, or met a disk fault.
         ensures served { (c : Image) (of : List ℕ) (h : History) → (D.view disk).content ≡ Some c
@@ -276,76 +272,69 @@ impl<D: Disk, H: Hasher> Service<D, H> {
 
     /// Adds a step of these events, which has no time, and answers its thread.
     ///
-    /// Refusals, the first that stands: `Reopen` where an earlier call on this value answered
-    /// `DiskFault`; `Full` where there are 2^40 - 1 steps; `TooMany` where there are more than 1,024
-    /// events; `TooLong` where one is longer than 1,024 bytes, with the length of the first such one,
-    /// or where together they are longer than 65,536 bytes, with that length. `BadPage` tells the
-    /// first page met for the new step's links that isn't the page of its step; it never comes where
-    /// a history is served. All memory is taken before the first write, so after `NoMemory` the disk is
-    /// as before. After `DiskFault` this value has to be given up; where a history was served, the disk
-    /// tells its content still, which stands for the history before the call or with the new step;
-    /// `open` then serves that one, or meets a disk fault.
+    /// Refusals, the first that stands: `Reopen` where an earlier call on this value answered `DiskFault`; `Full` where there are 2^40 -
+    /// 1 steps; `TooMany` where there are more than 1,024 events; `TooLong` where one is longer than 1,024 bytes, with the length of the
+    /// first such one, or where together they are longer than 65,536 bytes, with that length. `BadPage` tells the first page met for the
+    /// new step's links that isn't the page of its step; it never comes where a history is served. All memory is taken before the first
+    /// write, so after `NoMemory` the disk is as before. After `DiskFault` this value has to be given up; where a history was served, the
+    /// disk tells its content still, which stands for the history before the call or with the new step; `open` then serves that one, or
+    /// meets a disk fault.
     pub fn append(&mut self, events: &EventList) -> Result<Thread, Refusal>
-        // Adding a step of events without a time. Each refusal of the table comes exactly where its line is the first
-        // that stands; else only `DiskFault`, `BadPage` and `NoMemory` are left. Over told pages, whatever they keep,
-        // the answer is what is found in them, a disk fault and want of memory excepted. Where a history is served, the
-        // history with one more step of these events is the next one. Every image that a crash since the start may
-        // leave stands for one of the two, and so does the content, which is told still, after `DiskFault` too; after
-        // `Ok` the next one is served, at rest, and the answer is the thread of its last step; after a refusal but
-        // `DiskFault` nothing was written, and the history is served as before. Where no earlier call met a disk fault,
-        // the call is a step of the machine. The archive and the greatest time that the root record tells stay as they
-        // were, over whatever store; after each refusal name and head do too. The value remembers that a call answered
-        // `DiskFault`, which comes only where the disk's count of faults rose.
+        // Adding a step of events without a time. Each refusal of the table comes exactly where its line is the first that stands; else
+        // only `DiskFault`, `BadPage` and `NoMemory` are left. Over told pages, whatever they keep, the answer is what is found in them,
+        // a disk fault and want of memory excepted. Where a history is served, the history with one more step of these events is the next
+        // one. Every image that a crash since the start may leave stands for one of the two, and so does the content, which is told
+        // still, after `DiskFault` too; after `Ok` the next one is served, at rest, and the answer is the thread of its last step; after
+        // a refusal but `DiskFault` nothing was written, and the history is served as before. Where no earlier call met a disk fault, the
+        // call is a step of the machine. The archive and the greatest time that the root record tells stay as they were, over whatever
+        // store; after each refusal name and head do too. The value remembers that a call answered `DiskFault`, which comes only where
+        // the disk's count of faults rose.
         ensures { Appends H.dig D.view events.now None self.old self.new result }
     {
         self.add(events, None)
     }
 
-    /// Adds a step of these events at this time, in seconds, which is at most 2^40 - 1, and answers its
-    /// thread. The time is what the caller claims: no clock is read.
+    /// Adds a step of these events at this time, in seconds, which is at most 2^40 - 1, and answers its thread. The time is what the
+    /// caller claims: no clock is read.
     ///
-    /// Refusals are those of `append`, and after them `ClockBack` where the time is below the greatest
-    /// time of the steps so far, with both.
+    /// Refusals are those of `append`, and after them `ClockBack` where the time is below the greatest time of the steps so far, with
+    /// both.
     pub fn append_at(&mut self, events: &EventList, time: u64) -> Result<Thread, Refusal>
         requires { time ≤ LAST_TIME }
-        // Adding a step of events at a time does what adding one without a time does; and `ClockBack` is the last line
-        // of its table, which stands exactly where the time is below the greatest one that the root record tells; and
-        // after `Ok` that one is the greater of the two.
+        // Adding a step of events at a time does what adding one without a time does; and `ClockBack` is the last line of its table,
+        // which stands exactly where the time is below the greatest one that the root record tells; and after `Ok` that one is the
+        // greater of the two.
         ensures { Appends H.dig D.view events.now (Some time) self.old self.new result }
     {
         self.add(events, Some(time))
     }
 
-    /// Archives the thread of the message that these bytes are in a step of its own, and answers the
-    /// receipt of that step; or, where the archive has the thread, that of the step that received it, and
-    /// makes none. After `Ok`, where a history is served, the step and its pages are on the disk, as after
-    /// `append`.
+    /// Archives the thread of the message that these bytes are in a step of its own, and answers the receipt of that step; or, where the
+    /// archive has the thread, that of the step that received it, and makes none. After `Ok`, where a history is served, the step and its
+    /// pages are on the disk, as after `append`.
     ///
-    /// Refusals, the first that stands: `Reopen` where an earlier call on this value answered `DiskFault`;
-    /// `Malformed` where the bytes are no message, with the first byte at which none goes on; `Own` where
-    /// the message is of this service itself; what the archive has of the message, which is `Forked`,
-    /// `Stale` or `BadLink`, with what is kept; and, where the thread is to be archived, `Full` where there
-    /// are 2^40 - 1 steps. `BadPage` tells the first page met that isn't of its kind, the one read last
-    /// where the step that is told to have received the thread is above the last one, or the root's page of
-    /// the archive where one reading of it contradicts another; it never comes where a history is served. All memory is taken before the first write, so after
-    /// `NoMemory` the disk is as before. After `DiskFault` this value has to be given up, as after that of
-    /// `append`.
+    /// Refusals, the first that stands: `Reopen` where an earlier call on this value answered `DiskFault`; `Malformed` where the bytes
+    /// are no message, with the first byte at which none goes on; `Own` where the message is of this service itself; what the archive has
+    /// of the message, which is `Forked`, `Stale` or `BadLink`, with what is kept; and, where the thread is to be archived, `Full` where
+    /// there are 2^40 - 1 steps. `BadPage` tells the first page met that isn't of its kind, the one read last where the step that is told
+    /// to have received the thread is above the last one, or the root's page of the archive where one reading of it contradicts another;
+    /// it never comes where a history is served. All memory is taken before the first write, so after `NoMemory` the disk is as before.
+    /// After `DiskFault` this value has to be given up, as after that of `append`.
     pub fn receive(&mut self, bytes: &[u8]) -> Result<Receipt, Refusal>
-        // Receiving bytes without a time. Those that are no message are refused: after a disk fault by `Reopen`, and else by
-        // `Malformed` with the first byte at which no message goes on, want of memory excepted; nothing has changed then. Those
-        // that are a message are received as that message is, where no earlier call met a disk fault and there was
-        // memory to read it, and by `Reopen` after such a call.
+        // Receiving bytes without a time. Those that are no message are refused: after a disk fault by `Reopen`, and else by `Malformed`
+        // with the first byte at which no message goes on, want of memory excepted; nothing has changed then. Those that are a message
+        // are received as that message is, where no earlier call met a disk fault and there was memory to read it, and by `Reopen` after
+        // such a call.
         ensures { ReceivesBytes H.dig D.view bytes.now None self.old self.new result }
     {
         self.take_bytes(bytes, None)
     }
 
-    /// Archives the thread of the message that these bytes are, as `receive` does, in a step of this time,
-    /// in seconds, which is at most 2^40 - 1. The time is what the caller claims: no clock is read. A
-    /// thread that the archive has is answered whatever the time.
+    /// Archives the thread of the message that these bytes are, as `receive` does, in a step of this time, in seconds, which is at most
+    /// 2^40 - 1. The time is what the caller claims: no clock is read. A thread that the archive has is answered whatever the time.
     ///
-    /// Refusals are those of `receive`, and after them `ClockBack` where the time is below the greatest
-    /// time of the steps so far, with both.
+    /// Refusals are those of `receive`, and after them `ClockBack` where the time is below the greatest time of the steps so far, with
+    /// both.
     pub fn receive_at(&mut self, bytes: &[u8], time: u64) -> Result<Receipt, Refusal>
         requires { time ≤ LAST_TIME }
         // Receiving bytes at a time does what receiving them without one does, with the message received at this time.
@@ -374,23 +363,21 @@ impl<D: Disk, H: Hasher> Service<D, H> {
         }
     }
 
-    /// Archives the thread of a message that was read, with this time or none, as `receive` and
-    /// `receive_at` do. No memory is needed before the message's service is looked at, so `Own` comes
-    /// exactly.
+    /// Archives the thread of a message that was read, with this time or none, as `receive` and `receive_at` do. No memory is needed
+    /// before the message's service is looked at, so `Own` comes exactly.
     pub fn take(&mut self, message: &MessageRead, time: Option<u64>) -> Result<Receipt, Refusal>
         requires linked { IsLinked message.now }
         requires thread { IsThread message.now.thread }
         requires time { IsTimeWithinLimits time }
-        // Receiving a message. `Reopen` and `Own` come exactly where their lines are the first that stand. Over told
-        // pages, whatever they keep, what becomes of the message is what the archive's pages tell of it, and the answer is
-        // by that, a disk fault and want of memory excepted: `Forked`, `Stale`, `BadLink`, `Full` or `ClockBack`; the
-        // receipt of the step that received the thread; or that of the next step. Where a history is served, every image
-        // that a crash since the start may leave stands for it or for a next one, with one more step that archives the
-        // thread at this time, and so does the content, which is told still, after `DiskFault` too; after `Ok` the call is
-        // a step of the machine to what is then served, at rest; after a refusal but `DiskFault` nothing was written, and
-        // the history is served as before. The record has one thread more, the next head and the greater time after a step
-        // was made, and stays as it was where the thread is known and after each refusal, over whatever store. The value
-        // remembers that a call answered `DiskFault`, which comes only where the disk's count of faults rose.
+        // Receiving a message. `Reopen` and `Own` come exactly where their lines are the first that stand. Over told pages, whatever they
+        // keep, what becomes of the message is what the archive's pages tell of it, and the answer is by that, a disk fault and want of
+        // memory excepted: `Forked`, `Stale`, `BadLink`, `Full` or `ClockBack`; the receipt of the step that received the thread; or that
+        // of the next step. Where a history is served, every image that a crash since the start may leave stands for it or for a next
+        // one, with one more step that archives the thread at this time, and so does the content, which is told still, after `DiskFault`
+        // too; after `Ok` the call is a step of the machine to what is then served, at rest; after a refusal but `DiskFault` nothing was
+        // written, and the history is served as before. The record has one thread more, the next head and the greater time after a step
+        // was made, and stays as it was where the thread is known and after each refusal, over whatever store. The value remembers that a
+        // call answered `DiskFault`, which comes only where the disk's count of faults rose.
         ensures { Receives H.dig D.view message.now time self.old self.new result }
     {
         let name = &self.recorded.root.name;
@@ -450,20 +437,18 @@ impl<D: Disk, H: Hasher> Service<D, H> {
         }
     }
 
-    /// The path from the last step down to the step `since`, which may be 0. With the thread of `head`
-    /// and `since` it is the message that tells the last step to a service that knows the step `since`.
+    /// The path from the last step down to the step `since`, which may be 0. With the thread of `head` and `since` it is the message that
+    /// tells the last step to a service that knows the step `since`.
     ///
-    /// Refusals, the first that stands: `Reopen` where an earlier call on this value answered
-    /// `DiskFault`; `NoStep` where there is no step, or `since` is above the last one, with the last
-    /// step. `BadPage` tells the first page met on the way that isn't the page of its step; it never
-    /// comes where a history is served. It writes nothing.
+    /// Refusals, the first that stands: `Reopen` where an earlier call on this value answered `DiskFault`; `NoStep` where there is no
+    /// step, or `since` is above the last one, with the last step. `BadPage` tells the first page met on the way that isn't the page of
+    /// its step; it never comes where a history is served. It writes nothing.
     pub fn thread_out(&mut self, since: u64) -> Result<Path, Refusal>
-        // Asking for the path of a message. Each refusal of the table comes exactly where its line is the first that
-        // stands; else only `DiskFault`, `BadPage` and `NoMemory` are left. Over told pages, whatever they keep, the
-        // answer is what is found in them, a disk fault and want of memory excepted. Where a history is served and no
-        // earlier call met a disk fault, the call is a step of the machine. Whatever the answer, the history is served
-        // as before, at rest, nothing is written, and the root record is as before. The value remembers that a call
-        // answered `DiskFault`, which comes only where the disk's count of faults rose.
+        // Asking for the path of a message. Each refusal of the table comes exactly where its line is the first that stands; else only
+        // `DiskFault`, `BadPage` and `NoMemory` are left. Over told pages, whatever they keep, the answer is what is found in them, a
+        // disk fault and want of memory excepted. Where a history is served and no earlier call met a disk fault, the call is a step of
+        // the machine. Whatever the answer, the history is served as before, at rest, nothing is written, and the root record is as
+        // before. The value remembers that a call answered `DiskFault`, which comes only where the disk's count of faults rose.
         ensures asks { Asks H.dig D.view (TellThread since) (λ path. OfPath path)
             (thread_refusal_of (has_failed self.old) (steps_of self.old) since)
             (λ ps. found_message H.dig ps (head_of self.old) (has_failed self.old) since) self.old self.new result }
@@ -491,16 +476,15 @@ impl<D: Disk, H: Hasher> Service<D, H> {
         }
     }
 
-    /// The proof of the authenticator of a step, which may be 0, under that top. The page of the step
-    /// isn't read: the link that leads to it has the authenticator.
+    /// The proof of the authenticator of a step, which may be 0, under that top. The page of the step isn't read: the link that leads to
+    /// it has the authenticator.
     ///
-    /// Refusals, the first that stands: `Reopen` where an earlier call on this value answered
-    /// `DiskFault`; `NoStep` where step <= top and 1 <= top <= the last step don't both hold, with the
-    /// last step. `BadPage` tells the first page met that isn't of its kind; it never comes where a
-    /// history is served. It writes nothing.
+    /// Refusals, the first that stands: `Reopen` where an earlier call on this value answered `DiskFault`; `NoStep` where step <= top and
+    /// 1 <= top <= the last step don't both hold, with the last step. `BadPage` tells the first page met that isn't of its kind; it never
+    /// comes where a history is served. It writes nothing.
     pub fn prove_link(&mut self, step: u64, top: u64) -> Result<Bytes, Refusal>
-        // Asking for the proof of a step's authenticator does, by its own table and what is found for it, what asking
-        // for the path of a message does.
+        // Asking for the proof of a step's authenticator does, by its own table and what is found for it, what asking for the path of a
+        // message does.
         ensures asks { Asks H.dig D.view (ProveLink step top) (λ bytes. OfProof bytes)
             (link_refusal_of (has_failed self.old) (steps_of self.old) step top)
             (λ ps. found_link_proof H.dig ps (name_of self.old) (head_of self.old) (has_failed self.old) step top)
@@ -508,8 +492,8 @@ impl<D: Disk, H: Hasher> Service<D, H> {
         // The proof is the history's own proof of that authenticator under that top.
         ensures made { IfOk result (λ bytes. (h : History) → Serves H.dig D.view self.old h
             → MakesLink H.dig h step top bytes) }
-        // The proof is accepted under every list of anchors whose anchor of the service and top has the history's
-        // authenticator of the top.
+        // The proof is accepted under every list of anchors whose anchor of the service and top has the history's authenticator of the
+        // top.
         ensures accepted { IfOk result (λ bytes. (h : History) → Serves H.dig D.view self.old h
             → (anchors : List ThreadOf) (anchor : ThreadOf) → anchor_of anchors h.name top ≡ Some anchor
             → anchor.auth ≡ auth H.dig h top
@@ -539,32 +523,31 @@ impl<D: Disk, H: Hasher> Service<D, H> {
         }
     }
 
-    /// The proof that a step received a thread of the key, of the steps up to this one, under that top: the
-    /// entry of the key in the step's archive, with its place.
+    /// The proof that a step received a thread of the key, of the steps up to this one, under that top: the entry of the key in the
+    /// step's archive, with its place.
     ///
-    /// Condition: the key's step is within 1 to 2^40 - 1. Refusals, the first that stands: `Reopen` where an
-    /// earlier call on this value answered `DiskFault`; `NoStep` where 1 <= step <= top <= the last step
-    /// doesn't hold, with the last step; `NoThread` where no step up to that one received a thread of the key.
-    /// `BadPage` tells the first page met that isn't of its kind, or the root's page of an archive whose pages
-    /// don't fit one another; it never comes where a history is served. It writes nothing.
+    /// Condition: the key's step is within 1 to 2^40 - 1. Refusals, the first that stands: `Reopen` where an earlier call on this value
+    /// answered `DiskFault`; `NoStep` where 1 <= step <= top <= the last step doesn't hold, with the last step; `NoThread` where no step
+    /// up to that one received a thread of the key. `BadPage` tells the first page met that isn't of its kind, or the root's page of an
+    /// archive whose pages don't fit one another; it never comes where a history is served. It writes nothing.
     pub fn prove_thread(&mut self, step: u64, key: &Key, top: u64) -> Result<Bytes, Refusal>
         requires { IsStep key.now.step }
-        // Asking for the proof of a thread. Each refusal of the table that needs no page comes exactly where its line is
-        // the first that stands; else only `NoThread`, `DiskFault`, `BadPage` and `NoMemory` are left. Over told pages,
-        // whatever they keep, the answer is what is found in them, a disk fault and want of memory excepted. Where a
-        // history is served and no earlier call met a disk fault, the call is a step of the machine. Whatever the answer,
-        // the history is served as before, at rest, nothing is written, and the root record is as before. The value
-        // remembers that a call answered `DiskFault`, which comes only where the disk's count of faults rose.
+        // Asking for the proof of a thread. Each refusal of the table that needs no page comes exactly where its line is the first that
+        // stands; else only `NoThread`, `DiskFault`, `BadPage` and `NoMemory` are left. Over told pages, whatever they keep, the answer
+        // is what is found in them, a disk fault and want of memory excepted. Where a history is served and no earlier call met a disk
+        // fault, the call is a step of the machine. Whatever the answer, the history is served as before, at rest, nothing is written,
+        // and the root record is as before. The value remembers that a call answered `DiskFault`, which comes only where the disk's count
+        // of faults rose.
         ensures asks { AsksOr H.dig D.view IsNoThread (ProveThread step key.now top) (λ bytes. OfProof bytes) (order_refusal_of (has_failed self.old) (steps_of self.old) step top)
             (λ ps. found_thread_proof H.dig ps (name_of self.old) (head_of self.old) step key.now top (has_failed self.old)) self.old self.new result }
         // The proof is the history's own proof of a thread of that key under that top.
         ensures made { IfOk result (λ bytes. (h : History) → Serves H.dig D.view self.old h → MakesThread H.dig h step key.now top bytes) }
-        // Where a history is served, the tree proof has at most 9 nodes above its place for each level of the archive's pages, of
-        // which each one more takes 13 times the threads; over an archive of no thread it has none.
+        // Where a history is served, the tree proof has at most 9 nodes above its place for each level of the archive's pages, of which
+        // each one more takes 13 times the threads; over an archive of no thread it has none.
         ensures size { IfOk result (λ bytes. (h : History) → Serves H.dig D.view self.old h → (p : ThreadProof) → Spells proof_layout bytes (Archived p)
             → IsFewNodes (length (entries (tree h step))) (length (ancestors_of p.shown))) }
-        // The proof is accepted under every list of anchors whose anchor of the service and top has the history's
-        // authenticator of the top.
+        // The proof is accepted under every list of anchors whose anchor of the service and top has the history's authenticator of the
+        // top.
         ensures accepted { IfOk result (λ bytes. (h : History) → Serves H.dig D.view self.old h
             → (anchors : List ThreadOf) (anchor : ThreadOf) → anchor_of anchors h.name top ≡ Some anchor → anchor.auth ≡ auth H.dig h top
             → Accepts H.dig anchors bytes) }
@@ -590,25 +573,25 @@ impl<D: Disk, H: Hasher> Service<D, H> {
         }
     }
 
-    /// The proof that no step received a thread of the key, of the steps up to this one, under that top: the
-    /// empty place of the key in the step's archive.
+    /// The proof that no step received a thread of the key, of the steps up to this one, under that top: the empty place of the key in
+    /// the step's archive.
     ///
-    /// Condition and refusals are those of `prove_thread`, but for `HasThread` in place of `NoThread`, where a
-    /// step up to that one received a thread of the key, with that step.
+    /// Condition and refusals are those of `prove_thread`, but for `HasThread` in place of `NoThread`, where a step up to that one
+    /// received a thread of the key, with that step.
     pub fn prove_absent(&mut self, step: u64, key: &Key, top: u64) -> Result<Bytes, Refusal>
         requires { IsStep key.now.step }
-        // Asking for the proof that there is no thread does, by what is found for it and with `HasThread` in place of
-        // `NoThread`, what asking for the proof of a thread does.
+        // Asking for the proof that there is no thread does, by what is found for it and with `HasThread` in place of `NoThread`, what
+        // asking for the proof of a thread does.
         ensures asks { AsksOr H.dig D.view IsHasThread (ProveAbsent step key.now top) (λ bytes. OfProof bytes) (order_refusal_of (has_failed self.old) (steps_of self.old) step top)
             (λ ps. found_absence H.dig ps (name_of self.old) (head_of self.old) step key.now top (has_failed self.old)) self.old self.new result }
         // The proof is the history's own proof, under that top, that no step up to that one received a thread of that key.
         ensures made { IfOk result (λ bytes. (h : History) → Serves H.dig D.view self.old h → MakesAbsence H.dig h step key.now top bytes) }
-        // Where a history is served, the tree proof has at most 9 nodes above its place for each level of the archive's pages, of
-        // which each one more takes 13 times the threads; over an archive of no thread it has none.
+        // Where a history is served, the tree proof has at most 9 nodes above its place for each level of the archive's pages, of which
+        // each one more takes 13 times the threads; over an archive of no thread it has none.
         ensures size { IfOk result (λ bytes. (h : History) → Serves H.dig D.view self.old h → (p : AbsenceProof) → Spells proof_layout bytes (Absent p)
             → IsFewNodes (length (entries (tree h step))) (length (ancestors_of p.shown))) }
-        // The proof is accepted under every list of anchors whose anchor of the service and top has the history's
-        // authenticator of the top.
+        // The proof is accepted under every list of anchors whose anchor of the service and top has the history's authenticator of the
+        // top.
         ensures accepted { IfOk result (λ bytes. (h : History) → Serves H.dig D.view self.old h
             → (anchors : List ThreadOf) (anchor : ThreadOf) → anchor_of anchors h.name top ≡ Some anchor → anchor.auth ≡ auth H.dig h top
             → Accepts H.dig anchors bytes) }
@@ -637,29 +620,28 @@ impl<D: Disk, H: Hasher> Service<D, H> {
 
     /// The existence proof of the event at that index (from 0) of a step, under that top.
     ///
-    /// Refusals, the first that stands: `Reopen` where an earlier call on this value answered
-    /// `DiskFault`; `NoStep` where 1 <= step <= top <= the last step doesn't hold, with the last step;
-    /// `NoEvent` where the index isn't below the step's count of events, with the count. `BadPage` tells
-    /// the first page met that isn't of its kind, or the one read last where the event pages don't spell
-    /// the step's events; it never comes where a history is served. It writes nothing.
+    /// Refusals, the first that stands: `Reopen` where an earlier call on this value answered `DiskFault`; `NoStep` where 1 <= step <=
+    /// top <= the last step doesn't hold, with the last step; `NoEvent` where the index isn't below the step's count of events, with the
+    /// count. `BadPage` tells the first page met that isn't of its kind, or the one read last where the event pages don't spell the
+    /// step's events; it never comes where a history is served. It writes nothing.
     pub fn prove_event(&mut self, step: u64, index: u32, top: u64) -> Result<Bytes, Refusal>
-        // Each refusal of the table that needs no page comes exactly where its line is the first that stands; else only
-        // `DiskFault`, `BadPage`, `NoMemory` and `NoEvent` are left.
+        // Each refusal of the table that needs no page comes exactly where its line is the first that stands; else only `DiskFault`,
+        // `BadPage`, `NoMemory` and `NoEvent` are left.
         ensures table { MatchOption (order_refusal_of (has_failed self.old) (steps_of self.old) step top)
             (IfErr result (λ refusal. IsFault refusal ⊎ IsNoEvent refusal)) (λ refusal. result ≡ Err refusal) }
 
         // A proof is the history's own proof of that event under that top.
         ensures made { IfOk result (λ bytes. (h : History) → Serves H.dig D.view self.old h
             → MakesExistence H.dig h step index top bytes) }
-        // The proof is accepted under every list of anchors whose anchor of the service and top has the history's
-        // authenticator of the top.
+        // The proof is accepted under every list of anchors whose anchor of the service and top has the history's authenticator of the
+        // top.
         ensures accepted { IfOk result (λ bytes. (h : History) → Serves H.dig D.view self.old h
             → (anchors : List ThreadOf) (anchor : ThreadOf) → anchor_of anchors h.name top ≡ Some anchor
             → anchor.auth ≡ auth H.dig h top
             → Accepts H.dig anchors bytes) }
 
-        // Where a history is served and no earlier call on the value met a disk fault, proving an event is a step of
-        // the machine, a disk fault and want of memory excepted.
+        // Where a history is served and no earlier call on the value met a disk fault, proving an event is a step of the machine, a disk
+        // fault and want of memory excepted.
         ensures machine { has_failed self.old ≡ false → (h : History) → Serves H.dig D.view self.old h
             → Answers H.dig h (ProveEvent step index top) (λ bytes. OfProof bytes) result
             (Serves H.dig D.view self.new) }
@@ -671,8 +653,8 @@ impl<D: Disk, H: Hasher> Service<D, H> {
         ensures unwritten { HasSameDisk D.view self.old self.new }
         // The root record, and with it name, head, archive and greatest time, is as before.
         ensures kept { record_of self.new ≡ record_of self.old }
-        // The value remembers that a call answered `DiskFault`, and nothing else is remembered so: by the table
-        // `Reopen` is answered exactly after one.
+        // The value remembers that a call answered `DiskFault`, and nothing else is remembered so: by the table `Reopen` is answered
+        // exactly after one.
         ensures broken { IsTrue (has_failed self.new)
             ↔ (IsTrue (has_failed self.old) ⊎ (result ≡ Err Refusal.DiskFault)) }
         // `DiskFault` comes only where the disk's count of faults rose.
@@ -681,11 +663,10 @@ impl<D: Disk, H: Hasher> Service<D, H> {
         // The count of faults hasn't fallen.
         ensures later { (D.view (disk_of self.old)).faults ≤ (D.view (disk_of self.new)).faults }
 
-        // What the answer is, a disk fault and want of memory excepted, whatever the pages keep: the refusal of the
-        // table for the order of steps, where one stands; else, of what the walk from the head by the top finds, the
-        // bytes of the proof that is made of path, opening and events, `NoEvent` with the number of events that the
-        // step's page counts, where the index isn't below it, or `BadPage` with the first page met that isn't of its
-        // kind, or with the one that the step's events fail at.
+        // What the answer is, a disk fault and want of memory excepted, whatever the pages keep: the refusal of the table for the order
+        // of steps, where one stands; else, of what the walk from the head by the top finds, the bytes of the proof that is made of path,
+        // opening and events, `NoEvent` with the number of events that the step's page counts, where the index isn't below it, or
+        // `BadPage` with the first page met that isn't of its kind, or with the one that the step's events fail at.
         ensures answer { (ps : Image) → pages_of D.view self.old ≡ Some ps
             → IsAnswer result
             (found_event H.dig ps (name_of self.old) (head_of self.old) step index top (has_failed self.old)) }

@@ -1,6 +1,6 @@
 // The laws of what images stand for, of what is found in pages that keep a history, and of the machine.
 
-ghost use Rattle.std.specs.Prelude.{◌≡◌, ◌≢◌, ℕ, ◌+◌, ◌^◌, ◌<◌, ◌≤◌, List, length, Option, None, Some, Ok, Err, false};
+ghost use Rattle.std.specs.Prelude.{◌≡◌, ◌≢◌, ℕ, ◌+◌, ◌^◌, ◌<◌, ◌≤◌, List, length, MatchOption, Option, None, Some, Ok, Err, false};
 ghost use Rattle.tw_base.specs.declared.history.root.Root.{Root};
 ghost use Rattle.tw_base.specs.declared.history.thread.Entry.{Entry};
 ghost use Rattle.tw_base.specs.declared.history.thread.Key.{Key};
@@ -9,6 +9,7 @@ ghost use Rattle.tw_base.specs.declared.kinds.limits.TheConstants.{LAST_STEP};
 ghost use Rattle.tw_base.specs.history.Asking.{entry_with};
 ghost use Rattle.tw_base.specs.history.Auth.{auth};
 ghost use Rattle.tw_base.specs.history.History.{History, events_at};
+ghost use Rattle.tw_base.specs.history.HistoryCodec.{history_bytes};
 ghost use Rattle.tw_base.specs.history.Limits.{IsStep, IsTimeWithinLimits, MayRecord};
 ghost use Rattle.tw_base.specs.history.Sound.{IsSound};
 ghost use Rattle.tw_base.specs.history.Tree.{entries, tree};
@@ -31,6 +32,7 @@ ghost use Rattle.tw_answers.specs.declared.refusal.Refusal.TheVariants.{HasThrea
 ghost use Rattle.tw_answers.specs.declared.root.RootRecord.{RootRecord};
 ghost use Rattle.tw_answers.specs.Finds.{absence_proof, event_proof, link_proof, path_down, thread_proof};
 ghost use Rattle.tw_answers.specs.Limits.{append_refusal, archive_refusal, clock_refusal};
+ghost use Rattle.tw_service.specs.Exporting.{file_refusal, history_file};
 ghost use Rattle.tw_service.specs.Mapping.{MakesHigh, MakesLow, high_file, low_file};
 ghost use Rattle.tw_service.specs.declared.receiving.Reception.TheVariants.{Archive, Known as ReceptionKnown};
 ghost use Rattle.tw_service.specs.EventSteps.{with_events};
@@ -67,7 +69,7 @@ pub fn standing_laws<H: Hasher>()
 /// than 2^47 pages are used and the archive is the history's; the path down to an earlier step; what
 /// becomes of a message, and its receipt; for steps in their order, the history's own proof of a step's
 /// authenticator, of the event at the index, or that there is none, of a thread, and of its absence, and
-/// the history's own map files.
+/// the history's own map files; and its own file.
 pub fn finding_laws<H: Hasher>()
     // Where pages keep a history whole, fewer than 2^47 pages are used, the events and the time are within the limits of
     // a step and the table doesn't refuse them, what `append` finds with the history's archive is the last thread of the
@@ -119,6 +121,10 @@ pub fn finding_laws<H: Hasher>()
     // What `prove_high` finds is the history's own high file.
     ensures high { (ps : Image) (h : History) (r : RootRecord) (step : ℕ) (peer : List ℕ) (top : ℕ) → KeepsWhole H.dig ps h r → IsSound h → IsName peer → IsStep step → 1 ≤ top →
         top ≤ r.head.step → (bytes : List ℕ) × (high_file H.dig ps r.head step peer top h.name ≡ Is (Ok bytes)) × MakesHigh H.dig h step peer top bytes }
+    // Where the history is sound, what `export` finds is the history's own file, or, where that isn't within its limits, the
+    // refusal of the table.
+    ensures file { (ps : Image) (h : History) (r : RootRecord) → KeepsWhole H.dig ps h r → IsSound h →
+        MatchOption (file_refusal h) (history_file H.dig ps h.name r.head ≡ Is (Ok (history_bytes h))) (λ refusal. history_file H.dig ps h.name r.head ≡ Is (Err refusal)) }
     // Where they keep one, the steps are in their order and the step has no event of that index, what `prove_event`
     // finds is `NoEvent` with the step's number of events.
     ensures no_event { (ps : Image) (h : History) (head : Head) (step index top : ℕ) → Keeps H.dig ps h head → IsSound h → 1 ≤ step → step ≤ top → top ≤ head.step →

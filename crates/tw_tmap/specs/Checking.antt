@@ -41,13 +41,20 @@ low_part f p = record { service = f.service; step = f.step - 1; top = f.top; pat
 abbrev pub high_part : HighFile → Part
 high_part f = record { service = f.service; step = f.top; top = f.top; path = record { links = [] }; opening = f.opening }
 
--- the peer's last thread in the service's archive: no thread has a step of 2^40
+-- a service's last thread in an archive: no thread has a step of 2^40; and its first one of this step or of a later one
+abbrev pub last_of : (service : List ℕ) → Ask
+last_of service = Below (record { from = service; step = 2 ^ 40 })
+
+abbrev pub first_of : (service : List ℕ) (step : ℕ) → Ask
+first_of service step = Above (record { from = service; step = step - 1 })
+
+-- the peer's last thread in the service's archive
 abbrev pub low_ask : LowFile → Ask
-low_ask f = Below (record { from = f.peer; step = 2 ^ 40 })
+low_ask f = last_of f.peer
 
 -- the service's first thread of the step or a later one in the peer's archive
 abbrev pub high_ask : HighFile → Ask
-high_ask f = Above (record { from = f.peer; step = f.step - 1 })
+high_ask f = first_of f.peer f.step
 
 -- ---- what is checked
 

@@ -17,4 +17,5 @@ pub use map_file::{HighFile, LowFile, LowPart};
 pub use map_verdict::MapVerdict;
 pub use reading::{read_high, read_low};
 pub use report::print_map;
+pub use showing::{ask_first, ask_last};
 pub use writing::{write_high, write_low};

@@ -4,7 +4,7 @@ ghost use Rattle.std.specs.Prelude.{◌≡◌, ◌<◌, ◌≤◌, None, MatchOp
 ghost use Rattle.tw_base.specs.declared.kinds.limits.TheConstants.{LAST_STEP};
 ghost use Rattle.tw_treeproof.specs.Answers.{Checks, ancestors_of, answer_of};
 ghost use Rattle.tw_chain.specs.Finding.{found_in};
-ghost use Rattle.tw_tmap.specs.Checking.{archived_if_of as archived_step_of, before_checks, before_told, high_ask as high_ask_of, high_checks, high_told, low_ask as low_ask_of, low_checks, low_told, nearest_in, step_if_of as step_of};
+ghost use Rattle.tw_tmap.specs.Checking.{archived_if_of as archived_step_of, before_checks, before_told, first_of, high_ask as high_ask_of, high_checks, high_told, last_of, low_ask as low_ask_of, low_checks, low_told, nearest_in, step_if_of as step_of};
 
 use crate::finding::{high_under, low_under, lower, lower_found, with_anchor};
 use crate::map_file::{HighFile, LowFile, LowPart};
@@ -40,24 +40,26 @@ fn archived_if_of(service: &Name, entry: Option<Entry>) -> Option<u64>
     }
 }
 
-/// What the low file asks of the service's archive.
-fn low_ask(low: &LowFile) -> Ask
-    ensures { result ≡ low_ask_of low.now }
+/// The question for the service's last thread in an archive: no thread has a step of 2^40.
+pub fn ask_last(service: &Name) -> Ask
+    // It asks for the nearest entry below the service's key of step 2^40.
+    ensures { result ≡ last_of service.now }
 {
     Ask::Below(Key {
-        from: low.peer,
+        from: *service,
         step: LAST_STEP + 1,
     })
 }
 
-/// What the high file asks of the peer's archive.
-fn high_ask(high: &HighFile) -> Ask
-    requires { 0 < high.now.step }
-    ensures { result ≡ high_ask_of high.now }
+/// The question for the service's first thread of this step, from 1 on, or of a later one in an archive.
+pub fn ask_first(service: &Name, step: u64) -> Ask
+    requires { 0 < step }
+    // It asks for the nearest entry above the service's key of the step before.
+    ensures { result ≡ first_of service.now step }
 {
     Ask::Above(Key {
-        from: high.peer,
-        step: high.step - 1,
+        from: *service,
+        step: step - 1,
     })
 }
 
@@ -68,7 +70,11 @@ fn low_entry<H: Hasher>(low: &LowFile, part: &LowPart) -> Option<Option<Entry>>
         (λ entry. Checks H.dig part.now.opening.archive_root (low_ask_of low.now) part.now.shown
         × (entry ≡ nearest_in (answer_of (low_ask_of low.now) (ancestors_of part.now.shown)))) }
 {
-    match check::<H>(&part.opening.archive_root, &low_ask(low), &part.shown) {
+    match check::<H>(
+        &part.opening.archive_root,
+        &ask_last(&low.peer),
+        &part.shown,
+    ) {
         Shown::Nearest(entry) => Some(entry),
         Shown::Present | Shown::Absent | Shown::Wrong => None,
     }
@@ -82,7 +88,11 @@ fn high_entry<H: Hasher>(high: &HighFile) -> Option<Option<Entry>>
         (λ entry. Checks H.dig high.now.opening.archive_root (high_ask_of high.now) high.now.shown
         × (entry ≡ nearest_in (answer_of (high_ask_of high.now) (ancestors_of high.now.shown)))) }
 {
-    match check::<H>(&high.opening.archive_root, &high_ask(high), &high.shown) {
+    match check::<H>(
+        &high.opening.archive_root,
+        &ask_first(&high.peer, high.step),
+        &high.shown,
+    ) {
         Shown::Nearest(entry) => Some(entry),
         Shown::Present | Shown::Absent | Shown::Wrong => None,
     }

@@ -41,7 +41,7 @@ returns-in-Err-clause-adds g c =
           (subst (λ (key : Key). SaysOf refusals (refusals (refusal_of_tree archive c.in-Err.fault)) (found_insert g.H.Hasher.dig ps archive key >>= room_in archive)) (ap key_of c.next_entry-entry.ensures)
           (room-says archive c.in-Err.fault (found_insert g.H.Hasher.dig ps archive (key_of c.next_entry-entry.result)) (c.in-Err.ensures.adds.answer ps list)));
       own = subst IsFault (sym is) (tree-fault archive c.in-Err.fault);
-      kept = subst (λ (b : Bool). OnlyAdds g.P.Pages.view g.P.Pages.same c.args.pages.now c.insert.new.pages (b ≡ false)) (sym failed) c.in-Err.ensures.adds.kept;
+      kept = subst (λ (b : Bool). OnlyAdds g.P.Pages.view g.P.Pages.same c.args.pages.now c.insert_near.new.pages (b ≡ false)) (sym failed) c.in-Err.ensures.adds.kept;
       faults = record { later = c.in-Err.ensures.adds.faults.later; rose = λ e. c.in-Err.ensures.adds.faults.rose (sym failed ∙ e) };
     }
 

@@ -1,5 +1,5 @@
-use Rattle.std.proofs.Common.{◌≡◌, ◌∙◌, List, ℕ, ap, refl, sym, subst, arith}
-use Rattle.std.specs.Prelude.{Result, Ok}
+use Rattle.std.proofs.Common.{◌∙◌, List, ℕ, ap, refl, sym, subst, arith}
+use Rattle.std.specs.Prelude.{Ok}
 use Rattle.tw_disk.specs.Answers.{AnswersOr}
 use Rattle.tw_disk.specs.Found.Found.{Is}
 use Rattle.tw_disk.proofs.FoundLaws.{is_on}
@@ -55,7 +55,7 @@ returns g c =
         answer = λ ps told.
             high-told dig ps c.args.head.now step peer top name info c.ask_first.result (before.answer ps told) c.ask_first.ensures
             ∙ is_on (tree_shown dig ps info.archive c.ask_first.result) (λ tree. Is (Ok (high_bytes (high_with name step peer top info tree)))) tree (reads.answer ps (before.kept.list_kept ∙ told))
-            ∙ ap (λ (b : List ℕ). Is (Ok b)) (sym c.in_ok-write_top.ensures);
+            ∙ ap (λ (b : List ℕ). Is (Ok b)) (sym c.in_ok-bytes.ensures.bytes);
         own = tt;
         kept = only_reads_on g.P.Pages.view g.P.Pages.same _ _ _ _ _ _ g.met.P.Pages.same_on (λ good. refl) (λ good. refl) before.kept reads.kept;
         faults = record { later = omega (arith, before.faults.later, reads.faults.later); rose = λ failed. cc };

@@ -1,4 +1,4 @@
-use Rattle.std.proofs.Common.{◌≡◌, ◌<◌, ◌∙◌, ap, refl, sym, subst, arith}
+use Rattle.std.proofs.Common.{◌<◌, ◌∙◌, ap, refl, sym, subst, arith}
 use Rattle.std.specs.Prelude.{Option, Some}
 use Rattle.tw_disk.specs.Answers.{AnswersAs}
 use Rattle.tw_disk.specs.Found.Found.{Is}

@@ -1,6 +1,7 @@
-use Rattle.std.proofs.Common.{◌≡◌, ◌∙◌, ℕ, ap, refl, arith}
+use Rattle.std.proofs.Common.{refl, arith}
 use Rattle.std.specs.Prelude.{Some, None}
 use Rattle.tw_service.proofs.Archived.{archived-is}
+use Rattle.tw_service.proofs.ExportAnswers.{export_table}
 use Rattle.tw_service.proofs.KeptMaps.{high_kept, low_kept}
 use Rattle.tw_service.proofs.KeptThreads.{absence_is, lacks, makes, thread_is}
 use Rattle.tw_service.proofs.Receptions.{receipt_kept, reception_kept}
@@ -69,3 +70,6 @@ returns-clause-low g c = λ ps h r step peer top whole sound is_name some order 
 pub returns-clause-high : goal.returns-clause-high
 returns-clause-high g c = λ ps h r step peer top whole sound is_name is_step from below.
     high_kept g.H.Hasher.dig (λ text. (g.met.H.Hasher.size text, g.met.H.Hasher.bytes text)) ps h r.head whole.steps whole.trees sound peer is_name step top is_step.0 is_step.1 from below
+
+pub returns-clause-file : goal.returns-clause-file
+returns-clause-file g c = λ ps h r whole sound. export_table g.H.Hasher.dig (λ text. (g.met.H.Hasher.size text, g.met.H.Hasher.bytes text)) ps h r whole sound

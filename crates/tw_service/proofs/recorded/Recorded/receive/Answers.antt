@@ -45,8 +45,8 @@ returns-in-Known g c =
           (λ failed. let rose = reads_too.faults.rose failed in let one = reads.faults.later in omega (arith, rose, one));
     }
 
-pub returns-in-Archive : goal.returns-in-Archive
-returns-in-Archive g c =
+pub returns : goal.returns
+returns g c =
     let d = g.D.Disk in
     let s = c.args.self.now in
     let mid = c.receive_by.new.pages in

@@ -1,9 +1,6 @@
-use Rattle.std.proofs.Common.{◌≡◌, ◌∙◌, ℕ, ◌<◌, ◌≤◌, List, Bool, length, ap, subst, sym, refl, arith, false}
-use Rattle.std.specs.Prelude.{is_some, Option, None, Some, Result, Ok}
-use Rattle.tw_base.specs.declared.kinds.limits.TheConstants.{LAST_STEP}
-use Rattle.tw_base.specs.history.History.{History}
+use Rattle.std.proofs.Common.{◌≡◌, ◌∙◌, ℕ, List, Bool, ap, subst, sym, refl, arith, false}
+use Rattle.std.specs.Prelude.{is_some, Option, None, Some, Result}
 use Rattle.tw_disk.specs.Found.{Found}
-use Rattle.tw_disk.specs.Found.Found.{Is}
 use Rattle.tw_pages.specs.StoreValue.{opening_of}
 use Rattle.tw_answers.specs.declared.refusal.Refusal.{Refusal}
 use Rattle.tw_answers.specs.Finds.{IsRefusalOf, unless}
@@ -50,7 +47,7 @@ returns-in-Ok-clause-made g c = λ h served.
     let last = r.root.head.step in
     let list = told_list d.view g.met.D.Disk.only_now g.H.Hasher.dig r.store r.root h served in
     high_answer g.H.Hasher.dig (λ text. (g.met.H.Hasher.size text, g.met.H.Hasher.bytes text)) (opening_of r.store served.image).pages h r.root.head served.has.keeps.steps served.has.keeps.trees served.has.sound r.root.name served.has.named
-    peer c.see_name.ensures step top (omega (arith, c.requires.0)) c.requires.1 (c.top_refusal.ensures.order (ap is_some c.in_default.is)).0 (c.top_refusal.ensures.order (ap is_some c.in_default.is)).1 c.in-Ok.bytes (c.in-Ok.ensures.reads.answer _ list)
+    peer c.name_law.ensures step top (omega (arith, c.requires.0)) c.requires.1 (c.top_refusal.ensures.order (ap is_some c.in_default.is)).0 (c.top_refusal.ensures.order (ap is_some c.in_default.is)).1 c.in-Ok.bytes (c.in-Ok.ensures.reads.answer _ list)
 
 pub returns-in-Ok-clause-asks : goal.returns-in-Ok-clause-asks
 returns-in-Ok-clause-asks g c =
@@ -68,7 +65,7 @@ returns-in-Ok-clause-asks g c =
     (λ whole h served.
     let list = told_list d.view g.met.D.Disk.only_now g.H.Hasher.dig r.store r.root h served in
     let made = high_answer g.H.Hasher.dig (λ text. (g.met.H.Hasher.size text, g.met.H.Hasher.bytes text)) (opening_of r.store served.image).pages h r.root.head served.has.keeps.steps served.has.keeps.trees served.has.sound r.root.name served.has.named
-    peer c.see_name.ensures step top (omega (arith, c.requires.0)) c.requires.1 (c.top_refusal.ensures.order (ap is_some c.in_default.is)).0 (c.top_refusal.ensures.order (ap is_some c.in_default.is)).1 c.in-Ok.bytes (c.in-Ok.ensures.reads.answer _ list) in
+    peer c.name_law.ensures step top (omega (arith, c.requires.0)) c.requires.1 (c.top_refusal.ensures.order (ap is_some c.in_default.is)).0 (c.top_refusal.ensures.order (ap is_some c.in_default.is)).1 c.in-Ok.bytes (c.in-Ok.ensures.reads.answer _ list) in
     high_made g.H.Hasher.dig h step peer top c.in-Ok.bytes (to_table s.is_broken last top _ None none whole served.has.keeps.steps.step) made)
 
 pub returns-in-Err-clause-asks : goal.returns-in-Err-clause-asks
@@ -87,5 +84,5 @@ returns-in-Err-clause-asks g c =
     (λ h served.
     let list = told_list d.view g.met.D.Disk.only_now g.H.Hasher.dig r.store r.root h served in
     high_good g.H.Hasher.dig (λ text. (g.met.H.Hasher.size text, g.met.H.Hasher.bytes text)) (opening_of r.store served.image).pages h r.root.head served.has.keeps.steps served.has.keeps.trees served.has.sound r.root.name served.has.named
-    peer c.see_name.ensures step top (omega (arith, c.requires.0)) c.requires.1 (c.top_refusal.ensures.order (ap is_some c.in_default.is)).0 (c.top_refusal.ensures.order (ap is_some c.in_default.is)).1 c.in-Err.refusal (c.in-Err.ensures.reads.answer _ list))
+    peer c.name_law.ensures step top (omega (arith, c.requires.0)) c.requires.1 (c.top_refusal.ensures.order (ap is_some c.in_default.is)).0 (c.top_refusal.ensures.order (ap is_some c.in_default.is)).1 c.in-Err.refusal (c.in-Err.ensures.reads.answer _ list))
     (λ is. c.in-Err.ensures.reads.faults.rose (of_disk_fault c.in-Err.refusal is))

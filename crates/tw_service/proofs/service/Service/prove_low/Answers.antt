@@ -1,9 +1,7 @@
-use Rattle.std.proofs.Common.{◌≡◌, ◌∙◌, ℕ, ◌<◌, ◌≤◌, List, Bool, length, ap, subst, sym, refl, arith, false}
-use Rattle.std.specs.Prelude.{is_some, Option, None, Some, Result, Ok}
+use Rattle.std.proofs.Common.{◌≡◌, ◌∙◌, ℕ, ◌≤◌, List, Bool, ap, subst, sym, refl, arith, false}
+use Rattle.std.specs.Prelude.{is_some, Option, None, Some, Result}
 use Rattle.tw_base.specs.declared.kinds.limits.TheConstants.{LAST_STEP}
-use Rattle.tw_base.specs.history.History.{History}
 use Rattle.tw_disk.specs.Found.{Found}
-use Rattle.tw_disk.specs.Found.Found.{Is}
 use Rattle.tw_pages.specs.StoreValue.{opening_of}
 use Rattle.tw_answers.specs.declared.refusal.Refusal.{Refusal}
 use Rattle.tw_answers.specs.Finds.{IsRefusalOf, unless}
@@ -53,7 +51,7 @@ returns-in-Ok-clause-made g c = λ h served.
     let last = r.root.head.step in
     let list = told_list d.view g.met.D.Disk.only_now g.H.Hasher.dig r.store r.root h served in
     low_answer g.H.Hasher.dig (λ text. (g.met.H.Hasher.size text, g.met.H.Hasher.bytes text)) (opening_of r.store served.image).pages h r.root.head served.has.keeps.steps served.has.keeps.trees served.has.sound r.root.name served.has.named
-    peer c.see_name.ensures step top (c.order_refusal.ensures.order (ap is_some c.in_default.is)).0 (few step top r.root.head.step _ (c.order_refusal.ensures.order (ap is_some c.in_default.is)).1 (c.order_refusal.ensures.order (ap is_some c.in_default.is)).2 served.has.keeps.steps.step served.has.sound.length) (omega (arith, (c.order_refusal.ensures.order (ap is_some c.in_default.is)).0, (c.order_refusal.ensures.order (ap is_some c.in_default.is)).1)) (c.order_refusal.ensures.order (ap is_some c.in_default.is)).2 (c.order_refusal.ensures.order (ap is_some c.in_default.is)).1 c.in-Ok.bytes (c.in-Ok.ensures.reads.answer _ list)
+    peer c.name_law.ensures step top (c.order_refusal.ensures.order (ap is_some c.in_default.is)).0 (few step top r.root.head.step _ (c.order_refusal.ensures.order (ap is_some c.in_default.is)).1 (c.order_refusal.ensures.order (ap is_some c.in_default.is)).2 served.has.keeps.steps.step served.has.sound.length) (omega (arith, (c.order_refusal.ensures.order (ap is_some c.in_default.is)).0, (c.order_refusal.ensures.order (ap is_some c.in_default.is)).1)) (c.order_refusal.ensures.order (ap is_some c.in_default.is)).2 (c.order_refusal.ensures.order (ap is_some c.in_default.is)).1 c.in-Ok.bytes (c.in-Ok.ensures.reads.answer _ list)
 
 pub returns-in-Ok-clause-asks : goal.returns-in-Ok-clause-asks
 returns-in-Ok-clause-asks g c =
@@ -71,7 +69,7 @@ returns-in-Ok-clause-asks g c =
     (λ whole h served.
     let list = told_list d.view g.met.D.Disk.only_now g.H.Hasher.dig r.store r.root h served in
     let made = low_answer g.H.Hasher.dig (λ text. (g.met.H.Hasher.size text, g.met.H.Hasher.bytes text)) (opening_of r.store served.image).pages h r.root.head served.has.keeps.steps served.has.keeps.trees served.has.sound r.root.name served.has.named
-    peer c.see_name.ensures step top (c.order_refusal.ensures.order (ap is_some c.in_default.is)).0 (few step top r.root.head.step _ (c.order_refusal.ensures.order (ap is_some c.in_default.is)).1 (c.order_refusal.ensures.order (ap is_some c.in_default.is)).2 served.has.keeps.steps.step served.has.sound.length) (omega (arith, (c.order_refusal.ensures.order (ap is_some c.in_default.is)).0, (c.order_refusal.ensures.order (ap is_some c.in_default.is)).1)) (c.order_refusal.ensures.order (ap is_some c.in_default.is)).2 (c.order_refusal.ensures.order (ap is_some c.in_default.is)).1 c.in-Ok.bytes (c.in-Ok.ensures.reads.answer _ list) in
+    peer c.name_law.ensures step top (c.order_refusal.ensures.order (ap is_some c.in_default.is)).0 (few step top r.root.head.step _ (c.order_refusal.ensures.order (ap is_some c.in_default.is)).1 (c.order_refusal.ensures.order (ap is_some c.in_default.is)).2 served.has.keeps.steps.step served.has.sound.length) (omega (arith, (c.order_refusal.ensures.order (ap is_some c.in_default.is)).0, (c.order_refusal.ensures.order (ap is_some c.in_default.is)).1)) (c.order_refusal.ensures.order (ap is_some c.in_default.is)).2 (c.order_refusal.ensures.order (ap is_some c.in_default.is)).1 c.in-Ok.bytes (c.in-Ok.ensures.reads.answer _ list) in
     low_made g.H.Hasher.dig h step peer top c.in-Ok.bytes (to_table s.is_broken last step top _ None none whole served.has.keeps.steps.step) made)
 
 pub returns-in-Err-clause-asks : goal.returns-in-Err-clause-asks
@@ -90,5 +88,5 @@ returns-in-Err-clause-asks g c =
     (λ h served.
     let list = told_list d.view g.met.D.Disk.only_now g.H.Hasher.dig r.store r.root h served in
     low_good g.H.Hasher.dig (λ text. (g.met.H.Hasher.size text, g.met.H.Hasher.bytes text)) (opening_of r.store served.image).pages h r.root.head served.has.keeps.steps served.has.keeps.trees served.has.sound r.root.name served.has.named
-    peer c.see_name.ensures step top (c.order_refusal.ensures.order (ap is_some c.in_default.is)).0 (few step top r.root.head.step _ (c.order_refusal.ensures.order (ap is_some c.in_default.is)).1 (c.order_refusal.ensures.order (ap is_some c.in_default.is)).2 served.has.keeps.steps.step served.has.sound.length) (omega (arith, (c.order_refusal.ensures.order (ap is_some c.in_default.is)).0, (c.order_refusal.ensures.order (ap is_some c.in_default.is)).1)) (c.order_refusal.ensures.order (ap is_some c.in_default.is)).2 (c.order_refusal.ensures.order (ap is_some c.in_default.is)).1 c.in-Err.refusal (c.in-Err.ensures.reads.answer _ list))
+    peer c.name_law.ensures step top (c.order_refusal.ensures.order (ap is_some c.in_default.is)).0 (few step top r.root.head.step _ (c.order_refusal.ensures.order (ap is_some c.in_default.is)).1 (c.order_refusal.ensures.order (ap is_some c.in_default.is)).2 served.has.keeps.steps.step served.has.sound.length) (omega (arith, (c.order_refusal.ensures.order (ap is_some c.in_default.is)).0, (c.order_refusal.ensures.order (ap is_some c.in_default.is)).1)) (c.order_refusal.ensures.order (ap is_some c.in_default.is)).2 (c.order_refusal.ensures.order (ap is_some c.in_default.is)).1 c.in-Err.refusal (c.in-Err.ensures.reads.answer _ list))
     (λ is. c.in-Err.ensures.reads.faults.rose (of_disk_fault c.in-Err.refusal is))

@@ -1,0 +1,14 @@
+use Rattle.std.proofs.Common.{rules, ◌≡◌, ◌≤◌, ◌∙◌, ap, subst, sym}
+use Rattle.std.specs.Prelude.{IfOk, Some}
+use Rattle.tw_base.specs.history.Asking.{with_entry}
+use Rattle.tw_base.specs.history.Tree.{Tree, entries}
+use Rattle.tw_disk.specs.Image.{Image}
+use Rattle.tw_rbtree.specs.Standing.{HasNamed, StandsWith}
+use Rattle.tw_archive.proofs.near.insert_near.Goals as goal
+
+pub returns-clause-inserted : goal.returns-clause-inserted
+returns-clause-inserted g c = λ ps told named below t stands.
+    let lent = c.over-near.ensures.pages.1 in
+    subst (λ (p : g.row.P.Denot). IfOk c.insert.result (λ new. (now : Image) × (grown : Tree) × ((g.P.Pages.view p).list ≡ Some now)
+    × StandsWith g.H.Hasher.dig (HasNamed named) now new grown × (entries grown ≡ with_entry (entries t) c.args.entry))) (search rules)
+    (c.insert.ensures.inserted ps (ap (λ p. (g.P.Pages.view p).list) lent ∙ told) named (subst (λ p. named.below ≤ (g.P.Pages.view p).used) (sym lent) below) t stands)

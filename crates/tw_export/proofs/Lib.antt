@@ -1,0 +1,3 @@
+pub mod StepLaws
+pub mod PageLaws
+pub mod FileLaws

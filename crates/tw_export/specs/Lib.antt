@@ -1,0 +1,5 @@
+pub mod Faults
+pub mod NodeNumbers
+pub mod Files
+pub mod Exporting
+pub mod Told

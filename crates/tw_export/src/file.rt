@@ -1,0 +1,78 @@
+// The bytes of a history's file, step by step.
+#![tactic(auto, unfolding(tw_base::specs::format::Codecs::bytes_codec, tw_base::specs::format::Codecs::name_codec, tw_base::specs::format::Codecs::text_codec))]
+
+ghost use Rattle.std.specs.Prelude.{◌≡◌, ◌++◌, ℕ, IfOk, List, OnOk, length};
+ghost use Rattle.tw_export.specs.Files.{begun, front_of, stays_short as stays_short_of, told_file, with_text};
+ghost use Rattle.tw_export.specs.Told.{file_of};
+
+use std::alloc::Global;
+use tw_base::limits::MOST_HISTORY_BYTES;
+use tw_base::{Bytes, Name, NoMemory, put_last_bytes, put_name, put_text};
+use tw_history::MAGIC;
+
+/// The file so far: its bytes, which are kept while it is within its limits, how many they are or would be,
+/// at most 2^64 - 1, and whether it is within them.
+#[derive(Drop)]
+pub(crate) struct HistoryFile {
+    pub bytes: Bytes,
+    pub size: u64,
+    pub is_short: bool,
+}
+
+/// Appends what stands before the first of so many steps.
+fn put_front(into: &mut Bytes, name: &Name, count: u64) -> Result<(), NoMemory>
+    ensures { OnOk result (into.new ≡ into.old ++ front_of name.now count) }
+{
+    put_text(into, &MAGIC)?;
+    put_name(into, name)?;
+    put_last_bytes(into, count, 8)?;
+    Ok(())
+}
+
+/// The file of a history of this name before the first of so many steps.
+#[tactic(auto)]
+pub(crate) fn begin_file(alloc: Global, name: &Name, count: u64) -> Result<HistoryFile, NoMemory>
+    ensures { IfOk result (λ file. file_of file ≡ begun name.now count) }
+{
+    let mut bytes = Bytes::new(alloc);
+    put_front(&mut bytes, name, count)?;
+    let size = bytes.len() as u64;
+    Ok(HistoryFile {
+        bytes,
+        size,
+        is_short: true,
+    })
+}
+
+/// Whether the file stays within its limits with so many bytes more, of a step with few new nodes or not.
+fn stays_short(file: &HistoryFile, more: u64, is_few: bool) -> bool
+    ensures { (text : List ℕ) → length text ≡ more → result ≡ stays_short_of (file_of file.now) text is_few }
+{
+    file.is_short && is_few && file.size.saturating_add(more) <= MOST_HISTORY_BYTES
+}
+
+/// The file with the bytes of one step more, which has few new nodes or not.
+#[tactic(auto)]
+pub(crate) fn add_text(file: &mut HistoryFile, text: &[u8], is_few: bool) -> Result<(), NoMemory>
+    ensures { OnOk result (file_of file.new ≡ with_text (file_of file.old) text.now is_few) }
+{
+    let more = text.len() as u64;
+    file.is_short = stays_short(file, more, is_few);
+    file.size = file.size.saturating_add(more);
+    if file.is_short {
+        file.bytes.extend_from_slice(text)?;
+    }
+    Ok(())
+}
+
+/// The bytes of the file, or, where it isn't within its limits, how many it would have.
+pub(crate) fn end_file(file: HistoryFile) -> Result<Bytes, u64>
+    ensures { result ≡ told_file (file_of file) }
+{
+    let HistoryFile {
+        bytes,
+        size,
+        is_short,
+    } = file;
+    if is_short { Ok(bytes) } else { Err(size) }
+}
