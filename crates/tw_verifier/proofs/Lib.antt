@@ -6,3 +6,4 @@ pub mod Verdicts
 pub mod StageForms
 pub mod StageLaws
 pub mod NoRoot
+pub mod LinkRuns

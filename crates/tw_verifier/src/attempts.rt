@@ -1,10 +1,13 @@
 // What is found in the bytes that are held of each segment of a proof: where it ends, the stage behind it.
 #![tactic(auto)]
 
-ghost use Rattle.std.specs.Prelude.{◌≡◌, ℕ, ◌≤◌, List, [], ◌∷◌, ◌++◌, IfOk};
+ghost use Rattle.std.specs.Prelude.{◌≡◌, ℕ, ◌≤◌, List, [], ◌∷◌, ◌++◌, length, take, IfOk};
 ghost use Rattle.tw_base.specs.declared.kinds.limits.TheConstants.{LAST_STEP, MOST_HOPS};
 ghost use Rattle.tw_base.specs.declared.history.thread.Thread.{Thread as Anchor};
-ghost use Rattle.tw_pieces.specs.Resuming.{Attempts};
+ghost use Rattle.tw_base.specs.format.Formats.{Format};
+ghost use Rattle.tw_pieces.specs.Resuming.{Attempts, StandsBehind};
+ghost use Rattle.tw_skipproof.specs.declared.path.Link.{Link as AnyLink};
+ghost use Rattle.tw_verifier.specs.declared.judgement.Judgement.{Judgement as AnyJudgement};
 ghost use Rattle.tw_skipproof.specs.Paths.{hop};
 ghost use Rattle.tw_verifier.specs.declared.stage.Stage.TheVariants.{Begun, Counted, Event, Head, LinkHead, Opening, Path};
 ghost use Rattle.tw_verifier.specs.Stages.{behind_kind as behind_kind_of, behind_path, behind_second, event_of, head_of, least_opened, path_of, rest, step_opened};
@@ -14,7 +17,7 @@ use crate::heads::{take_kind_head, take_link_head, take_part_head};
 use crate::stage::{EventAt, Goal, HopCount, Opens, PathSoFar, Role, Stage, Way};
 use std::alloc::Global;
 use tw_base::limits::MOST_HOPS;
-use tw_base::{Hasher, NoMemory, Thread, take_number};
+use tw_base::{Hasher, NoMemory, ReadFault, Thread, take_number};
 use tw_pieces::{Attempt, event_until, link_until, missed, opening_until};
 use tw_skipproof::{Link, LinkList, next_step, take_event, take_link, take_opening};
 
@@ -122,14 +125,57 @@ pub(crate) fn attempt_link_head<H: Hasher>(
     }
 }
 
-/// Behind a link more.
+/// The links of a path that were taken so far, the step that they lead down to, and how many bytes the last ones had.
+#[derive(Drop)]
+struct LinksSoFar {
+    links: LinkList,
+    at: u64,
+    size: usize,
+}
+
+/// Behind links that lead down to a step, the next ones of the path that are held whole.
+fn take_links(
+    alloc: Global,
+    links: LinkList,
+    from: u64,
+    to: u64,
+    held: &[u8],
+) -> Result<LinksSoFar, NoMemory>
+    requires { from ≤ LAST_STEP }
+    ensures small { IfOk result (λ l. l.at ≤ LAST_STEP) }
+    ensures within { IfOk result (λ l. l.size ≤ length held.now) }
+    ensures behind { (next : List AnyLink → Format AnyJudgement) → IfOk result (λ l. StandsBehind (path_of links from to next) (take l.size held.now) (path_of l.links l.at to next)) }
+{
+    let mut links = links;
+    let mut at = from;
+    let mut size = 0;
+    while at > to {
+        let left = &held[size..];
+        if left.len() < link_until(left, at) {
+            break;
+        }
+        let mut place = 0;
+        match take_link(alloc, left, &mut place, at) {
+            Ok(link) => links.push(link)?,
+            Err(ReadFault::NoMemory) => return Err(NoMemory),
+            Err(ReadFault::Malformed { .. }) => break,
+        }
+        at = next_step(at, to);
+        size += place as usize;
+    }
+    Ok(LinksSoFar { links, at, size })
+}
+
+/// Behind a link more and the next ones that are held whole, which have so many bytes.
 fn behind_link<H: Hasher>(
     alloc: Global,
     anchors: &[Thread],
     path: PathSoFar,
     link: Link,
-) -> Result<Stage, NoMemory>
-    ensures { IfOk result (λ stage. rest H.dig anchors.now stage ≡ path_of (path.links ++ link ∷ []) (hop path.at path.to) path.to (behind_path H.dig anchors.now path.way)) }
+    held: &[u8],
+) -> Result<(Stage, usize), NoMemory>
+    ensures within { IfOk result (λ r. r.1 ≤ length held.now) }
+    ensures behind { IfOk result (λ r. StandsBehind (path_of (path.links ++ link ∷ []) (hop path.at path.to) path.to (behind_path H.dig anchors.now path.way)) (take r.1 held.now) (rest H.dig anchors.now r.0)) }
 {
     let PathSoFar {
         way,
@@ -138,10 +184,12 @@ fn behind_link<H: Hasher>(
         to,
     } = path;
     links.push(link)?;
-    along_path::<H>(alloc, anchors, way, links, next_step(at, to), to)
+    let LinksSoFar { links, at, size } = take_links(alloc, links, next_step(at, to), to, held)?;
+    let stage = along_path::<H>(alloc, anchors, way, links, at, to)?;
+    Ok((stage, size))
 }
 
-/// Looks for a link, where as many bytes are held as it has.
+/// Looks for a link, where as many bytes are held as it has, and takes the next ones that are held whole with it.
 pub(crate) fn attempt_link<H: Hasher>(
     alloc: Global,
     anchors: &[Thread],
@@ -160,10 +208,11 @@ pub(crate) fn attempt_link<H: Hasher>(
     let mut at = 0;
     match take_link(alloc, held, &mut at, path.at) {
         Ok(link) => {
-            let next = behind_link::<H>(alloc, anchors, path, link)?;
+            let size = at as usize;
+            let (next, more) = behind_link::<H>(alloc, anchors, path, link, &held[size..])?;
             Ok(Attempt::Ended {
                 next,
-                size: at as usize,
+                size: size + more,
             })
         }
         Err(fault) => missed(Stage::Path(path), held, fault),

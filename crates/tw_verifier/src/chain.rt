@@ -27,10 +27,9 @@ use tw_chain::{
 };
 use tw_skipproof::{Opening, Part};
 
-/// What the verifier holds of a proof from event to event between two of its hops: the thread that the
-/// hops come to and, where another hop follows, the opening of its step, whose archive shows that
-/// hop; the number of the next part, and how many hops follow; the lowest reason so far; the hops
-/// and the carried threads so far, in the order of the bytes; and the second event.
+/// What the verifier holds of a proof from event to event between two of its hops: the thread that the hops come to and, where another
+/// hop follows, the opening of its step, whose archive shows that hop; the number of the next part, and how many hops follow; the lowest
+/// reason so far; the hops and the carried threads so far, in the order of the bytes; and the second event.
 #[derive(Drop, Debug)]
 pub struct Chain {
     pub known: Thread,
@@ -55,8 +54,7 @@ fn start(head: &Part) -> Thread
     }
 }
 
-/// What is found with the check that the archive of the opening has the entry of a hop. Where there
-/// is no opening, no tree proof passes.
+/// What is found with the check that the archive of the opening has the entry of a hop. Where there is no opening, no tree proof passes.
 fn with_entry<H: Hasher>(
     found: Option<Reason>,
     part: u8,
@@ -153,8 +151,8 @@ fn carry(carried: &mut Threads, hop: &HopPart) -> Result<(), NoMemory>
 }
 
 impl Chain {
-    /// The chain of a proof with so many hops whose head is judged here: the second event's step under
-    /// an anchor, the event and, where there is a hop, the opening of the step before.
+    /// The chain of a proof with so many hops whose head is judged here: the second event's step under an anchor, the event and, where
+    /// there is a hop, the opening of the step before.
     pub(crate) fn begin<H: Hasher>(
         alloc: Global,
         head: Part,

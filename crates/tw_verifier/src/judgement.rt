@@ -18,8 +18,7 @@ use tw_chain::{
 };
 use tw_skipproof::{ExistenceProof, Part};
 
-/// The lowest reason against a proof but that threads are carried, where one stands, and the report
-/// of its claim.
+/// The lowest reason against a proof but that threads are carried, where one stands, and the report of its claim.
 #[derive(Drop, Debug)]
 pub struct Judgement {
     pub found: Option<Reason>,
@@ -27,8 +26,8 @@ pub struct Judgement {
 }
 
 impl Judgement {
-    /// The verdict that it comes to: No with the lowest reason that was found; where none was, in the
-    /// strict form No where threads are carried; else Yes.
+    /// The verdict that it comes to: No with the lowest reason that was found; where none was, in the strict form No where threads are
+    /// carried; else Yes.
     pub(crate) fn verdict(self, strict: bool) -> Verdict
         ensures { length self.report.carried < 2 ^ 8 → result ≡ verdict_of strict self }
     {

@@ -185,8 +185,8 @@ pub struct Climb {
     ghost some: { 0 < more },
 }
 
-/// What was taken of a proof that comes in pieces. What follows is a segment that has at most 108 bytes, or
-/// tells soon how many it has, and then more segments.
+/// What was taken of a proof that comes in pieces. What follows is a segment that has at most 108 bytes, or tells soon how many it has,
+/// and then more segments.
 #[derive(Drop)]
 pub enum Stage {
     /// Nothing: the magic and the kind follow.

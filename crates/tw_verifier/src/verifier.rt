@@ -24,8 +24,8 @@ pub struct Judging<H> {
     pub(crate) hasher: PhantomData<H>,
 }
 
-/// A verifier that is fed the bytes of a proof in pieces, cut anywhere. It holds the part of the
-/// proof at hand, and what the report needs.
+/// A verifier that is fed the bytes of a proof in pieces, cut anywhere. It holds the part of the proof at hand, and what the report
+/// needs.
 #[derive(Drop)]
 pub struct Verifier<H> {
     pub(crate) alloc: Global,
@@ -34,8 +34,7 @@ pub struct Verifier<H> {
 }
 
 impl<H: Hasher> Verifier<H> {
-    /// A verifier under these anchors that was fed no piece yet; the strict form refuses a proof that
-    /// carries threads.
+    /// A verifier under these anchors that was fed no piece yet; the strict form refuses a proof that carries threads.
     pub fn new(alloc: Global, anchors: &[Thread], strict: bool) -> Result<Self, NoMemory>
         // A new verifier was fed nothing, and memory was left for it.
         ensures fed { IfOk result (λ v. IsFed H.dig anchors.now strict v [] × (IsSpent v.fed → ⊥)) }
@@ -80,8 +79,7 @@ impl<H: Hasher> Verifier<H> {
         self.fed.is_broken()
     }
 
-    /// The verdict on the pieces, joined, now that no piece more comes. `NoMemory` where no memory was
-    /// left for one of them.
+    /// The verdict on the pieces, joined, now that no piece more comes. `NoMemory` where no memory was left for one of them.
     pub fn finish(self) -> Result<Verdict, NoMemory>
         // The verdict on a proof that came in pieces is that on all of its bytes, wherever they were cut.
         ensures verdict { (anchors : List Anchor) (strict : Bool) (pieces : List ℕ) → IsFed H.dig anchors strict self pieces →
@@ -100,26 +98,24 @@ impl<H: Hasher> Verifier<H> {
     }
 }
 
-/// The verdict on the bytes of a proof under the anchors: Yes exactly where the bytes spell a proof
-/// that is accepted and, in the strict form, carries no thread, with its report; else No with the
-/// lowest reason that stands. Each text is hashed once, and one part of the proof (its head, a hop
-/// or its tail) is held at a time, with what the report needs.
+/// The verdict on the bytes of a proof under the anchors: Yes exactly where the bytes spell a proof that is accepted and, in the strict
+/// form, carries no thread, with its report; else No with the lowest reason that stands. Each text is hashed once, and one part of the
+/// proof (its head, a hop or its tail) is held at a time, with what the report needs.
 ///
-/// Where it is Yes, in every family of sound histories that has the held threads the report's claim
-/// holds, by the report's own hops, or two different texts of the histories and of the proof, both of
-/// bytes, have one digest.
+/// Where it is Yes, in every family of sound histories that has the held threads the report's claim holds, by the report's own hops, or
+/// two different texts of the histories and of the proof, both of bytes, have one digest.
 pub fn verify<H: Hasher>(
     alloc: Global,
     bytes: &[u8],
     anchors: &[Thread],
     strict: bool,
 ) -> Result<Verdict, NoMemory>
-    // The verdict on bytes under a list of anchors is `Yes` exactly where they spell a proof that is accepted and, in the
-    // strict form, carries no thread, with the report of that proof; else `No` with the lowest reason that stands.
+    // The verdict on bytes under a list of anchors is `Yes` exactly where they spell a proof that is accepted and, in the strict form,
+    // carries no thread, with the report of that proof; else `No` with the lowest reason that stands.
     ensures verdict { IfOk result (IsVerdict H.dig anchors.now strict bytes.now) }
-    // Where the verdict is `Yes`, the report's claim holds by the report's own hops in every list of sound histories that
-    // has the anchors held of those that the proof names and the threads that it carries, and where it has no hops the
-    // times rise; or two different texts of these histories and of the proof, both of bytes, have one digest.
+    // Where the verdict is `Yes`, the report's claim holds by the report's own hops in every list of sound histories that has the anchors
+    // held of those that the proof names and the threads that it carries, and where it has no hops the times rise; or two different texts
+    // of these histories and of the proof, both of bytes, have one digest.
     ensures binds { IfOk result (BindsHistories H.dig anchors.now bytes.now) }
 {
     fed_whole::<H>(alloc, bytes, anchors, strict)?.finish()

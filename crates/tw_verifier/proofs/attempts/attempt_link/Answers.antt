@@ -1,12 +1,14 @@
-use Rattle.std.proofs.Common.{[], ◌∷◌, ◌++◌, refl, sym}
-use Rattle.tw_pieces.proofs.SegmentLaws.{attempts-ended, attempts-missed, stays-then}
+use Rattle.std.proofs.Common.{◌≡◌, ℕ, ◌-◌, List, [], ◌∷◌, ◌++◌, length, take, drop, ap, arith, refl}
+use Rattle.std.proofs.lemmas.List.{length-drop, take_rest}
+use Rattle.tw_pieces.proofs.SegmentLaws.{attempts-missed, stays-then}
 use Rattle.tw_skipproof.specs.declared.path.Link.{Link}
 use Rattle.tw_skipproof.specs.Codecs.{link_codec}
 use Rattle.tw_skipproof.specs.Paths.{hop}
 use Rattle.tw_skipproof.proofs.LawfulCodecs.{link-lawful}
 use Rattle.tw_verifier.specs.declared.stage.Stage.TheVariants.{Path}
 use Rattle.tw_verifier.specs.Stages.{behind_path, path_of, rest}
-use Rattle.tw_verifier.proofs.StageLaws.{link-nothing, path-goes, way-goes}
+use Rattle.tw_verifier.proofs.LinkRuns.{behind-on, link-taken}
+use Rattle.tw_verifier.proofs.StageLaws.{path-goes, way-goes}
 use Rattle.tw_verifier.proofs.attempts.attempt_link.Goals as goal
 
 pub returns-then-held-until : goal.returns-then-held-until
@@ -21,9 +23,17 @@ returns-then-held-until g c =
 pub returns-in_ok-next-in-Ok : goal.returns-in_ok-next-in-Ok
 returns-in_ok-next-in-Ok g c =
     let p = c.args.path in
-    attempts-ended (rest g.H.Hasher.dig c.args.anchors.now) (link_codec p.at) (link-lawful p.at)
-    (λ (l : Link). path_of (p.links ++ l ∷ []) (hop p.at p.to) p.to (behind_path g.H.Hasher.dig c.args.anchors.now p.way)) (link-nothing p.at) (Path p) c.in_ok-next-in-Ok.next c.args.held.now
-    c.take_link.new.at c.in-Ok.link refl (sym c.in_ok-next-in-Ok.ensures) c.in-Ok.ensures.0
+    let held = c.args.held.now in
+    let at = c.take_link.new.at in
+    let slice : List ℕ = take (length held - at) (drop at held) in
+    let is : slice ≡ drop at held = take_rest held at in
+    let more = c.in_ok-next-in-Ok.ensures in
+    let first = link-taken p.links p.at p.to (behind_path g.H.Hasher.dig c.args.anchors.now p.way) held at c.in-Ok.link c.in-Ok.ensures.0 in (
+      omega (arith, first.0),
+      omega (arith, first.1, more.within, ap length is, length-drop at held),
+      behind-on (rest g.H.Hasher.dig c.args.anchors.now (Path p)) (path_of (p.links ++ c.in-Ok.link ∷ []) (hop p.at p.to) p.to (behind_path g.H.Hasher.dig c.args.anchors.now p.way))
+          (rest g.H.Hasher.dig c.args.anchors.now c.in_ok-next-in-Ok.next) held slice at c.in_ok-next-in-Ok.more is first.2 more.behind,
+    )
 
 pub returns-in-Err : goal.returns-in-Err
 returns-in-Err g c =
