@@ -7,3 +7,8 @@ pub mod LineSteps
 pub mod Leading
 pub mod Closing
 pub mod Together
+pub mod CountedSteps
+pub mod PlayedTexts
+pub mod Resting
+pub mod AnsweredCalls
+pub mod Ends

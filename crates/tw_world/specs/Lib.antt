@@ -2,3 +2,5 @@ pub mod Worlds
 pub mod Telling
 pub mod Runs
 pub mod Order
+pub mod Hosts
+pub mod Playing

@@ -1,5 +1,5 @@
 -- The text of what is told of a schedule's lines.
-use Rattle.std.specs.Prelude.{ℕ, List, [], ◌∷◌, ◌++◌, codes, decimal, length, Bool, false}
+use Rattle.std.specs.Prelude.{ℕ, List, [], ◌∷◌, ◌++◌, codes, decimal, length, Bool, false, Option, Some, None}
 use Rattle.std.specs.List.{count_by}
 use Rattle.std.specs.Str.{bytes_eq}
 use Rattle.serde_json.specs.Data.{Data, Members, member, no_members, number, object, put, unsigned}
@@ -58,6 +58,12 @@ told_fields (Plain answer) = answer_fields answer
 told_fields (Crashed answer steps) = answer_fields answer ++ reopened_fields steps
 told_fields (Stopped steps) = Word (codes "stopped") ∷ reopened_fields steps
 
+-- the answer, where the line wasn't stopped
+abbrev pub answer_told : Told → Option Answer
+answer_told (Plain answer) = Some answer
+answer_told (Crashed answer steps) = Some answer
+answer_told (Stopped steps) = None
+
 -- the line's number in the file, and its answer
 abbrev pub told_line : (n : ℕ) → Told → List ℕ
 told_line n told = line (decimal n) (told_fields told)
@@ -78,10 +84,13 @@ begins_with word _ = false
 abbrev pub count_of : (word : List ℕ) → List Told → ℕ
 count_of word told = count_by (λ (t : Told). begins_with word (told_fields t)) told
 
--- the numbers of steps of histories, by their names
-unfoldable pub steps_by_name : List History → Members
-steps_by_name [] = no_members
-steps_by_name (h ∷ family) = put (name_text h.name) (number (unsigned (length h.steps))) (steps_by_name family)
+-- the numbers of steps of histories, by their names, beside what is there
+unfoldable pub with_steps : Members → List History → Members
+with_steps named [] = named
+with_steps named (h ∷ family) = with_steps (put (name_text h.name) (number (unsigned (length h.steps))) named) family
+
+abbrev pub steps_by_name : List History → Members
+steps_by_name family = with_steps no_members family
 
 abbrev pub summary : List Told → List History → Data
 summary told family =

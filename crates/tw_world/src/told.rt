@@ -1,6 +1,10 @@
 // What is told of a line.
 
+ghost use Rattle.std.specs.Prelude.{◌≡◌};
+ghost use Rattle.tw_world.specs.Telling.{answer_told};
+
 use tw_answers::Refusal;
+use tw_base::Sequence;
 
 /// The answer to a line.
 #[derive(Clone, Copy, Drop)]
@@ -36,4 +40,20 @@ pub enum Told {
     Crashed { answer: Answer, steps: u64 },
     /// The line was stopped by a crash that had waited; the service has so many steps when it is opened again.
     Stopped { steps: u64 },
+}
+
+/// What is told of lines, one after another.
+pub(crate) type ToldList = Sequence<Told>;
+
+impl Told {
+    /// The answer; none of a line that was stopped.
+    pub fn answer(&self) -> Option<Answer>
+        ensures { result ≡ answer_told self.now }
+    {
+        match self {
+            Told::Plain(answer) => Some(*answer),
+            Told::Crashed { answer, .. } => Some(*answer),
+            Told::Stopped { .. } => None,
+        }
+    }
 }

@@ -1,0 +1,106 @@
+-- Where acts of services lead.
+use Rattle.std.proofs.Common.{◌≡◌, ℕ, suc, ◌+◌, List, [], ◌∷◌, ◌++◌, Bool, true, false, refl, ap, sym, ◌∙◌, subst, add-one}
+use Rattle.std.specs.Prelude.{None, Result, Ok, Err, OnOk, if◌then◌else◌}
+use Rattle.std.specs.Str.{bytes_eq}
+use Rattle.tw_base.specs.history.History.{History, received, root_of, step_at}
+use Rattle.tw_disk.specs.Disk.{DiskView}
+use Rattle.tw_service.specs.EventSteps.{event_step, with_events}
+use Rattle.tw_service.specs.Stands.{no_history}
+use Rattle.tw_generate.specs.Draws.{after_step, step_events}
+use Rattle.tw_generate.specs.Playing.{ArePlaying, HasHeard, HasHeardOf, Leads}
+use Rattle.tw_generate.specs.Schedules.{Act, IsDone, LeadTo, Trio, after_rounds, all_append, last_heard, round, rounds_of}
+use Rattle.tw_generate.specs.declared.services.Services.{Services}
+use Rattle.tw_generate.proofs.HeardSteps.{heard-nothing}
+use Rattle.std.specs.Prelude.{length}
+
+module _ (dig : List ℕ → List ℕ) where
+  pub none-lead : (t : Trio) → LeadTo dig [] t t
+  unfolding LeadTo
+  none-lead t = refl
+
+  pub one-leads : (act : Act) (acts : List Act) (t next end : Trio) → IsDone dig act t next → LeadTo dig acts next end → LeadTo dig (act ∷ acts) t end
+  unfolding LeadTo
+  one-leads act acts t next end done lead = (next, done, lead)
+
+  pub lead-on : (xs ys : List Act) (t u v : Trio) → LeadTo dig xs t u → LeadTo dig ys u v → LeadTo dig (xs ++ ys) t v
+  unfolding LeadTo
+  lead-on [] ys t u v one other = subst (λ (w : Trio). LeadTo dig ys w v) (sym one) other
+  lead-on (act ∷ xs) ys t u v one other = (one.0, one.1, lead-on xs ys one.0 u v one.2 other)
+
+  -- the histories with a step more each
+  abbrev pub with_steps : Trio → (alpha beta gamma : List (List ℕ)) → Trio
+  with_steps t alpha beta gamma = record { alpha = with_events t.alpha alpha None; beta = with_events t.beta beta None; gamma = with_events t.gamma gamma None }
+
+  pub all-append : (t : Trio) (alpha beta gamma : List (List ℕ)) → LeadTo dig (all_append alpha beta gamma) t (with_steps t alpha beta gamma)
+  unfolding LeadTo
+  all-append t alpha beta gamma = (_, refl, (_, refl, (_, refl, refl)))
+
+module _ {D H : Type 0} {g : _} {k : _} (dig : List ℕ → List ℕ) (view : D → DiskView) where
+  pub leads-none : (s : Services D H g k) → Leads dig view [] s s
+  leads-none s = λ t plays. (t, none-lead dig t, plays)
+
+  pub leads-on : (xs ys : List Act) (a b c : Services D H g k) → Leads dig view xs a b → Leads dig view ys b c → Leads dig view (xs ++ ys) a c
+  leads-on xs ys a b c one other = λ t plays.
+      let first = one t plays in
+      let second = other first.0 first.2 in
+      (second.0, lead-on dig xs ys t first.0 second.0 first.1 second.1, second.2)
+
+-- ---- what is heard
+
+-- a step of events
+pub heard-events : (own one other : List ℕ) (h : History) (of_one of_other : ℕ) (events : List (List ℕ)) → HasHeardOf own one other h of_one of_other
+    → HasHeardOf own one other (with_events h events None) of_one of_other
+heard-events own one other h of_one of_other events before =
+    let step = event_step (root_of (step_at h (length h.steps))) events None in
+    record {
+      name = before.name;
+      one_is = before.one_is ∙ sym (heard-nothing h step refl one);
+      other_is = before.other_is ∙ sym (heard-nothing h step refl other);
+    }
+
+-- a message of the first of the others
+pub heard-one : (own one other : List ℕ) (from before after : History) (of_one of_other last : ℕ) → bytes_eq one other ≡ false → from.name ≡ one
+    → HasHeardOf own one other before of_one of_other → HasHeard from before after last → HasHeardOf own one other after last of_other
+heard-one own one other from before after of_one of_other last apart is was now = record {
+  name = now.name ∙ was.name;
+  one_is = now.last_is ∙ ap (last_heard after) is;
+  other_is = was.other_is ∙ sym (now.others other (ap (λ n. bytes_eq n other) is ∙ apart));
+}
+
+-- a message of the second
+pub heard-other : (own one other : List ℕ) (from before after : History) (of_one of_other last : ℕ) → bytes_eq other one ≡ false → from.name ≡ other
+    → HasHeardOf own one other before of_one of_other → HasHeard from before after last → HasHeardOf own one other after of_one last
+heard-other own one other from before after of_one of_other last apart is was now = record {
+  name = now.name ∙ was.name;
+  one_is = was.one_is ∙ sym (now.others one (ap (λ n. bytes_eq n one) is ∙ apart));
+  other_is = now.last_is ∙ ap (last_heard after) is;
+}
+
+-- nothing at the start
+pub heard-none : (own one other : List ℕ) → HasHeardOf own one other (no_history own) 0 0
+unfolding received
+heard-none own one other = record { name = refl; one_is = refl; other_is = refl }
+
+-- ---- rounds
+
+pub rounds-none : (number : ℕ) → rounds_of number 0 ≡ []
+unfolding rounds_of
+rounds-none number = refl
+
+pub after-none : (number : ℕ) → after_rounds number 0 ≡ number
+unfolding after_rounds
+after-none number = refl
+
+pub rounds-more : (number n : ℕ) → rounds_of number (n + 1) ≡ rounds_of number n ++ round (after_rounds number n) (n + 1)
+unfolding rounds_of
+rounds-more number n = ap (rounds_of number) (add-one n) ∙ ap (λ m. rounds_of number n ++ round (after_rounds number n) m) (sym (add-one n))
+
+pub after-more : (number n : ℕ) → after_rounds number (n + 1) ≡ after_step (after_step (after_step (after_rounds number n)))
+unfolding after_rounds
+after-more number n = ap (after_rounds number) (add-one n)
+
+-- ---- answers
+
+pub on-ok : {T E : Type 0} {P Q : Type 0} (r : Result T E) → (P → Q) → OnOk r P → OnOk r Q
+on-ok (Ok v) goes is = goes is
+on-ok (Err e) goes is = tt

@@ -1,0 +1,7 @@
+mod AskedCalls
+mod DrawSteps
+mod HeardSteps
+mod Leading
+mod ReceivedSteps
+mod Results
+mod SummaryValues

@@ -1,0 +1,12 @@
+use Rattle.std.proofs.Common.{◌≡◌, refl, sym, subst}
+use Rattle.std.specs.Prelude.{None, Result, Ok, IfOk}
+use Rattle.tw_service.specs.Machine.{IsStepOf}
+use Rattle.tw_service.specs.Machine.Call.{Append}
+use Rattle.tw_service.specs.Machine.Reply.{OfThread}
+use Rattle.tw_service.specs.Serves.{Serves, has_failed}
+use Rattle.tw_generate.specs.Playing.{Plays}
+use Rattle.tw_generate.proofs.AskedCalls.{appended-by}
+use Rattle.tw_generate.proofs.telling.append.Goals as goal
+
+pub returns : goal.returns
+returns g c = λ h plays. appended-by g.H.Hasher.dig g.D.Disk.view c.args.service.now c.append.new.self h plays c.args.events.now c.append.result c.in_ok-given.field-0 c.append.ensures c.in_ok-given.ensures

@@ -1,0 +1,6 @@
+pub mod Draws
+pub mod Line
+pub mod Schedules
+pub mod Playing
+pub mod Summing
+pub mod Generating

@@ -1,0 +1,128 @@
+-- What is told of the three histories: by a proof that is claimed, a map and an audit.
+use Rattle.std.specs.Prelude.{◌≡◌, ℕ, ◌+◌, ◌-◌, List, [], ◌∷◌, length, Bool, true, false, Option, Some, Ok, nat_lt, MatchBool}
+use Rattle.tw_audit.specs.Auditing.{IsAudit}
+use Rattle.tw_audit.specs.declared.finding.Finding.{Finding}
+use Rattle.tw_audit.specs.declared.finding.Finding.TheVariants.{Stands, Clash, NotAccepted}
+use Rattle.tw_base.specs.declared.history.report.Report.{Report}
+use Rattle.tw_base.specs.declared.history.thread.Entry.{Entry}
+use Rattle.tw_base.specs.declared.history.thread.Thread.{Thread}
+use Rattle.tw_base.specs.format.Formats.{Spells}
+use Rattle.tw_base.specs.history.Entries.{key_of}
+use Rattle.tw_base.specs.history.History.{History, received}
+use Rattle.tw_chain.specs.Proofs.{proof_bytes, proof_layout}
+use Rattle.tw_chain.specs.Reasons.{IsVerdict}
+use Rattle.tw_chain.specs.declared.proof.Proof.{Proof}
+use Rattle.tw_chain.specs.declared.verdict.Verdict.TheVariants.{Yes}
+use Rattle.tw_join.specs.Joining.{Joins}
+use Rattle.tw_service.specs.Machine.{Call, IsStepOf, last_thread}
+use Rattle.tw_service.specs.Machine.Call.{ProveEvent, ProveHigh, ProveLink, ProveLow, ProveThread}
+use Rattle.tw_service.specs.Machine.Reply.{OfFile, OfProof}
+use Rattle.tw_tmap.specs.Bounds.{first_from}
+use Rattle.tw_tmap.specs.Checking.{map_verdict}
+use Rattle.tw_tmap.specs.MapFiles.{high_layout, low_layout}
+use Rattle.tw_tmap.specs.declared.map_file.HighFile.{HighFile}
+use Rattle.tw_tmap.specs.declared.map_file.LowFile.{LowFile}
+use Rattle.tw_tmap.specs.declared.map_verdict.MapVerdict.TheVariants.{Yes as Lies}
+use Rattle.tw_generate.specs.Schedules.{Trio}
+use Rattle.tw_generate.specs.declared.summary.Summary.{Summary}
+
+abbrev pub last : History → ℕ
+last h = length h.steps
+
+abbrev pub received_by : History → List Entry
+received_by h = received h (last h)
+
+abbrev pub family : Trio → List History
+family t = t.alpha ∷ t.beta ∷ t.gamma ∷ []
+
+-- the proof of the first event of gamma's last step
+abbrev pub last_event : Trio → Call
+last_event t = ProveEvent (last t.gamma) 0 (last t.gamma)
+
+-- whether the audit tells that the proof stands; else that texts clash
+abbrev pub TellsStands : Finding → Bool → Type 0
+TellsStands (Stands report) stands = stands ≡ true
+TellsStands (Clash one other digest) stands = stands ≡ false
+TellsStands (NotAccepted reason) stands = ⊥
+
+-- the bytes of what the parts join to
+abbrev pub IsJoined : List Proof → List ℕ → Type 0
+IsJoined parts bytes = (whole : Proof) × Joins parts (Ok whole) × (bytes ≡ proof_bytes whole)
+
+module _ (dig : List ℕ → List ℕ) where
+  abbrev pub heads : Trio → List Thread
+  heads t = last_thread dig t.alpha ∷ last_thread dig t.beta ∷ last_thread dig t.gamma ∷ []
+
+  -- the history's own proof, by this call of its service
+  abbrev pub IsProof : History → Call → List ℕ → Type 0
+  IsProof h call bytes = IsStepOf dig h call (OfProof bytes) h
+
+  abbrev pub IsPart : History → Call → Proof → Type 0
+  IsPart h call part = (bytes : List ℕ) × IsProof h call bytes × Spells proof_layout bytes part
+
+  -- the parts of the proof that alpha's first event precedes gamma's last one, by a thread of alpha that beta received and one of beta
+  -- that gamma received
+  pub record AreParts (t : Trio) (of_alpha of_beta : Entry) (parts : List Proof) : Type 0 where
+    pub second : Proof
+    pub is_second : IsPart t.gamma (last_event t) second
+    pub at_gamma : Proof
+    pub is_at_gamma : IsPart t.gamma (ProveThread (last t.gamma - 1) (key_of of_beta) (last t.gamma)) at_gamma
+    pub in_beta : Proof
+    pub is_in_beta : IsPart t.beta (ProveLink of_beta.thread.step (last t.beta)) in_beta
+    pub at_beta : Proof
+    pub is_at_beta : IsPart t.beta (ProveThread of_beta.thread.step (key_of of_alpha) (last t.beta)) at_beta
+    pub in_alpha : Proof
+    pub is_in_alpha : IsPart t.alpha (ProveLink of_alpha.thread.step (last t.alpha)) in_alpha
+    pub first : Proof
+    pub is_first : IsPart t.alpha (ProveEvent 1 0 of_alpha.thread.step) first
+    pub parts_are : parts ≡ second ∷ at_gamma ∷ in_beta ∷ at_beta ∷ in_alpha ∷ first ∷ []
+
+  -- the proof that alpha's first event precedes gamma's last one, over beta's first thread of alpha and gamma's first thread of beta of
+  -- the step that archived it or a later one
+  pub record IsPrecedence (t : Trio) (bytes : List ℕ) : Type 0 where
+    pub of_alpha : Entry
+    pub is_of_alpha : first_from t.alpha.name 1 (received_by t.beta) ≡ Some of_alpha
+    pub of_beta : Entry
+    pub is_of_beta : first_from t.beta.name of_alpha.archived (received_by t.gamma) ≡ Some of_beta
+    pub parts : List Proof
+    pub are_parts : AreParts t of_alpha of_beta parts
+    pub joined : IsJoined parts bytes
+
+  -- the proof that is claimed after so many rounds
+  abbrev pub IsClaimed : Trio → (rounds : ℕ) → List ℕ → Type 0
+  IsClaimed t rounds bytes =
+      MatchBool (nat_lt rounds 50) (IsProof t.gamma (last_event t) bytes) (IsPrecedence t bytes)
+
+  -- the bytes spell map files that tell these bounds under the anchors
+  pub record IsFileMap (anchors : List Thread) (low_bytes high_bytes : List ℕ) (low : ℕ) (high : Option ℕ) : Type 0 where
+    pub low_file : LowFile
+    pub low_spelled : Spells low_layout low_bytes low_file
+    pub high_file : HighFile
+    pub high_spelled : Spells high_layout high_bytes high_file
+    pub upto : ℕ
+    pub is_accepted : map_verdict dig anchors low_file high_file ≡ Lies low high upto
+
+  -- the map of alpha's last step against gamma, under the heads
+  pub record IsMap (t : Trio) (low : ℕ) (high : Option ℕ) : Type 0 where
+    pub low_bytes : List ℕ
+    pub low_made : IsStepOf dig t.alpha (ProveLow (last t.alpha) t.gamma.name (last t.alpha)) (OfFile low_bytes) t.alpha
+    pub high_bytes : List ℕ
+    pub high_made : IsStepOf dig t.gamma (ProveHigh (last t.alpha) t.alpha.name (last t.gamma)) (OfFile high_bytes) t.gamma
+    pub files : IsFileMap (heads t) low_bytes high_bytes low high
+
+  -- what is told of the histories after so many rounds, under the heads: by the strict verdict on the proof that is claimed, by the map,
+  -- and by the audit of the proof against the histories
+  pub record IsToldOf (t : Trio) (rounds : ℕ) (told : Summary) : Type 0 where
+    pub proof : List ℕ
+    pub claimed : IsClaimed t rounds proof
+    pub report : Report
+    pub accepted : IsVerdict dig (heads t) true proof (Yes report)
+    pub hops : told.hops ≡ length report.hops
+    pub map : IsMap t told.low told.high
+    pub finding : Finding
+    pub audited : IsAudit dig (family t) (heads t) proof (Ok finding)
+    pub stands : TellsStands finding told.stands
+    pub alpha : told.alpha ≡ last t.alpha
+    pub beta : told.beta ≡ last t.beta
+    pub gamma : told.gamma ≡ last t.gamma
+    pub threads : told.threads ≡ length (received_by t.alpha) + length (received_by t.beta) + length (received_by t.gamma)

@@ -1,0 +1,44 @@
+-- Disks in memory that stand for histories for good.
+use Rattle.std.proofs.Common.{◌≡◌, ◌⊎◌, List, ℕ, Some, ap, sym, ◌∙◌, subst, inl, inr}
+use Rattle.sha2.specs.Sha256.{sha256}
+use Rattle.tw_base.specs.history.History.{History}
+use Rattle.tw_disk.specs.Disk.{IsAtRest, Only}
+use Rattle.tw_disk.specs.Image.{Image}
+use Rattle.tw_disk.specs.KeptCalls.{written_of}
+use Rattle.tw_disk.specs.MemDisk.{IsSameMemDisk, view_of}
+use Rattle.tw_disk.specs.Model.{IsImage}
+use Rattle.tw_disk.specs.declared.memory_disk.MemDisk.{MemDisk}
+use Rattle.tw_service.specs.Stands.{StandsFor}
+use Rattle.tw_world.specs.Hosts.{StandsAs, StandsForGood}
+
+-- a disk that holds and may leave the same
+pub stands-same : (old new : MemDisk) (h : History) → IsSameMemDisk old new → StandsForGood old h → StandsForGood new h
+stands-same old new h same stands = record {
+  image = stands.image;
+  told = ap Some same.pages ∙ stands.told;
+  only = λ c may. stands.only c (subst (λ pages. IsImage (written_of old.calls.items pages) c) same.pages
+      (subst (λ calls. IsImage (written_of calls new.pages.items) c) same.calls may));
+  has = stands.has;
+}
+
+-- what is left by a crash is one of what it might leave
+pub stands-left : (disk : MemDisk) (may_leave : Image → Type 0) (one other : History) → IsAtRest (view_of disk) may_leave
+    → ((c : Image) → may_leave c → StandsAs one c ⊎ StandsAs other c) → StandsForGood disk one ⊎ StandsForGood disk other
+stands-left disk may_leave one other rest all =
+    elim (all rest.image rest.has) [
+      | inl s ↦ inl (record { image = rest.image; told = rest.told; only = rest.only; has = s })
+      | inr s ↦ inr (record { image = rest.image; told = rest.told; only = rest.only; has = s })
+    ]
+
+-- whatever a crash may leave of a disk that stands for a history for good stands for it
+pub stands-each : (disk : MemDisk) (h : History) → StandsForGood disk h → (c : Image) → (view_of disk).may_leave c → StandsAs h c
+stands-each disk h stands c may = subst (StandsAs h) (sym (stands.only c may)) stands.has
+
+-- a disk that was closed
+pub stands-closed : (disk : MemDisk) (name : List ℕ) (h : History) → IsAtRest (view_of disk) (λ i. StandsFor sha256 i name h) → StandsForGood disk h
+stands-closed disk name h rest = record {
+  image = rest.image;
+  told = rest.told;
+  only = rest.only;
+  has = subst (λ n. StandsFor sha256 rest.image n h) (sym rest.has.named) rest.has;
+}

@@ -1,0 +1,28 @@
+use Rattle.std.proofs.Common.{◌≡◌, ◌⊎◌, refl, ap, sym, ◌∙◌, subst, inl, inr}
+use Rattle.std.specs.Prelude.{Result, Ok, Err, Option, None, is_some}
+use Rattle.sha2.specs.Sha256.{sha256}
+use Rattle.tw_base.specs.history.History.{History}
+use Rattle.tw_disk.specs.MemDisk.{view_of}
+use Rattle.tw_world.specs.Hosts.{Given, GoesOn, Holds, StandsForGood}
+use Rattle.tw_world.specs.Hosts.Given.{OfBytes}
+use Rattle.tw_world.specs.declared.told.Told.{Told}
+use Rattle.tw_world.proofs.host.Host.deliver.Goals as goal
+
+pub returns-clause-goes : goal.returns-clause-goes
+returns-clause-goes c h holds =
+    let given : Given = OfBytes c.args.bytes.now in
+    let taken : StandsForGood c.take_disk.result h = subst (λ d. StandsForGood d h) (sym c.take_disk.ensures.disk) holds.stands in
+    let answered = c.in_ok-answer.ensures h (c.in_ok-service.ensures.serves h taken) c.in_ok-service.ensures.whole in
+    let ended = c.in_ok-ended.ensures given h answered in
+    let next : History = ended.next in
+    let told = c.in_ok-ended.ended.told in
+    let goes : GoesOn given (is_some c.args.self.now.crash) h next told =
+    subst (λ crash. GoesOn given (is_some crash) h next told) c.take_disk.ensures.same.2 ended.goes in (
+      next,
+      subst (λ (t : Told). GoesOn given (is_some c.args.self.now.crash) h next t) (sym c.end.ensures.told) goes,
+      record {
+        named = c.end.ensures.same.0 ∙ c.take_disk.ensures.same.0 ∙ holds.named ∙ sym ended.named;
+        counted = c.end.ensures.rests.1 ∙ ended.rests.0;
+        stands = subst (λ d. StandsForGood d next) (sym c.end.ensures.rests.0) ended.rests.1;
+      },
+    )

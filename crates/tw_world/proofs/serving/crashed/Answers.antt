@@ -1,0 +1,12 @@
+use Rattle.std.proofs.Common.{◌≡◌, ◌⊎◌, refl, ap, sym, ◌∙◌, subst, inl, inr}
+use Rattle.std.specs.Prelude.{Result, Ok, Err, Option, None, is_some}
+use Rattle.sha2.specs.Sha256.{sha256}
+use Rattle.tw_base.specs.history.History.{History}
+use Rattle.tw_disk.specs.MemDisk.{view_of}
+use Rattle.tw_world.proofs.Ends.{ends-crashed}
+use Rattle.tw_world.proofs.serving.crashed.Goals as goal
+
+pub returns : goal.returns
+returns c given h answered =
+    ends-crashed given h c.args.service c.in_ok-rested.rested.disk c.in_ok-rested.rested.steps c.crash_told.result c.close-disk.result c.close-disk.ensures.disk
+    c.close-disk.ensures.stands c.in_ok-rested.ensures c.args.answer c.crash_told.ensures answered

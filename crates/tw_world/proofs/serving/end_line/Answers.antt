@@ -1,0 +1,12 @@
+use Rattle.std.proofs.Common.{◌≡◌, ◌⊎◌, refl, ap, sym, ◌∙◌, subst, inl, inr}
+use Rattle.std.specs.Prelude.{Result, Ok, Err, Option, None, is_some}
+use Rattle.sha2.specs.Sha256.{sha256}
+use Rattle.tw_base.specs.history.History.{History}
+use Rattle.tw_disk.specs.MemDisk.{view_of}
+use Rattle.tw_world.specs.Hosts.{Ends}
+use Rattle.tw_world.proofs.serving.end_line.Goals as goal
+
+pub returns-in_ok-ended-in-Some : goal.returns-in_ok-ended-in-Some
+returns-in_ok-ended-in-Some c given h answered =
+    let ended = c.in_ok-ended-in-Some.ended in
+    subst (λ b. Ends given b h ended.told ended.rested.disk ended.rested.steps) (sym (ap is_some c.in-Some.is)) (c.in_ok-ended-in-Some.ensures given h answered)

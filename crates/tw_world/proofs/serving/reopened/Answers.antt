@@ -1,0 +1,14 @@
+use Rattle.std.proofs.Common.{◌≡◌, ◌⊎◌, refl, ap, sym, ◌∙◌, subst, inl, inr}
+use Rattle.std.specs.Prelude.{Result, Ok, Err, Option, None, is_some}
+use Rattle.sha2.specs.Sha256.{sha256}
+use Rattle.tw_base.specs.history.History.{History}
+use Rattle.tw_disk.specs.MemDisk.{view_of}
+use Rattle.tw_world.proofs.Resting.{stands-left}
+use Rattle.tw_world.proofs.serving.reopened.Goals as goal
+
+pub returns : goal.returns
+returns c one other all =
+    elim (stands-left c.crash.new.self (view_of c.args.disk).may_leave one other c.crash.ensures.rests all) [
+      | inl s ↦ inl (c.closed.ensures one (c.in_ok-open.ensures.serves one s))
+      | inr s ↦ inr (c.closed.ensures other (c.in_ok-open.ensures.serves other s))
+    ]

@@ -1,0 +1,101 @@
+// Playing scripts.
+
+ghost use Rattle.std.specs.Prelude.{◌≡◌, ◌++◌, codes, length, IfOk};
+ghost use Rattle.serde_json.specs.Written.{compact_text};
+ghost use Rattle.tw_world.specs.Hosts.{summary_of};
+ghost use Rattle.tw_world.specs.Telling.{told_lines};
+ghost use Rattle.tw_world.specs.Playing.{IsPlayed, Replays};
+
+use crate::counts::Counts;
+use crate::host::Host;
+use crate::player::Player;
+use crate::summary::print_summary;
+use crate::telling::print_lines;
+use crate::told::Told;
+use std::alloc::Global;
+use tw_base::{Bytes, Name, NoMemory, Sequence};
+use tw_disk::MemDisk;
+use tw_script::{Script, ScriptFault, read_script};
+
+/// A service's disk at the end.
+#[derive(Drop)]
+pub struct WorldDisk {
+    pub name: Name,
+    /// At rest, and closed.
+    pub disk: MemDisk,
+}
+
+/// The disks of a world's services, in the order of their names.
+pub type WorldDiskList = Sequence<WorldDisk>;
+
+/// What came of a script.
+#[derive(Drop)]
+pub struct Played {
+    /// A line for each line of the script that isn't skipped, and the summary with its line feed.
+    pub text: Bytes,
+    pub counts: Counts,
+    pub disks: WorldDiskList,
+}
+
+/// Plays a script: several services on disks in memory, messages between them, losses, repeats, crashes, proofs and verdicts.
+/// The whole script is read before anything runs; BadLine and TooLong come exactly where reading it tells them. NoMemory is
+/// for want of memory.
+pub fn replay(alloc: Global, bytes: &[u8]) -> Result<Played, ScriptFault>
+    // A script is played exactly where the bytes are one. Each of its lines gets an answer; the text has them one after another,
+    // each behind its line's number, and then the summary of them and of some histories' numbers of steps; and the counts are
+    // the numbers of lines whose answers begin with each of the four words. Else the line is told that reading tells.
+    ensures { Replays bytes.now result }
+{
+    match read_script(alloc, bytes) {
+        Ok(script) => Ok(play(alloc, &script)?),
+        Err(fault) => Err(fault),
+    }
+}
+
+/// Plays the lines of a script.
+fn play(alloc: Global, script: &Script) -> Result<Played, NoMemory>
+    ensures { IfOk result (IsPlayed script.now) }
+{
+    let mut player = Player::new(alloc);
+    let told = player.play_lines(script)?;
+    let hosts = player.into_hosts();
+    let counts = Counts::of(told.as_slice());
+    let text = print_all(alloc, script, told.as_slice(), &counts, &hosts)?;
+    let disks = disks_of(alloc, hosts)?;
+    Ok(Played {
+        text,
+        counts,
+        disks,
+    })
+}
+
+/// All that is written: the lines, and the summary.
+fn print_all(
+    alloc: Global,
+    script: &Script,
+    told: &[Told],
+    counts: &Counts,
+    hosts: &[Host],
+) -> Result<Bytes, NoMemory>
+    requires { length told.now ≡ length script.now }
+    ensures { IfOk result (λ text. text ≡ told_lines script.now told.now ++ compact_text (summary_of counts.now hosts.now) ++ codes "\n") }
+{
+    let mut text = print_lines(alloc, script, told)?;
+    text.extend_from_slice(print_summary(alloc, counts, hosts)?.as_bytes())?;
+    text.extend_from_slice(b"\n")?;
+    Ok(text)
+}
+
+/// The disks of the services, in the order of their names.
+fn disks_of(alloc: Global, hosts: Vec<Host>) -> Result<WorldDiskList, NoMemory> {
+    let mut hosts = hosts;
+    hosts.sort_by_key(|host| host.name)?;
+    let mut disks = WorldDiskList::new(alloc);
+    for host in hosts {
+        disks.push(WorldDisk {
+            name: host.name,
+            disk: host.disk,
+        })?;
+    }
+    Ok(disks)
+}
