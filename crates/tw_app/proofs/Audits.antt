@@ -5,7 +5,7 @@ use Rattle.tw_disk.specs.Disk.{DiskView}
 use Rattle.tw_outside.specs.TakenBytes.{Appends}
 use Rattle.tw_words.specs.CommandLine.{command_of}
 use Rattle.tw_words.specs.declared.command.Command.{Command}
-use Rattle.tw_words.specs.declared.command.Command.TheVariants.{Accuse, Adopt, Append, Atlas, Audit, CheckFork, CheckMap, Heads, Init, Join, Offer, ProveAbsent, ProveEvent, ProveLink, ProveThread, MapLow, MapHigh, Receive, Show, Strict, Thread, VerifyFile, VerifyOne, Watch}
+use Rattle.tw_words.specs.declared.command.Command.TheVariants.{Accuse, Adopt, Append, Atlas, Audit, CheckFork, CheckMap, Export, Generate, Heads, Init, Join, Offer, ProveAbsent, ProveEvent, ProveLink, ProveThread, MapLow, MapHigh, Receive, Replay, Show, Strict, Thread, VerifyFile, VerifyOne, Watch}
 use Rattle.tw_text.specs.declared.fault.CommandFault.{CommandFault}
 use Rattle.tw_text.specs.Faults.{fault_status}
 use Rattle.tw_audit.specs.declared.finding.Finding.TheVariants.{Clash, NotAccepted, Stands}
@@ -79,7 +79,10 @@ asks_audit view o (Offer file) text has = absurd (let is = has.2 in omega (arith
 asks_audit view o Heads text has = absurd (let is = has.2 in omega (arith, is))
 asks_audit view o (MapLow step peer top) text has = absurd (let is = has.2 in omega (arith, is))
 asks_audit view o (MapHigh pos peer top) text has = absurd (let is = has.2 in omega (arith, is))
+asks_audit view o Export text has = absurd (let is = has.2 in omega (arith, is))
 asks_audit view o (Show history step index) text has = absurd (let is = has.2 in omega (arith, is))
+asks_audit view o (Replay file) text has = absurd (let is = has.2 in omega (arith, is))
+asks_audit view o (Generate number rounds) text has = absurd (let is = has.2 in omega (arith, is))
 asks_audit view o (Atlas name pos files) text has = absurd (let is = has.2 in omega (arith, is))
 asks_audit view o (Join files) text has = absurd (not_joined has.0 10 (λ k. omega arith) (λ k. omega arith) (sym has.2))
 asks_audit view o (VerifyFile proof anchors) text has = absurd (not_verdict has.0 10 (λ k. omega arith) (λ k. omega arith) (sym has.2))
@@ -89,7 +92,6 @@ asks_audit view o (Accuse first second link) text has = absurd (low_accused has.
 asks_audit view o (Adopt history anchors proof more) text has = absurd (low_taken has.0 has.2)
 asks_audit view o (CheckFork file anchors) text has = absurd (low_fork has.0 has.2)
 asks_audit view o (CheckMap low high anchors) text has = absurd (low_map has.0 has.2)
-asks_audit view o _ text has = absurd has
 
 module _ {D : Type 0} (view : D → DiskView) (a : Around D) (status : ℕ) (run : Ends view a status) where
   abbrev outcome : Outcome

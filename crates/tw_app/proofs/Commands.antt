@@ -10,7 +10,7 @@ use Rattle.tw_outside.specs.Asked.{Asked}
 use Rattle.tw_outside.specs.Files.{Files}
 use Rattle.tw_words.specs.CommandLine.{command_of}
 use Rattle.tw_words.specs.declared.command.Command.{Command}
-use Rattle.tw_words.specs.declared.command.Command.TheVariants.{Accuse, Adopt, Append, Atlas, Audit, CheckFork, CheckMap, Init, Join, ProveEvent, ProveThread, ProveAbsent, ProveLink, MapLow, MapHigh, Receive, Show, VerifyFile, VerifyOne, Strict, Watch, Offer, Heads}
+use Rattle.tw_words.specs.declared.command.Command.TheVariants.{Accuse, Adopt, Append, Atlas, Audit, CheckFork, CheckMap, Init, Join, ProveEvent, ProveThread, ProveAbsent, ProveLink, MapLow, MapHigh, Export, Receive, Show, VerifyFile, VerifyOne, Strict, Watch, Offer, Heads, Replay, Generate}
 use Rattle.tw_words.specs.declared.command.Command.TheVariants as command
 use Rattle.tw_text.specs.declared.fault.CommandFault.{CommandFault}
 use Rattle.tw_text.specs.declared.fault.CommandFault.TheVariants.{InputFault, DiskFault, NoMemory, Unserved}
@@ -26,7 +26,7 @@ use Rattle.tw_diskcmd.specs.Disks.{IsLeft, Keeps, ReadLeaves, ReadsAs}
 use Rattle.tw_diskcmd.specs.Receiving.{ReceiveComes, ReceiveLeaves, ReceiveSafe}
 use Rattle.tw_diskcmd.specs.WorkSteps.{WritesNothing}
 use Rattle.tw_diskcmd.proofs.AtRest.{left_keeps, untouched_left}
-use Rattle.tw_diskcmd.proofs.CommandLaws.{HasCauses, IsSafe, absence_causes, append_causes, append_is_safe, init_causes, init_is_safe, link_causes, map_high_causes, map_low_causes, prove_causes, reading_is_safe, receive_causes, receive_is_safe, thread_causes, thread_proof_causes}
+use Rattle.tw_diskcmd.proofs.CommandLaws.{HasCauses, IsSafe, absence_causes, append_causes, append_is_safe, export_causes, init_causes, init_is_safe, link_causes, map_high_causes, map_low_causes, prove_causes, reading_is_safe, receive_causes, receive_is_safe, thread_causes, thread_proof_causes}
 use Rattle.tw_followcmd.specs.Disks.{ReadsAs as ReadsAsList}
 use Rattle.tw_followcmd.specs.Listing.{HeadsComes, HeadsLeaves, HeadsSafe}
 use Rattle.tw_followcmd.specs.Offering.{OfferComes, OfferLeaves, OfferSafe}
@@ -49,8 +49,10 @@ use Rattle.tw_app.specs.declared.store.StoreAccess.TheVariants.{Read, Write}
 use Rattle.tw_app.specs.Around.{Outside, found_of}
 use Rattle.tw_app.specs.Commands.{IsOfFollower, IsSomeFile, NamesFile}
 use Rattle.tw_app.specs.Outcomes.{TakesMemory, outcome_by, status_of, text_of}
-use Rattle.tw_app.specs.Running.{IsAnswerBy, IsDoneBy, IsOutcomeOf, IsUnbuilt, IsUntouched, UsesDisk, Work, by_results, over_files, reading, unbuilt, work, writing}
-use Rattle.tw_app.specs.Statuses.{AreOf, GivesAnchors, IsBuilt, IsVerify, is_strict, proof_file}
+use Rattle.tw_app.specs.Generating.{GenerateComes}
+use Rattle.tw_app.specs.Replaying.{ReplayComes}
+use Rattle.tw_app.specs.Running.{IsAnswerBy, IsDoneBy, IsOutcomeOf, IsUntouched, UsesDisk, Work, by_results, over_files, reading, work, writing}
+use Rattle.tw_app.specs.Statuses.{AreOf, GivesAnchors, IsVerify, is_strict, proof_file}
 
 pub of_option : (P : Command → Type 0) (words : List (List ℕ)) (c : Command) → command_of words ≡ Some c → P c → AreOf P words
 of_option P words c is holds = subst (λ o. MatchOption o ⊥ P) (sym is) holds
@@ -62,21 +64,11 @@ pub fault_not_zero : (f : CommandFault) → fault_status f ≡ 0 → ⊥
 fault_not_zero InputFault zeroth = omega (arith, zeroth)
 fault_not_zero _ zeroth = omega (arith, zeroth)
 
-unbuilt_status : (o : Outcome) → IsUnbuilt o → status_of o ≡ 0 → ⊥
-unbuilt_status (BadWords number) is zeroth = omega (arith, zeroth)
-unbuilt_status (Undone f) is zeroth = fault_not_zero f zeroth
-unbuilt_status _ is zeroth = is
-
 -- the outcomes of commands that were done or whose answer is another; neither a fault nor the usage line
 abbrev pub IsAnswer : Outcome → Type 0
 IsAnswer (BadWords number) = ⊥
 IsAnswer (Undone f) = ⊥
 IsAnswer _ = Unit {0}
-
-unbuilt_answers : (o : Outcome) → IsAnswer o → IsUnbuilt o → ⊥
-unbuilt_answers (BadWords number) is_answer is = is_answer
-unbuilt_answers (Undone f) is_answer is = is_answer
-unbuilt_answers _ is_answer is = is
 
 same_fault : (f g : CommandFault) → Undone f ≡ Undone g → g ≡ f
 same_fault f g is = cc
@@ -203,12 +195,11 @@ module _ {D : Type 0} (view : D → DiskView)
   -- free, also for its text; a run of which nothing was made and no disk failed wrote nothing; and a verdict is one that it asks for,
   -- as is a part that doesn't fit
   pub record Row (c : Command) (w : Work) : Type 0 where
-    pub built : IsBuilt view c ⊎ ((outcome : Outcome) → w.does outcome → status_of outcome ≡ 0 → ⊥)
-    pub usage : (n : ℕ) → w.does (BadWords n) → n ≡ 0
+    pub usage : (n : ℕ) → w.does (BadWords n) → ⊥
     pub answers : (outcome : Outcome) → IsAnswer outcome → w.does outcome → w.answers (status_of outcome) (text_of outcome)
     pub done : (outcome : Outcome) → w.does outcome → status_of outcome ≡ 0 → w.done (text_of outcome)
     pub undone : (f : CommandFault) → w.does (Undone f) → w.undone f
-    pub input : w.undone InputFault → IsBuilt view c × NamesFile c × Rose o.inputs.before o.inputs.after
+    pub input : w.undone InputFault → NamesFile c × Rose o.inputs.before o.inputs.after
     pub disk : w.undone DiskFault → w.uses_disk × Rose (view o.disk.before).faults (view o.disk.after).faults
     pub serves : (IsOfFollower c → ⊥) → (h : History) → ReadsAs (view o.disk.before).content h → (why : StoreCause) → w.undone (Unserved why) → ⊥
     pub memory : (outcome : Outcome) → TakesMemory outcome → w.does outcome → w.does (Undone NoMemory)
@@ -217,24 +208,6 @@ module _ {D : Type 0} (view : D → DiskView)
     pub safe : (outcome : Outcome) → w.does outcome → w.safe
     pub judging : (v : Verdict) → w.does (Judged v) → Judges o.inputs.told c v
     pub joining : (place : ℕ) → w.does (Joined (Unfit place)) → LeavesGap o.inputs c place
-
-  unbuilt_row : (c : Command) → Row c (unbuilt view o)
-  unbuilt_row c = record {
-    built = inr (λ outcome came zeroth. unbuilt_status outcome came.0 zeroth);
-    usage = λ n came. came.0;
-    answers = λ outcome is came. unbuilt_answers outcome is came.0;
-    done = λ outcome came zeroth. unbuilt_status outcome came.0 zeroth;
-    undone = λ f came. came;
-    input = λ came. absurd came.0;
-    disk = λ came. absurd came.0;
-    serves = λ _ h reads why came. came.0;
-    memory = λ outcome takes came. (tt, came.1);
-    untouched = λ is. (tt, is);
-    idle = λ outcome zeroth fifth came. same_left came.1;
-    safe = λ outcome came. same_safe came.1;
-    judging = λ v came. absurd came.0;
-    joining = λ place came. absurd came.0;
-  }
 
   -- the causes of what a command comes to, that of a follower's disk or another
   record Causes {X : Type 0} (c : Command) (NamesFile UsesDisk : Type 0) (Comes : Result X CommandFault → Type 0) : Type 0 where
@@ -260,7 +233,7 @@ module _ {D : Type 0} (view : D → DiskView)
   safe_list safe = record { idle = λ r left nothing. safe.idle r left (moves_nothing r nothing); no_memory = safe.no_memory; safe = safe.safe }
 
   module _ {X : Type 0} (c : Command) (of : X → Outcome) (tells : Tells of) (Comes Leaves : Result X CommandFault → Type 0) (Safe : Type 0) (access : Option StoreAccess)
-      (causes : Causes c (NamesFile c) (UsesDisk access) Comes) (built : IsBuilt view c) where
+      (causes : Causes c (NamesFile c) (UsesDisk access) Comes) where
     abbrev May : Result X CommandFault → Type 0
     May r = Comes r × Leaves r
 
@@ -272,12 +245,11 @@ module _ {D : Type 0} (view : D → DiskView)
         → ((x : X) (place : ℕ) → Joined (Unfit place) ≡ of x → Comes (Ok x) → LeavesGap o.inputs c place)
         → Row c (by_results of (λ r. Comes r × Leaves r) Safe access)
     row memory untouched idle safe judging joining = record {
-      built = inl built;
-      usage = λ n came. absurd (no_usage of tells n came.0 came.2);
+      usage = λ n came. no_usage of tells n came.0 came.2;
       answers = λ outcome is came. answers_of of tells May outcome is came;
       done = λ outcome came zeroth. done_of of tells May outcome came zeroth;
       undone = λ f came. undone_of of tells May f came;
-      input = λ may. let failed = causes.input may.0 in (built, failed.0, failed.1);
+      input = λ may. causes.input may.0;
       disk = λ may. causes.disk may.0;
       serves = λ other h reads why may. causes.serves other h reads why may.0;
       memory = λ outcome takes came. no_memory (memory came.0 (subst TakesMemory came.2 takes) came.1.1);
@@ -306,43 +278,56 @@ module _ {D : Type 0} (view : D → DiskView)
         (λ x v is comes. absurd (of_disk.unjudged x v is)) (λ x place is comes. absurd (of_disk.unjoined x (Unfit place) is))
 
   files_row : {X : Type 0} (c : Command) (of : X → Outcome) → Tells of → (Comes : Result X CommandFault → Type 0)
-      → HasCauses o.inputs (found_of view o) (NamesFile c) ⊥ Comes → IsBuilt view c
+      → HasCauses o.inputs (found_of view o) (NamesFile c) ⊥ Comes
       → ((x : X) (v : Verdict) → Judged v ≡ of x → Comes (Ok x) → Judges o.inputs.told c v)
       → ((x : X) (place : ℕ) → Joined (Unfit place) ≡ of x → Comes (Ok x) → LeavesGap o.inputs c place) → Row c (over_files view o of Comes)
-  files_row c of tells Comes causes built judging joining =
-      row c of tells Comes (λ r. IsUntouched view o) (IsUntouched view o × Keeps view o.disk.before o.disk.after) None (of_service c causes) built
+  files_row c of tells Comes causes judging joining =
+      row c of tells Comes (λ r. IsUntouched view o) (IsUntouched view o × Keeps view o.disk.before o.disk.after) None (of_service c causes)
       (λ r takes same. same) (λ is. is) (λ r zeroth fifth same. same_left same) (λ r same. same_safe same) judging joining
 
   -- one that makes a service or a step, and one that reads a proof from a disk
-  made_row : {Comes Leaves : Result Thread CommandFault → Type 0} {Safe : Type 0} → (c : Command) → IsBuilt view c
+  made_row : {Comes Leaves : Result Thread CommandFault → Type 0} {Safe : Type 0} → (c : Command)
       → HasCauses o.inputs (found_of view o) (NamesFile c) (Unit {0}) Comes → IsSafe view o.disk.before o.disk.after Leaves Safe → Row c (writing view o Made Comes Leaves Safe)
-  made_row {Comes} {Leaves} {Safe} c built causes is_safe = disk_row c Made made_tells Comes Leaves Safe (Some Write) (of_service c causes) built made_of_disk is_safe
+  made_row {Comes} {Leaves} {Safe} c causes is_safe = disk_row c Made made_tells Comes Leaves Safe (Some Write) (of_service c causes) made_of_disk is_safe
 
   received_row : (file : List ℕ) (time : Option ℕ) → Row (Receive file time) (work view o (Receive file time))
   received_row file time =
       disk_row (Receive file time) Received received_tells (ReceiveComes o.inputs (found_of view o) file time)
       (ReceiveLeaves view o.disk.before o.disk.after o.inputs.told file time) (ReceiveSafe view o.disk.before o.disk.after o.inputs.told file time) (Some Write)
-      (of_service (Receive file time) (receive_causes o.inputs (found_of view o) file time)) (λ p n came. no_usage Received received_tells n came.0 came.2) received_of_disk
+      (of_service (Receive file time) (receive_causes o.inputs (found_of view o) file time)) received_of_disk
       (receive_is_safe view o.disk.before o.disk.after only_now as_it_reads o.inputs.told file time)
 
-  written_row : {Comes : Result (List ℕ) CommandFault → Type 0} → (c : Command) → IsBuilt view c
+  written_row : {Comes : Result (List ℕ) CommandFault → Type 0} → (c : Command)
       → HasCauses o.inputs (found_of view o) (NamesFile c) (Unit {0}) Comes → Row c (reading view o Written Comes)
-  written_row {Comes} c built causes =
-      disk_row c Written written_tells Comes (ReadLeaves view o.disk.before o.disk.after) (Left × Keeps view o.disk.before o.disk.after) (Some Read) (of_service c causes) built
+  written_row {Comes} c causes =
+      disk_row c Written written_tells Comes (ReadLeaves view o.disk.before o.disk.after) (Left × Keeps view o.disk.before o.disk.after) (Some Read) (of_service c causes)
       written_of_disk (reading_is_safe view o.disk.before o.disk.after)
 
   show_row : (history : List ℕ) (step index : ℕ) → Row (Show history step index) (work view o (Show history step index))
   show_row history step index =
       files_row (Show history step index) Written written_tells (ShowComes o.inputs history step index)
       (record { input = λ rose. (tt, rose); disk = λ came. absurd came; serves = λ h reads why came. came; memory = tt })
-      (λ p n came. no_usage Written written_tells n came.0 came.2) (λ x v is comes. absurd (written_of_disk.unjudged x v is))
+      (λ x v is comes. absurd (written_of_disk.unjudged x v is))
       (λ x place is comes. absurd (written_of_disk.unjoined x (Unfit place) is))
+
+  replay_row : (file : List ℕ) → Row (Replay file) (work view o (Replay file))
+  replay_row file =
+      files_row (Replay file) Written written_tells (ReplayComes o.inputs file)
+      (record { input = λ rose. (tt, rose); disk = λ came. absurd came; serves = λ h reads why came. came; memory = tt })
+      (λ x v is comes. absurd (written_of_disk.unjudged x v is))
+      (λ x place is comes. absurd (written_of_disk.unjoined x (Unfit place) is))
+
+  generate_row : (number rounds : ℕ) → Row (Generate number rounds) (work view o (Generate number rounds))
+  generate_row number rounds =
+      files_row (Generate number rounds) Written written_tells (GenerateComes number rounds)
+      (record { input = λ came. absurd came; disk = λ came. absurd came; serves = λ h reads why came. came; memory = tt })
+      (λ x v is comes. absurd (written_of_disk.unjudged x v is)) (λ x place is comes. absurd (written_of_disk.unjoined x (Unfit place) is))
 
   join_row : (files : List (List ℕ)) → Row (Join files) (work view o (Join files))
   join_row files =
       files_row (Join files) Joined joined_tells (JoinComes o.inputs files)
       (record { input = λ failed. (some_file files failed.0, failed.1); disk = λ came. absurd came; serves = λ h reads why came. came; memory = tt })
-      (λ p n came. no_usage Joined joined_tells n came.0 came.2) (λ x v is comes. cc) joining
+      (λ x v is comes. cc) joining
     where
       joining : (x : JoinedProofs) (place : ℕ) → Joined (Unfit place) ≡ Joined x → JoinComes o.inputs files (Ok x) → LeavesGap o.inputs (Join files) place
       joining x place is comes =
@@ -350,12 +335,12 @@ module _ {D : Type 0} (view : D → DiskView)
           record { files = files; is_command = refl; comes = subst (λ (j : JoinedProofs). JoinComes o.inputs files (Ok j)) same comes }
 
   -- one that judges a proof under the anchors of a file
-  anchors_row : (c : Command) (proof anchors : List ℕ) → IsBuilt view c → NamesFile c → proof_file c ≡ Some proof
+  anchors_row : (c : Command) (proof anchors : List ℕ) → NamesFile c → proof_file c ≡ Some proof
       → ((held : List Thread) → HasAnchors o.inputs.told anchors held → GivesAnchors o.inputs.told c held)
       → Row c (over_files view o Judged (VerifyFileComes o.inputs proof anchors (is_strict c)))
-  anchors_row c proof anchors built names asked given =
+  anchors_row c proof anchors names asked given =
       files_row c Judged judged_tells (VerifyFileComes o.inputs proof anchors (is_strict c))
-      (record { input = λ rose. (names, rose); disk = λ came. absurd came; serves = λ h reads why came. came; memory = tt }) built judging (λ x place is comes. cc)
+      (record { input = λ rose. (names, rose); disk = λ came. absurd came; serves = λ h reads why came. came; memory = tt }) judging (λ x place is comes. cc)
     where
       judging : (w v : Verdict) → Judged v ≡ Judged w → VerifyFileComes o.inputs proof anchors (is_strict c) (Ok w) → Judges o.inputs.told c v
       judging w v is comes =
@@ -366,7 +351,7 @@ module _ {D : Type 0} (view : D → DiskView)
   verify_one_row proof anchor =
       files_row (VerifyOne proof anchor) Judged judged_tells (VerifyOneComes o.inputs proof anchor)
       (record { input = λ rose. (tt, rose); disk = λ came. absurd came; serves = λ h reads why came. came; memory = tt })
-      (λ p n came. no_usage Judged judged_tells n came.0 came.2) judging (λ x place is comes. cc)
+      judging (λ x place is comes. cc)
     where
       judging : (w v : Verdict) → Judged v ≡ Judged w → VerifyOneComes o.inputs proof anchor (Ok w) → Judges o.inputs.told (VerifyOne proof anchor) v
       judging w v is comes =
@@ -375,9 +360,9 @@ module _ {D : Type 0} (view : D → DiskView)
 
   -- one over files that reach beyond one proof
   answer_row : {X : Type 0} (c : Command) (of : X → Answer) → (Comes : Result X CommandFault → Type 0)
-      → HasCauses o.inputs (found_of view o) (NamesFile c) ⊥ Comes → IsBuilt view c → Row c (over_files view o (λ x. Answered (of x)) Comes)
-  answer_row c of Comes causes built =
-      files_row c (λ x. Answered (of x)) (answered_tells of) Comes causes built (λ x v is comes. cc) (λ x place is comes. cc)
+      → HasCauses o.inputs (found_of view o) (NamesFile c) ⊥ Comes → Row c (over_files view o (λ x. Answered (of x)) Comes)
+  answer_row c of Comes causes =
+      files_row c (λ x. Answered (of x)) (answered_tells of) Comes causes (λ x v is comes. cc) (λ x place is comes. cc)
 
   names_parts : (first second : List ℕ) (link : Option (List ℕ)) → NamesFile (Accuse first second link)
   names_parts first second None = tt
@@ -387,67 +372,64 @@ module _ {D : Type 0} (view : D → DiskView)
   accuse_row first second link =
       answer_row (Accuse first second link) answers.Accused (AccuseComes o.inputs first second link)
       (record { input = λ rose. (names_parts first second link, rose); disk = λ came. absurd came; serves = λ h reads why came. came; memory = tt })
-      (λ p n came. no_usage _ (answered_tells answers.Accused) n came.0 came.2)
 
   atlas_row : (name : List ℕ) (pos : ℕ) (files : List (List ℕ)) → Row (Atlas name pos files) (work view o (Atlas name pos files))
   atlas_row name pos files =
       answer_row (Atlas name pos files) answers.Planned (AtlasComes o.inputs (record { from = name; step = pos }) files)
       (record { input = λ failed. (some_file files failed.0, failed.1); disk = λ came. absurd came; serves = λ h reads why came. came; memory = tt })
-      (λ p n came. no_usage _ (answered_tells answers.Planned) n came.0 came.2)
 
   audit_row : (proof anchors : List ℕ) (histories : List (List ℕ)) → Row (Audit proof anchors histories) (work view o (Audit proof anchors histories))
   audit_row proof anchors histories =
       answer_row (Audit proof anchors histories) answers.Audited (AuditComes o.inputs proof anchors histories)
       (record { input = λ rose. (tt, rose); disk = λ came. absurd came.2; serves = λ h reads why came. came.2; memory = tt })
-      (λ p n came. no_usage _ (answered_tells answers.Audited) n came.0 came.2)
 
   adopt_row : (history anchors proof : List ℕ) (more : List (List ℕ)) → Row (Adopt history anchors proof more) (work view o (Adopt history anchors proof more))
   adopt_row history anchors proof more =
       answer_row (Adopt history anchors proof more) answers.Taken (AdoptComes o.inputs history anchors (proof ∷ more))
       (record { input = λ rose. (tt, rose); disk = λ came. absurd came; serves = λ h reads why came. came; memory = tt })
-      (λ p n came. no_usage _ (answered_tells answers.Taken) n came.0 came.2)
 
   check_fork_row : (file anchors : List ℕ) → Row (CheckFork file anchors) (work view o (CheckFork file anchors))
   check_fork_row file anchors =
       answer_row (CheckFork file anchors) answers.Fork (CheckForkComes o.inputs file anchors)
       (record { input = λ rose. (tt, rose); disk = λ came. absurd came; serves = λ h reads why came. came; memory = tt })
-      (λ p n came. no_usage _ (answered_tells answers.Fork) n came.0 came.2)
 
   check_map_row : (low high anchors : List ℕ) → Row (CheckMap low high anchors) (work view o (CheckMap low high anchors))
   check_map_row low high anchors =
       answer_row (CheckMap low high anchors) answers.Mapped (CheckMapComes o.inputs low high anchors)
       (record { input = λ rose. (tt, rose); disk = λ came. absurd came; serves = λ h reads why came. came; memory = tt })
-      (λ p n came. no_usage _ (answered_tells answers.Mapped) n came.0 came.2)
 
   -- each command, by what is known of its results
   pub rows : (c : Command) → Row c (work view o c)
   rows (Init name) =
-      made_row (Init name) (λ p n came. no_usage Made made_tells n came.0 came.2) (init_causes o.inputs (found_of view o) name)
+      made_row (Init name) (init_causes o.inputs (found_of view o) name)
       (init_is_safe view o.disk.before o.disk.after only_now as_it_reads name)
   rows (Append file time) =
-      made_row (Append file time) (λ p n came. no_usage Made made_tells n came.0 came.2) (append_causes o.inputs (found_of view o) file time)
+      made_row (Append file time) (append_causes o.inputs (found_of view o) file time)
       (append_is_safe view o.disk.before o.disk.after only_now as_it_reads o.inputs.told file time)
   rows (Receive file time) = received_row file time
-  rows (command.Thread since) = written_row (command.Thread since) (λ p n came. no_usage Written written_tells n came.0 came.2) (thread_causes o.inputs (found_of view o) since)
+  rows (command.Thread since) = written_row (command.Thread since) (thread_causes o.inputs (found_of view o) since)
   rows (ProveEvent step index top) =
-      written_row (ProveEvent step index top) (λ p n came. no_usage Written written_tells n came.0 came.2) (prove_causes o.inputs (found_of view o) step index top)
+      written_row (ProveEvent step index top) (prove_causes o.inputs (found_of view o) step index top)
   rows (ProveThread step peer k top) =
-      written_row (ProveThread step peer k top) (λ p n came. no_usage Written written_tells n came.0 came.2)
+      written_row (ProveThread step peer k top)
       (thread_proof_causes o.inputs (found_of view o) step (record { from = peer; step = k }) top)
   rows (ProveAbsent step peer k top) =
-      written_row (ProveAbsent step peer k top) (λ p n came. no_usage Written written_tells n came.0 came.2)
+      written_row (ProveAbsent step peer k top)
       (absence_causes o.inputs (found_of view o) step (record { from = peer; step = k }) top)
-  rows (ProveLink step top) = written_row (ProveLink step top) (λ p n came. no_usage Written written_tells n came.0 came.2) (link_causes o.inputs (found_of view o) step top)
+  rows (ProveLink step top) = written_row (ProveLink step top) (link_causes o.inputs (found_of view o) step top)
   rows (MapLow step peer top) =
-      written_row (MapLow step peer top) (λ p n came. no_usage Written written_tells n came.0 came.2) (map_low_causes o.inputs (found_of view o) step peer top)
+      written_row (MapLow step peer top) (map_low_causes o.inputs (found_of view o) step peer top)
   rows (MapHigh pos peer top) =
-      written_row (MapHigh pos peer top) (λ p n came. no_usage Written written_tells n came.0 came.2) (map_high_causes o.inputs (found_of view o) pos peer top)
+      written_row (MapHigh pos peer top) (map_high_causes o.inputs (found_of view o) pos peer top)
+  rows Export = written_row Export (export_causes o.inputs (found_of view o))
   rows (Show history step index) = show_row history step index
+  rows (Replay file) = replay_row file
+  rows (Generate number rounds) = generate_row number rounds
   rows (Join files) = join_row files
   rows (VerifyFile proof anchors) =
-      anchors_row (VerifyFile proof anchors) proof anchors (λ p n came. no_usage Judged judged_tells n came.0 came.2) tt refl (λ held has. has)
+      anchors_row (VerifyFile proof anchors) proof anchors tt refl (λ held has. has)
   rows (Strict proof anchors) =
-      anchors_row (Strict proof anchors) proof anchors (λ p n came. no_usage Judged judged_tells n came.0 came.2) tt refl (λ held has. has)
+      anchors_row (Strict proof anchors) proof anchors tt refl (λ held has. has)
   rows (VerifyOne proof anchor) = verify_one_row proof anchor
   rows (CheckMap low high anchors) = check_map_row low high anchors
   rows (Atlas name pos files) = atlas_row name pos files
@@ -459,18 +441,17 @@ module _ {D : Type 0} (view : D → DiskView)
       disk_row (Watch name) Made made_tells (WatchComes (view o.disk.before).content (view o.disk.before).faults (view o.disk.after).faults name)
       (WatchLeaves view o.disk.before o.disk.after name) (WatchSafe view o.disk.before o.disk.after name) (Some Write)
       (of_follower (Watch name) tt (watch_causes o.inputs (view o.disk.before).content (view o.disk.before).faults (view o.disk.after).faults name))
-      (λ p n came. no_usage Made made_tells n came.0 came.2) made_of_disk (safe_list (watch_is_safe view o.disk.before o.disk.after only_now as_it_reads name))
+      made_of_disk (safe_list (watch_is_safe view o.disk.before o.disk.after only_now as_it_reads name))
   rows (Offer file) =
       disk_row (Offer file) Made made_tells (OfferComes o.inputs (view o.disk.before).content (view o.disk.before).faults (view o.disk.after).faults file)
       (OfferLeaves view o.disk.before o.disk.after o.inputs.told file) (OfferSafe view o.disk.before o.disk.after o.inputs.told file) (Some Write)
       (of_follower (Offer file) tt (offer_causes o.inputs (view o.disk.before).content (view o.disk.before).faults (view o.disk.after).faults file))
-      (λ p n came. no_usage Made made_tells n came.0 came.2) made_of_disk (safe_list (offer_is_safe view o.disk.before o.disk.after only_now as_it_reads o.inputs.told file))
+      made_of_disk (safe_list (offer_is_safe view o.disk.before o.disk.after only_now as_it_reads o.inputs.told file))
   rows Heads =
       disk_row Heads Written written_tells (HeadsComes (view o.disk.before).content (view o.disk.before).faults (view o.disk.after).faults)
       (HeadsLeaves view o.disk.before o.disk.after) (HeadsSafe view o.disk.before o.disk.after) (Some Read)
       (of_follower Heads tt (heads_causes o.inputs (view o.disk.before).content (view o.disk.before).faults (view o.disk.after).faults))
-      (λ p n came. no_usage Written written_tells n came.0 came.2) written_of_disk (safe_list (heads_is_safe view o.disk.before o.disk.after))
-  rows _ = unbuilt_row _
+      written_of_disk (safe_list (heads_is_safe view o.disk.before o.disk.after))
 
   -- a disk that reads as a list of heads serves each command of a follower
   pub serves_list : (c : Command) → IsOfFollower c → (k : Kept) → ReadsAsList (view o.disk.before).content k → (why : StoreCause) → (work view o c).undone (Unserved why) → ⊥

@@ -47,7 +47,7 @@ use Rattle.tw_app.specs.Around.{Around, Writes}
 use Rattle.tw_app.specs.Commands.{IsOfFollower, NamesFile}
 use Rattle.tw_app.specs.Outcomes.{TakesMemory, status_of, text_of}
 use Rattle.tw_app.specs.Running.{Ends, EndsWith, HasOutcome, HaveNoForm, IsUntouched, Work, work}
-use Rattle.tw_app.specs.Statuses.{AreOf, DiskFailed, IsAcceptedRun, IsAnsweredRun, IsBuilt, IsDiskFaultRun, IsDoneRun, IsGapRun, IsIdle, IsInputFaultRun, IsRejectedRun, IsStatus, IsUndoneRun, IsUsageRun, IsVerify, IsWork}
+use Rattle.tw_app.specs.Statuses.{AreOf, DiskFailed, IsAcceptedRun, IsAnsweredRun, IsDiskFaultRun, IsDoneRun, IsGapRun, IsIdle, IsInputFaultRun, IsRejectedRun, IsStatus, IsUndoneRun, IsUsageRun, IsVerify, IsWork}
 use Rattle.tw_app.proofs.Words.{no_text_outcome}
 use Rattle.tw_app.proofs.Commands.{Judges, LeavesGap, Row, fault_not_zero, of_option, of_words, rows, same_left, serves_list, verdict_or_fault}
 
@@ -175,11 +175,6 @@ module _ {D : Type 0} (view : D → DiskView)
     done_work : (c : Command) → command_of a.words ≡ Some c → Does c outcome → status_of outcome ≡ 0 → IsWork view a (λ w. w.done (text_of outcome))
     done_work c is has zeroth = of_work (λ w. w.done (text_of outcome)) c is ((known c).done outcome has zeroth)
 
-    pub built : status ≡ 0 → AreOf (IsBuilt view) a.words
-    built zeroth =
-        by_words outcome run.1.has (λ has. absurd (no_form_status a.words outcome has.0 (done_status zeroth)))
-        (λ c is has. of_option (IsBuilt view) a.words c is (⊎_elim (λ built. built) (λ un. absurd (un outcome has (done_status zeroth))) (known c).built))
-
     pub done : status ≡ 0 → IsDoneRun view a
     done zeroth = (
       text_of outcome,
@@ -299,9 +294,9 @@ module _ {D : Type 0} (view : D → DiskView)
     usage is = by_status 2 is (λ k. omega arith) by
       where
         number_is : (n : ℕ) (option : Option Command) → MatchOption option (IsFirstBad a.words n × IsUntouched view a.outside) (λ c. Does c (BadWords n))
-            → MatchOption option (IsFirstBad a.words n) (λ c. (n ≡ 0) × (IsBuilt view c → ⊥))
+            → MatchOption option (IsFirstBad a.words n) (λ c. ⊥)
         number_is n None has = has.0
-        number_is n (Some c) has = ((known c).usage n has, λ built. built a.outside n has)
+        number_is n (Some c) has = (known c).usage n has
 
         by : (o : Outcome) → Has o → 2 ≡ status_of o → Writes a (text_of o) → IsUsageRun view a
         by (BadWords n) has second written = (n, number_is n (command_of a.words) has, written)
@@ -336,7 +331,7 @@ module _ {D : Type 0} (view : D → DiskView)
         by : (f : CommandFault) → 3 ≡ fault_status f → Has (Undone f) → Writes a (fault_text f) → IsInputFaultRun view a
         by InputFault same has written = undone_by InputFault (λ none. none) has (λ c of undone.
             let failed = (known c).input undone in
-            (of_option (IsBuilt view) a.words c of failed.0, of_option NamesFile a.words c of failed.1, failed.2, said InputFault (λ none. none) has written))
+            (of_option NamesFile a.words c of failed.0, failed.1, said InputFault (λ none. none) has written))
         by _ same has written = absurd (omega (arith, same))
 
     pub output_fault : status ≡ 4 → Rose a.sink_faults.before a.sink_faults.after

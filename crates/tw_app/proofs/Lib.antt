@@ -4,6 +4,7 @@ pub mod Endings
 pub mod ToldFiles
 pub mod ToldMaps
 pub mod JudgedRuns
+pub mod PlayedFiles
 pub mod MapRuns
 pub mod Audits
 pub mod OneReason
@@ -15,3 +16,4 @@ pub mod OneMap
 pub mod OneAnswer
 pub mod AuditsFound
 pub mod Adoptions
+pub mod Completeness

@@ -3,9 +3,12 @@ pub mod Around
 pub mod Audits
 pub mod Adoptions
 pub mod Commands
+pub mod Complete
 pub mod Judging
 pub mod MapRuns
 pub mod Outcomes
+pub mod Generating
+pub mod Replaying
 pub mod Running
 pub mod Statuses
 pub mod Stores

@@ -7,12 +7,13 @@ use Rattle.tw_words.specs.CommandLine.{IsFirstBad, command_of}
 use Rattle.tw_words.specs.declared.command.Command.{Command}
 use Rattle.tw_text.specs.declared.fault.CommandFault.{CommandFault}
 use Rattle.tw_text.specs.declared.fault.CommandFault.TheVariants.{NoMemory}
-use Rattle.tw_words.specs.declared.command.Command.TheVariants.{Init, Append, Thread, Receive, ProveEvent, ProveThread, ProveAbsent, ProveLink, MapLow, MapHigh, Show, Join, VerifyFile, VerifyOne, Strict, CheckMap, Audit, Adopt, Atlas, Accuse, CheckFork, Watch, Offer, Heads}
+use Rattle.tw_words.specs.declared.command.Command.TheVariants.{Init, Append, Thread, Receive, ProveEvent, ProveThread, ProveAbsent, ProveLink, MapLow, MapHigh, Export, Show, Join, VerifyFile, VerifyOne, Strict, CheckMap, Audit, Adopt, Atlas, Accuse, CheckFork, Watch, Offer, Heads, Replay, Generate}
 use Rattle.tw_filecmd.specs.Joining.{JoinComes}
 use Rattle.tw_filecmd.specs.Showing.{ShowComes}
 use Rattle.tw_filecmd.specs.Verifying.{VerifyFileComes, VerifyOneComes}
 use Rattle.tw_diskcmd.specs.Appending.{AppendComes, AppendLeaves, AppendSafe}
 use Rattle.tw_diskcmd.specs.Disks.{IsLeft, Keeps, ReadLeaves}
+use Rattle.tw_diskcmd.specs.Exporting.{ExportComes}
 use Rattle.tw_diskcmd.specs.Linking.{LinkComes}
 use Rattle.tw_diskcmd.specs.Making.{InitComes, InitLeaves, InitSafe}
 use Rattle.tw_diskcmd.specs.Mapping.{MapHighComes, MapLowComes}
@@ -34,6 +35,8 @@ use Rattle.tw_app.specs.declared.outcome.Outcome.TheVariants.{Judged, Written, J
 use Rattle.tw_app.specs.declared.store.StoreAccess.{StoreAccess}
 use Rattle.tw_app.specs.declared.store.StoreAccess.TheVariants.{Read, Write}
 use Rattle.tw_app.specs.Around.{Around, Outside, Span, found_of}
+use Rattle.tw_app.specs.Generating.{GenerateComes}
+use Rattle.tw_app.specs.Replaying.{ReplayComes}
 use Rattle.tw_app.specs.Outcomes.{of_accused, of_audited, of_fork, of_mapped, of_planned, of_taken, outcome_by, status_of, text_of}
 
 -- ---- what a command does
@@ -67,12 +70,6 @@ IsAnswerBy {X} of May status text = (value : X) × May (Ok value) × (status_of 
 abbrev pub IsDoneBy : {X : Type 0} → (of : X → Outcome) → (May : Result X CommandFault → Type 0) → (text : List ℕ) → Type 0
 IsDoneBy of May text = IsAnswerBy of May 0 text
 
--- what a command comes to that isn't built
-abbrev pub IsUnbuilt : Outcome → Type 0
-IsUnbuilt (BadWords number) = number ≡ 0
-IsUnbuilt (Undone NoMemory) = Unit {0}
-IsUnbuilt _ = ⊥
-
 -- one that reads or writes the store of a folder works on a disk
 abbrev pub UsesDisk : Option StoreAccess → Type 0
 UsesDisk None = ⊥
@@ -94,17 +91,6 @@ module _ {D : Type 0} (view : D → DiskView) (o : Outside D) where
   -- no device call was made, and so the disk keeps what it keeps
   abbrev pub IsUntouched : Type 0
   IsUntouched = o.disk.after ≡ o.disk.before
-
-  abbrev pub unbuilt : Work
-  unbuilt = record {
-    does = λ outcome. IsUnbuilt outcome × IsUntouched;
-    answers = λ status text. ⊥;
-    done = λ text. ⊥;
-    undone = λ fault. IsUnbuilt (Undone fault) × IsUntouched;
-    safe = IsUntouched × Keeps view o.disk.before o.disk.after;
-    access = None;
-    uses_disk = ⊥;
-  }
 
   -- a command without a folder
   abbrev pub over_files : {X : Type 0} → (of : X → Outcome) → (Comes : Result X CommandFault → Type 0) → Work
@@ -137,6 +123,7 @@ module _ {D : Type 0} (view : D → DiskView) (o : Outside D) where
   work (ProveLink step top) = reading Written (LinkComes (found_of view o) step top)
   work (MapLow step peer top) = reading Written (MapLowComes step peer top (found_of view o))
   work (MapHigh pos peer top) = reading Written (MapHighComes pos peer top (found_of view o))
+  work Export = reading Written (ExportComes (found_of view o))
   work (Show history step index) = over_files Written (ShowComes o.inputs history step index)
   work (Join files) = over_files Joined (JoinComes o.inputs files)
   work (VerifyFile proof anchors) = over_files Judged (VerifyFileComes o.inputs proof anchors false)
@@ -148,6 +135,8 @@ module _ {D : Type 0} (view : D → DiskView) (o : Outside D) where
   work (Adopt history anchors proof more) = over_files of_taken (AdoptComes o.inputs history anchors (proof ∷ more))
   work (Accuse first second link) = over_files of_accused (AccuseComes o.inputs first second link)
   work (CheckFork file anchors) = over_files of_fork (CheckForkComes o.inputs file anchors)
+  work (Replay file) = over_files Written (ReplayComes o.inputs file)
+  work (Generate number rounds) = over_files Written (GenerateComes number rounds)
   work (Watch name) =
       writing Made (WatchComes (view o.disk.before).content (view o.disk.before).faults (view o.disk.after).faults name)
       (WatchLeaves view o.disk.before o.disk.after name) (WatchSafe view o.disk.before o.disk.after name)
@@ -158,7 +147,6 @@ module _ {D : Type 0} (view : D → DiskView) (o : Outside D) where
       by_results Written
       (λ result. HeadsComes (view o.disk.before).content (view o.disk.before).faults (view o.disk.after).faults result × HeadsLeaves view o.disk.before o.disk.after result)
       (HeadsSafe view o.disk.before o.disk.after) (Some Read)
-  work _ = unbuilt
 
 -- ---- what words come to
 

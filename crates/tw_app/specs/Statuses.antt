@@ -29,8 +29,7 @@ use Rattle.tw_join.specs.Joining.{Joins}
 use Rattle.tw_chain.specs.Reasons.{IsLowest}
 use Rattle.tw_filecmd.specs.Joining.{AreProofsOf}
 use Rattle.tw_filecmd.specs.Verifying.{HasAnchors}
-use Rattle.tw_app.specs.declared.outcome.Outcome.TheVariants.{BadWords}
-use Rattle.tw_app.specs.Around.{Around, Outside, Writes}
+use Rattle.tw_app.specs.Around.{Around, Writes}
 use Rattle.tw_app.specs.Commands.{NamesFile}
 use Rattle.tw_app.specs.Running.{Work, work}
 
@@ -46,10 +45,6 @@ IsVerify (VerifyFile proof anchors) = Unit {0}
 IsVerify (VerifyOne proof anchor) = Unit {0}
 IsVerify (Strict proof anchors) = Unit {0}
 IsVerify _ = ⊥
-
--- the command is built: its work never comes to the usage line
-abbrev pub IsBuilt : {D : Type 0} → (view : D → DiskView) → Command → Type 0
-IsBuilt {D} view command = (o : Outside D) (number : ℕ) → (work view o command).does (BadWords number) → ⊥
 
 -- ---- the statuses
 
@@ -145,20 +140,18 @@ module _ {D : Type 0} (view : D → DiskView) where
   abbrev pub IsUndoneRun : Around D → CommandFault → Type 0
   IsUndoneRun around fault = IsWork around (λ w. w.undone fault) × Writes around (fault_text fault)
 
-  -- the words have no form, and this is the first word at which none goes on; or they have one that isn't built, and the
-  -- number is 0
+  -- the words have no form, and this is the first word at which none goes on
   abbrev pub IsUsage : (words : List (List ℕ)) (number : ℕ) → Type 0
-  IsUsage words number =
-      MatchOption (command_of words) (IsFirstBad words number) (λ command. (number ≡ 0) × (IsBuilt view command → ⊥))
+  IsUsage words number = MatchOption (command_of words) (IsFirstBad words number) (λ command. ⊥)
 
-  -- status 2: the words have no form, or none that is built, and the line with the word's number was written whole
+  -- status 2: the words have no form, and the line with the word's number was written whole
   abbrev pub IsUsageRun : Around D → Type 0
   IsUsageRun around = (number : ℕ) × IsUsage around.words number × Writes around (usage_text number)
 
-  -- status 3: the words are of a command that is built and names a file, and the inputs failed
+  -- status 3: the words are of a command that names a file, and the inputs failed
   abbrev pub IsInputFaultRun : Around D → Type 0
   IsInputFaultRun around =
-      AreOf (IsBuilt view) around.words × AreOf NamesFile around.words × Rose around.outside.inputs.before around.outside.inputs.after
+      AreOf NamesFile around.words × Rose around.outside.inputs.before around.outside.inputs.after
       × IsUndoneRun around InputFault
 
   -- the disk failed

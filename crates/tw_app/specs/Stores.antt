@@ -3,7 +3,7 @@ use Rattle.std.specs.Prelude.{◌≡◌, ℕ, List, [], Option, Some, None, Matc
 use Rattle.std.specs.Option.{option_map}
 use Rattle.tw_words.specs.CommandLine.{command_of}
 use Rattle.tw_words.specs.declared.command.Command.{Command}
-use Rattle.tw_words.specs.declared.command.Command.TheVariants.{Init, Append, Thread, Receive, ProveEvent, ProveThread, ProveAbsent, ProveLink, MapLow, MapHigh, Watch, Offer, Heads}
+use Rattle.tw_words.specs.declared.command.Command.TheVariants.{Init, Append, Thread, Receive, ProveEvent, ProveThread, ProveAbsent, ProveLink, MapLow, MapHigh, Export, Watch, Offer, Heads}
 use Rattle.tw_app.specs.declared.store.Store.{Store}
 use Rattle.tw_app.specs.declared.store.StoreAccess.{StoreAccess}
 use Rattle.tw_app.specs.declared.store.StoreAccess.TheVariants.{Read, Write}
@@ -20,6 +20,7 @@ access_of (ProveAbsent step peer k top) = Some Read
 access_of (ProveLink step top) = Some Read
 access_of (MapLow step peer top) = Some Read
 access_of (MapHigh pos peer top) = Some Read
+access_of Export = Some Read
 access_of (Watch name) = Some Write
 access_of (Offer file) = Some Write
 access_of Heads = Some Read

@@ -143,21 +143,20 @@ fn run_to_the_end<D: Disk, I: Inputs, S: Sink>(
 /// - 0: the command's output was written whole: the report of an accepted proof or of one that stands
 ///   in histories, the proof, the evidence or the message that was made, the receipt of a message that was
 ///   received, the fork that evidence shows, the bounds that map files show, an atlas, the file of the history
-///   that is taken over, or the anchor line of the service or step that was made.
+///   that is taken over, the text of what was played, or the anchor line of the service or step that was made.
 /// - 1: the proof, the evidence or a map file isn't accepted, or the parts or the map files don't fit;
 ///   `rejected`, the lowest reason that stands and its fields, or `Gap` and the number of the part, of map
 ///   files that of the second; of proofs by which a history is to be taken over the first fault; or, of an audit,
 ///   `unheld` and the thread that the histories don't have.
-/// - 2: the words have no form; `usage` and the number of the first word at which none goes on, or 0
-///   where the words have a form whose work isn't built yet.
+/// - 2: the words have no form; `usage` and the number of the first word at which none goes on.
 /// - 3: the inputs failed; `fault input`.
 /// - 4: the sink failed; a part of the text was written. A step that was made stands.
-/// - 5: the disk failed; `fault disk`. Of `append` and `receive` it may hold the step or not, of `init` the
-///   service.
+/// - 5: the disk failed; `fault disk`. Of `append` and `receive` it may hold the step or not, of `offer` the
+///   head, of `init` the service and of `watch` the follower.
 /// - 6: there was no memory; `no memory`. No step was made.
 /// - 7: what was asked for isn't there or may not be made; `refused`, the refusal's name and its
 ///   fields.
-/// - 8: the disk has no service that can serve the command; `store`, why, and the slot or the page.
+/// - 8: the disk has no service, or no follower, that can serve the command; `store`, why, and the slot or the page.
 /// - 9: a file isn't what the command reads; `unreadable` or `unsound`, the file and where.
 /// - 10: of an audit's texts two different ones have one digest; `clash`, and both with the digest.
 ///
@@ -260,7 +259,9 @@ pub fn run<D: Disk, I: Inputs, S: Sink>(
     // What the disk reads as is told still, and stands for one of the two. At `init`, where the content was told, each
     // image is one that a crash might have left before, or is blank, or stands for the history of that name without
     // steps. What the disk then reads as is told still, and is such an image. Where a store was there, of a service or
-    // not, with writes pending or not, nothing is written. `prove` and `thread` write nothing. A command without a folder hands the
+    // not, with writes pending or not, nothing is written. `watch` and `offer` say the same of lists of heads: at `offer` each
+    // image stands for the list before it, or, where the file's message moves the head, for it with the message's thread.
+    // `prove`, `thread` and `heads` write nothing. A command without a folder hands the
     // disk back as it is, and so does a run of words that have no form.
     ensures crash { MatchOption (command_of (map string_bytes words.now)) (result.disk ≡ disk)
         (λ command. (work D.view (outside (asked (I.told inputs.old) (I.faults inputs.old) (I.faults inputs.new)) disk result.disk) command).safe) }

@@ -11,15 +11,17 @@ ghost use Rattle.tw_app.specs.Outcomes.{outcome_by};
 ghost use Rattle.tw_app.specs.declared.outcome.Outcome.TheVariants.{Made as OfThread, Received as OfReceipt, Written as OfBytes};
 ghost use Rattle.tw_app.specs.Running.{HasOutcome, work};
 
+use crate::generating::generate_world;
 use crate::outcome::{
     Outcome, accused, audited, fork_judged, joined, judged, made, mapped, planned, received, taken,
     written,
 };
+use crate::replaying::play_file;
 use std::alloc::Global;
 use tw_base::{Bytes, Key, Name, Thread};
 use tw_disk::Disk;
 use tw_diskcmd::{
-    Worked, append, make, map_high, map_low, prove, prove_absent, prove_link, prove_thread,
+    Worked, append, export, make, map_high, map_low, prove, prove_absent, prove_link, prove_thread,
     receive, tell,
 };
 use tw_filecmd::{join_files, show, verify_file, verify_one};
@@ -100,6 +102,7 @@ fn follow<D: Disk, I: Inputs>(
         Command::MapHigh { pos, peer, top } => {
             with_bytes(map_high(alloc, disk, *pos, *peer, *top))
         }
+        Command::Export => with_bytes(export(alloc, disk)),
         Command::Show {
             history,
             step,
@@ -194,13 +197,17 @@ fn follow<D: Disk, I: Inputs>(
             outcome: fork_judged(check_fork(alloc, inputs, file.as_str(), anchors.as_str())),
             disk,
         },
+        Command::Replay { file } => Followed {
+            outcome: written(play_file(alloc, inputs, file.as_str())),
+            disk,
+        },
+        Command::Generate { number, steps } => Followed {
+            outcome: written(generate_world(alloc, *number, *steps)),
+            disk,
+        },
         Command::Watch { name } => with_head(watch(alloc, disk, *name)),
         Command::Offer { file } => with_head(offer(alloc, disk, inputs, file.as_str())),
         Command::Heads => with_heads(list_heads(alloc, disk)),
-        _ => Followed {
-            outcome: Outcome::BadWords { number: 0 },
-            disk,
-        },
     }
 }
 
@@ -215,7 +222,7 @@ fn with_thread<D>(worked: Worked<D, Thread>) -> Followed<D>
     }
 }
 
-/// What came of a command that makes a proof, a map file or a message.
+/// What came of a command that makes a proof, a map file, a history file or a message.
 fn with_bytes<D>(worked: Worked<D, Bytes>) -> Followed<D>
     ensures outcome { result.outcome ≡ outcome_by OfBytes worked.outcome }
     ensures disk { result.disk ≡ worked.disk }

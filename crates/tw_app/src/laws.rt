@@ -14,14 +14,12 @@ ghost use Rattle.tw_followcmd.specs.Disks.{ReadsAs as ReadsAsList};
 ghost use Rattle.tw_app.specs.Around.{Around, Writes};
 ghost use Rattle.tw_app.specs.Commands.{IsOfFollower};
 ghost use Rattle.tw_app.specs.Running.{Ends};
-ghost use Rattle.tw_app.specs.Statuses.{AreOf, DiskFailed, IsAnsweredRun, IsBuilt, IsDiskFaultRun, IsDoneRun, IsGapRun, IsInputFaultRun, IsRejectedRun, IsUndoneRun, IsUsageRun, IsWork};
+ghost use Rattle.tw_app.specs.Statuses.{AreOf, DiskFailed, IsAnsweredRun, IsDiskFaultRun, IsDoneRun, IsGapRun, IsInputFaultRun, IsRejectedRun, IsUndoneRun, IsUsageRun, IsWork};
 
 use tw_disk::Disk;
 
 /// What each status says of a run that ends so, by what its command does.
 pub fn status_laws<D: Disk>()
-    // Status 0: the words are of a command that is built.
-    ensures built { (a : Around D) → Ends D.view a 0 → AreOf (IsBuilt D.view) a.words }
     // Status 0: the words are of a command that is done, its text was written whole, and the disk is left as is right for that.
     // Status 0 of `show`: the history file is there and is that of a sound history. The bytes written are the proof
     // that this history has of that event, with its last step as the top, and are accepted under any anchors of which
@@ -41,6 +39,9 @@ pub fn status_laws<D: Disk>()
     // read as a history, with writes pending or not, they spell the low file that this history has of that step and peer
     // under that top, and a step of the machine; and the disk stands for it, at rest.
     // Status 0 of `map high`: the same of the high file of that top for that step of the peer; the top alone is in question.
+    // Status 0 of `export`: what the disk read as opens as a service's store, and the bytes written are the history file that is
+    // found in its pages, whatever these keep. And where the disk read as a history, with writes pending or not, they are this
+    // history's own file, which is read as the same history again, and a step of the machine; and the disk stands for it, at rest.
     // Status 0 of `thread`: what the disk read as opens as a service's store, which has a step, and whose last one isn't
     // below the step that is named. The bytes written are the message of the last step that is found in its pages,
     // whatever these keep. And where the disk read as a history, with writes pending or not, they spell the message that
@@ -61,6 +62,18 @@ pub fn status_laws<D: Disk>()
     // pending or not, it is the machine's reply by the receiving of that message, at the time of the words, if any: the receipt
     // of the step that received the thread, and the disk stands for the history, at rest; or that of the last step of the
     // history with one more, which received it and with which it is sound, and the disk stands for that, at rest.
+    // Status 0 of `watch`: no store was there. The line written is that of step 0 of the name. The disk, where its content
+    // was told, stands for the list of that name without heads, at rest.
+    // Status 0 of `offer`: the file is there and holds a message. What the disk read as opens as a follower's store, over
+    // whose head the table says that the message is the head itself or moves it, and the line written is that of the
+    // message's thread. And where the disk read as a list of heads, with writes pending or not, the disk stands for that
+    // list, or, where the message moves the head, for it with that thread, at rest.
+    // Status 0 of `heads`: what the disk read as opens as a follower's store, and the lines written are those of the heads
+    // that are found in its pages, oldest first. And where the disk read as a list of heads, with writes pending or not,
+    // they are that list's, and the disk stands for it, at rest.
+    // Status 0 of `replay`: the file is there and is a script, and the bytes written are the text of what it is played to: an answer
+    // to each of its lines, and the summary of these and of some histories' numbers of steps. Status 0 of `generate`: the line written is the summary
+    // of the three histories to which the words' number leads in so many rounds.
     // Status 0 of `accuse`: all files are there and hold the proofs of two received threads and, where one is named, a link.
     // The bytes written spell the evidence that these make, and are accepted, with that fork, under all anchors under
     // which it shows one. Status 0 of `checkfork`: the file is there, the anchors file is there and has no bad line, and the
@@ -88,11 +101,10 @@ pub fn status_laws<D: Disk>()
     // lowest reason that stands against them under these anchors. Of `adopt` all files are there, the anchors file has no bad
     // line, and the history file is that of a sound history; the line names the first fault of the proofs.
     ensures rejected { (a : Around D) → Ends D.view a 1 → IsRejectedRun a ⊎ IsGapRun a ⊎ IsAnsweredRun D.view a 1 }
-    // Status 2: the words have no form, and the number written is that of the first word at which none goes on; or they
-    // have one that isn't built, and it is 0.
+    // Status 2: the words have no form, and the number written is that of the first word at which none goes on.
     ensures usage { (a : Around D) → Ends D.view a 2 → IsUsageRun D.view a }
-    // Status 3: the words are of a command that is built and name a file, the inputs' count of faults rose, and `fault
-    // input` was written whole.
+    // Status 3: the words are of a command and name a file, the inputs' count of faults rose, and `fault input` was written
+    // whole.
     ensures input_fault { (a : Around D) → Ends D.view a 3 → IsInputFaultRun D.view a }
     // Status 4: the sink's count of faults rose.
     ensures output_fault { (a : Around D) → Ends D.view a 4 → Rose a.sink_faults.before a.sink_faults.after }
@@ -101,25 +113,30 @@ pub fn status_laws<D: Disk>()
     ensures cut_short { (a : Around D) → Ends D.view a 4 → (DiskFailed D.view a → ⊥)
         → ((text : List ℕ) × IsWork D.view a (λ w. w.done text)) ⊎ IsLeft D.view a.outside.disk.before a.outside.disk.after }
     // Status 5: the words are of a command with a folder, the disk's count of faults rose, and `fault disk` was written
-    // whole. At `append` and `receive` the file was judged before.
+    // whole. At `append`, `receive` and `offer` the file was judged before.
     ensures disk_fault { (a : Around D) → Ends D.view a 5 → IsDiskFaultRun D.view a }
     // Status 6: `no memory` was written whole.
     ensures no_memory { (a : Around D) → Ends D.view a 6 → Writes a no_memory_text }
     // Status 7 of `show`: the history file is there and is that of a sound history, which has no such step, or no such
     // event in it. The line written tells the last step, or the number of the step's events. Status 7 of `init`: a
-    // store was there. Status 7 of `append`, `receive`, `prove`, `map` and `thread`: what the disk read as opens as a
+    // store was there. Status 7 of `append`, `receive`, `prove`, `map`, `export` and `thread`: what the disk read as opens as a
     // service's store, and the line written is the first refusal of its table that stands; `NoEvent` tells how many events the step's
-    // page counts, `HasThread` the step that its archive tells to have received the thread, and of a message that isn't
-    // taken the line tells what its archive keeps.
+    // page counts, `HasThread` the step that its archive tells to have received the thread, `TooLong` of `export` how many bytes
+    // the file that is found in its pages would have, and of a message that isn't taken the line tells what its archive keeps.
     // Where the disk read as a history, with writes pending or not, it is the machine's refusal, nothing was written, and
-    // the disk stands for that history, at rest.
+    // the disk stands for that history, at rest. Status 7 of `watch`: a store was there. Status 7 of `offer`: what the disk
+    // read as opens as a follower's store, and the line written is the refusal that the table has of the message over its
+    // head. Where the disk read as a list of heads, it stands for that list, at rest.
     ensures refused { (a : Around D) → Ends D.view a 7 → (refusal : Refusal) × IsUndoneRun D.view a (Refused refusal) }
-    // Status 8: the words are `append`, `receive`, `prove`, `map` or `thread`; at the first two the file was judged before. With
+    // Status 8: the words are `append`, `receive`, `prove`, `map`, `export` or `thread`; at the first two the file was judged before. With
     // `Blank` and `NotAStore`, what the disk read as opens as no store of a service, for the reason that the line tells. With
     // `BadPage`, what the disk read as opens as a service's store whose table refuses nothing before a page is read,
     // and stands for no history. The page told is the first that the command meets there that isn't of its kind, or, at
-    // `prove event`, the one read last where the event pages don't spell the step's events; at `receive` also the one read
-    // last where the step that is told to have received the thread is above the last one.
+    // `prove event` and `export`, the one read last where the event pages don't spell the step's events; at `receive` also
+    // the one read last where the step that is told to have received the thread is above the last one; at `export` also the
+    // page of a step, read once more, that received a thread of step 0, or whose archive names an older page that no archive
+    // before it has. Or the words are `offer` or `heads`, and what the disk read as opens as no store of a follower, for the
+    // reason that the line tells; or `heads`, and the page told is the first, from that of the last head down, that isn't of its kind.
     ensures store { (a : Around D) → Ends D.view a 8 → (cause : StoreCause) × IsUndoneRun D.view a (Unserved cause) }
     // Status 8 never comes where the disk read as a history, of another command than `watch`, `offer` and `heads`.
     ensures complete { (a : Around D) → Ends D.view a 8 → (AreOf IsOfFollower a.words → ⊥) → (h : History) → ReadsAs (D.view a.outside.disk.before).content h → ⊥ }
@@ -127,7 +144,7 @@ pub fn status_laws<D: Disk>()
     ensures list_complete { (a : Around D) → Ends D.view a 8 → AreOf IsOfFollower a.words → (k : Kept) → ReadsAsList (D.view a.outside.disk.before).content k → ⊥ }
     // Status 9 of `append`: the events file is there, and the line tells the byte of the limit, where the file is
     // longer, else the first byte at which no events file goes on. Status 9 of `receive`: the file is there, and the line tells
-    // the first byte at which no message goes on. Status 9 of `verify` and `strict`: proof and anchors
+    // the first byte at which no message goes on; and so at `offer`. Status 9 of `verify` and `strict`: proof and anchors
     // file are there, and the line written tells the first line of the anchors file that can't follow those before it.
     // Status 9 of `join`: all files are there, and the line tells the first that holds no proof, and its first byte at
     // which none goes on. Status 9 of `show`: the history file is there, and the line tells the byte of the limit, where
@@ -142,6 +159,8 @@ pub fn status_laws<D: Disk>()
     // and the line tells the first of both that holds no map file of its kind, and its first byte at which none goes on; or
     // else the first bad line of the anchors file. Status 9 of `adopt`: all files are there, and the line tells of the history
     // file what that of `show` does; or, where that is the file of a sound history, the first bad line of the anchors file.
+    // Status 9 of `replay`: the file is there, and the line tells the line of the first byte past the limit, where it is longer; else
+    // the first line that isn't allowed behind those before it.
     ensures unreadable { (a : Around D) → Ends D.view a 9 → (bad : BadInput) × IsUndoneRun D.view a (Unreadable bad) }
     // Status 10: the words are of a command that comes to an answer of this status, and its text was written whole. (That
     // the command is `audit` alone, `clash` of `run` says.)

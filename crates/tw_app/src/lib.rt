@@ -2,16 +2,20 @@
 #![tactic(auto)]
 
 mod alike;
+mod complete;
 mod ending;
 mod following;
+mod generating;
 mod judging;
 mod laws;
 mod mapping;
 mod outcome;
 mod printing;
+mod replaying;
 mod store;
 
 pub use alike::one_answer_laws;
+pub use complete::answered_laws;
 pub use ending::{Ran, end_without_memory, run};
 pub use judging::judging_laws;
 pub use laws::status_laws;

@@ -18,7 +18,8 @@ use tw_tmap::MapVerdict;
 pub enum Outcome {
     /// A proof was judged.
     Judged(Verdict),
-    /// An event was shown, something was proved or the last step told: the bytes of the proof or of the message.
+    /// An event was shown, something was proved, a map or history file made, the last step told or a script
+    /// or a number played: the bytes of the proof, of the file or of the message, or the text of what was played.
     Written(Bytes),
     /// The proofs of files were joined, or don't fit.
     Joined(Joined),
@@ -28,8 +29,7 @@ pub enum Outcome {
     Received(Receipt),
     /// A command over files that reach beyond one proof was done.
     Answered(Answer),
-    /// The words have no form, and this is the number of the first word, from 1, at which none goes
-    /// on; or 0, where they have a form whose work isn't built yet.
+    /// The words have no form, and this is the number of the first word, from 1, at which none goes on.
     BadWords { number: u64 },
     /// The command isn't done.
     Undone(CommandFault),
@@ -45,7 +45,7 @@ pub(crate) fn judged(came: Result<Verdict, CommandFault>) -> Outcome
     }
 }
 
-/// The outcome of a proof or a message that was made.
+/// The outcome of a proof, a file or a message that was made.
 pub(crate) fn written(came: Result<Bytes, CommandFault>) -> Outcome
     ensures { result ≡ outcome_by OfBytes came }
 {

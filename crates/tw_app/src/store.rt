@@ -29,7 +29,7 @@ pub struct Store<'a> {
     pub access: StoreAccess,
 }
 
-/// What the command does with the store of its folder; none where it works on no folder, or isn't built.
+/// What the command does with the store of its folder; none where it works on no folder.
 fn access_of(command: &Command) -> Option<StoreAccess>
     ensures { result ≡ access_of_command command.now }
 {
@@ -46,6 +46,7 @@ fn access_of(command: &Command) -> Option<StoreAccess>
         | Command::ProveLink { .. }
         | Command::MapLow { .. }
         | Command::MapHigh { .. }
+        | Command::Export
         | Command::Heads => Some(StoreAccess::Read),
         _ => None,
     }
@@ -62,7 +63,7 @@ fn folder_of(words: &[String]) -> &str
 }
 
 /// The store that the words ask for, which don't hold the program's own name. None where they have no form, or one whose command
-/// works on no folder or isn't built.
+/// works on no folder.
 pub fn store_of(alloc: Global, words: &[String]) -> Result<Option<Store<'_>>, NoMemory>
     // The store is that of the words' command, with what it does with it, in the folder that the second word names; and none is
     // answered where the words have no form, or their command works on no folder.
@@ -85,6 +86,6 @@ pub fn store_of(alloc: Global, words: &[String]) -> Result<Option<Store<'_>>, No
 /// What a command does with a store is what its work does with the disk.
 pub fn store_laws<D: Disk>()
     // Exactly the commands whose work may write the disk write the store, and exactly those whose work reads it and writes nothing
-    // read it; all others work on no folder, or aren't built.
+    // read it; all others work on no folder.
     ensures { (o : Outside D) (command : AnyCommand) → (work D.view o command).access ≡ access_of_command command }
 {}

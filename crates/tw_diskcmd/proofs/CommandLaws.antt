@@ -19,6 +19,7 @@ use Rattle.tw_text.specs.declared.fault.CommandFault.{CommandFault}
 use Rattle.tw_text.specs.declared.fault.CommandFault.TheVariants.{Refused, Unserved, Unreadable, InputFault, DiskFault, NoMemory}
 use Rattle.tw_diskcmd.specs.Appending.{AppendComes, AppendLeaves, AppendSafe, AreEventsOf}
 use Rattle.tw_diskcmd.specs.Disks.{AddsSafe, FoundDisk, IsLeft, Keeps, ReadLeaves, ReadsAs}
+use Rattle.tw_diskcmd.specs.Exporting.{ExportComes}
 use Rattle.tw_diskcmd.specs.Linking.{LinkComes}
 use Rattle.tw_diskcmd.specs.Making.{InitComes, InitLeaves, InitSafe}
 use Rattle.tw_diskcmd.specs.Mapping.{MapHighComes, MapLowComes}
@@ -107,6 +108,15 @@ module _ (a : Asked) (t : FoundDisk) where
   pub map_high_causes : (step : ℕ) (peer : List ℕ) (top : Option ℕ) → HasCauses a t ⊥ (Unit {0}) (MapHighComes step peer top t)
   unfolding MapHighComes
   map_high_causes step peer top = record {
+    input = λ came. absurd came;
+    disk = λ rose. (tt, rose);
+    serves = λ h reads why came. came.machine h reads;
+    memory = tt;
+  }
+
+  pub export_causes : HasCauses a t ⊥ (Unit {0}) (ExportComes t)
+  unfolding ExportComes
+  export_causes = record {
     input = λ came. absurd came;
     disk = λ rose. (tt, rose);
     serves = λ h reads why came. came.machine h reads;

@@ -12,5 +12,6 @@ pub mod Appendings
 pub mod Tables
 pub mod ThreadProofAnswers
 pub mod MapAnswers
+pub mod ExportAnswers
 pub mod MessageFiles
 pub mod Received

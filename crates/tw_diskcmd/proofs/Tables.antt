@@ -6,7 +6,7 @@ use Rattle.tw_base.specs.declared.kinds.limits.TheConstants.{LAST_STEP, MOST_EVE
 use Rattle.tw_answers.specs.declared.refusal.Refusal.{Refusal}
 use Rattle.tw_answers.specs.declared.refusal.Refusal.TheVariants.{NoStep, NoThread, HasThread, TooMany, TooLong, Full, ClockBack, Own}
 use Rattle.tw_answers.specs.Limits.{append_refusal, bytes_of, clock_refusal, first_long, full_refusal, is_in_order, length_refusal, limits_refusal, link_refusal, or_else, order_refusal, own_refusal, thread_refusal, top_refusal}
-use Rattle.tw_answers.specs.Refusals.{IsHasThread, IsNoThread}
+use Rattle.tw_answers.specs.Refusals.{IsHasThread, IsNoThread, IsTooLong}
 use Rattle.tw_answers.proofs.TableAnswers.{Of}
 use Rattle.tw_diskcmd.proofs.Results.{CanCome}
 
@@ -55,7 +55,7 @@ pub own_can : (name from : List ℕ) → Of CanCome (own_refusal false name from
 unfolding own_refusal
 own_can name from = can_if (bytes_eq from name) (Some Own) None (λ never. never) tt
 
--- and neither is a refusal of a thread that is asked for
+-- and neither is a refusal of a thread that is asked for, or of a file
 pub no_thread_can : (r : Refusal) → IsNoThread r → CanCome r
 no_thread_can NoThread is never = never
 no_thread_can _ is never = is
@@ -63,3 +63,7 @@ no_thread_can _ is never = is
 pub has_thread_can : (r : Refusal) → IsHasThread r → CanCome r
 has_thread_can (HasThread archived) is never = never
 has_thread_can _ is never = is
+
+pub too_long_can : (r : Refusal) → IsTooLong r → CanCome r
+too_long_can (TooLong bytes) is never = never
+too_long_can _ is never = is

@@ -9,5 +9,6 @@ pub mod Proving
 pub mod Linking
 pub mod ThreadProofs
 pub mod Mapping
+pub mod Exporting
 pub mod Telling
 pub mod WorkSteps

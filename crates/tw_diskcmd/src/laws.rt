@@ -10,6 +10,7 @@ ghost use Rattle.tw_text.specs.declared.fault.CommandFault.{CommandFault};
 ghost use Rattle.tw_diskcmd.specs.Answers.{TellsContent};
 ghost use Rattle.tw_diskcmd.specs.Appending.{AppendComes, StepComes, TellsOfFile};
 ghost use Rattle.tw_diskcmd.specs.Disks.{IsLeft, Keeps, found_disk};
+ghost use Rattle.tw_diskcmd.specs.Exporting.{ExportComes};
 ghost use Rattle.tw_diskcmd.specs.Linking.{LinkComes};
 ghost use Rattle.tw_diskcmd.specs.Mapping.{MapHighComes, MapLowComes};
 ghost use Rattle.tw_diskcmd.specs.Proving.{ProveComes};
@@ -21,8 +22,8 @@ use tw_disk::Disk;
 /// Over a disk that tells its content, all that the adding of these events may come to is one thing:
 /// the thread of one step, one refusal, or one reason why nothing is served. Where the inputs tell theirs
 /// too, so is it with `append` as a whole, and its file's first bad byte. So is it with the proofs of an
-/// event, of a link, of a thread and of an absence, with map files and with the message of the last step,
-/// of which the bytes are one. A fault of the disk and want of memory are excepted.
+/// event, of a link, of a thread and of an absence, with map files, the history's file and the message of the
+/// last step, of which the bytes are one. A fault of the disk and want of memory are excepted.
 pub fn told_laws()
     // Over a disk that tells its content, what `append` comes to once its file was read is one thing: one thread, one
     // refusal with its number, or one reason of status 8 with its slot or page. So each of these comes exactly where it
@@ -55,6 +56,9 @@ pub fn told_laws()
         MapLowComes step peer top (found_disk (Some image) before after) one → MapLowComes step peer top (found_disk (Some image) before after) other → one ≡ other }
     ensures highs { (image : Image) (step : ℕ) (peer : List ℕ) (top : Option ℕ) (before after : ℕ) (one other : Result (List ℕ) CommandFault) → TellsContent one → TellsContent other →
         MapHighComes step peer top (found_disk (Some image) before after) one → MapHighComes step peer top (found_disk (Some image) before after) other → one ≡ other }
+    // So is what `export` comes to: a file of the same bytes, one refusal with its number, or one reason of status 8.
+    ensures exports { (image : Image) (before after : ℕ) (one other : Result (List ℕ) CommandFault) → TellsContent one → TellsContent other →
+        ExportComes (found_disk (Some image) before after) one → ExportComes (found_disk (Some image) before after) other → one ≡ other }
     // So is what `thread` comes to: a message of the same bytes, one refusal, or one reason of status 8.
     ensures telling { (image : Image) (since before after : ℕ) (one other : Result (List ℕ) CommandFault) → TellsContent one → TellsContent other →
         ThreadComes (found_disk (Some image) before after) since one → ThreadComes (found_disk (Some image) before after) since other → one ≡ other }

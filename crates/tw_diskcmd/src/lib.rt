@@ -1,8 +1,9 @@
 // The commands over the disk of a service: making it, adding a step, receiving a message, proving an event, a
-// link, a thread and that there is none, making map files, and telling the last step.
+// link, a thread and that there is none, making map files, writing the history's file, and telling the last step.
 #![tactic(auto)]
 
 mod appending;
+mod exporting;
 mod faults;
 mod laws;
 mod limits;
@@ -16,6 +17,7 @@ mod threads;
 mod worked;
 
 pub use appending::append;
+pub use exporting::export;
 pub use laws::{idle_laws, told_laws};
 pub use linking::prove_link;
 pub use making::make;

@@ -1,9 +1,6 @@
 use Rattle.std.proofs.Common.{refl}
-use Rattle.tw_app.proofs.Endings.{built, clash, complete, cut_short, disk_fault, done, input_fault, list_complete, no_memory, output_fault, refused, rejected, unreadable, unserved, usage}
+use Rattle.tw_app.proofs.Endings.{clash, complete, cut_short, disk_fault, done, input_fault, list_complete, no_memory, output_fault, refused, rejected, unreadable, unserved, usage}
 use Rattle.tw_app.proofs.laws.status_laws.Goals as goal
-
-pub returns-clause-built : goal.returns-clause-built
-returns-clause-built g c = λ a run. built g.D.Disk.view g.met.D.Disk.only_now g.met.D.Disk.as_it_reads a 0 run refl
 
 pub returns-clause-done : goal.returns-clause-done
 returns-clause-done g c = λ a run. done g.D.Disk.view g.met.D.Disk.only_now g.met.D.Disk.as_it_reads a 0 run refl

@@ -1,6 +1,7 @@
-use Rattle.tw_answers.specs.Refusals.{IsHasThread, IsNoThread}
+use Rattle.tw_answers.specs.Refusals.{IsHasThread, IsNoThread, IsTooLong}
 use Rattle.tw_diskcmd.specs.Answers.{MachineAnswers, TableAnswers, TableAnswersOr}
 use Rattle.tw_diskcmd.specs.Appending.{MachineAdds, TableAdds, added}
+use Rattle.tw_diskcmd.specs.Exporting.{ExportComes, Exports, export_call, export_table, exported}
 use Rattle.tw_diskcmd.specs.Linking.{LinkComes, Links, link_call, link_table, linked}
 use Rattle.tw_diskcmd.specs.Mapping.{MapHighComes, MapLowComes, MapsHigh, MapsLow, high_call, high_mapped, high_table, low_call, low_mapped, low_table}
 use Rattle.tw_diskcmd.specs.Proving.{MachineProves, ProveComes, TableProves, proved}
@@ -49,3 +50,7 @@ pub returns-clause-highs : goal.returns-clause-highs
 unfolding MapHighComes
 returns-clause-highs c = λ image step peer top before after.
     one_answer (high_mapped step peer top) (TableAnswers (high_table step peer top)) (MachineAnswers (high_call step peer top) (MapsHigh step peer top)) image before after
+
+pub returns-clause-exports : goal.returns-clause-exports
+unfolding ExportComes
+returns-clause-exports c = λ image before after. one_answer exported (TableAnswersOr IsTooLong export_table) (MachineAnswers export_call Exports) image before after
