@@ -1,6 +1,6 @@
 """What the reference says of a run of the program: of any words, over any files and a service of a known history.
 
-What words are a form comes from the manual page, with the forms to come, which are `usage 0`. Of a store whose bytes were changed the reference can't say
+What words are a form comes from the manual page. Of a store whose bytes were changed the reference can't say
 what is found there: then a command with a folder may answer with status 0, 5, 7 or 8 and a text of these, and one that only reads leaves the store as it is.
 """
 
@@ -14,6 +14,7 @@ import audits
 import chains
 import forks
 import maps
+import played
 import proofs
 import reference
 from reaching import accused_bytes
@@ -59,11 +60,9 @@ class Answer(NamedTuple):
 
 @cache
 def forms():
-    """The forms of the command line, those to come too: each the words of the manual page behind the program's, where capitals name a kind of word."""
-    text, found = MANUAL.read_text(), []
-    synopsis, to_come = (text.split(f"\n.SH {name}\n")[1].split("\n.SH ")[0] for name in ("SYNOPSIS", "FORMS TO COME"))
+    """The forms of the command line: each the words of the manual page behind the program's, where capitals name a kind of word."""
+    synopsis, found = MANUAL.read_text().split("\n.SH SYNOPSIS\n")[1].split("\n.SH ")[0], []
     lines = [re.sub(r"^\.\w+ ", "", line, flags=re.M).replace("\n", " ") for line in synopsis.split(".br\n")]
-    lines += to_come.split(".nf\n")[1].split("\n.fi")[0].splitlines()
     for line in lines:
         needed, _, optional = line.removeprefix("timeweave ").partition("[")
         found += [needed.split()] + [(needed + " " + optional.strip(" ]")).split()] * bool(optional)
@@ -112,8 +111,6 @@ def wanted(trial):
     if isinstance(kinds, int):
         return Answer(2, b"usage %d\n" % kinds, store)
     command, *rest = trial.words
-    if command not in OF_FILES | OF_STORES:
-        return Answer(2, b"usage 0\n", store)
     named = [word for word, kind in zip(trial.words, kinds) if kind in PATHS - {"DIR"}]
     if any(name not in trial.files for name in named):
         return Answer(3, b"fault input\n", store)
@@ -184,6 +181,8 @@ OF_FILES = {
     "adopt": taken_over,
     "atlas": atlas,
     "checkmap": mapped,
+    "replay": lambda files, name: played.replayed(name, files[name]),
+    "generate": lambda files, number, rounds: (played.generated(int(rounds)), 0),
 }
 
 
@@ -221,6 +220,8 @@ def of_store(trial, command, rest):
         return Answer(8, b"store NotAStore %d\n" % trial.service.slot(), trial.store())
     if command in ("map low", "map high"):
         return Answer(None, None, trial.store())
+    if command == "export":
+        return Answer(0, history_of(trial.service), trial.store())
     if command == "heads":
         return Answer(0, trial.service.heads(), trial.store())
     if command == "offer":
@@ -232,6 +233,11 @@ def of_store(trial, command, rest):
         return of_archive(trial.service, command, *rest)
     numbers = [int(word) for word in rest]
     return appended(trial.service, events, *numbers) if command == "append" else asked(trial.service, command, *numbers)
+
+
+def history_of(service):
+    """The file of the history of a service that received no thread."""
+    return reference.history_bytes(service.line.name, [reference.Step(events, time=time) for events, time in zip(service.line.steps, service.line.times)])
 
 
 def linked_message(data):
@@ -303,4 +309,4 @@ def of_archive(service, command, step, peer, number, top=None):
 # The commands that write a store.
 WRITING = ("init", "append", "receive", "watch", "offer")
 
-OF_STORES = dict.fromkeys(("init", "append", "receive", "prove", "map", "thread", "watch", "offer", "heads"))
+OF_STORES = dict.fromkeys(("init", "append", "receive", "prove", "map", "export", "thread", "watch", "offer", "heads"))

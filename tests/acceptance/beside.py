@@ -5,9 +5,11 @@ import os
 import subprocess
 import threading
 
+import maps
 import reference
 import seen
-from failing import READING
+from failing import TELLING
+from histories import History
 from proofs import absent_proof, link_proof
 from steps import Wrong, case
 from stores import Store, events_file
@@ -101,9 +103,14 @@ def waiting(room):
     """who writes waits for each other program, and who reads only for one that writes"""
     store = room.made("lock", [[b"x"]])
     line = store.line
-    told = (reference.proof_bytes(line, 1, 0, 1), link_proof(line, 1, 1), reference.message_bytes(line, 1, 0), absent_proof(line, reference.EMPTY, 1, 1, ("b", 1)))
+    history = History("lock")
+    history.append([b"x"])
+    told = (
+        reference.proof_bytes(line, 1, 0, 1), link_proof(line, 1, 1), reference.message_bytes(line, 1, 0), absent_proof(line, reference.EMPTY, 1, 1, ("b", 1)),
+        maps.low_bytes(history, 1, "b", 1), maps.high_bytes(history, 1, "b", 1), reference.history_bytes("lock", [reference.Step([b"x"])]),
+    )
     with locked(room, "-s"):
-        for words, output in zip(READING, told):
+        for words, output in zip(TELLING, told):
             room.expect(words, 0, output)
         append = started(room, "append", "d", "e")
         if not waits(append):
@@ -111,10 +118,10 @@ def waiting(room):
     if ended(append) != (0, Store("lock", [[b"x"]] * 2).anchor(2), b""):
         raise Wrong("  append didn't go on after one that reads")
     with locked(room, "-x"):
-        running = [started(room, *words.split()) for words in (*READING, "append d e", "init d lock")]
+        running = [started(room, *words.split()) for words in (*TELLING, "append d e", "init d lock")]
         if not all(waits(it) for it in running):
             raise Wrong("  prove, thread, append or init doesn't wait for one that writes")
-    for it, statuses in zip(running, (*[(0,)] * len(READING), (0,), (7,))):
+    for it, statuses in zip(running, (*[(0,)] * len(TELLING), (0,), (7,))):
         if ended(it)[0] not in statuses:
             raise Wrong(f"  {it.args} didn't go on after one that writes")
     room.expect_store(Store("lock", [[b"x"]] * 3).file())

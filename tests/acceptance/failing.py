@@ -16,7 +16,10 @@ PASS_OVER_MODES = (1, 2)
 LAST_STEP = 2**40 - 1
 
 # The commands that read a store and write nothing to it.
-READING = ("prove d event 1 0", "prove d link 1", "thread d 0", "prove d absent 1 b 1")
+READING = ("prove d event 1 0", "prove d link 1", "thread d 0", "prove d absent 1 b 1", "map d low 1 b", "map d high 1 b")
+
+# The same and `export`, which is done of a service without steps too.
+TELLING = (*READING, "export d")
 
 
 def plain_rights():
@@ -54,7 +57,7 @@ def read_only_folder(room):
     room.put("e", events_file([b"x"]))
     for words in ("init d ro", "append d e"):
         room.expect(words, 5, b"fault disk\n", limit=plain_rights)
-    for words in READING:
+    for words in TELLING:
         room.expect(words, 8, b"store Blank\n", limit=plain_rights)
     if in_folder(room):
         raise Wrong(f"  in a read-only folder were made: {in_folder(room)}")
@@ -71,7 +74,7 @@ def read_only_folder(room):
 def read_only_files(room):
     """a store and an events file that may not be opened so"""
     store = room.made("ro", [[b"x"]])
-    for mode, commands in ((0o444, ("init d ro", "append d e")), (0o000, ("init d ro", "append d e", *READING))):
+    for mode, commands in ((0o444, ("init d ro", "append d e")), (0o000, ("init d ro", "append d e", *TELLING))):
         (room.folder / "d/timeline.tw").chmod(mode)
         for words in commands:
             room.expect(words, 5, b"fault disk\n", limit=plain_rights)
@@ -85,11 +88,11 @@ def read_only_files(room):
 def failing_disks(room):
     """a folder that isn't there, a folder in the place of the file, and a file that can't grow"""
     room.put("e", events_file([bytes(1024)] * 60))
-    for words in ("init d a", "append d e", *READING):
+    for words in ("init d a", "append d e", *TELLING):
         room.expect(words, 5, b"fault disk\n")
     (room.folder / "g/timeline.tw").mkdir(parents=True)
-    for words in ("init d a", "append d e", *READING):
-        room.expect(words.replace(" d ", " g "), 5, b"fault disk\n")
+    for words in ("init d a", "append d e", *TELLING):
+        room.expect(f"{words} ".replace(" d ", " g "), 5, b"fault disk\n")
     store = room.made("room", [[b"x"]])
     room.put("e", events_file([bytes(1024)] * 60))
     room.expect("append d e", 5, b"fault disk\n", limit=growing_to(8))
@@ -106,7 +109,7 @@ def full_device(room):
     room.put("e", events_file([b"x"]))
     for pages in range(4):
         room.expect("init d full", 5, b"fault disk\n", limit=growing_to(pages))
-        for words in ("append d e", *READING):
+        for words in ("append d e", *TELLING):
             room.expect(words, 8, b"store Blank\n")
     room.expect("init d full", 0, fresh.anchor(0))
     room.expect_store(fresh.file())
@@ -125,7 +128,7 @@ def closed_outputs(room):
     room.put("e", events_file([b"x"]))
     room.put("h", reference.history_bytes("out", [reference.Step([b"x"])]))
     none, one = Store("out", []), Store("out", [[b"x"]])
-    for words, store in (("init d out", none), ("append d e", one), *((words, one) for words in READING), ("show h 1 0", one), ("frob", one)):
+    for words, store in (("init d out", none), ("append d e", one), *((words, one) for words in TELLING), ("show h 1 0", one), ("frob", one)):
         found = room.run(*words.split(), limit=closed, to=None)
         if found != (4, b"", b""):
             raise Wrong(f"  timeweave {words} >&-\n  wanted 4, and nothing written\n  got    {found}")

@@ -9,7 +9,7 @@ import power
 import reference
 from edges import HEX, LEAST, LEAST_TEXT
 from proofs import link_proof
-from steps import Room, Wrong, case
+from steps import Wrong, case
 from tracing import calls_of, needs, own_calls
 
 HERE = Path(__file__).resolve().parent
@@ -23,8 +23,11 @@ STATUS = {"input": (3, b"fault input\n"), "store": (5, b"fault disk\n"), "output
 class Run:
     """A command with the files that it needs; what it answers, and the histories that may stand after it."""
 
-    def __init__(self, program, folder, command):
-        self.room = Room(program, folder)
+    # The folder of the store.
+    folder = "d"
+
+    def __init__(self, room, command):
+        self.room = room
         size = {"init": None}.get(command, 2)
         words, self.histories = power.prepared(self.room, size)
         self.makes = command in ("init", "append")
@@ -47,7 +50,7 @@ class Run:
 
     def again(self):
         """Puts the store back as it was."""
-        path = self.room.folder / "d/timeline.tw"
+        path = self.room.folder / self.folder / "timeline.tw"
         path.unlink(missing_ok=True)
         if self.kept is not None:
             path.write_bytes(self.kept)
@@ -68,7 +71,7 @@ class Run:
             return "output"
         if not call.path.startswith(os.path.realpath(self.room.folder)):
             return None
-        return "store" if f"{self.room.folder}/d" in call.path else "input"
+        return "store" if f"{self.room.folder}/{self.folder}" in call.path else "input"
 
     def judge(self, found, allowed, what):
         """What was wrong with an answer, or with the store after it."""
@@ -107,9 +110,11 @@ def with_short_counts(run, shim):
                 yield from run.judge(done[:2], [(0, run.output)], f"whose {call} of its {kind} is short, the {counts[name]}th call of that name")
 
 
-def failing(command):
+def failing(command, run_of):
+    """The case of a command, whose run in a room is made so."""
+
     def work(room):
-        wrong = list(with_errors(Run(room.program, room.folder, command)))
+        wrong = list(with_errors(run_of(room, command)))
         if wrong:
             raise Wrong("\n".join(wrong[:5]))
 
@@ -117,11 +122,13 @@ def failing(command):
     return work
 
 
-def short(command):
+def short(command, run_of):
+    """The same, whose reads and writes are short."""
+
     def work(room):
         compiler, shim = needs("cc", "gcc"), str(room.folder / "short_count.so")
         subprocess.run([compiler, "-shared", "-fPIC", "-O1", "-o", shim, HERE / "short_count.c"], check=True, timeout=60)
-        wrong = list(with_short_counts(Run(room.program, room.folder, command), shim))
+        wrong = list(with_short_counts(run_of(room, command), shim))
         if wrong:
             raise Wrong("\n".join(wrong[:5]))
 
@@ -130,4 +137,5 @@ def short(command):
 
 
 def cases():
-    return [case(make(command), "faults") for make in (failing, short) for command in ("init", "append", "prove", "link", "thread", "show", "verify")]
+    commands = ("init", "append", "prove", "link", "thread", "show", "verify")
+    return [case(make(command, Run), "faults") for make in (failing, short) for command in commands]

@@ -346,16 +346,6 @@ class Run(faults.Run):
         self.kept = path.read_bytes() if path.exists() else None
 
 
-def failing(command):
-    def work(room):
-        wrong = list(faults.with_errors(Run(room, command)))
-        if wrong:
-            raise Wrong("\n".join(wrong[:5]))
-
-    work.__doc__ = f"`{command}`, each of whose calls on its files fails once"
-    return work
-
-
 def lost_power(command):
     def work(room):
         run = Run(room, command)
@@ -417,6 +407,7 @@ def read_only_mount(room):
 def cases():
     works = (
         each_head, beside_a_service, refusals, folders, last_step, bad_pages, root_records, failing_disks, races, waiting, syncs, told_stays,
-        read_only_mount, *(make(command) for make in (failing, lost_power, killed) for command in ("watch", "offer", "heads") if make is failing or command != "heads"),
+        read_only_mount, *(faults.failing(command, Run) for command in ("watch", "offer", "heads")),
+        *(make(command) for make in (lost_power, killed) for command in ("watch", "offer")),
     )
     return [case(work, "followers") for work in works]

@@ -29,6 +29,7 @@ import atlases
 import audits
 import forks
 import maps
+import played
 import precedence
 import proofs
 import reference
@@ -179,7 +180,7 @@ def a_question(rand):
     service = rand.choice((None, *map(some_service, range(12))))
     step, top, index = (str(rand.randrange(most)) for most in (14, 14, 3))
     words = rand.choice((
-        ["prove", "d", "event", step, index], ["prove", "d", "link", step], ["thread", "d", step], ["prove", "d", "thread", step, "peer", index],
+        ["prove", "d", "event", step, index], ["prove", "d", "link", step], ["thread", "d", step], ["export", "d"], ["prove", "d", "thread", step, "peer", index],
         ["prove", "d", "absent", step, "peer", "1"],
     ))
     return Trial([*words, *[top] * (words[0] == "prove" and rand.randrange(2))], {"e": events_file([b"x"])}, service)
@@ -207,7 +208,12 @@ def an_offer(rand):
     return Trial(words, {"m": reference.message_bytes(line, step, since)}, follower)
 
 
-KINDS = (a_verdict, a_verdict, an_audit, an_adoption, a_join, a_show, a_fork, an_atlas, a_map, an_append, an_append, a_question, an_offer)
+def a_script(rand):
+    """A script by chance."""
+    return Trial(["replay", "s"], {"s": played.by_chance(rand.randrange(200), rand.randrange(3, 40))})
+
+
+KINDS = (a_script, a_verdict, a_verdict, an_audit, an_adoption, a_join, a_show, a_fork, an_atlas, a_map, an_append, an_append, a_question, an_offer)
 
 
 # ---- changes

@@ -13,7 +13,7 @@ import power
 import reference
 from beside import ended, locked, started, waits
 from edges import LEAST, expect
-from failing import READING
+from failing import TELLING
 from steps import Skipped, Wrong, case
 from stores import PAGE, Store, events_file
 from tracing import calls_of
@@ -27,7 +27,7 @@ LITTLE, MUCH, MORE = 3 << 20, 48 << 20, 1 << 18
 
 def refuses(room, what):
     """Each command with a folder answers `fault disk` there."""
-    for words in ("init d kind", "append d e", *READING):
+    for words in ("init d kind", "append d e", *TELLING):
         expect(room.run(*words.split()), (5, b"fault disk\n", b""), f"timeweave {words}, where timeline.tw is {what}")
 
 

@@ -1,6 +1,5 @@
 """What `make install` copies works: the program, its manual page, and the completion of its words in bash."""
 
-import json
 import os
 import re
 import subprocess
@@ -15,11 +14,8 @@ TOP = HERE.parent.parent
 COMPLETION = "share/bash-completion/completions/timeweave"
 COPIED = ("bin/timeweave", "share/man/man1/timeweave.1", COMPLETION)
 
-# The words of a command line for each form whose command isn't built.
-UNBUILT = {tuple(case["words"]) for case in json.loads((HERE / "cases/unbuilt.json").read_text())}
 
-
-def named():
+def the_forms():
     """The forms as the docstrings of the commands name them, without what may be left out or follow."""
     source = (TOP / "crates/tw_words/src/command.rt").read_text()
     for form in re.findall(r"/// `(.*?)`:", source):
@@ -28,21 +24,14 @@ def named():
 
 def forms():
     """The forms, each as its words, with None for what isn't a fixed word."""
-    for _, words in named():
+    for _, words in the_forms():
         yield [word if word.islower() else None for word in words]
-
-
-def is_built(form):
-    """Whether no case of the forms that answer `usage 0` has this form's fixed words."""
-    return not any(
-        len(words) >= len(form) and all(part in (None, word) for part, word in zip(form, words)) for words in UNBUILT
-    )
 
 
 def wanted():
     """What is to be offered: for the words before, the words that may stand next."""
     found = {}
-    for form in filter(is_built, forms()):
+    for form in forms():
         for place, part in enumerate(form):
             if part:
                 found.setdefault(tuple(word or "x" for word in form[:place]), set()).add(part)
@@ -58,7 +47,7 @@ def offered(script, before, folder):
 
 
 def completion(program):
-    """The words before which the completion offers others than the forms of the built commands have."""
+    """The words before which the completion offers others than the forms have."""
     wrong = []
     with tempfile.TemporaryDirectory() as folder:
         (Path(folder) / "file").touch()
@@ -73,25 +62,14 @@ def completion(program):
     return "\n".join(wrong) or None
 
 
-def named_forms():
-    """The forms by whether their commands are built."""
-    found = {True: set(), False: set()}
-    for form, words in named():
-        found[is_built([word if word.islower() else None for word in words])].add(form)
-    return found
-
-
 def manual(program):
-    """The forms, statuses and texts that the manual page lacks, and the forms that it has at the wrong place."""
+    """The forms, statuses and texts that the manual page lacks, and those that it has beyond them."""
     text = (TOP / "docs/timeweave.1").read_text()
     section = {part.split("\n")[0]: part for part in text.split("\n.SH ")}
     synopsis = re.sub(r"^\.br$", "\0", section["SYNOPSIS"].partition("\n")[2], flags=re.M)
     plain = re.sub(r"^\.[BRI]+ |\btimeweave\b", "", synopsis, flags=re.M)
     named = {" ".join(form.split()).replace("[ ", "[").replace(" ]", "]") for form in plain.split("\0")}
-    forms = named_forms()
-    wrong = [f"  the synopsis differs in `{form}`" for form in sorted(named ^ forms[True])]
-    coming = set(section["FORMS TO COME"].split(".nf\n")[1].split("\n.fi")[0].split("\n"))
-    wrong += [f"  the forms to come differ in `{form}`" for form in sorted(coming ^ forms[False])]
+    wrong = [f"  the synopsis differs in `{form}`" for form in sorted(named ^ {form for form, _ in the_forms()})]
     statuses = set(re.findall(r"^\.TP\n\.B (\d)$", section["EXIT STATUS"], re.M))
     wrong += [f"  status {status} isn't told" for status in sorted(set("0123456789") - statuses)]
     told = " ".join(re.sub(r"^\.[BIR]+ |\"", "", text, flags=re.M).split())

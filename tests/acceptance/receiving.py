@@ -7,6 +7,7 @@ import subprocess
 import tempfile
 from time import sleep
 
+import faults
 import power
 import proofs
 import reference
@@ -19,6 +20,11 @@ from services import Refused, Service, forged, read_message
 from steps import Room, Wrong, case, some_steps
 from stores import PAGE, events_file
 from tracing import calls_of
+
+
+# The commands that receive, with their times, and those that ask a service that has received.
+MAKING = {"receive": None, "receive at a time": 9}
+ASKING = ("prove thread", "prove absent", "map low", "map high")
 
 
 class Entangled:
@@ -300,60 +306,79 @@ def killed(room):
     pair.stores_are()
 
 
-def message_of(room):
-    """A service of a few steps with a message to receive; it before, and it after."""
-    pair = both(room)
-    pair.append("alpha", [b"last"])
-    message = pair.message("alpha", 4)
-    room.put("m", message)
-    before = pair.services["beta"]
-    after = copy.deepcopy(before, {id(reference.EMPTY): reference.EMPTY})
-    return before, after, after.receive(message, 9), message
+class Threads:
+    """The service `beta` before a `receive` and after it, and the words that receive."""
+
+    def __init__(self, before, after, receipt, words):
+        self.before, self.after, self.receipt, self.words = before, after, receipt, words
+
+    def go_on(self, room, is_told):
+        """The store reads as that before or after, and the message is answered by the one receipt."""
+        before, after = self.before, self.after
+        found = room.run("prove", "beta", "absent", str(before.steps), "alpha", "6")
+        wanted = [(0, service.absent_proof(before.steps, "alpha", 6, service.steps), b"") for service in (before, after)]
+        if is_told and found != wanted[1] or found not in wanted:
+            raise Wrong(f"  the steps up to {(after if is_told else before).steps} aren't there")
+        room.expect(self.words, 0, self.receipt)
+        for step, k in ((3, 2), (4, 4), (5, 5)):
+            room.expect(f"prove beta thread {step} alpha {k}", 0, after.thread_proof(step, "alpha", k, after.steps))
 
 
-def goes_on(room, before, after, receipt, is_told):
-    """The store of an image reads as that before or after, and the message is answered by the one receipt."""
-    last = after.steps if is_told else before.steps
-    found = [room.run("prove", "beta", "absent", str(step), "alpha", "6") for step in (before.steps, after.steps)]
-    wanted = [(0, service.absent_proof(before.steps, "alpha", 6, service.steps), b"") for service in (before, after)]
-    if is_told and found[0] != wanted[1] or found[0] not in wanted:
-        raise Wrong(f"  the steps up to {last} aren't there")
-    room.expect("receive beta m 9", 0, receipt)
-    for step, k in ((3, 2), (4, 4), (5, 5)):
-        room.expect(f"prove beta thread {step} alpha {k}", 0, after.thread_proof(step, "alpha", k, after.steps))
+class Run(faults.Run):
+    """A command of `beta`, which received from another service, and what it answers."""
+
+    folder = "beta"
+
+    def __init__(self, room, command):
+        self.room, self.makes = room, command in MAKING
+        pair = both(room)
+        pair.append("alpha", [b"last"])
+        message = pair.message("alpha", 4)
+        room.put("m", message)
+        before = pair.services["beta"]
+        self.words, self.output = {
+            "prove thread": ("prove beta thread 4 alpha 2", before.thread_proof(4, "alpha", 2, 4)),
+            "prove absent": ("prove beta absent 4 alpha 3", before.absent_proof(4, "alpha", 3, 4)),
+            "map low": ("map beta low 4 alpha", None),
+            "map high": ("map beta high 2 alpha", None),
+        }.get(command, (words("receive beta m", MAKING.get(command)), None))
+        if self.makes:
+            after = copy.deepcopy(before, {id(reference.EMPTY): reference.EMPTY})
+            self.output = after.receive(message, MAKING[command])
+            self.histories = Threads(before, after, self.output, self.words)
+        self.kept = (room.folder / "beta/timeline.tw").read_bytes()
+        if self.output is None:
+            # (mapped.py holds these against the reference)
+            self.output = room.run(*self.words.split())[1]
 
 
-def loses_nothing(room):
-    """what a loss of power in a `receive` may leave keeps each thread whose receipt was written, and goes on"""
-    before, after, receipt, _ = message_of(room)
-    path = room.folder / "beta/timeline.tw"
-    kept = path.read_bytes()
-    status, found, calls = calls_of(room.program, ["receive", "beta", "m", "9"], room.folder)
-    expect((status, found), (0, receipt), "timeweave receive beta m 9")
-    device = power.Device(kept, calls, os.path.realpath(path))
-    images = list(device.images(random.Random("receive"), power.BY_CHANCE_IN_THE_GATE))
-    for image, is_told in random.Random("some").sample(images, min(len(images), 150)):
-        path.write_bytes(image)
-        goes_on(room, before, after, receipt, is_told)
+def lost_power(command):
+    def work(room):
+        run = Run(room, command)
+        path = room.folder / "beta/timeline.tw"
+        status, found, calls = calls_of(room.program, run.words.split(), room.folder)
+        expect((status, found), (0, run.output), f"timeweave {run.words}")
+        device = power.Device(run.kept, calls, os.path.realpath(path))
+        images = list(device.images(random.Random(command), power.BY_CHANCE_IN_THE_GATE))
+        for image, is_told in random.Random("some").sample(images, min(len(images), 150)):
+            path.write_bytes(image)
+            run.histories.go_on(room, is_told)
+
+    work.__doc__ = f"what a loss of power in `{command}` may leave keeps each thread whose receipt was written, and goes on"
+    return work
 
 
-def failing_calls(room):
-    """each system call of a `receive` on its store and its message fails once: the status is the manual page's, and the thread is archived once"""
-    before, after, receipt, _ = message_of(room)
-    path = room.folder / "beta/timeline.tw"
-    kept = path.read_bytes()
-    store, message = os.path.realpath(path), os.path.realpath(room.folder / "m")
-    _, _, calls = calls_of(room.program, ["receive", "beta", "m", "9"], room.folder)
-    counts = {}
-    for call in calls:
-        counts[call.name] = counts.get(call.name, 0) + 1
-        if call.path not in (store, message) or call.name == "close":
-            continue
-        path.write_bytes(kept)
-        found = calls_of(room.program, ["receive", "beta", "m", "9"], room.folder, inject=[f"{call.name}:error=EIO:when={counts[call.name]}"])[:2]
-        wanted = (3, b"fault input\n") if call.path == message else (5, b"fault disk\n")
-        expect(found, wanted, f"timeweave receive beta m 9, whose {call.name} number {counts[call.name]} fails")
-        goes_on(room, before, after, receipt, False)
+def killed_at(command):
+    def work(room):
+        run = Run(room, command)
+        for name, when, kind in list(run.calls()):
+            if kind == "store" and name in ("fsync", "pwrite64", "pread64", "write"):
+                run.again()
+                found = calls_of(room.program, run.words.split(), room.folder, inject=[f"{name}:signal=KILL:when={when}"])[:2]
+                run.histories.go_on(room, found[0] == 0)
+
+    work.__doc__ = f"`{command}` that is killed at any of its calls on the store keeps each thread whose receipt was written, and goes on"
+    return work
 
 
 def synced_first(room):
@@ -389,6 +414,8 @@ def races(room):
 
 def cases():
     works = (
-        each_receipt, repeated, refused_messages, bad_messages, many_threads, refused_proofs, bad_pages, killed, loses_nothing, failing_calls, synced_first, races,
+        each_receipt, repeated, refused_messages, bad_messages, many_threads, refused_proofs, bad_pages, killed, synced_first, races,
+        *(make(command) for make in (lost_power, killed_at) for command in MAKING),
+        *(make(command, Run) for make in (faults.failing, faults.short) for command in (*MAKING, *ASKING)),
     )
     return [case(work, "receiving") for work in works]

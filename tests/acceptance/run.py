@@ -6,10 +6,10 @@
 The cases stand in cases/*.json, those that are counted off in generated.py, those of proofs over archives and of links in archives.py,
 those of proofs that an event precedes another and of joining in precedence.py, those of evidence of a fork in forks.py, those of the order in which
 commands over several files read in reaching.py, those of the scripts that one copies in entries.py and daily.py,
-those of services in steps.py, pages.py and failing.py, those of what services tell and receive in messages.py and receiving.py, those of an archive's
+those of services in steps.py, pages.py and failing.py, those of what services tell and receive in messages.py and receiving.py, those of history files that they write in exported.py, those of an archive's
 tree in pages in tree_runs.py, which run a program of their own, those of the program's edge to the system in edges.py, of programs at one time in beside.py, what it keeps itself from in guarded.py,
 of lost power and failing system calls in power.py and faults.py, runs by chance in fuzz.py, malformed input counted off in tables.py, and refused memory in refused.py; documents.py and cited.py check the documents,
-installed.py what `make install` copies, library.py the library for C and Python over the proofs of all of them, shown.py the examples to copy, and sources.py the sources.
+those of scripts in played.py; installed.py what `make install` copies, library.py the library for C and Python over the proofs of all of them, shown.py the examples to copy, and sources.py the sources.
 A case has
 
     name       what it shows
@@ -48,6 +48,7 @@ import daily
 import documents
 import edges
 import entries
+import exported
 import failing
 import faults
 import followers
@@ -61,6 +62,7 @@ import mapped
 import maps
 import messages
 import pages
+import played
 import power
 import precedence
 import reaching
@@ -188,7 +190,9 @@ def all_cases():
     yield from pages.cases()
     yield from failing.cases()
     yield from messages.cases()
+    yield from exported.cases()
     yield from mapped.cases()
+    yield from played.cases()
     yield from followers.cases()
     yield from receiving.cases()
     yield from tree_runs.cases()

@@ -2,7 +2,7 @@
 
     python3 tests/acceptance/scripts.py FILE    writes the lines that are read, each with its number, or what is told
 
-No command runs a script yet; so this compares nothing with the program. It is written from the documents, apart from the definitions.
+It is written from the documents, apart from the definitions; played.py plays what is read.
 """
 
 import re

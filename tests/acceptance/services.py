@@ -174,6 +174,32 @@ class Service:
     def absent_proof(self, step, service, k, top):
         return proofs.absent_proof(self.line, self.tree(step), step, top, (service, k))
 
+    def history(self):
+        """The file of its history: each step adds the nodes of the tree pages that it wrote, each node behind both its sides."""
+        nodes, numbers, steps = [], {0: 0}, []
+
+        def number_of(number):
+            """The number of the root of a page's tree, whose nodes are added where they aren't there yet."""
+            if number not in numbers:
+                made = self.archive.pages[number - FIRST]
+                numbers[number] = added(made, made.shape, 0)
+            return numbers[number]
+
+        def added(made, shape, base):
+            if not shape:
+                return number_of(made.children[base][0])
+            _, left, right = shape
+            slot = base + size(left)
+            sides = added(made, left, base), added(made, right, slot + 1)
+            nodes.append((sides[0], made.entries[slot].archived, sides[1]))
+            return len(nodes)
+
+        for step, entry in enumerate(self.threads[1:], 1):
+            first, root = len(nodes), number_of(self.roots[step][0])
+            thread = (entry.service, entry.step, entry.auth) if entry else None
+            steps.append(reference.Step(self.line.events(step), thread, nodes[first:], root, self.line.times[step - 1]))
+        return reference.history_bytes(self.name, steps)
+
     # ---- the store
 
     def clock(self, steps):

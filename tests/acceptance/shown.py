@@ -1,5 +1,6 @@
 """The examples that an operator would copy do what they say: the scripts of examples/, and the commands of the manual page."""
 
+import json
 import os
 import re
 import subprocess
@@ -11,6 +12,7 @@ from xml.etree import ElementTree
 import adoptions
 import atlases
 import audits
+import played
 import reference
 from stores import Store
 from steps import Wrong, case
@@ -176,9 +178,30 @@ def reached_steps(room):
             raise Wrong(f"  atlas_picture.py of\n{told}\n  found {found}")
 
 
+def played_world(room):
+    """the script of the example is told as the reference plays it, and its picture is that of docs/world.svg: a dot a step, an arrow a thread, a cross a crash"""
+    script_file, picture = TOP / "examples/world_script", TOP / "examples/world_picture.py"
+    room.put("s", script_file.read_bytes())
+    told = played.played(script_file.read_bytes())
+    room.expect("replay s", 0, told.encode())
+    ran = subprocess.run([sys.executable, picture, script_file], input=told, capture_output=True, text=True, timeout=60)
+    if (ran.stdout, ran.stderr) != ((TOP / "docs/world.svg").read_text(), ""):
+        raise Wrong(f"  world_picture.py of examples/world_script isn't docs/world.svg\n{ran.stderr}")
+    for seed in range(20):
+        data = played.by_chance(seed, 60)
+        room.put("s", data)
+        told = played.played(data)
+        ran = subprocess.run([sys.executable, picture, room.folder / "s"], input=told, capture_output=True, text=True, timeout=60)
+        kinds = Counter(part.tag.rpartition("}")[2] for part in ElementTree.fromstring(ran.stdout).iter())
+        found, wanted = kinds["circle"], sum(json.loads(told.splitlines()[-1])["services"].values())
+        if found != wanted:
+            raise Wrong(f"  world_picture.py draws {found} steps of {wanted} of\n{data.decode()}")
+
+
 def cases():
     shown = (
         log_of_digests, archived_threads, two_peers, chain_of_three, event_chain, fork_evidence, between_steps, audited_chain, taken_over, reached_steps,
+        played_world,
         manual_examples,
     )
     return [case(work, "shown") for work in shown]

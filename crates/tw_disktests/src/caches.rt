@@ -3,7 +3,7 @@
 use std::alloc::Global;
 use std::test::Fail;
 use tw_base::{Failed, NoMemory};
-use tw_cache::{Cached, Room};
+use tw_cache::{Cached, Shelf, Shelved};
 use tw_disk::{MemDisk, MemPages, Pages};
 use tw_pages::Store;
 
@@ -105,12 +105,13 @@ fn a_failed_read_is_tried_again(rt: HostRuntime) -> Result<(), Fail> {
 }
 
 #[test]
-fn a_page_over_a_room_made_before_is_read_once_below(rt: HostRuntime) -> Result<(), Fail> {
-    let room = Room::new(rt.alloc())?;
-    let mut pages = Cached::over(room, MemPages::new(rt.alloc())?);
-    assert_eq!(rt; stage_byte(&mut pages, 4)?, 4);
-    assert_eq!(rt; last_byte(&mut pages, 4)?, Some(4));
-    assert_eq!(rt; last_byte(&mut pages, 4)?, Some(4));
-    assert_eq!(rt; pages.close().reads(), 1);
+fn a_page_on_a_shelf_is_read_once_below(rt: HostRuntime) -> Result<(), Fail> {
+    let mut pages = MemPages::new(rt.alloc())?;
+    let mut shelf = Shelf::new(rt.alloc());
+    let mut near = Shelved::over(&mut pages, &mut shelf);
+    assert_eq!(rt; stage_byte(&mut near, 4)?, 4);
+    assert_eq!(rt; last_byte(&mut near, 4)?, Some(4));
+    assert_eq!(rt; last_byte(&mut near, 4)?, Some(4));
+    assert_eq!(rt; pages.reads(), 1);
     Ok(())
 }

@@ -5,6 +5,8 @@
 #[cfg(test)]
 mod judgements;
 #[cfg(test)]
+mod reads;
+#[cfg(test)]
 mod services;
 #[cfg(test)]
 mod skip_lists;

@@ -123,6 +123,34 @@ fn a_proof_reads_each_page_of_its_path_once(rt: HostRuntime) -> Result<(), Fail>
     Ok(())
 }
 
+// Whether the service's file has these bytes.
+fn is_exported(service: &mut Service<MemDisk, Sha>, file: &[u8]) -> bool {
+    match service.export() {
+        Ok(bytes) => bytes.as_slice() == file,
+        Err(_) => false,
+    }
+}
+
+#[test]
+fn a_file_of_a_history_reads_each_page_once(rt: HostRuntime) -> Result<(), Fail> {
+    let alloc = rt.alloc();
+    let mut service = init(alloc, MemDisk::new(alloc), alpha(&rt)).ok_or("no service")?;
+    let _ = append(alloc, &mut service)?;
+    let _ = append(alloc, &mut service)?;
+    let disk = service.close();
+    let before = disk.reads();
+    let mut service = open(alloc, disk).ok_or("not opened")?;
+    let step = b"\x01\0\0\0\x01\0\0\0\x01\x09\0\0\0\0\0\0";
+    let mut file = Bytes::from_slice(alloc, b"TWH1alpha\0\0\0\0\0\0\0\0\0\0\0\0\0\0\0\0\0\0\x02")?;
+    file.extend_from_slice(step)?;
+    file.extend_from_slice(step)?;
+    assert!(rt; is_exported(&mut service, file.as_slice()));
+
+    // Two gates and two bodies; two steps; two event pages.
+    assert_eq!(rt; service.close().reads(), before.saturating_add(8));
+    Ok(())
+}
+
 // Whether the proof of the step's authenticator is accepted under this anchor.
 fn is_linked(
     alloc: Global,

@@ -1,0 +1,9 @@
+//! Tests of services over disks that aren't honest, are stopped or fail: each call answers one of its named answers, and ends.
+#![tactic(auto)]
+
+#[cfg(test)]
+mod fickle_disk;
+#[cfg(test)]
+mod services;
+#[cfg(test)]
+mod stops;
