@@ -15,10 +15,10 @@ OTHER = 0f9cc8f6baef592ed6bf90b106ebe7b882f59a1cc9803a6d1eef6974da5f87ed
 
 .PHONY: build demo test check crash fuzz wrong-bodies bench install
 
-# Builds the program. Only a proved program is built: the first build on a machine proves every crate below it first, which takes
-# long; later ones prove what changed, and what is proved serves the gate too.
+# Builds the program. Only a proved program is built: a build proves every crate below it first, which takes long. Where nothing
+# has changed since the last one, nothing is done.
 build:
-	@echo "building: only a proved program is built; the first build on a machine proves all below it, and takes long"
+	@echo "building: only a proved program is built; where its sources changed, all below it is proved first, which takes long"
 	python3 tools/build.py timeweave
 
 # Builds the program, and shows a proof accepted, the same proof rejected under another authenticator, two services that keep
@@ -84,7 +84,7 @@ HAS_C := $(shell command -v cc)
 
 .PHONY: lib install-lib
 
-# Builds the library, as `build` does the program: lib/libtimeweave.a and lib/libtimeweave.so.
+# Builds the library, proved as `build` proves the program: lib/libtimeweave.a and lib/libtimeweave.so.
 lib:
 	python3 tools/build_library.py
 

@@ -3,11 +3,11 @@
 
     python3 tools/build.py NAME ..
 
-Only a proved program is built. What the gate hasn't passed on this machine yet is proved by `rt ci`, over a copy of the programs' crates
-and those below without their wrong bodies: each crate once, and as many at a time as there are processors and memory for. `rt ci` keeps
-what passes, so a later `make test` goes on from there, and a later build takes seconds.
+Only a proved program is built: by `rt ci`, over a copy of the programs' crates and those below without their wrong bodies: each crate
+once, and as many at a time as there are processors and memory for. A program whose crates are as they were when it was built is left as it is.
 """
 
+import hashlib
 import shutil
 import subprocess
 import sys
@@ -25,6 +25,30 @@ def prove(copy):
     return gate.returncode
 
 
+def kit():
+    """The kit's line, by which its proofs are told apart."""
+    return subprocess.run(["rt", "version"], check=True, capture_output=True, text=True).stdout
+
+
+def sum_of(copy):
+    """The sum of all files of the copy, and of the kit's line."""
+    total = hashlib.sha256(kit().encode())
+    for path in sorted(path for path in copy.rglob("*") if path.is_file()):
+        total.update(f"{path.relative_to(copy)}\0{path.stat().st_size}\0".encode() + path.read_bytes())
+    return total.hexdigest()
+
+
+def told_of(program, total):
+    """What is kept of a program that was built of files with this sum: the sum, and its own."""
+    return f"{total} {hashlib.sha256(program.read_bytes()).hexdigest()}\n"
+
+
+def is_built(name, total):
+    """Whether the program that lies in bin/ was built of files with this sum."""
+    program, told = TOP / "bin" / name, TOP / "bin" / f".{name}.sum"
+    return program.exists() and told.exists() and told.read_text() == told_of(program, total)
+
+
 def main():
     names = sys.argv[1:]
     if not names:
@@ -32,6 +56,10 @@ def main():
     with tempfile.TemporaryDirectory(prefix="timeweave_build_") as folder:
         copy = Path(folder) / "tree"
         copy_crates(names, copy, without=("must-fail", "wrong-bodies"))
+        total = sum_of(copy)
+        if all(is_built(name, total) for name in names):
+            print(f"built already: {' '.join(names)}")
+            return 0
         status = prove(copy)
         if status:
             return status
@@ -41,6 +69,7 @@ def main():
             beside = TOP / "bin" / f".{name}.new"
             shutil.copy2(copy / "crates" / name / "out" / name, beside)
             beside.replace(TOP / "bin" / name)
+            (TOP / "bin" / f".{name}.sum").write_text(told_of(TOP / "bin" / name, total))
     return 0
 
 

@@ -3,9 +3,10 @@
 which shows the functions of include/timeweave.h alone. It needs a C compiler and `ar` besides the kit.
 
     python3 tools/build_library.py
+    python3 tools/build_library.py --of-gate
 
-The gate proves static libraries, and builds none. So what it hasn't passed on this machine yet it proves over a copy, as for programs
-(build.py), and the archive is built there of the crates that it built.
+The gate proves static libraries, and builds none. So the crates are proved over a copy, as for programs (build.py), and the archive is
+built there of the crates that it built. Right after the gate has passed this tree, `--of-gate` builds it of those that it built here.
 """
 
 import subprocess
@@ -52,6 +53,11 @@ def join(made, into):
 
 
 def main():
+    if sys.argv[1:] == ["--of-gate"]:
+        join(archive(TOP), TOP / "lib")
+        return 0
+    if sys.argv[1:]:
+        sys.exit(__doc__)
     with tempfile.TemporaryDirectory(prefix="timeweave_build_") as folder:
         copy = Path(folder) / "tree"
         copy_crates([NAME], copy, without=("must-fail", "wrong-bodies"))

@@ -1,7 +1,7 @@
 # Completion of the words of `timeweave` in bash. `make install` copies it to share/bash-completion/completions/timeweave;
 # `source tools/completion.bash` is enough to try it.
 #
-# The forms of the commands that are built, a line each: a word in small letters stands for itself, DIR for a folder, FILE for a
+# The forms of the commands, a line each: a word in small letters stands for itself, DIR for a folder, FILE for a
 # file, whatever else is in capitals is typed by hand, and .. is for more of the part before it.
 _timeweave_forms=(
     "init DIR NAME"
@@ -12,6 +12,7 @@ _timeweave_forms=(
     "prove DIR link STEP TOP"
     "map DIR low STEP PEER TOP"
     "map DIR high POS PEER TOP"
+    "export DIR"
     "thread DIR SINCE"
     "receive DIR FILE TIME"
     "watch DIR NAME"
@@ -28,6 +29,8 @@ _timeweave_forms=(
     "accuse FILE FILE FILE"
     "checkfork FILE FILE"
     "atlas NAME POS FILE .."
+    "replay FILE"
+    "generate NUMBER STEPS"
 )
 
 # Whether the words before the one that is completed are those of the form that is given part by part.

@@ -5,7 +5,7 @@
     python3 tools/times.py check --write       the same of all crates, and writes the table into docs/proving.md
     python3 tools/times.py functions [NAME..]  times each function of each crate, or of these, in such a clone, and prints the ten slowest
     python3 tools/times.py functions --write   the same of all crates, and writes the ten into docs/proving.md
-    rt ci --anew 2>&1 | python3 tools/times.py gate
+    rt ci 2>&1 | python3 tools/times.py gate
                                                hands the gate's lines on, and then prints when each crate was proved
 
 The first says how much work each crate is, in processor seconds; it says nothing where another clone on the machine has checked the
