@@ -21,6 +21,7 @@ sys.path.insert(0, str(TOP / "tests/acceptance"))
 import calls  # noqa: E402
 import proofs  # noqa: E402
 import reference  # noqa: E402
+from exported_histories import export_lines  # noqa: E402
 from in_process import in_process_lines  # noqa: E402
 from instructions import counted  # noqa: E402
 from paged_trees import tree_lines  # noqa: E402
@@ -298,6 +299,7 @@ def main():
     with tempfile.TemporaryDirectory() as folder:
         bench = Bench(program, folder, plan)
         text = introduction(plan) + comparisons(bench) + store_tables(bench) + growth_table(bench) + shown_tables(bench)
+        text += export_lines(program, bench.calls, folder, plan.histories, plan.shows)
         text += history_lines(program, folder, plan.histories, plan.histories[0]) + instruction_table(bench)
         text += receiving_lines(bench, plan.threads, plan.appends)
         text += in_process_lines(bench)

@@ -17,7 +17,7 @@
 #include <sys/stat.h>
 #include <unistd.h>
 
-static char bytes[1 << 20];
+static char bytes[65 << 20];
 
 static int call(const char *word)
 {
