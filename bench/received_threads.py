@@ -65,7 +65,7 @@ def receiving_lines(bench, shapes, runs):
     """The lines of a table: for each number of threads and of peers what a further one costs, and its proof."""
     lines = [
         "", "## Receiving threads", "", "A service that received so many threads, of so many peers in turn, receives one more, beside a program in C that makes the same calls on files. The store is made by the",
-        "program, a message at a time. `prove thread` is of the first thread, at the step that received it; it goes the way to the thread in the archive's tree twice.", "",
+        "program, a message at a time. `prove thread` is of the first thread, at the step that received it.", "",
         f"| threads | peers | the calls alone, best of {runs}, in microseconds | `receive`, the same | ratio | new pages | `prove thread`, pages read | bytes a thread |", "|---|---|---|---|---|---|---|---|",
     ]
     for threads, peers in shapes:
