@@ -1,6 +1,6 @@
 -- What is listed in pages is listed where others stand behind them.
 use Rattle.std.proofs.Common.{◌≡◌, ◌⊎◌, ℕ, suc, zero, ◌+◌, ◌-◌, ◌<◌, ◌≤◌, List, [], ◌++◌, length, Bool, true, false, refl, ap, sym, ◌∙◌, arith, inl, inr, slice_get, length-append}
-use Rattle.std.specs.Prelude.{◌==◌, ◌||◌, nat_lt, Option, None, if◌then◌else◌}
+use Rattle.std.specs.Prelude.{◌==◌, ◌||◌, Option, None, if◌then◌else◌}
 use Rattle.std.proofs.lemmas.Bool.{cases_lt}
 use Rattle.std.proofs.lemmas.List.{get_or_append_left}
 use Rattle.tw_base.specs.declared.history.root.Root.{Root}
@@ -13,7 +13,7 @@ use Rattle.tw_rbnode.specs.Page.{TreePage}
 use Rattle.tw_rbnode.specs.Shape.{Shape, Empty, Node, size}
 use Rattle.tw_rbtree.specs.declared.new_node.NewNode.{NewNode}
 use Rattle.tw_rbtree.specs.declared.new_node.Side.TheVariants.{Old}
-use Rattle.tw_rbtree.specs.Listing.{Listed, ListsAt, child_listed, listed, listed_at, node_behind}
+use Rattle.tw_rbtree.specs.Listing.{Listed, ListsAt, child_listed, is_old, listed, listed_at, node_behind}
 use Rattle.tw_rbtree.specs.Reading.{child_in, fits, node_from, node_in}
 use Rattle.tw_rbtree.specs.Ways.{child_page}
 
@@ -78,7 +78,7 @@ module _ (dig : List ℕ → List ℕ) (ps more : Image) where
     child_listed-more : (level : ℕ) (p : TreePage) → ListsSame (child_listed dig ps since level p) (child_listed dig (ps ++ more) since level p)
     unfolding child_listed
     child_listed-more zero p low high place nodes all is = is
-    child_listed-more (suc level) p low high place nodes all is = by (child_listed-more level) (nat_lt (child_page p place) since) is
+    child_listed-more (suc level) p low high place nodes all is = by (child_listed-more level) (is_old (child_page p place) since) is
       where
         rest : Image → TreePage → Found Listed
         rest r q = listed_at (child_listed dig r since level q) q.entries (child_page p place) low high 0 q.shape nodes
@@ -95,7 +95,7 @@ module _ (dig : List ℕ → List ℕ) (ps more : Image) where
     -- the nodes that are listed are listed there too
     pub listed-more : (root : Root) (nodes : List NewNode) → listed dig ps since root ≡ Is nodes → listed dig (ps ++ more) since root ≡ Is nodes
     unfolding listed
-    listed-more root nodes is = by ((root.page == 0) || nat_lt root.page since) is
+    listed-more root nodes is = by ((root.page == 0) || is_old root.page since) is
       where
         rest : Image → TreePage → Found (List NewNode)
         rest r p = listed_at (child_listed dig r since p.level p) p.entries root.page None None 0 p.shape [] >>= (λ all. Is all.nodes)

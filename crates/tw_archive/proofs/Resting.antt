@@ -1,6 +1,7 @@
 -- A step of events keeps the tree of the step before.
-use Rattle.std.proofs.Common.{◌≡◌, ◌⊎◌, ℕ, suc, zero, ◌<◌, ◌≤◌, List, [], ◌∷◌, ◌++◌, length, get_or, true, refl, ap, sym, ◌∙◌, subst, arith, inl, inr}
-use Rattle.std.specs.Prelude.{◌==◌, ◌||◌, None, Some, map, nat_lt}
+use Rattle.std.proofs.Common.{◌≡◌, ◌⊎◌, ℕ, suc, zero, ◌<◌, ◌≤◌, List, [], ◌∷◌, ◌++◌, length, get_or, Bool, true, refl, ap, sym, ◌∙◌, subst, arith, inl, inr}
+use Rattle.std.specs.Prelude.{◌==◌, ◌||◌, None, Some, map}
+use Rattle.std.proofs.lemmas.Bool.{eq-eqb, or_right}
 use Rattle.tw_base.specs.declared.history.root.Root.{Root}
 use Rattle.tw_base.specs.history.Auth.{tree_label}
 use Rattle.tw_base.specs.history.History.{History, Node, Step, entry_to, fresh_of, plus, root_of, step_at, thread_of}
@@ -11,11 +12,12 @@ use Rattle.tw_base.proofs.lemmas.kinds.ListLemmas.{Each-map}
 use Rattle.tw_base.proofs.lemmas.history.Plus.{forest-plus, step_at-new}
 use Rattle.tw_disk.specs.Found.Found.{Is}
 use Rattle.tw_disk.specs.Image.{Image}
+use Rattle.tw_disk.specs.declared.limits.TheConstants.{FIRST_PAGE}
 use Rattle.tw_rbnode.specs.declared.child.Child.{Child}
 use Rattle.tw_rbnode.specs.NodeBytes.{LiesBelow}
 use Rattle.tw_rbtree.specs.declared.new_node.NewNode.{NewNode}
-use Rattle.tw_rbtree.specs.Listing.{listed}
-use Rattle.tw_rbtree.proofs.ListLaws.{listed-none}
+use Rattle.tw_rbtree.specs.Listing.{is_old, listed}
+use Rattle.tw_rbtree.proofs.ListLaws.{is-old, listed-none}
 use Rattle.tw_rbtree.specs.Standing.{AreTrees, HasNamed, IsRootTree, IsTreeBelow, Named, OfPage, StandsWith}
 use Rattle.tw_archive.specs.Archives.{Agree, KeepsTree, KeepsTrees, named_at, named_by}
 use Rattle.tw_archive.specs.Numbering.{Numbered, history_node, new_nodes, nodes_in, number_at, numbered, numbered_on, new_from}
@@ -63,6 +65,16 @@ module _ (dig : List ℕ → List ℕ) (ps : Image) (bound : ℕ) (A C : OfPage)
   pub stands-low : (root : Root) (t : Tree) → (root.page ≡ 0) ⊎ (root.page < bound) → StandsWith dig A ps root t → StandsWith dig C ps root t
   stands-low root t low is = record { rising = is.rising; label = is.label; tree = root-low root.page t low is.tree }
 
+-- where the root of a tree that stands has a page, it has a number that pages have
+low-root : (dig : List ℕ → List ℕ) (Has : OfPage) (ps : Image) (root : Root) (t : Tree) (from : ℕ) → StandsWith dig Has ps root t → (root.page ≡ 0) ⊎ (root.page < from)
+    → (root.page ≡ 0) ⊎ ((FIRST_PAGE ≤ root.page) × (root.page < from))
+low-root dig Has ps root t from stands (inl none) = inl none
+low-root dig Has ps root t from stands (inr less) = by stands.tree
+  where
+    by : IsRootTree dig Has ps root.page t → (root.page ≡ 0) ⊎ ((FIRST_PAGE ≤ root.page) × (root.page < from))
+    by (inl none) = inl none.0
+    by (inr (level, is)) = inr (is.at.low, less)
+
 append-none : (ts : List Tree) → ts ++ [] ≡ ts
 append-none [] = refl
 append-none (x ∷ xs) = ap (λ (ys : List Tree). x ∷ ys) (append-none xs)
@@ -70,7 +82,7 @@ append-none (x ∷ xs) = ap (λ (ys : List Tree). x ∷ ys) (append-none xs)
 module _ (dig : List ℕ → List ℕ) (ps : Image) (h : History) (step_page : ℕ → ℕ) (archive : ℕ → Root) (keeps : KeepsTrees dig ps h step_page archive) (more : Image) (s : Step)
     (next_page : ℕ → ℕ) (next_archive : ℕ → Root) (pages_same : Agree (length h.steps) step_page next_page) (roots_same : Agree (length h.steps) archive next_archive)
     (kept_named : (named : Named) (root : Root) (t : Tree) → StandsWith dig (HasNamed named) ps root t → StandsWith dig (HasNamed named) (ps ++ more) root t)
-    (none_listed : (since : ℕ) (root : Root) → (root.page ≡ 0) ⊎ (root.page < since) → listed dig (ps ++ more) since root ≡ Is [])
+    (none_listed : (since : ℕ) (root : Root) → (root.page ≡ 0) ⊎ ((FIRST_PAGE ≤ root.page) × (root.page < since)) → listed dig (ps ++ more) since root ≡ Is [])
     (rests : (thread_of (Some s) ≡ None) × (s.fresh ≡ []) × (s.root ≡ root_of (step_at h (length h.steps)))) (root_is : next_archive (suc (length h.steps)) ≡ archive (length h.steps))
     (older : ((archive (length h.steps)).page ≡ 0) ⊎ ((archive (length h.steps)).page < new_from step_page (length h.steps)))
     (label : (archive (length h.steps)).label ≡ tree_label dig (tree h (length h.steps))) where
@@ -86,10 +98,13 @@ module _ (dig : List ℕ → List ℕ) (ps : Image) (h : History) (step_page : �
   last-same : numbered dig now next_page next_archive last ≡ Now
   last-same = numbered-next dig ps h step_page archive keeps more next_page next_archive pages_same roots_same last (omega arith)
 
+  stands-there : StandsWith dig (HasNamed (named_at dig ps h step_page archive last)) ps (archive last) (tree h last)
+  stands-there = stands-at dig ps h step_page archive keeps last (omega arith) (λ none. subst (λ (k : ℕ). (archive k).label ≡ tree_label dig (tree h k)) none label)
+
   lists-last : listed dig now (new_from next_page last) (next_archive (suc last)) ≡ Is []
   lists-last =
       (λ i. listed dig now (next-from dig ps h step_page archive keeps more next_page next_archive pages_same roots_same last (omega arith) i) (root_is i))
-      ∙ none_listed (new_from step_page last) (archive last) older
+      ∙ none_listed (new_from step_page last) (archive last) (low-root dig (HasNamed (named_at dig ps h step_page archive last)) ps (archive last) (tree h last) (new_from step_page last) stands-there older)
 
   new-last : new_nodes dig now next_page next_archive last ≡ []
   new-last = ap nodes_in lists-last
@@ -118,7 +133,7 @@ module _ (dig : List ℕ → List ℕ) (ps : Image) (h : History) (step_page : �
   stands-last : StandsWith dig (HasNamed (named_at dig now (plus h s) next_page next_archive (suc last))) now (next_archive (suc last)) (tree (plus h s) (suc last))
   stands-last =
       let below : ℕ = new_from next_page (suc last) in
-      let old = kept_named (named_at dig ps h step_page archive last) (archive last) (tree h last) (stands-at dig ps h step_page archive keeps last (omega arith) (λ none. subst (λ (k : ℕ). (archive k).label ≡ tree_label dig (tree h k)) none label)) in
+      let old = kept_named (named_at dig ps h step_page archive last) (archive last) (tree h last) stands-there in
       let same : StandsWith dig (HasNamed (named_by Now.pages (forest h last) below)) now (archive last) (tree h last) =
       stands-low dig now (new_from step_page last) (HasNamed (named_at dig ps h step_page archive last)) (HasNamed (named_by Now.pages (forest h last) below))
       (λ page t low has less. has low) (archive last) (tree h last) older old in
@@ -139,12 +154,12 @@ module _ (dig : List ℕ → List ℕ) (ps : Image) (h : History) (step_page : �
       }
 
 -- nothing is listed of an older root
-nothing-listed : (dig : List ℕ → List ℕ) (ps : Image) (from : ℕ) (root : Root) → (root.page ≡ 0) ⊎ (root.page < from) → listed dig ps from root ≡ Is []
+nothing-listed : (dig : List ℕ → List ℕ) (ps : Image) (from : ℕ) (root : Root) → (root.page ≡ 0) ⊎ ((FIRST_PAGE ≤ root.page) × (root.page < from)) → listed dig ps from root ≡ Is []
 nothing-listed dig ps from root old = listed-none dig ps from root (older old)
   where
-    older : (root.page ≡ 0) ⊎ (root.page < from) → ((root.page == 0) || nat_lt root.page from) ≡ true
-    older (inl none) = grind arith
-    older (inr below) = grind arith
+    older : (root.page ≡ 0) ⊎ ((FIRST_PAGE ≤ root.page) × (root.page < from)) → ((root.page == 0) || is_old root.page from) ≡ true
+    older (inl none) = ap (λ (b : Bool). b || is_old root.page from) (eq-eqb root.page 0 none)
+    older (inr below) = or_right (root.page == 0) (is_old root.page from) (is-old root.page from below.0 below.1)
 
 -- a step of events, which rests on the root and the tree of the step before, keeps the trees of all steps
 pub events-keep : (dig : List ℕ → List ℕ) (ps more : Image) (h : History) (s : Step) (step_page next_page : ℕ → ℕ) (archive next_archive : ℕ → Root) → KeepsTrees dig ps h step_page archive

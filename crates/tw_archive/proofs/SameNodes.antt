@@ -1,12 +1,12 @@
 -- The pages keep the nodes and roots of one history.
 use Rattle.std.proofs.Common.{◌≡◌, ℕ, suc, zero, ◌<◌, ◌≤◌, List, [], length, refl, ap, sym, ◌∙◌, arith}
-use Rattle.std.specs.Prelude.{◌==◌, ◌||◌, map, nat_lt, None, if◌then◌else◌}
+use Rattle.std.specs.Prelude.{◌==◌, ◌||◌, map, None, if◌then◌else◌}
 use Rattle.tw_base.specs.declared.history.root.Root.{Root}
 use Rattle.tw_base.specs.history.History.{History, fresh_of, root_of, step_at}
 use Rattle.tw_disk.specs.Found.{◌>>=◌}
 use Rattle.tw_disk.specs.Found.Found.{Is}
 use Rattle.tw_disk.specs.Image.{Image}
-use Rattle.tw_rbtree.specs.Listing.{child_listed, listed, listed_at}
+use Rattle.tw_rbtree.specs.Listing.{child_listed, is_old, listed, listed_at}
 use Rattle.tw_rbtree.specs.Reading.{node_in}
 use Rattle.tw_archive.specs.Archives.{Agree, KeepsTrees}
 use Rattle.tw_archive.specs.Numbering.{history_node, new_nodes, nodes_in, number_at, numbered, numbered_on, new_from}
@@ -15,7 +15,7 @@ use Rattle.tw_archive.specs.Numbering.{history_node, new_nodes, nodes_in, number
 listed-page : (dig : List ℕ → List ℕ) (ps : Image) (from : ℕ) (one other : Root) → one.page ≡ other.page → listed dig ps from one ≡ listed dig ps from other
 unfolding listed
 listed-page dig ps from one other same =
-    ap (λ (page : ℕ). if (page == 0) || nat_lt page from then Is []
+    ap (λ (page : ℕ). if (page == 0) || is_old page from then Is []
     else (node_in dig ps page >>= (λ p. listed_at (child_listed dig ps from p.level p) p.entries page None None 0 p.shape [] >>= (λ all. Is all.nodes)))) same
 
 module _ (dig : List ℕ → List ℕ) (ps : Image) (h g : History) (one_page other_page : ℕ → ℕ) (one other : ℕ → Root)

@@ -53,7 +53,7 @@ module _ (P : Proof → Type 0) where
       ∙ append_assoc (hops_to joint.thread.entry.thread.from hops) (hop_from (wanted second joints).from hop ∷ []) (joint_hops joints)
       ∙ ap (λ by. hops_to joint.thread.entry.thread.from hops ++ (hop_from by hop ∷ joint_hops joints)) fits.0.service
 
-each-unit : (parts : List Proof) → Each (λ part. Unit {0}) parts
+pub each-unit : (parts : List Proof) → Each (λ part. Unit {0}) parts
 each-unit [] = tt
 each-unit (part ∷ parts) = (tt, each-unit parts)
 
@@ -64,3 +64,14 @@ joined-hops parts p is =
     ap (λ (q : PrecedenceProof). hops_of (Precedes q)) had.is
     ∙ told (λ part. Unit {0}) had.second had.joints None [] had.fits.joints_fit
     ∙ had.shown ∙ append-nil (reverse (shown_hops parts))
+
+-- at most 64
+pub joined-few : (parts : List Proof) (p : PrecedenceProof) → joined Nothing 1 parts ≡ Ok p → length p.hops ≤ MOST_HOPS
+joined-few parts p is =
+    let had = joined-fits (λ part. Unit {0}) parts p (each-unit parts) is in
+    omega (
+      arith,
+      joints-few (λ part. Unit {0}) had.second had.joints had.fits.joints_fit,
+      hops-count had.joints None [],
+      ap (λ (q : PrecedenceProof). length q.hops) had.is,
+    )

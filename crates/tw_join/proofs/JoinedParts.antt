@@ -1,6 +1,6 @@
 -- Parts that join, taken apart: what each of them is, where each has some property.
 use Rattle.std.proofs.Common.{◌≡◌, ℕ, ◌+◌, ◌<◌, List, [], ◌∷◌, ◌++◌, length, refl, sym, ap, ◌∙◌, subst}
-use Rattle.std.specs.Prelude.{reverse, Bool, true, false, Option, Some, None, Ok, Err, IfSome, nat_lt, is_none, ◌==◌, ◌&&◌}
+use Rattle.std.specs.Prelude.{reverse, Bool, true, false, Option, Some, None, Ok, Err, IfSome, nat_lt, is_none, ◌==◌, ◌&&◌, if◌then◌else◌}
 use Rattle.std.specs.Option.{option_map_or}
 use Rattle.std.specs.Str.{bytes_eq}
 use Rattle.std.proofs.lemmas.Bool.{and_parts, eqb-true, ltb-true}
@@ -17,7 +17,8 @@ use Rattle.tw_chain.specs.declared.proof.PrecedenceProof.{PrecedenceProof}
 use Rattle.tw_chain.specs.declared.proof.Proof.{Proof}
 use Rattle.tw_chain.specs.declared.proof.Proof.TheVariants.{Exists, Precedes, Archived, Absent, Linked}
 use Rattle.tw_chain.specs.declared.proof.ThreadProof.{ThreadProof}
-use Rattle.tw_join.specs.Joining.{Joint, Taken, is_key, is_link_of, joined, joined_of, only_if, shown_hop, shown_hops, wanted, with_part}
+use Rattle.tw_chain.specs.Checks.{link_top, top_of}
+use Rattle.tw_join.specs.Joining.{Joint, Taken, is_key, is_link_of, joined, joined_of, link_tops, only_if, shown_hop, shown_hops, tops_of, wanted, with_part}
 use Rattle.tw_join.specs.Joining.Taken.{Nothing, Hops, Whole}
 
 -- ---- what the tests say
@@ -75,6 +76,61 @@ part-hops (Hops second (joint ∷ joints)) (Precedes p) next is = cc
 part-hops (Hops second []) (Absent p) next is = cc
 part-hops (Hops second (joint ∷ joints)) (Absent p) next is = cc
 part-hops (Whole second joints first) part next is = cc
+
+-- ---- the tops that they name
+
+-- those of the links, the last hop first
+abbrev pub joint_tops : List Joint → List Key
+joint_tops [] = []
+joint_tops (joint ∷ joints) = joint_tops joints ++ option_map_or (λ l. link_tops (Linked l ∷ [])) joint.link []
+
+-- those of the parts taken, and of the ones behind them
+abbrev tops_with : Taken → List Proof → List Key
+tops_with Nothing parts = tops_of parts
+tops_with (Hops second joints) parts = top_of second.at ∷ (joint_tops joints ++ link_tops parts)
+tops_with (Whole second joints first) parts = top_of second.at ∷ (joint_tops joints ++ link_tops parts)
+
+links-more : (l : LinkProof) (parts : List Proof) → link_tops (Linked l ∷ []) ++ link_tops parts ≡ link_tops (Linked l ∷ parts)
+links-more l parts = by (l.top == 0)
+  where
+    by : (b : Bool) → (if b then [] else link_top l ∷ []) ++ link_tops parts ≡ (if b then link_tops parts else link_top l ∷ link_tops parts)
+    by true = refl
+    by false = refl
+
+link-tops : (second : ExistenceProof) (t : ThreadProof) (link : Option LinkProof) (joints : List Joint) (l : LinkProof) (parts : List Proof) → is_none link ≡ true
+    → tops_with (Hops second (record { thread = t; link = Some l } ∷ joints)) parts ≡ tops_with (Hops second (record { thread = t; link = link } ∷ joints)) (Linked l ∷ parts)
+link-tops second t (Some other) joints l parts is = cc
+link-tops second t None joints l parts is =
+    ap (λ (ks : List Key). top_of second.at ∷ ks)
+    (append_assoc (joint_tops joints) (link_tops (Linked l ∷ [])) (link_tops parts) ∙ ap (λ (ks : List Key). joint_tops joints ++ ks) (links-more l parts)
+    ∙ ap (λ (ks : List Key). ks ++ link_tops (Linked l ∷ parts)) (sym (append-nil (joint_tops joints))))
+
+-- with one part more they are the same
+part-tops : (taken : Taken) (part : Proof) (parts : List Proof) (next : Taken) → with_part taken part ≡ Some next → tops_with next parts ≡ tops_with taken (part ∷ parts)
+part-tops Nothing (Exists p) parts next is = let same : Hops p [] ≡ next = cc in ap (λ (t : Taken). tops_with t parts) (sym same)
+part-tops Nothing (Precedes p) parts next is = cc
+part-tops Nothing (Archived p) parts next is = cc
+part-tops Nothing (Absent p) parts next is = cc
+part-tops Nothing (Linked p) parts next is = cc
+part-tops (Hops second joints) (Archived t) parts next is =
+    ap (λ (n : Taken). tops_with n parts) (sym (only-if (nat_lt (length joints) MOST_HOPS && is_key (wanted second joints) t.at.service t.at.step)
+    (Hops second (record { thread = t; link = None } ∷ joints)) next is).1)
+    ∙ ap (λ (ks : List Key). top_of second.at ∷ (ks ++ link_tops parts)) (append-nil (joint_tops joints))
+part-tops (Hops second (joint ∷ joints)) (Linked l) parts next is =
+    let of_thread = is_link_of joint.thread.entry.thread l in
+    let had = only-if (is_none joint.link && of_thread) (Hops second (record { thread = joint.thread; link = Some l } ∷ joints)) next is in
+    ap (λ (n : Taken). tops_with n parts) (sym had.1)
+    ∙ link-tops second joint.thread joint.link joints l parts (and_parts (is_none joint.link) of_thread had.0).0
+part-tops (Hops second []) (Linked l) parts next is = cc
+part-tops (Hops second []) (Exists p) parts next is =
+    ap (λ (n : Taken). tops_with n parts) (sym (only-if (is_key (wanted second []) p.at.service p.at.top) (Whole second [] p) next is).1)
+part-tops (Hops second (joint ∷ joints)) (Exists p) parts next is =
+    ap (λ (n : Taken). tops_with n parts) (sym (only-if (is_key (wanted second (joint ∷ joints)) p.at.service p.at.top) (Whole second (joint ∷ joints) p) next is).1)
+part-tops (Hops second []) (Precedes p) parts next is = cc
+part-tops (Hops second (joint ∷ joints)) (Precedes p) parts next is = cc
+part-tops (Hops second []) (Absent p) parts next is = cc
+part-tops (Hops second (joint ∷ joints)) (Absent p) parts next is = cc
+part-tops (Whole second joints first) part parts next is = cc
 
 module _ (P : Proof → Type 0) where
   -- the link is of the thread
@@ -172,6 +228,7 @@ module _ (P : Proof → Type 0) where
     pub first : ExistenceProof
     pub fits : WholeFits second joints first
     pub shown : joint_hops joints ≡ reverse (shown_hops parts) ++ taken_hops taken
+    pub tops : top_of second.at ∷ joint_tops joints ≡ tops_with taken parts
     pub is : p ≡ joined_of second joints first
 
   ended : (taken : Taken) (number : ℕ) (p : PrecedenceProof) → TakenFits taken → joined taken number [] ≡ Ok p → JoinedFits taken [] p
@@ -183,6 +240,7 @@ module _ (P : Proof → Type 0) where
     first = first;
     fits = fits;
     shown = refl;
+    tops = ap (λ (ks : List Key). top_of second.at ∷ ks) (sym (append-nil (joint_tops joints)));
     is = sym (let same : joined_of second joints first ≡ p = cc in same);
   }
 
@@ -196,6 +254,7 @@ module _ (P : Proof → Type 0) where
     shown = rest.shown ∙ ap (λ told. reverse (shown_hops parts) ++ told) (part-hops taken part next is)
         ∙ sym (append_assoc (reverse (shown_hops parts)) (reverse (shown_hops (part ∷ []))) (taken_hops taken))
         ∙ ap (λ told. told ++ taken_hops taken) (sym (shown-more part parts));
+    tops = rest.tops ∙ part-tops taken part parts next is;
     is = rest.is;
   }
 

@@ -1,5 +1,6 @@
 pub mod JoinedParts
 pub mod JoinedHops
+pub mod JoinedTops
 pub mod JoinedSpelling
 pub mod JoinedAccepted
 pub mod JoinedFronts

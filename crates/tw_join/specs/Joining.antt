@@ -18,6 +18,7 @@ use Rattle.tw_chain.specs.declared.proof.PrecedenceProof.{PrecedenceProof}
 use Rattle.tw_chain.specs.declared.proof.Proof.{Proof}
 use Rattle.tw_chain.specs.declared.proof.Proof.TheVariants.{Exists, Precedes, Archived, Linked}
 use Rattle.tw_chain.specs.declared.proof.ThreadProof.{ThreadProof}
+use Rattle.tw_chain.specs.Checks.{link_top, top_of}
 
 -- the parts of a hop
 pub record Joint : Type 0 where
@@ -119,3 +120,16 @@ abbrev pub shown_hops : List Proof → List Hop
 shown_hops [] = []
 shown_hops (Archived t ∷ parts) = shown_hop t ∷ shown_hops parts
 shown_hops (_ ∷ parts) = shown_hops parts
+
+-- ---- the tops that they name
+
+-- the tops of the links, in their order; top 0, which the bytes of a link can't have, binds nothing
+abbrev pub link_tops : List Proof → List Key
+link_tops [] = []
+link_tops (Linked l ∷ parts) = if l.top == 0 then link_tops parts else link_top l ∷ link_tops parts
+link_tops (_ ∷ parts) = link_tops parts
+
+-- the top of the first part, which is the second event's, and those of the links
+abbrev pub tops_of : List Proof → List Key
+tops_of (Exists second ∷ parts) = top_of second.at ∷ link_tops parts
+tops_of _ = []

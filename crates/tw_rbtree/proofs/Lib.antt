@@ -15,6 +15,7 @@ pub mod Latest
 pub mod ListLaws
 pub mod Markings
 pub mod OwnPages
+pub mod Postorders
 pub mod Plantings
 pub mod Fullness
 pub mod StandingLaws

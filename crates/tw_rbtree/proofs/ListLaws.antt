@@ -1,10 +1,10 @@
 -- Listing the nodes of a page, part by part.
 use Rattle.tw_disk.specs.Image.{Image}
 use Rattle.std.proofs.Common.{◌≡◌, ◌≢◌, ℕ, suc, zero, ◌+◌, ◌-◌, ◌<◌, ◌≤◌, List, [], length, Bool, true, false, refl, ap, sym, ◌∙◌, subst, arith, slice_get}
-use Rattle.std.specs.Prelude.{◌==◌, ◌||◌, nat_lt, Option, Some, None, if◌then◌else◌}
-use Rattle.std.proofs.lemmas.Bool.{le-ltb, lt-ltb}
+use Rattle.std.specs.Prelude.{◌==◌, ◌||◌, Option, Some, None, if◌then◌else◌}
 use Rattle.tw_base.specs.declared.history.root.Root.{Root}
 use Rattle.tw_base.specs.declared.history.thread.Entry.{Entry}
+use Rattle.tw_disk.specs.declared.limits.TheConstants.{FIRST_PAGE}
 use Rattle.tw_disk.specs.Found.{Found, ◌>>=◌}
 use Rattle.tw_disk.specs.Found.Found.{Is, Bad}
 use Rattle.tw_rbnode.specs.Page.{IsNode, TreePage}
@@ -14,7 +14,7 @@ use Rattle.tw_rbnode.proofs.Descents.{before, not_before, other, same}
 use Rattle.tw_rbtree.specs.declared.listing.Part.{Part}
 use Rattle.tw_rbtree.specs.declared.new_node.NewNode.{NewNode}
 use Rattle.tw_rbtree.specs.declared.new_node.Side.TheVariants.{Empty as NoTree, Old}
-use Rattle.tw_rbtree.specs.Listing.{IsPartAt, IsSplit, Listed, ListsAt, child_listed, listed, listed_at, node_behind, part_listed, part_of}
+use Rattle.tw_rbtree.specs.Listing.{IsPartAt, IsSplit, Listed, ListsAt, child_listed, is_old, listed, listed_at, node_behind, part_listed, part_of}
 use Rattle.tw_rbtree.specs.Reading.{child_in, node_in}
 use Rattle.tw_rbtree.specs.Ways.{child_page}
 use Rattle.tw_rbtree.proofs.Downs.{child-level}
@@ -131,6 +131,15 @@ module _ (child : ListsAt) (es : List Entry) (page : ℕ) (low high : Option Ent
         ∙ ap (λ (o : Option Entry). listed_at child es 0 low o base l nodes >>= (λ left. listed_at child es 0 o high (base + size l + 1) r left.nodes >>= (λ right. Is (node_behind o page left.side right)))) here
         ∙ ap (λ (n : ℕ). listed_at child es 0 low (Some e) base l nodes >>= (λ left. listed_at child es 0 (Some e) high n r left.nodes >>= (λ right. Is (node_behind (Some e) page left.side right)))) (sym at)
 
+-- a page is old or not
+pub is-old : (page since : ℕ) → FIRST_PAGE ≤ page → page < since → is_old page since ≡ true
+unfolding is_old
+is-old page since low less = grind arith
+
+pub is-new : (page since : ℕ) → since ≤ page → is_old page since ≡ false
+unfolding is_old
+is-new page since more = grind arith
+
 module _ (dig : List ℕ → List ℕ) (ps : Image) (since : ℕ) (p : TreePage) (low high : Option Entry) (place : ℕ) (nodes : List NewNode) where
   pub listed-leaf : (level : ℕ) → level ≡ 0 → child_listed dig ps since level p low high place nodes ≡ Is (record { nodes = nodes; side = NoTree })
   unfolding child_listed
@@ -144,17 +153,17 @@ module _ (dig : List ℕ → List ℕ) (ps : Image) (since : ℕ) (p : TreePage)
   by_age below b =
       if b then Is (record { nodes = nodes; side = Old (child_page p place) }) else (child_in dig ps below low high (child_page p place) >>= below_found below)
 
-  pub listed-old : (level below : ℕ) → level ≡ suc below → child_page p place < since → child_listed dig ps since level p low high place nodes ≡ Is (record { nodes = nodes; side = Old (child_page p place) })
+  pub listed-old : (level below : ℕ) → level ≡ suc below → is_old (child_page p place) since ≡ true → child_listed dig ps since level p low high place nodes ≡ Is (record { nodes = nodes; side = Old (child_page p place) })
   unfolding child_listed by_age
   listed-old zero below e old = absurd (omega (arith, e))
-  listed-old (suc level) below e old = ap (by_age level) (lt-ltb (child_page p place) since old)
+  listed-old (suc level) below e old = ap (by_age level) old
 
-  pub listed-on : (level below : ℕ) → level ≡ suc below → since ≤ child_page p place → child_listed dig ps since level p low high place nodes ≡ (child_in dig ps below low high (child_page p place) >>= below_found below)
+  pub listed-on : (level below : ℕ) → level ≡ suc below → is_old (child_page p place) since ≡ false → child_listed dig ps since level p low high place nodes ≡ (child_in dig ps below low high (child_page p place) >>= below_found below)
   unfolding child_listed by_age
   listed-on zero below e new = absurd (omega (arith, e))
   listed-on (suc level) below e new =
       let deeper : level ≡ below = omega (arith, e) in
-      ap (by_age level) (le-ltb (child_page p place) since new) ∙ ap (λ (n : ℕ). child_in dig ps n low high (child_page p place) >>= below_found n) deeper
+      ap (by_age level) new ∙ ap (λ (n : ℕ). child_in dig ps n low high (child_page p place) >>= below_found n) deeper
 
 -- ---- by the slots of a page
 
@@ -169,10 +178,10 @@ module _ (dig : List ℕ → List ℕ) (ps : Image) (since : ℕ) (p : TreePage)
   pub part-leaf : top ≡ 0 → p.level ≡ 0 → part_listed dig ps since p page low high base top nodes ≡ Is (record { nodes = nodes; side = NoTree })
   part-leaf none leaf = at-place none ∙ listed-leaf dig ps since p low high base nodes p.level leaf
 
-  pub part-old : top ≡ 0 → 0 < p.level → child_page p base < since → part_listed dig ps since p page low high base top nodes ≡ Is (record { nodes = nodes; side = Old (child_page p base) })
+  pub part-old : top ≡ 0 → 0 < p.level → is_old (child_page p base) since ≡ true → part_listed dig ps since p page low high base top nodes ≡ Is (record { nodes = nodes; side = Old (child_page p base) })
   part-old none above old = at-place none ∙ listed-old dig ps since p low high base nodes p.level (p.level - 1) (omega (arith, above)) old
 
-  pub part-on : top ≡ 0 → 0 < p.level → since ≤ child_page p base → part_listed dig ps since p page low high base top nodes
+  pub part-on : top ≡ 0 → 0 < p.level → is_old (child_page p base) since ≡ false → part_listed dig ps since p page low high base top nodes
       ≡ (child_in dig ps (p.level - 1) low high (child_page p base) >>= (λ q. part_listed dig ps since q (child_page p base) low high 0 (slot_of 0 q.shape) nodes))
   unfolding part_listed
   part-on none above new =
@@ -221,16 +230,16 @@ module _ (dig : List ℕ → List ℕ) (ps : Image) (since : ℕ) (root : Root) 
   from_root b =
       if b then Is [] else (node_in dig ps root.page >>= (λ p. listed_at (child_listed dig ps since p.level p) p.entries root.page None None 0 p.shape [] >>= (λ all. Is all.nodes)))
 
-  pub listed-none : ((root.page == 0) || nat_lt root.page since) ≡ true → listed dig ps since root ≡ Is []
+  pub listed-none : ((root.page == 0) || is_old root.page since) ≡ true → listed dig ps since root ≡ Is []
   unfolding listed
   listed-none e = ap from_root e
 
-  pub listed-root : ((root.page == 0) || nat_lt root.page since) ≡ false → listed dig ps since root
+  pub listed-root : ((root.page == 0) || is_old root.page since) ≡ false → listed dig ps since root
       ≡ (node_in dig ps root.page >>= (λ p. listed_at (child_listed dig ps since p.level p) p.entries root.page None None 0 p.shape [] >>= (λ all. Is all.nodes)))
   unfolding listed
   listed-root e = ap from_root e
 
-  pub listed-parts : ((root.page == 0) || nat_lt root.page since) ≡ false → listed dig ps since root
+  pub listed-parts : ((root.page == 0) || is_old root.page since) ≡ false → listed dig ps since root
       ≡ (node_in dig ps root.page >>= (λ p. part_listed dig ps since p root.page None None 0 (slot_of 0 p.shape) [] >>= (λ all. Is all.nodes)))
   unfolding part_listed
   listed-parts e =

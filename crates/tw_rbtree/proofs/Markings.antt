@@ -1,6 +1,7 @@
 -- Each page of a tree that isn't older marks a listed node.
 use Rattle.std.proofs.Common.{◌≡◌, ◌≢◌, ℕ, suc, zero, ◌+◌, ◌-◌, ◌<◌, ◌≤◌, List, [], ◌∷◌, ◌++◌, length, Bool, true, false, refl, ap, sym, ◌∙◌, subst, arith, ◌⊎◌, inl, inr, slice_get, append_assoc, append-nil}
-use Rattle.std.specs.Prelude.{◌==◌, ◌||◌, nat_lt, Option, Some, None, slice_index_or}
+use Rattle.std.specs.Prelude.{◌==◌, ◌||◌, Option, Some, None, slice_index_or}
+use Rattle.std.proofs.lemmas.Bool.{ne_eqb}
 use Rattle.tw_base.specs.declared.history.root.Root.{Root}
 use Rattle.tw_base.specs.declared.history.thread.Entry.{Entry}
 use Rattle.tw_base.specs.kinds.Lists.{Each, In}
@@ -18,13 +19,13 @@ use Rattle.tw_rbnode.specs.Shape.{Shape, Empty, Node, size}
 use Rattle.tw_rbnode.proofs.TreeLists.{get-some}
 use Rattle.tw_rbtree.specs.declared.new_node.NewNode.{NewNode}
 use Rattle.tw_rbtree.specs.declared.new_node.Side.TheVariants.{Empty as NoTree, Old}
-use Rattle.tw_rbtree.specs.Listing.{Listed, ListsAt, child_listed, listed, listed_at, node_behind}
+use Rattle.tw_rbtree.specs.Listing.{Listed, ListsAt, child_listed, is_old, listed, listed_at, node_behind}
 use Rattle.tw_rbtree.specs.Planting.{IsMarked}
 use Rattle.tw_rbtree.specs.Reading.{IsPageAt, child_in, fits, node_in}
 use Rattle.tw_rbtree.specs.Standing.{AreTrees, IsRootTree, IsTreeBelow, IsTreePage, StandsFor, StandsWith, any_page}
 use Rattle.tw_rbtree.specs.Ways.{child_page}
 use Rattle.tw_rbtree.proofs.Keeping.{below-turned}
-use Rattle.tw_rbtree.proofs.ListLaws.{below_found, listed-empty, listed-leaf, listed-node, listed-old, listed-on, listed-root}
+use Rattle.tw_rbtree.proofs.ListLaws.{below_found, is-new, is-old, listed-empty, listed-leaf, listed-node, listed-old, listed-on, listed-root}
 use Rattle.tw_rbtree.proofs.PageLaws.{child-tried, root-is}
 use Rattle.tw_rbtree.proofs.Standings.{tree-at}
 use Rattle.tw_rbtree.proofs.WayLaws.{child_page-get}
@@ -166,11 +167,11 @@ module _ (dig : List ℕ → List ℕ) (ps : Image) (since : ℕ) where
       let cases : (child_page p place < since) ⊎ (since ≤ child_page p place) = grind arith in
       elim cases [
         | inl old ↦
-            let same : nodes ≡ all.nodes = ap (λ (x : Listed). x.nodes) (same_found (record { nodes = nodes; side = Old (child_page p place) }) all (sym (listed-old dig ps since p low high place nodes (suc level) level refl old) ∙ found)) in
+            let same : nodes ≡ all.nodes = ap (λ (x : Listed). x.nodes) (same_found (record { nodes = nodes; side = Old (child_page p place) }) all (sym (listed-old dig ps since p low high place nodes (suc level) level refl (is-old (child_page p place) since (omega (arith, number, b.at.low)) old)) ∙ found)) in
             let lies : c.child.page < since = omega (arith, number, old) in
             (([], sym same ∙ sym (append-nil nodes)), (λ d there. subst (λ (x : Child). Below all.nodes (suc level) x t) (some_child c.child d (sym c.there ∙ there)) (old-below all.nodes (suc level) c.child t lies c.is)))
         | inr new ↦
-            let on = from_both (child_in dig ps level low high (child_page p place)) (below_found dig ps since p low high place nodes level) all (sym (listed-on dig ps since p low high place nodes (suc level) level refl new) ∙ found) in
+            let on = from_both (child_in dig ps level low high (child_page p place)) (below_found dig ps since p low high place nodes level) all (sym (listed-on dig ps since p low high place nodes (suc level) level refl (is-new (child_page p place) since new)) ∙ found) in
             let tried = child-tried dig ps level low high (child_page p place) q (ap (node_in dig ps) number ∙ root-is dig ps c.child.page q b.at) in
             let one : q ≡ on.0 = when-same (fits level low high q) (child_page p place) q on.0 (sym tried ∙ on.1) in
             let inner = shape-marks (child_listed dig ps since level q) q.entries (Placed level q b.trees) (λ i ns ms m has d there. below-more ns ms m level d (slice_index_or b.trees i NoEntry) (has d there))
@@ -182,8 +183,8 @@ module _ (dig : List ℕ → List ℕ) (ps : Image) (since : ℕ) where
   pub root-marks : (root : Root) (t : Tree) (nodes : List NewNode) → StandsFor dig ps root t → root.page ≢ 0 → since ≤ root.page → listed dig ps since root ≡ Is nodes → StandsWith dig (IsMarked since nodes) ps root t
   root-marks root t nodes stands some new found = record { rising = stands.rising; label = stands.label; tree = by stands.tree }
     where
-      older : ((root.page == 0) || nat_lt root.page since) ≡ false
-      older = grind arith
+      older : ((root.page == 0) || is_old root.page since) ≡ false
+      older = λ i. ne_eqb root.page 0 some i || is-new root.page since new i
 
       by : IsRootTree dig any_page ps root.page t → IsRootTree dig (IsMarked since nodes) ps root.page t
       by (inl none) = absurd (some none.0)

@@ -1,6 +1,7 @@
 -- The pages that listed nodes name are pages of the tree.
 use Rattle.std.proofs.Common.{◌≡◌, ℕ, suc, zero, ◌+◌, ◌-◌, ◌<◌, ◌≤◌, List, [], ◌∷◌, length, Bool, true, false, refl, ap, sym, ◌∙◌, subst, arith, ◌⊎◌, inl, inr, slice_get}
-use Rattle.std.specs.Prelude.{◌==◌, ◌||◌, nat_lt, Option, Some, None}
+use Rattle.std.specs.Prelude.{◌==◌, ◌||◌, Option, Some, None}
+use Rattle.std.proofs.lemmas.Bool.{cases_Bool}
 use Rattle.tw_base.specs.declared.history.root.Root.{Root}
 use Rattle.tw_base.specs.declared.history.thread.Entry.{Entry}
 use Rattle.tw_base.specs.kinds.Lists.{Each}
@@ -14,7 +15,7 @@ use Rattle.tw_rbnode.specs.Shape.{Shape, Empty, Node, size}
 use Rattle.tw_rbnode.proofs.TreeLists.{get-some}
 use Rattle.tw_rbtree.specs.declared.new_node.NewNode.{NewNode}
 use Rattle.tw_rbtree.specs.declared.new_node.Side.TheVariants.{Empty as NoTree, Old}
-use Rattle.tw_rbtree.specs.Listing.{Listed, ListsAt, child_listed, listed, listed_at, node_behind}
+use Rattle.tw_rbtree.specs.Listing.{Listed, ListsAt, child_listed, is_old, listed, listed_at, node_behind}
 use Rattle.tw_rbtree.specs.OwnPages.{IsOwnMark, IsOwnSide, IsPageIn, IsPageUnder, NamesOwn}
 use Rattle.tw_rbtree.specs.Reading.{child_in, fits, node_in}
 use Rattle.tw_rbtree.specs.Ways.{child_page}
@@ -49,7 +50,7 @@ module _ (dig : List ℕ → List ℕ) (ps : Image) where
   page-own zero page = refl
   page-own (suc level) page = inl refl
 
-  child-page : (level : ℕ) (low high : Option Entry) (page : ℕ) (q : TreePage) → child_in dig ps level low high page ≡ Is q → node_in dig ps page ≡ Is q
+  pub child-page : (level : ℕ) (low high : Option Entry) (page : ℕ) (q : TreePage) → child_in dig ps level low high page ≡ Is q → node_in dig ps page ≡ Is q
   unfolding child_in
   child-page level low high page q found =
       let both = from_both (node_in dig ps page) (λ (p : TreePage). when (fits level low high p) page p) q found in
@@ -63,8 +64,7 @@ module _ (dig : List ℕ → List ℕ) (ps : Image) where
         subst (Names P) (same_found (record { nodes = nodes; side = NoTree }) all (sym (listed-leaf dig ps since p low high place nodes zero refl) ∙ found)) (before, tt)
     child-own (suc level) number p there up low high place nodes all room found before =
         let on : (page : ℕ) → IsPageIn dig ps level (child_page p place) page → P page = λ (page : ℕ) (is : IsPageIn dig ps level (child_page p place) page). up page (inr (p, place, there, room, is)) in
-        let cases : (child_page p place < since) ⊎ (since ≤ child_page p place) = grind arith in
-        elim cases [
+        elim (cases_Bool (is_old (child_page p place) since)) [
           | inl old ↦
               subst (Names P) (same_found (record { nodes = nodes; side = Old (child_page p place) }) all (sym (listed-old dig ps since p low high place nodes (suc level) level refl old) ∙ found))
               (before, on (child_page p place) (page-own level (child_page p place)))
@@ -79,9 +79,9 @@ module _ (dig : List ℕ → List ℕ) (ps : Image) where
 
   -- whatever the pages keep
   pub root-own : (since : ℕ) (root : Root) (nodes : List NewNode) → listed dig ps since root ≡ Is nodes → Each (NamesOwn (IsPageUnder dig ps root)) nodes
-  root-own since root nodes found = by ((root.page == 0) || nat_lt root.page since) refl
+  root-own since root nodes found = by ((root.page == 0) || is_old root.page since) refl
     where
-      by : (older : Bool) → ((root.page == 0) || nat_lt root.page since) ≡ older → Each (NamesOwn (IsPageUnder dig ps root)) nodes
+      by : (older : Bool) → ((root.page == 0) || is_old root.page since) ≡ older → Each (NamesOwn (IsPageUnder dig ps root)) nodes
       by true e = subst (Each (NamesOwn (IsPageUnder dig ps root))) (same_found [] nodes (sym (listed-none dig ps since root e) ∙ found)) tt
       by false e =
           let first = from_both (node_in dig ps root.page) (λ (p : TreePage). listed_at (child_listed dig ps since p.level p) p.entries root.page None None 0 p.shape [] >>= (λ (all : Listed). Is all.nodes)) nodes (sym (listed-root dig ps since root e) ∙ found) in

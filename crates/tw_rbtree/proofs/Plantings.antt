@@ -1,7 +1,8 @@
 -- The nodes that are listed of pages that stand for a tree.
 use Rattle.std.proofs.Common.{◌≡◌, ◌≢◌, ℕ, suc, zero, ◌+◌, ◌-◌, ◌<◌, ◌≤◌, List, [], ◌∷◌, ◌++◌, length, false, refl, ap, sym, ◌∙◌, subst, arith, ◌⊎◌, inl, inr, slice_get, append_assoc, append-nil, length-append}
-use Rattle.std.specs.Prelude.{◌==◌, ◌||◌, nat_lt, Option, Some, None, slice_index_or}
+use Rattle.std.specs.Prelude.{◌==◌, ◌||◌, Option, Some, None, slice_index_or}
 use Rattle.std.proofs.lemmas.Option.{none-some}
+use Rattle.std.proofs.lemmas.Bool.{ne_eqb}
 use Rattle.tw_base.specs.declared.history.root.Root.{Root}
 use Rattle.tw_base.specs.declared.history.thread.Entry.{Entry}
 use Rattle.tw_base.specs.declared.history.tree_proof.Ask.{Ask}
@@ -25,13 +26,13 @@ use Rattle.tw_base.proofs.lemmas.history.Asked.{cut}
 use Rattle.tw_rbtree.specs.declared.new_node.NewNode.{NewNode}
 use Rattle.tw_rbtree.specs.declared.new_node.Side.{Side}
 use Rattle.tw_rbtree.specs.declared.new_node.Side.TheVariants.{Empty as NoTree, New, Old}
-use Rattle.tw_rbtree.specs.Listing.{Listed, ListsAt, child_listed, listed, listed_at, node_behind}
+use Rattle.tw_rbtree.specs.Listing.{Listed, ListsAt, child_listed, is_old, listed, listed_at, node_behind}
 use Rattle.tw_rbtree.specs.Planting.{AreNodeTrees, IsMarkOf, IsSideTree}
 use Rattle.tw_rbtree.specs.Reading.{IsPageAt, child_in, node_in}
 use Rattle.tw_rbtree.specs.Standing.{AreTrees, IsRootTree, IsTreeBelow, IsTreePage, OfPage, StandsWith, any_page}
 use Rattle.tw_rbtree.proofs.Keeping.{below-any, below-once, tree_page-once, trees-map}
 use Rattle.tw_rbtree.specs.Ways.{child_page}
-use Rattle.tw_rbtree.proofs.ListLaws.{below_found, listed-empty, listed-leaf, listed-node, listed-old, listed-on, listed-root}
+use Rattle.tw_rbtree.proofs.ListLaws.{below_found, is-new, is-old, listed-empty, listed-leaf, listed-node, listed-old, listed-on, listed-root}
 use Rattle.tw_rbtree.proofs.PageLaws.{child-is, one_page, root-is}
 use Rattle.tw_rbtree.proofs.RootWays.{all_between}
 use Rattle.tw_rbtree.proofs.Standings.{fits-true, own_between, tree-at}
@@ -235,7 +236,7 @@ module _ (dig : List ℕ → List ℕ) (Has : OfPage) (ps : Image) (since : ℕ)
       let lies = subst (λ (t : Tree). Each (LiesBetween low high) (entries t)) b.tree_is lie in
       elim cases [
         | inl old ↦
-            same-found ts _ _ (slice_index_or us place NoEntry) (listed-old dig ps since p low high place nodes (suc level) level refl old)
+            same-found ts _ _ (slice_index_or us place NoEntry) (listed-old dig ps since p low high place nodes (suc level) level refl (is-old (child_page p place) since (omega (arith, number, b.at.low)) old))
             (none-more ts nodes (Old (child_page p place)) (slice_index_or us place NoEntry) planted
             (omega (arith, number, b.at.low), old, (level, 12, subst (λ (n : ℕ). IsTreePage dig Has ps (IsTreeBelow dig Has ps level) level 12 n (slice_index_or us place NoEntry)) (sym number) b)))
         | inr new ↦
@@ -246,7 +247,7 @@ module _ (dig : List ℕ → List ℕ) (Has : OfPage) (ps : Image) (since : ℕ)
             (inr (new, (level, 12, subst (λ (n : ℕ). IsTreePage dig Has ps (IsTreeBelow dig Has ps level) level 12 n (page_tree q b.trees)) (sym number) (subst (IsTreePage dig Has ps (IsTreeBelow dig Has ps level) level 12 c.child.page) b.tree_is b)))) in
             subst (Plants ts (child_listed dig ps since (suc level) p low high place nodes)) (sym b.tree_is)
             (same-found ts _ _ (page_tree q b.trees)
-            (listed-on dig ps since p low high place nodes (suc level) level refl new ∙ is_on (child_in dig ps level low high (child_page p place)) (below_found dig ps since p low high place nodes level) q found) inner)
+            (listed-on dig ps since p low high place nodes (suc level) level refl (is-new (child_page p place) since new) ∙ is_on (child_in dig ps level low high (child_page p place)) (below_found dig ps since p low high place nodes level) q found) inner)
       ]
 
 -- the node of a page's root is the last one
@@ -293,8 +294,8 @@ pub root-plants : (dig : List ℕ → List ℕ) (Has : OfPage) (ps : Image) (roo
     → RootPlants dig Has ps since root.page (listed dig ps since root) t
 root-plants dig Has ps root t since stands some new = by stands.tree
   where
-    older : ((root.page == 0) || nat_lt root.page since) ≡ false
-    older = grind arith
+    older : ((root.page == 0) || is_old root.page since) ≡ false
+    older = λ i. ne_eqb root.page 0 some i || is-new root.page since new i
 
     by : IsRootTree dig Has ps root.page t → RootPlants dig Has ps since root.page (listed dig ps since root) t
     by (inl none) = absurd (some none.0)

@@ -10,3 +10,4 @@ pub mod Growing
 pub mod Beside
 pub mod Downs
 pub mod OwnPages
+pub mod Postorder

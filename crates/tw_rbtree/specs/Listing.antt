@@ -1,8 +1,9 @@
 -- The nodes of a tree in pages that aren't older than a page, in the order in which a history lists them.
-use Rattle.std.specs.Prelude.{◌≡◌, ℕ, suc, zero, ◌+◌, ◌<◌, ◌≤◌, ◌==◌, ◌||◌, List, [], ◌∷◌, ◌++◌, length, nat_lt, slice_get, Option, Some, None, if◌then◌else◌}
+use Rattle.std.specs.Prelude.{◌≡◌, ℕ, suc, zero, ◌+◌, ◌<◌, ◌≤◌, ◌==◌, ◌&&◌, ◌||◌, List, [], ◌∷◌, ◌++◌, length, nat_le, nat_lt, slice_get, Bool, Option, Some, None, if◌then◌else◌}
 use Rattle.tw_base.specs.declared.history.root.Root.{Root}
 use Rattle.tw_base.specs.declared.history.thread.Entry.{Entry}
 use Rattle.tw_disk.specs.Image.{Image}
+use Rattle.tw_disk.specs.declared.limits.TheConstants.{FIRST_PAGE}
 use Rattle.tw_disk.specs.Found.{Found, ◌>>=◌}
 use Rattle.tw_disk.specs.Found.Found.{Is}
 use Rattle.tw_rbnode.specs.Page.{TreePage}
@@ -40,18 +41,22 @@ listed_at child es page low high base (Node red l r) nodes =
     >>= (λ left. listed_at child es 0 (slice_get es (base + size l)) high (base + size l + 1) r left.nodes
     >>= (λ right. Is (node_behind (slice_get es (base + size l)) page left.side right)))
 
+-- an older page: a number that pages have, below this one
+unfoldable pub is_old : (page since : ℕ) → Bool
+is_old page since = nat_le FIRST_PAGE page && nat_lt page since
+
 module _ (dig : List ℕ → List ℕ) (pages : Image) (since : ℕ) where
   -- the nodes of what stands at a place of a page of this level, between these two entries; older pages are named and not read
   unfoldable pub child_listed : (level : ℕ) → TreePage → ListsAt
   child_listed zero p low high place nodes = Is (record { nodes = nodes; side = NoTree })
   child_listed (suc level) p low high place nodes =
-      if nat_lt (child_page p place) since then Is (record { nodes = nodes; side = Old (child_page p place) })
+      if is_old (child_page p place) since then Is (record { nodes = nodes; side = Old (child_page p place) })
       else (child_in dig pages level low high (child_page p place) >>= (λ q. listed_at (child_listed level q) q.entries (child_page p place) low high 0 q.shape nodes))
 
-  -- the nodes of the tree's pages whose numbers are at least this one
+  -- the nodes of the tree's pages whose numbers are at least this one; a tree that has no page, or an older one as its root, has none
   unfoldable pub listed : Root → Found (List NewNode)
   listed root =
-      if (root.page == 0) || nat_lt root.page since then Is []
+      if (root.page == 0) || is_old root.page since then Is []
       else (node_in dig pages root.page >>= (λ p. listed_at (child_listed p.level p) p.entries root.page None None 0 p.shape [] >>= (λ all. Is all.nodes)))
 
 -- the part of a page's tree that has this root slot, where the tree's slots begin behind base; none is that of slot 0

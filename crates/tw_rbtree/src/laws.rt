@@ -13,11 +13,13 @@ ghost use Rattle.tw_base.specs.history.Asking.{entry_with, first_above, last_bel
 ghost use Rattle.tw_base.specs.history.Tree.{Tree, entries};
 ghost use Rattle.tw_disk.specs.Found.Found.{Is};
 ghost use Rattle.tw_disk.specs.Image.{Image};
+ghost use Rattle.tw_disk.specs.declared.limits.TheConstants.{FIRST_PAGE};
 ghost use Rattle.tw_rbtree.specs.declared.new_node.NewNode.{NewNode};
 ghost use Rattle.tw_rbtree.specs.Listing.{listed};
 ghost use Rattle.tw_rbtree.specs.Planting.{AreNodeTrees, IsMarked};
 ghost use Rattle.tw_rbnode.specs.Page.{TreePage};
 ghost use Rattle.tw_rbtree.specs.OwnPages.{IsPageUnder, NamesOwn};
+ghost use Rattle.tw_rbtree.specs.Postorder.{ListedTree, NamesSides, postorder};
 ghost use Rattle.tw_rbtree.specs.Reading.{IsPageAt, levels_in, node_in};
 ghost use Rattle.tw_rbtree.specs.Standing.{HasNamed, IsRootTree, Named, StandsFor, StandsWith, any_page};
 ghost use Rattle.tw_rbtree.specs.Ways.{Stop, end_of, found_after, found_before, found_with, nowhere, way};
@@ -97,6 +99,10 @@ pub fn listing_laws<H: Hasher>()
         × Each (λ s. (e : Entry) → In e (entries s) → In e (entries t)) trees }
     // Whatever the pages keep, an older page at a side of a listed node is a page of the tree under the root, and so is the page that a node's mark names.
     ensures own { (ps : Image) (root : Root) (since : ℕ) (nodes : List NewNode) → listed H.dig ps since root ≡ Is nodes → Each (NamesOwn (IsPageUnder H.dig ps root)) nodes }
+    // Whatever the pages keep, the nodes stand in postorder: they are those of one tree, where each node stands behind those of its
+    // left side and, behind these, those of its right side, and names both sides.
+    ensures order { (ps : Image) (root : Root) (since : ℕ) (nodes : List NewNode) → listed H.dig ps since root ≡ Is nodes →
+        (tree : ListedTree) × NamesSides 0 tree × (postorder tree ≡ nodes) }
     // Each page of the tree from the number on is the mark of a listed node.
     ensures marked { (ps : Image) (root : Root) (t : Tree) (since : ℕ) (nodes : List NewNode) → StandsFor H.dig ps root t → root.page ≢ 0 → since ≤ root.page →
         listed H.dig ps since root ≡ Is nodes → StandsWith H.dig (IsMarked since nodes) ps root t }
@@ -108,7 +114,7 @@ pub fn listing_laws<H: Hasher>()
     ensures last { (ps : Image) (root : Root) (t : Tree) (since : ℕ) → StandsFor H.dig ps root t → root.page ≢ 0 → since ≤ root.page →
         (nodes : List NewNode) × (n : NewNode) × (listed H.dig ps since root ≡ Is nodes) × (slice_get nodes (length nodes - 1) ≡ Some n) × (n.page ≡ root.page) }
     // Where the root has no page, or an older one, nothing is listed.
-    ensures none { (ps : Image) (root : Root) (since : ℕ) → (root.page ≡ 0) ⊎ (root.page < since) → listed H.dig ps since root ≡ Is [] }
+    ensures none { (ps : Image) (root : Root) (since : ℕ) → (root.page ≡ 0) ⊎ ((FIRST_PAGE ≤ root.page) × (root.page < since)) → listed H.dig ps since root ≡ Is [] }
 {}
 
 /// How long proofs of pages that stand for a tree are, and how high the tree is; its clauses are the theorem. The function itself does nothing.

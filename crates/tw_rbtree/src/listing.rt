@@ -1,10 +1,10 @@
 // The nodes of a tree that are new since a page.
 
-ghost use Rattle.std.specs.Prelude.{◌≡◌, ◌≢◌, ◌==◌, ◌||◌, None, nat_lt};
+ghost use Rattle.std.specs.Prelude.{◌≡◌, ◌≢◌, ◌==◌, ◌||◌, None};
 ghost use Rattle.tw_disk.specs.Answers.{ReadsPages};
 ghost use Rattle.tw_rbnode.specs.Slots.{slot_of};
 ghost use Rattle.tw_rbtree.specs.FaultWords.{tree_faults};
-ghost use Rattle.tw_rbtree.specs.Listing.{IsPartAt, IsSplit, listed, part_listed, part_of};
+ghost use Rattle.tw_rbtree.specs.Listing.{IsPartAt, IsSplit, is_old as is_old_page, listed, part_listed, part_of};
 
 use crate::descending::child_page;
 use crate::fault::TreeFault;
@@ -13,6 +13,7 @@ use crate::reading::{read_child, read_root};
 use std::alloc::Global;
 use tw_base::{Entry, Hasher, Root};
 use tw_disk::Pages;
+use tw_disk::limits::FIRST_PAGE;
 use tw_rbnode::{RbNode, below, entry_at, keys, level, top};
 
 /// The part of a page's tree in the slots above `base` up to `end`, whose root slot is `top`.
@@ -81,6 +82,14 @@ fn between(left: Side, entry: &Entry, right: Side, page: u64) -> NewNode
     }
 }
 
+/// Whether the number is one that pages have, and below the other one.
+#[tactic(auto, unfolding(crate::specs::Listing::is_old))]
+fn is_old(page: u64, since: u64) -> bool
+    ensures { result ≡ is_old_page page since }
+{
+    FIRST_PAGE <= page && page < since
+}
+
 /// Lists the nodes of this part of a page, which lies between these two entries, and of the pages below it from number `since` on,
 /// behind those that are listed; the part's root gets this page number. Calls itself for each side.
 #[tactic(auto, using(crate::proofs::ListLaws::parts_listed))]
@@ -103,7 +112,7 @@ fn list_part<P: Pages, H: Hasher>(
             return Ok(Side::Empty);
         }
         let page = child_page(node, part.base);
-        if page < since {
+        if is_old(page, since) {
             return Ok(Side::Old(page));
         }
         let child = read_child::<P, H>(pages, page, level(node) - 1, low, high)?;
@@ -135,15 +144,15 @@ fn list_page<P: Pages, H: Hasher>(
     list_part::<P, H>(pages, nodes, since, page, node, whole(node), &None, &None)
 }
 
-/// Whether the root has no page, or one below this number.
+/// Whether the root has no page, or an older one than this.
 fn is_older(root: &Root, since: u64) -> bool
-    ensures { result ≡ ((root.now.page == 0) || nat_lt root.now.page since) }
+    ensures { result ≡ ((root.now.page == 0) || is_old_page root.now.page since) }
 {
-    root.page == 0 || root.page < since
+    root.page == 0 || is_old(root.page, since)
 }
 
 /// The nodes of those pages of the tree under the root whose numbers are at least `since`, each behind those of its sides. Reads
-/// these pages alone.
+/// these pages alone; a page of 1 to 3 that is named is bad, and isn't read.
 #[tactic(auto, using(crate::proofs::ListLaws::roots_listed))]
 pub fn fresh<P: Pages, H: Hasher>(
     alloc: Global,

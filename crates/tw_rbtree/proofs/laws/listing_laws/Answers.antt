@@ -1,17 +1,21 @@
-use Rattle.std.proofs.Common.{◌≡◌, ℕ, ◌<◌, true, inl, inr, ◌⊎◌, arith, List, slice_get, sym, ap, ◌∙◌}
-use Rattle.std.specs.Prelude.{◌==◌, ◌||◌, nat_lt}
+use Rattle.std.proofs.Common.{◌≡◌, ℕ, ◌<◌, ◌≤◌, Bool, true, inl, inr, ◌⊎◌, arith, List, slice_get, sym, ap, ◌∙◌}
+use Rattle.std.specs.Prelude.{◌==◌, ◌||◌}
+use Rattle.std.proofs.lemmas.Bool.{eq-eqb, or_right}
+use Rattle.tw_disk.specs.declared.limits.TheConstants.{FIRST_PAGE}
 use Rattle.tw_disk.proofs.FoundLaws.{same_found}
 use Rattle.tw_rbtree.specs.declared.new_node.NewNode.{NewNode}
 use Rattle.tw_rbtree.specs.Standing.{HasNamed, any_page}
-use Rattle.tw_rbtree.proofs.ListLaws.{listed-none}
+use Rattle.tw_rbtree.specs.Listing.{is_old}
+use Rattle.tw_rbtree.proofs.ListLaws.{is-old, listed-none}
 use Rattle.tw_rbtree.proofs.Markings.{root-marks}
 use Rattle.tw_rbtree.proofs.OwnPages.{root-own}
 use Rattle.tw_rbtree.proofs.Plantings.{marks-apart, root-plants}
+use Rattle.tw_rbtree.proofs.Postorders.{root-grows}
 use Rattle.tw_rbtree.proofs.laws.listing_laws.Goals as goal
 
-older : (page since : ℕ) → (page ≡ 0) ⊎ (page < since) → ((page == 0) || nat_lt page since) ≡ true
-older page since (inl none) = grind arith
-older page since (inr below) = grind arith
+older : (page since : ℕ) → (page ≡ 0) ⊎ ((FIRST_PAGE ≤ page) × (page < since)) → ((page == 0) || is_old page since) ≡ true
+older page since (inl none) = ap (λ (b : Bool). b || is_old page since) (eq-eqb page 0 none)
+older page since (inr below) = or_right (page == 0) (is_old page since) (is-old page since below.0 below.1)
 
 pub returns : goal.returns
 returns g c = record {
@@ -22,6 +26,7 @@ returns g c = record {
   within = λ ps root t since stands some new.
       let p = root-plants g.H.Hasher.dig any_page ps root t since stands some new in (p.nodes, p.trees, p.found_is, p.are, p.within);
   own = λ ps root since nodes found. root-own g.H.Hasher.dig ps since root nodes found;
+  order = λ ps root since nodes found. root-grows g.H.Hasher.dig ps since root nodes found;
   marked = λ ps root t since nodes stands some new found. root-marks g.H.Hasher.dig ps since root t nodes stands some new found;
   apart = λ ps root t since nodes stands some new found i j n m a b same page.
       let p = root-plants g.H.Hasher.dig any_page ps root t since stands some new in
