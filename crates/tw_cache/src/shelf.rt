@@ -13,8 +13,8 @@ use tw_base::Page;
 // How many pages are kept at most.
 const MOST_KEPT: usize = 64;
 
-/// A shelf of pages, which are kept in memory by their numbers: those read last, at most 64. Where there was no memory for the shelf itself, it
-/// keeps none; each page that is kept then takes memory of its own, where there is some.
+/// A shelf of pages, which are kept in memory by their numbers: those read last, at most 64, or all of them. Where there was no memory for the
+/// shelf itself, it keeps none; each page that is kept then takes memory of its own, where there is some.
 #[derive(Drop)]
 pub struct Shelf {
     pub(crate) kept: Option<LruCache<u64, Box<Page>>>,
@@ -29,6 +29,17 @@ impl Shelf {
         ensures { kept_on result ≡ [] }
     {
         match LruCache::new(alloc, NonZeroUsize::new(MOST_KEPT).unwrap()) {
+            Ok(kept) => Shelf { kept: Some(kept) },
+            Err(_) => Shelf { kept: None },
+        }
+    }
+
+    /// A shelf with no page on it, that keeps each page that is read, whatever their number, as long as there is memory for them.
+    pub fn unbounded(alloc: Global) -> Shelf
+        // No page is kept yet.
+        ensures { kept_on result ≡ [] }
+    {
+        match LruCache::unbounded(alloc) {
             Ok(kept) => Shelf { kept: Some(kept) },
             Err(_) => Shelf { kept: None },
         }

@@ -1,3 +1,4 @@
 pub mod StepLaws
 pub mod PageLaws
 pub mod FileLaws
+pub mod CopyLaws

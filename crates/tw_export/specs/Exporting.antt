@@ -26,12 +26,13 @@ at_start name count = record { file = begun name count; archive = no_archive }
 
 -- ---- a step, from its record, what it recorded, and its new nodes
 
--- the archive after it: a step of events leaves the archive as it was
+-- the archive after it: a step of events leaves the archive as it was, and the archive that its page names isn't looked at
 abbrev pub archive_after : Archive → StepRecord → Content → List NewNode → Archive
 archive_after a r (Events events) nodes = record a { since = r.page + 1 }
 archive_after a r (Received t) nodes = with_nodes a nodes r.fields.archive.page r.page
 
--- a history file has such a step: its thread is of a step from 1 on, and its archive names no page that no archive has
+-- a history file has such a step: its thread is of a step from 1 on, and each older page that its archive names was listed at an earlier
+-- step that received a thread
 abbrev pub may_be_told : Archive → StepRecord → Content → List NewNode → Bool
 may_be_told a r (Events events) nodes = true
 may_be_told a r (Received t) nodes = nat_le 1 t.step && are_known a nodes r.fields.archive.page
@@ -54,8 +55,8 @@ module _ (dig : List ℕ → List ℕ) (pages : Image) where
   new_nodes since r (Events events) = Is []
   new_nodes since r (Received t) = listed dig pages since r.fields.archive
 
-  -- one step more: what it recorded is read, and then its new nodes; a step that no history file has is told by its page, which is then
-  -- read last
+  -- one step more: what it recorded, and then its new nodes; a step that no history file has is told by its page, which the call reads once
+  -- more before, of which nothing is said here
   unfoldable pub step_on : SoFar → StepRecord → Found SoFar
   step_on s r =
       content_of pages r

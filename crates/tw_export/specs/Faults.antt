@@ -4,7 +4,7 @@ use Rattle.tw_rbtree.specs.declared.fault.TreeFault.TheVariants.{Present, Untrue
 use Rattle.tw_skiplist.specs.declared.fault.ListFault.{ListFault}
 use Rattle.tw_skiplist.specs.declared.fault.ListFault.TheVariants as list
 
--- a listing is never refused for what is asked of it
+-- `Present` and `Untrue` never come of a listing; what they would be is of no account
 abbrev pub list_fault_of : TreeFault → ListFault
 list_fault_of Present = list.NoMemory
 list_fault_of Untrue = list.NoMemory

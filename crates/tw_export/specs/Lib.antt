@@ -2,4 +2,5 @@ pub mod Faults
 pub mod NodeNumbers
 pub mod Files
 pub mod Exporting
+pub mod Copied
 pub mod Told

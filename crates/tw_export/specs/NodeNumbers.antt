@@ -55,7 +55,7 @@ pub record Archive : Type 0 where
 abbrev pub no_archive : Archive
 no_archive = record { count = 0; numbers = λ page. None; root = 0; since = FIRST_PAGE }
 
--- these nodes are numbered too; the root has this page, and the step the other one
+-- these nodes are numbered too; then the page of the root, and that of the step
 abbrev pub with_nodes : Archive → List NewNode → (root step : ℕ) → Archive
 with_nodes a nodes root step = record {
   count = a.count + length nodes;

@@ -4,7 +4,7 @@ use Rattle.std.specs.Ordering.{nat_cmp}
 use Rattle.tw_export.specs.declared.archive.ArchiveSoFar.{ArchiveSoFar}
 use Rattle.tw_export.specs.declared.file.HistoryFile.{HistoryFile}
 use Rattle.tw_export.specs.declared.numbers.PageNumbers.{PageNumbers}
-use Rattle.tw_export.specs.declared.steps.StepsSoFar.{StepsSoFar}
+use Rattle.tw_export.specs.declared.so_far.StepsSoFar.{StepsSoFar}
 use Rattle.tw_export.specs.Exporting.{SoFar}
 use Rattle.tw_export.specs.Files.{File}
 use Rattle.tw_export.specs.NodeNumbers.{Archive, Numbers}

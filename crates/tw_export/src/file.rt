@@ -1,11 +1,13 @@
 // The bytes of a history's file, step by step.
 #![tactic(auto, unfolding(tw_base::specs::format::Codecs::bytes_codec, tw_base::specs::format::Codecs::name_codec, tw_base::specs::format::Codecs::text_codec))]
 
-ghost use Rattle.std.specs.Prelude.{◌≡◌, ◌++◌, ℕ, IfOk, List, OnOk, length};
+ghost use Rattle.std.specs.Prelude.{◌≡◌, ◌++◌, ℕ, IfOk, List, OnOk, drop, length, take, true};
+ghost use Rattle.tw_export.specs.Copied.{file_before};
 ghost use Rattle.tw_export.specs.Files.{begun, front_of, stays_short as stays_short_of, told_file, with_text};
 ghost use Rattle.tw_export.specs.Told.{file_of};
 
 use std::alloc::Global;
+use std::mem;
 use tw_base::limits::MOST_HISTORY_BYTES;
 use tw_base::{Bytes, Name, NoMemory, put_last_bytes, put_name, put_text};
 use tw_history::MAGIC;
@@ -29,12 +31,17 @@ fn put_front(into: &mut Bytes, name: &Name, count: u64) -> Result<(), NoMemory>
     Ok(())
 }
 
-/// The file of a history of this name before the first of so many steps.
+/// The file of a history of this name before the first of so many steps, in room for so many bytes, at most those that a file may have.
 #[tactic(auto)]
-pub(crate) fn begin_file(alloc: Global, name: &Name, count: u64) -> Result<HistoryFile, NoMemory>
+pub(crate) fn begin_file(
+    alloc: Global,
+    name: &Name,
+    count: u64,
+    room: u64,
+) -> Result<HistoryFile, NoMemory>
     ensures { IfOk result (λ file. file_of file ≡ begun name.now count) }
 {
-    let mut bytes = Bytes::new(alloc);
+    let mut bytes = Bytes::with_capacity(alloc, room.min(MOST_HISTORY_BYTES) as usize)?;
     put_front(&mut bytes, name, count)?;
     let size = bytes.len() as u64;
     Ok(HistoryFile {
@@ -63,6 +70,29 @@ pub(crate) fn add_text(file: &mut HistoryFile, text: &[u8], is_few: bool) -> Res
         file.bytes.extend_from_slice(text)?;
     }
     Ok(())
+}
+
+/// Cuts off what stands behind so many bytes.
+fn cut(alloc: Global, bytes: &mut Bytes, end: usize)
+    ensures { bytes.new ≡ take end bytes.old }
+{
+    let mut items = mem::replace(bytes, Bytes::new(alloc)).into_vec();
+    items.truncate(end);
+    *bytes = Bytes::from_vec(items);
+}
+
+/// Takes in the bytes from `start` on, which were appended and are those of one step more without new nodes: where the file isn't within its
+/// limits with them, they are cut off.
+#[tactic(auto)]
+pub(crate) fn take_text(alloc: Global, file: &mut HistoryFile, start: usize)
+    ensures { file_of file.new ≡ with_text (file_before (file_of file.old) start) (drop start file.old.bytes) true }
+{
+    let more = file.bytes.len().saturating_sub(start) as u64;
+    file.is_short = stays_short(file, more, true);
+    file.size = file.size.saturating_add(more);
+    if !file.is_short {
+        cut(alloc, &mut file.bytes, start);
+    }
 }
 
 /// The bytes of the file, or, where it isn't within its limits, how many it would have.

@@ -2,10 +2,13 @@
 #![tactic(auto)]
 
 mod archive;
+mod events;
 mod exporting;
 mod file;
 mod nodes;
 mod numbers;
+mod recorded;
+mod so_far;
 mod steps;
 
 pub use exporting::export_file;

@@ -1,8 +1,8 @@
 -- The older pages that new nodes name, and the root's, have a number.
 use Rattle.std.proofs.Common.{◌≡◌, ◌≢◌, ℕ, suc, zero, ◌*◌, ◌^◌, ◌<◌, ◌≤◌, List, [], ◌∷◌, ◌++◌, length, get_or, Bool, true, refl, ap, sym, ◌∙◌, subst, arith, inl, inr}
-use Rattle.std.specs.Prelude.{◌==◌, ◌||◌, is_some, nat_lt}
+use Rattle.std.specs.Prelude.{◌==◌, ◌||◌, is_some}
 use Rattle.std.specs.List.{list_all}
-use Rattle.std.proofs.lemmas.Bool.{and_from, cases_lt, eq-eqb, lt-ltb, or_right}
+use Rattle.std.proofs.lemmas.Bool.{and_from, cases_lt, eq-eqb, or_right}
 use Rattle.tw_base.specs.declared.history.root.Root.{Root}
 use Rattle.tw_base.specs.history.History.{History}
 use Rattle.tw_base.specs.history.Tree.{Tree, entries, forest, tree}
@@ -13,10 +13,11 @@ use Rattle.tw_disk.proofs.FoundLaws.{same_found}
 use Rattle.tw_rbtree.specs.declared.new_node.NewNode.{NewNode}
 use Rattle.tw_rbtree.specs.declared.new_node.Side.{Side}
 use Rattle.tw_rbtree.specs.declared.new_node.Side.TheVariants.{Empty as NoTree, New, Old}
+use Rattle.tw_rbtree.specs.Listing.{is_old}
 use Rattle.tw_rbtree.specs.Planting.{AreNodeTrees, IsSideTree}
 use Rattle.tw_rbtree.specs.Standing.{HasNamed, IsRootTree, IsTreeBelow, IsTreePage, OfPage, any_page}
 use Rattle.tw_rbtree.proofs.Keeping.{below-any, trees-map}
-use Rattle.tw_rbtree.proofs.ListLaws.{listed-none}
+use Rattle.tw_rbtree.proofs.ListLaws.{is-old, listed-none}
 use Rattle.tw_rbtree.proofs.Plantings.{root-plants}
 use Rattle.tw_rbtree.proofs.SizeLaws.{root-count}
 use Rattle.tw_archive.specs.Archives.{KeepsTree, named_at}
@@ -110,17 +111,25 @@ module _ (dig : List ℕ → List ℕ) (ps : Image) (h : History) (step_page : �
   pub nodes-known : list_all (is_known (numbers_of old.pages)) nodes ≡ true
   unfolding numbered
   nodes-known = elim (cases_lt (archive (suc k)).page since) [
-    | inl older ↦ none-listed (or_right ((archive (suc k)).page == 0) (nat_lt (archive (suc k)).page since) (lt-ltb (archive (suc k)).page since older))
+    | inl older ↦ none-before older keeps.stands.tree
     | inr newer ↦ elim (cases_lt 0 (archive (suc k)).page) [
       | inl some ↦
           let planted = root-plants dig Has ps (archive (suc k)) (tree h (suc k)) since keeps.stands (λ none. absurd (omega (arith, some, none))) newer in
           let same : planted.nodes ≡ nodes = same_found planted.nodes nodes (sym planted.found_is ∙ keeps.lists) in
           let are : AreNodeTrees dig Has ps since [] nodes planted.trees = subst (λ (ns : List NewNode). AreNodeTrees dig Has ps since [] ns planted.trees) same planted.are in
           all-known (λ page other less. unmarked old.pages page other old.count nodes (older-unmarked dig Has ps since page other less [] nodes planted.trees are)) [] nodes planted.trees are
-      | inr none ↦ none-listed (ap (λ (b : Bool). b || nat_lt (archive (suc k)).page since) (eq-eqb (archive (suc k)).page 0 (omega (arith, none))))
+      | inr none ↦ none-listed (no-page (omega (arith, none)))
     ]
   ]
     where
-      none-listed : (((archive (suc k)).page == 0) || nat_lt (archive (suc k)).page since) ≡ true → list_all (is_known (numbers_of old.pages)) nodes ≡ true
+      no-page : (archive (suc k)).page ≡ 0 → (((archive (suc k)).page == 0) || is_old (archive (suc k)).page since) ≡ true
+      no-page none = ap (λ (b : Bool). b || is_old (archive (suc k)).page since) (eq-eqb (archive (suc k)).page 0 none)
+
+      none-listed : (((archive (suc k)).page == 0) || is_old (archive (suc k)).page since) ≡ true → list_all (is_known (numbers_of old.pages)) nodes ≡ true
       none-listed old_root =
           ap (λ (ns : List NewNode). list_all (is_known (numbers_of old.pages)) ns) (same_found nodes [] (sym keeps.lists ∙ listed-none dig ps since (archive (suc k)) old_root))
+
+      none-before : (archive (suc k)).page < since → IsRootTree dig Has ps (archive (suc k)).page (tree h (suc k)) → list_all (is_known (numbers_of old.pages)) nodes ≡ true
+      none-before older (inl none) = none-listed (no-page none.0)
+      none-before older (inr (level, is)) =
+          none-listed (or_right ((archive (suc k)).page == 0) (is_old (archive (suc k)).page since) (is-old (archive (suc k)).page since is.at.low older))

@@ -45,16 +45,19 @@ impl<D: Disk, H: Hasher> Service<D, H> {
     ghost use Rattle.tw_service.specs.Serves.{Serves, has_failed, head_of, name_of};
 
     /// The file of the whole history. Each step page is read once, from the last one down by the links of level 0; then, from the first
-    /// step on, its event pages or its new tree pages, each once. Nothing is hashed.
+    /// step on, its event pages or its new tree pages, each once. No step and no event is hashed; of a tree page only the empty tree's
+    /// text is, by which its leaves are judged.
     ///
     /// Refusals, the first that stands: `Reopen` where an earlier call on this value answered `DiskFault`; `TooLong` where the file would
     /// have more than 67,108,864 bytes or a step more than 65,535 new nodes, with the length that the file would have, at most 2^64 - 1.
-    /// `BadPage` tells the first page met that isn't of its kind; or the one read last where event pages don't spell a step's events; or
-    /// the page of a step, which is then read once more, that received a thread of step 0, or whose archive names an older page that no
-    /// archive before it has. It never comes where a history is served. It writes nothing.
+    /// `BadPage` tells the first page met that isn't of its kind, one of 1 to 3 by its own number; or the one read last where event pages
+    /// don't spell a step's events; or the page of a step, which is then read once more, that counts events and has no event page, that
+    /// received a thread of step 0, or whose archive names an older page that no archive before it has. It never comes where a history is
+    /// served. It writes nothing.
     pub fn export(&mut self) -> Result<Bytes, Refusal>
-        // Asking for the history's file does, by its own table, with `TooLong` of its own and what is found for it, what asking for the
-        // proof of a thread does.
+        // Where an earlier call met a disk fault, `Reopen`. Else, over told pages, whatever they keep, what is found in them: the file,
+        // `TooLong` with its length, or a bad page; where a history is served, its own file or `TooLong`, and never a bad page. It changes
+        // and writes nothing; a disk fault comes only where the disk's count rose, and want of memory may always come.
         ensures asks { AsksOr H.dig D.view IsTooLong Export (λ bytes. OfFile bytes) (broken_refusal (has_failed self.old))
             (λ ps. found_export H.dig ps (name_of self.old) (head_of self.old) (has_failed self.old))
             self.old self.new result }

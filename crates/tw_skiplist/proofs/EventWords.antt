@@ -15,14 +15,14 @@ use Rattle.tw_disk.specs.Found.{Found, when, ◌>>=◌, spelled}
 use Rattle.tw_disk.specs.Found.Found.{Is, Bad}
 use Rattle.tw_skiplist.specs.ScanSteps.{SpellsEvents}
 use Rattle.tw_steppage.specs.StepBytes.{stream}
-use Rattle.tw_disk.proofs.FoundLaws.{is_on}
+use Rattle.tw_disk.proofs.FoundLaws.{is_on, same_found}
 use Rattle.tw_disk.proofs.SpelledLaws.{Spelt, is-spelled, spelled-bad, spelled-is}
 use Rattle.tw_steppage.proofs.Rules.{both_true}
 
 events-lawful : (count : ℕ) → Lawful (events_codec count)
 events-lawful count = search lawful depth 20
 
-written : (count : ℕ) (events : List (List ℕ)) → (events_codec count).write events ≡ stream events
+pub written : (count : ℕ) (events : List (List ℕ)) → (events_codec count).write events ≡ stream events
 unfolding many sized_codec by_kind number_codec bytes_codec
 written count [] = refl
 written count (e ∷ es) =
@@ -65,6 +65,25 @@ module _ (bytes : List ℕ) (count : ℕ) where
       }))
       ∙ ap (λ (b : Bool). when b page events) (both_true (nat_le (length events) MOST_EVENTS) (nat_le (sum_by (λ event. length event) events) MOST_STEP_BYTES)
       (le-leb (length events) MOST_EVENTS s.limits.are.count) (le-leb (sum_by (λ event. length event) events) MOST_STEP_BYTES s.limits.fit))
+
+  when-is : (b : Bool) (page : ℕ) (xs ys : List (List ℕ)) → when b page xs ≡ Is ys → xs ≡ ys
+  when-is true page xs ys e = same_found xs ys e
+  when-is false page xs ys e = cc
+
+  -- what is found is spelled
+  pub found-spells : (events : List (List ℕ)) (page : ℕ) → events_in page count bytes ≡ Is events → (stream events ≡ bytes) × (length events ≡ count)
+  unfolding events_in
+  found-spells events page found = by (spelled page 0 (events_codec count) bytes) refl found
+    where
+      by : (f : Found (List (List ℕ))) → spelled page 0 (events_codec count) bytes ≡ f → (f >>= (λ events. when (may_be_recorded events) page events)) ≡ Is events → (stream events ≡ bytes) × (length events ≡ count)
+      by (Bad p) e is = cc
+      by (Is es) e is =
+          let spelt = is-spelled page 0 (events_codec count) (events-lawful count) bytes es e in
+          let same = when-is (may_be_recorded es) page es events is in
+          let word : List ℕ = (events_codec count).write es in (
+            ap stream (sym same) ∙ sym (written count es) ∙ sym (append-nil word) ∙ ap (λ (n : ℕ). word ++ replicate n 0) (let e : 0 ≡ 0 - length word = omega arith in e) ∙ sym spelt.bytes_are,
+            ap (λ (xs : List (List ℕ)). length xs) (sym same) ∙ (fit_each count es spelt.fits).0,
+          )
 
   module _ (none : (events : List (List ℕ)) → SpellsEvents bytes count events → ⊥) (page : ℕ) where
     tested : (events : List (List ℕ)) → Spelt 0 (events_codec count) bytes events → (b : Bool) → may_be_recorded events ≡ b → when b page events ≡ Bad page

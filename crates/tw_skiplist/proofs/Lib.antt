@@ -1,4 +1,5 @@
 pub mod Contents
+pub mod Copying
 pub mod EventSpelling
 pub mod EventWords
 pub mod FewEvents

@@ -1,9 +1,9 @@
 -- How many event pages a stream has, and what they have.
-use Rattle.std.proofs.Common.{◌≡◌, ℕ, suc, ◌+◌, ◌-◌, ◌*◌, ◌<◌, ◌≤◌, List, [], ap, ◌∙◌, arith}
+use Rattle.std.proofs.Common.{◌≡◌, ℕ, suc, ◌+◌, ◌-◌, ◌*◌, ◌<◌, ◌≤◌, List, ap, ◌∙◌, arith}
 use Rattle.tw_disk.specs.Image.{Image}
 use Rattle.tw_skiplist.specs.declared.info.EventsAt.{EventsAt}
 use Rattle.tw_steppage.specs.declared.limits.TheConstants.{MOST_PIECE_BYTES}
-use Rattle.tw_skiplist.specs.Events.{last_page, piece_behind, piece_count, pieces_from, stream_in}
+use Rattle.tw_skiplist.specs.Events.{last_page, piece_behind, piece_count, pieces_from}
 use Rattle.tw_disk.specs.Found.{◌>>=◌}
 use Rattle.tw_disk.specs.Found.Found.{Is}
 
@@ -34,8 +34,8 @@ module _ (ps : Image) (at : EventsAt) (number : ℕ) (before : List ℕ) where
       ap (λ (left : ℕ). pieces_from ps at left number before) (let e : piece_count at.stream.size - number ≡ suc (piece_count at.stream.size - (number + 1)) = omega (arith, under) in e)
       ∙ ap (λ (n : ℕ). piece_behind ps at number before >>= pieces_from ps at (piece_count at.stream.size - (number + 1)) n) next
 
-pub pieces-begin : (ps : Image) (at : EventsAt) → stream_in ps at ≡ pieces_from ps at (piece_count at.stream.size - 0) 0 []
-pieces-begin ps at = ap (λ (more : ℕ). pieces_from ps at more 0 []) (let e : piece_count at.stream.size ≡ piece_count at.stream.size - 0 = omega arith in e)
+pub pieces-begin : (ps : Image) (at : EventsAt) (before : List ℕ) → pieces_from ps at (piece_count at.stream.size) 0 before ≡ pieces_from ps at (piece_count at.stream.size - 0) 0 before
+pieces-begin ps at before = ap (λ (more : ℕ). pieces_from ps at more 0 before) (let e : piece_count at.stream.size ≡ piece_count at.stream.size - 0 = omega arith in e)
 
 pub last_page-on : (at : EventsAt) (number : ℕ) → last_page at (number + 1) ≡ at.stream.page + number
 last_page-on at number = ap (last_page at) (let e : number + 1 ≡ suc number = omega arith in e)

@@ -1,6 +1,6 @@
 // Reading the stream of a step's events.
 
-ghost use Rattle.std.specs.Prelude.{◌≡◌, ℕ, ◌+◌, ◌*◌, ◌<◌, ◌≤◌, ◌^◌, length, take, drop, IfErr, IfOk, IfSome, OnOk, MatchOption};
+ghost use Rattle.std.specs.Prelude.{◌≡◌, ℕ, ◌+◌, ◌*◌, ◌<◌, ◌≤◌, ◌^◌, length, take, drop, IfErr, IfOk, IfSome, OnOk, MatchBool, MatchOption};
 ghost use Rattle.std.specs.Int.{from_be_bytes, w32};
 ghost use Rattle.tw_disk.specs.Answers.{AnswersAs, ReadsPages};
 ghost use Rattle.tw_disk.specs.Found.{spelled};
@@ -8,9 +8,9 @@ ghost use Rattle.tw_disk.specs.WalkFaults.{walk_faults};
 ghost use Rattle.tw_disk.specs.declared.walk_fault.WalkFault.TheVariants.{BadPage};
 ghost use Rattle.tw_skiplist.specs.ListFaults.{list_faults};
 ghost use Rattle.tw_base.specs.history.Limits.{MayRecord};
-ghost use Rattle.tw_skiplist.specs.ScanSteps.{HasEventAt, IsNoEventAt};
+ghost use Rattle.tw_skiplist.specs.ScanSteps.{HasEventAt, IsNoEventAt, copied, tested};
 ghost use Rattle.tw_disk.specs.Found.Found.{Is, Bad};
-ghost use Rattle.tw_skiplist.specs.Events.{events_from, events_in, last_page, piece_behind, piece_count, piece_size as piece_size_of, stream_in};
+ghost use Rattle.tw_skiplist.specs.Events.{events_from, events_in, last_page, piece_behind, piece_count, piece_size as piece_size_of, pieces_from, stream_in};
 ghost use Rattle.tw_steppage.specs.StepBytes.{piece_codec};
 
 use crate::fault::ListFault;
@@ -51,11 +51,12 @@ fn piece_from(
     Ok(event_piece(bytes, count))
 }
 
-// Reads the event page of this number of the step, and appends its piece of the stream.
+// Reads the event page of this number of the step into a page that may hold anything, and appends its piece of the stream.
 fn add_piece<P: Pages>(
     pages: &mut P,
     at: &EventsAt,
     number: u16,
+    bytes: &mut Page,
     into: &mut Bytes,
 ) -> Result<(), ListFault>
     requires page { at.now.stream.page + number < 2 ^ 64 }
@@ -63,12 +64,12 @@ fn add_piece<P: Pages>(
     ensures reads { ReadsPages list_faults P.view P.same pages.old pages.new (λ _. into.new) result
         (λ ps. piece_behind ps at.now number into.old) }
     ensures next { OnOk result (at.now.stream.page + number + 1 < 2 ^ 64) }
+    ensures grown { OnOk result (length into.old ≤ length into.new) }
 {
     let page = at.stream.page + number as u64;
     let count = piece_size(at.stream.size, number);
-    let mut bytes = [0; PAGE_SIZE];
-    read_page(pages, page, &mut bytes)?;
-    let piece = piece_from(&bytes, page, at.step, number, count)?;
+    read_page(pages, page, bytes)?;
+    let piece = piece_from(bytes, page, at.step, number, count)?;
     into.extend_from_slice(piece)?;
     Ok(())
 }
@@ -77,6 +78,29 @@ fn add_piece<P: Pages>(
 fn page_range(page: u64)
     ensures { page < 2 ^ 64 }
 {}
+
+/// Reads the event pages of a step, and appends the bytes that they have. Answers the page that was read last
+/// before them or among them.
+#[tactic(auto, using(crate::proofs::PieceCounts::pieces_go_on))]
+fn add_stream<P: Pages>(pages: &mut P, at: &EventsAt, into: &mut Bytes) -> Result<u64, ListFault>
+    requires { at.now.stream.size ≤ MOST_STREAM_BYTES }
+    ensures reads { ReadsPages list_faults P.view P.same pages.old pages.new (λ _. into.new) result
+        (λ ps. pieces_from ps at.now (piece_count at.now.stream.size) 0 into.old) }
+    ensures last { IfOk result (λ last. last ≡ last_page at.now (piece_count at.now.stream.size)) }
+    ensures grown { OnOk result (length into.old ≤ length into.new) }
+{
+    let size = at.stream.size as u64;
+    page_range(at.stream.page);
+    let mut bytes = [0; PAGE_SIZE];
+    let mut last = at.page;
+    let mut number = 0u16;
+    while MOST_PIECE_BYTES * (number as u64) < size {
+        add_piece(pages, at, number, &mut bytes, into)?;
+        last = at.stream.page + number as u64;
+        number += 1;
+    }
+    Ok(last)
+}
 
 /// The bytes that the event pages of a step have, and the page that was read last before them or
 /// among them.
@@ -87,7 +111,6 @@ struct StreamRead {
 }
 
 /// Reads the event pages of a step.
-#[tactic(auto, using(crate::proofs::PieceCounts::pieces_go_on))]
 fn read_stream<P: Pages>(
     alloc: Global,
     pages: &mut P,
@@ -98,16 +121,8 @@ fn read_stream<P: Pages>(
         (λ ps. stream_in ps at.now) }
     ensures last { IfOk result (λ r. r.last ≡ last_page at.now (piece_count at.now.stream.size)) }
 {
-    let size = at.stream.size as u64;
-    page_range(at.stream.page);
     let mut bytes = Bytes::new(alloc);
-    let mut last = at.page;
-    let mut number = 0u16;
-    while MOST_PIECE_BYTES * (number as u64) < size {
-        add_piece(pages, at, number, &mut bytes)?;
-        last = at.stream.page + number as u64;
-        number += 1;
-    }
+    let last = add_stream(pages, at, &mut bytes)?;
     Ok(StreamRead { bytes, last })
 }
 
@@ -163,6 +178,47 @@ fn read_events(alloc: Global, bytes: &[u8], count: u32) -> Result<Option<EventLi
         return Ok(None);
     }
     Ok(Some(events))
+}
+
+/// Whether the bytes spell events within the limits of a step, as many as the count.
+fn are_events(bytes: &[u8], count: u32) -> bool
+    ensures { (page : ℕ) → MatchBool result (tested page count bytes.now ≡ Is tt) (tested page count bytes.now ≡ Bad page) }
+{
+    if count as u64 > MOST_EVENTS {
+        return false;
+    }
+    let mut at = 0;
+    for index in 0..count {
+        let Some(size) = event_size(bytes, at) else {
+            return false;
+        };
+        at += 4 + size;
+    }
+    if at != bytes.len() || at as u64 > 4 * count as u64 + MOST_STEP_BYTES {
+        return false;
+    }
+    true
+}
+
+/// Appends the events of a step, each behind its length, from where they stand.
+#[tactic(auto, unfolding(crate::specs::ScanSteps::copied))]
+pub(crate) fn copy_from<P: Pages>(
+    pages: &mut P,
+    at: &EventsAt,
+    into: &mut Bytes,
+) -> Result<(), ListFault>
+    ensures reads { ReadsPages list_faults P.view P.same pages.old pages.new (λ _. into.new) result
+        (λ ps. copied ps at.now into.old) }
+{
+    if at.stream.size as u64 > MOST_STREAM_BYTES {
+        return Err(ListFault::BadPage { page: at.page });
+    }
+    let start = into.len();
+    let last = add_stream(pages, at, into)?;
+    if !are_events(&into.as_slice()[start..], at.count) {
+        return Err(ListFault::BadPage { page: last });
+    }
+    Ok(())
 }
 
 /// The events of a step, from where they stand.

@@ -1,13 +1,13 @@
 // The records of all steps.
 
-ghost use Rattle.std.specs.Prelude.{◌≡◌, ◌≤◌, length, IfOk};
+ghost use Rattle.std.specs.Prelude.{◌≡◌, ◌≤◌, length, None, IfOk};
 ghost use Rattle.tw_base.specs.kinds.Lists.{Each};
 ghost use Rattle.tw_disk.specs.Answers.{ReadsPages};
 ghost use Rattle.tw_steppage.specs.StepPages.{HasRanges};
 ghost use Rattle.tw_skiplist.specs.ListFaults.{list_faults};
-ghost use Rattle.tw_skiplist.specs.StepRecords.{IsToldBy, content_of, events_of_record, found_records};
+ghost use Rattle.tw_skiplist.specs.StepRecords.{IsToldBy, content_of, copied_content, events_of_record, found_records};
 
-use crate::event_pages::read_from;
+use crate::event_pages::{copy_from, read_from};
 use crate::fault::ListFault;
 use crate::head::Head;
 use crate::info::EventsAt;
@@ -15,7 +15,7 @@ use crate::records::link_at;
 use crate::walking::read_step;
 use std::alloc::Global;
 use tw_base::limits::LAST_STEP;
-use tw_base::{Content, ReceivedThread, Sequence, StepEvents};
+use tw_base::{Bytes, Content, ReceivedThread, Sequence, StepEvents, put_last_bytes};
 use tw_disk::Pages;
 use tw_steppage::{StepFields, StepPage};
 
@@ -78,7 +78,8 @@ fn events_at(recorded: &StepRecord) -> EventsAt
 /// What the step of a record recorded: the thread that it received, or its events, which are read from its
 /// event pages, each once.
 ///
-/// Where the pages are told, BadPage tells of these pages what it tells of them at `events_of`; it never
+/// Where the pages are told, BadPage tells of the event pages what it tells of them at `events_of`, and the step's own page, which
+/// isn't read here, where it counts events and has no event page; it never
 /// comes where they keep the history of which `read_records` told, and NoStep never comes.
 #[tactic(auto, unfolding(crate::specs::StepRecords::content_of))]
 pub fn read_content<P: Pages>(
@@ -102,4 +103,25 @@ pub fn read_content<P: Pages>(
             Ok(Content::Events(StepEvents::new(events)))
         }
     }
+}
+
+/// Appends the events of the step of a record that received no thread, their number and each of them behind its length, as a history
+/// file has them. They are read from its event pages, each once, and aren't kept beside.
+///
+/// BadPage and NoStep come as at `read_content`. After a refusal something may have been appended.
+#[tactic(auto, unfolding(tw_base::specs::format::Codecs::number_codec))]
+pub fn copy_events<P: Pages>(
+    pages: &mut P,
+    recorded: &StepRecord,
+    into: &mut Bytes,
+) -> Result<(), ListFault>
+    requires { recorded.now.fields.received ≡ None }
+    // Over told pages what the step recorded, as it is found in them, is appended as its codec writes it, a disk fault and want of memory
+    // excepted. Over any pages, told or not, `NoStep` is never answered; reading changes nothing of what the pages tell; and `DiskFault`
+    // comes only where the count of faults rose.
+    ensures reads { ReadsPages list_faults P.view P.same pages.old pages.new (λ _. into.new) result
+        (λ ps. copied_content ps recorded.now into.old) }
+{
+    put_last_bytes(into, recorded.fields.count as u64, 4)?;
+    copy_from(pages, &events_at(recorded), into)
 }

@@ -1,0 +1,232 @@
+// A step more of a history that pages tell, from what it recorded and its new nodes.
+
+ghost use Rattle.std.specs.Prelude.{◌≡◌, ◌+◌, ◌<◌, ◌^◌, ◌++◌, IfOk, IsTrue, MatchOption, OnOk, false, length, true};
+ghost use Rattle.tw_base.specs.history.HistoryCodec.{step_codec};
+ghost use Rattle.tw_base.specs.history.Limits.{IsTimeWithinLimits};
+ghost use Rattle.tw_disk.specs.Answers.{IsShared, ReadsPages};
+ghost use Rattle.tw_disk.specs.Found.Found.{Bad};
+ghost use Rattle.tw_history.specs.Tables.{IsInRange};
+ghost use Rattle.tw_rbtree.specs.FaultWords.{tree_faults};
+ghost use Rattle.tw_rbtree.specs.Listing.{listed};
+ghost use Rattle.tw_steppage.specs.StepPages.{HasRanges};
+ghost use Rattle.tw_skiplist.specs.ListFaults.{list_faults};
+ghost use Rattle.tw_skiplist.specs.StepRecords.{IsToldBy};
+ghost use Rattle.tw_export.specs.Exporting.{archive_after, may_be_told, new_nodes as new_nodes_in, step_on, step_with, with_step};
+ghost use Rattle.tw_export.specs.Faults.{list_fault_of};
+ghost use Rattle.tw_export.specs.Told.{archive_of, so_far_of};
+
+use crate::archive::{ArchiveSoFar, add_nodes, root_number};
+use crate::file::add_text;
+use crate::nodes::put_nodes;
+use crate::so_far::StepsSoFar;
+use std::alloc::Global;
+use tw_base::limits::PAGE_SIZE;
+use tw_base::{Bytes, Content, Hasher, NoMemory, Root, put_last_bytes};
+use tw_cache::{Shelf, Shelved};
+use tw_disk::{Pages, WalkFault, read_page};
+use tw_history::put_recorded;
+use tw_rbtree::{NewNode, NewNodes, TreeFault, fresh};
+use tw_skiplist::{ListFault, StepRecord, read_content};
+
+/// The most new nodes of a step that a history file counts.
+const MOST_NEW_NODES: usize = 65535;
+
+/// What a refused listing is to a list of steps.
+fn list_fault(fault: TreeFault) -> ListFault
+    requires { IsShared (tree_faults fault) }
+    ensures { result ≡ list_fault_of fault }
+{
+    match fault {
+        TreeFault::Present | TreeFault::Untrue => unreachable!(),
+        TreeFault::BadPage { page } => ListFault::BadPage { page },
+        TreeFault::DiskFault => ListFault::DiskFault,
+        TreeFault::NoMemory => ListFault::NoMemory,
+    }
+}
+
+/// The nodes of the tree under the root that are new since this page.
+fn list_nodes<P: Pages, H: Hasher>(
+    alloc: Global,
+    pages: &mut P,
+    root: &Root,
+    since: u64,
+) -> Result<NewNodes, ListFault>
+    ensures reads { ReadsPages list_faults P.view P.same pages.old pages.new (λ nodes. nodes) result (λ ps. listed H.dig ps since root.now) }
+{
+    match fresh::<P, H>(alloc, pages, root, since) {
+        Ok(nodes) => Ok(nodes),
+        Err(fault) => Err(list_fault(fault)),
+    }
+}
+
+/// The same; a page that was read is kept until they are listed, and isn't asked for again.
+fn list_once<P: Pages, H: Hasher>(
+    alloc: Global,
+    pages: &mut P,
+    root: &Root,
+    since: u64,
+) -> Result<NewNodes, ListFault>
+    ensures reads { ReadsPages list_faults P.view P.same pages.old pages.new (λ nodes. nodes) result (λ ps. listed H.dig ps since root.now) }
+{
+    let mut shelf = Shelf::unbounded(alloc);
+    let mut near = Shelved::over(pages, &mut shelf);
+    list_nodes::<Shelved<P>, H>(alloc, &mut near, root, since)
+}
+
+/// The new nodes of a step: none of events; of a thread those that are listed since this page.
+fn new_nodes<P: Pages, H: Hasher>(
+    alloc: Global,
+    pages: &mut P,
+    since: u64,
+    recorded: &StepRecord,
+    content: &Content,
+) -> Result<NewNodes, ListFault>
+    ensures reads { ReadsPages list_faults P.view P.same pages.old pages.new (λ nodes. nodes) result
+        (λ ps. new_nodes_in H.dig ps since recorded.now content.now) }
+{
+    match content {
+        Content::Events(_) => Ok(NewNodes::new(alloc)),
+        Content::Received(_) => { list_once::<P, H>(alloc, pages, &recorded.fields.archive, since) }
+    }
+}
+
+/// The number of the archive's root after the step; None where no history file has such a step.
+fn told_root(
+    archive: &ArchiveSoFar,
+    recorded: &StepRecord,
+    content: &Content,
+    nodes: &[NewNode],
+) -> Option<u64>
+    requires { archive.now.count + length nodes.now < 2 ^ 64 }
+    ensures { MatchOption result (may_be_told (archive_of archive.now) recorded.now content.now nodes.now ≡ false)
+        (λ root. (may_be_told (archive_of archive.now) recorded.now content.now nodes.now ≡ true)
+        × (root ≡ (archive_after (archive_of archive.now) recorded.now content.now nodes.now).root)) }
+{
+    match content {
+        Content::Events(_) => Some(archive.root),
+        Content::Received(thread) => {
+            if thread.get().step == 0 {
+                return None;
+            }
+            root_number(archive, nodes, recorded.fields.archive.page)
+        }
+    }
+}
+
+/// Appends the step: what it recorded, its new nodes, and the number of the archive's root after it.
+fn put_step(
+    text: &mut Bytes,
+    archive: &ArchiveSoFar,
+    recorded: &StepRecord,
+    content: &Content,
+    nodes: &[NewNode],
+    root: u64,
+) -> Result<(), NoMemory>
+    requires content { IsInRange content.now }
+    requires time { IsTimeWithinLimits recorded.now.fields.time }
+    ensures { OnOk result (text.new ≡ text.old ++ step_codec.write (step_with (archive_of archive.now) recorded.now content.now nodes.now root)) }
+{
+    put_recorded(text, recorded.fields.time, content)?;
+    put_last_bytes(text, nodes.len() as u64, 2)?;
+    put_nodes(text, &archive.pages, archive.count, nodes)?;
+    put_last_bytes(text, root, 4)?;
+    Ok(())
+}
+
+/// The archive behind the step, whose root has this number.
+fn add_archive(
+    archive: &mut ArchiveSoFar,
+    recorded: &StepRecord,
+    content: &Content,
+    nodes: &[NewNode],
+    root: u64,
+) -> Result<(), NoMemory>
+    requires count { archive.old.count + length nodes.now < 2 ^ 64 }
+    requires page { recorded.now.page + 1 < 2 ^ 64 }
+    requires root { root ≡ (archive_after (archive_of archive.old) recorded.now content.now nodes.now).root }
+    ensures { OnOk result (archive_of archive.new ≡ archive_after (archive_of archive.old) recorded.now content.now nodes.now) }
+{
+    match content {
+        Content::Events(_) => {
+            archive.since = recorded.page + 1;
+            Ok(())
+        }
+        Content::Received(_) => add_nodes(
+            archive,
+            nodes,
+            recorded.fields.archive.page,
+            root,
+            recorded.page,
+        ),
+    }
+}
+
+/// Whether the numbers behind the step have at most 64 bits.
+fn are_small(archive: &ArchiveSoFar, recorded: &StepRecord, nodes: &[NewNode]) -> bool
+    ensures { IsTrue result → (archive.now.count + length nodes.now < 2 ^ 64) × (recorded.now.page + 1 < 2 ^ 64) }
+{
+    archive.count.checked_add(nodes.len() as u64).is_some() && recorded.page < u64::MAX
+}
+
+/// Takes in the step with what it recorded and its new nodes; answers no, and takes nothing in, where no
+/// history file has such a step.
+fn take_in(
+    alloc: Global,
+    so_far: &mut StepsSoFar,
+    recorded: &StepRecord,
+    content: &Content,
+    nodes: &[NewNode],
+) -> Result<bool, NoMemory>
+    requires told { IsToldBy recorded.now content.now }
+    requires ranges { HasRanges recorded.now.fields }
+    ensures { IfOk result (λ is_told. (is_told ≡ may_be_told (archive_of so_far.old.archive) recorded.now content.now nodes.now)
+        × (IsTrue is_told → so_far_of so_far.new ≡ with_step (so_far_of so_far.old) recorded.now content.now nodes.now)) }
+{
+    if !are_small(&so_far.archive, recorded, nodes) {
+        return Err(NoMemory);
+    }
+    let Some(root) = told_root(&so_far.archive, recorded, content, nodes) else {
+        return Ok(false);
+    };
+    let mut text = Bytes::new(alloc);
+    put_step(&mut text, &so_far.archive, recorded, content, nodes, root)?;
+    add_text(
+        &mut so_far.file,
+        text.as_slice(),
+        nodes.len() <= MOST_NEW_NODES,
+    )?;
+    add_archive(&mut so_far.archive, recorded, content, nodes, root)?;
+    Ok(true)
+}
+
+/// Reads the page, and tells that it is bad.
+pub(crate) fn tell_bad<P: Pages>(pages: &mut P, page: u64) -> Result<(), ListFault>
+    ensures reads { ReadsPages list_faults P.view P.same pages.old pages.new (λ done. done) result (λ ps. Bad page) }
+{
+    let mut bytes = [0; PAGE_SIZE];
+    match read_page(pages, page, &mut bytes) {
+        Err(WalkFault::DiskFault) => Err(ListFault::DiskFault),
+        Ok(()) | Err(WalkFault::BadPage { .. }) => Err(ListFault::BadPage { page }),
+    }
+}
+
+/// Takes in the step of a record, with what it recorded. Its event pages are read, or its new tree pages, each once.
+#[tactic(auto, unfolding(crate::specs::Exporting::step_on))]
+pub(crate) fn add_recorded<P: Pages, H: Hasher>(
+    alloc: Global,
+    pages: &mut P,
+    so_far: &mut StepsSoFar,
+    recorded: &StepRecord,
+) -> Result<(), ListFault>
+    requires { HasRanges recorded.now.fields }
+    ensures reads { ReadsPages list_faults P.view P.same pages.old pages.new (λ _. so_far_of so_far.new) result
+        (λ ps. step_on H.dig ps (so_far_of so_far.old) recorded.now) }
+{
+    let content = read_content(alloc, pages, recorded)?;
+    let since = so_far.archive.since;
+    let nodes = new_nodes::<P, H>(alloc, pages, since, recorded, &content)?;
+    if take_in(alloc, so_far, recorded, &content, nodes.as_slice())? {
+        return Ok(());
+    }
+    tell_bad(pages, recorded.page)
+}
