@@ -88,19 +88,28 @@ module _ {D : Type 0} (view : D → DiskView) (old new : D) where
         idle _ left nothing = left
 
     left_offers : (told : Option Files) (file : List ℕ) → IsLeft view old new → OfferSafe view old new told file
-    left_offers told file left = λ k. (
-      λ reads. inl (left.1, record { image = reads.image; told = left.0 ∙ reads.told; stands = reads.stands }),
-      λ stands. inl ((left_keeps view old new left k).0 stands).0,
+    left_offers told file left = (
+      λ image why told not. left,
+      λ k. (
+        λ reads. inl (left.1, record { image = reads.image; told = left.0 ∙ reads.told; stands = reads.stands }),
+        λ stands. inl ((left_keeps view old new left k).0 stands).0,
+      ),
     )
 
     offer_safe : (told : Option Files) (file : List ℕ) (came : Result Thread CommandFault) → OfferLeaves view old new told file came → OfferSafe view old new told file
-    offer_safe told file (Ok thread) left = λ k. (
-      λ reads. let moved = left.2.1 k reads in inr (left.0, left.1, (moved.1.0, rests_reads view as_it_reads new k _ moved.0)),
-      λ stands. let moved = left.2.1 k (reads_as view as_it_reads old k stands) in inr (left.0, left.1, moved.1.1 stands),
+    offer_safe told file (Ok thread) left = (
+      left.1,
+      λ k. (
+        λ reads. let moved = left.0.2.1 k reads in inr (left.0.0, left.0.1, (moved.1.0, rests_reads view as_it_reads new k _ moved.0)),
+        λ stands. let moved = left.0.2.1 k (reads_as view as_it_reads old k stands) in inr (left.0.0, left.0.1, moved.1.1 stands),
+      ),
     )
-    offer_safe told file (Err DiskFault) left = λ k. (
-      λ reads. let either = left.2 k reads in inr (left.0, left.1, (either.1.0, either.0)),
-      λ stands. let either = left.2 k (reads_as view as_it_reads old k stands) in inr (left.0, left.1, either.1.1 stands),
+    offer_safe told file (Err DiskFault) left = (
+      left.1,
+      λ k. (
+        λ reads. let either = left.0.2 k reads in inr (left.0.0, left.0.1, (either.1.0, either.0)),
+        λ stands. let either = left.0.2 k (reads_as view as_it_reads old k stands) in inr (left.0.0, left.0.1, either.1.1 stands),
+      ),
     )
     offer_safe told file (Err (Refused refusal)) left = left_offers told file left.0
     offer_safe told file (Err (Unreadable bad)) left = left_offers told file (untouched_left view old new only_now left)

@@ -5,7 +5,8 @@ use Rattle.tw_disk.specs.Disk.{DiskView, LeavesOnly, Only, Reads}
 use Rattle.tw_disk.specs.Image.{Image}
 use Rattle.tw_pages.specs.Slots.{IsTaken}
 use Rattle.tw_follow.specs.HeadLists.{Kept, no_heads}
-use Rattle.tw_follow.specs.Stands.{IsBlankOrNew, StandsFor, StandsForOneOf}
+use Rattle.tw_pages.specs.declared.open.StoreFault.{StoreFault}
+use Rattle.tw_follow.specs.Stands.{IsBlankOrNew, IsNotOpenedFor, StandsFor, StandsForOneOf}
 
 -- the image stands for the list
 abbrev pub IsOf : Kept → Image → Type 0
@@ -69,6 +70,10 @@ module _ {D : Type 0} (view : D → DiskView) where
   -- it reads as before, and a crash leaves nothing else than before
   abbrev pub IsLeft : (old new : D) → Type 0
   IsLeft old new = ((view new).content ≡ (view old).content) × LeavesOnly (view old) (view new) (view old).may_leave
+
+  -- what is opened as no follower, a service's store among it, is left so, with writes pending or not
+  abbrev pub SparesOther : (old new : D) → Type 0
+  SparesOther old new = (image : Image) (why : StoreFault) → (view old).content ≡ Some image → IsNotOpenedFor sha256 image why → IsLeft old new
 
   -- a store that is there, that of a follower or not, is left so, with writes pending or not
   abbrev pub SparesStore : (old new : D) → Type 0

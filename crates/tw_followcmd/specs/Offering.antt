@@ -20,7 +20,7 @@ use Rattle.tw_follow.specs.Stands.Served.{Opened, Unopened}
 use Rattle.tw_text.specs.declared.refusal.BadInput.TheVariants.{BadByte}
 use Rattle.tw_text.specs.declared.fault.CommandFault.{CommandFault}
 use Rattle.tw_text.specs.declared.fault.CommandFault.TheVariants as fault
-use Rattle.tw_followcmd.specs.Disks.{IsLeft, IsOf, LeavesOldOrOneOf, LeavesOneOf, ReadsAs, ReadsAsOneOf, Rests, Settles, Stands}
+use Rattle.tw_followcmd.specs.Disks.{IsLeft, IsOf, LeavesOldOrOneOf, LeavesOneOf, ReadsAs, ReadsAsOneOf, Rests, Settles, SparesOther, Stands}
 use Rattle.tw_followcmd.specs.Faults.{fault_of_follower, fault_of_store}
 
 -- ---- the file
@@ -100,11 +100,12 @@ module _ {D : Type 0} (view : D → DiskView) (old new : D) where
   abbrev pub KeepsOrMoves : Message → Type 0
   KeepsOrMoves m = (kept : Kept) → ReadsAs (view old).content kept → ReadsAsOneOf view new kept (next_list kept m) × LeavesOneOf view old new kept (next_list kept m)
 
-  -- the message moved the head or is it, or a disk fault came and it may have; where it was refused, nothing was written and the disk
-  -- became stable; where the file wasn't read or is none, no device call was made; at every other result nothing was written
+  -- the message moved the head or is it, or a disk fault came and it may have, of a follower's list alone; where it was refused, nothing
+  -- was written and the disk became stable; where the file wasn't read or is none, no device call was made; at every other result nothing
+  -- was written
   abbrev pub OfferLeaves : (told : Option Files) (file : List ℕ) → Result Thread CommandFault → Type 0
-  OfferLeaves told file (Ok thread) = OfMessage told file (λ m. IsOffered (view old).content m (Ok thread) × Moved m)
-  OfferLeaves told file (Err fault.DiskFault) = OfMessage told file KeepsOrMoves
+  OfferLeaves told file (Ok thread) = OfMessage told file (λ m. IsOffered (view old).content m (Ok thread) × Moved m) × SparesOther view old new
+  OfferLeaves told file (Err fault.DiskFault) = OfMessage told file KeepsOrMoves × SparesOther view old new
   OfferLeaves told file (Err (fault.Refused refusal)) = IsLeft view old new × Settles view old new
   OfferLeaves told file (Err (fault.Unreadable bad)) = new ≡ old
   OfferLeaves told file (Err fault.InputFault) = new ≡ old
@@ -113,10 +114,10 @@ module _ {D : Type 0} (view : D → DiskView) (old new : D) where
   -- Of a list that the disk read as, each image since is one that a crash might have left before, and the content is told still and
   -- stands for it; or the file has a message, and each image stands for it or for the next one, or is one that might have been left
   -- before, and the content stands for one of the two. Of a list that it stood for for good, each image stands for it, or for one of
-  -- the two.
+  -- the two. What is opened as no follower is left as it was.
   abbrev pub OfferSafe : (told : Option Files) (file : List ℕ) → Type 0
-  OfferSafe told file = (kept : Kept) →
+  OfferSafe told file = SparesOther view old new × ((kept : Kept) →
       (ReadsAs (view old).content kept → (LeavesOnly (view old) (view new) (view old).may_leave × ReadsAs (view new).content kept)
       ⊎ OfMessage told file (λ m. LeavesOldOrOneOf view old new kept (next_list kept m) × ReadsAsOneOf view new kept (next_list kept m)))
       × (Stands view old kept → LeavesOnly (view old) (view new) (IsOf kept)
-      ⊎ OfMessage told file (λ m. LeavesOnly (view old) (view new) (StandsForOneOf sha256 kept (next_list kept m))))
+      ⊎ OfMessage told file (λ m. LeavesOnly (view old) (view new) (StandsForOneOf sha256 kept (next_list kept m)))))

@@ -10,7 +10,7 @@ ghost use Rattle.tw_follow.specs.HeadLists.{Kept};
 ghost use Rattle.tw_follow.specs.Stands.{OpensWith};
 ghost use Rattle.tw_msg.specs.Messages.{IsLinked, message_layout};
 ghost use Rattle.tw_outside.specs.Asked.{asked};
-ghost use Rattle.tw_followcmd.specs.Disks.{IsLeft, ReadsAs};
+ghost use Rattle.tw_followcmd.specs.Disks.{IsLeft, ReadsAs, SparesOther};
 ghost use Rattle.tw_followcmd.specs.Offering.{IsMessageIn, MessageComes, OfferComes, OfferLeaves};
 ghost use Rattle.tw_followcmd.specs.OfferSteps.{ComesOfFile, LeavesOffered, WritesNothing};
 
@@ -74,6 +74,7 @@ fn offer_message<D: Disk>(alloc: Global, disk: D, message: &Message) -> Worked<D
     ensures leaves { (bytes : List ℕ) → Spells message_layout bytes message.now → (k : Kept) → ReadsAs (D.view disk).content k
         → LeavesOffered D.view disk result.disk message.now k result.outcome }
     ensures unwritten { (bytes : List ℕ) → Spells message_layout bytes message.now → WritesNothing result.outcome → IsLeft D.view disk result.disk }
+    ensures spares { SparesOther D.view disk result.disk }
 {
     match Follower::<D, Sha>::open(alloc, disk) {
         Ok(follower) => offer_to(follower, message),

@@ -39,3 +39,9 @@ returns-in-Err-clause-leaves g c = λ bytes spells k reads.
 
 pub returns-in-Err-clause-unwritten : goal.returns-in-Err-clause-unwritten
 returns-in-Err-clause-unwritten g c = λ bytes spells nothing. (c.in-Err.ensures.unchanged, c.in-Err.ensures.any_moment_err)
+
+pub returns-in-Ok-clause-spares : goal.returns-in-Ok-clause-spares
+returns-in-Ok-clause-spares g c = λ image why told not. absurd (c.in-Ok.ensures.exact image why told not)
+
+pub returns-in-Err-clause-spares : goal.returns-in-Err-clause-spares
+returns-in-Err-clause-spares g c = λ image why told not. (c.in-Err.ensures.unchanged, c.in-Err.ensures.any_moment_err)
