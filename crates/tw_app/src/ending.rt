@@ -261,6 +261,7 @@ pub fn run<D: Disk, I: Inputs, S: Sink>(
     // steps. What the disk then reads as is told still, and is such an image. Where a store was there, of a service or
     // not, with writes pending or not, nothing is written. `watch` and `offer` say the same of lists of heads: at `offer` each
     // image stands for the list before it, or, where the file's message moves the head, for it with the message's thread.
+    // What is opened as no follower, a service's store among it, `offer` leaves as it was, with writes pending or not.
     // `prove`, `thread` and `heads` write nothing. A command without a folder hands the
     // disk back as it is, and so does a run of words that have no form.
     ensures crash { MatchOption (command_of (map string_bytes words.now)) (result.disk ≡ disk)

@@ -71,8 +71,9 @@ pub fn status_laws<D: Disk>()
     // Status 0 of `heads`: what the disk read as opens as a follower's store, and the lines written are those of the heads
     // that are found in its pages, oldest first. And where the disk read as a list of heads, with writes pending or not,
     // they are that list's, and the disk stands for it, at rest.
-    // Status 0 of `replay`: the file is there and is a script, and the bytes written are the text of what it is played to: an answer
-    // to each of its lines, and the summary of these and of some histories' numbers of steps. Status 0 of `generate`: the line written is the summary
+    // Status 0 of `replay`: the file is there and is a script, and the bytes written are the text of what it is played to: what its lines
+    // are told, one after another, by the rules of worlds, from a world of nothing on, in which no service claims a time; and the summary
+    // of this and of the numbers of steps at the end. Status 0 of `generate`: the line written is the summary
     // of the three histories to which the words' number leads in so many rounds.
     // Status 0 of `accuse`: all files are there and hold the proofs of two received threads and, where one is named, a link.
     // The bytes written spell the evidence that these make, and are accepted, with that fork, under all anchors under
@@ -134,9 +135,10 @@ pub fn status_laws<D: Disk>()
     // and stands for no history. The page told is the first that the command meets there that isn't of its kind, or, at
     // `prove event` and `export`, the one read last where the event pages don't spell the step's events; at `receive` also
     // the one read last where the step that is told to have received the thread is above the last one; at `export` also the
-    // page of a step, read once more, that received a thread of step 0, or whose archive names an older page that no archive
-    // before it has. Or the words are `offer` or `heads`, and what the disk read as opens as no store of a follower, for the
-    // reason that the line tells; or `heads`, and the page told is the first, from that of the last head down, that isn't of its kind.
+    // page of a step, read once more, that counts events and has no event page, that received a thread of step 0, or whose
+    // archive names an older page that no archive before it has. A page of 1 to 3 that is named is told by its own number. Or
+    // the words are `offer` or `heads`, and what the disk read as opens as no store of a follower, for the reason that the
+    // line tells; or `heads`, and the page told is the first, from that of the last head down, that isn't of its kind.
     ensures store { (a : Around D) → Ends D.view a 8 → (cause : StoreCause) × IsUndoneRun D.view a (Unserved cause) }
     // Status 8 never comes where the disk read as a history, of another command than `watch`, `offer` and `heads`.
     ensures complete { (a : Around D) → Ends D.view a 8 → (AreOf IsOfFollower a.words → ⊥) → (h : History) → ReadsAs (D.view a.outside.disk.before).content h → ⊥ }

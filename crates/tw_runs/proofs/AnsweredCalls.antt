@@ -1,7 +1,7 @@
 -- From what each call of a service ensures to a call of a run.
 use Rattle.std.proofs.Common.{◌≡◌, ◌⊎◌, ◌∙◌, ℕ, List, arith, ap, refl, sym, subst, inl, inr, ⊎_elim, Bool, true, false}
 use Rattle.std.proofs.lemmas.Bool.{cases_eq}
-use Rattle.std.specs.Prelude.{◌↔◌, IsTrue, Result, Ok, Err, IfErr, IfOk, IsErrAnd, OnErr, MatchOption, MatchResult, Option, Some, slice_index}
+use Rattle.std.specs.Prelude.{◌↔◌, IsTrue, Result, Ok, Err, IsErr, IfErr, IfOk, IsErrAnd, OnErr, MatchOption, MatchResult, Option, Some, slice_index}
 use Rattle.tw_base.specs.history.History.{History}
 use Rattle.tw_disk.specs.Disk.{DiskView, LeavesOnly}
 use Rattle.tw_disk.specs.Image.{Image, page_at}
@@ -11,7 +11,7 @@ use Rattle.tw_pages.specs.Store.{Opening, OpensAs}
 use Rattle.tw_pages.specs.declared.open.StoreFault.{StoreFault}
 use Rattle.tw_pages.specs.declared.open.StoreFault.TheVariants.{DiskFault as DiskFailed, Taken}
 use Rattle.tw_answers.specs.declared.refusal.Refusal.{Refusal}
-use Rattle.tw_answers.specs.declared.refusal.Refusal.TheVariants.{BadPage, DiskFault, NoMemory, Reopen}
+use Rattle.tw_answers.specs.declared.refusal.Refusal.TheVariants.{BadPage, DiskFault, Malformed, NoMemory, Reopen}
 use Rattle.tw_answers.specs.declared.root.RootRecord.{RootRecord}
 use Rattle.tw_service.specs.declared.service.Service.{Service}
 use Rattle.tw_msg.specs.declared.message.Message.{Message}
@@ -20,6 +20,7 @@ use Rattle.tw_service.specs.Adding.{Receives, Steps}
 use Rattle.tw_service.specs.Machine.{Answers, Call, IsStepOf, NextOf, Reply}
 use Rattle.tw_service.specs.Machine.Call.{Receive}
 use Rattle.tw_service.specs.Machine.Reply.{OfReceipt}
+use Rattle.tw_service.specs.Receiving.{RefusesNoMessage}
 use Rattle.tw_service.specs.Serves.{HasSameDisk, Serves, disk_of, has_failed, head_of, name_of, record_of}
 use Rattle.tw_service.specs.Stands.{StandsFor, StandsForOneOf}
 use Rattle.tw_answers.specs.Limits.{append_refusal, broken_refusal, link_refusal, order_refusal, own_refusal, thread_refusal, top_refusal}
@@ -220,6 +221,16 @@ module _ {D H : Type 0} {g : _} {k : _} (dig : List ℕ → List ℕ) (view : D 
         adds kind result (read_steps result reopen machine same kept) reopen broken (kept_by result kept) (unwritten_by result unwritten)
 
 -- ---- receiving
+
+is_refused : (result : Result Receipt Refusal) (refusal : Refusal) → result ≡ Err refusal → IsErr result
+is_refused (Ok receipt) refusal is = absurd cc
+is_refused (Err r) refusal is = refl
+
+-- bytes that are no message are refused
+pub refuses_bytes : (broken : Bool) (bytes : List ℕ) (result : Result Receipt Refusal) → RefusesNoMessage broken bytes result → IsErr result
+refuses_bytes true bytes result is = is_refused result Reopen is
+refuses_bytes false bytes result (inl is) = is_refused result NoMemory is
+refuses_bytes false bytes result (inr is) = is_refused result (Malformed is.0) is.1
 
 module _ {D H : Type 0} {g : _} {k : _} (dig : List ℕ → List ℕ) (view : D → DiskView) (m : Message) (time : Option ℕ) (old new : Service D H g k) where
   received_kept : (result : Result Receipt Refusal) → OnErr result (record_of new ≡ record_of old) → OnErr result ((head_of new ≡ head_of old) × (name_of new ≡ name_of old))

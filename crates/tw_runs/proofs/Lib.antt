@@ -1,3 +1,3 @@
 mod AnsweredCalls
-mod Threads
-mod Wavering
+pub mod Threads
+pub mod Wavering

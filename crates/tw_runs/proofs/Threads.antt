@@ -12,9 +12,11 @@ use Rattle.tw_base.specs.history.Auth.{auth}
 use Rattle.tw_base.specs.history.Tree.{tree}
 use Rattle.tw_treeproof.specs.Making.{proof_of}
 use Rattle.tw_base.specs.history.History.{History, Step, plus, step_at, thread_of}
-use Rattle.tw_base.specs.history.HistoryCodec.{history_bytes}
+use Rattle.tw_base.specs.history.HistoryCodec.{history_bytes, history_codec, history_layout}
+use Rattle.tw_base.specs.history.Sound.{IsSound}
 use Rattle.tw_base.specs.kinds.Lists.{In}
 use Rattle.tw_base.proofs.lemmas.format.CodecLaws.{unambiguous}
+use Rattle.tw_base.proofs.lemmas.history.HistoryCodecLaws.{history-lawful}
 use Rattle.tw_base.proofs.lemmas.history.Plus.{auth-plus}
 use Rattle.tw_chain.specs.declared.proof.Proof.{Proof}
 use Rattle.tw_chain.specs.declared.proof.Proof.TheVariants.{Exists, Archived, Absent, Linked}
@@ -24,7 +26,7 @@ use Rattle.tw_skipproof.specs.declared.existence.Part.{Part}
 use Rattle.tw_skipproof.specs.declared.path.Path.{Path}
 use Rattle.tw_skipproof.specs.HistoryProofs.{IsPartOf, IsPathOf, MakesExistence}
 use Rattle.tw_answers.specs.declared.refusal.Refusal.{Refusal}
-use Rattle.tw_answers.specs.declared.refusal.Refusal.TheVariants.{NoStep}
+use Rattle.tw_answers.specs.declared.refusal.Refusal.TheVariants.{NoStep, TooLong}
 use Rattle.tw_answers.specs.Limits.{absence_refusal, is_in_order, link_refusal, or_else, order_refusal, proof_refusal, thread_proof_refusal, thread_refusal, top_refusal}
 use Rattle.tw_msg.specs.declared.message.Message.{Message}
 use Rattle.tw_msg.specs.HistoryMessages.{thread_at_step}
@@ -36,11 +38,12 @@ use Rattle.tw_tmap.specs.Checking.{low_ask, low_part}
 use Rattle.tw_tmap.specs.MapFiles.{high_codec, low_codec}
 use Rattle.tw_tmap.proofs.MapCodec.{high-lawful, low-lawful}
 use Rattle.tw_service.specs.Machine.{Call, IsStepOf, MakesAbsence, MakesLink, MakesThread, NextOf, Reply, append_table, last_thread}
-use Rattle.tw_service.specs.Exporting.{export_refusal}
+use Rattle.tw_service.specs.Exporting.{export_refusal, is_short, told_size}
 use Rattle.tw_service.specs.Machine.Call.{Append, Receive, TellThread, ProveEvent, ProveThread, ProveAbsent, ProveLink, ProveLow, ProveHigh, Export, CountSteps, TellHead, TellName}
 use Rattle.tw_service.specs.Machine.Reply.{OfThread, OfReceipt, OfPath, OfProof, OfFile, Refused}
 use Rattle.tw_service.proofs.ReceivingLaws.{own-receipt}
-use Rattle.tw_runs.specs.Published.{IsReplyTo, IsThreadOf, Publishes, PublishesBy, high_threads, low_threads, own_threads, thread_before}
+use Rattle.tw_service.proofs.ShortFiles.{reads-back}
+use Rattle.tw_runs.specs.Published.{IsInFile, IsReplyTo, IsThreadOf, Publishes, PublishesBy, high_threads, low_threads, own_threads, thread_before}
 
 -- ---- tables that don't refuse
 
@@ -153,14 +156,14 @@ module _ (dig : List ℕ → List ℕ) where
       subst (λ (u : Thread). IsThreadOf dig h u) (sym one) (before_own h (step - 1) top (low_part f p) is.1 (omega (arith, within)))
 
   low_own : (h : History) (step : ℕ) (peer : List ℕ) (top : ℕ) (bytes : List ℕ) → order_refusal false (length h.steps) step top ≡ None → MakesLow dig h step peer top bytes
-      → (t : Thread) → PublishesBy (ProveLow step peer top) (OfFile bytes) t → IsThreadOf dig h t
+      → (t : Thread) → PublishesBy dig (ProveLow step peer top) (OfFile bytes) t → IsThreadOf dig h t
   low_own h step peer top bytes none makes t told =
       let same = (unambiguous low_codec low-lawful).one_value bytes told.0 makes.0 told.1 makes.1 in
       let there = subst (λ (f : LowFile). In t (low_threads f)) same told.2 in
       shown_own h step top makes.0 t (order_within (length h.steps) step top none) makes.0.shown makes.2.shown there
 
   high_own : (h : History) (step : ℕ) (peer : List ℕ) (top : ℕ) (bytes : List ℕ) → top_refusal false (length h.steps) top ≡ None → MakesHigh dig h step peer top bytes
-      → (t : Thread) → PublishesBy (ProveHigh step peer top) (OfFile bytes) t → IsThreadOf dig h t
+      → (t : Thread) → PublishesBy dig (ProveHigh step peer top) (OfFile bytes) t → IsThreadOf dig h t
   high_own h step peer top bytes none makes t told =
       let f = makes.0 in
       let same = (unambiguous high_codec high-lawful).one_value bytes told.0 f told.1 makes.1 in
@@ -209,10 +212,10 @@ module _ (dig : List ℕ → List ℕ) where
   -- a call that is refused, or answered by a map file
   by_file : (h : History) (call : Call) (table : Option Refusal) (Makes : List ℕ → Type 0) (reply : Reply) (t : Thread)
       → MatchOption table ((bytes : List ℕ) × Makes bytes × (reply ≡ OfFile bytes)) (λ refusal. reply ≡ Refused refusal)
-      → ((refusal : Refusal) → PublishesBy call (Refused refusal) t → ⊥)
-      → (table ≡ None → (bytes : List ℕ) → Makes bytes → PublishesBy call (OfFile bytes) t → IsThreadOf dig h t) → PublishesBy call reply t → IsThreadOf dig h t
-  by_file h call None Makes reply t made untold own told = own refl made.0 made.1 (subst (λ (r : Reply). PublishesBy call r t) made.2 told)
-  by_file h call (Some refusal) Makes reply t made untold own told = absurd (untold refusal (subst (λ (r : Reply). PublishesBy call r t) made told))
+      → ((refusal : Refusal) → PublishesBy dig call (Refused refusal) t → ⊥)
+      → (table ≡ None → (bytes : List ℕ) → Makes bytes → PublishesBy dig call (OfFile bytes) t → IsThreadOf dig h t) → PublishesBy dig call reply t → IsThreadOf dig h t
+  by_file h call None Makes reply t made untold own told = own refl made.0 made.1 (subst (λ (r : Reply). PublishesBy dig call r t) made.2 told)
+  by_file h call (Some refusal) Makes reply t made untold own told = absurd (untold refusal (subst (λ (r : Reply). PublishesBy dig call r t) made told))
 
   by_append : (h next : History) (events : List (List ℕ)) (time : Option ℕ) (table : Option Refusal) (reply : Reply) (t : Thread)
       → MatchOption table (NextOf dig (Append events time) h next × (reply ≡ OfThread (last_thread dig next))) (λ refusal. (next ≡ h) × (reply ≡ Refused refusal))
@@ -222,38 +225,49 @@ module _ (dig : List ℕ → List ℕ) where
       subst (λ (u : Thread). IsThreadOf dig next u) (sym is) (last_own next)
   by_append h next events time (Some refusal) reply t done told = absurd (subst (λ (r : Reply). Publishes r t) done.1 told)
 
+  -- a history's file is that of no other one
+  pub file_own : (h : History) (bytes : List ℕ) (t : Thread) → Spells history_layout bytes h → IsInFile dig bytes t → IsThreadOf dig h t
+  file_own h bytes t spelled told = subst (λ (x : History). IsThreadOf dig x t) ((unambiguous history_codec history-lawful).one_value bytes told.0 h told.1 spelled) told.2
+
+  by_history : (h : History) → IsSound h → (table : Option Refusal) → export_refusal false h ≡ table → (reply : Reply) (t : Thread)
+      → MatchOption table (reply ≡ OfFile (history_bytes h)) (λ refusal. reply ≡ Refused refusal) → PublishesBy dig Export reply t → IsThreadOf dig h t
+  by_history h sound None none reply t is told =
+      let file = reads-back h sound (passes (is_short h) (TooLong (told_size h)) none) in
+      file_own h (history_bytes h) t file.1 (subst (λ (r : Reply). PublishesBy dig Export r t) is told)
+  by_history h sound (Some refusal) refused reply t is told = absurd (subst (λ (r : Reply). PublishesBy dig Export r t) is told)
+
   -- what a step of the machine publishes is of the history behind it
-  pub told_own : (h : History) (call : Call) (reply : Reply) (next : History) → IsReplyTo call reply → IsStepOf dig h call reply next → (t : Thread) → PublishesBy call reply t → IsThreadOf dig next t
-  told_own h (Append events time) reply next kind is t told = by_append h next events time (append_table h events time) reply t is told
-  told_own h (Receive m time) reply next kind is t told = receipt_own h next m time reply kind is t told
-  told_own h (TellThread since) reply next kind is t told =
+  pub told_own : (h : History) → IsSound h → (call : Call) (reply : Reply) (next : History) → IsReplyTo call reply → IsStepOf dig h call reply next → (t : Thread) → PublishesBy dig call reply t → IsThreadOf dig next t
+  told_own h sound (Append events time) reply next kind is t told = by_append h next events time (append_table h events time) reply t is told
+  told_own h sound (Receive m time) reply next kind is t told = receipt_own h next m time reply kind is t told
+  told_own h sound (TellThread since) reply next kind is t told =
       absurd (by_path (thread_refusal false (length h.steps) since) ((path : Path) × IsPathOf dig h path.links (length h.steps) since × (reply ≡ OfPath path)) reply t
       (λ made shown. subst (λ (r : Reply). Publishes r t) made.2 shown) is.1 told)
-  told_own h (ProveEvent step index top) reply next kind is t told =
+  told_own h sound (ProveEvent step index top) reply next kind is t told =
       subst (λ (n : History). IsThreadOf dig n t) (sym is.0)
       (by_bytes h (proof_refusal false h step index top) (λ bytes. MakesExistence dig h step index top bytes) reply t is.1 (λ none bytes makes shown. event_own h step index top bytes none makes t shown) told)
-  told_own h (ProveThread step key top) reply next kind is t told =
+  told_own h sound (ProveThread step key top) reply next kind is t told =
       subst (λ (n : History). IsThreadOf dig n t) (sym is.0)
       (by_bytes h (thread_proof_refusal false h step key top) (λ bytes. MakesThread dig h step key top bytes) reply t is.1 (λ none bytes makes shown. thread_own h step key top bytes none makes t shown) told)
-  told_own h (ProveAbsent step key top) reply next kind is t told =
+  told_own h sound (ProveAbsent step key top) reply next kind is t told =
       subst (λ (n : History). IsThreadOf dig n t) (sym is.0)
       (by_bytes h (absence_refusal false h step key top) (λ bytes. MakesAbsence dig h step key top bytes) reply t is.1 (λ none bytes makes shown. absence_own h step key top bytes none makes t shown) told)
-  told_own h (ProveLink step top) reply next kind is t told =
+  told_own h sound (ProveLink step top) reply next kind is t told =
       subst (λ (n : History). IsThreadOf dig n t) (sym is.0)
       (by_bytes h (link_refusal false (length h.steps) step top) (λ bytes. MakesLink dig h step top bytes) reply t is.1 (λ none bytes makes shown. link_own h step top bytes none makes t shown) told)
-  told_own h (ProveLow step peer top) reply next kind is t told =
+  told_own h sound (ProveLow step peer top) reply next kind is t told =
       subst (λ (n : History). IsThreadOf dig n t) (sym is.0)
       (by_file h (ProveLow step peer top) (order_refusal false (length h.steps) step top) (λ bytes. MakesLow dig h step peer top bytes) reply t is.1 (λ refusal shown. shown) (λ none bytes makes shown. low_own h step peer top bytes none makes t shown) told)
-  told_own h (ProveHigh step peer top) reply next kind is t told =
+  told_own h sound (ProveHigh step peer top) reply next kind is t told =
       subst (λ (n : History). IsThreadOf dig n t) (sym is.0)
       (by_file h (ProveHigh step peer top) (top_refusal false (length h.steps) top) (λ bytes. MakesHigh dig h step peer top bytes) reply t is.1 (λ refusal shown. shown) (λ none bytes makes shown. high_own h step peer top bytes none makes t shown) told)
-  told_own h Export reply next kind is t told =
-      absurd (by_path (export_refusal false h) (reply ≡ OfFile (history_bytes h)) reply t (λ made shown. subst (λ (r : Reply). Publishes r t) made shown) is.1 told)
-  told_own h CountSteps reply next kind is t told = absurd (subst (λ (r : Reply). Publishes r t) is.1 told)
-  told_own h TellHead reply next kind is t told =
+  told_own h sound Export reply next kind is t told =
+      subst (λ (n : History). IsThreadOf dig n t) (sym is.0) (by_history h sound (export_refusal false h) refl reply t is.1 told)
+  told_own h sound CountSteps reply next kind is t told = absurd (subst (λ (r : Reply). Publishes r t) is.1 told)
+  told_own h sound TellHead reply next kind is t told =
       let one : t ≡ last_thread dig h = subst (λ (r : Reply). Publishes r t) is.1 told in
       subst (λ (n : History). IsThreadOf dig n t) (sym is.0) (subst (λ (u : Thread). IsThreadOf dig h u) (sym one) (last_own h))
-  told_own h TellName reply next kind is t told = absurd (subst (λ (r : Reply). Publishes r t) is.1 told)
+  told_own h sound TellName reply next kind is t told = absurd (subst (λ (r : Reply). Publishes r t) is.1 told)
 
   -- ---- the next history
 

@@ -5,6 +5,7 @@ use Rattle.tw_base.specs.declared.history.thread.Thread.{Thread}
 use Rattle.tw_base.specs.format.Formats.{Spells}
 use Rattle.tw_base.specs.history.Auth.{auth}
 use Rattle.tw_base.specs.history.History.{History}
+use Rattle.tw_base.specs.history.HistoryCodec.{history_layout}
 use Rattle.tw_base.specs.kinds.Lists.{In}
 use Rattle.tw_chain.specs.declared.proof.Proof.{Proof}
 use Rattle.tw_chain.specs.declared.proof.Proof.TheVariants.{Exists, Precedes, Archived, Absent, Linked}
@@ -22,7 +23,8 @@ use Rattle.tw_tmap.specs.MapFiles.{high_layout, low_layout}
 abbrev pub thread_before : Part → Thread
 thread_before p = record { from = p.service; step = p.step - 1; auth = p.opening.prev }
 
--- the threads of the prover's own history that stand in a proof; no service makes one from event to event
+-- the threads of the prover's own history that stand in a proof; the one of the step that a part opens is computed, and isn't among them. No
+-- service makes a proof from event to event
 abbrev pub own_threads : Proof → List Thread
 own_threads (Exists p) = thread_before p.at ∷ []
 own_threads (Precedes p) = []
@@ -37,22 +39,43 @@ low_threads f = option_map_or (λ p. thread_before (low_part f p) ∷ []) f.show
 abbrev pub high_threads : HighFile → List Thread
 high_threads f = record { from = f.service; step = f.top - 1; auth = f.opening.prev } ∷ []
 
+-- the thread is one of the prover's own history that stands in the proof that these bytes are, and in the map file, low or high
+abbrev pub IsInProof : (bytes : List ℕ) → Thread → Type 0
+IsInProof bytes t = (p : Proof) × Spells proof_layout bytes p × In t (own_threads p)
+
+abbrev pub IsInLow : (bytes : List ℕ) → Thread → Type 0
+IsInLow bytes t = (f : LowFile) × Spells low_layout bytes f × In t (low_threads f)
+
+abbrev pub IsInHigh : (bytes : List ℕ) → Thread → Type 0
+IsInHigh bytes t = (f : HighFile) × Spells high_layout bytes f × In t (high_threads f)
+
+-- the thread is one of the history: of one of its steps, or of step 0, with the authenticator of that step
+pub record IsThreadOf (dig : List ℕ → List ℕ) (h : History) (t : Thread) : Type 0 where
+  pub from : t.from ≡ h.name
+  pub within : t.step ≤ length h.steps
+  pub auth : t.auth ≡ auth dig h t.step
+
+-- the bytes are the file of a history of which the thread is one: whoever has them has the authenticators of all its steps
+abbrev pub IsInFile : (dig : List ℕ → List ℕ) → (bytes : List ℕ) → Thread → Type 0
+IsInFile dig bytes t = (h : History) × Spells history_layout bytes h × IsThreadOf dig h t
+
 -- the reply publishes the thread. A path has labels alone; the thread of the message that it belongs to is that of `head`
 abbrev pub Publishes : Reply → Thread → Type 0
 Publishes (OfThread thread) t = t ≡ thread
 Publishes (OfReceipt receipt) t = t ≡ receipt.by
 Publishes (OfPath path) t = ⊥
-Publishes (OfProof bytes) t = (p : Proof) × Spells proof_layout bytes p × In t (own_threads p)
+Publishes (OfProof bytes) t = IsInProof bytes t
 Publishes (OfFile bytes) t = ⊥
 Publishes (OfNumber number) t = ⊥
 Publishes (OfName name) t = ⊥
 Publishes (Refused refusal) t = ⊥
 
--- so does the call by its reply; a map file is of the kind that was asked for, and the file of a history has no authenticator of its own
-abbrev pub PublishesBy : Call → Reply → Thread → Type 0
-PublishesBy (ProveLow step peer top) (OfFile bytes) t = (f : LowFile) × Spells low_layout bytes f × In t (low_threads f)
-PublishesBy (ProveHigh step peer top) (OfFile bytes) t = (f : HighFile) × Spells high_layout bytes f × In t (high_threads f)
-PublishesBy _ reply t = Publishes reply t
+-- so does the call by its reply; a file is of the kind that was asked for
+abbrev pub PublishesBy : (dig : List ℕ → List ℕ) → Call → Reply → Thread → Type 0
+PublishesBy dig (ProveLow step peer top) (OfFile bytes) t = IsInLow bytes t
+PublishesBy dig (ProveHigh step peer top) (OfFile bytes) t = IsInHigh bytes t
+PublishesBy dig Export (OfFile bytes) t = IsInFile dig bytes t
+PublishesBy dig _ reply t = Publishes reply t
 
 -- the call has replies of this kind
 abbrev pub IsReplyTo : Call → Reply → Type 0
@@ -70,9 +93,3 @@ IsReplyTo CountSteps (OfNumber number) = Unit {0}
 IsReplyTo TellHead (OfThread thread) = Unit {0}
 IsReplyTo TellName (OfName name) = Unit {0}
 IsReplyTo _ _ = ⊥
-
--- the thread is one of the history: of one of its steps, or of step 0, with the authenticator of that step
-pub record IsThreadOf (dig : List ℕ → List ℕ) (h : History) (t : Thread) : Type 0 where
-  pub from : t.from ≡ h.name
-  pub within : t.step ≤ length h.steps
-  pub auth : t.auth ≡ auth dig h t.step

@@ -119,23 +119,26 @@ IsHead (Closed disk) t = ⊥
 IsHead (Open service) t = t ≡ thread_of service
 
 -- the event publishes the thread: a call is answered so
-abbrev pub IsToldBy : Event → Thread → Type 0
-IsToldBy (Answered call (Ok reply)) t = PublishesBy call reply t
-IsToldBy _ t = ⊥
+abbrev pub IsToldBy : (dig : List ℕ → List ℕ) → Event → Thread → Type 0
+IsToldBy dig (Answered call (Ok reply)) t = PublishesBy dig call reply t
+IsToldBy dig _ t = ⊥
 
 -- the thread is published in the run
-abbrev pub IsPublished : {D H : Type 0} {g : _} {k : _} → (start : State D (Service D H g k)) → List (Happening D (Service D H g k)) → Thread → Type 0
-IsPublished start [] t = IsHead start t
-IsPublished start (x ∷ run) t = IsHead start t ⊎ (IsToldBy x.event t ⊎ IsPublished x.behind run t)
+abbrev pub IsPublished : {D H : Type 0} {g : _} {k : _} → (dig : List ℕ → List ℕ) → (start : State D (Service D H g k)) → List (Happening D (Service D H g k)) → Thread → Type 0
+IsPublished dig start [] t = IsHead start t
+IsPublished dig start (x ∷ run) t = IsHead start t ⊎ (IsToldBy dig x.event t ⊎ IsPublished dig x.behind run t)
 
-module _ {D H : Type 0} {g : _} {k : _} (dig : List ℕ → List ℕ) (view : D → DiskView) (name : List ℕ)
-    (start : State D (Service D H g k)) (run : List (Happening D (Service D H g k))) where
-  -- the image stands for a history of the name that has all threads published in the run
+module _ {D : Type 0} (dig : List ℕ → List ℕ) (view : D → DiskView) (name : List ℕ) (first : History) (Published : Thread → Type 0) where
+  -- the thread is one of the history that was there first, or published since
+  abbrev pub IsKnown : Thread → Type 0
+  IsKnown t = IsThreadOf dig first t ⊎ Published t
+
+  -- the image stands for a history of the name that has all of these
   abbrev pub HasAll : Image → Type 0
-  HasAll image = (last : History) × StandsFor dig image name last × ((t : Thread) → IsPublished start run t → IsThreadOf dig last t)
+  HasAll image = (h : History) × StandsFor dig image name h × ((t : Thread) → IsKnown t → IsThreadOf dig h t)
 
-  -- of each step one thread is published at most; and what the disk reads as at the end, and each image that a crash may then leave, stands
-  -- for a history that has all of them
-  pub record HasOneAuthenticator : Type 0 where
-    pub one : (t u : Thread) → IsPublished start run t → IsPublished start run u → t.step ≡ u.step → t ≡ u
-    pub at_end : HoldsOnly view HasAll (disk_at (end_of start run))
+  -- of each step there is one of them at most; and what this disk reads as, and each image that a crash may leave of it, stands for a history
+  -- that has all
+  pub record HasOneAuthenticator (last : D) : Type 0 where
+    pub one : (t u : Thread) → IsKnown t → IsKnown u → t.step ≡ u.step → t ≡ u
+    pub at_end : HoldsOnly view HasAll last

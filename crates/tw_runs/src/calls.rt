@@ -1,13 +1,14 @@
 // The calls of a service that make, open and close it, or add a step, as what comes in a run. They stand for the law alone: each is the
 // service's own call, whose contract makes its answer an event.
 
-ghost use Rattle.std.specs.Prelude.{◌≡◌, ◌⊎◌, ◌≤◌, ℕ, List, None, Some, IfOk, IsErrAnd, MatchResult};
+ghost use Rattle.std.specs.Prelude.{◌≡◌, ◌⊎◌, ◌≤◌, ℕ, List, None, Some, Err, IfOk, IsErr, IsErrAnd, MatchResult};
 ghost use Rattle.tw_base.specs.declared.kinds.limits.TheConstants.{LAST_TIME};
 ghost use Rattle.tw_base.specs.format.Formats.{Spells, SpellsNothing};
 ghost use Rattle.tw_base.specs.history.History.{History};
 ghost use Rattle.tw_disk.specs.Image.{Image};
 ghost use Rattle.tw_msg.specs.declared.message.Message.{Message};
 ghost use Rattle.tw_msg.specs.Messages.{message_layout};
+ghost use Rattle.tw_answers.specs.declared.refusal.Refusal.TheVariants.{NoMemory};
 ghost use Rattle.tw_service.specs.Machine.Call.{Append, Receive};
 ghost use Rattle.tw_service.specs.Machine.Reply.{OfReceipt, OfThread};
 ghost use Rattle.tw_service.specs.Serves.{Serves, disk_of};
@@ -82,10 +83,10 @@ pub fn receive<D: Disk, H: Hasher>(
     service: &mut Service<D, H>,
     bytes: &[u8],
 ) -> Result<Receipt, Refusal>
-    // Bytes that are no message change nothing.
-    ensures malformed { SpellsNothing message_layout bytes.now → service.new ≡ service.old }
-    // Receiving a message is a call of a run, or changes nothing.
-    ensures message { (m : Message) → Spells message_layout bytes.now m → (service.new ≡ service.old)
+    // Bytes that are no message are refused, and change nothing.
+    ensures malformed { SpellsNothing message_layout bytes.now → IsErr result × (service.new ≡ service.old) }
+    // Receiving a message is a call of a run, or finds no memory to read it, and changes nothing.
+    ensures message { (m : Message) → Spells message_layout bytes.now m → ((result ≡ Err NoMemory) × (service.new ≡ service.old))
         ⊎ IsAnswered H.dig D.view (Receive m None) (replied (λ r. OfReceipt r) result) service.old service.new }
 {
     service.receive(bytes)
@@ -98,10 +99,10 @@ pub fn receive_at<D: Disk, H: Hasher>(
     time: u64,
 ) -> Result<Receipt, Refusal>
     requires { time ≤ LAST_TIME }
-    // Bytes that are no message change nothing.
-    ensures malformed { SpellsNothing message_layout bytes.now → service.new ≡ service.old }
-    // Receiving a message at a time is a call of a run, or changes nothing.
-    ensures message { (m : Message) → Spells message_layout bytes.now m → (service.new ≡ service.old)
+    // Bytes that are no message are refused, and change nothing.
+    ensures malformed { SpellsNothing message_layout bytes.now → IsErr result × (service.new ≡ service.old) }
+    // Receiving a message at a time is a call of a run, or finds no memory to read it, and changes nothing.
+    ensures message { (m : Message) → Spells message_layout bytes.now m → ((result ≡ Err NoMemory) × (service.new ≡ service.old))
         ⊎ IsAnswered H.dig D.view (Receive m (Some time)) (replied (λ r. OfReceipt r) result) service.old service.new }
 {
     service.receive_at(bytes, time)

@@ -2,7 +2,7 @@
 
 ghost use Rattle.std.specs.Prelude.{ℕ, List};
 ghost use Rattle.tw_base.specs.history.History.{History};
-ghost use Rattle.tw_runs.specs.Runs.{Begins, HasOneAuthenticator, IsRunFrom, IsStateOf};
+ghost use Rattle.tw_runs.specs.Runs.{Begins, HasOneAuthenticator, IsPublished, IsRunFrom, IsStateOf, disk_at, end_of};
 
 use tw_base::Hasher;
 use tw_disk::Disk;
@@ -14,9 +14,10 @@ use tw_service::Service;
 /// with a service that serves one; each call of a service is an event of a run, as the functions beside
 /// this one say. The service handed in only names the types.
 pub fn run_laws<D: Disk, H: Hasher>(service: &Service<D, H>)
-    // Over every run that begins with a history, any two threads published of one step are equal: a thread that `head`
-    // tells at some moment, or that stands in an answer. At the end the disk tells what it reads as; that, and each
-    // image that a crash may then leave, stands for a history of that name which has all threads published.
+    // Over every run that begins with a history, any two threads of one step are equal, of those of that history and of those
+    // published: a thread that `head` tells at some moment, that stands in an answer, or that is one of an exported
+    // history. At the end the disk tells what it reads as; that, and each image that a crash may then leave, stands for a
+    // history of that name which has all of them.
     ensures runs { (start : _) (name : List ℕ) (h : History) (run : _) → IsStateOf service.now start → Begins H.dig D.view name h start →
-        IsRunFrom H.dig D.view start run → HasOneAuthenticator H.dig D.view name start run }
+        IsRunFrom H.dig D.view start run → HasOneAuthenticator H.dig D.view name h (IsPublished H.dig start run) (disk_at (end_of start run)) }
 {}

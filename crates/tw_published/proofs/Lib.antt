@@ -1,0 +1,3 @@
+mod OtherStores
+mod CommandTurns
+mod TurnLaws
