@@ -1,5 +1,5 @@
 -- What a call that may add a step was answered, from what the service says of it.
-use Rattle.std.proofs.Common.{◌≡◌, ◌⊎◌, ℕ, suc, ◌<◌, ◌≤◌, List, length, refl, ap, sym, ◌∙◌, subst, inl, inr, Bool, true, false, arith}
+use Rattle.std.proofs.Common.{◌≡◌, ◌⊎◌, ℕ, suc, List, length, refl, ap, sym, ◌∙◌, subst, inl, inr, Bool, false}
 use Rattle.std.specs.Prelude.{IfErr, IfOk, Ok, Option, Some, None, Result, Err, MatchOption}
 use Rattle.std.proofs.lemmas.Bool.{cases_lt}
 use Rattle.sha2.specs.Sha256.{sha256}
@@ -12,7 +12,6 @@ use Rattle.tw_answers.specs.Refusals.{IsFault}
 use Rattle.tw_answers.specs.declared.refusal.Refusal.{Refusal}
 use Rattle.tw_answers.specs.declared.refusal.Refusal.TheVariants.{BadPage, DiskFault, Malformed, NoMemory, Reopen}
 use Rattle.tw_answers.proofs.TableAnswers.{NoFault, Of, append_no_fault}
-use Rattle.tw_disk.specs.Disk.{IsAtRest}
 use Rattle.tw_disk.specs.Image.{Image}
 use Rattle.tw_disk.specs.MemDisk.{view_of}
 use Rattle.tw_disk.specs.declared.memory_disk.MemDisk.{MemDisk}
@@ -20,14 +19,14 @@ use Rattle.tw_msg.specs.Messages.{message_layout}
 use Rattle.tw_msg.specs.declared.message.Message.{Message}
 use Rattle.tw_msg.specs.declared.receipt.Receipt.{Receipt}
 use Rattle.tw_msg.proofs.MessageCodec.{message-lawful}
-use Rattle.tw_service.specs.Adding.{Appends, Receives, ReceivesBytes, Steps}
+use Rattle.tw_service.specs.Adding.{Appends, Receives, ReceivesBytes}
 use Rattle.tw_service.specs.EventSteps.{with_events}
 use Rattle.tw_service.specs.Machine.{Answers, Call, IsStepOf, NextOf, RepliesTo, Reply, append_table, last_thread, receipt_by}
 use Rattle.tw_service.specs.Machine.Call.{Append, Receive}
 use Rattle.tw_service.specs.Machine.Reply.{OfReceipt, OfThread, Refused}
 use Rattle.tw_service.specs.Receiving.{RefusesNoMessage}
-use Rattle.tw_service.specs.Serves.{Serves, clock_of, disk_of, has_failed, name_of, steps_of}
-use Rattle.tw_service.specs.Stands.{StandsFor, StandsForOneOf, greatest_time}
+use Rattle.tw_service.specs.Serves.{Serves, clock_of, has_failed, name_of, steps_of}
+use Rattle.tw_service.specs.Stands.{StandsFor, StandsForOneOf}
 use Rattle.tw_service.specs.declared.service.Service.{Service}
 use Rattle.tw_service.proofs.Answering.{append_done, fails, is_disk_fault}
 use Rattle.tw_world.specs.Hosts.{Answered, AnswersRefusal, Given, IsNextOf, StandsAs, Takes}

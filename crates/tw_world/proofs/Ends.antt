@@ -1,5 +1,5 @@
 -- How a line ends that may have added a step.
-use Rattle.std.proofs.Common.{◌≡◌, ◌⊎◌, ℕ, List, length, refl, ap, sym, ◌∙◌, subst, inl, inr, Bool, true, false}
+use Rattle.std.proofs.Common.{◌≡◌, ◌⊎◌, ℕ, length, refl, ap, ◌∙◌, subst, inl, inr, true, false}
 use Rattle.std.specs.Prelude.{Option, Some, None}
 use Rattle.sha2.specs.Sha256.{sha256}
 use Rattle.tw_base.specs.history.History.{History}

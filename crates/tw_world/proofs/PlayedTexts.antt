@@ -1,12 +1,9 @@
 -- The text of what was played, by what its printers tell.
-use Rattle.std.proofs.Common.{◌≡◌, ℕ, suc, ◌+◌, ◌<◌, List, [], ◌∷◌, ◌++◌, length, drop, get_or, refl, ap, sym, ◌∙◌, subst, codes, add-one}
+use Rattle.std.proofs.Common.{◌≡◌, ℕ, suc, ◌+◌, ◌<◌, List, [], ◌∷◌, ◌++◌, length, drop, get_or, refl, ap, sym, ◌∙◌, codes, add-one}
 use Rattle.std.proofs.Math.Seq.{drop-cons}
-use Rattle.std.specs.Prelude.{None, replicate}
-use Rattle.std.proofs.lemmas.List.{length-replicate}
 use Rattle.serde_json.specs.Data.{Data, Members, member, no_members, number, object, put, unsigned}
 use Rattle.serde_json.specs.Written.{compact_text}
-use Rattle.tw_base.specs.declared.history.content.Content.TheVariants.{Events}
-use Rattle.tw_base.specs.history.History.{History, Step}
+use Rattle.tw_base.specs.history.History.{History}
 use Rattle.tw_base.specs.kinds.Names.{name_text}
 use Rattle.tw_script.specs.declared.script.NumberedLine.{NumberedLine}
 use Rattle.tw_world.specs.Hosts.{summary_of, with_counted}
@@ -33,19 +30,6 @@ counted-steps (host ∷ hosts) (h ∷ fam) named are =
     ap (λ (name : List ℕ). with_counted (put (name_text name) (number (unsigned host.steps)) named) hosts) are.0
     ∙ ap (λ (n : ℕ). with_counted (put (name_text h.name) (number (unsigned n)) named) hosts) are.1
     ∙ counted-steps hosts fam (put (name_text h.name) (number (unsigned (length h.steps))) named) are.2
-
--- histories of so many steps
-no-step : Step
-no-step = record { content = Events []; time = None; fresh = []; root = 0 }
-
-pub family-for : List Host → List History
-family-for [] = []
-family-for (host ∷ hosts) = record { name = host.name; steps = replicate host.steps no-step } ∷ family-for hosts
-
-pub family-counted : (hosts : List Host) → AreCounted hosts (family-for hosts)
-unfolding family-for
-family-counted [] = tt
-family-counted (host ∷ hosts) = (refl, sym (length-replicate host.steps no-step), family-counted hosts)
 
 -- ---- the text
 

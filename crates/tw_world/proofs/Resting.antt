@@ -1,8 +1,8 @@
 -- Disks in memory that stand for histories for good.
-use Rattle.std.proofs.Common.{◌≡◌, ◌⊎◌, List, ℕ, Some, ap, sym, ◌∙◌, subst, inl, inr}
+use Rattle.std.proofs.Common.{◌⊎◌, List, ℕ, Some, ap, sym, ◌∙◌, subst, inl, inr}
 use Rattle.sha2.specs.Sha256.{sha256}
 use Rattle.tw_base.specs.history.History.{History}
-use Rattle.tw_disk.specs.Disk.{IsAtRest, Only}
+use Rattle.tw_disk.specs.Disk.{IsAtRest}
 use Rattle.tw_disk.specs.Image.{Image}
 use Rattle.tw_disk.specs.KeptCalls.{written_of}
 use Rattle.tw_disk.specs.MemDisk.{IsSameMemDisk, view_of}

@@ -1,12 +1,23 @@
 -- What playing a script comes to.
-use Rattle.std.specs.Prelude.{◌≡◌, ℕ, List, codes, length, Result, Ok, Err}
+use Rattle.std.specs.Prelude.{◌≡◌, ℕ, List, codes, map, Result, Ok, Err}
+use Rattle.std.specs.Cmp.Lexicographic.{slice_cmp}
+use Rattle.std.specs.List.Sorted.{IsPermutation, IsSorted}
+use Rattle.std.specs.Ordering.{nat_cmp}
+use Rattle.sha2.specs.Sha256.{sha256}
+use Rattle.tw_base.specs.history.Family.{HasHistory}
 use Rattle.tw_base.specs.history.History.{History}
+use Rattle.tw_base.specs.kinds.Lists.{Each}
 use Rattle.tw_script.specs.Scripts.{ReadsScript}
+use Rattle.tw_script.specs.declared.line.Line.{Line}
 use Rattle.tw_script.specs.declared.script.NumberedLine.{NumberedLine}
 use Rattle.tw_script.specs.declared.script.ScriptFault.{ScriptFault}
+use Rattle.tw_world.specs.Hosts.{StandsForGood, claims_none}
+use Rattle.tw_world.specs.Runs.{Runs}
 use Rattle.tw_world.specs.Telling.{count_of, replayed_text}
+use Rattle.tw_world.specs.Worlds.{World, family, no_world}
 use Rattle.tw_world.specs.declared.counts.Counts.{Counts}
 use Rattle.tw_world.specs.declared.replaying.Played.{Played}
+use Rattle.tw_world.specs.declared.replaying.WorldDisk.{WorldDisk}
 use Rattle.tw_world.specs.declared.told.Told.{Told}
 
 -- how many answers begin with each of the four words
@@ -18,13 +29,26 @@ counts_of told = record {
   rejected = count_of (codes "rejected") told;
 }
 
--- what came of a script: an answer to each of its lines, and the histories whose numbers of steps the summary tells
+-- one disk for each of the histories, in the order of their names, of which no two are the same; each is at rest and stands for the history
+-- of its name for good
+pub record AreDisksOf (fam : List History) (disks : List WorldDisk) : Type 0 where
+  pub one_each : IsPermutation (map (λ (h : History). h.name) fam) (map (λ (d : WorldDisk). d.name) disks)
+  pub in_order : IsSorted (slice_cmp nat_cmp) (map (λ (d : WorldDisk). d.name) disks)
+  pub stand : Each (λ (d : WorldDisk). (h : History) × HasHistory fam d.name h × StandsForGood d.disk h) disks
+
+-- the lines of a script, without their numbers
+abbrev pub lines_of : List NumberedLine → List Line
+lines_of script = map (λ (l : NumberedLine). l.line) script
+
+-- what came of a script: its lines were told, one after another, from a world of nothing on, in which no service claims a time. The text is
+-- that of what was told and of the histories at the end, the counts are those of what was told, and the disks are those of the histories
 pub record IsPlayed (script : List NumberedLine) (played : Played) : Type 0 where
   pub told : List Told
-  pub family : List History
-  pub each : length told ≡ length script
-  pub text : played.text ≡ replayed_text script told family
+  pub end : World
+  pub runs : Runs sha256 claims_none no_world (lines_of script) told end
+  pub text : played.text ≡ replayed_text script told (family end)
   pub counts : played.counts ≡ counts_of told
+  pub disks : AreDisksOf (family end) played.disks
 
 -- bytes that are a script are played as it; of others it is told what reading them tells. Want of memory is free
 abbrev pub Replays : (bytes : List ℕ) → Result Played ScriptFault → Type 0

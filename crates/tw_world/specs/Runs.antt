@@ -175,7 +175,7 @@ module _ (dig : List ℕ → List ℕ) (may_claim : Option ℕ → Bool) where
   IsTold w (Lose number) told next =
       (mail : Mail) × (numbered w.messages number ≡ Some mail) × MatchOption (loss_answer mail) ⊥ (λ lost. told ≡ Plain lost)
       × (next ≡ after_line (without_message w number))
-  -- a crash that waited already is replaced
+  -- a crash waits now, whether or not one waited already; at which call, and what it leaves, isn't the world's
   IsTold w (Crash name call choice) told next =
       (m : Member) × IsMember w name m × (told ≡ Plain answer.Done) × (next ≡ after_line (with_member w (record m { waits = true })))
   IsTold w (Prove name asked) told next =

@@ -1,11 +1,26 @@
 // A world as it is played: its services on disks in memory, and what lines made.
 
-ghost use Rattle.std.specs.Prelude.{◌≡◌, ◌<◌, ◌+◌, length, IfOk, OnOk};
+ghost use Rattle.std.specs.Prelude.{◌≡◌, ◌<◌, ◌+◌, ℕ, suc, List, length, false, Some, IfOk, OnOk};
+ghost use Rattle.sha2.specs.Sha256.{sha256};
+ghost use Rattle.tw_base.specs.format.Formats.{Spells};
+ghost use Rattle.tw_chain.specs.Proofs.{proof_layout};
+ghost use Rattle.tw_chain.specs.Reasons.{IsVerdict};
+ghost use Rattle.tw_chain.specs.declared.proof.LinkProof.{LinkProof};
+ghost use Rattle.tw_chain.specs.declared.proof.Proof.TheVariants.{Linked};
+ghost use Rattle.tw_chain.specs.declared.verdict.Verdict.{Verdict as VerdictOf};
+ghost use Rattle.tw_script.specs.declared.line.Line.TheVariants.{Service, Append, Send, Inject, Deliver, Lose, Crash, Prove, Join, Anchor, Verify};
+ghost use Rattle.tw_world.specs.Hosts.Asked.{ForMessage, ForProof};
+ghost use Rattle.tw_world.specs.PlayedLines.{HasPlayed, IsRead, TellsNext};
+ghost use Rattle.tw_world.specs.Players.{AreFiled, AreProofsOf, Follows, HasGiven, IsFirst, Plays, mail_kept, thread_of};
+ghost use Rattle.tw_world.specs.Playing.{lines_of};
+ghost use Rattle.tw_world.specs.Runs.{IsFiled, IsNotFiled, loss_answer as loss_answer_of, verdict_answer};
+ghost use Rattle.tw_world.specs.Worlds.{World, after_line, no_world, with_anchor, with_message};
+ghost use Rattle.tw_world.specs.declared.told.Answer.TheVariants.{Done};
+ghost use Rattle.tw_world.specs.declared.told.Told.TheVariants.{Plain};
 
 use crate::host::{Host, Planned};
 use crate::told::{Answer, Told, ToldList};
 use std::alloc::Global;
-use std::mem;
 use tw_answers::Refusal;
 use tw_base::{Bytes, EventList, Name, NoMemory, Sequence, Sha, Thread};
 use tw_chain::{Proof, Verdict, read_proof, write_proof};
@@ -36,7 +51,9 @@ pub(crate) struct Player {
 
 impl Player {
     /// Nothing.
-    pub(crate) fn new(alloc: Global) -> Self {
+    pub(crate) fn new(alloc: Global) -> Self
+        ensures { Follows result no_world }
+    {
         Player {
             alloc,
             hosts: Vec::new(alloc),
@@ -47,16 +64,21 @@ impl Player {
     }
 
     /// The services, in the order in which they were made.
-    pub(crate) fn into_hosts(self) -> Vec<Host> {
+    pub(crate) fn into_hosts(self) -> Vec<Host>
+        ensures { result ≡ self.hosts }
+    {
         self.hosts
     }
 
-    /// Plays the lines of a script, one after another, and tells what came of each.
+    /// Plays the lines of a script, one after another, where nothing was played before, and tells what came of each.
     pub(crate) fn play_lines(&mut self, script: &Script) -> Result<ToldList, NoMemory>
-        ensures { IfOk result (λ told. length told ≡ length script.now) }
+        requires read { IsRead script.now }
+        requires nothing { Follows self.old no_world }
+        ensures { IfOk result (λ told. HasPlayed (lines_of script.now) told self.new) }
     {
         let mut told = ToldList::new(self.alloc);
-        for numbered in script.as_slice() {
+        let lines = script.as_slice();
+        for numbered in lines {
             self.play_next(&mut told, &numbered.line)?;
         }
         Ok(told)
@@ -64,7 +86,7 @@ impl Player {
 
     /// Plays the line, and tells what came of it behind what was told before.
     fn play_next(&mut self, told: &mut ToldList, line: &Line) -> Result<(), NoMemory>
-        ensures { OnOk result (length told.new ≡ length told.old + 1) }
+        ensures { OnOk result (TellsNext self.old self.new line.now told.old told.new) }
     {
         match self.play(line)? {
             Told::Plain(Answer::Refused(refusal)) => {
@@ -75,7 +97,9 @@ impl Player {
     }
 
     /// Plays the line. The script's lines use only what is there.
-    fn play(&mut self, line: &Line) -> Result<Told, NoMemory> {
+    fn play(&mut self, line: &Line) -> Result<Told, NoMemory>
+        ensures { IfOk result (Plays self.old self.new line.now) }
+    {
         match line {
             Line::Service { name } => self.make(*name),
             Line::Hostile { .. } => Ok(Told::Plain(Answer::Done)),
@@ -102,9 +126,9 @@ impl Player {
         }
     }
 
-    /// Where the service of this name stands.
+    /// Where the service of this name stands. NoMemory also where there is none, which no script's line names.
     fn find(&self, name: &Name) -> Result<usize, NoMemory>
-        ensures { IfOk result (λ at. at < length self.now.hosts.items) }
+        ensures { IfOk result (λ at. (at < length self.now.hosts.items) × IsFirst self.now.hosts.items name.now at) }
     {
         for at in 0..self.hosts.len() {
             if self.hosts[at].name == *name {
@@ -115,28 +139,46 @@ impl Player {
     }
 
     /// Makes a service.
-    fn make(&mut self, name: Name) -> Result<Told, NoMemory> {
+    fn make(&mut self, name: Name) -> Result<Told, NoMemory>
+        ensures { IfOk result (Plays self.old self.new (Service name)) }
+    {
         let host = Host::make(self.alloc, name)?;
         self.hosts.push(host)?;
         Ok(Told::Plain(Answer::Done))
     }
 
     /// Appends a step of these events to the service's history.
-    fn append(&mut self, service: &Name, events: &EventList) -> Result<Told, NoMemory> {
+    fn append(&mut self, service: &Name, events: &EventList) -> Result<Told, NoMemory>
+        ensures { IfOk result (Plays self.old self.new (Append service.now events.now)) }
+    {
         let at = self.find(service)?;
-        self.hosts[at].append(self.alloc, events)
+        let told = self.hosts[at].append(self.alloc, events)?;
+        Ok(told)
     }
 
     /// Makes the next message, or none, and tells its number.
-    fn add_message(&mut self, mail: Mail) -> Result<u64, NoMemory> {
+    fn add_message(&mut self, mail: Mail) -> Result<u64, NoMemory>
+        ensures { IfOk result (λ number. (w : World) → Follows self.old w
+            → (number ≡ suc (length w.messages)) × Follows self.new (after_line (with_message w (mail_kept mail)))) }
+    {
         self.messages.push(mail)?;
         Ok(self.messages.len() as u64)
     }
 
-    /// Makes the next message, of the service's last step.
-    fn send(&mut self, service: &Name, since: u64) -> Result<Told, NoMemory> {
+    /// What the service gives as the message of its last step, since a step.
+    fn message(&mut self, service: &Name, since: u64) -> Result<Result<Bytes, Refusal>, NoMemory>
+        ensures { IfOk result (HasGiven self.old self.new service.now (ForMessage since)) }
+    {
         let at = self.find(service)?;
-        match self.hosts[at].send(self.alloc, since)? {
+        let given = self.hosts[at].send(self.alloc, since)?;
+        Ok(given)
+    }
+
+    /// Makes the next message, of the service's last step.
+    fn send(&mut self, service: &Name, since: u64) -> Result<Told, NoMemory>
+        ensures { IfOk result (Plays self.old self.new (Send service.now since)) }
+    {
+        match self.message(service, since)? {
             Ok(bytes) => {
                 let number = self.add_message(Mail::Made(bytes))?;
                 Ok(Told::Plain(Answer::Sent { number }))
@@ -148,43 +190,54 @@ impl Player {
         }
     }
 
-    /// Makes the next message of these bytes.
-    fn inject(&mut self, bytes: &[u8]) -> Result<Told, NoMemory> {
+    /// Makes the next message of these bytes, whatever name lies.
+    fn inject(&mut self, bytes: &[u8]) -> Result<Told, NoMemory>
+        ensures { IfOk result (λ told. (name : List ℕ) → Plays self.old self.new (Inject name bytes.now) told) }
+    {
         let bytes = Bytes::from_slice(self.alloc, bytes)?;
         let number = self.add_message(Mail::Made(bytes))?;
         Ok(Told::Plain(Answer::Sent { number }))
     }
 
-    /// Gives a message to the service.
-    fn deliver(&mut self, number: u64, service: &Name) -> Result<Told, NoMemory> {
+    /// Gives a message to the service. NoMemory also where it was dropped, which no script's line names.
+    fn deliver(&mut self, number: u64, service: &Name) -> Result<Told, NoMemory>
+        ensures { IfOk result (Plays self.old self.new (Deliver number service.now)) }
+    {
         let at = self.find(service)?;
         let index = index_of(number, self.messages.len())?;
         match &self.messages[index] {
-            Mail::Made(bytes) => self.hosts[at].deliver(self.alloc, bytes.as_slice()),
+            Mail::Made(bytes) => {
+                let told = self.hosts[at].deliver(self.alloc, bytes.as_slice())?;
+                Ok(told)
+            }
             Mail::Unmade => Ok(Told::Plain(Answer::Nothing)),
             Mail::Dropped => Err(NoMemory),
         }
     }
 
     /// Drops a message.
-    fn lose(&mut self, number: u64) -> Result<Told, NoMemory> {
+    fn lose(&mut self, number: u64) -> Result<Told, NoMemory>
+        ensures { IfOk result (Plays self.old self.new (Lose number)) }
+    {
         let index = index_of(number, self.messages.len())?;
-        match mem::replace(&mut self.messages[index], Mail::Dropped) {
-            Mail::Made(_) => Ok(Told::Plain(Answer::Done)),
-            Mail::Unmade => Ok(Told::Plain(Answer::Nothing)),
-            Mail::Dropped => Err(NoMemory),
-        }
+        let answer = loss_answer(&self.messages[index])?;
+        self.messages[index] = Mail::Dropped;
+        Ok(Told::Plain(answer))
     }
 
     /// A crash waits for the service's next append or delivery, in place of another that waited.
-    fn plan(&mut self, service: &Name, planned: Planned) -> Result<Told, NoMemory> {
+    fn plan(&mut self, service: &Name, planned: Planned) -> Result<Told, NoMemory>
+        ensures { IfOk result (Plays self.old self.new (Crash service.now planned.call planned.choice)) }
+    {
         let at = self.find(service)?;
         self.hosts[at].crash = Some(planned);
         Ok(Told::Plain(Answer::Done))
     }
 
     /// Makes the next file of these bytes.
-    fn add_file(&mut self, bytes: Bytes) -> Result<Told, NoMemory> {
+    fn add_file(&mut self, bytes: Bytes) -> Result<Told, NoMemory>
+        ensures { IfOk result (λ told. (w : World) → Follows self.old w → (next : World) × IsFiled w bytes told next × Follows self.new next) }
+    {
         self.files.push(Some(bytes))?;
         Ok(Told::Plain(Answer::Filed {
             number: self.files.len() as u64,
@@ -192,22 +245,40 @@ impl Player {
     }
 
     /// The next file isn't made, for this reason.
-    fn add_none(&mut self, why: Answer) -> Result<Told, NoMemory> {
+    fn add_none(&mut self, why: Answer) -> Result<Told, NoMemory>
+        ensures { IfOk result (λ told. (w : World) → Follows self.old w → (next : World) × IsNotFiled w why told next × Follows self.new next) }
+    {
         self.files.push(None)?;
         Ok(Told::Plain(why))
     }
 
-    /// Makes the next file, a proof of the service's history.
-    fn prove(&mut self, service: &Name, asked: &AskedProof) -> Result<Told, NoMemory> {
+    /// What the service gives as a proof of its history.
+    fn proof(
+        &mut self,
+        service: &Name,
+        asked: &AskedProof,
+    ) -> Result<Result<Bytes, Refusal>, NoMemory>
+        ensures { IfOk result (HasGiven self.old self.new service.now (ForProof asked.now)) }
+    {
         let at = self.find(service)?;
-        match self.hosts[at].prove(self.alloc, asked)? {
+        let given = self.hosts[at].prove(self.alloc, asked)?;
+        Ok(given)
+    }
+
+    /// Makes the next file, a proof of the service's history.
+    fn prove(&mut self, service: &Name, asked: &AskedProof) -> Result<Told, NoMemory>
+        ensures { IfOk result (Plays self.old self.new (Prove service.now asked.now)) }
+    {
+        match self.proof(service, asked)? {
             Ok(bytes) => self.add_file(bytes),
             Err(refusal) => self.add_none(Answer::Refused(refusal)),
         }
     }
 
-    /// The proofs that these files are, where all of them were made.
-    fn proofs(&self, numbers: &[u64]) -> Result<Option<Sequence<Proof>>, NoMemory> {
+    /// The proofs that these files are; None where one of them wasn't made.
+    fn proofs(&self, numbers: &[u64]) -> Result<Option<Sequence<Proof>>, NoMemory>
+        ensures { IfOk result (λ proofs. (w : World) → Follows self.now w → AreFiled w numbers.now → AreProofsOf w numbers.now proofs) }
+    {
         let mut proofs = Sequence::new(self.alloc);
         for number in numbers {
             let index = index_of(*number, self.files.len())?;
@@ -223,7 +294,9 @@ impl Player {
     }
 
     /// Joins files into the next one.
-    fn join(&mut self, numbers: &[u64]) -> Result<Told, NoMemory> {
+    fn join(&mut self, numbers: &[u64]) -> Result<Told, NoMemory>
+        ensures { IfOk result (Plays self.old self.new (Join numbers.now)) }
+    {
         let Some(proofs) = self.proofs(numbers)? else {
             return self.add_none(Answer::Nothing);
         };
@@ -238,46 +311,87 @@ impl Player {
     }
 
     /// Holds the service's authenticator at a step.
-    fn anchor(&mut self, service: &Name, step: u64) -> Result<Told, NoMemory> {
-        let at = self.find(service)?;
+    fn anchor(&mut self, service: &Name, step: u64) -> Result<Told, NoMemory>
+        ensures { IfOk result (Plays self.old self.new (Anchor service.now step)) }
+    {
         let asked = AskedProof::OfLink { step, top: None };
-        match self.hosts[at].prove(self.alloc, &asked)? {
+        match self.proof(service, &asked)? {
             Err(refusal) => Ok(Told::Plain(Answer::Refused(refusal))),
-            Ok(bytes) => match read_proof(self.alloc, bytes.as_slice()) {
-                Ok(Proof::Linked(link)) => {
-                    let anchor = Thread {
-                        from: link.service,
-                        step: link.step,
-                        auth: link.auth,
-                    };
-                    self.hold(anchor)?;
-                    Ok(Told::Plain(Answer::Done))
-                }
-                _ => Err(NoMemory),
-            },
+            Ok(bytes) => self.hold_linked(bytes.as_slice()),
         }
     }
 
+    /// Holds the authenticator that the bytes of a proof tell.
+    fn hold_linked(&mut self, bytes: &[u8]) -> Result<Told, NoMemory>
+        ensures { IfOk result (λ told. (told ≡ Plain Done) × ((w : World) → Follows self.old w → (link : LinkProof)
+            × Spells proof_layout bytes.now (Linked link) × Follows self.new (after_line (with_anchor w (thread_of link))))) }
+    {
+        let anchor = linked_thread(self.alloc, bytes)?;
+        self.hold(anchor)?;
+        Ok(Told::Plain(Answer::Done))
+    }
+
     /// Holds an anchor in place of one of its service.
-    fn hold(&mut self, anchor: Thread) -> Result<(), NoMemory> {
+    fn hold(&mut self, anchor: Thread) -> Result<(), NoMemory>
+        ensures { OnOk result ((w : World) → Follows self.old w → Follows self.new (after_line (with_anchor w anchor))) }
+    {
         self.anchors.retain(|held| held.from != anchor.from);
         self.anchors.push(anchor)?;
         Ok(())
     }
 
     /// Judges a file under the anchors held.
-    fn verify(&mut self, number: u64) -> Result<Told, NoMemory> {
+    fn verify(&mut self, number: u64) -> Result<Told, NoMemory>
+        ensures { IfOk result (Plays self.old self.new (Verify number)) }
+    {
         let index = index_of(number, self.files.len())?;
         let Some(bytes) = &self.files[index] else {
             return Ok(Told::Plain(Answer::Nothing));
         };
-        let verdict = verify::<Sha>(self.alloc, bytes.as_slice(), &self.anchors, false)?;
-        Ok(Told::Plain(answer_of(&verdict)))
+        let answer = judged(self.alloc, bytes.as_slice(), &self.anchors)?;
+        Ok(Told::Plain(answer))
     }
 }
 
+/// The thread of the authenticator that the bytes of a proof tell. A service gives no other bytes for it.
+fn linked_thread(alloc: Global, bytes: &[u8]) -> Result<Thread, NoMemory>
+    ensures { IfOk result (λ t. (link : LinkProof) × Spells proof_layout bytes.now (Linked link) × (t ≡ thread_of link)) }
+{
+    match read_proof(alloc, bytes) {
+        Ok(Proof::Linked(link)) => Ok(Thread {
+            from: link.service,
+            step: link.step,
+            auth: link.auth,
+        }),
+        _ => Err(NoMemory),
+    }
+}
+
+/// What is told of a message that is dropped. NoMemory where it was dropped before, which no script's line names.
+fn loss_answer(mail: &Mail) -> Result<Answer, NoMemory>
+    ensures { IfOk result (λ answer. loss_answer_of (mail_kept mail.now) ≡ Some answer) }
+{
+    match mail {
+        Mail::Made(_) => Ok(Answer::Done),
+        Mail::Unmade => Ok(Answer::Nothing),
+        Mail::Dropped => Err(NoMemory),
+    }
+}
+
+/// What is told of the verdict on the bytes of a file.
+fn judged(alloc: Global, bytes: &[u8], anchors: &[Thread]) -> Result<Answer, NoMemory>
+    ensures { IfOk result (λ answer. (verdict : VerdictOf) × IsVerdict sha256 anchors.now false bytes.now verdict × (answer ≡ verdict_answer verdict)) }
+{
+    let verdict = verify::<Sha>(alloc, bytes, anchors, false)?;
+    let answer = answer_of(&verdict);
+    drop(verdict);
+    Ok(answer)
+}
+
 /// What is told of a verdict.
-fn answer_of(verdict: &Verdict) -> Answer {
+fn answer_of(verdict: &Verdict) -> Answer
+    ensures { result ≡ verdict_answer verdict.now }
+{
     match verdict {
         Verdict::Yes(_) => Answer::Accepted,
         Verdict::No(reason) => Answer::Rejected {
@@ -286,7 +400,7 @@ fn answer_of(verdict: &Verdict) -> Answer {
     }
 }
 
-/// Where that which has this number, counted from 1, stands among so many.
+/// Where that which has this number, counted from 1, stands among so many. NoMemory where there is none, which no script's line names.
 fn index_of(number: u64, count: usize) -> Result<usize, NoMemory>
     ensures { IfOk result (λ index. (index < count) × (index + 1 ≡ number)) }
 {

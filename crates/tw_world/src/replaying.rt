@@ -1,9 +1,10 @@
 // Playing scripts.
 
-ghost use Rattle.std.specs.Prelude.{◌≡◌, ◌++◌, codes, length, IfOk};
+ghost use Rattle.std.specs.Prelude.{◌≡◌, ◌++◌, codes, length, IfOk, OnOk};
 ghost use Rattle.serde_json.specs.Written.{compact_text};
 ghost use Rattle.tw_world.specs.Hosts.{summary_of};
 ghost use Rattle.tw_world.specs.Telling.{told_lines};
+ghost use Rattle.tw_world.specs.PlayedLines.{AreHostDisks, AreSorted, IsRead};
 ghost use Rattle.tw_world.specs.Playing.{IsPlayed, Replays};
 
 use crate::counts::Counts;
@@ -21,7 +22,7 @@ use tw_script::{Script, ScriptFault, read_script};
 #[derive(Drop)]
 pub struct WorldDisk {
     pub name: Name,
-    /// At rest, and closed.
+    /// At rest.
     pub disk: MemDisk,
 }
 
@@ -41,9 +42,11 @@ pub struct Played {
 /// The whole script is read before anything runs; BadLine and TooLong come exactly where reading it tells them. NoMemory is
 /// for want of memory.
 pub fn replay(alloc: Global, bytes: &[u8]) -> Result<Played, ScriptFault>
-    // A script is played exactly where the bytes are one. Each of its lines gets an answer; the text has them one after another,
-    // each behind its line's number, and then the summary of them and of some histories' numbers of steps; and the counts are
-    // the numbers of lines whose answers begin with each of the four words. Else the line is told that reading tells.
+    // A script is played exactly where the bytes are one. Its lines are told one after another, by the rules of worlds, from a
+    // world of nothing on, in which no service claims a time. The text has what was told, each behind its line's number, and then
+    // the summary of it and of the numbers of steps at the end; the counts are the numbers of lines whose answers begin with each
+    // of the four words; and there is one disk for each service, in the order of their names, at rest, which stands for good for
+    // the history that the service has at the end. Else the line is told that reading tells.
     ensures { Replays bytes.now result }
 {
     match read_script(alloc, bytes) {
@@ -54,6 +57,7 @@ pub fn replay(alloc: Global, bytes: &[u8]) -> Result<Played, ScriptFault>
 
 /// Plays the lines of a script.
 fn play(alloc: Global, script: &Script) -> Result<Played, NoMemory>
+    requires { IsRead script.now }
     ensures { IfOk result (IsPlayed script.now) }
 {
     let mut player = Player::new(alloc);
@@ -86,10 +90,20 @@ fn print_all(
     Ok(text)
 }
 
-/// The disks of the services, in the order of their names.
-fn disks_of(alloc: Global, hosts: Vec<Host>) -> Result<WorldDiskList, NoMemory> {
-    let mut hosts = hosts;
+/// Sorts services by their names.
+fn sort_hosts(hosts: &mut Vec<Host>) -> Result<(), NoMemory>
+    ensures { OnOk result (AreSorted hosts.old.items hosts.new.items) }
+{
     hosts.sort_by_key(|host| host.name)?;
+    Ok(())
+}
+
+/// The disks of the services, in the order of their names.
+fn disks_of(alloc: Global, hosts: Vec<Host>) -> Result<WorldDiskList, NoMemory>
+    ensures { IfOk result (AreHostDisks hosts.items) }
+{
+    let mut hosts = hosts;
+    sort_hosts(&mut hosts)?;
     let mut disks = WorldDiskList::new(alloc);
     for host in hosts {
         disks.push(WorldDisk {

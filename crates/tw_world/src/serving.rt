@@ -1,14 +1,17 @@
 // What a service on a disk in memory does for a line.
 
-ghost use Rattle.std.specs.Prelude.{◌≡◌, ◌⊎◌, ◌≤◌, ℕ, true, false, None, is_some, IfOk, OnOk};
+ghost use Rattle.std.specs.Prelude.{◌≡◌, ◌⊎◌, ◌≤◌, ℕ, true, false, None, is_some, IfErr, IfOk, IfSome, OnOk};
 ghost use Rattle.sha2.specs.Sha256.{sha256};
 ghost use Rattle.tw_base.specs.history.History.{History};
 ghost use Rattle.tw_base.specs.history.Limits.{IsStep};
 ghost use Rattle.tw_disk.specs.Image.{Image};
 ghost use Rattle.tw_disk.specs.MemDisk.{view_of};
+ghost use Rattle.tw_answers.specs.declared.refusal.Refusal.TheVariants.{NoMemory as NoMemoryOf};
+ghost use Rattle.tw_msg.specs.Messages.{message_bytes};
 ghost use Rattle.tw_service.specs.Serves.{Serves, has_failed};
 ghost use Rattle.tw_service.specs.Stands.{no_history};
-ghost use Rattle.tw_world.specs.Hosts.{Given, Answered, AnswersRefusal, Ends, GoesOn, Holds, RestsAs, StandsAs, StandsForGood, crash_told as crash_told_of};
+ghost use Rattle.tw_world.specs.Hosts.{Asked, Given, Answered, AnswersRefusal, Ends, Gives, GivesOrFails, GoesOn, Holds, RestsAs, StandsAs, StandsForGood, crash_told as crash_told_of};
+ghost use Rattle.tw_world.specs.Hosts.Asked.{ForMessage, ForProof};
 ghost use Rattle.tw_world.specs.Hosts.Given.{OfBytes, OfEvents};
 
 use crate::host::{Host, Planned};
@@ -205,45 +208,85 @@ fn received(service: &mut MemService, bytes: &[u8]) -> Result<Option<Answer>, No
     }
 }
 
-/// The bytes of the message of the service's last step, since a step.
-fn message(alloc: Global, service: &mut MemService, since: u64) -> Result<Bytes, Refusal> {
-    let link = service.thread_out(since)?;
-    let message = Message {
-        thread: service.head(),
-        since,
-        link,
-    };
-    match write_message(alloc, &message) {
+/// The bytes of a message.
+fn written(alloc: Global, message: &Message) -> Result<Bytes, Refusal>
+    ensures bytes { IfOk result (λ bytes. bytes ≡ message_bytes message.now) }
+    ensures memory { IfErr result (λ why. why ≡ NoMemoryOf) }
+{
+    match write_message(alloc, message) {
         Ok(bytes) => Ok(bytes),
         Err(_) => Err(Refusal::NoMemory),
     }
 }
 
-/// The key of a peer's step. The lines of scripts have none but those from 1 to 2^40 - 1.
-fn key_of(peer: Name, step: u64) -> Result<Key, Refusal>
-    ensures { IfOk result (λ key. (key ≡ record { from = peer; step = step }) × IsStep key.step) }
+/// The bytes of the message of the service's last step, since a step.
+fn message(alloc: Global, service: &mut MemService, since: u64) -> Result<Bytes, Refusal>
+    ensures gives { (h : History) → Serves sha256 view_of service.old h → has_failed service.old ≡ false → GivesOrFails h (ForMessage since) result }
+    ensures same { (h : History) → Serves sha256 view_of service.old h → Serves sha256 view_of service.new h }
+{
+    match service.thread_out(since) {
+        Ok(link) => {
+            let message = Message {
+                thread: service.head(),
+                since,
+                link,
+            };
+            written(alloc, &message)
+        }
+        Err(refusal) => Err(refusal),
+    }
+}
+
+/// The key of a peer's step; None where the step isn't from 1 to 2^40 - 1. The lines of scripts have no such step.
+fn key_of(peer: Name, step: u64) -> Option<Key>
+    ensures { IfSome result (λ key. (key ≡ record { from = peer; step = step }) × IsStep key.step) }
 {
     if step == 0 || step > LAST_STEP {
-        return Err(Refusal::NoMemory);
+        return None;
     }
-    Ok(Key { from: peer, step })
+    Some(Key { from: peer, step })
 }
 
 /// The proof that is asked for, where no top is given under the last step. No step has an event of an index above
 /// 2^32 - 1, so such an index is refused as that one is.
-fn proof(service: &mut MemService, asked: &AskedProof) -> Result<Bytes, Refusal> {
+fn proof(service: &mut MemService, asked: &AskedProof) -> Result<Bytes, Refusal>
+    ensures gives { (h : History) → Serves sha256 view_of service.old h → has_failed service.old ≡ false → GivesOrFails h (ForProof asked.now) result }
+    ensures same { (h : History) → Serves sha256 view_of service.old h → Serves sha256 view_of service.new h }
+{
     let last = service.steps();
-    match *asked {
-        AskedProof::OfEvent { step, index, top } => {
-            service.prove_event(step, index.min(u32::MAX as u64) as u32, top.unwrap_or(last))
-        }
+    match asked {
+        AskedProof::OfEvent { step, index, top } => service.prove_event(
+            *step,
+            (*index).min(u32::MAX as u64) as u32,
+            (*top).unwrap_or(last),
+        ),
         AskedProof::OfThread { step, peer, k, top } => {
-            service.prove_thread(step, &key_of(peer, k)?, top.unwrap_or(last))
+            match key_of(*peer, *k) {
+                Some(key) => service.prove_thread(*step, &key, (*top).unwrap_or(last)),
+                None => Err(Refusal::NoMemory),
+            }
         }
         AskedProof::OfAbsence { step, peer, k, top } => {
-            service.prove_absent(step, &key_of(peer, k)?, top.unwrap_or(last))
+            match key_of(*peer, *k) {
+                Some(key) => service.prove_absent(*step, &key, (*top).unwrap_or(last)),
+                None => Err(Refusal::NoMemory),
+            }
         }
-        AskedProof::OfLink { step, top } => service.prove_link(step, top.unwrap_or(last)),
+        AskedProof::OfLink { step, top } => service.prove_link(*step, (*top).unwrap_or(last)),
+    }
+}
+
+/// What a reply to a call that only asks gives; a fault comes from want of memory.
+fn given(reply: Result<Bytes, Refusal>) -> Result<Result<Bytes, Refusal>, NoMemory>
+    ensures { IfOk result (λ given. (h : History) (asked : Asked) → GivesOrFails h asked reply → Gives h asked given) }
+{
+    match reply {
+        Ok(bytes) => Ok(Ok(bytes)),
+        Err(refusal) => match refusal {
+            Refusal::NoMemory => Err(NoMemory),
+            Refusal::DiskFault => Err(NoMemory),
+            other => Ok(Err(other)),
+        },
     }
 }
 
@@ -293,7 +336,7 @@ impl Host {
     pub(crate) fn append(&mut self, alloc: Global, events: &EventList) -> Result<Told, NoMemory>
         ensures goes { IfOk result (λ told. (h : History) → Holds self.old h
             → (next : History) × GoesOn (OfEvents events.now) (is_some self.old.crash) h next told × Holds self.new next) }
-        ensures waits { OnOk result (self.new.crash ≡ None) }
+        ensures same { OnOk result ((self.new.name ≡ self.old.name) × (self.new.crash ≡ None)) }
     {
         let mut service = open_for(alloc, self.take_disk(alloc), self.crash)?;
         let answer = appended(&mut service, events)?;
@@ -305,7 +348,7 @@ impl Host {
     pub(crate) fn deliver(&mut self, alloc: Global, bytes: &[u8]) -> Result<Told, NoMemory>
         ensures goes { IfOk result (λ told. (h : History) → Holds self.old h
             → (next : History) × GoesOn (OfBytes bytes.now) (is_some self.old.crash) h next told × Holds self.new next) }
-        ensures waits { OnOk result (self.new.crash ≡ None) }
+        ensures same { OnOk result ((self.new.name ≡ self.old.name) × (self.new.crash ≡ None)) }
     {
         let mut service = open_for(alloc, self.take_disk(alloc), self.crash)?;
         let answer = received(&mut service, bytes)?;
@@ -318,14 +361,14 @@ impl Host {
         &mut self,
         service: MemService,
         reply: Result<Bytes, Refusal>,
-    ) -> Result<Result<Bytes, Refusal>, NoMemory> {
-        match reply {
-            Err(Refusal::NoMemory | Refusal::DiskFault) => Err(NoMemory),
-            reply => {
-                self.disk = service.close();
-                Ok(reply)
-            }
-        }
+    ) -> Result<Result<Bytes, Refusal>, NoMemory>
+        ensures gives { IfOk result (λ given. (h : History) (asked : Asked) → GivesOrFails h asked reply → Gives h asked given) }
+        ensures stands { OnOk result ((h : History) → Serves sha256 view_of service h → StandsForGood self.new.disk h) }
+        ensures same { (self.new.name ≡ self.old.name) × (self.new.steps ≡ self.old.steps) × (self.new.crash ≡ self.old.crash) }
+    {
+        let given = given(reply)?;
+        self.disk = service.close();
+        Ok(given)
     }
 
     /// Asks for the message of the last step, since a step.
@@ -333,10 +376,14 @@ impl Host {
         &mut self,
         alloc: Global,
         since: u64,
-    ) -> Result<Result<Bytes, Refusal>, NoMemory> {
+    ) -> Result<Result<Bytes, Refusal>, NoMemory>
+        ensures gives { IfOk result (λ given. (h : History) → Holds self.old h → Gives h (ForMessage since) given × Holds self.new h) }
+        ensures waits { OnOk result (self.new.crash ≡ self.old.crash) }
+    {
         let mut service = open(alloc, self.take_disk(alloc))?;
         let reply = message(alloc, &mut service, since);
-        self.asked(service, reply)
+        let given = self.asked(service, reply)?;
+        Ok(given)
     }
 
     /// Asks for a proof.
@@ -344,9 +391,13 @@ impl Host {
         &mut self,
         alloc: Global,
         asked: &AskedProof,
-    ) -> Result<Result<Bytes, Refusal>, NoMemory> {
+    ) -> Result<Result<Bytes, Refusal>, NoMemory>
+        ensures gives { IfOk result (λ given. (h : History) → Holds self.old h → Gives h (ForProof asked.now) given × Holds self.new h) }
+        ensures waits { OnOk result (self.new.crash ≡ self.old.crash) }
+    {
         let mut service = open(alloc, self.take_disk(alloc))?;
         let reply = proof(&mut service, asked);
-        self.asked(service, reply)
+        let given = self.asked(service, reply)?;
+        Ok(given)
     }
 }

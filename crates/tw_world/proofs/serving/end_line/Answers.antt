@@ -1,8 +1,5 @@
-use Rattle.std.proofs.Common.{◌≡◌, ◌⊎◌, refl, ap, sym, ◌∙◌, subst, inl, inr}
-use Rattle.std.specs.Prelude.{Result, Ok, Err, Option, None, is_some}
-use Rattle.sha2.specs.Sha256.{sha256}
-use Rattle.tw_base.specs.history.History.{History}
-use Rattle.tw_disk.specs.MemDisk.{view_of}
+use Rattle.std.proofs.Common.{ap, sym, subst}
+use Rattle.std.specs.Prelude.{is_some}
 use Rattle.tw_world.specs.Hosts.{Ends}
 use Rattle.tw_world.proofs.serving.end_line.Goals as goal
 

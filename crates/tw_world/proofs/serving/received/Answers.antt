@@ -1,5 +1,5 @@
-use Rattle.std.proofs.Common.{◌≡◌, ◌⊎◌, false, refl, ap, sym, ◌∙◌, subst, inl, inr}
-use Rattle.std.specs.Prelude.{Result, Ok, Err, Option, None, is_some}
+use Rattle.std.proofs.Common.{◌≡◌, false, subst}
+use Rattle.std.specs.Prelude.{Result, None}
 use Rattle.sha2.specs.Sha256.{sha256}
 use Rattle.tw_base.specs.history.History.{History}
 use Rattle.tw_disk.specs.MemDisk.{view_of}

@@ -1,7 +1,4 @@
-use Rattle.std.proofs.Common.{◌≡◌, ◌⊎◌, refl, ap, sym, ◌∙◌, subst, inl, inr}
-use Rattle.std.specs.Prelude.{Result, Ok, Err, Option, None, is_some}
-use Rattle.sha2.specs.Sha256.{sha256}
-use Rattle.tw_base.specs.history.History.{History}
+use Rattle.std.proofs.Common.{inl, inr}
 use Rattle.tw_disk.specs.MemDisk.{view_of}
 use Rattle.tw_world.proofs.Resting.{stands-left}
 use Rattle.tw_world.proofs.serving.reopened.Goals as goal

@@ -1,9 +1,7 @@
-use Rattle.std.proofs.Common.{◌≡◌, ◌⊎◌, refl, ap, sym, ◌∙◌, subst, inl, inr}
-use Rattle.std.specs.Prelude.{Result, Ok, Err, Option, None, is_some}
-use Rattle.sha2.specs.Sha256.{sha256}
+use Rattle.std.proofs.Common.{sym, ◌∙◌, subst}
+use Rattle.std.specs.Prelude.{is_some}
 use Rattle.tw_base.specs.history.History.{History}
-use Rattle.tw_disk.specs.MemDisk.{view_of}
-use Rattle.tw_world.specs.Hosts.{Given, GoesOn, Holds, StandsForGood}
+use Rattle.tw_world.specs.Hosts.{Given, GoesOn, StandsForGood}
 use Rattle.tw_world.specs.Hosts.Given.{OfBytes}
 use Rattle.tw_world.specs.declared.told.Told.{Told}
 use Rattle.tw_world.proofs.host.Host.deliver.Goals as goal

@@ -1,0 +1,48 @@
+use Rattle.std.proofs.Common.{◌≡◌, ◌+◌, ◌<◌, ◌≤◌, ◌∙◌, List, [], ◌∷◌, ◌++◌, length, take, get_or, ap, sym, subst, arith}
+use Rattle.std.proofs.lemmas.List.{map_more, take_all}
+use Rattle.sha2.specs.Sha256.{sha256}
+use Rattle.tw_script.specs.declared.line.Line.{Line}
+use Rattle.tw_script.specs.declared.script.NumberedLine.{NumberedLine}
+use Rattle.tw_world.specs.Hosts.{claims_none}
+use Rattle.tw_world.specs.PlayedLines.{HasPlayed, IsRead}
+use Rattle.tw_world.specs.Playing.{lines_of}
+use Rattle.tw_world.specs.Runs.{Runs}
+use Rattle.tw_world.specs.Worlds.{no_world}
+use Rattle.tw_world.specs.declared.told.Told.{Told}
+use Rattle.tw_world.proofs.PlayedRuns.{may-next, runs-more, runs-none}
+use Rattle.tw_world.proofs.player.Player.play_lines.Goals as goal
+
+pub loop-numbered-init : goal.loop-numbered-init
+loop-numbered-init c = (
+  no_world,
+  subst (λ (told : List Told). Runs sha256 claims_none no_world [] told no_world) (sym c.new-told.ensures) (runs-none sha256 claims_none no_world),
+  c.requires.nothing,
+)
+
+pub loop-numbered-preserved : goal.loop-numbered-preserved
+loop-numbered-preserved c =
+    let at = c.loop-numbered in
+    let lines : List NumberedLine = c.as_slice-lines.result.now in
+    let i = at.numbered-index in
+    let l : NumberedLine = c.numbered-item.result in
+    let is : get_or lines i l ≡ l = sym c.numbered-item.is in
+    let within : i < length lines = c.loop-numbered-test.true in
+    let before : List Line = lines_of (take i lines) in
+    let played : HasPlayed before at.told at.self = at.invariant in
+    let read : IsRead lines = subst IsRead (sym c.as_slice-lines.ensures) c.requires.read in
+    let next = c.in_ok-play_next.ensures played.0 played.2 (may-next lines i l at.told played.0 read within is played.1) in
+    let more : lines_of (take (i + 1) lines) ≡ before ++ l.line ∷ [] =
+    map_more (λ (n : NumberedLine). n.line) lines i l within ∙ ap (λ (n : NumberedLine). before ++ n.line ∷ []) is in (
+      next.1,
+      subst (λ (ls : List Line). Runs sha256 claims_none no_world ls c.play_next.new.told next.1) (sym more)
+          (subst (λ (told : List Told). Runs sha256 claims_none no_world (before ++ l.line ∷ []) told next.1) (sym next.3)
+          (runs-more sha256 claims_none before at.told no_world played.0 l.line next.0 next.1 played.1 next.2)),
+      next.4,
+    )
+
+pub returns : goal.returns
+returns c =
+    let at = c.loop-numbered in
+    let lines : List NumberedLine = c.as_slice-lines.result.now in
+    let done : length lines ≤ at.numbered-index = omega (arith, c.loop-numbered-test.false) in
+    subst (λ (ls : List NumberedLine). HasPlayed (lines_of ls) at.told at.self) (take_all at.numbered-index lines done ∙ c.as_slice-lines.ensures) at.invariant

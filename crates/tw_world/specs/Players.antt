@@ -1,0 +1,85 @@
+-- What is played of a world: services on disks, messages, files and anchors.
+use Rattle.std.specs.Prelude.{◌≡◌, ℕ, zero, suc, ◌≤◌, List, [], ◌∷◌, length, map, false, Option, None, is_some, IsSome, MatchOption, Result}
+use Rattle.std.specs.Str.{bytes_eq}
+use Rattle.sha2.specs.Sha256.{sha256}
+use Rattle.tw_answers.specs.declared.refusal.Refusal.{Refusal}
+use Rattle.tw_base.specs.format.Formats.{Spells}
+use Rattle.tw_base.specs.declared.history.thread.Thread.{Thread}
+use Rattle.tw_base.specs.kinds.Bytes.{AreBytes}
+use Rattle.tw_base.specs.kinds.Lists.{Each, In}
+use Rattle.tw_chain.specs.declared.proof.LinkProof.{LinkProof}
+use Rattle.tw_chain.specs.declared.proof.Proof.{Proof}
+use Rattle.tw_msg.specs.Messages.{message_layout}
+use Rattle.tw_msg.specs.declared.message.Message.{Message}
+use Rattle.tw_script.specs.declared.line.Line.{Line}
+use Rattle.tw_script.specs.declared.line.Line.TheVariants.{Service, Hostile, Append, Inject, Join, Anchor}
+use Rattle.tw_world.specs.Hosts.{Asked, Gives, Holds, claims_none}
+use Rattle.tw_world.specs.Runs.{AreFiles, AreProofs, IsMember, IsNew, IsTold}
+use Rattle.tw_world.specs.Worlds.{Mail, Member, World, numbered}
+use Rattle.tw_world.specs.Worlds.Mail.{Made, Unmade, Dropped}
+use Rattle.tw_world.specs.declared.host.Host.{Host}
+use Rattle.tw_world.specs.declared.player.Mail.{Mail as KeptMail}
+use Rattle.tw_world.specs.declared.player.Mail.TheVariants as kept
+use Rattle.tw_world.specs.declared.player.Player.{Player}
+use Rattle.tw_world.specs.declared.told.Told.{Told}
+
+-- the service has the member's history on its disk for good, and a crash waits for it where one waits for the member
+pub record IsHostOf (host : Host) (m : Member) : Type 0 where
+  pub holds : Holds host m.history
+  pub waits : is_some host.crash ≡ m.waits
+
+abbrev pub AreHostsOf : List Host → List Member → Type 0
+AreHostsOf [] [] = Unit {0}
+AreHostsOf (host ∷ hosts) (m ∷ members) = IsHostOf host m × AreHostsOf hosts members
+AreHostsOf _ _ = ⊥
+
+-- the place of the first service of this name
+abbrev pub IsFirst : List Host → (name : List ℕ) → (at : ℕ) → Type 0
+IsFirst [] name at = ⊥
+IsFirst (host ∷ hosts) name zero = host.name ≡ name
+IsFirst (host ∷ hosts) name (suc at) = (bytes_eq host.name name ≡ false) × IsFirst hosts name at
+
+abbrev pub mail_kept : KeptMail → Mail
+mail_kept (kept.Made bytes) = Made bytes
+mail_kept kept.Unmade = Unmade
+mail_kept kept.Dropped = Dropped
+
+-- what is played is the world: its services' histories are on their disks for good; and messages, files and anchors are the world's. Hostile
+-- names, births and the place in the schedule aren't played
+pub record Follows (player : Player) (w : World) : Type 0 where
+  pub hosts : AreHostsOf player.hosts.items w.members
+  pub messages : map mail_kept player.messages.items ≡ w.messages
+  pub files : player.files.items ≡ w.files
+  pub anchors : player.anchors.items ≡ w.anchors
+
+-- the files of these numbers are there
+abbrev pub AreFiled : World → (numbers : List ℕ) → Type 0
+AreFiled w numbers = Each (λ n. IsSome (numbered w.files n)) numbers
+
+-- what a script's line keeps that isn't looked at again when it is played
+abbrev pub MayTell : World → Line → Type 0
+MayTell w (Service name) = IsNew w name
+MayTell w (Hostile name) = IsNew w name
+MayTell w (Append name events) = Each AreBytes events
+MayTell w (Inject name bytes) = In name w.hostile × ((m : Message) → Spells message_layout bytes m → m.thread.from ≡ name)
+MayTell w (Join numbers) = (2 ≤ length numbers) × AreFiled w numbers
+MayTell w (Anchor name step) = 1 ≤ step
+MayTell w _ = Unit {0}
+
+-- the proofs that the files of these numbers are, or none where one of them wasn't made
+abbrev pub AreProofsOf : World → (numbers : List ℕ) → Option (List Proof) → Type 0
+AreProofsOf w numbers proofs = (files : List (Option (List ℕ))) × AreFiles w numbers files × MatchOption proofs (In None files) (AreProofs files)
+
+-- the thread whose authenticator a proof tells
+abbrev pub thread_of : LinkProof → Thread
+thread_of link = record { from = link.service; step = link.step; auth = link.auth }
+
+-- the service of this name gives this, and what is played stays the world
+abbrev pub HasGiven : (old new : Player) → (name : List ℕ) → Asked → Result (List ℕ) Refusal → Type 0
+HasGiven old new name asked given =
+    (w : World) → Follows old w → (m : Member) × IsMember w name m × Gives m.history asked given × Follows new w
+
+-- where a line may be told of the world that is played, it is told so, and what is played then is the next world
+abbrev pub Plays : (old new : Player) → Line → Told → Type 0
+Plays old new line told =
+    (w : World) → Follows old w → MayTell w line → (next : World) × IsTold sha256 claims_none w line told next × Follows new next
