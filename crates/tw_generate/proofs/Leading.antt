@@ -1,14 +1,15 @@
 -- Where acts of services lead.
-use Rattle.std.proofs.Common.{◌≡◌, ℕ, suc, ◌+◌, List, [], ◌∷◌, ◌++◌, Bool, true, false, refl, ap, sym, ◌∙◌, subst, add-one}
-use Rattle.std.specs.Prelude.{None, Result, Ok, Err, OnOk, if◌then◌else◌}
+use Rattle.std.proofs.Common.{◌≡◌, ℕ, ◌+◌, List, [], ◌∷◌, ◌++◌, false, refl, ap, sym, ◌∙◌, subst, add-one}
+use Rattle.std.specs.Prelude.{None, Result, Ok, Err, OnOk}
 use Rattle.std.specs.Str.{bytes_eq}
 use Rattle.tw_base.specs.history.History.{History, received, root_of, step_at}
 use Rattle.tw_disk.specs.Disk.{DiskView}
 use Rattle.tw_service.specs.EventSteps.{event_step, with_events}
 use Rattle.tw_service.specs.Stands.{no_history}
-use Rattle.tw_generate.specs.Draws.{after_step, step_events}
-use Rattle.tw_generate.specs.Playing.{ArePlaying, HasHeard, HasHeardOf, Leads}
-use Rattle.tw_generate.specs.Schedules.{Act, IsDone, LeadTo, Trio, after_rounds, all_append, last_heard, round, rounds_of}
+use Rattle.tw_generate.specs.Draws.{after_step}
+use Rattle.tw_generate.specs.Playing.{HasHeard, HasHeardOf, Leads}
+use Rattle.tw_generate.specs.Schedules.{Act, IsDone, LeadTo, Trio, after_rounds, all_append, last_heard, round, rounds_of, with_history}
+use Rattle.tw_generate.specs.Schedules.Who.{Beta, Gamma}
 use Rattle.tw_generate.specs.declared.services.Services.{Services}
 use Rattle.tw_generate.proofs.HeardSteps.{heard-nothing}
 use Rattle.std.specs.Prelude.{length}
@@ -27,9 +28,21 @@ module _ (dig : List ℕ → List ℕ) where
   lead-on [] ys t u v one other = subst (λ (w : Trio). LeadTo dig ys w v) (sym one) other
   lead-on (act ∷ xs) ys t u v one other = (one.0, one.1, lead-on xs ys one.0 u v one.2 other)
 
+  -- and back
+  pub lead-split : (xs ys : List Act) (t v : Trio) → LeadTo dig (xs ++ ys) t v → (u : Trio) × LeadTo dig xs t u × LeadTo dig ys u v
+  unfolding LeadTo
+  lead-split [] ys t v lead = (t, refl, lead)
+  lead-split (act ∷ xs) ys t v lead = let rest = lead-split xs ys lead.0 v lead.2 in (rest.0, (lead.0, lead.1, rest.1), rest.2)
+
   -- the histories with a step more each
   abbrev pub with_steps : Trio → (alpha beta gamma : List (List ℕ)) → Trio
   with_steps t alpha beta gamma = record { alpha = with_events t.alpha alpha None; beta = with_events t.beta beta None; gamma = with_events t.gamma gamma None }
+
+  pub append-ends : (alpha beta gamma : List (List ℕ)) (t end : Trio) → LeadTo dig (all_append alpha beta gamma) t end → end ≡ with_steps t alpha beta gamma
+  unfolding LeadTo
+  append-ends alpha beta gamma t end lead =
+      sym lead.2.2.2 ∙ lead.2.2.1 ∙ ap (λ (u : Trio). with_history Gamma (with_events u.gamma gamma None) u)
+      (lead.2.1 ∙ ap (λ (u : Trio). with_history Beta (with_events u.beta beta None) u) lead.1)
 
   pub all-append : (t : Trio) (alpha beta gamma : List (List ℕ)) → LeadTo dig (all_append alpha beta gamma) t (with_steps t alpha beta gamma)
   unfolding LeadTo

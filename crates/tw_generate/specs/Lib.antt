@@ -3,4 +3,5 @@ pub mod Line
 pub mod Schedules
 pub mod Playing
 pub mod Summing
+pub mod Coming
 pub mod Generating

@@ -94,7 +94,8 @@ abbrev pub last_heard : History → (from : List ℕ) → ℕ
 last_heard h from = last_step from (received h (length h.steps))
 
 module _ (dig : List ℕ → List ℕ) where
-  -- a service receives the message of another one's last step, and answers a receipt
+  -- a service receives the message of another one's last step, since the last step of it that this one has archived, and answers a receipt; one
+  -- that is known is answered, too
   pub record Hears (from to next : History) : Type 0 where
     pub message : Message
     pub is_message : IsMessageOf dig from (last_heard to from.name) message

@@ -22,7 +22,7 @@ use Rattle.tw_tmap.specs.Checking.{map_verdict}
 use Rattle.tw_tmap.specs.MapFiles.{high_layout, low_layout}
 use Rattle.tw_tmap.specs.declared.map_file.HighFile.{HighFile}
 use Rattle.tw_tmap.specs.declared.map_file.LowFile.{LowFile}
-use Rattle.tw_tmap.specs.declared.map_verdict.MapVerdict.TheVariants.{Yes as Lies}
+use Rattle.tw_tmap.specs.declared.map_verdict.MapVerdict.TheVariants.{Yes as Between}
 use Rattle.tw_generate.specs.Schedules.{Trio}
 use Rattle.tw_generate.specs.declared.summary.Summary.{Summary}
 
@@ -100,7 +100,7 @@ module _ (dig : List ℕ → List ℕ) where
     pub high_file : HighFile
     pub high_spelled : Spells high_layout high_bytes high_file
     pub upto : ℕ
-    pub is_accepted : map_verdict dig anchors low_file high_file ≡ Lies low high upto
+    pub is_accepted : map_verdict dig anchors low_file high_file ≡ Between low high upto
 
   -- the map of alpha's last step against gamma, under the heads
   pub record IsMap (t : Trio) (low : ℕ) (high : Option ℕ) : Type 0 where

@@ -67,7 +67,9 @@ fn summarize<D: Disk, H: Hasher>(
 /// carries no thread, the steps of the services, and how many threads they received. From 50 rounds on the proof is that alpha's first
 /// event precedes the last one of gamma; below it is that of gamma's last event.
 ///
-/// `NoMemory` where there was no memory for the services, their disks or what is told of them.
+/// `NoMemory` where there was no memory for the services, their disks or what is told of them. It would be told, too, where a service
+/// refused a call, or where the proof or the map weren't accepted or the audit gave no answer. Of up to 10,000 rounds none of these comes
+/// (`generate_laws`); only of the histories' files no clause says that they are within their limits.
 pub fn generate(alloc: Global, number: u64, rounds: u64) -> Result<Generated, NoMemory>
     // What is generated are histories to which the schedule of the number leads. The text is the line of what is told of them: by the strict
     // verdict, under their heads, on the proof that is claimed, by the map of alpha's last step against gamma, and by the audit of the proof

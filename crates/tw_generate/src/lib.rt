@@ -6,9 +6,11 @@ mod claiming;
 mod draws;
 mod generating;
 mod judging;
+mod laws;
 mod received;
 mod services;
 mod summary;
 mod telling;
 
 pub use generating::{Generated, generate};
+pub use laws::generate_laws;

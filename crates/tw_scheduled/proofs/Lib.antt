@@ -1,0 +1,3 @@
+mod ActBytes
+mod ThreeServices
+mod ActLines
