@@ -199,10 +199,18 @@ def bad_pages(room):
     for step, page, count in ((11, 10, 2), (9, 8, 1024), (11, 10, 0)):
         (room.folder / "d/timeline.tw").write_bytes(changed(good, step, 10, be(count, 4)))
         room.expect("export d", 8, f"store BadPage {page}\n".encode())
+    # a number of events and no event page: the step's page, which is read last
+    store = os.path.realpath(room.folder / "d/timeline.tw")
+    for step, count in ((5, 1), (9, 1), (11, 1024)):
+        (room.folder / "d/timeline.tw").write_bytes(changed(good, step, 10, be(count, 4) + bytes(12)))
+        status, found, calls = calls_of(room.program, ["export", "d"], room.folder)
+        expect((status, found), (8, f"store BadPage {step}\n".encode()), f"a step in page {step} that counts {count} events and has no event page")
+        places = [int(call.words[-1]) // PAGE for call in calls if call.path == store and call.name == "pread64"]
+        expect(places[-1], step, "the page that is read last")
 
 
 def bad_archives(room):
-    """tree pages that aren't of their kind are told at the step that wrote them; a thread of step 0, and an archive that no step wrote, by their step's page"""
+    """tree pages that aren't of their kind are told at the step that wrote them; a thread of step 0, and an archive that no step wrote, by their step's page; pages of 1 to 3 by their number"""
     pair = both(room)
     beta = pair.services["beta"]
     path = room.folder / "beta/timeline.tw"
@@ -213,6 +221,7 @@ def bad_archives(room):
         (pages[4] - 1, 0, bytes(PAGE), pages[4] - 1), (pages[3] - 1, 0, bytes(PAGE), pages[3] - 1), (pages[3] - 1, 4, b"\x01", pages[3] - 1),
         (pages[4], 90, be(4, 8), pages[4]), (pages[4], 90, be(pages[1], 8), pages[4]), (pages[3], 90, be(pages[2], 8), pages[3]),
         (pages[4], 114, bytes(8), pages[4]), (pages[3], 114, bytes(8), pages[3]),
+        (pages[4], 90, be(1, 8), 1), (pages[4], 90, be(2, 8), 2), (pages[3], 90, be(3, 8), 3),
     ):
         path.write_bytes(changed(good, page, place, new))
         room.expect("export beta", 8, f"store BadPage {told}\n".encode())

@@ -24,7 +24,7 @@ from tracing import calls_of
 
 # The commands that receive, with their times, and those that ask a service that has received.
 MAKING = {"receive": None, "receive at a time": 9}
-ASKING = ("prove thread", "prove absent", "map low", "map high")
+ASKING = ("prove thread", "prove absent", "map low", "map high", "export")
 
 
 class Entangled:
@@ -341,6 +341,7 @@ class Run(faults.Run):
             "prove absent": ("prove beta absent 4 alpha 3", before.absent_proof(4, "alpha", 3, 4)),
             "map low": ("map beta low 4 alpha", None),
             "map high": ("map beta high 2 alpha", None),
+            "export": ("export beta", before.history()),
         }.get(command, (words("receive beta m", MAKING.get(command)), None))
         if self.makes:
             after = copy.deepcopy(before, {id(reference.EMPTY): reference.EMPTY})

@@ -26,6 +26,23 @@ OTHER_WORDS = ("", "0", "00", "1", "-1", " ", "A", "a" * 17, "\udcff", "event", 
 NUMBERS = {"POS", "K", "INDEX", "STEP", "TOP", "SINCE", "TIME", "NUMBER", "STEPS"}
 OF_KIND = {"NAME": "a", "PEER": "b", "HEX": "0" * 64, "DIR": "d", "..": "f", **dict.fromkeys(NUMBERS, "1")}
 
+# A script with each form of line.
+SCRIPT = b"""service a
+service b
+hostile e
+# steps
+append a 6869 - 0aFF
+send a 0
+inject e -
+deliver 1 b
+drop 2
+crash b 1 3
+prove a event 1 0 1
+prove b absent 1 e 7
+join 1 2 1
+anchor b 1
+verify 3"""
+
 # The bytes of each page of a store's file that are changed, from its first on; the others are zero.
 TOLD = {0: 2, 1: 2, 2: 140, 3: 140, 4: 24, 5: 240, 6: 24, 7: 300}
 
@@ -70,6 +87,12 @@ def messages(room):
         tried(room, Trial(["receive", "d", "m"], {"m": data}, service))
 
 
+def scripts(room):
+    """a script with each form of line: what is played, or the first bad line"""
+    for data in changes(SCRIPT, OF_LINES):
+        tried(room, Trial(["replay", "s"], {"s": data}))
+
+
 def words_of_forms(room):
     """the words of each form, each of them changed for others, left out and doubled: the first bad word, or what the words are then"""
     for form in forms():
@@ -94,7 +117,7 @@ OVER_STORES = ("append d e", "thread d 0", "prove d event 2 0", "prove d link 1"
 
 
 def cases():
-    for work in (anchors_files, events_files, messages, words_of_forms):
+    for work in (anchors_files, events_files, messages, scripts, words_of_forms):
         yield case(work, "tables")
     for words in OVER_STORES:
         yield {**case(partial(stores, words)), "name": f"tables: {words}, over each changed store"}

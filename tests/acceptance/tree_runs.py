@@ -154,6 +154,42 @@ def sequence(kind, count):
     return case(work, "trees in pages")
 
 
+# ---- pages of few keys, by a table
+
+# The colours of a page's slots, 0 black and 1 red, by the number of keys that came in their order: of the one page of up to 24, and of both of
+# those below the one key at the top of 25.
+HALF = "101010010010"
+COLOURS = {1: ["0"], 2: ["01"], 3: ["101"], 5: ["00101"], 24: ["000000000000000101000101"], 25: ["0", HALF, HALF]}
+
+
+def colours(page):
+    """The colours of the slots in the page's bytes."""
+    data = page.bytes()
+    return "".join(str(data[4 + 67 * slot]) for slot in range(len(page.entries)))
+
+
+def few_keys(_room):
+    """the colours of pages of few keys that rise, by a table; and no key of 25 takes more than two reads"""
+    model, lines, wanted = Model(), [], []
+    for count in range(1, 26):
+        # (numbers of one name: so the keys rise)
+        model.insert(7 * count)
+        lines.append(f"insert {7 * count}")
+        if count in COLOURS:
+            root = model.page(model.tree.root[0])
+            found = [colours(page) for page in (root, *(model.page(child) for child, _ in root.children if child))]
+            if found != COLOURS[count]:
+                raise Wrong(f"  {count} keys: wanted {COLOURS[count]}, the model has {found}")
+            lines += ["root", "pages"]
+            wanted += [model.root(), model.pages()]
+    for number in range(7, 7 * 27, 7):
+        lines.append(f"get {number}")
+        wanted.append(model.get(number))
+        if model.pages_read(("p0", number)) > 2:
+            raise Wrong(f"  key {number} takes more than two reads")
+    expect(lines, wanted)
+
+
 # ---- entries drawn by chance, beside a sorted list
 
 
@@ -197,5 +233,5 @@ def versions_apart(_room):
 def cases():
     return [
         *(sequence(kind, count) for kind, count in SEQUENCES),
-        *(case(work, "trees in pages") for work in (each_version, large_versions, versions_apart)),
+        *(case(work, "trees in pages") for work in (few_keys, each_version, large_versions, versions_apart)),
     ]

@@ -28,13 +28,6 @@ fn has_pages(disk: &mut FileDisk<HostRuntime>, pages: u64) -> bool {
     disk.pages() == Ok(pages)
 }
 
-// Whether no page can be read or written, since the file's folder isn't there.
-fn is_nowhere(rt: &HostRuntime, path: &str, access: Access) -> bool {
-    let mut disk = FileDisk::new(rt, path, access);
-    let fails = disk.pages().is_err();
-    fails && disk.barrier().is_err()
-}
-
 #[test]
 fn a_disk_is_made_by_its_first_call(rt: HostRuntime) {
     let path = "tw_disktests_made/disk";
@@ -61,13 +54,6 @@ fn a_disk_lies_in_its_file(rt: HostRuntime) {
     assert!(rt; !is_page(&mut disk, 3, 0));
     assert!(rt; size_of(&rt, path) == Some(3 * 4096));
     assert!(rt; remove_folder(&rt, "tw_disktests_lies"));
-}
-
-#[test]
-fn a_disk_without_a_folder(rt: HostRuntime) {
-    let path = "tw_disktests_nowhere/disk";
-    assert!(rt; is_nowhere(&rt, path, Access::Write));
-    assert!(rt; is_nowhere(&rt, path, Access::Read));
 }
 
 // The first disk's count stands where the file was cut; a read of a page that is gone is a fault.
@@ -98,19 +84,6 @@ fn a_file_that_ends_within_a_page(rt: HostRuntime) {
     assert!(rt; is_page(&mut disk, 1, 4));
     assert!(rt; size_of(&rt, path) == Some(2 * 4096));
     assert!(rt; remove_folder(&rt, "tw_disktests_half"));
-}
-
-// Without a file there are no pages, and none is made.
-#[test]
-fn a_disk_that_is_read_makes_no_file(rt: HostRuntime) {
-    let path = "tw_disktests_none/disk";
-    assert!(rt; make_folder(&rt, "tw_disktests_none"));
-    let mut none = FileDisk::new(&rt, path, Access::Read);
-    assert!(rt; none.barrier().is_ok());
-    assert!(rt; has_pages(&mut none, 0));
-    assert!(rt; !put(&mut none, 0, 5));
-    assert!(rt; size_of(&rt, path).is_none());
-    assert!(rt; remove_folder(&rt, "tw_disktests_none"));
 }
 
 // Two read at once, and neither writes.

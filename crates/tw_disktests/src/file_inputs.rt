@@ -22,17 +22,6 @@ fn is_full_of(inputs: &mut HostInputs<HostRuntime>, path: &str, byte: u8) -> boo
     read_at(inputs, path, 1) == Ok((100, byte, byte))
 }
 
-#[test]
-fn an_input_is_read_to_its_end(rt: HostRuntime) {
-    let path = "tw_disktests_input/file";
-    assert!(rt; make_folder(&rt, "tw_disktests_input"));
-    assert!(rt; write_file(&rt, path, &[4; 2 * 4096]));
-    let mut inputs = HostInputs::new(&rt);
-    assert!(rt; read_at(&mut inputs, path, 2 * 4096 - 10) == Ok((10, 4, 0)));
-    assert!(rt; read_at(&mut inputs, path, 2 * 4096) == Ok((0, 0, 0)));
-    assert!(rt; remove_folder(&rt, "tw_disktests_input"));
-}
-
 // It stays the file that was opened, also where asked to go back, until another one is asked for.
 #[test]
 fn an_input_stays_the_file_that_was_opened(rt: HostRuntime) {
@@ -47,15 +36,6 @@ fn an_input_stays_the_file_that_was_opened(rt: HostRuntime) {
     assert!(rt; is_full_of(&mut inputs, other, 4));
     assert!(rt; is_full_of(&mut inputs, path, 5));
     assert!(rt; remove_folder(&rt, "tw_disktests_stays"));
-}
-
-#[test]
-fn an_input_that_is_not_there(rt: HostRuntime) {
-    let path = "tw_disktests_other";
-    assert!(rt; write_file(&rt, path, &[5; 200]));
-    let mut inputs = HostInputs::new(&rt);
-    assert!(rt; read_at(&mut inputs, "tw_disktests_missing", 0) == Err(Failed));
-    assert!(rt; is_full_of(&mut inputs, path, 5));
 }
 
 #[test]

@@ -4,8 +4,6 @@
 #[cfg(test)]
 mod caches;
 #[cfg(test)]
-mod chain_runs;
-#[cfg(test)]
 mod disk_runs;
 #[cfg(test)]
 mod disks;
@@ -16,11 +14,7 @@ mod file_inputs;
 #[cfg(test)]
 mod folders;
 #[cfg(test)]
-mod reaching_runs;
-#[cfg(test)]
 mod runs;
-#[cfg(test)]
-mod showing;
 #[cfg(test)]
 mod stores;
 #[cfg(test)]

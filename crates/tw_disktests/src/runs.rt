@@ -32,7 +32,7 @@ fn inputs(rt: &impl Abort, alloc: Global) -> MemInputs {
 }
 
 /// Runs the words over the inputs, and sees that this status and these bytes come.
-pub(crate) fn expect_over<R: Abort>(
+fn expect_over<R: Abort>(
     rt: &R,
     alloc: Global,
     inputs: &mut MemInputs,
@@ -102,50 +102,4 @@ fn a_failing_sink_and_a_failing_read(rt: HostRuntime) {
     assert_eq!(rt; ran.status, 3);
     assert_eq!(rt; ran.disk.device_calls(), 0);
     assert_eq!(rt; out.taken(), b"fault input\n".as_slice());
-}
-
-#[test]
-fn a_read_of_the_proof_fails_behind_the_anchors(rt: HostRuntime) {
-    let alloc = rt.alloc();
-    let mut inputs = inputs(&rt, alloc);
-    inputs.put("k", b"no anchor").expect(&rt, "memory");
-    inputs.fail(3).expect(&rt, "memory");
-    expect_over(
-        &rt,
-        alloc,
-        &mut inputs,
-        &["verify", "p", "k"],
-        3,
-        b"fault input\n",
-    );
-}
-
-#[test]
-fn strict_judges_under_a_file_of_anchors(rt: HostRuntime) {
-    let alloc = rt.alloc();
-    let mut inputs = inputs(&rt, alloc);
-    inputs.put("k", LINE.as_bytes()).expect(&rt, "memory");
-    expect_over(
-        &rt,
-        alloc,
-        &mut inputs,
-        &["strict", "p", "k"],
-        0,
-        b"accepted exists\nevent a 1 0 -\n",
-    );
-}
-
-#[test]
-fn a_file_that_holds_no_part_is_told_before_a_part_that_does_not_fit(rt: HostRuntime) {
-    let alloc = rt.alloc();
-    let mut inputs = inputs(&rt, alloc);
-    inputs.put("k", b"TWPx").expect(&rt, "memory");
-    expect_over(
-        &rt,
-        alloc,
-        &mut inputs,
-        &["join", "p", "p", "k"],
-        9,
-        b"unreadable k byte 3\n",
-    );
 }

@@ -4,7 +4,7 @@ use std::alloc::Global;
 use std::test::Fail;
 use tw_base::{Failed, NoMemory};
 use tw_disk::{MemDisk, Pages};
-use tw_pages::{CommitFault, Store, StoreFault};
+use tw_pages::{CommitFault, Store};
 
 // Stages a page full of this byte.
 fn stage_byte(store: &mut Store<MemDisk>, byte: u8) -> Result<u64, NoMemory> {
@@ -37,14 +37,6 @@ fn init(alloc: Global, disk: MemDisk) -> Option<Store<MemDisk>> {
     match Store::init(alloc, disk, &[1]) {
         Ok(store) => Some(store),
         Err((_, _)) => None,
-    }
-}
-
-// Why no store is made on this disk.
-fn fault_of_init(alloc: Global, disk: MemDisk) -> Option<StoreFault> {
-    match Store::init(alloc, disk, &[1]) {
-        Ok(_) => None,
-        Err((_, fault)) => Some(fault),
     }
 }
 
@@ -105,12 +97,5 @@ fn a_stopped_commit_reopens_as_the_store_before_it(rt: HostRuntime) -> Result<()
     assert!(rt; store.root() == [2].as_slice());
     assert!(rt; byte_at(&mut store, 4) == Ok(Some(7)));
     assert!(rt; byte_at(&mut store, 5) == Ok(None));
-    Ok(())
-}
-
-#[test]
-fn a_store_is_made_once(rt: HostRuntime) -> Result<(), Fail> {
-    let disk = disk_after_a_stop(rt.alloc()).ok_or("no store")?;
-    assert_eq!(rt; fault_of_init(rt.alloc(), disk), Some(StoreFault::Taken));
     Ok(())
 }

@@ -1,5 +1,5 @@
-// An archive's tree in pages in memory: an insert that splits the root, earlier roots, what is asked of the tree and shown, and
-// how many pages that reads.
+// An archive's tree in pages in memory: an insert that splits the root, earlier roots, and what is shown. Its pages, what is found in how many
+// reads and the keys beside a key are what the acceptance run compares, by the program `tree_pages`.
 
 ghost use Rattle.std.specs.Prelude.{IfOk};
 ghost use Rattle.tw_base.specs.history.Limits.{IsEntryInRange, IsStep};
@@ -7,10 +7,9 @@ ghost use Rattle.tw_base.specs.history.Limits.{IsEntryInRange, IsStep};
 use std::alloc::Global;
 use std::test::Fail;
 use tw_base::{Digest, Entry, Key, Name, Root, Sha, Thread, empty_tree};
-use tw_cache::Cached;
 use tw_disk::{MemPages, Pages};
 use tw_rbnode::{keys, level, read_node};
-use tw_rbtree::{Ask, TreeFault, after, before, fresh, get, insert, path};
+use tw_rbtree::{Ask, TreeFault, fresh, get, insert, path};
 use tw_treeproof::{Shown, check};
 
 /// The entry of a step of the service `a`, received at step 1.
@@ -81,21 +80,6 @@ fn shown(alloc: Global, pages: &mut MemPages, root: &Root, ask: &Ask) -> Result<
     Ok(check::<Sha>(&root.label, ask, &proof))
 }
 
-/// The steps on both sides of this one.
-fn beside(
-    pages: &mut MemPages,
-    root: &Root,
-    step: u64,
-) -> Result<(Option<u64>, Option<u64>), Fail> {
-    let key = key(step)?;
-    let low = before::<MemPages, Sha>(pages, root, &key)?;
-    let high = after::<MemPages, Sha>(pages, root, &key)?;
-    Ok((
-        low.map(|entry| entry.thread.step),
-        high.map(|entry| entry.thread.step),
-    ))
-}
-
 #[test]
 fn the_25th_key_splits_the_root(rt: HostRuntime) -> Result<(), Fail> {
     let mut pages = MemPages::new(rt.alloc())?;
@@ -128,31 +112,6 @@ fn an_earlier_root_keeps_its_tree(rt: HostRuntime) -> Result<(), Fail> {
 }
 
 #[test]
-fn a_key_takes_a_read_a_level(rt: HostRuntime) -> Result<(), Fail> {
-    let mut pages = MemPages::new(rt.alloc())?;
-    let root = up_to(rt.alloc(), &mut pages, 25)?;
-    let start = pages.reads();
-    let mut pages = Cached::new(rt.alloc(), pages).map_err(|(_pages, none)| none)?;
-    assert_eq!(rt; found(&mut pages, &root, 1)?, Some(1));
-    assert_eq!(rt; found(&mut pages, &root, 12)?, Some(12));
-    assert_eq!(rt; found(&mut pages, &root, 13)?, Some(13));
-    assert_eq!(rt; pages.close().reads(), start.saturating_add(2));
-    Ok(())
-}
-
-#[test]
-fn no_key_of_two_levels_takes_more_than_two_reads(rt: HostRuntime) -> Result<(), Fail> {
-    let mut pages = MemPages::new(rt.alloc())?;
-    let root = up_to(rt.alloc(), &mut pages, 25)?;
-    for step in 1..=25 {
-        let start = pages.reads();
-        assert_eq!(rt; found(&mut pages, &root, step)?, Some(step));
-        assert!(rt; pages.reads() <= start.saturating_add(2));
-    }
-    Ok(())
-}
-
-#[test]
 fn what_is_so_is_shown(rt: HostRuntime) -> Result<(), Fail> {
     let mut pages = MemPages::new(rt.alloc())?;
     let root = up_to(rt.alloc(), &mut pages, 25)?;
@@ -176,16 +135,5 @@ fn what_is_so_is_shown(rt: HostRuntime) -> Result<(), Fail> {
         shown(rt.alloc(), &mut pages, &root, &not_absent),
         Err(TreeFault::Untrue)
     );
-    Ok(())
-}
-
-#[test]
-fn the_keys_beside_a_key(rt: HostRuntime) -> Result<(), Fail> {
-    let mut pages = MemPages::new(rt.alloc())?;
-    let root = up_to(rt.alloc(), &mut pages, 25)?;
-    assert_eq!(rt; beside(&mut pages, &root, 1)?, (None, Some(2)));
-    assert_eq!(rt; beside(&mut pages, &root, 13)?, (Some(12), Some(14)));
-    assert_eq!(rt; beside(&mut pages, &root, 14)?, (Some(13), Some(15)));
-    assert_eq!(rt; beside(&mut pages, &root, 25)?, (Some(24), None));
     Ok(())
 }

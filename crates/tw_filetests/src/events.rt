@@ -7,7 +7,7 @@ ghost use Rattle.tw_base.specs.declared.kinds.limits.TheConstants.{MOST_EVENT_BY
 use std::alloc::Global;
 use std::test::Fail;
 use tw_base::{Bytes, EventList, NoMemory, Sha, event_leaf, event_node};
-use tw_events::{check_event, event_part, event_path, event_root, root_over};
+use tw_events::{event_part, event_path, event_root, root_over};
 
 /// Appends an event.
 fn add_event(alloc: Global, events: &mut EventList, bytes: &[u8]) -> Result<(), NoMemory>
@@ -54,18 +54,5 @@ fn root_and_paths_of_three_events(rt: HostRuntime) -> Result<(), Fail> {
         root_over::<Sha>(&shown, 3),
         event_node::<Sha>(&left, &third)
     );
-    Ok(())
-}
-
-#[test]
-fn one_event_is_shown_and_no_other(rt: HostRuntime) -> Result<(), Fail> {
-    let events = three_events(rt.alloc())?;
-    let root = event_root::<Sha>(events.as_slice());
-    let mut path = event_path::<Sha>(rt.alloc(), events.as_slice(), 2)?;
-    assert!(rt; check_event::<Sha>(&root, 3, 2, &[2, 2], &path));
-    assert!(rt; !check_event::<Sha>(&root, 3, 1, &[2, 2], &path));
-    assert!(rt; !check_event::<Sha>(&root, 3, 2, &[2, 3], &path));
-    path.push(root)?;
-    assert!(rt; !check_event::<Sha>(&root, 3, 2, &[2, 2], &path));
     Ok(())
 }

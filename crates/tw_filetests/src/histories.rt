@@ -2,10 +2,8 @@
 
 use std::alloc::Global;
 use std::test::Fail;
-use tw_base::{Bytes, Digest, Name, NoMemory, Weak};
-use tw_history::{
-    History, HistoryFault, Nodes, Steps, auth_of, is_sound, read_history, show_event, write_history,
-};
+use tw_base::{Bytes, Digest, NoMemory, Weak};
+use tw_history::{HistoryFault, auth_of, is_sound, read_history, show_event, write_history};
 
 /// The file of the history of the service `a` with one step of one event of no bytes, which begins with these bytes.
 fn event_file(alloc: Global, begin: &[u8]) -> Result<Bytes, NoMemory> {
@@ -15,21 +13,6 @@ fn event_file(alloc: Global, begin: &[u8]) -> Result<Bytes, NoMemory> {
     file.extend_from_slice(&[1])?;
     file.extend_from_slice(begin)?;
     file.extend_from_slice(&[0, 0, 0, 1])?;
-    file.extend_from_slice(&[0; 10])?;
-    Ok(file)
-}
-
-/// The file of the history of the service `a` with three steps without events, of which the first
-/// has the time 5, the second none, and the third the time 4.
-fn falling_file(alloc: Global) -> Result<Bytes, NoMemory> {
-    let mut file = Bytes::new(alloc);
-    file.extend_from_slice(b"TWH1a")?;
-    file.extend_from_slice(&[0; 22])?;
-    file.extend_from_slice(&[3, 3, 0, 0, 0, 0, 0, 0, 0, 5])?;
-    file.extend_from_slice(&[0; 10])?;
-    file.extend_from_slice(&[1])?;
-    file.extend_from_slice(&[0; 10])?;
-    file.extend_from_slice(&[3, 0, 0, 0, 0, 0, 0, 0, 4])?;
     file.extend_from_slice(&[0; 10])?;
     Ok(file)
 }
@@ -98,27 +81,8 @@ fn a_step_with_a_time(rt: HostRuntime) -> Result<(), Fail> {
 }
 
 #[test]
-fn times_that_fall(rt: HostRuntime) -> Result<(), Fail> {
-    let file = falling_file(rt.alloc())?;
-    match read_history(rt.alloc(), file.as_slice()) {
-        Ok(_) => panic!(rt; "times that fall"),
-        Err(fault) => assert_eq!(rt; fault, HistoryFault::Unsound { step: 3, rule: 7 }),
-    }
-    Ok(())
-}
-
-#[test]
 fn a_step_of_a_thread(rt: HostRuntime) -> Result<(), Fail> {
     let file = thread_file(rt.alloc())?;
     assert!(rt; is_kept(rt.alloc(), file.as_slice()) == Ok(true));
-    Ok(())
-}
-
-#[test]
-fn no_step(rt: HostRuntime) -> Result<(), Fail> {
-    let alloc = rt.alloc();
-    let name = Name::read(b"a").ok_or("no name")?;
-    let history = History::new(name, Steps::new(alloc), Nodes::new(alloc));
-    assert!(rt; write_history(alloc, &history)?.len() == 28);
     Ok(())
 }

@@ -2,7 +2,7 @@
 
 use std::process::Abort;
 use tw_base::{
-    Digest, Entry, Name, Sha, Thread, Weak, authenticator, datum, empty_tree, event_leaf, genesis,
+    Digest, Entry, Name, Thread, Weak, authenticator, datum, empty_tree, event_leaf, genesis,
     link_label, no_events, step_datum, timed_datum, tree_node,
 };
 
@@ -88,12 +88,4 @@ fn a_step_that_received_a_thread(rt: HostRuntime) {
     let label = link_label::<Weak>(1, 0, &datum, &genesis);
     assert_eq!(rt; label, short(0xf6));
     assert_eq!(rt; authenticator::<Weak>(1, &[label]), short(0x0a));
-}
-
-/// The leaf of the empty event is SHA-256 of one zero byte (FIPS 180-4; RFC 6962, section 2.1).
-#[test]
-fn leaf_of_the_empty_event(rt: HostRuntime) {
-    let leaf = event_leaf::<Sha>(b"");
-    assert_eq!(rt; &leaf.0[..4], [0x6e, 0x34, 0x0b, 0x9c].as_slice());
-    assert_eq!(rt; &leaf.0[29..], [0xaf, 0xa0, 0x1d].as_slice());
 }

@@ -2,10 +2,6 @@
 #![tactic(auto)]
 
 #[cfg(test)]
-mod anchors;
-#[cfg(test)]
-mod event_files;
-#[cfg(test)]
 mod events;
 #[cfg(test)]
 mod failing;
@@ -13,8 +9,6 @@ mod failing;
 mod histories;
 #[cfg(test)]
 mod labels;
-#[cfg(test)]
-mod messages;
 #[cfg(test)]
 mod names;
 #[cfg(test)]
@@ -29,7 +23,5 @@ mod reading;
 mod tree_proofs;
 #[cfg(test)]
 mod trees;
-#[cfg(test)]
-mod words;
 #[cfg(test)]
 mod writing;

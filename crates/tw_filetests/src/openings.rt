@@ -4,7 +4,6 @@
 ghost use Rattle.std.specs.Prelude.{◌≤◌};
 
 use std::alloc::Global;
-use std::process::Abort;
 use std::test::Fail;
 use tw_base::{Bytes, Digest, Labels, ReadFault, Sha, event_leaf};
 use tw_skipproof::{

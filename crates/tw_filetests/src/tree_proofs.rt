@@ -1,4 +1,4 @@
-// Proofs over small trees: worked values, each question against the sorted list, and the limits of their format.
+// Proofs over small trees: a worked value, and each question against the sorted list. The limits of their format are tried by the acceptance run.
 
 ghost use Rattle.std.specs.Prelude.{IfOk};
 ghost use Rattle.tw_base.specs.history.Tree.{IsRising, entries};
@@ -7,12 +7,9 @@ ghost use Rattle.tw_tree.specs.TreeMeaning.{tree_of};
 use std::alloc::Global;
 use std::process::Abort;
 use std::test::Fail;
-use tw_base::{
-    Bytes, Digest, Entry, Name, ReadFault, Sha, Thread, Weak, entry_key, put_digest, put_entry,
-    take_entry,
-};
+use tw_base::{Bytes, Digest, Entry, Name, Thread, Weak, entry_key};
 use tw_tree::{ProveFault, Tree, insert_plain, label, list, prove};
-use tw_treeproof::{Ask, Shown, TreeProof, check, put_tree_proof, take_gap, take_present};
+use tw_treeproof::{Ask, Shown, check, put_tree_proof, take_present};
 
 /// A digest of the weak hasher.
 fn short(first: u8) -> Digest {
@@ -50,38 +47,6 @@ fn the_proof_of_an_only_entry(rt: HostRuntime) -> Result<(), Fail> {
     assert_eq!(rt; at, 65);
     assert_eq!(rt; check::<Weak>(&short(0x5f), &ask, &read), Shown::Present);
     assert_eq!(rt; check::<Weak>(&short(0x5e), &ask, &read), Shown::Wrong);
-    Ok(())
-}
-
-#[test]
-fn a_step_between_two_services_is_absent(rt: HostRuntime) -> Result<(), Fail> {
-    let alloc = rt.alloc();
-    let tree = insert_plain(alloc, &Tree::empty(), entry_of(&rt, b"alpha", 5))?;
-    let tree = insert_plain(alloc, &tree, entry_of(&rt, b"beta", 2))?;
-    let key = entry_key(&entry_of(&rt, b"alpha", 6));
-    let proof = prove::<Sha>(alloc, &tree, &Ask::Absent(key))?;
-    let mut bytes = Bytes::new(alloc);
-    put_tree_proof(&mut bytes, &proof)?;
-    assert_eq!(rt; bytes.len(), 1 + 2 * 96);
-    let mut at = 1;
-    assert_eq!(rt;
-        take_entry(bytes.as_slice(), &mut at)?,
-        entry_of(&rt, b"beta", 2)
-    );
-    at = 97;
-    assert_eq!(rt;
-        take_entry(bytes.as_slice(), &mut at)?,
-        entry_of(&rt, b"alpha", 5)
-    );
-    let root = label::<Sha>(&tree);
-    assert_eq!(rt;
-        check::<Sha>(&root, &Ask::Absent(key), &proof),
-        Shown::Absent
-    );
-    let present = Ask::Present(entry_of(&rt, b"alpha", 6));
-    assert_eq!(rt; check::<Sha>(&root, &present, &proof), Shown::Wrong);
-    let refused = prove::<Sha>(alloc, &tree, &present);
-    assert!(rt; matches!(refused, Err(ProveFault::Untrue)));
     Ok(())
 }
 
@@ -178,46 +143,5 @@ fn each_question_is_answered_as_by_the_sorted_list(rt: HostRuntime) -> Result<()
         let tree = tree_by(&rt, rt.alloc(), stride, stride)?;
         compare_all(&rt, rt.alloc(), &tree)?;
     }
-    Ok(())
-}
-
-/// The bytes of a proof: a count, what follows it, and so many nodes of one entry.
-fn bytes_of(rt: &impl Abort, alloc: Global, count: u8, labels: &[u8]) -> Result<Bytes, Fail> {
-    let mut bytes = Bytes::new(alloc);
-    bytes.push(count)?;
-    bytes.extend_from_slice(labels)?;
-    for _i in 0..count {
-        put_entry(&mut bytes, &entry_of(rt, b"a", 1))?;
-        put_digest(&mut bytes, &short(0x14))?;
-    }
-    Ok(bytes)
-}
-
-/// The place at which the bytes were found malformed.
-fn place_of(read: Result<TreeProof, ReadFault>) -> Option<u64> {
-    match read {
-        Err(ReadFault::Malformed { place }) => Some(place),
-        _ => None,
-    }
-}
-
-#[test]
-fn a_proof_has_so_many_nodes_at_most(rt: HostRuntime) -> Result<(), Fail> {
-    let alloc = rt.alloc();
-    let most = bytes_of(&rt, alloc, 128, &[])?;
-    let mut at = 0;
-    let _read = take_gap(alloc, most.as_slice(), &mut at)?;
-    assert_eq!(rt; at, 12_289);
-    let more = bytes_of(&rt, alloc, 129, &[])?;
-    assert_eq!(rt; place_of(take_gap(alloc, more.as_slice(), &mut 0)), Some(0));
-    let most = bytes_of(&rt, alloc, 127, &[0; 64])?;
-    let mut at = 0;
-    let _read = take_present(alloc, most.as_slice(), &mut at)?;
-    assert_eq!(rt; at, 12_257);
-    let more = bytes_of(&rt, alloc, 128, &[0; 64])?;
-    assert_eq!(rt;
-        place_of(take_present(alloc, more.as_slice(), &mut 0)),
-        Some(0)
-    );
     Ok(())
 }

@@ -4,6 +4,8 @@
 #[cfg(test)]
 mod fickle_disk;
 #[cfg(test)]
+mod runs;
+#[cfg(test)]
 mod services;
 #[cfg(test)]
 mod stops;

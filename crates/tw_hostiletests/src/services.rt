@@ -7,7 +7,6 @@ ghost use Rattle.tw_base.specs.history.Limits.{IsStep};
 
 use crate::fickle_disk::FickleDisk;
 use std::alloc::Global;
-use std::process::Abort;
 use std::test::Fail;
 use tw_base::{Bytes, EventList, Key, Name, NoMemory, Sha};
 use tw_disk::MemDisk;

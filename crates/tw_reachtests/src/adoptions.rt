@@ -14,9 +14,6 @@ const TWO: &[u8] = &[
     1, 0, 0, 0, 1, 0, 0, 0, 0, 0, 0, 0, 0, 0, 0, 1, 0, 0, 0, 1, 0, 0, 0, 0, 0, 0, 0, 0, 0, 0,
 ];
 
-/// One step of the event `x`.
-const OTHER: &[u8] = &[1, 0, 0, 0, 1, 0, 0, 0, 1, b'x', 0, 0, 0, 0, 0, 0];
-
 /// A digest of the weak hasher.
 fn short(first: u8) -> Digest {
     let mut bytes = [0; 32];
@@ -94,22 +91,6 @@ fn answered(
     adopt::<Weak>(alloc, history, &anchors, &proofs)
 }
 
-/// Whether the history differs from the proof, and has this authenticator at its step.
-fn differs(rt: &impl Abort, alloc: Global, history: &History, has: Option<Digest>) -> bool {
-    let answer = answered(rt, alloc, history, 0x0a);
-    match &answer {
-        Err(
-            AdoptFault::Differs {
-                number,
-                step,
-                held,
-                found,
-            },
-        ) => *number == 1 && *step == 1 && held.0[0] == 0xbf && *found == has,
-        _ => false,
-    }
-}
-
 #[test]
 fn as_far_as_it_was_received(rt: HostRuntime) {
     let alloc = rt.alloc();
@@ -124,39 +105,5 @@ fn as_far_as_it_was_received(rt: HostRuntime) {
             assert_eq!(rt; file.len(), 43);
         }
         Err(_) => assert!(rt; false, "it isn't taken over"),
-    }
-}
-
-#[test]
-fn another_event_and_no_step(rt: HostRuntime) {
-    let alloc = rt.alloc();
-    let other = history_of(&rt, alloc, b"a", 1, OTHER);
-    assert!(rt; differs(&rt, alloc, &other, Some(short(0x37))));
-    let none = history_of(&rt, alloc, b"a", 0, &[]);
-    assert!(rt; differs(&rt, alloc, &none, None));
-}
-
-#[test]
-fn another_service(rt: HostRuntime) {
-    let alloc = rt.alloc();
-    let history = history_of(&rt, alloc, b"c", 2, TWO);
-    let answer = answered(&rt, alloc, &history, 0x0a);
-    match &answer {
-        Err(AdoptFault::Stranger { number }) => assert_eq!(rt; *number, 1),
-        _ => assert!(rt; false, "no stranger"),
-    }
-}
-
-#[test]
-fn another_anchor(rt: HostRuntime) {
-    let alloc = rt.alloc();
-    let history = history_of(&rt, alloc, b"a", 2, TWO);
-    let answer = answered(&rt, alloc, &history, 0x0b);
-    match &answer {
-        Err(AdoptFault::Part { number, reason }) => {
-            assert_eq!(rt; *number, 1);
-            assert_eq!(rt; reason.number(), 4);
-        }
-        _ => assert!(rt; false, "it is accepted"),
     }
 }

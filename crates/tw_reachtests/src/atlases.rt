@@ -1,12 +1,11 @@
 // Atlases of a few hops: the lines that are planned, and atlases of which one condition doesn't hold.
 
 use std::alloc::Global;
-use std::test::Fail;
 use tw_atlas::limits::MOST_RECEIPTS;
 use tw_atlas::{
     Arrival, ArrivalList, Atlas, Leg, LegList, add_hops, atlas_laws, check_atlas, plan, print_atlas,
 };
-use tw_base::{Bytes, Digest, Hop, HopList, Name, ReadFault, Thread};
+use tw_base::{Bytes, Digest, Hop, HopList, Name, Thread};
 use tw_msg::{Receipt, write_receipt};
 
 /// A service with a name of one letter, a step of it, the service that recorded that, and its step.
@@ -81,45 +80,6 @@ fn a_plan_is_printed_in_lines(rt: HostRuntime) {
         b"atlas a 2\nleg 1 after 0 hop a 3 b 5\nleg 2 after 1 hop b 6 c 7\narrive a 2 leg 0\narrive b 5 leg 1\narrive c 7 leg 2\n";
     assert!(rt; prints(rt.alloc(), &hops, b'a', 2, text));
     assert!(rt; prints(rt.alloc(), &hops, b'a', 4, b"atlas a 4\narrive a 4 leg 0\n"));
-}
-
-#[test]
-fn a_way_leads_back_to_its_service(rt: HostRuntime) {
-    let hops = [(b'a', 5, b'b', 6), (b'b', 7, b'c', 3), (b'c', 4, b'b', 2)];
-    let text =
-        b"atlas a 5\nleg 1 after 0 hop a 5 b 6\nleg 2 after 1 hop b 7 c 3\nleg 3 after 2 hop c 4 b 2\narrive a 5 leg 0\narrive b 2 leg 3\narrive c 3 leg 2\n";
-    assert!(rt; prints(rt.alloc(), &hops, b'a', 5, text));
-}
-
-#[test]
-fn hops_of_a_round_stand_in_order(rt: HostRuntime) {
-    let text =
-        b"atlas a 1\nleg 1 after 0 hop a 3 b 5\nleg 2 after 0 hop a 4 d 1\nleg 3 after 1 hop b 6 c 7\narrive a 1 leg 0\narrive b 5 leg 1\narrive c 7 leg 3\narrive d 1 leg 2\n";
-    assert!(rt; prints(rt.alloc(), &HOPS, b'a', 1, text));
-}
-
-/// What reading so much of a file of two receipts answers, and how many hops there are then.
-fn front(alloc: Global, size: usize) -> Option<(Result<(), ReadFault>, usize)> {
-    let file = receipts(alloc, &[(b'a', 3, b'b', 5), (b'b', 4, b'c', 9)])?;
-    let front = file.as_slice().get(..size)?;
-    let mut hops = HopList::new(alloc);
-    let read = add_hops(alloc, front, &mut hops);
-    Some((read, hops.len()))
-}
-
-#[test]
-fn a_file_of_receipts_is_read_to_its_first_bad_byte(rt: HostRuntime) {
-    assert_eq!(rt; front(rt.alloc(), 0), Some((Ok(()), 0)));
-    assert_eq!(rt;
-        front(rt.alloc(), 115),
-        Some((Err(ReadFault::Malformed { place: 115 }), 0))
-    );
-    assert_eq!(rt; front(rt.alloc(), 116), Some((Ok(()), 1)));
-    assert_eq!(rt;
-        front(rt.alloc(), 231),
-        Some((Err(ReadFault::Malformed { place: 231 }), 0))
-    );
-    assert_eq!(rt; front(rt.alloc(), 232), Some((Ok(()), 2)));
 }
 
 fn legs(alloc: Global, legs: &[(u32, Ends)]) -> Option<LegList> {

@@ -5,13 +5,13 @@ use std::alloc::Global;
 use std::process::Abort;
 use std::test::Fail;
 use tw_base::{
-    Bytes, Digest, Name, NoMemory, ReadFault, Reason, Thread, Weak, put_digest, put_name,
-    put_number, put_text,
+    Bytes, Digest, Name, NoMemory, ReadFault, Thread, Weak, put_digest, put_name, put_number,
+    put_text,
 };
 use tw_chain::ThreadProof;
 use tw_evidence::{
-    Evidence, ForkReason, ForkVerdict, accuse, check_evidence, print_fork, read_evidence,
-    read_link_proof, read_thread_proof, write_evidence,
+    Evidence, ForkVerdict, accuse, check_evidence, print_fork, read_evidence, read_link_proof,
+    read_thread_proof, write_evidence,
 };
 use tw_join::JoinFault;
 
@@ -51,26 +51,6 @@ const GAMMA: Receiver = Receiver {
     auth: 0x90,
     archive: 0x30,
     last: 0x7c,
-};
-
-/// The same service, where it was shown what `beta` was.
-const SAME: Receiver = Receiver {
-    name: b"gamma",
-    prev: 0x13,
-    step: 1,
-    auth: 0xbf,
-    archive: 0x5f,
-    last: 0xab,
-};
-
-/// The same service, where it was shown a step 2.
-const LATER: Receiver = Receiver {
-    name: b"gamma",
-    prev: 0x13,
-    step: 2,
-    auth: 0x90,
-    archive: 0x31,
-    last: 0x7d,
 };
 
 /// A digest of the weak hasher.
@@ -139,14 +119,6 @@ fn verdict_of(rt: &impl Abort, alloc: Global, bytes: &[u8], other: &Receiver) ->
     check_evidence::<Weak>(alloc, bytes, &anchors).expect(rt, "memory")
 }
 
-/// The bytes but for the last one.
-fn without_last(bytes: &[u8]) -> &[u8] {
-    match bytes.split_last() {
-        Some((_, front)) => front,
-        None => bytes,
-    }
-}
-
 /// Whether this is what is told of the verdict.
 fn tells(rt: &impl Abort, alloc: Global, verdict: &ForkVerdict, text: &str) -> bool {
     print_fork(alloc, verdict).expect(rt, "memory").as_slice() == text.as_bytes()
@@ -159,33 +131,6 @@ fn two_events_of_one_step(rt: HostRuntime) {
     assert_eq!(rt; bytes.len(), 568);
     let verdict = verdict_of(&rt, alloc, bytes.as_slice(), &GAMMA);
     assert!(rt; tells(&rt, alloc, &verdict, TEXT));
-}
-
-#[test]
-fn a_byte_less_and_an_anchor_less(rt: HostRuntime) {
-    let alloc = rt.alloc();
-    let bytes = bytes_of(&rt, alloc, &GAMMA);
-    let cut = verdict_of(&rt, alloc, without_last(bytes.as_slice()), &GAMMA);
-    assert!(rt; tells(&rt, alloc, &cut, "rejected 1 Malformed 567\n"));
-    let unheld = verdict_of(&rt, alloc, bytes.as_slice(), &SAME);
-    assert!(rt; tells(&rt, alloc, &unheld, "rejected 10 Part 2 4\n"));
-}
-
-#[test]
-fn one_thread_is_no_fork(rt: HostRuntime) {
-    let alloc = rt.alloc();
-    let bytes = bytes_of(&rt, alloc, &SAME);
-    let verdict = verdict_of(&rt, alloc, bytes.as_slice(), &SAME);
-    assert!(rt; tells(&rt, alloc, &verdict, "rejected 11 NoConflict\n"));
-}
-
-#[test]
-fn a_later_step_needs_a_link(rt: HostRuntime) {
-    let alloc = rt.alloc();
-    match made(&rt, alloc, &LATER) {
-        Err(JoinFault::Gap { place }) => assert_eq!(rt; place, 2),
-        _ => assert!(rt; false, "no gap"),
-    }
 }
 
 #[test]
@@ -213,14 +158,4 @@ fn a_link_is_read_and_no_thread(rt: HostRuntime) -> Result<(), Fail> {
         _ => assert!(rt; false, "a thread"),
     }
     Ok(())
-}
-
-#[test]
-fn the_lines_of_reasons(rt: HostRuntime) {
-    let alloc = rt.alloc();
-    let reason = Reason::BadTree { part: 0 };
-    let part = ForkVerdict::No(ForkReason::Part { number: 2, reason });
-    assert!(rt; tells(&rt, alloc, &part, "rejected 10 Part 2 7\n"));
-    let link = ForkVerdict::No(ForkReason::BadLink);
-    assert!(rt; tells(&rt, alloc, &link, "rejected 12 BadLink\n"));
 }

@@ -1,9 +1,7 @@
-// Scripts: the lines that are read, and what is told where one isn't allowed.
+// Scripts: the lines that are read. What is told where one isn't allowed is tried by the acceptance run.
 
 use std::alloc::Global;
-use std::test::Fail;
-use tw_script::limits::MOST_SCRIPT_BYTES;
-use tw_script::{AskedProof, CrashChoice, Line, ScriptFault, read_script, script_laws};
+use tw_script::{AskedProof, CrashChoice, Line, read_script, script_laws};
 
 /// How many lines are read of the text; none where it is no script.
 fn count(alloc: Global, text: &[u8]) -> Option<usize> {
@@ -12,22 +10,6 @@ fn count(alloc: Global, text: &[u8]) -> Option<usize> {
         Ok(script) => Some(script.len()),
         Err(_) => None,
     }
-}
-
-/// What is told of a text that is no script.
-fn told(alloc: Global, text: &[u8]) -> Option<ScriptFault> {
-    match read_script(alloc, text) {
-        Ok(script) => {
-            drop(script);
-            None
-        }
-        Err(fault) => Some(fault),
-    }
-}
-
-/// Whether this line is told of the text as the first bad one.
-fn is_bad_at(alloc: Global, text: &[u8], line: u64) -> bool {
-    told(alloc, text) == Some(ScriptFault::BadLine { line })
 }
 
 /// Whether the text's first line is a crash at this call, with zeros left.
@@ -55,11 +37,6 @@ fn is_under(asked: &AskedProof, wanted: Option<u64>) -> bool {
         AskedProof::OfThread { top, .. } => *top == wanted,
         _ => false,
     }
-}
-
-/// A text of so many line feeds.
-fn feeds(alloc: Global, count: usize) -> Result<Vec<u8>, Fail> {
-    Ok(vec![in alloc; b'\n'; count]?)
 }
 
 /// A script that has each form.
@@ -94,43 +71,4 @@ fn words_are_values(rt: HostRuntime) {
         asks_under(alloc, b"service a\nprove a thread 1 b 2\n", None),
         Some(true)
     );
-}
-
-#[test]
-fn the_first_line_without_a_form_is_told(rt: HostRuntime) {
-    let alloc = rt.alloc();
-    assert!(rt; is_bad_at(alloc, b"service a\nservice B\nfrob", 2));
-    assert!(rt; is_bad_at(alloc, b"#\n\nservice a ", 3));
-    assert!(rt; is_bad_at(alloc, b"service a\nappend a 6", 2));
-    assert!(rt; is_bad_at(alloc, b"service a\nsend a 00", 2));
-    assert!(rt; is_bad_at(alloc, b"service a\ncrash a 0 1", 2));
-    assert!(rt; is_bad_at(alloc, b"service a\nprove a link 1\njoin 1", 3));
-    assert!(rt; is_bad_at(alloc, b"service a\nprove a thread 1 b 0", 2));
-    assert!(rt; is_bad_at(alloc, b"service a\nappend  a", 2));
-}
-
-#[test]
-fn the_first_line_that_uses_what_is_not_there_is_told(rt: HostRuntime) {
-    let alloc = rt.alloc();
-    assert!(rt; is_bad_at(alloc, b"service a\nhostile a", 2));
-    assert!(rt; is_bad_at(alloc, b"hostile a\nappend a", 2));
-    assert!(rt; is_bad_at(alloc, b"service a\ninject a -", 2));
-    assert!(rt; is_bad_at(alloc, b"service a\nsend a 0\ndeliver 2 a", 3));
-    assert!(rt; is_bad_at(alloc, b"service a\nsend a 0\ndrop 1\ndeliver 1 a", 4));
-    assert!(rt; is_bad_at(alloc, b"verify 1", 1));
-    assert!(rt; is_bad_at(alloc, b"service a\nprove a link 1\nverify 2", 3));
-}
-
-#[test]
-fn a_long_script_is_told_by_the_line_of_the_limit(rt: HostRuntime) -> Result<(), Fail> {
-    let alloc = rt.alloc();
-    let most = feeds(alloc, MOST_SCRIPT_BYTES)?;
-    assert_eq!(rt; count(alloc, most.as_slice()), Some(0));
-    let more = feeds(alloc, MOST_SCRIPT_BYTES + 1)?;
-    let line = 1_048_577;
-    assert_eq!(rt;
-        told(alloc, more.as_slice()),
-        Some(ScriptFault::TooLong { line })
-    );
-    Ok(())
 }

@@ -1,9 +1,6 @@
-//! Tests of steps in pages, of messages judged by an archive in pages, and of services over a disk in memory: calls that take memory, and
-//! calls that fail.
+//! Tests of steps in pages and of services over a disk in memory: calls that take memory, and what they read.
 #![tactic(auto)]
 
-#[cfg(test)]
-mod judgements;
 #[cfg(test)]
 mod reads;
 #[cfg(test)]

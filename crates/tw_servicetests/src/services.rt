@@ -1,5 +1,5 @@
-// Services on a disk in memory: each call once, how many device calls it makes, what a stop leaves, and a failed call. Root records,
-// pages that aren't of their kind, limits and what is missing are shown by the acceptance run.
+// Services on a disk in memory: each call once, and how many device calls and reads it makes. Root records, pages that aren't of their kind,
+// limits and what is missing are shown by the acceptance run, and what stops and failed calls leave by `tw_hostiletests`.
 
 use std::alloc::Global;
 use std::process::Abort;
@@ -7,7 +7,6 @@ use std::test::Fail;
 use tw_base::{Bytes, EventList, Name, NoMemory, Sha, Thread};
 use tw_chain::Verdict;
 use tw_disk::MemDisk;
-use tw_pages::StoreFault;
 use tw_service::{Refusal, Service};
 use tw_skipproof::climb;
 use tw_verifier::verify;
@@ -30,14 +29,6 @@ fn init(alloc: Global, disk: MemDisk, name: Name) -> Option<Service<MemDisk, Sha
     match Service::<MemDisk, Sha>::init(alloc, disk, name) {
         Ok(service) => Some(service),
         Err((_, _)) => None,
-    }
-}
-
-// Why no service is made on this disk.
-fn fault_of_init(alloc: Global, disk: MemDisk, name: Name) -> Option<StoreFault> {
-    match Service::<MemDisk, Sha>::init(alloc, disk, name) {
-        Ok(_) => None,
-        Err((_, fault)) => Some(fault),
     }
 }
 
@@ -80,16 +71,6 @@ fn init_makes_ten_calls(rt: HostRuntime) -> Result<(), Fail> {
     assert_eq!(rt; service.steps(), 0);
     assert_eq!(rt; service.name(), name);
     assert_eq!(rt; service.close().device_calls(), 10);
-    Ok(())
-}
-
-#[test]
-fn a_service_is_made_once(rt: HostRuntime) -> Result<(), Fail> {
-    let alloc = rt.alloc();
-    let name = alpha(&rt);
-    let service = init(alloc, MemDisk::new(alloc), name).ok_or("no service")?;
-    let fault = fault_of_init(alloc, service.close(), name);
-    assert_eq!(rt; fault, Some(StoreFault::Taken));
     Ok(())
 }
 
@@ -241,56 +222,5 @@ fn the_greatest_time_outlives_a_step_without_one(rt: HostRuntime) -> Result<(), 
     let third = append_at(alloc, &mut service, 7)?;
     assert_eq!(rt; third.step, 3);
     assert!(rt; is_accepted(alloc, &mut service, 1, third));
-    Ok(())
-}
-
-#[test]
-fn a_failed_call_leaves_the_earlier_steps(rt: HostRuntime) -> Result<(), Fail> {
-    let alloc = rt.alloc();
-    let mut service = init(alloc, MemDisk::new(alloc), alpha(&rt)).ok_or("no service")?;
-    let first = append(alloc, &mut service)?;
-    let mut disk = service.close();
-    disk.fail(4)?;
-    let mut service = open(alloc, disk).ok_or("not opened")?;
-    for refusal in [Refusal::DiskFault, Refusal::Reopen] {
-        assert_eq!(rt; append(alloc, &mut service).err(), Some(refusal));
-    }
-    assert_eq!(rt; service.prove_event(1, 0, 1).err(), Some(Refusal::Reopen));
-    let service = open(alloc, service.close()).ok_or("not opened again")?;
-    assert_eq!(rt; service.head(), first);
-    Ok(())
-}
-
-// The number of steps that a new service has after its first append was stopped at this call and the
-// disk crashed with this outcome; None where it isn't opened.
-fn steps_after_a_stop(alloc: Global, name: Name, call: u64, choice: u8) -> Option<u64> {
-    let service = init(alloc, MemDisk::new(alloc), name)?;
-    let events = one_event(alloc).ok()?;
-    let mut disk = service.close();
-    disk.stop_at(call.max(1).saturating_add(1));
-    let mut service = open(alloc, disk)?;
-    let _ = service.append(&events);
-    let mut disk = service.close();
-    disk.crash(choice.min(3));
-    let service = open(alloc, disk)?;
-    let steps = service.steps();
-    drop(service.close());
-    Some(steps)
-}
-
-#[test]
-fn a_stop_leaves_the_step_or_not(rt: HostRuntime) -> Result<(), Fail> {
-    let alloc = rt.alloc();
-    let name = alpha(&rt);
-    for choice in 0..4 {
-        for call in 1..7 {
-            assert_eq!(rt; steps_after_a_stop(alloc, name, call, choice), Some(0));
-        }
-        for call in 7..9 {
-            let steps = steps_after_a_stop(alloc, name, call, choice).ok_or("not opened")?;
-            assert!(rt; steps <= 1);
-        }
-        assert_eq!(rt; steps_after_a_stop(alloc, name, 9, choice), Some(1));
-    }
     Ok(())
 }

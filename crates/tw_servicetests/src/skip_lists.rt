@@ -1,10 +1,9 @@
-// Steps in pages in memory: each call once, how many pages it reads, and a read that fails. The bytes of pages, and pages that
-// aren't of their kind, are shown by the acceptance run.
+// Steps in pages in memory: each call once, and how many pages it reads. The bytes of pages, pages that aren't of their kind, steps that
+// aren't there and reads that fail are shown by the acceptance run.
 
 ghost use Rattle.std.specs.Prelude.{◌^◌, ◌<◌, ◌≤◌, ◌≡◌, IfOk, [], ◌∷◌};
 
 use std::alloc::Global;
-use std::process::Abort;
 use std::test::Fail;
 use tw_base::{Bytes, Digest, EventList, Name, NoMemory, Root, Sha, Thread, event_leaf, genesis};
 use tw_disk::{MemPages, Pages};
@@ -232,32 +231,5 @@ fn an_append_reads_the_pages_of_its_links(rt: HostRuntime) -> Result<(), Fail> {
     let next = add(rt.alloc(), &mut pages, &head)?;
     assert_eq!(rt; next.step, 64);
     assert_eq!(rt; pages.reads(), start.saturating_add(6));
-    Ok(())
-}
-
-#[test]
-fn what_is_not_there_is_told(rt: HostRuntime) -> Result<(), Fail> {
-    let mut pages = MemPages::new(rt.alloc())?;
-    let head = steps(rt.alloc(), &mut pages, 4)?;
-    for i in [0, 5] {
-        assert_eq!(rt;
-            fault_at(rt.alloc(), &mut pages, &head, i),
-            Some(ListFault::NoStep { last: 4 })
-        );
-    }
-    Ok(())
-}
-
-#[test]
-fn a_failed_read_is_told(rt: HostRuntime) -> Result<(), Fail> {
-    let mut pages = MemPages::new(rt.alloc())?;
-    let head = steps(rt.alloc(), &mut pages, 4)?;
-    for call in [1, 2] {
-        pages.fail(call)?;
-        assert_eq!(rt;
-            fault_at(rt.alloc(), &mut pages, &head, 1),
-            Some(ListFault::DiskFault)
-        );
-    }
     Ok(())
 }
