@@ -4,7 +4,8 @@
     python3 bench/measure.py PROGRAM --try FOLDER       a few runs on small stores, to try the script; writes into the folder
 
 Times are of whole commands, each the best of many runs that take turns in one go; only their ratio is worth anything on another
-machine. What isn't installed is left out, and the page says so: sqlite3, git, openssl, strace, valgrind, a C compiler, the library (`make lib`) and Python's `lmdb`.
+machine. What isn't installed is left out, and the page says so: sqlite3, git, openssl, strace, valgrind, a C compiler, the library (`make lib`), LMDB and
+SQLite for C, and Python's `lmdb`.
 """
 
 import os
@@ -52,7 +53,7 @@ class Plan:
         self.inserts = 1_000 if is_trial else 10_000
         self.found = 1_000 if is_trial else 100_000
         self.checked = 1_000 if is_trial else 100_000
-        self.threads = ((20, 3),) if is_trial else ((1_000, 3), (1_000, 100), (10_000, 3), (10_000, 100), (10_000, 10_000))
+        self.threads = ((20, 3),) if is_trial else tuple((threads, peers) for peers in (3, 100, 10_000) for threads in (1_000, 10_000, 100_000) if peers <= threads)
 
 
 class Kept:

@@ -1,42 +1,55 @@
 """What it costs to receive a thread and to prove one, on stores that hold many threads of few peers and of many; measure.py calls it.
 
+    python3 bench/received_threads.py PROGRAM THREADS PEERS ..      these shapes alone, each a number of threads and one of peers
+
 Each store is made by the program itself, a message at a time; then the next message is received over and over, after each time the store is put
-back as it was before. Beside it stands a program in C that makes the same calls on files.
+back as it was before. Beside it stand a program in C that makes the same calls on files, and stores of rows that keep the same keys (`kept_rows.py`).
 """
 
 import os
 import re
 import subprocess
 import sys
+import tempfile
 from pathlib import Path
 
 HERE = Path(__file__).resolve().parent
 sys.path.insert(0, str(HERE.parent / "tests/acceptance"))
 
 import calls  # noqa: E402
+import kept_rows  # noqa: E402
 import reference  # noqa: E402
+from instructions import counted  # noqa: E402
 from timing import best_times  # noqa: E402
 
 FRONT = 4 * 4096
+SYNCS_NOTHING = "int fsync(int file) { return file < 0; }\nint fdatasync(int file) { return file < 0; }\n"
 
 
 class Receiver:
-    """A store of a service that received so many threads, of so many peers in turn, in a folder of its own; and the message that it gets next."""
+    """A store of a service that receives threads of so many peers in turn, in a folder of its own; and the message that it gets next."""
 
-    def __init__(self, program, folder, threads, peers):
-        self.program, self.folder = program, f"{folder}/r{threads}-{peers}"
+    def __init__(self, program, folder, most, peers):
+        self.program, self.folder, self.threads = program, f"{folder}/r{peers}", 0
         self.path, self.message = f"{self.folder}/timeline.tw", f"{folder}/message"
         os.makedirs(self.folder, exist_ok=True)
         subprocess.run([program, "init", self.folder, "notary"], check=True, capture_output=True)
-        steps = threads // peers + 2
         # (all peers have events alike, and so one event root)
-        self.peers = [reference.Timeline(f"p{number}", [[b"bench"]] * steps) for number in range(peers)]
-        for number in range(threads):
-            self.write(number)
-            subprocess.run([program, "receive", self.folder, self.message], check=True, capture_output=True)
-        self.write(threads)
+        self.peers = [reference.Timeline(f"p{number}", [[b"bench"]] * (most // peers + 2)) for number in range(peers)]
         self.words = [program, "receive", self.folder, self.message]
-        self.data = Path(self.path).read_bytes()
+        self.write(0)
+
+    def grow(self, threads, unsynced):
+        """Receives until it has so many threads, without waiting for the device where a library that syncs nothing is given."""
+        environment = {**os.environ, **({"LD_PRELOAD": unsynced} if unsynced else {})}
+        while self.threads < threads:
+            subprocess.run(self.words, check=True, capture_output=True, env=environment)
+            self.threads += 1
+            self.write(self.threads)
+        os.sync()
+        with open(self.path, "rb") as file:
+            self.front = file.read(FRONT)
+        self.size = os.path.getsize(self.path)
 
     def write(self, number):
         """The message of the thread of this number, since the peer's step before."""
@@ -46,13 +59,27 @@ class Receiver:
     def put_back(self):
         """Only its front and its end change where a thread is received."""
         with open(self.path, "r+b") as file:
-            file.write(self.data[:FRONT])
-            file.truncate(len(self.data))
+            file.write(self.front)
+            file.truncate(self.size)
             os.fsync(file.fileno())
 
-    def proof(self):
-        """The proof of the first thread, at the step that received it."""
-        return [self.program, "prove", self.folder, "thread", "1", self.peers[0].name, "1"]
+    def receive(self):
+        """The words that receive the next message, on the store as it was."""
+        self.put_back()
+        return self.words
+
+    def proof(self, number, step):
+        """The words that prove the thread of this number as of this step."""
+        peer = self.peers[number % len(self.peers)]
+        return [self.program, "prove", self.folder, "thread", str(step), peer.name, str(number // len(self.peers) + 1)]
+
+
+def library_without_syncs(folder):
+    """A library that, loaded before the C library, syncs nothing; None where there is no compiler."""
+    source, library = f"{folder}/unsynced.c", f"{folder}/unsynced.so"
+    Path(source).write_text(SYNCS_NOTHING)
+    done = subprocess.run(["cc", "-shared", "-fPIC", "-o", library, source], capture_output=True)
+    return library if done.returncode == 0 else None
 
 
 def pages_written(words, folder):
@@ -61,24 +88,94 @@ def pages_written(words, folder):
     return sum(place >= FRONT for place in places)
 
 
+def own_line(bench, store, runs):
+    """The row of one store: what a further thread costs beside the same calls in C, and its proof."""
+    written = pages_written(store.receive(), bench.folder)
+    same = calls.same_calls(bench.calls, store.receive(), bench.folder)
+    store.put_back()
+    alone, took = best_times([same, store.words], runs, store.put_back)
+    read = calls.pages_read(store.proof(0, 1), bench.folder)
+    each = store.size // store.threads
+    times = f"{alone * 1e6:,.0f} | {took * 1e6:,.0f} | {took / alone:.2f}"
+    return f"| {store.threads:,} | {len(store.peers):,} | {times} | {written} | {read} | {each:,} |"
+
+
+def row_lines(bench, store, kept, runs):
+    """The rows of one store beside stores of as many rows: a thread more and a row more, and a thread that is proved and a row that is read."""
+    peers, middle = len(store.peers), store.threads // 2
+    found = {label: kept_rows.Rows(program, f"{bench.folder}/{label}", store.threads, peers) for label, program in kept}
+    proof = store.proof(middle, store.threads)
+    lines = []
+    for asked, size_of in (
+        ([store.receive, *(rows.add for rows in found.values())], lambda moved: moved.written),
+        ([lambda: proof, *((lambda rows=rows: rows.find(middle)) for rows in found.values())], lambda moved: moved.read),
+    ):
+        own, *others = kept_rows.turns(asked, runs)
+        cells = []
+        for words in asked:
+            moved = kept_rows.Moved(words(), bench.folder, bench.folder + "/")
+            cells.append(kept_rows.cell(moved, size_of(moved), counted(words(), bench.folder)[0]))
+        ratios = [f"{own / other:.2f}" for other in others]
+        lines.append(f"| {store.threads:,} | {peers:,} | {' | '.join([*cells, *ratios])} |")
+    store.put_back()
+    return lines
+
+
+def row_tables(kept, received, proved, runs):
+    """The tables of these rows, with what they are."""
+    labels = [label for label, _ in kept]
+
+    def table(command, moved, lines):
+        ratios = " | ".join(f"time by {label}'s" for label in labels)
+        heads = " | ".join([f"`{command}`: syncs; KiB {moved}; million instructions", *(f"{label}: the same" for label in labels)])
+        return ["", f"| threads | peers | {heads} | {ratios} |", "|---" * (3 + 2 * len(labels)) + "|", *lines]
+
+    return [
+        "", f"Beside stores of as many rows, which keep the same keys and prove nothing (`kept_rows.py`): a row of 40 bytes more, synced, beside `receive`, and a row read beside the proof of the same thread at",
+        f"the last step. Instructions have the loader and the C library in them. Times are medians of {runs} turns, a command of each in every turn. LMDB reads by mapping its file, which isn't counted.",
+        *table("receive", "written", received), *table("prove thread", "read", proved),
+    ]
+
+
 def receiving_lines(bench, shapes, runs):
-    """The lines of a table: for each number of threads and of peers what a further one costs, and its proof."""
+    """The lines of the tables: for each number of threads and of peers what a further one costs, and its proof."""
+    heading = ["", "## Receiving threads", ""]
+    if not bench.calls:
+        return [*heading, "Receiving wasn't measured: there is no strace or no C compiler."]
     lines = [
-        "", "## Receiving threads", "", "A service that received so many threads, of so many peers in turn, receives one more, beside a program in C that makes the same calls on files. The store is made by the",
+        *heading, "A service that received so many threads, of so many peers in turn, receives one more, beside a program in C that makes the same calls on files. The store is made by the",
         "program, a message at a time. `prove thread` is of the first thread, at the step that received it.", "",
         f"| threads | peers | the calls alone, best of {runs}, in microseconds | `receive`, the same | ratio | new pages | `prove thread`, pages read | bytes a thread |", "|---|---|---|---|---|---|---|---|",
     ]
-    for threads, peers in shapes:
-        store = Receiver(bench.program, bench.folder, threads, peers)
-        each = len(store.data) // threads
-        if not bench.calls:
-            lines.append(f"| {threads:,} | {peers:,} | ? | ? | ? | ? | ? | {each:,} |")
-            continue
-        written = pages_written(store.words, bench.folder)
-        store.put_back()
-        same = calls.same_calls(bench.calls, store.words, bench.folder)
-        store.put_back()
-        alone, took = best_times([same, store.words], runs, store.put_back)
-        read = calls.pages_read(store.proof(), bench.folder)
-        lines.append(f"| {threads:,} | {peers:,} | {alone * 1e6:,.0f} | {took * 1e6:,.0f} | {took / alone:.2f} | {written} | {read} | {each:,} |")
-    return lines
+    kept, unsynced = kept_rows.built(bench.folder), library_without_syncs(bench.folder)
+    received, proved = [], []
+    for peers in sorted({peers for _, peers in shapes}):
+        sizes = sorted(threads for threads, of in shapes if of == peers)
+        store = Receiver(bench.program, bench.folder, sizes[-1], peers)
+        for threads in sizes:
+            store.grow(threads, unsynced)
+            lines.append(own_line(bench, store, runs))
+            if kept:
+                more, proof = row_lines(bench, store, kept, runs)
+                received.append(more)
+                proved.append(proof)
+            print(lines[-1], *received[-1:], *proved[-1:], sep="\n", file=sys.stderr, flush=True)
+        os.remove(store.path)
+    return lines + (row_tables(kept, received, proved, runs) if kept else [])
+
+
+class Alone:
+    """What is measured where nothing else is."""
+
+    def __init__(self, program, folder):
+        self.program, self.folder, self.calls = os.path.realpath(program), folder, calls.built(folder)
+
+
+def main():
+    numbers = [int(word) for word in sys.argv[2:]]
+    with tempfile.TemporaryDirectory() as folder:
+        print("\n".join(receiving_lines(Alone(sys.argv[1], folder), list(zip(numbers[::2], numbers[1::2])), 100)))
+
+
+if __name__ == "__main__":
+    main()
