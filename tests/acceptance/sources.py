@@ -24,7 +24,7 @@ LARGE = {
     "tw_history": (2002, 106),
     "tw_rbnode": (1522, 100),
     "tw_skiplist": (1596, 100),
-    "tw_verifier": (1931, 100),
+    "tw_verifier": (1943, 100),
 }
 
 

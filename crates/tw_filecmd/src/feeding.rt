@@ -67,6 +67,9 @@ fn feed_piece<I: Inputs>(
     let mut piece = [0u8; PIECE];
     let room = PIECE - at % PIECE;
     let came = inputs.read(proof, at as u64, &mut piece[..room])?;
+    if came == 0 {
+        return Ok(0);
+    }
     verifier.feed(&piece[..came])?;
     Ok(came)
 }

@@ -188,7 +188,7 @@ module _ (dig : List ℕ → List ℕ) (anchors : List Thread) where
   pub tree-goes : (a : Asked) (shown : TreeProof) → GoesOn (behind_tree dig anchors a shown)
   tree-goes (asked.Archived at entry) shown = tt
   tree-goes (asked.Absent at key) shown = tt
-  tree-goes (asked.Hop h) shown = shown-goes h.further.onward.chain h.entry shown
+  tree-goes (asked.Hop h) shown = shown-goes h.further.onward.chain.value h.entry shown
 
   pub nodes-goes : (next : TreeProof → Format Judgement) → ((shown : TreeProof) → GoesOn (next shown)) → (shown : TreeProof) (more : ℕ) → GoesOn (nodes_of dig anchors next shown more)
   nodes-goes next goes shown more = goes-then (many more ancestor_codec).format _ (nodes-lawful more).goes (λ word up s. goes _)
@@ -204,7 +204,7 @@ module _ (dig : List ℕ → List ℕ) (anchors : List Thread) where
 
   pub entry-goes : (s : Shower) (entry : Entry) → GoesOn (behind_entry dig anchors s entry)
   entry-goes (shower.At r) entry = archived-goes r.part entry
-  entry-goes (shower.Behind f) entry = goes-then present_codec.format _ present-lawful.goes (λ word shown s. shown-goes f.onward.chain entry shown)
+  entry-goes (shower.Behind f) entry = goes-then present_codec.format _ present-lawful.goes (λ word shown s. shown-goes f.onward.chain.value entry shown)
 
   pub goal-goes : (g : Goal) (at : Part) → at.opening.count ≤ MOST_EVENTS → GoesOn (behind_part dig anchors g at)
   goal-goes (goal.Event r) at few = event-goes (behind_event dig anchors r) at few (role-goes r at)
@@ -229,7 +229,7 @@ module _ (dig : List ℕ → List ℕ) (anchors : List Thread) where
 
   pub way-goes : (w : Way) (links : List Link) → GoesOn (behind_path dig anchors w links)
   way-goes (way.Part g under) links = opening-goes (least_of g) under.step _ (least-few g) (λ o few. goal-goes g _ few)
-  way-goes (way.Bind h) links = link-goes h.hop.further.onward.chain h.hop.entry h.shown h.bind links
+  way-goes (way.Bind h) links = link-goes h.hop.further.onward.chain.value h.hop.entry h.shown h.bind links
   way-goes (way.Link l) links = tt
 
   linked-goes : GoesOn (linked dig anchors)

@@ -141,7 +141,7 @@ module _ (dig : List ℕ → List ℕ) (anchors : List Thread) where
   abbrev pub behind_event : Role → Part → EventPart → Format Judgement
   behind_event role.Only = behind_only
   behind_event (role.Second hops) = behind_second hops.count
-  behind_event (role.First onward) = behind_first onward.chain
+  behind_event (role.First onward) = behind_first onward.chain.value
 
   -- behind the path of the first event
   abbrev pub behind_links_of : Chain → (step : ℕ) → List Link → Format Judgement
@@ -172,7 +172,7 @@ module _ (dig : List ℕ → List ℕ) (anchors : List Thread) where
   abbrev pub behind_tree : Asked → TreeProof → Format Judgement
   behind_tree (asked.Archived at entry) shown = judged (proofs.Archived (record { at = at.part; entry = entry; shown = shown }))
   behind_tree (asked.Absent at key) shown = judged (proofs.Absent (record { at = at.part; key = key; shown = shown }))
-  behind_tree (asked.Hop h) shown = behind_shown h.further.onward.chain h.entry shown
+  behind_tree (asked.Hop h) shown = behind_shown h.further.onward.chain.value h.entry shown
 
   -- so many nodes more of a tree proof, and what stands behind it
   abbrev pub nodes_of : (TreeProof → Format Judgement) → TreeProof → (more : ℕ) → Format Judgement
@@ -186,7 +186,7 @@ module _ (dig : List ℕ → List ℕ) (anchors : List Thread) where
 
   abbrev pub behind_entry : Shower → Entry → Format Judgement
   behind_entry (shower.At r) entry = behind_archived r.part entry
-  behind_entry (shower.Behind f) entry = then_by present_codec.format (behind_shown f.onward.chain entry)
+  behind_entry (shower.Behind f) entry = then_by present_codec.format (behind_shown f.onward.chain.value entry)
 
   -- behind the opening of a part
   abbrev pub behind_part : Goal → Part → Format Judgement
@@ -199,13 +199,13 @@ module _ (dig : List ℕ → List ℕ) (anchors : List Thread) where
       behind_part g (record { service = under.service; step = under.step; top = under.top; path = record { links = links }; opening = o })
   behind_opening (opens.Before s) o = behind_before s.head.part s.event s.hops.count (Some o)
   behind_opening (opens.Hop h links) o =
-      behind_chain dig anchors (chain_with h.hop.further.onward.chain h.hop.entry h.shown h.bind links (Some o))
+      behind_chain dig anchors (chain_with h.hop.further.onward.chain.value h.hop.entry h.shown h.bind links (Some o))
 
   abbrev pub behind_path : Way → List Link → Format Judgement
   behind_path (way.Part g under) links =
       then_by (opening_codec (least_of g) under.step).format (λ o.
       behind_part g (record { service = under.service; step = under.step; top = under.top; path = record { links = links }; opening = o }))
-  behind_path (way.Bind h) links = behind_link h.hop.further.onward.chain h.hop.entry h.shown h.bind links
+  behind_path (way.Bind h) links = behind_link h.hop.further.onward.chain.value h.hop.entry h.shown h.bind links
   behind_path (way.Link l) links =
       judged (proofs.Linked (record { service = l.service; step = l.step; top = l.top; auth = l.auth; path = record { links = links } }))
 
@@ -239,8 +239,8 @@ module _ (dig : List ℕ → List ℕ) (anchors : List Thread) where
   rest (stage.Key r) = then_by key_codec.format (behind_absent r.part)
   rest (stage.Tree (asked.Archived at entry)) = behind_archived at.part entry
   rest (stage.Tree (asked.Absent at key)) = behind_absent at.part key
-  rest (stage.Tree (asked.Hop h)) = then_by present_codec.format (behind_shown h.further.onward.chain h.entry)
+  rest (stage.Tree (asked.Hop h)) = then_by present_codec.format (behind_shown h.further.onward.chain.value h.entry)
   rest (stage.Nodes c) = then_by ancestor_codec.format (λ a. nodes_of (behind_tree c.asked) (with_nodes c.shown (a ∷ [])) (c.more - 1))
-  rest (stage.Bind h shown) = behind_shown h.further.onward.chain h.entry shown
-  rest (stage.Tail onward) = tail_of onward.chain
+  rest (stage.Bind h shown) = behind_shown h.further.onward.chain.value h.entry shown
+  rest (stage.Tail onward) = tail_of onward.chain.value
   rest (stage.Done j) = End j

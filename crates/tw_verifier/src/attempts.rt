@@ -289,8 +289,9 @@ pub(crate) fn attempt_event<H: Hasher>(
     match take_event(alloc, held, &mut at, count) {
         Ok(event) => {
             let EventAt { role, at: reached } = event_at;
+            let next = behind_event::<H>(alloc, anchors, role, reached, event)?;
             Ok(Attempt::Ended {
-                next: behind_event::<H>(alloc, anchors, role, reached, event),
+                next,
                 size: at as usize,
             })
         }

@@ -22,7 +22,7 @@ use tw_skipproof::{ExistenceProof, LinkList, Opening, Part, Path};
 
 /// Behind a chain: a hop's entry, or the step of the first event.
 pub(crate) fn behind_chain(onward: Onward) -> Stage
-    ensures { (dig : List ℕ → List ℕ) (anchors : List Anchor) → rest dig anchors result ≡ behind_chain_of dig anchors onward.chain }
+    ensures { (dig : List ℕ → List ℕ) (anchors : List Anchor) → rest dig anchors result ≡ behind_chain_of dig anchors onward.chain.value }
 {
     if onward.chain.more > 0 {
         return Stage::Entry(Shower::Behind(Further { onward }));
@@ -38,12 +38,13 @@ fn behind_start<H: Hasher>(
     event: EventPart,
     before: Option<Opening>,
     hops: HopCount,
-) -> Stage
+) -> Result<Stage, NoMemory>
     requires { length event.event ≤ MOST_EVENT_BYTES }
-    ensures { rest H.dig anchors.now result ≡ behind_before H.dig anchors.now head.part event hops.count before }
+    ensures { IfOk result (λ stage. rest H.dig anchors.now stage ≡ behind_before H.dig anchors.now head.part event hops.count before) }
 {
     let chain = Chain::begin::<H>(alloc, head.part, event, before, hops.count, anchors);
-    behind_chain(Onward { chain })
+    let chain = Box::new(alloc, chain)?;
+    Ok(behind_chain(Onward { chain }))
 }
 
 /// Behind the second event.
@@ -53,12 +54,12 @@ fn behind_seconded<H: Hasher>(
     head: Reached,
     event: EventPart,
     hops: HopCount,
-) -> Stage
+) -> Result<Stage, NoMemory>
     requires { length event.event ≤ MOST_EVENT_BYTES }
-    ensures { rest H.dig anchors.now result ≡ behind_second H.dig anchors.now hops.count head.part event }
+    ensures { IfOk result (λ stage. rest H.dig anchors.now stage ≡ behind_second H.dig anchors.now hops.count head.part event) }
 {
     if hops.count > 0 {
-        return Stage::Opening(Opens::Before(Seconded { head, event, hops }));
+        return Ok(Stage::Opening(Opens::Before(Seconded { head, event, hops })));
     }
     behind_start::<H>(alloc, anchors, head, event, None, hops)
 }
@@ -66,7 +67,7 @@ fn behind_seconded<H: Hasher>(
 /// The judgement of a proof with its first event.
 fn closed<H: Hasher>(onward: Onward, at: Reached, event: EventPart) -> Judgement
     requires { length event.event ≤ MOST_EVENT_BYTES }
-    ensures { (anchors : List Anchor) → rest H.dig anchors (Done result) ≡ behind_first H.dig anchors onward.chain at.part event }
+    ensures { (anchors : List Anchor) → rest H.dig anchors (Done result) ≡ behind_first H.dig anchors onward.chain.value at.part event }
 {
     let Part {
         step,
@@ -80,7 +81,7 @@ fn closed<H: Hasher>(onward: Onward, at: Reached, event: EventPart) -> Judgement
         opening,
         event,
     };
-    onward.chain.close::<H>(tail)
+    Box::into_inner(onward.chain).close::<H>(tail)
 }
 
 /// Behind an event.
@@ -90,17 +91,17 @@ pub(crate) fn behind_event<H: Hasher>(
     role: Role,
     at: Reached,
     event: EventPart,
-) -> Stage
+) -> Result<Stage, NoMemory>
     requires { length event.event ≤ MOST_EVENT_BYTES }
-    ensures { rest H.dig anchors.now result ≡ behind_event_of H.dig anchors.now role at.part event }
+    ensures { IfOk result (λ stage. rest H.dig anchors.now stage ≡ behind_event_of H.dig anchors.now role at.part event) }
 {
     match role {
         Role::Only => {
             let proof = ExistenceProof { at: at.part, event };
-            Stage::Done(Judgement::of_event::<H>(alloc, proof, anchors))
+            Ok(Stage::Done(Judgement::of_event::<H>(alloc, proof, anchors)))
         }
         Role::Second(hops) => behind_seconded::<H>(alloc, anchors, at, event, hops),
-        Role::First(onward) => Stage::Done(closed::<H>(onward, at, event)),
+        Role::First(onward) => Ok(Stage::Done(closed::<H>(onward, at, event))),
     }
 }
 
@@ -118,13 +119,14 @@ fn behind_reached(goal: Goal, at: Reached) -> Stage
 
 /// Behind a hop with its path and, where another hop follows, its opening.
 fn behind_hop<H: Hasher>(
+    alloc: Global,
     anchors: &[Thread],
     bound: HopBind,
     links: LinkList,
     opening: Option<Opening>,
 ) -> Result<Stage, NoMemory>
     ensures { IfOk result (λ stage. rest H.dig anchors.now stage ≡ behind_chain_of H.dig anchors.now
-        (chain_with H.dig anchors.now bound.hop.further.onward.chain bound.hop.entry bound.shown bound.bind links opening)) }
+        (chain_with H.dig anchors.now bound.hop.further.onward.chain.value bound.hop.entry bound.shown bound.bind links opening)) }
 {
     let HopBind { hop, shown, bind } = bound;
     let HopEntry { further, entry } = hop;
@@ -135,23 +137,25 @@ fn behind_hop<H: Hasher>(
         link: Path { links },
         opening,
     };
-    let chain = further.onward.chain.with_hop::<H>(part, anchors)?;
+    let chain = Box::into_inner(further.onward.chain).with_hop::<H>(part, anchors)?;
+    let chain = Box::new(alloc, chain)?;
     Ok(behind_chain(Onward { chain }))
 }
 
 /// Behind the path of a hop.
 fn behind_link<H: Hasher>(
+    alloc: Global,
     anchors: &[Thread],
     bound: HopBind,
     links: LinkList,
 ) -> Result<Stage, NoMemory>
     ensures { IfOk result (λ stage. rest H.dig anchors.now stage ≡ behind_link_of H.dig anchors.now
-        bound.hop.further.onward.chain bound.hop.entry bound.shown bound.bind links) }
+        bound.hop.further.onward.chain.value bound.hop.entry bound.shown bound.bind links) }
 {
     if bound.hop.further.onward.chain.more > 1 {
         return Ok(Stage::Opening(Opens::Hop { hop: bound, links }));
     }
-    behind_hop::<H>(anchors, bound, links, None)
+    behind_hop::<H>(alloc, anchors, bound, links, None)
 }
 
 /// The judgement of a proof of a step's authenticator.
@@ -190,7 +194,7 @@ fn behind_path<H: Hasher>(
 {
     match way {
         Way::Part { goal, under } => Ok(Stage::Opening(Opens::Part { goal, under, links })),
-        Way::Bind(bound) => behind_link::<H>(anchors, bound, links),
+        Way::Bind(bound) => behind_link::<H>(alloc, anchors, bound, links),
         Way::Link(linking) => Ok(Stage::Done(linked::<H>(alloc, anchors, linking, links))),
     }
 }
@@ -246,9 +250,9 @@ pub(crate) fn behind_opening<H: Hasher>(
         }
         Opens::Before(seconded) => {
             let Seconded { head, event, hops } = seconded;
-            Ok(behind_start::<H>(alloc, anchors, head, event, Some(opening), hops))
+            behind_start::<H>(alloc, anchors, head, event, Some(opening), hops)
         }
-        Opens::Hop { hop, links } => behind_hop::<H>(anchors, hop, links, Some(opening)),
+        Opens::Hop { hop, links } => behind_hop::<H>(alloc, anchors, hop, links, Some(opening)),
     }
 }
 

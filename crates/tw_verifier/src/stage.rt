@@ -15,19 +15,19 @@ pub struct HopCount {
     ghost few: { count ≤ MOST_HOPS },
 }
 
-/// A chain whose thread has a step that may be, and whose parts have numbers up to 65.
+/// A chain whose thread has a step that may be, and whose parts have numbers up to 65. It lies on the heap, so that a stage stays small.
 #[derive(Drop)]
 pub struct Onward {
-    pub chain: Chain,
-    ghost parts: { chain.part + chain.more ≤ 65 },
-    ghost known: { chain.known.step ≤ LAST_STEP },
+    pub chain: Box<Chain>,
+    ghost parts: { chain.value.part + chain.value.more ≤ 65 },
+    ghost known: { chain.value.known.step ≤ LAST_STEP },
 }
 
 /// A chain behind which a hop follows.
 #[derive(Drop)]
 pub struct Further {
     pub onward: Onward,
-    ghost some: { 0 < onward.chain.more },
+    ghost some: { 0 < onward.chain.value.more },
 }
 
 /// The chain, and the entry of the hop that follows it.

@@ -1,4 +1,5 @@
 // What is found in the bytes that are held of each segment behind an opening that shows an archive, of a tail, and behind the whole.
+// But for the last these stay calls: inlined, they would have each segment of any proof move what they alone hold.
 #![tactic(auto)]
 
 ghost use Rattle.std.specs.Prelude.{◌≡◌, ℕ, ◌-◌, ◌<◌, ◌≤◌, List, [], ◌∷◌, length, IfOk, Ok};
@@ -42,6 +43,7 @@ fn asked_by(shower: Shower, entry: Entry) -> Asked
 }
 
 /// Looks for an entry.
+#[inline(never)]
 pub(crate) fn attempt_entry(shower: Shower, held: &[u8]) -> Result<Attempt<Stage>, NoMemory>
     ensures { (dig : List ℕ → List ℕ) (anchors : List Anchor) → Attempts (rest dig anchors) (OfEntry shower) held.now result }
 {
@@ -56,6 +58,7 @@ pub(crate) fn attempt_entry(shower: Shower, held: &[u8]) -> Result<Attempt<Stage
 }
 
 /// Looks for a key.
+#[inline(never)]
 pub(crate) fn attempt_key(reached: Reached, held: &[u8]) -> Result<Attempt<Stage>, NoMemory>
     ensures { (dig : List ℕ → List ℕ) (anchors : List Anchor) → Attempts (rest dig anchors) (Key reached) held.now result }
 {
@@ -134,6 +137,7 @@ fn attempt_gap<H: Hasher>(
 }
 
 /// Looks for how a tree proof begins.
+#[inline(never)]
 pub(crate) fn attempt_tree<H: Hasher>(
     alloc: Global,
     anchors: &[Thread],
@@ -192,6 +196,7 @@ fn behind_node<H: Hasher>(
 }
 
 /// Looks for a node of a tree proof.
+#[inline(never)]
 pub(crate) fn attempt_node<H: Hasher>(
     alloc: Global,
     anchors: &[Thread],
@@ -214,6 +219,7 @@ pub(crate) fn attempt_node<H: Hasher>(
 }
 
 /// Looks for the bind of a hop.
+#[inline(never)]
 pub(crate) fn attempt_bind<H: Hasher>(
     alloc: Global,
     anchors: &[Thread],
@@ -240,7 +246,7 @@ pub(crate) fn attempt_bind<H: Hasher>(
 
 /// The thread to which a chain has come.
 fn known_of(onward: &Onward) -> Thread
-    ensures { result ≡ onward.now.chain.known }
+    ensures { result ≡ onward.now.chain.value.known }
 {
     onward.chain.known
 }
@@ -250,7 +256,7 @@ fn way_down(onward: Onward, step: u64) -> Way
     requires some { 0 < step }
     requires within { step ≤ LAST_STEP }
     ensures { (dig : List ℕ → List ℕ) (anchors : List Anchor) (links : List AnyLink) → behind_path dig anchors result links
-        ≡ behind_links_of dig anchors onward.chain step links }
+        ≡ behind_links_of dig anchors onward.chain.value step links }
 {
     let known = known_of(&onward);
     let under = Under {
@@ -275,7 +281,7 @@ fn behind_step<H: Hasher>(
     requires some { 0 < step }
     requires within { step ≤ LAST_STEP }
     ensures { IfOk result (λ stage. rest H.dig anchors.now stage
-        ≡ part_of 1 (event_of (behind_first H.dig anchors.now onward.chain)) onward.chain.known.from step onward.chain.known.step) }
+        ≡ part_of 1 (event_of (behind_first H.dig anchors.now onward.chain.value)) onward.chain.value.known.from step onward.chain.value.known.step) }
 {
     let top = onward.chain.known.step;
     let way = way_down(onward, step);
@@ -283,6 +289,7 @@ fn behind_step<H: Hasher>(
 }
 
 /// Looks for the step of the first event.
+#[inline(never)]
 pub(crate) fn attempt_tail<H: Hasher>(
     alloc: Global,
     anchors: &[Thread],

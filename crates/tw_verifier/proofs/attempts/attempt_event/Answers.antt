@@ -19,12 +19,12 @@ returns-then-held-until g c =
 pub behind_event-requires : goal.behind_event-requires
 behind_event-requires g c = event-small c.args.event_at.at.part.opening.count c.in-Ok.event c.in-Ok.ensures.1
 
-pub returns-in-Ok : goal.returns-in-Ok
-returns-in-Ok g c =
+pub returns-in_ok-next-in-Ok : goal.returns-in_ok-next-in-Ok
+returns-in_ok-next-in-Ok g c =
     let e = c.args.event_at in
     attempts-ended (rest g.H.Hasher.dig c.args.anchors.now) (event_codec e.at.part.opening.count) (event-lawful e.at.part.opening.count e.at.few)
-    (behind_event g.H.Hasher.dig c.args.anchors.now e.role e.at.part) (event-nothing e.at.part.opening.count) (Event e) c.behind_event.result c.args.held.now c.take_event.new.at c.in-Ok.event refl
-    (sym c.behind_event.ensures) c.in-Ok.ensures.0
+    (behind_event g.H.Hasher.dig c.args.anchors.now e.role e.at.part) (event-nothing e.at.part.opening.count) (Event e) c.in_ok-next-in-Ok.next c.args.held.now c.take_event.new.at c.in-Ok.event refl
+    (sym c.in_ok-next-in-Ok.ensures) c.in-Ok.ensures.0
 
 pub returns-in-Err : goal.returns-in-Err
 returns-in-Err g c =

@@ -11,7 +11,7 @@ use Rattle.tw_verifier.proofs.tree_attempts.attempt_bind.Goals as goal
 pub returns-in_ok-next-in-Ok : goal.returns-in_ok-next-in-Ok
 returns-in_ok-next-in-Ok g c =
     let h = c.args.hop in
-    let chain = h.further.onward.chain in
+    let chain = h.further.onward.chain.value in
     let step = h.entry.thread.step in
     attempts-ended (rest g.H.Hasher.dig c.args.anchors.now) (number_codec 8 0 LAST_STEP) bind-lawful
     (λ (bind : ℕ). path_of [] bind step (behind_link g.H.Hasher.dig c.args.anchors.now chain h.entry c.args.shown bind)) (step-nothing 0 LAST_STEP) (Bind h c.args.shown) c.in_ok-next-in-Ok.next c.args.held.now
@@ -22,7 +22,7 @@ returns-in_ok-next-in-Ok g c =
 pub returns-in-Err : goal.returns-in-Err
 returns-in-Err g c =
     let h = c.args.hop in
-    let chain = h.further.onward.chain in
+    let chain = h.further.onward.chain.value in
     attempts-missed (rest g.H.Hasher.dig c.args.anchors.now) (number_codec 8 0 LAST_STEP) bind-lawful
     (λ (bind : ℕ). path_of [] bind h.entry.thread.step (behind_link g.H.Hasher.dig c.args.anchors.now chain h.entry c.args.shown bind))
     (λ bind fits. bind-goes g.H.Hasher.dig c.args.anchors.now chain h.entry c.args.shown bind) (λ n. n) (Bind h c.args.shown) c.args.held.now c.take_number.new.at c.in-Err.fault

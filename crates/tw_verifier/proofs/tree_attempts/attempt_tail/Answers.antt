@@ -9,7 +9,7 @@ use Rattle.tw_verifier.proofs.tree_attempts.attempt_tail.Goals as goal
 
 pub returns-in_ok-next-in-Ok : goal.returns-in_ok-next-in-Ok
 returns-in_ok-next-in-Ok g c =
-    let chain = c.args.onward.chain in
+    let chain = c.args.onward.chain.value in
     let step : ℕ = c.in-Ok.step in
     attempts-ended (rest g.H.Hasher.dig c.args.anchors.now) step_codec step-lawful
     (λ (step : ℕ). part_of 1 (event_of (behind_first g.H.Hasher.dig c.args.anchors.now chain)) chain.known.from step chain.known.step) (step-nothing 1 LAST_STEP) (Tail c.args.onward)
@@ -19,7 +19,7 @@ returns-in_ok-next-in-Ok g c =
 
 pub returns-in-Err : goal.returns-in-Err
 returns-in-Err g c =
-    let chain = c.args.onward.chain in
+    let chain = c.args.onward.chain.value in
     attempts-missed (rest g.H.Hasher.dig c.args.anchors.now) step_codec step-lawful
     (λ (step : ℕ). part_of 1 (event_of (behind_first g.H.Hasher.dig c.args.anchors.now chain)) chain.known.from step chain.known.step)
     (λ step fits. first-goes g.H.Hasher.dig c.args.anchors.now chain chain.known.from step chain.known.step) (λ n. n) (Tail c.args.onward) c.args.held.now c.take_number.new.at c.in-Err.fault
