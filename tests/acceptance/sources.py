@@ -23,7 +23,7 @@ LARGE = {
     "tw_base": (2600, 136),
     "tw_history": (2002, 106),
     "tw_rbnode": (1522, 100),
-    "tw_skiplist": (1596, 100),
+    "tw_skiplist": (1568, 100),
     "tw_verifier": (1943, 100),
 }
 

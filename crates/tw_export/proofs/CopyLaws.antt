@@ -1,11 +1,11 @@
 -- A step of events that is copied is the step that is found.
-use Rattle.std.proofs.Common.{◌≡◌, ℕ, suc, zero, ◌+◌, ◌-◌, ◌<◌, ◌^◌, List, [], ◌∷◌, ◌++◌, length, take, drop, flat_map, refl, ap, sym, ◌∙◌, arith, append-nil, append_assoc}
+use Rattle.std.proofs.Common.{◌≡◌, ℕ, suc, zero, ◌+◌, ◌-◌, ◌<◌, ◌^◌, List, [], ◌∷◌, ◌++◌, length, take, drop, refl, ap, sym, ◌∙◌, arith, append-nil, append_assoc}
 use Rattle.std.specs.Prelude.{Option, Some, None, is_some, false, true}
 use Rattle.tw_base.specs.declared.history.content.Content.TheVariants.{Events}
 use Rattle.tw_base.specs.format.Codecs.{number_codec, optional}
 use Rattle.tw_base.specs.format.Fields.{number_bytes}
 use Rattle.tw_base.specs.history.History.{Step}
-use Rattle.tw_base.specs.history.HistoryCodec.{content_codec, kind_of, node_codec, recorded_codec, step_codec}
+use Rattle.tw_base.specs.history.HistoryCodec.{content_codec, kind_of, recorded_codec, step_codec}
 use Rattle.tw_disk.specs.Found.{Found, when, ◌>>=◌}
 use Rattle.tw_disk.specs.Found.Found.{Is, Bad}
 use Rattle.tw_disk.specs.Image.{Image}
@@ -16,7 +16,7 @@ use Rattle.tw_skiplist.specs.StepRecords.{content_by, content_of, events_of_reco
 use Rattle.tw_skiplist.proofs.Copying.{none-counted}
 use Rattle.tw_export.specs.Copied.{copied_step, events_end, events_front, file_before}
 use Rattle.tw_export.specs.Exporting.{SoFar, may_be_told, new_nodes, step_on, with_step}
-use Rattle.tw_export.specs.Files.{File, with_text}
+use Rattle.tw_export.specs.Files.{with_text}
 
 -- the step of these events
 abbrev pub events_step : Option ℕ → List (List ℕ) → (root : ℕ) → Step

@@ -1,6 +1,5 @@
 -- Steps of the proofs that a step of events is copied into the file as it is read.
 use Rattle.std.specs.Prelude.{ℕ, ◌-◌, ◌^◌, List, [], ◌++◌, take, is_some, Option}
-use Rattle.tw_base.specs.declared.history.content.Content.{Content}
 use Rattle.tw_base.specs.declared.history.content.Content.TheVariants.{Events}
 use Rattle.tw_base.specs.format.Codecs.{number_codec, optional}
 use Rattle.tw_base.specs.format.Fields.{number_bytes}

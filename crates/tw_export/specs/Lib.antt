@@ -3,4 +3,5 @@ pub mod NodeNumbers
 pub mod Files
 pub mod Exporting
 pub mod Copied
+pub mod Received
 pub mod Told

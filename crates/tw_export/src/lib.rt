@@ -7,7 +7,7 @@ mod exporting;
 mod file;
 mod nodes;
 mod numbers;
-mod recorded;
+mod received;
 mod so_far;
 mod steps;
 

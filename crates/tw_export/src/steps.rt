@@ -9,7 +9,7 @@ ghost use Rattle.tw_export.specs.Exporting.{step_on, steps_on};
 ghost use Rattle.tw_export.specs.Told.{so_far_of};
 
 use crate::events::{add_events, lacks_events};
-use crate::recorded::{add_recorded, tell_bad};
+use crate::received::{add_received, tell_bad};
 use crate::so_far::StepsSoFar;
 use std::alloc::Global;
 use tw_base::Hasher;
@@ -27,8 +27,8 @@ fn add_step<P: Pages, H: Hasher>(
     ensures reads { ReadsPages list_faults P.view P.same pages.old pages.new (λ _. so_far_of so_far.new) result
         (λ ps. step_on H.dig ps (so_far_of so_far.old) recorded.now) }
 {
-    if recorded.fields.received.is_some() {
-        return add_recorded::<P, H>(alloc, pages, so_far, recorded);
+    if let Some(thread) = recorded.fields.received {
+        return add_received::<P, H>(alloc, pages, so_far, recorded, thread);
     }
     if lacks_events(recorded) {
         return tell_bad(pages, recorded.page);

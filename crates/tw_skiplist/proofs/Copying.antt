@@ -1,10 +1,7 @@
 -- Streams that are copied, without taking their events apart.
-use Rattle.std.proofs.Common.{◌≡◌, ℕ, suc, zero, ◌+◌, ◌-◌, ◌<◌, ◌≤◌, List, [], ◌∷◌, ◌++◌, length, take, drop, replicate, Bool, true, false, refl, ap, sym, ◌∙◌, subst, arith, append_assoc, append-nil}
+use Rattle.std.proofs.Common.{◌≡◌, ℕ, suc, zero, ◌+◌, ◌<◌, ◌≤◌, List, [], ◌∷◌, ◌++◌, length, take, drop, Bool, true, false, refl, ap, sym, ◌∙◌, arith, append_assoc, append-nil}
 use Rattle.std.specs.Prelude.{None, nat_lt, if◌then◌else◌}
-use Rattle.std.specs.Option.{option_map_or}
-use Rattle.tw_base.specs.declared.history.content.Content.{Content}
 use Rattle.tw_base.specs.declared.history.content.Content.TheVariants.{Events}
-use Rattle.tw_base.specs.declared.history.thread.Thread.{Thread}
 use Rattle.tw_base.specs.format.Codecs.{by_kind, counted, number_codec, variant}
 use Rattle.tw_base.specs.format.Fields.{number_bytes}
 use Rattle.tw_base.specs.history.HistoryCodec.{content_codec}
@@ -15,7 +12,7 @@ use Rattle.tw_steppage.specs.StepBytes.{stream}
 use Rattle.tw_steppage.specs.declared.limits.TheConstants.{MOST_STREAM_BYTES}
 use Rattle.tw_skiplist.specs.declared.info.EventsAt.{EventsAt}
 use Rattle.tw_skiplist.specs.declared.step_records.StepRecord.{StepRecord}
-use Rattle.tw_skiplist.specs.Events.{events_codec, events_from, events_in, last_page, piece_behind, piece_count, piece_in, pieces_from, stream_in}
+use Rattle.tw_skiplist.specs.Events.{events_codec, events_from, events_in, last_page, piece_count, piece_in, pieces_from, stream_in}
 use Rattle.tw_skiplist.specs.ScanSteps.{HasEventAt, SpellsEvents, copied, tested}
 use Rattle.tw_skiplist.specs.StepRecords.{content_by, content_of, events_of_record}
 use Rattle.tw_skiplist.proofs.EventWords.{found-events, found-none, found-spells, written}

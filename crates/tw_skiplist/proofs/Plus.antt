@@ -7,7 +7,7 @@ use Rattle.std.proofs.lemmas.Nat.{pow_pos}
 use Rattle.tw_disk.specs.Image.{Image, page_at}
 use Rattle.tw_base.specs.declared.kinds.limits.TheConstants.{LAST_STEP}
 use Rattle.tw_base.specs.events.EventTree.{event_root}
-use Rattle.tw_base.specs.history.History.{History, Step, events_at, events_of, plus, step_at, thread_of, time_of}
+use Rattle.tw_base.specs.history.History.{History, Step, events_at, events_of, plus, thread_of, time_of}
 use Rattle.tw_base.specs.kinds.Levels.{top_level}
 use Rattle.tw_base.specs.history.Auth.{tree_label}
 use Rattle.tw_base.proofs.lemmas.history.Plus.{auth-plus, step_at-new, step_at-plus, tree-plus}

@@ -1,14 +1,13 @@
 -- The records of steps, page by page, and that those of pages that keep a history are the history's.
 use Rattle.std.proofs.Common.{◌≡◌, ℕ, suc, zero, ◌-◌, ◌^◌, ◌<◌, ◌≤◌, List, [], ◌∷◌, ◌++◌, length, refl, ap, sym, ◌∙◌, arith, append_assoc}
-use Rattle.std.specs.Prelude.{Option, Some, None}
+use Rattle.std.specs.Prelude.{Option, Some}
 use Rattle.std.proofs.lemmas.List.{append-nil}
 use Rattle.tw_base.specs.declared.history.content.Content.{Content}
 use Rattle.tw_base.specs.declared.history.content.Content.TheVariants.{Events, Received}
-use Rattle.tw_base.specs.declared.history.thread.Thread.{Thread}
 use Rattle.tw_base.specs.history.History.{History, Node, Step, events_at, events_of, step_at, thread_of}
 use Rattle.tw_base.specs.kinds.Levels.{top_level}
 use Rattle.tw_base.proofs.lemmas.kinds.DigestBytes.{IsDigest}
-use Rattle.tw_disk.specs.Found.{Found, ◌>>=◌}
+use Rattle.tw_disk.specs.Found.{◌>>=◌}
 use Rattle.tw_disk.specs.Found.Found.{Is}
 use Rattle.tw_disk.specs.Image.{Image}
 use Rattle.tw_disk.proofs.FoundLaws.{is_on}

@@ -1,5 +1,5 @@
 -- What each fault of the list says, which fault of a walk becomes which, and when there are no such steps.
-use Rattle.std.specs.Prelude.{◌≡◌, ℕ, Result, Ok, Err}
+use Rattle.std.specs.Prelude.{◌≡◌, ℕ, Result, Err}
 use Rattle.tw_disk.specs.declared.walk_fault.WalkFault.{WalkFault}
 use Rattle.tw_disk.specs.declared.walk_fault.WalkFault.TheVariants as walk
 use Rattle.tw_disk.specs.Answers.{FaultSort}

@@ -1,11 +1,10 @@
 -- What the pages of all steps record, from the head down: each step's page is read once, by the link of level 0 that leads to it.
-use Rattle.std.specs.Prelude.{◌≡◌, ℕ, suc, zero, List, [], ◌∷◌, ◌++◌, length, true, Option, Some, None}
+use Rattle.std.specs.Prelude.{ℕ, suc, zero, List, [], ◌∷◌, ◌++◌, true, Option, Some, None}
 use Rattle.tw_base.specs.declared.history.content.Content.{Content}
 use Rattle.tw_base.specs.declared.history.content.Content.TheVariants.{Events, Received}
 use Rattle.tw_base.specs.declared.history.thread.Thread.{Thread}
 use Rattle.tw_base.specs.history.History.{History}
 use Rattle.tw_base.specs.history.HistoryCodec.{content_codec}
-use Rattle.tw_base.specs.history.Limits.{MayRecord}
 use Rattle.tw_disk.specs.Found.{Found, ◌>>=◌}
 use Rattle.tw_disk.specs.Found.Found.{Is}
 use Rattle.tw_disk.specs.Image.{Image}
@@ -46,11 +45,6 @@ content_of pages r = content_by pages r r.fields.received
 -- the same of a step of events, as a history file has it, behind what is before it
 abbrev pub copied_content : Image → StepRecord → (before : List ℕ) → Found (List ℕ)
 copied_content pages r before = content_of pages r >>= (λ c. Is (before ++ (content_codec true).write c))
-
--- over any pages a content is the thread of the record, or, where it has none, events within the limits of a step, as many as it counts
-abbrev pub IsToldBy : StepRecord → Content → Type 0
-IsToldBy r (Received t) = r.fields.received ≡ Some t
-IsToldBy r (Events events) = (r.fields.received ≡ None) × MayRecord events × (length events ≡ r.fields.count)
 
 -- ---- what a history has
 

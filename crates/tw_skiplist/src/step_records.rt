@@ -5,9 +5,9 @@ ghost use Rattle.tw_base.specs.kinds.Lists.{Each};
 ghost use Rattle.tw_disk.specs.Answers.{ReadsPages};
 ghost use Rattle.tw_steppage.specs.StepPages.{HasRanges};
 ghost use Rattle.tw_skiplist.specs.ListFaults.{list_faults};
-ghost use Rattle.tw_skiplist.specs.StepRecords.{IsToldBy, content_of, copied_content, events_of_record, found_records};
+ghost use Rattle.tw_skiplist.specs.StepRecords.{copied_content, events_of_record, found_records};
 
-use crate::event_pages::{copy_from, read_from};
+use crate::event_pages::copy_from;
 use crate::fault::ListFault;
 use crate::head::Head;
 use crate::info::EventsAt;
@@ -15,7 +15,7 @@ use crate::records::link_at;
 use crate::walking::read_step;
 use std::alloc::Global;
 use tw_base::limits::LAST_STEP;
-use tw_base::{Bytes, Content, ReceivedThread, Sequence, StepEvents, put_last_bytes};
+use tw_base::{Bytes, Sequence, put_last_bytes};
 use tw_disk::Pages;
 use tw_steppage::{StepFields, StepPage};
 
@@ -75,40 +75,12 @@ fn events_at(recorded: &StepRecord) -> EventsAt
     }
 }
 
-/// What the step of a record recorded: the thread that it received, or its events, which are read from its
-/// event pages, each once.
-///
-/// Where the pages are told, BadPage tells of the event pages what it tells of them at `events_of`, and the step's own page, which
-/// isn't read here, where it counts events and has no event page; it never
-/// comes where they keep the history of which `read_records` told, and NoStep never comes.
-#[tactic(auto, unfolding(crate::specs::StepRecords::content_of))]
-pub fn read_content<P: Pages>(
-    alloc: Global,
-    pages: &mut P,
-    recorded: &StepRecord,
-) -> Result<Content, ListFault>
-    // Over told pages the answer is what is found in them, whatever they keep, a disk fault and want of memory excepted.
-    // Over any pages, told or not, `NoStep` is never answered; reading changes nothing of what the pages tell; and
-    // `DiskFault` comes only where the count of faults rose.
-    ensures reads { ReadsPages list_faults P.view P.same pages.old pages.new (λ content. content) result
-        (λ ps. content_of ps recorded.now) }
-    // Over any pages, told or not, it is the record's thread, or events within the limits of a step, as many as the
-    // record counts.
-    ensures told { IfOk result (IsToldBy recorded.now) }
-{
-    match recorded.fields.received {
-        Some(thread) => Ok(Content::Received(ReceivedThread::new(alloc, thread)?)),
-        None => {
-            let events = read_from(alloc, pages, &events_at(recorded))?;
-            Ok(Content::Events(StepEvents::new(events)))
-        }
-    }
-}
-
 /// Appends the events of the step of a record that received no thread, their number and each of them behind its length, as a history
 /// file has them. They are read from its event pages, each once, and aren't kept beside.
 ///
-/// BadPage and NoStep come as at `read_content`. After a refusal something may have been appended.
+/// Where the pages are told, BadPage tells of the event pages what it tells of them at `events_of`, and the step's own page, which
+/// isn't read here, where it counts events and has no event page; it never comes where they keep the history of which `read_records`
+/// told, and NoStep never comes. After a refusal something may have been appended.
 #[tactic(auto, unfolding(tw_base::specs::format::Codecs::number_codec))]
 pub fn copy_events<P: Pages>(
     pages: &mut P,

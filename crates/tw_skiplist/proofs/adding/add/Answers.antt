@@ -1,8 +1,7 @@
-use Rattle.std.proofs.Common.{◌≡◌, ◌+◌, ℕ, List, length, sym, ◌∙◌, refl, arith}
+use Rattle.std.proofs.Common.{◌≡◌, ◌+◌, length, sym, ◌∙◌, refl, arith}
 use Rattle.tw_disk.specs.Found.Found.{Is}
 use Rattle.tw_disk.proofs.FoundLaws.{is_on}
 use Rattle.tw_disk.proofs.ReadingLaws.{adds_none, only_adds_on}
-use Rattle.tw_steppage.specs.declared.link.StepRef.{StepRef}
 use Rattle.tw_skiplist.specs.Appended.{new_labels, next_at, next_of, put_behind}
 use Rattle.tw_skiplist.specs.Records.{page_labels}
 use Rattle.tw_skiplist.specs.Walks.{next_links}

@@ -1,4 +1,4 @@
-use Rattle.std.proofs.Common.{◌≤◌, length, arith, refl}
+use Rattle.std.proofs.Common.{arith, refl}
 use Rattle.tw_disk.proofs.ReadingLaws.{only_reads_itself}
 use Rattle.tw_skiplist.proofs.PieceCounts.{pieces-begin}
 use Rattle.tw_skiplist.proofs.event_pages.add_stream.Goals as goal

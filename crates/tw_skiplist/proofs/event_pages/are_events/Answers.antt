@@ -1,4 +1,4 @@
-use Rattle.std.proofs.Common.{◌≡◌, ◌+◌, ℕ, List, ap, sym, ◌∙◌, arith, subst, refl, length, length-take}
+use Rattle.std.proofs.Common.{◌≡◌, ℕ, List, ap, sym, ◌∙◌, arith, subst, length, length-take}
 use Rattle.std.proofs.lemmas.List.{take_all}
 use Rattle.tw_steppage.specs.StepBytes.{stream}
 use Rattle.tw_skiplist.proofs.Streams.{length-stream}

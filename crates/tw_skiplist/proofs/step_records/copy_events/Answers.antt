@@ -1,5 +1,4 @@
-use Rattle.std.proofs.Common.{◌++◌, ◌∙◌, List, ℕ, ap, subst}
-use Rattle.tw_base.specs.format.Fields.{number_bytes}
+use Rattle.std.proofs.Common.{◌∙◌, subst}
 use Rattle.tw_disk.specs.Answers.{AnswersAs}
 use Rattle.tw_skiplist.specs.ListFaults.{list_faults}
 use Rattle.tw_skiplist.specs.ScanSteps.{copied}

@@ -1,6 +1,7 @@
-// A step more of a history that pages tell, from what it recorded and its new nodes.
+// A step more of a history that pages tell, which received a thread: from the thread and its new nodes.
 
-ghost use Rattle.std.specs.Prelude.{◌≡◌, ◌+◌, ◌<◌, ◌^◌, ◌++◌, IfOk, IsTrue, MatchOption, OnOk, false, length, true};
+ghost use Rattle.std.specs.Prelude.{◌≡◌, ◌+◌, ◌<◌, ◌^◌, ◌++◌, IfOk, IsTrue, MatchOption, OnOk, Some, false, length, true};
+ghost use Rattle.tw_base.specs.declared.history.content.Content.TheVariants.{Received};
 ghost use Rattle.tw_base.specs.history.HistoryCodec.{step_codec};
 ghost use Rattle.tw_base.specs.history.Limits.{IsTimeWithinLimits};
 ghost use Rattle.tw_disk.specs.Answers.{IsShared, ReadsPages};
@@ -10,9 +11,9 @@ ghost use Rattle.tw_rbtree.specs.FaultWords.{tree_faults};
 ghost use Rattle.tw_rbtree.specs.Listing.{listed};
 ghost use Rattle.tw_steppage.specs.StepPages.{HasRanges};
 ghost use Rattle.tw_skiplist.specs.ListFaults.{list_faults};
-ghost use Rattle.tw_skiplist.specs.StepRecords.{IsToldBy};
-ghost use Rattle.tw_export.specs.Exporting.{archive_after, may_be_told, new_nodes as new_nodes_in, step_on, step_with, with_step};
+ghost use Rattle.tw_export.specs.Exporting.{archive_after, may_be_told, step_with, with_step};
 ghost use Rattle.tw_export.specs.Faults.{list_fault_of};
+ghost use Rattle.tw_export.specs.Received.{received_on};
 ghost use Rattle.tw_export.specs.Told.{archive_of, so_far_of};
 
 use crate::archive::{ArchiveSoFar, add_nodes, root_number};
@@ -21,12 +22,12 @@ use crate::nodes::put_nodes;
 use crate::so_far::StepsSoFar;
 use std::alloc::Global;
 use tw_base::limits::PAGE_SIZE;
-use tw_base::{Bytes, Content, Hasher, NoMemory, Root, put_last_bytes};
+use tw_base::{Bytes, Content, Hasher, NoMemory, ReceivedThread, Root, Thread, put_last_bytes};
 use tw_cache::{Shelf, Shelved};
 use tw_disk::{Pages, WalkFault, read_page};
 use tw_history::put_recorded;
 use tw_rbtree::{NewNode, NewNodes, TreeFault, fresh};
-use tw_skiplist::{ListFault, StepRecord, read_content};
+use tw_skiplist::{ListFault, StepRecord};
 
 /// The most new nodes of a step that a history file counts.
 const MOST_NEW_NODES: usize = 65535;
@@ -73,44 +74,22 @@ fn list_once<P: Pages, H: Hasher>(
     list_nodes::<Shelved<P>, H>(alloc, &mut near, root, since)
 }
 
-/// The new nodes of a step: none of events; of a thread those that are listed since this page.
-fn new_nodes<P: Pages, H: Hasher>(
-    alloc: Global,
-    pages: &mut P,
-    since: u64,
-    recorded: &StepRecord,
-    content: &Content,
-) -> Result<NewNodes, ListFault>
-    ensures reads { ReadsPages list_faults P.view P.same pages.old pages.new (λ nodes. nodes) result
-        (λ ps. new_nodes_in H.dig ps since recorded.now content.now) }
-{
-    match content {
-        Content::Events(_) => Ok(NewNodes::new(alloc)),
-        Content::Received(_) => { list_once::<P, H>(alloc, pages, &recorded.fields.archive, since) }
-    }
-}
-
 /// The number of the archive's root after the step; None where no history file has such a step.
 fn told_root(
     archive: &ArchiveSoFar,
     recorded: &StepRecord,
-    content: &Content,
+    thread: &Thread,
     nodes: &[NewNode],
 ) -> Option<u64>
     requires { archive.now.count + length nodes.now < 2 ^ 64 }
-    ensures { MatchOption result (may_be_told (archive_of archive.now) recorded.now content.now nodes.now ≡ false)
-        (λ root. (may_be_told (archive_of archive.now) recorded.now content.now nodes.now ≡ true)
-        × (root ≡ (archive_after (archive_of archive.now) recorded.now content.now nodes.now).root)) }
+    ensures { MatchOption result (may_be_told (archive_of archive.now) recorded.now (Received thread.now) nodes.now ≡ false)
+        (λ root. (may_be_told (archive_of archive.now) recorded.now (Received thread.now) nodes.now ≡ true)
+        × (root ≡ (archive_after (archive_of archive.now) recorded.now (Received thread.now) nodes.now).root)) }
 {
-    match content {
-        Content::Events(_) => Some(archive.root),
-        Content::Received(thread) => {
-            if thread.get().step == 0 {
-                return None;
-            }
-            root_number(archive, nodes, recorded.fields.archive.page)
-        }
+    if thread.step == 0 {
+        return None;
     }
+    root_number(archive, nodes, recorded.fields.archive.page)
 }
 
 /// Appends the step: what it recorded, its new nodes, and the number of the archive's root after it.
@@ -133,34 +112,6 @@ fn put_step(
     Ok(())
 }
 
-/// The archive behind the step, whose root has this number.
-fn add_archive(
-    archive: &mut ArchiveSoFar,
-    recorded: &StepRecord,
-    content: &Content,
-    nodes: &[NewNode],
-    root: u64,
-) -> Result<(), NoMemory>
-    requires count { archive.old.count + length nodes.now < 2 ^ 64 }
-    requires page { recorded.now.page + 1 < 2 ^ 64 }
-    requires root { root ≡ (archive_after (archive_of archive.old) recorded.now content.now nodes.now).root }
-    ensures { OnOk result (archive_of archive.new ≡ archive_after (archive_of archive.old) recorded.now content.now nodes.now) }
-{
-    match content {
-        Content::Events(_) => {
-            archive.since = recorded.page + 1;
-            Ok(())
-        }
-        Content::Received(_) => add_nodes(
-            archive,
-            nodes,
-            recorded.fields.archive.page,
-            root,
-            recorded.page,
-        ),
-    }
-}
-
 /// Whether the numbers behind the step have at most 64 bits.
 fn are_small(archive: &ArchiveSoFar, recorded: &StepRecord, nodes: &[NewNode]) -> bool
     ensures { IsTrue result → (archive.now.count + length nodes.now < 2 ^ 64) × (recorded.now.page + 1 < 2 ^ 64) }
@@ -168,34 +119,32 @@ fn are_small(archive: &ArchiveSoFar, recorded: &StepRecord, nodes: &[NewNode]) -
     archive.count.checked_add(nodes.len() as u64).is_some() && recorded.page < u64::MAX
 }
 
-/// Takes in the step with what it recorded and its new nodes; answers no, and takes nothing in, where no
-/// history file has such a step.
+/// Takes in the step with its thread and its new nodes; answers no, and takes nothing in, where no history file has such a step.
 fn take_in(
     alloc: Global,
     so_far: &mut StepsSoFar,
     recorded: &StepRecord,
-    content: &Content,
+    thread: Thread,
     nodes: &[NewNode],
 ) -> Result<bool, NoMemory>
-    requires told { IsToldBy recorded.now content.now }
+    requires received { recorded.now.fields.received ≡ Some thread }
     requires ranges { HasRanges recorded.now.fields }
-    ensures { IfOk result (λ is_told. (is_told ≡ may_be_told (archive_of so_far.old.archive) recorded.now content.now nodes.now)
-        × (IsTrue is_told → so_far_of so_far.new ≡ with_step (so_far_of so_far.old) recorded.now content.now nodes.now)) }
+    ensures { IfOk result (λ is_told. (is_told ≡ may_be_told (archive_of so_far.old.archive) recorded.now (Received thread) nodes.now)
+        × (IsTrue is_told → so_far_of so_far.new ≡ with_step (so_far_of so_far.old) recorded.now (Received thread) nodes.now)) }
 {
     if !are_small(&so_far.archive, recorded, nodes) {
         return Err(NoMemory);
     }
-    let Some(root) = told_root(&so_far.archive, recorded, content, nodes) else {
+    let Some(root) = told_root(&so_far.archive, recorded, &thread, nodes) else {
         return Ok(false);
     };
+    let content = Content::Received(ReceivedThread::new(alloc, thread)?);
     let mut text = Bytes::new(alloc);
-    put_step(&mut text, &so_far.archive, recorded, content, nodes, root)?;
-    add_text(
-        &mut so_far.file,
-        text.as_slice(),
-        nodes.len() <= MOST_NEW_NODES,
-    )?;
-    add_archive(&mut so_far.archive, recorded, content, nodes, root)?;
+    put_step(&mut text, &so_far.archive, recorded, &content, nodes, root)?;
+    let is_few = nodes.len() <= MOST_NEW_NODES;
+    add_text(&mut so_far.file, text.as_slice(), is_few)?;
+    let page = recorded.fields.archive.page;
+    add_nodes(&mut so_far.archive, nodes, page, root, recorded.page)?;
     Ok(true)
 }
 
@@ -210,22 +159,23 @@ pub(crate) fn tell_bad<P: Pages>(pages: &mut P, page: u64) -> Result<(), ListFau
     }
 }
 
-/// Takes in the step of a record, with what it recorded. Its event pages are read, or its new tree pages, each once.
-#[tactic(auto, unfolding(crate::specs::Exporting::step_on))]
-pub(crate) fn add_recorded<P: Pages, H: Hasher>(
+/// Takes in the step of a record that received this thread. Its new tree pages are read, each once.
+#[tactic(auto, unfolding(crate::specs::Received::received_on))]
+pub(crate) fn add_received<P: Pages, H: Hasher>(
     alloc: Global,
     pages: &mut P,
     so_far: &mut StepsSoFar,
     recorded: &StepRecord,
+    thread: Thread,
 ) -> Result<(), ListFault>
-    requires { HasRanges recorded.now.fields }
+    requires received { recorded.now.fields.received ≡ Some thread }
+    requires ranges { HasRanges recorded.now.fields }
     ensures reads { ReadsPages list_faults P.view P.same pages.old pages.new (λ _. so_far_of so_far.new) result
-        (λ ps. step_on H.dig ps (so_far_of so_far.old) recorded.now) }
+        (λ ps. received_on H.dig ps (so_far_of so_far.old) recorded.now thread) }
 {
-    let content = read_content(alloc, pages, recorded)?;
     let since = so_far.archive.since;
-    let nodes = new_nodes::<P, H>(alloc, pages, since, recorded, &content)?;
-    if take_in(alloc, so_far, recorded, &content, nodes.as_slice())? {
+    let nodes = list_once::<P, H>(alloc, pages, &recorded.fields.archive, since)?;
+    if take_in(alloc, so_far, recorded, thread, nodes.as_slice())? {
         return Ok(());
     }
     tell_bad(pages, recorded.page)

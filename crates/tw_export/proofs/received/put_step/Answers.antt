@@ -4,7 +4,7 @@ use Rattle.tw_history.proofs.WritingLaws.{step_put}
 use Rattle.tw_export.specs.Exporting.{step_with}
 use Rattle.tw_export.specs.NodeNumbers.{node_of}
 use Rattle.tw_export.specs.Told.{archive_of, numbers_in}
-use Rattle.tw_export.proofs.recorded.put_step.Goals as goal
+use Rattle.tw_export.proofs.received.put_step.Goals as goal
 
 pub returns : goal.returns
 returns c =
