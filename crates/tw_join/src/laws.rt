@@ -34,7 +34,7 @@ pub fn joining_laws<H: Hasher>()
     // The hops of its report are those that the parts show, from the first event to the second.
     ensures joined_hops { (parts : List Proof) (p : PrecedenceProof) →
         joined Nothing 1 parts ≡ Ok p → (report_of (Precedes p)).hops ≡ reverse (shown_hops parts) }
-    // It names the tops of the first part and of the links, those above 0, and no other, in the order of the parts.
+    // It names the top of the first part and those tops of the links that are above 0, and no other, in the order of the parts.
     ensures joined_tops { (parts : List Proof) (p : PrecedenceProof) → joined Nothing 1 parts ≡ Ok p → named (Precedes p) ≡ tops_of parts }
     // It has at most 64 hops.
     ensures joined_few { (parts : List Proof) (p : PrecedenceProof) → joined Nothing 1 parts ≡ Ok p → length p.hops ≤ MOST_HOPS }

@@ -1,6 +1,8 @@
--- The pages of a tree, as they are found in pages, and those that its listed nodes name.
+-- The pages of a tree, as they are found in pages, those that its listed nodes name, and those that have these nodes.
 use Rattle.std.specs.Prelude.{◌≡◌, ◌⊎◌, ℕ, suc, zero, ◌≤◌, List, length}
 use Rattle.tw_base.specs.declared.history.root.Root.{Root}
+use Rattle.tw_base.specs.declared.history.thread.Entry.{Entry}
+use Rattle.tw_base.specs.kinds.Lists.{In}
 use Rattle.tw_disk.specs.Found.Found.{Is}
 use Rattle.tw_disk.specs.Image.{Image}
 use Rattle.tw_rbnode.specs.Page.{TreePage}
@@ -20,6 +22,10 @@ module _ (dig : List ℕ → List ℕ) (pages : Image) where
   -- a page of the tree under the root
   abbrev pub IsPageUnder : Root → (page : ℕ) → Type 0
   IsPageUnder root page = (p : TreePage) × (node_in dig pages root.page ≡ Is p) × IsPageIn p.level root.page page
+
+  -- an entry that stands in a page of the tree under the root, whose number is at least this one
+  abbrev pub IsEntryOfNew : Root → (since : ℕ) → Entry → Type 0
+  IsEntryOfNew root since e = (page : ℕ) × (p : TreePage) × (node_in dig pages page ≡ Is p) × IsPageUnder root page × (since ≤ page) × In e p.entries
 
 module _ (IsOwn : ℕ → Type 0) where
   -- an older page at a side is one of these, and the page that a node's mark names too

@@ -18,7 +18,7 @@ ghost use Rattle.tw_rbtree.specs.declared.new_node.NewNode.{NewNode};
 ghost use Rattle.tw_rbtree.specs.Listing.{listed};
 ghost use Rattle.tw_rbtree.specs.Planting.{AreNodeTrees, IsMarked};
 ghost use Rattle.tw_rbnode.specs.Page.{TreePage};
-ghost use Rattle.tw_rbtree.specs.OwnPages.{IsPageUnder, NamesOwn};
+ghost use Rattle.tw_rbtree.specs.OwnPages.{IsEntryOfNew, IsPageUnder, NamesOwn};
 ghost use Rattle.tw_rbtree.specs.Postorder.{ListedTree, NamesSides, postorder};
 ghost use Rattle.tw_rbtree.specs.Reading.{IsPageAt, levels_in, node_in};
 ghost use Rattle.tw_rbtree.specs.Standing.{HasNamed, IsRootTree, Named, StandsFor, StandsWith, any_page};
@@ -83,7 +83,7 @@ pub fn keeping_laws<H: Hasher>()
 
 /// What is listed of pages that stand for a tree; its clauses are the theorem. The function itself does nothing.
 pub fn listing_laws<H: Hasher>()
-    // Where the root isn't older than the number, there is a tree for each node listed: its entry over the trees of its sides,
+    // Where the root has a page that isn't older than the number, there is a tree for each node listed: its entry over the trees of its sides,
     // which are the empty one, those of nodes before it, and those of pages of the tree from 4 to below the number. It rises, and
     // the node's mark is 0, or the number of the page whose tree it is, which isn't older. The last one is the tree.
     ensures fresh { (ps : Image) (root : Root) (t : Tree) (since : ℕ) → StandsFor H.dig ps root t → root.page ≢ 0 → since ≤ root.page →
@@ -99,6 +99,8 @@ pub fn listing_laws<H: Hasher>()
         × Each (λ s. (e : Entry) → In e (entries s) → In e (entries t)) trees }
     // Whatever the pages keep, an older page at a side of a listed node is a page of the tree under the root, and so is the page that a node's mark names.
     ensures own { (ps : Image) (root : Root) (since : ℕ) (nodes : List NewNode) → listed H.dig ps since root ≡ Is nodes → Each (NamesOwn (IsPageUnder H.dig ps root)) nodes }
+    // Whatever the pages keep, no node of an older page is listed: each one's entry stands in a page of the tree under the root from the number on.
+    ensures new { (ps : Image) (root : Root) (since : ℕ) (nodes : List NewNode) → listed H.dig ps since root ≡ Is nodes → Each (λ n. IsEntryOfNew H.dig ps root since n.entry) nodes }
     // Whatever the pages keep, the nodes stand in postorder: they are those of one tree, where each node stands behind those of its
     // left side and, behind these, those of its right side, and names both sides.
     ensures order { (ps : Image) (root : Root) (since : ℕ) (nodes : List NewNode) → listed H.dig ps since root ≡ Is nodes →
@@ -113,7 +115,7 @@ pub fn listing_laws<H: Hasher>()
     // The last node listed is marked with the root's page.
     ensures last { (ps : Image) (root : Root) (t : Tree) (since : ℕ) → StandsFor H.dig ps root t → root.page ≢ 0 → since ≤ root.page →
         (nodes : List NewNode) × (n : NewNode) × (listed H.dig ps since root ≡ Is nodes) × (slice_get nodes (length nodes - 1) ≡ Some n) × (n.page ≡ root.page) }
-    // Where the root has no page, or an older one, nothing is listed.
+    // Where the root has no page, or an older one, from 4 on, nothing is listed.
     ensures none { (ps : Image) (root : Root) (since : ℕ) → (root.page ≡ 0) ⊎ ((FIRST_PAGE ≤ root.page) × (root.page < since)) → listed H.dig ps since root ≡ Is [] }
 {}
 
