@@ -542,8 +542,8 @@ impl<D: Disk, H: Hasher> Service<D, H> {
             (λ ps. found_thread_proof H.dig ps (name_of self.old) (head_of self.old) step key.now top (has_failed self.old)) self.old self.new result }
         // The proof is the history's own proof of a thread of that key under that top.
         ensures made { IfOk result (λ bytes. (h : History) → Serves H.dig D.view self.old h → MakesThread H.dig h step key.now top bytes) }
-        // Where a history is served, the tree proof has at most 9 nodes above its place for each level of the archive's pages, of which
-        // each one more takes 13 times the threads; over an archive of no thread it has none.
+        // Where a history is served, the tree proof has at most 9 nodes above its place for each of some number of levels, of which each
+        // one more takes 13 times the threads; over an archive of no thread it has none.
         ensures size { IfOk result (λ bytes. (h : History) → Serves H.dig D.view self.old h → (p : ThreadProof) → Spells proof_layout bytes (Archived p)
             → IsFewNodes (length (entries (tree h step))) (length (ancestors_of p.shown))) }
         // The proof is accepted under every list of anchors whose anchor of the service and top has the history's authenticator of the
@@ -586,8 +586,8 @@ impl<D: Disk, H: Hasher> Service<D, H> {
             (λ ps. found_absence H.dig ps (name_of self.old) (head_of self.old) step key.now top (has_failed self.old)) self.old self.new result }
         // The proof is the history's own proof, under that top, that no step up to that one received a thread of that key.
         ensures made { IfOk result (λ bytes. (h : History) → Serves H.dig D.view self.old h → MakesAbsence H.dig h step key.now top bytes) }
-        // Where a history is served, the tree proof has at most 9 nodes above its place for each level of the archive's pages, of which
-        // each one more takes 13 times the threads; over an archive of no thread it has none.
+        // Where a history is served, the tree proof has at most 9 nodes above its place for each of some number of levels, of which each
+        // one more takes 13 times the threads; over an archive of no thread it has none.
         ensures size { IfOk result (λ bytes. (h : History) → Serves H.dig D.view self.old h → (p : AbsenceProof) → Spells proof_layout bytes (Absent p)
             → IsFewNodes (length (entries (tree h step))) (length (ancestors_of p.shown))) }
         // The proof is accepted under every list of anchors whose anchor of the service and top has the history's authenticator of the
