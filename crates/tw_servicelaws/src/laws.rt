@@ -5,6 +5,7 @@ ghost use Rattle.tw_base.specs.declared.history.root.Root.{Root};
 ghost use Rattle.tw_base.specs.declared.history.thread.Entry.{Entry};
 ghost use Rattle.tw_base.specs.declared.history.thread.Key.{Key};
 ghost use Rattle.tw_base.specs.declared.history.thread.Thread.{Thread};
+ghost use Rattle.tw_base.specs.declared.history.tree_proof.Ask.{Ask};
 ghost use Rattle.tw_base.specs.declared.kinds.limits.TheConstants.{LAST_STEP};
 ghost use Rattle.tw_base.specs.history.Asking.{entry_with};
 ghost use Rattle.tw_base.specs.history.Auth.{auth};
@@ -25,7 +26,7 @@ ghost use Rattle.tw_archive.specs.Archives.{MayArchive};
 ghost use Rattle.tw_archive.specs.Judging.{judged, kept_auth, last_of, last_step};
 ghost use Rattle.tw_archive.specs.declared.judgement.Judgement.TheVariants.{Known};
 ghost use Rattle.tw_skiplist.specs.declared.head.Head.{Head};
-ghost use Rattle.tw_skiplist.specs.Keeping.{Keeps};
+ghost use Rattle.tw_skiplist.specs.Keeping.{Keeps, archive_at};
 ghost use Rattle.tw_skipproof.specs.HistoryProofs.{IsPathOf, MakesExistence};
 ghost use Rattle.tw_skipproof.specs.declared.path.Path.{Path};
 ghost use Rattle.tw_answers.specs.declared.refusal.Refusal.TheVariants.{HasThread, NoEvent, NoThread};
@@ -43,6 +44,7 @@ ghost use Rattle.tw_service.specs.Machine.Reply.{OfReceipt};
 ghost use Rattle.tw_service.specs.Receiving.{reception};
 ghost use Rattle.tw_service.specs.Stands.{IsNotOpenedFor, IsServed, KeepsWhole, Served, StandsFor, greatest_time};
 ghost use Rattle.tw_service.specs.Stands.Served.{Opened};
+ghost use Rattle.tw_servicelaws.specs.TreeSizes.{HasFewAbove};
 
 use tw_archive::judgement_laws;
 use tw_base::Hasher;
@@ -125,6 +127,11 @@ pub fn finding_laws<H: Hasher>()
     // refusal of the table.
     ensures file { (ps : Image) (h : History) (r : RootRecord) → KeepsWhole H.dig ps h r → IsSound h →
         MatchOption (file_refusal h) (history_file H.dig ps h.name r.head ≡ Is (Ok (history_bytes h))) (λ refusal. history_file H.dig ps h.name r.head ≡ Is (Err refusal)) }
+    // Where they keep a history whole, the own proof that the archive's tree after a step has of an answer, as proofs and map files of the
+    // history show it, has at most 9 nodes above its place for each level of the archive's pages, so at most 99; the levels are more than
+    // none only where at least 2 * 13^(levels - 1) - 1 threads were received.
+    ensures few { (ps : Image) (h : History) (r : RootRecord) (whole : KeepsWhole H.dig ps h r) (step : ℕ) (ask : Ask) → step ≤ length h.steps →
+        HasFewAbove H.dig ps (archive_at H.dig h whole.steps.places step).page (tree h step) ask }
     // Where they keep one, the steps are in their order and the step has no event of that index, what `prove_event`
     // finds is `NoEvent` with the step's number of events.
     ensures no_event { (ps : Image) (h : History) (head : Head) (step index top : ℕ) → Keeps H.dig ps h head → IsSound h → 1 ≤ step → step ≤ top → top ≤ head.step →

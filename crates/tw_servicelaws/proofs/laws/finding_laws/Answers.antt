@@ -6,6 +6,8 @@ use Rattle.tw_service.proofs.KeptMaps.{high_kept, low_kept}
 use Rattle.tw_service.proofs.KeptThreads.{absence_is, lacks, makes, thread_is}
 use Rattle.tw_service.proofs.Receptions.{receipt_kept, reception_kept}
 use Rattle.tw_service.proofs.KeptAnswers.{beyond, in_range, kept_link, kept_path, kept_thread}
+use Rattle.tw_service.proofs.WholePages.{tree_at}
+use Rattle.tw_servicelaws.proofs.TreeSizes.{few-above}
 use Rattle.tw_servicelaws.proofs.laws.finding_laws.Goals as goal
 
 pub returns-clause-thread : goal.returns-clause-thread
@@ -73,3 +75,7 @@ returns-clause-high g c = λ ps h r step peer top whole sound is_name is_step fr
 
 pub returns-clause-file : goal.returns-clause-file
 returns-clause-file g c = λ ps h r whole sound. export_table g.H.Hasher.dig (λ text. (g.met.H.Hasher.size text, g.met.H.Hasher.bytes text)) ps h r whole sound
+
+pub returns-clause-few : goal.returns-clause-few
+returns-clause-few g c = λ ps h r whole step ask within.
+    few-above g.H.Hasher.dig ps _ _ ask (tree_at g.H.Hasher.dig ps h r whole step within)
