@@ -84,9 +84,9 @@ def version(program):
 
 
 def length(program):
-    """The README's words where they are more than 2,000."""
+    """The README's words where they are more than 2,050."""
     words = len((TOP / "README.md").read_text().split())
-    return f"  README.md has {words} words" if words > 2000 else None
+    return f"  README.md has {words} words" if words > 2050 else None
 
 
 def without_program():
