@@ -1,7 +1,7 @@
 #!/bin/sh
 # An audit, as an auditor does it who got a proof that an event of one service precedes one of another, the lines of the services, and whole
-# histories. In the chain `beta` received a step of `alpha`, and `gamma` one of `beta`. No command writes histories yet, so a script of the
-# acceptance run does; it writes beta's history once more, with another event in its step 1.
+# histories. In the chain `beta` received a step of `alpha`, and `gamma` one of `beta`. `export` writes histories; of these one is false: beta's
+# once more, with another event in its step 1. So a script of the acceptance run writes them all.
 #
 #     examples/audited_chain.sh PROGRAM
 set -e

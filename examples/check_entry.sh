@@ -5,12 +5,25 @@
 #
 # ANCHOR is the line that was kept of the proof's top, or a file of such lines, one of a service. With a FILE, its digest has to be that of
 # the entry too. It needs timeweave on the path, and to turn hexadecimal back xxd or perl. The status is 0 where the entry stands in the history
-# that the line is of, and the file is as it was logged; 1 where that isn't so; 2 where the proof shows something else than an entry.
+# that the line is of, and the file is as it was logged; 1 where the proof isn't accepted under that line, or the file has another digest; 2 where
+# nothing is known: a file can't be read, you have no line of the proof's top, or the proof shows something else than an entry.
 set -eu
 
-[ $# -eq 2 ] || [ $# -eq 3 ] || { echo "check_entry.sh PROOF ANCHOR [FILE]" >&2; exit 2; }
-command -v timeweave >/dev/null || { echo "check_entry.sh: timeweave isn't on the path" >&2; exit 2; }
-[ $# -eq 2 ] || [ -r "$3" ] || { echo "check_entry.sh: $3 can't be read" >&2; exit 2; }
+# Ends the check where nothing is known, with the reason.
+unknown() {
+    echo "not known: $1" >&2
+    exit 2
+}
+
+[ $# -eq 2 ] || [ $# -eq 3 ] || unknown "check_entry.sh PROOF ANCHOR [FILE]"
+for needed in timeweave sha256sum; do
+    command -v $needed > /dev/null || unknown "$needed isn't on the path"
+done
+command -v xxd > /dev/null || command -v perl > /dev/null || unknown "neither xxd nor perl is on the path"
+digest=
+if [ $# -eq 3 ]; then
+    digest=$(sha256sum < "$3") || unknown "$3 can't be read"
+fi
 
 # Ends the check: the proof is a good one, of something else.
 other() {
@@ -19,10 +32,18 @@ other() {
 }
 
 # (strict, since a proof that carries a thread may tell of a history that its receiver made up)
-if ! report=$(timeweave strict "$1" "$2"); then
-    echo "not shown: $report" >&2
-    exit 1
-fi
+status=0
+report=$(timeweave strict "$1" "$2") || status=$?
+case $status:$report in
+    0:*) ;;
+    1:'rejected 3 NotHeld '*) unknown "$2 has no line of ${report#rejected 3 NotHeld }, which the proof is under" ;;
+    1:*)
+        echo "not shown: $report" >&2
+        exit 1
+        ;;
+    3:*) unknown "$1 or $2 can't be read: $report" ;;
+    *) unknown "$report (status $status)" ;;
+esac
 case $(printf '%s\n' "$report" | head -n 1) in
     'accepted exists') ;;
     'accepted precedes') other 'that one event precedes another; ask for the proof of the entry alone' ;;
@@ -37,7 +58,7 @@ set -- "${3-}" $(printf '%s\n' "$report" | sed -n '2s/^event //p')
 entry=$(printf '%s\n' "${5#-}" | if command -v xxd > /dev/null; then xxd -r -p; else perl -ne 'chomp; print pack "H*", $_'; fi)
 printf 'step %s of %s has: %s\n' "$3" "$2" "$entry"
 
-if [ -n "$1" ] && [ "$(sha256sum < "$1" | cut -d ' ' -f 1)" != "$(printf '%s\n' "$entry" | sed 's/^\\//' | cut -d ' ' -f 1)" ]; then
+if [ -n "$digest" ] && [ "${digest%% *}" != "$(printf '%s\n' "$entry" | sed 's/^\\//' | cut -d ' ' -f 1)" ]; then
     echo "not so today: $1 has another digest" >&2
     exit 1
 fi

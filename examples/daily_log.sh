@@ -12,8 +12,8 @@
 #     SERVICE.pending   the entries of a step that is being added; a run that was stopped is brought to its end by the next one
 #
 # It needs timeweave on the path. Let one run go on at a time, and nothing else append to the service. The status is 0 where all files are
-# logged; 10 where some were left out, as one that can't be read, or is gone by then, or whose path is too long, each told on standard error; 1
-# where folder, name or store aren't what they have to be, which is told; else that of the first command that fails, with its text there.
+# logged; 10 where some were left out, as one that can't be read, or is gone by then, or whose path is too long, each told on standard error, or
+# where the folder has no files and an earlier run logged some, as where a share isn't mounted; 1 where folder, name or store aren't what they have to be, which is told; else that of the first command that fails, with its text there.
 set -eu
 # (so that lengths are those in bytes, and the order is the same everywhere)
 export LC_ALL=C
@@ -192,6 +192,10 @@ fi
 
 (cd "$folder" && find . -type f -exec sha256sum {} +) > "$work/found" || is_whole=no
 sort -k 2 "$work/found" > "$work/digests"
+is_emptied=no
+if [ ! -s "$work/digests" ] && [ -s "$service.entries" ]; then
+    is_emptied=yes
+fi
 
 gather
 while IFS= read -r entry; do
@@ -210,7 +214,13 @@ while IFS= read -r entry; do
 done < "$work/digests"
 append
 cat "$service.anchor"
+if [ $is_emptied = yes ]; then
+    logged=$(tail -n 1 "$service.entries" | cut -d ' ' -f 1)
+    echo "daily_log.sh: $folder has no files, and the log has some, the last in step $logged: is it mounted? Step $last is empty" >&2
+fi
 if [ $is_whole = no ]; then
     echo "daily_log.sh: some files were left out" >&2
+fi
+if [ $is_whole$is_emptied != yesno ]; then
     exit 10
 fi

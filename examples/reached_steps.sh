@@ -1,6 +1,6 @@
 #!/bin/sh
 # From receipts that a user collected to a picture of where a step leads: which services have recorded it, directly or over others, and each at
-# which step first. No command writes receipts yet, so a script of the acceptance run does.
+# which step first. `receive` writes receipts; those here are of a network, so a script of the acceptance run writes them.
 #
 #     examples/reached_steps.sh PROGRAM
 set -e

@@ -12,6 +12,9 @@ from chains import verdict
 from reference import read_anchors
 
 if __name__ == "__main__":
+    if len(sys.argv) not in (3, 4) or sys.argv[3:] not in ([], ["verify"], ["strict"]):
+        print("usage: judge.py PROOF ANCHORS [strict]", file=sys.stderr)
+        sys.exit(2)
     told, status = verdict(Path(sys.argv[1]).read_bytes(), read_anchors(Path(sys.argv[2]).read_bytes()), sys.argv[3:] == ["strict"])
     sys.stdout.write(told)
     sys.exit(status)

@@ -5,7 +5,7 @@
 
 The cases stand in cases/*.json, those that are counted off in generated.py, those of proofs over archives and of links in archives.py,
 those of proofs that an event precedes another and of joining in precedence.py, those of evidence of a fork in forks.py, those of the order in which
-commands over several files read in reaching.py, those of the scripts that one copies in entries.py and daily.py,
+commands over several files read in reaching.py, those of the scripts that one copies in entries.py and daily.py, of hurried and deceived users in operated.py,
 those of services in steps.py, pages.py and failing.py, those of what services tell and receive in messages.py and receiving.py, those of history files that they write in exported.py, those of an archive's
 tree in pages in tree_runs.py, which run a program of their own, those of the program's edge to the system in edges.py, of programs at one time in beside.py, what it keeps itself from in guarded.py,
 of lost power and failing system calls in power.py and faults.py, runs by chance in fuzz.py, malformed input counted off in tables.py, and refused memory in refused.py; documents.py and cited.py check the documents,
@@ -61,6 +61,7 @@ import library
 import mapped
 import maps
 import messages
+import operated
 import pages
 import played
 import power
@@ -210,6 +211,7 @@ def all_cases():
     yield from shown.cases()
     yield from entries.cases()
     yield from daily.cases()
+    yield from operated.cases()
     yield from sources.cases()
 
 
