@@ -4,6 +4,7 @@ name; and scripts that could not read say so."""
 
 import subprocess
 import sys
+from typing import List
 
 from entries import expect_check, line_of
 from histories import History
@@ -11,20 +12,20 @@ from maps import high_bytes, low_bytes
 from proofs import absent_proof, link_proof, thread_proof
 from reference import EMPTY, Step, Timeline, listed, message_bytes, proof_bytes
 from shown import TOP, linked, script, verdicts
-from steps import Wrong, case
+from steps import Room, Wrong, case
 from stores import events_file
 from tracing import needs
 
 
-def told(room, words, status, text):
-    """The program ends with this status, and its output begins with this text."""
+def told(room: Room, words: str, status: int, text: str) -> bytes:
+    """The program ends with this status, and its output begins with this text; answers the output."""
     found = room.run(*words.split())
     if found[0] != status or not found[1].startswith(text.encode()):
         raise Wrong(f"  timeweave {words}\n  wanted {status} {text!r}\n  got    {found}")
     return found[1]
 
 
-def refused_after(room, forged, true, by_offer, by_receive):
+def refused_after(room: Room, forged: bytes, true: bytes, refusal: str) -> None:
     """Behind a made-up message of `bank` the true service's is refused so, by a follower and by a receiver; in another folder it is taken."""
     room.put("forged", forged)
     room.put("true", true)
@@ -32,15 +33,15 @@ def refused_after(room, forged, true, by_offer, by_receive):
         (room.folder / folder).mkdir()
     for words in ("watch seen bank", "init shop shop", "watch again bank", "offer seen forged", "receive shop forged", "offer again true"):
         told(room, words, 0, "")
-    told(room, "offer seen true", 7, by_offer)
-    told(room, "receive shop true", 7, by_receive)
+    told(room, "offer seen true", 7, refusal)
+    told(room, "receive shop true", 7, refusal)
 
 
-def made_up_message(room):
+def made_up_message(room: Room) -> None:
     """a made-up message stops a follower and a receiver for its service's name: BadLink; the true one is taken in another folder, and under another name"""
     true, false = Timeline("bank", [[b"a"]] * 2), Timeline("bank", [[b"b"]])
     kept = false.auths[1].hex()
-    refused_after(room, message_bytes(false, 1, 0), message_bytes(true, 2, 0), f"refused BadLink 1 {kept}\n", f"refused BadLink 1 {kept}\n")
+    refused_after(room, message_bytes(false, 1, 0), message_bytes(true, 2, 0), f"refused BadLink 1 {kept}\n")
     room.put("true", message_bytes(true, 2, 1))
     told(room, "offer seen true", 7, f"refused BadLink 1 {kept}\n")
     told(room, "receive shop true", 7, f"refused BadLink 1 {kept}\n")
@@ -51,13 +52,13 @@ def made_up_message(room):
     told(room, "receive shop renamed", 0, "TWR1")
 
 
-def made_up_far_step(room):
+def made_up_far_step(room: Room) -> None:
     """a made-up message of a far step makes the true service's messages stale"""
     true, false = Timeline("bank", [[b"a"]]), Timeline("bank", [[b"b"]] * 100)
-    refused_after(room, message_bytes(false, 100, 0), message_bytes(true, 1, 0), "refused Stale 100\n", "refused Stale 100\n")
+    refused_after(room, message_bytes(false, 100, 0), message_bytes(true, 1, 0), "refused Stale 100\n")
 
 
-def one_accuser(room):
+def one_accuser(room: Room) -> None:
     """one service that received two made-up threads makes evidence of a fork, which is accepted under its line alone"""
     first, second, eve = Timeline("bank", [[b"a"]]), Timeline("bank", [[b"b"]] * 2), History("eve")
     eve.receive("bank", 1, first.auths[1])
@@ -75,7 +76,7 @@ def one_accuser(room):
     told(room, "audit second lines history", 0, "stands\n")
 
 
-def one_receiver(room):
+def one_receiver(room: Room) -> None:
     """a made-up history is taken over whole by the proof of one receiver"""
     for folder, name in (("false", "bank"), ("eve", "eve")):
         (room.folder / folder).mkdir()
@@ -90,7 +91,7 @@ def one_receiver(room):
     room.expect("adopt history lines proof", 0, (room.folder / "history").read_bytes())
 
 
-def thread_left_out(room):
+def thread_left_out(room: Room) -> None:
     """a service that leaves a received thread out of its archive has the thread, its absence and a false map accepted under one line, and an audit tells it"""
     shop, notary = History("shop"), History("notary")
     for step in range(5):
@@ -112,14 +113,14 @@ def thread_left_out(room):
     room.expect("audit has lines history", 9, b"unsound history step 2 rule 3\n")
 
 
-def goes_on(room):
+def goes_on(room: Room) -> None:
     """a service goes on under a new name, which its last step tells and whose first step received its last line, as the example shows it"""
     needs("perl", "perl-base")
     needs("cmp", "diffutils")
     verdicts(room, "goes_on.sh", ["accepted exists", "accepted thread", "accepted precedes", "stands"])
 
 
-def entry_not_known(room):
+def entry_not_known(room: Room) -> None:
     """check_entry.sh ends with 2 where it could read no file, has no line of the proof's top, or can't hold a file against the entry"""
     linked(room)
     line = Timeline("a", [[b"x"], [b"y"]])
@@ -139,14 +140,14 @@ def entry_not_known(room):
             raise Wrong(f"  check_entry.sh {' '.join(words)}\n  wanted 2, nothing, {text!r}\n  got    {found}")
 
 
-def emptied_folder(room):
+def emptied_folder(room: Room) -> None:
     """a daily log of a folder that lost all its files ends with 10 and says so, each day; of one that never had any it ends with 0"""
     linked(room)
     for folder in ("src", "none"):
         (room.folder / folder).mkdir()
     (room.folder / "src/a").write_text("a\n")
 
-    def logged(folder, status, told_there):
+    def logged(folder: str, status: int, told_there: str) -> None:
         found = script(room, "daily_log.sh", folder, f"{folder}.log", "daily", errors=True)
         if found[0] != status or found[2] != told_there or found[1].encode() != (room.folder / f"{folder}.log.anchor").read_bytes():
             raise Wrong(f"  daily_log.sh {folder} {folder}.log daily\n  wanted {status} {told_there!r}\n  got    {found}")
@@ -161,14 +162,14 @@ def emptied_folder(room):
         logged("none", 0, "")
 
 
-def judge_without_words(room):
+def judge_without_words(room: Room) -> None:
     """the second implementation without its words ends with 2 and its usage"""
     done = subprocess.run([sys.executable, TOP / "tests/acceptance/judge.py"], cwd=room.folder, capture_output=True, text=True, timeout=60)
     if (done.returncode, done.stdout) != (2, "") or not done.stderr.startswith("usage: "):
         raise Wrong(f"  judge.py\n  wanted 2 and its usage\n  got    {done}")
 
 
-def cases():
+def cases() -> List[dict]:
     works = (
         made_up_message, made_up_far_step, one_accuser, one_receiver, thread_left_out, goes_on, entry_not_known, emptied_folder, judge_without_words,
     )
