@@ -4,9 +4,14 @@
 #     examples/check_entry.sh PROOF ANCHOR [FILE]
 #
 # ANCHOR is the line that was kept of the proof's top, or a file of such lines, one of a service. With a FILE, its digest has to be that of
-# the entry too. It needs timeweave on the path, and to turn hexadecimal back xxd or perl. The status is 0 where the entry stands in the history
-# that the line is of, and the file is as it was logged; 1 where the proof isn't accepted under that line, or the file has another digest; 2 where
-# nothing is known: a file can't be read, you have no line of the proof's top, or the proof shows something else than an entry.
+# the entry too. The path in the entry isn't compared with FILE, since a copy may have another name: read it in the line that is printed. It needs
+# timeweave on the path, and to turn hexadecimal back xxd or perl. The status is
+#
+#     0    the entry stands in the history that the line is of, and the file has the digest that was logged
+#     1    the proof isn't accepted under that line: it was changed, or is of another history
+#     2    nothing is known: a file can't be read or is no proof (as the text of a failed `prove`), you have no line of the proof's top, the proof
+#          shows something else than an entry, a tool is missing, or the words are no such call
+#     3    the entry stands there, and the file has another digest: it isn't the one that was logged then
 set -eu
 
 # Ends the check where nothing is known, with the reason.
@@ -15,7 +20,10 @@ unknown() {
     exit 2
 }
 
-[ $# -eq 2 ] || [ $# -eq 3 ] || unknown "check_entry.sh PROOF ANCHOR [FILE]"
+if [ $# -ne 2 ] && [ $# -ne 3 ]; then
+    echo "usage: check_entry.sh PROOF ANCHOR [FILE]" >&2
+    exit 2
+fi
 for needed in timeweave sha256sum; do
     command -v $needed > /dev/null || unknown "$needed isn't on the path"
 done
@@ -36,6 +44,7 @@ status=0
 report=$(timeweave strict "$1" "$2") || status=$?
 case $status:$report in
     0:*) ;;
+    1:'rejected 1 Malformed '*) unknown "$1 is no proof: $report" ;;
     1:'rejected 3 NotHeld '*) unknown "$2 has no line of ${report#rejected 3 NotHeld }, which the proof is under" ;;
     1:*)
         echo "not shown: $report" >&2
@@ -59,6 +68,6 @@ entry=$(printf '%s\n' "${5#-}" | if command -v xxd > /dev/null; then xxd -r -p; 
 printf 'step %s of %s has: %s\n' "$3" "$2" "$entry"
 
 if [ -n "$digest" ] && [ "${digest%% *}" != "$(printf '%s\n' "$entry" | sed 's/^\\//' | cut -d ' ' -f 1)" ]; then
-    echo "not so today: $1 has another digest" >&2
-    exit 1
+    echo "another file: $1 hasn't the digest of this entry" >&2
+    exit 3
 fi

@@ -11,9 +11,16 @@
 #                           timeweave prove SERVICE event STEP INDEX TOP > proof
 #     SERVICE.pending   the entries of a step that is being added; a run that was stopped is brought to its end by the next one
 #
-# It needs timeweave on the path. Let one run go on at a time, and nothing else append to the service. The status is 0 where all files are
-# logged; 10 where some were left out, as one that can't be read, or is gone by then, or whose path is too long, each told on standard error, or
-# where the folder has no files and an earlier run logged some, as where a share isn't mounted; 1 where folder, name or store aren't what they have to be, which is told; else that of the first command that fails, with its text there.
+# It needs timeweave on the path. Let one run go on at a time, and nothing else append to the service. The status is
+#
+#     0      all files are logged
+#     10     the day is logged, but some files were left out, as one that can't be read, or is gone by then, or whose path is too long, each told
+#            on standard error; or the folder has no files and an earlier run logged some, as where a share isn't mounted
+#     1      the folder, the name or the store isn't what it has to be, or a tool is missing or failed, which is told
+#     2      the words are no such call, or the name is none of a service
+#     130    the run was stopped by a signal
+#
+# Any other is that of the first command that failed, with its text on standard error. The next run goes on where a stopped one was.
 set -eu
 # (so that lengths are those in bytes, and the order is the same everywhere)
 export LC_ALL=C

@@ -5,7 +5,7 @@
 #     examples/same_history.sh LINK OLDER NEWER
 #
 # OLDER is a file of one line, NEWER one of the newer line or of lines as `verify` takes them. The status is 0 where the two are of one history; 1
-# where the service has shown another history to whoever has the one line than to whoever has the other; 2 where this doesn't tell. It needs
+# where they aren't: the service has two histories, or one of both lines isn't the service's; 2 where this doesn't tell, with the reason. It needs
 # timeweave on the path.
 set -u
 
@@ -15,7 +15,10 @@ unknown() {
     exit 2
 }
 
-[ $# -eq 3 ] || unknown "same_history.sh LINK OLDER NEWER"
+if [ $# -ne 3 ]; then
+    echo "usage: same_history.sh LINK OLDER NEWER" >&2
+    exit 2
+fi
 read -r name step held < "$2" || [ -n "${held-}" ] || unknown "$2 has no line"
 held=$(printf %s "$held" | tr A-F a-f)
 case $held in
@@ -33,7 +36,8 @@ esac
 found=${report##* } top=${report% *}
 top=${top##* }
 if [ "$found" != "$held" ]; then
-    echo "two histories: $name at step $top has another step $step than your line of it" >&2
+    echo "not of one history: under the line of step $top, step $step of $name has another authenticator than the older line" >&2
+    echo "$name has two histories, or one of both lines isn't its own: ask it first, by a way that shows who answers, for its line of step $step" >&2
     exit 1
 fi
 echo "one history: steps $step and $top of $name"

@@ -91,7 +91,7 @@ def same_history(room):
             link = link_proof(line, step, top)
             expect_same(room, link, anchor(line, step), anchor(line, top), 0, "one history")
             if step > 6:
-                expect_same(room, link, anchor(fork, step), anchor(line, top), 1, "two histories")
+                expect_same(room, link, anchor(fork, step), anchor(line, top), 1, "or one of both lines isn't its own")
     link = link_proof(line, 3, 9)
     expect_same(room, link, anchor(line, 4), anchor(line, 9), 2, "isn't of the link to step 4 of s")
     expect_same(room, link, anchor(line, 3), anchor(line, 8), 2, "rejected 3 NotHeld s 9")
@@ -100,7 +100,7 @@ def same_history(room):
     expect_same(room, link, anchor(line, 3).strip(), f"a 1 {'0' * 64}\n{anchor(line, 9)}b 1 {'0' * 64}", 0, "one history")
     upper = f"s 3 {line.auths[3].hex().upper()}\n"
     expect_same(room, link, upper, anchor(line, 9), 0, "one history: steps 3 and 9 of s")
-    # What goes wrong isn't told as two histories.
+    # What goes wrong isn't told as lines of two histories.
     expect_same(room, link, "", anchor(line, 9), 2, "no line")
     for held in ("0" * 62, "0" * 66, "0" * 63 + "g", "0" * 64 + " 0"):
         expect_same(room, link, f"s 3 {held}\n", anchor(line, 9), 2, "no authenticator")

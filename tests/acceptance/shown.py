@@ -55,7 +55,7 @@ def log_of_digests(room):
     (room.folder / "src/f0007").write_text("other\n")
     script(room, "daily_log.sh", "src", "log", "daily")
     (room.folder / "kept").write_text(line)
-    for name, status in (("src/f0003", 0), ("src/f0007", 1), ("src/two\nlines", 0)):
+    for name, status in (("src/f0003", 0), ("src/f0007", 3), ("src/two\nlines", 0)):
         step, index, _ = next(it for it in entries if it[2].endswith(name[3:].replace("\n", "\\n")))
         _, proof, _ = room.run("prove", "log", "event", step, index, str(len(steps)))
         room.put("proof", proof)
@@ -63,7 +63,7 @@ def log_of_digests(room):
         if found[0] != status or not found[1].startswith(f"step {step} of daily has: "):
             raise Wrong(f"  check_entry.sh proof kept {name!r}\n  wanted {status}\n  got    {found}")
     room.put("proof", proof[:-1])
-    if script(room, "check_entry.sh", "proof", "kept")[0] != 1:
+    if script(room, "check_entry.sh", "proof", "kept")[0] != 2:
         raise Wrong("  check_entry.sh takes a proof that is cut")
 
 
