@@ -52,10 +52,10 @@ $(TREES):
 
 # Tries all that a loss of power may leave of a store on the built program, of which `make check` tries some.
 crash: | $(PROGRAM)
-	python3 tests/acceptance/power.py $(PROGRAM)
+	python3 tests/acceptance/crash.py $(PROGRAM)
 
-# Runs the built program beside the reference on inputs drawn by chance, for so many seconds, and writes the first run that differs into fuzz.json;
-# `make check` does 2,000 such runs. The same seed gives the same runs: `make fuzz SECONDS=600 SEED=another`.
+# Runs the built program beside the reference on inputs drawn by chance, for so many seconds. The first trial that differs is shrunk and written into
+# tests/acceptance/cases/found; `make check` does 2,000 such trials. The same seed gives the same trials: `make fuzz SECONDS=600 SEED=another`.
 SECONDS ?= 60
 SEED ?= 1
 

@@ -9,11 +9,12 @@ import tempfile
 from pathlib import Path
 
 HERE = Path(__file__).resolve().parent
-sys.path.insert(0, str(HERE.parent / "tests/acceptance"))
+sys.path.insert(0, str(HERE.parent / "reference"))
 
 import calls  # noqa: E402
-from services import Service  # noqa: E402
 from timing import best_times, cost  # noqa: E402
+
+from timeweave_reference.services import Service  # noqa: E402
 
 MIB = 2**20
 

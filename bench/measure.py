@@ -20,8 +20,6 @@ TOP = HERE.parent
 sys.path.insert(0, str(TOP / "tests/acceptance"))
 
 import calls  # noqa: E402
-import proofs  # noqa: E402
-import reference  # noqa: E402
 from exported_histories import export_lines  # noqa: E402
 from in_process import in_process_lines  # noqa: E402
 from instructions import counted  # noqa: E402
@@ -29,14 +27,23 @@ from paged_trees import tree_lines  # noqa: E402
 from picture import drawn  # noqa: E402
 from received_threads import receiving_lines  # noqa: E402
 from rivals import all_rivals  # noqa: E402
-from stores import Store, events_file  # noqa: E402
 from timing import best_times  # noqa: E402
 from whole_histories import history_lines  # noqa: E402
+
+from harness.deep import deep_proof  # noqa: E402
+from harness import large  # noqa: E402
+from harness.making import proof_bytes  # noqa: E402
+from timeweave_reference.event_trees import ways_down  # noqa: E402
+from timeweave_reference.events_files import events_to_bytes  # noqa: E402
+from timeweave_reference.fields import big_endian as be  # noqa: E402
+from timeweave_reference.fields import padded  # noqa: E402
+from timeweave_reference.services import service_of  # noqa: E402
+from timeweave_reference.timelines import Timeline  # noqa: E402
 
 FRONT = 4 * 4096
 TRUE = "/bin/true"
 STEP, INDEX, TOP_STEP = 1, 777, 2**21 - 1
-DEEP_EVENTS = [reference.be(k, 2) for k in range(1024)]
+DEEP_EVENTS = [be(k, 2) for k in range(1024)]
 
 
 class Plan:
@@ -63,7 +70,7 @@ class Kept:
         self.count = count
         self.folder = f"{folder}/s{count}"
         self.path = f"{self.folder}/timeline.tw"
-        self.data = Store("bench", [[reference.be(step, 8)] for step in range(1, count + 1)]).file()
+        self.data = service_of("bench", [[be(step, 8)] for step in range(1, count + 1)]).file()
         os.makedirs(self.folder, exist_ok=True)
         Path(self.path).write_bytes(self.data)
 
@@ -83,10 +90,10 @@ class Bench:
         can_trace = shutil.which("strace") and shutil.which("cc")
         self.calls = calls.built(folder) if can_trace else None
         self.events = f"{folder}/events"
-        Path(self.events).write_bytes(events_file([b"bench"]))
-        least = reference.Timeline("a", [[b""]])
-        deep, auth = reference.deep_proof("deep", STEP, INDEX, TOP_STEP, DEEP_EVENTS, b"bench")
-        self.least = self.verify("least", reference.proof_bytes(least, 1, 0, 1), "a", 1, least.auths[1])
+        Path(self.events).write_bytes(events_to_bytes([b"bench"]))
+        least = Timeline("a", [[b""]])
+        deep, auth = deep_proof("deep", STEP, INDEX, TOP_STEP, DEEP_EVENTS, b"bench")
+        self.least = self.verify("least", proof_bytes(least, 1, 0, 1), "a", 1, least.auths[1])
         self.deep = self.verify("deep", deep, "deep", TOP_STEP, auth)
 
     def verify(self, name, data, service, top, auth):
@@ -225,10 +232,10 @@ def growth_table(bench):
 
 def history_file(path, size, per_step):
     """Writes a history of about so many bytes, of 200-byte events, so many a step; answers its number of steps."""
-    step = b"\x01" + reference.be(per_step, 4) + (reference.be(200, 4) + bytes(200)) * per_step + bytes(6)
+    step = b"\x01" + be(per_step, 4) + (be(200, 4) + bytes(200)) * per_step + bytes(6)
     count = (size - 28) // len(step)
     with open(path, "wb") as file:
-        file.write(b"TWH1" + reference.padded("bench") + reference.be(count, 8))
+        file.write(b"TWH1" + padded("bench") + be(count, 8))
         for _ in range(count):
             file.write(step)
     return count
@@ -265,8 +272,8 @@ def instruction_table(bench):
     if not shutil.which("valgrind"):
         return ["", "Instructions weren't counted: valgrind isn't installed."]
     total, own, inside, blocks = counted(bench.deep, bench.folder)
-    event = [1 + len(DEEP_EVENTS[INDEX])] + [65] * reference.path_length(len(DEEP_EVENTS), INDEX)
-    wanted = proofs.blocks(proofs.part_sizes(STEP, TOP_STEP) + event)
+    event = [1 + len(DEEP_EVENTS[INDEX])] + [65] * len(ways_down(len(DEEP_EVENTS), INDEX))
+    wanted = large.blocks(large.part_sizes(STEP, TOP_STEP) + event)
     ratios = [f"{part / inside:.2f}" if inside else "?" for part in (own, total)]
     return [
         "", "| `verify` of the deep proof | instructions | ratio to the hashes |", "|---|---|---|",

@@ -14,13 +14,15 @@ import tempfile
 from pathlib import Path
 
 HERE = Path(__file__).resolve().parent
-sys.path.insert(0, str(HERE.parent / "tests/acceptance"))
+sys.path.insert(0, str(HERE.parent / "reference"))
 
 import calls  # noqa: E402
 import kept_rows  # noqa: E402
-import reference  # noqa: E402
 from instructions import counted  # noqa: E402
 from timing import best_times  # noqa: E402
+
+from timeweave_reference.messages import message_of  # noqa: E402
+from timeweave_reference.timelines import Timeline  # noqa: E402
 
 FRONT = 4 * 4096
 SYNCS_NOTHING = "int fsync(int file) { return file < 0; }\nint fdatasync(int file) { return file < 0; }\n"
@@ -35,7 +37,7 @@ class Receiver:
         os.makedirs(self.folder, exist_ok=True)
         subprocess.run([program, "init", self.folder, "notary"], check=True, capture_output=True)
         # (all peers have events alike, and so one event root)
-        self.peers = [reference.Timeline(f"p{number}", [[b"bench"]] * (most // peers + 2)) for number in range(peers)]
+        self.peers = [Timeline(f"p{number}", [[b"bench"]] * (most // peers + 2)) for number in range(peers)]
         self.words = [program, "receive", self.folder, self.message]
         self.write(0)
 
@@ -54,7 +56,7 @@ class Receiver:
     def write(self, number):
         """The message of the thread of this number, since the peer's step before."""
         peer, step = self.peers[number % len(self.peers)], number // len(self.peers) + 1
-        Path(self.message).write_bytes(reference.message_bytes(peer, step, step - 1))
+        Path(self.message).write_bytes(message_of(peer, step, step - 1).to_bytes())
 
     def put_back(self):
         """Only its front and its end change where a thread is received."""

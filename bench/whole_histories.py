@@ -12,14 +12,18 @@ import tempfile
 from pathlib import Path
 
 TOP = Path(__file__).resolve().parent.parent
-sys.path.insert(0, str(TOP / "tests/acceptance"))
+sys.path[:0] = [str(TOP / "tools"), str(TOP / "reference")]
 
-from adoptions import Peer  # noqa: E402
-from audits import lines_of  # noqa: E402
+from example_files import Peer  # noqa: E402
 from instructions import counted  # noqa: E402
-from proofs import Proof  # noqa: E402
-from reference import be, climbed, padded  # noqa: E402
 from timing import cost  # noqa: E402
+
+from timeweave_reference.anchors import anchors_to_bytes  # noqa: E402
+from timeweave_reference.fields import big_endian as be  # noqa: E402
+from timeweave_reference.fields import padded  # noqa: E402
+from timeweave_reference.paths import climbed  # noqa: E402
+from timeweave_reference.proofs import ExistenceProof  # noqa: E402
+from timeweave_reference.verdicts import read_proof  # noqa: E402
 
 MIB = 2**20
 
@@ -56,8 +60,9 @@ def whole_history(program, folder, size, step):
     history, lines = (f"{folder}/{name}" for name in ("whole", "lines"))
     count = history_file(history, size - 100, step)
     data = subprocess.run([program, "show", history, "1", "0"], check=True, capture_output=True).stdout
-    shown = Proof(data)
-    auth = climbed(shown.path, shown.top, shown.step, shown.auth)
+    shown = read_proof(data)
+    assert isinstance(shown, ExistenceProof)
+    auth = climbed(shown.path, shown.top, shown.step, shown.opening.authenticator(shown.step))
     Path(lines).write_text(f"bench {count} {auth.hex()}\n")
     return history, lines, data, count, auth
 
@@ -75,7 +80,7 @@ def adopt_words(program, folder, size, step):
     history, lines, _, count, auth = whole_history(program, folder, size, step)
     proof, peer = f"{folder}/proof", Peer("peer", ("bench", count, auth))
     Path(proof).write_bytes(peer.proof(0))
-    Path(lines).write_bytes(lines_of(peer.anchor()))
+    Path(lines).write_bytes(anchors_to_bytes(peer.anchor()))
     return [program, "adopt", history, lines, proof], count
 
 

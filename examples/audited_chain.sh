@@ -1,15 +1,15 @@
 #!/bin/sh
 # An audit, as an auditor does it who got a proof that an event of one service precedes one of another, the lines of the services, and whole
 # histories. In the chain `beta` received a step of `alpha`, and `gamma` one of `beta`. `export` writes histories; of these one is false: beta's
-# once more, with another event in its step 1. So a script of the acceptance run writes them all.
+# once more, with another event in its step 1. So a script writes them all.
 #
 #     examples/audited_chain.sh PROGRAM
 set -e
 
-script=$(realpath "$(dirname "$0")/../tests/acceptance/audits.py")
+script=$(realpath "$(dirname "$0")/../tools/example_files.py")
 . "$(dirname "$0")/shown.sh"
 
-python3 "$script" .
+python3 "$script" audited_chain .
 run "cat lines"
 run "timeweave verify proof lines"
 # What the proof tells is so of these histories.

@@ -1,15 +1,15 @@
 #!/bin/sh
 # From a fork to a file that anybody checks. Two services received threads of a third one that no history of it has both: each hands out the
 # proof of its thread and its line, and whoever has the history with the later thread the link from its step down to the earlier one's. Of
-# these the evidence is made. It takes a service that makes two histories, so a script of the acceptance run makes the proofs and the lines.
+# these the evidence is made. It takes a service that makes two histories, so a script makes the proofs and the lines.
 #
 #     examples/fork_evidence.sh PROGRAM
 set -e
 
-script=$(realpath "$(dirname "$0")/../tests/acceptance/forks.py")
+script=$(realpath "$(dirname "$0")/../tools/example_files.py")
 . "$(dirname "$0")/shown.sh"
 
-python3 "$script" .
+python3 "$script" fork_evidence .
 run "cat lines"
 run "timeweave verify first lines"
 run "timeweave verify second lines"

@@ -1,15 +1,15 @@
 #!/bin/sh
 # From receipts that a user collected to a picture of where a step leads: which services have recorded it, directly or over others, and each at
-# which step first. `receive` writes receipts; those here are of a network, so a script of the acceptance run writes them.
+# which step first. `receive` writes receipts; those here are of a network, so a script writes them.
 #
 #     examples/reached_steps.sh PROGRAM
 set -e
 
-script=$(realpath "$(dirname "$0")/../tests/acceptance/atlases.py")
+script=$(realpath "$(dirname "$0")/../tools/example_files.py")
 picture=$(realpath "$(dirname "$0")/atlas_picture.py")
 . "$(dirname "$0")/shown.sh"
 
-python3 "$script" receipts
+python3 "$script" reached_steps .
 cp "$picture" .
 run "timeweave atlas alpha 2 receipts > atlas"
 run "cat atlas"

@@ -1,14 +1,14 @@
 #!/bin/sh
 # A lost service's history, taken over by whoever has a copy of it. The copy has six steps; of the proofs of two services that received threads
-# of it the later one shows step 5. A script of the acceptance run writes these files, and the history once more, with another event in step 3.
+# of it the later one shows step 5. A script writes these files, and the history once more, with another event in step 3.
 #
 #     examples/taken_over.sh PROGRAM
 set -e
 
-script=$(realpath "$(dirname "$0")/../tests/acceptance/adoptions.py")
+script=$(realpath "$(dirname "$0")/../tools/example_files.py")
 . "$(dirname "$0")/shown.sh"
 
-python3 "$script" .
+python3 "$script" taken_over .
 run "cat lines"
 # What each of both received: the service's name, the step of the thread, its authenticator, and the step that received it, last.
 run "timeweave verify first lines"

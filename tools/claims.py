@@ -17,11 +17,10 @@ from itertools import groupby
 from pathlib import Path
 from typing import NamedTuple
 
-TOP = Path(__file__).resolve().parent.parent
-sys.path[:0] = [str(TOP / "tests/acceptance"), str(TOP / "tools")]
+import declared
+import pictures
 
-import declared  # noqa: E402
-import pictures  # noqa: E402
+TOP = Path(__file__).resolve().parent.parent
 
 PAGES = {False: TOP / "docs/claims.md", True: TOP / "docs/claims-rest.md"}
 MARKED = re.compile(r"(<!-- claims, by tools/claims.py -->\n).*?(<!-- end of claims -->)", re.S)

@@ -1,4 +1,4 @@
-"""Draws the pictures of the documents that show data, from crates.txt and from the reference of the acceptance run.
+"""Draws the pictures of the documents that show data, from crates.txt and from the reference.
 
     python3 tools/pictures.py           writes them anew into docs/*.md
     python3 tools/pictures.py --check   tells those that differ, and writes nothing
@@ -11,17 +11,19 @@ import sys
 from pathlib import Path
 
 TOP = Path(__file__).resolve().parent.parent
-sys.path.insert(0, str(TOP / "tests/acceptance"))
+sys.path[:0] = [str(TOP / "tools"), str(TOP / "reference")]
 
-import chains  # noqa: E402
-import maps  # noqa: E402
-import reference  # noqa: E402
-import tree_pages  # noqa: E402
-import trees  # noqa: E402
-from stores import PAGE, Follower, Store  # noqa: E402
-
-# The history that the tutorial shows: thirteen steps of three events each.
-SHOP = reference.Timeline("shop", [[f"order {step}.{k}".encode() for k in range(3)] for step in range(1, 14)])
+from example_files import ENTRY, SHOP, bounds, least_way, ledger_and_notary  # noqa: E402
+from timeweave_reference.archives import EMPTY, Entry, Node, absent, tree_proof, with_leaf  # noqa: E402
+from timeweave_reference.event_trees import audit_path, event_root  # noqa: E402
+from timeweave_reference.followers import Follower  # noqa: E402
+from timeweave_reference.hashed_texts import EMPTY_ARCHIVE  # noqa: E402
+from timeweave_reference.messages import message_of  # noqa: E402
+from timeweave_reference.paths import top_level  # noqa: E402
+from timeweave_reference.receipts import Receipt  # noqa: E402
+from timeweave_reference.services import service_of  # noqa: E402
+from timeweave_reference.timelines import Timeline  # noqa: E402
+from timeweave_reference.tree_pages import FIRST, MOST_KEYS, PAGE, PagedTree, slots_of  # noqa: E402
 
 
 def short(digest):
@@ -106,11 +108,11 @@ def wrapped(level, names, width=100):
 
 def step():
     """What the authenticator of step 12 is made of."""
-    root, datum, labels = reference.event_root(SHOP.events(12)), SHOP.datum(12), SHOP.labels(12)
+    root, datum, labels = event_root(SHOP.events(12)), SHOP.datum(12), SHOP.labels(12)
     links = [f"link 12 -> {12 - 2**level:2}, level {level}: {short(label)}" for level, label in enumerate(labels)]
     return [
         f" three events ──> event root {short(root)} ─┐                   ┌─> {links[0]} ─┐",
-        f" no archive ────> its label  {short(reference.EMPTY_TREE)} ─┼─> datum {short(datum)} ─┼─> {links[1]} ─┼─> authenticator {short(SHOP.auths[12])}",
+        f" no archive ────> its label  {short(EMPTY_ARCHIVE)} ─┼─> datum {short(datum)} ─┼─> {links[1]} ─┼─> authenticator {short(SHOP.auths[12])}",
         f" their count, 3 ───────────────────────┘                   └─> {links[2]} ─┘",
         "",
         *[f" and the link to step {12 - 2**level:2} is over its authenticator, {short(SHOP.auths[12 - 2**level])}" for level in range(3)],
@@ -121,7 +123,7 @@ def links():
     """Each step with the steps that its links lead to, and its authenticator."""
     lines = ["step   links of level 0, 1, 2, ..  lead to     authenticator"]
     for number in range(14):
-        levels = range(reference.top_level(number) + 1) if number else ()
+        levels = range(top_level(number) + 1) if number else ()
         leads = "".join(f"{number - 2**level:4}" for level in levels)
         lines.append(f"{number:4}   {leads:<40}{short(SHOP.auths[number])}")
     return lines
@@ -130,9 +132,9 @@ def links():
 def tree():
     """The tree of five events, with the labels' first bytes, and the audit paths of two of them."""
     events = [f"event {k}".encode() for k in range(5)]
-    leaf = [short(reference.event_root([event])) for event in events]
-    node = [short(reference.event_root(events[a:b])) for a, b in ((0, 2), (2, 4), (0, 4), (0, 5))]
-    paths = [", ".join(short(label) for label in reference.event_path(events, k)) for k in (2, 4)]
+    leaf = [short(event_root([event])) for event in events]
+    node = [short(event_root(events[a:b])) for a, b in ((0, 2), (2, 4), (0, 4), (0, 5))]
+    paths = [", ".join(short(label) for label in audit_path(events, k)) for k in (2, 4)]
     return [
         f"                         {node[3]}                      the event root",
         "                        /         \\",
@@ -180,9 +182,9 @@ def proof():
 
 def absence():
     """A small archive, and the proof that a key is absent in it, byte by byte."""
-    entries = [reference.Entry("alpha", 5, bytes([0xAA] * 32), 1), reference.Entry("beta", 2, bytes([0xBB] * 32), 2)]
-    tree = trees.with_leaf(trees.with_leaf(reference.EMPTY, entries[0]), entries[1])
-    data = trees.proof_over(tree, trees.absent("alpha", 6)).bytes()
+    entries = [Entry("alpha", 5, bytes([0xAA] * 32), 1), Entry("beta", 2, bytes([0xBB] * 32), 2)]
+    tree = with_leaf(with_leaf(EMPTY, entries[0]), entries[1])
+    data = tree_proof(tree, absent("alpha", 6)).to_bytes()
     fields = [(1, "two nodes above the place")]
     for entry, side in ((entries[1], "right"), (entries[0], "left")):
         fields += [
@@ -204,7 +206,7 @@ def absence():
 
 def chain():
     """The proof that an event of alpha precedes one of beta, byte by byte, part by part."""
-    data = chains.least_way().bytes()
+    data = least_way().proof().to_bytes()
     lines, at = dumped(data, [
         (4, "TWP1"), (1, "kind 2"), (1, "one hop"), (16, "head, part 0: service beta"), (8, "step 2"), (8, "top 2; the path from 2 to 2 has no bytes"),
         (32, "opening of step 2: event root"), (32, "archive label"), (4, "count of events"), (32, "authenticator of step 1"),
@@ -224,8 +226,8 @@ def chain():
 
 def between():
     """The steps of the example of maps, in the order in which they were made: two services that received a thread of one another."""
-    ledger, notary, made = maps.example()
-    low, high = maps.bounds(ledger, maps.ENTRY, notary, len(notary.steps))
+    ledger, notary, made = ledger_and_notary()
+    low, high = bounds(ledger, ENTRY, notary, len(notary.steps))
     at = {step: 10 + 7 * place for place, step in enumerate(made)}
     rows = {}
     for name, history in (("notary", notary), ("ledger", ledger)):
@@ -239,7 +241,7 @@ def between():
         line[received[0] + row * (received[1] - received[0]) // 6] = "\\"
         line[sent[1] - row * (sent[1] - sent[0]) // 6] = "/"
         ways.append("".join(line).rstrip())
-    entry = at["ledger", maps.ENTRY]
+    entry = at["ledger", ENTRY]
     return [
         rows["notary"], *ways, rows["ledger"],
         f"{'|':>{entry + 1}}",
@@ -249,7 +251,7 @@ def between():
 
 def message():
     """The message of the last step of the tutorial's history since step 11, byte by byte."""
-    data = reference.message_bytes(SHOP, 13, 11)
+    data = message_of(SHOP, 13, 11).to_bytes()
     lines, at = dumped(data, [
         (4, "TWT1"), (16, "the service shop"), (8, "its step 13"), (32, "its authenticator there"), (8, "since step 11"),
         (32, "path, the link 13->12 of level 0: datum of 13"), (32, "the link 12->11 of level 0: datum of 12"), (32, "label 12->10"), (32, "label 12->8"),
@@ -260,9 +262,9 @@ def message():
 
 def receipt():
     """The receipt of a step that archived the thread of that message, byte by byte."""
-    archive = reference.Node(reference.EMPTY, reference.Entry("shop", 13, SHOP.auths[13], 2), reference.EMPTY)
-    bank = reference.Timeline("bank", [[], []], [reference.EMPTY_TREE, archive.label])
-    data = reference.receipt_bytes("bank", 2, bank.auths[2], "shop", 13, SHOP.auths[13])
+    archive = Node(EMPTY, Entry("shop", 13, SHOP.auths[13], 2), EMPTY)
+    bank = Timeline("bank", [[], []], [EMPTY_ARCHIVE, archive.label])
+    data = Receipt("bank", 2, bank.auths[2], "shop", 13, SHOP.auths[13]).to_bytes()
     lines, at = dumped(data, [
         (4, "TWR1"), (16, "the recorder, the service bank"), (8, "its step 2, which archived the thread"), (32, "its authenticator there"),
         (16, "the thread: service shop"), (8, "step 13"), (32, "its authenticator there"),
@@ -273,15 +275,15 @@ def receipt():
 
 def pages():
     """The event page and the step page of a step 2, byte by byte."""
-    store = Store("shop", [[b"first"], [b"bread", b"milk"]])
+    store = service_of("shop", [[b"first"], [b"bread", b"milk"]])
     first = store.step_pages[2] - 1
     lines = [f"page {first}, the event page of step 2"]
-    more, _ = dumped(store.pages[first - 4], [
+    more, _ = dumped(store.archive.pages[first - 4], [
         (1, "2, an event page"), (8, "step 2"), (2, "its page 0"), (4, "the stream: a length"), (5, "bread"), (4, "a length"), (4, "milk"),
         (PAGE - 28, "zeros"),
     ])
     lines += more + ["", f"page {first + 1}, the step page of step 2"]
-    more, at = dumped(store.pages[first - 3], [
+    more, at = dumped(store.archive.pages[first - 3], [
         (1, "1, a step page"), (8, "step 2"), (1, "1, a step of events"), (4, "two events"), (4, "their stream has 17 bytes"),
         (8, f"first event page, {first}"), (32, "event root"), (32, "archive label"), (8, "the archive has no page"), (56, "zeros"),
         (32, "authenticator of step 2"),
@@ -310,19 +312,19 @@ def heads():
 
 def rising_versions(count):
     """The versions of an archive that received so many threads of a service alpha, those of its steps 1, 2, .. in order."""
-    tree = tree_pages.PagedTree()
+    tree = PagedTree()
     for step in range(1, count + 1):
-        tree.insert(reference.Entry("alpha", step, bytes([step]) * 32, step))
+        tree.insert(Entry("alpha", step, bytes([step]) * 32, step))
     return tree
 
 
 def half():
     """The left one of the pages that a full page became: its tree and its bytes."""
-    tree = rising_versions(tree_pages.MOST_KEYS + 1)
+    tree = rising_versions(MOST_KEYS + 1)
     page = tree.pages[-3]
-    root = page.slots(page.shape)
+    root = slots_of(page.shape)
     slots = [f"slot {number}, {'red' if red else 'black'}, {sides_of(left, right)}: alpha {number}" for number, (red, left, right) in enumerate(root, 1)]
-    lines, at = dumped(page.bytes(), [
+    lines, at = dumped(page.to_bytes(), [
         (1, "3, a tree page"), (1, "level 0, a leaf page"), (1, "twelve keys"), (1, "root slot 7"), *[(67, slot) for slot in slots],
         (13 * 40, "thirteen children: page 0, and the label of the empty tree"), (PAGE - 4 - 12 * 67 - 13 * 40, "zeros"),
     ])
@@ -349,8 +351,8 @@ def sides_of(left, right):
 
 def versions():
     """Two versions of a tree that share a page."""
-    tree = rising_versions(tree_pages.MOST_KEYS + 2)
-    first = tree_pages.FIRST + len(tree.pages) - 5
+    tree = rising_versions(MOST_KEYS + 2)
+    first = FIRST + len(tree.pages) - 5
     left, right, root, more, above = range(first, first + 5)
     return [
         f"25 threads, root page {root}                   26 threads, root page {above}",

@@ -1,0 +1,117 @@
+"""What the documents name is there: each clause in the contract of the function beside it, each definition in its module, each path. The
+claims of docs/claims.md are made from the sources, as documents.py checks."""
+
+import re
+
+from declared import crates
+
+from harness.places import TOP
+
+DOCUMENTS = [TOP / "README.md", TOP / "reference/README.md", *sorted((TOP / "docs").glob("*.md")), *sorted((TOP / "bench").glob("*.md"))]
+SOURCES = ("crates/*/src/**/*.rt", "crates/*/specs/**/*.antt", "crates/*/proofs/**/*.antt", "tests/acceptance/**/*.py", "reference/**/*.py", "tools/*.*", "bench/*.py", "docs/*.txt")
+CRATE = re.compile(r"`(tw_\w+|timeweave(?:_c)?)\b")
+NAMES = r"(?:`\w+`(?:,\s|\sand\s)?)+"
+PATH = re.compile(r"(?<![\w/.$])(?:crates|tests|tools|specs|docs|bench|examples|reference|proofs|src|must-fail|cases|harness|tw_\w+)/[\w.*/-]*\w")
+
+
+def sections(text, level):
+    """The parts of a document that begin with a heading of a level, without their pictures; what stands before is left out."""
+    return re.split(rf"^{level} ", re.sub(r"```.*?```", "", text, flags=re.S), flags=re.M)[1:]
+
+
+def inside(names):
+    """The names between backticks."""
+    return re.findall(r"`([\w:]+)`", names)
+
+
+def members(owner, named):
+    """What stands under a name in each crate that has it: of the crate or its specs, of a module, a record or a function."""
+    crate, _, rest = owner.partition("/")
+    if crate in crates():
+        module = rest.removeprefix("specs/").rpartition("/")[2]
+        return [crates()[crate].members(module) or set() if module != rest else crates()[crate].names()]
+    found = (crates()[crate].members(owner) for crate in ([named] if named else crates()))
+    return [known for known in found if known is not None]
+
+
+def of_owners(program):
+    """The members that a document names beside their owner and that aren't there: `owner`: `member`, `member`, or `owner` of `CRATE`:
+    `member` where several crates have the owner; `CRATE/specs/MODULE` (`member`), where the module may stand in a room; `member` of or in `CRATE`."""
+    wrong = []
+    for document in DOCUMENTS:
+        text = document.read_text()
+        found = re.findall(rf"`([\w/:]+)`(?:\sof\s`((?:tw|timeweave)_\w+)`)?:\s({NAMES})", text)
+        found += re.findall(rf"`(\w+/specs/\w+)`()\s\(({NAMES})\)", text)
+        found += [(crate, "", name) for name, crate in re.findall(r"(`\w+`)\s(?:of|in)\s`((?:tw|timeweave)_\w+)`", text)]
+        for owner, crate, names in found:
+            known = members(owner, crate)
+            if len(known) > 1:
+                wrong.append(f"  {document.name}: {len(known)} crates have {owner}, and none is named beside it")
+            wrong += [f"  {document.name}: {owner} has no {name}" for name in inside(names) if len(known) == 1 and name not in known[0]]
+    return "\n".join(wrong) or None
+
+
+def in_sections(program):
+    """The code names in docs/definitions.md that no crate has which their section names; command words excepted."""
+    wrong, commands = [], set(re.findall(r'\(codes "(\w+)"', (TOP / "crates/tw_words/specs/CommandLine.antt").read_text()))
+    for part in sections((TOP / "docs/definitions.md").read_text(), "##"):
+        named = set(CRATE.findall(part))
+        known = commands.union(named, *(crates()[name].names() for name in named if name in crates()))
+        heading = part.partition("\n")[0]
+        unknown = [name for name in re.findall(r"`(\w*[a-z]\w*)`", part) if name not in known]
+        wrong += [f"  {heading}: none of {', '.join(sorted(named))} has {name}" for name in unknown]
+    return "\n".join(wrong) or None
+
+
+def in_modules(program):
+    """The definitions that a list of docs/definitions.md names in brackets, (`a`, `b`) or (`a` in `Module`), and that aren't in the modules
+    that the entry begins with, nor in the one beside them."""
+    wrong, text = [], (TOP / "docs/definitions.md").read_text()
+    for crate, listed in re.findall(r"In `(tw_\w+)/specs`:\n\n((?:(?:- |  +).*\n)+)", text):
+        for entry in re.split(r"^- ", listed, flags=re.M)[1:]:
+            heads = inside(re.match(NAMES, entry)[0])
+            for names, other in re.findall(rf"\(({NAMES})(?: in `(\w+)`)?\)", entry):
+                modules = [other] if other else heads
+                known = set().union(crates()[crate].functions, *(crates()[crate].members(module) or () for module in modules))
+                wrong += [f"  {crate}: {' and '.join(modules)} has no {name}" for name in inside(names) if name not in known]
+    return "\n".join(wrong) or None
+
+
+def code_names(program):
+    """The names with an underscore or a capital inside, between backticks in a document, that stand in no source."""
+    sources = [path for pattern in SOURCES for path in TOP.glob(pattern)]
+    known = set(crates()).union((path.stem for path in sources), *(re.findall(r"\w+", path.read_text()) for path in sources))
+    wrong = [
+        f"  {document.name}: {name}"
+        for document in DOCUMENTS
+        for name in re.findall(r"`(\w*[a-z](?:_|[A-Z])\w*)`", document.read_text())
+        if name not in known
+    ]
+    return "\n".join(wrong) or None
+
+
+def named_paths(text):
+    """The paths of a document, and those of the files that stand behind one by their names alone: `CRATE/proofs/A`, `B`; and so on: `C`."""
+    yield from PATH.findall(text)
+    for folder, more in re.findall(r"`(tw_\w+/(?:proofs|specs)/(?:\w+/)*)\w+`((?:[,;]\s(?:[\w ]+: )?`\w+`)+)", text):
+        yield from (folder + name for name in inside(more))
+
+
+def paths(program):
+    """The paths that a document names and that lead to no file; words in capitals in them stand for any name."""
+    wrong = []
+    for document in DOCUMENTS:
+        for path in named_paths(document.read_text()):
+            pattern = re.sub(r"\b[A-Z]+\b", "*", path)
+            places = [pattern, f"crates/{pattern}", f"crates/*/{pattern}", f"tests/acceptance/{pattern}"]
+            if not any(next(TOP.glob(place + end), None) for place in places for end in ("", ".antt")):
+                wrong.append(f"  {document.name}: {path}")
+    return "\n".join(wrong) or None
+
+
+def cases():
+    yield {"name": "cited: members", "check": of_owners}
+    yield {"name": "cited: names of sections", "check": in_sections}
+    yield {"name": "cited: definitions of modules", "check": in_modules}
+    yield {"name": "cited: code names", "check": code_names}
+    yield {"name": "cited: paths", "check": paths}

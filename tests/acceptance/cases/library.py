@@ -1,0 +1,134 @@
+"""Cases of the library for C and Python, which come once the others have run."""
+
+import os
+import re
+import subprocess
+import sys
+
+import timeweave
+from example_files import two_histories
+
+from cases import archives
+from harness.library import ARCHIVE, SHARED, TRIED, built_library, checked_run, chosen, wanted_version
+from harness.making import proof_bytes
+from harness.places import HARNESS, LONGEST, TOP
+from harness.rooms import Wrong, case, needs
+from harness.running import difference
+from harness.ways import as_way, with_carried
+from timeweave_reference.timelines import Timeline
+
+# What the library may call, and what its archive defines of the allocator's edge.
+CALLED = {"malloc", "realloc", "free", "memcpy", "memmove", "memset", "memcmp", "_GLOBAL_OFFSET_TABLE_"}
+
+
+# ---- each proof of the run
+
+
+# ---- in C
+
+
+def calls(compiler):
+    def work(room):
+        built_library()
+        try_some(room.program)
+        command, program = needs(compiler, compiler), str(room.folder / "calls")
+        room.put("proofs", chosen())
+        flags = ["-std=c11", "-O1", "-g", "-Wall", "-Wextra", "-Werror", "-fsanitize=address,undefined", "-fno-sanitize-recover=all"]
+        wrapped = ["-Wl,--wrap=malloc", "-Wl,--wrap=realloc", "-pthread"]
+        checked_run([command, *flags, "-I", TOP / "include", "-o", program, HARNESS / "library_calls.c", ARCHIVE, *wrapped])
+        checked_run([program, room.folder / "proofs", wanted_version()])
+
+    work.__doc__ = f"calls in C by {compiler}, under its sanitizers"
+    return work
+
+
+def symbols(room):
+    """the library reaches no more C functions than the allocator, and shows no more than its header"""
+    built_library()
+    nm = needs("nm", "binutils")
+    listed = lambda *words: {line.split()[-1] for line in checked_run([nm, *words]).splitlines() if " " in line.strip()}  # noqa: E731
+    beyond = listed("--undefined-only", ARCHIVE) - listed("--defined-only", ARCHIVE) - CALLED
+    shown = {name.partition("@")[0] for name in listed("-D", "--defined-only", SHARED)}
+    declared = set(re.findall(r"^\w+ (timeweave_\w+)\(", (TOP / "include/timeweave.h").read_text(), re.M))
+    if beyond or shown != declared:
+        raise Wrong(f"  calls beyond the allocator: {sorted(beyond)}\n  shown {sorted(shown)}\n  declared {sorted(declared)}")
+
+
+def loose(room, environment):
+    """The example for Python takes no chain with a thread that no anchor binds."""
+    way = as_way(two_histories()[1])
+    room.put("p", with_carried(way, {0}).to_bytes())
+    room.put("k", "".join(f"{name} {step} {auth.hex()}\n" for name, (step, auth) in way.anchors().items()).encode())
+    done = subprocess.run([sys.executable, TOP / "examples/verify.py", "p", "k"], cwd=room.folder, env=environment, capture_output=True, text=True, timeout=LONGEST)
+    if (done.returncode, done.stdout[:22]) != (1, "rejected for reason 8,"):
+        raise Wrong(f"  of a chain with a carried thread verify.py says {done}")
+
+
+def installed(room):
+    """what is installed serves a program in C and a script in Python"""
+    built_library()
+    compiler, pkg_config = needs("cc", "gcc"), needs("pkg-config", "pkg-config")
+    environment = {name: value for name, value in os.environ.items() if not name.startswith(("MAKE", "MFLAGS", "DESTDIR"))}
+    prefix, program = room.folder / "there", str(room.folder / "many")
+    checked_run(["make", "-s", "install-lib", f"PREFIX={prefix}"], cwd=TOP, env=environment)
+    environment["PKG_CONFIG_PATH"] = str(prefix / "lib/pkgconfig")
+    version = checked_run([pkg_config, "--modversion", "timeweave"], env=environment)
+    flags = checked_run([pkg_config, "--cflags", "--libs", "timeweave"], env=environment).split()
+    checked_run([compiler, "-O2", "-o", program, TOP / "examples/many_proofs.c", *flags])
+    line = Timeline("a", [[b"milk"]])
+    room.put("p", proof_bytes(line, 1, 0, 1))
+    room.put("k", f"a 1 {line.auths[1].hex()}\n".encode())
+    environment["LD_LIBRARY_PATH"] = str(prefix / "lib")
+    told = checked_run([program, "p", "k", "1000"], cwd=room.folder, env=environment)
+    environment["TIMEWEAVE_LIBRARY"] = str(prefix / "lib/libtimeweave.so")
+    said = checked_run([sys.executable, TOP / "examples/verify.py", "p", "k"], cwd=room.folder, env=environment)
+    loose(room, environment)
+    if version.strip() != wanted_version() or not told.startswith("1000 of 1000 accepted") or said != "service a recorded b'milk' at step 1\n":
+        raise Wrong(f"  version {version!r}\n  many_proofs.c: {told!r}\n  verify.py: {said!r}")
+
+
+def raised(proof, anchors):
+    """What the module for Python raises for a proof, or the report."""
+    try:
+        return timeweave.verify(proof, anchors)
+    except (timeweave.Rejected, timeweave.BadAnchors) as reason:
+        return type(reason).__name__, vars(reason)
+
+
+def module(room):
+    """the module for Python gives the report, raises the reason, and gives the version"""
+    built_library()
+    line = Timeline("a", [[b"milk"]])
+    proof, anchors = proof_bytes(line, 1, 0, 1), f"a 1 {line.auths[1].hex()}\n"
+    event = timeweave.Event("a", 1, 0, b"milk")
+    for given, wanted in (
+        ((proof, anchors), timeweave.Report("exists", f"accepted exists\nevent a 1 0 {b'milk'.hex()}\n", [event])),
+        ((bytearray(proof), anchors.encode()), timeweave.Report("exists", f"accepted exists\nevent a 1 0 {b'milk'.hex()}\n", [event])),
+        ((proof.replace(b"milk", b"beer"), anchors), ("Rejected", {"number": 6, "name": "BadEvent", "fields": ["0"]})),
+        ((proof, anchors + "a 1"), ("BadAnchors", {"line": 2})),
+    ):
+        if raised(*given) != wanted:
+            raise Wrong(f"  wanted {wanted}\n  got    {raised(*given)}")
+    if timeweave.version() != wanted_version():
+        raise Wrong(f"  the version is {timeweave.version()}")
+
+
+def each_proof(room):
+    """each proof of this run, by the library"""
+    built_library()
+    try_some(room.program)
+    if not TRIED:
+        raise Wrong("  no proof of this run was judged by the library")
+
+
+def try_some(program):
+    """Judges some proofs by program and library, where no other case of this run did."""
+    for one in archives.good_and_faulty() if not TRIED else ():
+        wrong = difference(program, one)
+        if wrong:
+            raise Wrong(wrong)
+
+
+def cases():
+    for work in (each_proof, calls("gcc"), calls("clang"), symbols, installed, module):
+        yield case(work, "library")

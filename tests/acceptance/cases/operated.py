@@ -1,0 +1,347 @@
+"""Acceptance cases of what docs/operating.md says of users who are hurried or lied to: a made-up message takes a name, one service alone can make
+evidence and have a history taken over, a service that breaks the rules proves both a thread and its absence, a service goes on under a new
+name; the commands that it gives do what it says; and scripts that could not read say so."""
+
+import os
+import subprocess
+import sys
+from typing import List
+
+from example_files import high_of, low_of
+
+from cases.entries import expect_check, line_of
+from cases.shown import verdicts
+from harness.examples import linked, script, with_program
+from harness.making import absent_proof, link_proof, message_bytes, proof_bytes, thread_proof
+from harness.places import LONGEST, TOP
+from harness.rooms import Room, Wrong, case, needs
+from timeweave_reference.archives import EMPTY, listed
+from timeweave_reference.events_files import events_to_bytes
+from timeweave_reference.histories import Step
+from timeweave_reference.recording import History
+from timeweave_reference.services import service_of
+from timeweave_reference.timelines import Timeline
+
+
+def told(room: Room, words: str, status: int, text: str) -> bytes:
+    """The program ends with this status, and its output begins with this text; answers the output."""
+    found = room.run(*words.split())
+    if found[0] != status or not found[1].startswith(text.encode()):
+        raise Wrong(f"  timeweave {words}\n  wanted {status} {text!r}\n  got    {found}")
+    return found[1]
+
+
+def refused_after(room: Room, forged: bytes, true: bytes, refusal: str) -> None:
+    """Behind a made-up message of `bank` the true service's is refused so, by a follower and by a receiver; in another folder it is taken."""
+    room.put("forged", forged)
+    room.put("true", true)
+    for folder in ("seen", "shop", "again"):
+        (room.folder / folder).mkdir()
+    for words in ("watch seen bank", "init shop shop", "watch again bank", "offer seen forged", "receive shop forged", "offer again true"):
+        told(room, words, 0, "")
+    told(room, "offer seen true", 7, refusal)
+    told(room, "receive shop true", 7, refusal)
+
+
+def made_up_message(room: Room) -> None:
+    """a made-up message stops a follower and a receiver for its service's name: BadLink; the true one is taken in another folder, and under another name"""
+    true, false = Timeline("bank", [[b"a"]] * 2), Timeline("bank", [[b"b"]])
+    kept = false.auths[1].hex()
+    refused_after(room, message_bytes(false, 1, 0), message_bytes(true, 2, 0), f"refused BadLink 1 {kept}\n")
+    room.put("true", message_bytes(true, 2, 1))
+    told(room, "offer seen true", 7, f"refused BadLink 1 {kept}\n")
+    told(room, "receive shop true", 7, f"refused BadLink 1 {kept}\n")
+    # The service's link tells its own authenticator of step 1, which isn't the one that is kept.
+    room.put("link", link_proof(true, 1, 2))
+    told(room, f"verify link bank 2 {true.auths[2].hex()}", 0, f"accepted link\nlink bank 1 2 {true.auths[1].hex()}\n")
+    room.put("renamed", message_bytes(Timeline("bank-2", [[b"a"]]), 1, 0))
+    told(room, "receive shop renamed", 0, "TWR1")
+
+
+def made_up_far_step(room: Room) -> None:
+    """a made-up message of a far step makes the true service's messages stale"""
+    true, false = Timeline("bank", [[b"a"]]), Timeline("bank", [[b"b"]] * 100)
+    refused_after(room, message_bytes(false, 100, 0), message_bytes(true, 1, 0), "refused Stale 100\n")
+
+
+def shell(room: Room, command: str, **words: str) -> str:
+    """What a command of docs/operating.md answers in a shell: its output, its status and what it told on standard error. Such words stand in
+    place of those of the document."""
+    if command not in (TOP / "docs/operating.md").read_text():
+        raise Wrong(f"  docs/operating.md hasn't the command\n  {command}")
+    for word, other in words.items():
+        command = command.replace(word, other)
+    done = subprocess.run(["bash", "-c", command], cwd=room.folder, env=with_program(room.program), capture_output=True, text=True, timeout=LONGEST)
+    return f"{done.stdout}{done.returncode} {done.stderr}"
+
+
+def expect_shell(room: Room, command: str, wanted: str, **words: str) -> None:
+    """The command of docs/operating.md answers this."""
+    found = shell(room, command, **words)
+    if found != wanted:
+        raise Wrong(f"  {command}\n  wanted {wanted!r}\n  got    {found!r}")
+
+
+def another_old_head(room: Room) -> None:
+    """a follower tells another authenticator of an older head as stale, and its heads have the line to compare with the message's; of a service it is a fork"""
+    needs("perl", "perl-base")
+    linked(room)
+    true, false = Timeline("bank", [[b"a"]] * 2), Timeline("bank", [[b"b"]])
+    for folder in ("seen", "shop"):
+        (room.folder / folder).mkdir()
+    room.put("first", message_bytes(true, 1, 0))
+    room.put("second", message_bytes(true, 2, 1))
+    room.put("message", message_bytes(false, 1, 0))
+    for words in ("watch seen bank", "init shop shop", "offer seen first", "offer seen second", "receive shop first", "receive shop second"):
+        told(room, words, 0, "")
+    told(room, "offer seen message", 7, "refused Stale 2\n")
+    told(room, "receive shop message", 7, f"refused Forked 1 {true.auths[1].hex()} {false.auths[1].hex()}\n")
+    told(room, "heads seen", 0, f"bank 1 {true.auths[1].hex()}\n")
+    expect_shell(room, """perl -0777 -ne 'printf "%s %s %s\\n", unpack "x4 Z16 Q> H64"' message""", f"bank 1 {false.auths[1].hex()}\n0 ")
+
+
+def picked_lines(room: Room) -> None:
+    """of the file of all lines those of a chain's tops are picked, doubled ones once; of two different lines of one step the step is named, and verify takes none"""
+    linked(room)
+    shop, bank = (Timeline(name, [[name.encode()]] * 12) for name in ("shop", "bank"))
+    lines = [f"{line.name} {step} {line.auths[step].hex()}\n" for line in (shop, bank) for step in (7, 12)]
+    room.put("kept", "".join([*lines, lines[1], lines[2]]).encode())
+    twice = "sort -u kept | cut -d ' ' -f 1,2 | sort | uniq -d"
+    pick = "grep -e '^shop 12 ' -e '^bank 7 ' kept | sort -u > new && mv new anchors"
+    expect_shell(room, twice, "0 ")
+    expect_shell(room, pick, "0 ")
+    if (room.folder / "anchors").read_text() != lines[2] + lines[1]:
+        raise Wrong(f"  {pick}\n  got    {(room.folder / 'anchors').read_text()!r}")
+    room.put("proof", proof_bytes(shop, 3, 0, 12))
+    told(room, "verify proof anchors", 0, "accepted exists\n")
+    room.put("kept", "".join([*lines, f"shop 12 {bank.auths[12].hex()}\n"]).encode())
+    expect_shell(room, twice, "shop 12\n0 ")
+    expect_shell(room, pick, "0 ")
+    told(room, "verify proof anchors", 9, "unreadable anchors line 3\n")
+
+
+def copy_tried(room: Room) -> None:
+    """a copy of a store is tried under the last line before it is put back: one that lacks the step, and one that went on otherwise, show it"""
+    linked(room)
+    for name, steps in (("good", 31), ("old", 30), ("other", 31)):
+        (room.folder / name).mkdir()
+        (room.folder / name / "timeline.tw").write_bytes(service_of("shop", [[b"%d" % step if (name, step) != ("other", 4) else b"x"] for step in range(steps)]).file())
+    room.put("last", service_of("shop", [[b"%d" % step] for step in range(31)]).anchor(31))
+    for name, steps, wanted in (("good", 31, "accepted link\nlink shop 31 31 "), ("old", 30, "1 "), ("other", 31, "rejected 4 BadPath 0\n1 ")):
+        expect_shell(room, "mkdir trial && cp backup trial/timeline.tw", "0 ", trial=f"try-{name}", backup=f"{name}/timeline.tw")
+        expect_shell(room, "timeweave prove trial event 1099511627775 0", f"refused NoStep {steps}\n7 ", trial=f"try-{name}")
+        found = shell(room, "timeweave prove trial link 31 31 > proof && timeweave verify proof last", trial=f"try-{name}")
+        if not found.startswith(wanted if name != "old" else "7 "):
+            raise Wrong(f"  the trial of the {name} copy\n  got    {found!r}")
+
+
+def looked_at(room: Room) -> None:
+    """the size of a history's file is told; where export fails the file of before stays, and the status is its own"""
+    linked(room)
+    command = "timeweave export /srv/shop > new && mv new shop.history && wc -c < shop.history"
+    (room.folder / "store").mkdir()
+    told(room, "init store shop", 0, "shop 0 ")
+    room.put("e", events_to_bytes([b"x"]))
+    told(room, "append store e", 0, "shop 1 ")
+    history = told(room, "export store", 0, "TWH1")
+    expect_shell(room, command, f"{len(history)}\n0 ", **{"/srv/shop": "store"})
+    expect_shell(room, command, "5 ", **{"/srv/shop": "nowhere"})
+    if (room.folder / "shop.history").read_bytes() != history or (room.folder / "new").read_text() != "fault disk\n":
+        raise Wrong("  a failed export took the file of before")
+
+
+def fooled_receiver(room: Room) -> None:
+    """a service that took a made-up message receives the true peer by another service of its own, and a chain goes over one hop more"""
+    for name in ("shop", "shop-b", "bank"):
+        (room.folder / name).mkdir()
+        told(room, f"init {name} {name}", 0, f"{name} 0 ")
+    room.put("e", events_to_bytes([b"x"]))
+    room.put("m", message_bytes(Timeline("bank", [[b"made up"]]), 1, 0))
+    for words in ("receive shop m", "append bank e", "append bank e"):
+        told(room, words, 0, "")
+    room.put("m", told(room, "thread bank 0", 0, "TWT1"))
+    told(room, "receive shop m", 7, "refused BadLink 1 ")
+    told(room, "receive shop-b m", 0, "TWR1")
+    room.put("m", told(room, "thread shop-b 0", 0, "TWT1"))
+    told(room, "receive shop m", 0, "TWR1")
+    room.put("lines", b"".join(told(room, f"append {name} e", 0, f"{name} ") for name in ("shop", "shop-b", "bank")))
+    for name, words in {
+        "second": "shop event 3 0", "over": "shop thread 2 shop-b 1", "bind": "shop-b link 1", "hop": "shop-b thread 1 bank 2",
+        "link": "bank link 2", "first": "bank event 1 0 2",
+    }.items():
+        room.put(name, told(room, f"prove {words}", 0, "TWP1"))
+    room.put("chain", told(room, "join second over bind hop link first", 0, "TWP1"))
+    told(room, "strict chain lines", 0, "accepted precedes\n")
+
+
+def one_accuser(room: Room) -> None:
+    """one service that received two made-up threads makes evidence of a fork, which is accepted under its line alone"""
+    first, second, eve = Timeline("bank", [[b"a"]]), Timeline("bank", [[b"b"]] * 2), History("eve")
+    eve.receive("bank", 1, first.auths[1])
+    eve.receive("bank", 2, second.auths[2])
+    tree = eve.trees[2]
+    for name, entry in zip(("first", "second"), listed(tree)):
+        room.put(name, thread_proof(eve.line(), tree, 2, 2, entry))
+    room.put("link", link_proof(second, 1, 2))
+    room.put("evidence", told(room, "accuse first second link", 0, ""))
+    room.put("lines", line_of(eve).encode())
+    texts = [f"{which} bank {step} {line.auths[step].hex()} eve {step}\n" for which, step, line in (("first", 1, first), ("second", 2, second))]
+    told(room, "checkfork evidence lines", 0, f"accepted fork\n{''.join(texts)}")
+    # Its history is sound: an audit of the thread's proof stands.
+    room.put("history", eve.to_bytes())
+    told(room, "audit second lines history", 0, "stands\n")
+
+
+def one_receiver(room: Room) -> None:
+    """a made-up history is taken over whole by the proof of one receiver; an honest one's proof is refused beside it, in each order, and alone"""
+    linked(room)
+    for folder, name in (("false", "bank"), ("eve", "eve")):
+        (room.folder / folder).mkdir()
+        told(room, f"init {folder} {name}", 0, f"{name} 0 ")
+    room.put("e", events_to_bytes([b"made up"]))
+    found = told(room, "append false e", 0, "bank 1 ").decode().split()[2]
+    room.put("m", told(room, "thread false 0", 0, ""))
+    told(room, "receive eve m", 0, "TWR1")
+    room.put("lines", told(room, "append eve e", 0, "eve 2 "))
+    room.put("proof", told(room, "prove eve thread 1 bank 1", 0, "TWP1"))
+    room.put("history", told(room, "export false", 0, "TWH1"))
+    history = (room.folder / "history").read_bytes()
+    room.expect("adopt history lines proof", 0, history)
+    # Beside it the proof of an honest receiver, of the true history, is the one that is told, in each order; and each is tried alone.
+    true, honest = Timeline("bank", [[b"true"]]), History("honest")
+    honest.receive("bank", 1, true.auths[1])
+    room.put("honest", thread_proof(honest.line(), honest.trees[1], 1, 1, listed(honest.trees[1])[0]))
+    room.put("lines", (room.folder / "lines").read_bytes() + line_of(honest).encode())
+    differs = f"1 {true.auths[1].hex()} {found}\n"
+    told(room, "adopt history lines honest proof", 1, f"rejected 14 Differs 1 {differs}")
+    told(room, "adopt history lines proof honest", 1, f"rejected 14 Differs 2 {differs}")
+    alone = "for proof in first second third; do timeweave adopt lost.history lines $proof > kept.$proof && wc -c kept.$proof || cat kept.$proof; done"
+    expect_shell(
+        room, alone, f"{len(history)} kept.proof\nrejected 14 Differs 1 {differs}0 ", **{"first second third": "proof honest", "lost.history": "history"},
+    )
+
+
+def thread_left_out(room: Room) -> None:
+    """a service that leaves a received thread out of its archive has the thread, its absence and a false map accepted under one line, and an audit tells it"""
+    shop, notary = History("shop"), History("notary")
+    for step in range(5):
+        shop.append([b"%d" % step])
+    notary.receive("shop", 5, shop.line().auths[5])
+    notary.add(Step([]), EMPTY)
+    line = notary.line()
+    room.put("has", thread_proof(line, notary.trees[1], 1, 2, listed(notary.trees[1])[0]))
+    room.put("has not", absent_proof(line, notary.trees[2], 2, 2, ("shop", 5)))
+    room.put("low", low_of(shop, 5, "notary", 5))
+    room.put("high", high_of(notary, 2, "shop", 5))
+    room.put("lines", (line_of(shop) + line_of(notary)).encode())
+    room.put("history", notary.to_bytes())
+    room.expect("strict has lines", 0, f"accepted thread\nthread notary 1 shop 5 {shop.line().auths[5].hex()} 1\n".encode())
+    found = room.run("strict", "has not", "lines")
+    if found != (0, b"accepted absent\nabsent notary 2 shop 5\n", b""):
+        raise Wrong(f"  timeweave strict 'has not' lines\n  got    {found}")
+    room.expect("checkmap low high lines", 0, b"accepted map\nlow 0\nhigh none\nupto 2\n")
+    room.expect("audit has lines history", 9, b"unsound history step 2 rule 3\n")
+
+
+def goes_on(room: Room) -> None:
+    """a service goes on under a new name, which its last step tells and whose first step received its last line, as the example shows it"""
+    needs("perl", "perl-base")
+    needs("cmp", "diffutils")
+    verdicts(room, "goes_on.sh", ["accepted exists", "accepted thread", "accepted precedes", "stands"])
+
+
+def entry_not_known(room: Room) -> None:
+    """check_entry.sh ends with 2 where it could read no file or no proof, has no line of the proof's top, or can't hold a file against the entry"""
+    linked(room)
+    line = Timeline("a", [[b"x"], [b"y"]])
+    proof = proof_bytes(line, 1, 0, 2)
+    held = [f"a {step} {line.auths[step].hex()}\n" for step in (1, 2)]
+    expect_check(room, proof, held[0], 2, "not known: lines has no line of a 2,")
+    expect_check(room, proof, "".join(held), 2, "not known: unreadable lines line 2")
+    expect_check(room, proof, held[1].replace("a 2", "b 2"), 2, "not known: lines has no line of a 2,")
+    for text in (proof[:-1], b"refused NoEvent 2\n", b""):
+        expect_check(room, text, held[1], 2, "not known: proof is no proof: rejected 1 Malformed")
+    expect_check(room, proof[:-1] + bytes([proof[-1] ^ 1]), held[1], 1, "not shown: rejected ")
+    room.put("lines", held[1].encode())
+    (room.folder / "folder").mkdir()
+    for words, text in ((("none", "lines"), "not known: none or lines can't be read"), (("proof", "none"), "can't be read"),
+                        (("proof", "lines", "none"), "not known: none can't be read"), (("proof", "lines", "folder"), "not known: folder can't be read"), ((), "PROOF ANCHOR")):
+        room.put("proof", proof)
+        found = script(room, "check_entry.sh", *words, errors=True)
+        if found[0] != 2 or found[1] or text not in found[2]:
+            raise Wrong(f"  check_entry.sh {' '.join(words)}\n  wanted 2, nothing, {text!r}\n  got    {found}")
+
+
+def emptied_folder(room: Room) -> None:
+    """a daily log of a folder that lost all its files ends with 10 and says so, each day; of one that never had any it ends with 0"""
+    linked(room)
+    for folder in ("src", "none"):
+        (room.folder / folder).mkdir()
+    (room.folder / "src/a").write_text("a\n")
+
+    def logged(folder: str, status: int, told_there: str) -> None:
+        found = script(room, "daily_log.sh", folder, f"{folder}.log", "daily", errors=True)
+        if found[0] != status or found[2] != told_there or found[1].encode() != (room.folder / f"{folder}.log.anchor").read_bytes():
+            raise Wrong(f"  daily_log.sh {folder} {folder}.log daily\n  wanted {status} {told_there!r}\n  got    {found}")
+
+    logged("src", 0, "")
+    (room.folder / "src/a").unlink()
+    for step in (2, 3):
+        logged("src", 10, f"daily_log.sh: src has no files, and the log has some, the last in step 1: is it mounted? Step {step} is empty\n")
+    (room.folder / "src/a").write_text("a\n")
+    logged("src", 0, "")
+    for _ in range(2):
+        logged("none", 0, "")
+
+
+def other_file(room: Room) -> None:
+    """check_entry.sh ends with 3 where the entry stands and the file has another digest, and takes a copy of any name"""
+    linked(room)
+    (room.folder / "src").mkdir()
+    (room.folder / "src/paid").write_text("1\n")
+    script(room, "daily_log.sh", "src", "log", "daily")
+    room.put("proof", told(room, "prove log event 1 0", 0, "TWP1"))
+    for data, status, text in ((b"1\n", 0, ""), (b"2\n", 3, "another file: copy hasn't the digest of this entry\n")):
+        room.put("copy", data)
+        found = script(room, "check_entry.sh", "proof", "log.anchor", "copy", errors=True)
+        if (found[0], found[2]) != (status, text) or not found[1].startswith("step 1 of daily has: ") or not found[1].endswith("  ./paid\n"):
+            raise Wrong(f"  check_entry.sh proof log.anchor copy\n  wanted {status} {text!r}\n  got    {found}")
+
+
+def judge(room: Room, *words: str) -> "subprocess.CompletedProcess[bytes]":
+    """What `judge` of the reference answers of these words, in the room's folder."""
+    command = [sys.executable, "-m", "timeweave_reference", "judge", *words]
+    environment = {**os.environ, "PYTHONPATH": str(TOP / "reference")}
+    return subprocess.run(command, cwd=room.folder, env=environment, capture_output=True, timeout=LONGEST)
+
+
+def usage_of_scripts(room: Room) -> None:
+    """a script for readers without its words ends with 2 and its usage, and so does the reference's judge"""
+    ran = {"judge": judge(room)}
+    for name in ("check_entry.sh", "same_history.sh"):
+        ran[name] = subprocess.run(["sh", TOP / "examples" / name], cwd=room.folder, capture_output=True, timeout=LONGEST)
+    for name, done in ran.items():
+        if (done.returncode, done.stdout) != (2, b"") or not done.stderr.startswith(b"usage: "):
+            raise Wrong(f"  {name}\n  wanted 2 and its usage\n  got    {done}")
+
+
+def judged_beside(room: Room) -> None:
+    """the reference's judge ends as the program does where a file isn't there or a line is none"""
+    line = Timeline("a", [[b"x"]])
+    room.put("proof", proof_bytes(line, 1, 0, 1))
+    room.put("line", f"a 1 {line.auths[1].hex()}\n".encode())
+    room.put("bad", f"a 1 {line.auths[1].hex()}\n".encode() * 2)
+    for proof in ("proof", "none", "bad"):
+        for lines in ("line", "none", "bad"):
+            for form, words in (("verify", ()), ("strict", ("strict",))):
+                done = judge(room, proof, lines, *words)
+                if (done.returncode, done.stdout, done.stderr) != room.run(form, proof, lines):
+                    raise Wrong(f"  judge {' '.join((proof, lines, *words))}\n  got    {done}")
+
+
+def cases() -> List[dict]:
+    works = (
+        made_up_message, made_up_far_step, another_old_head, picked_lines, copy_tried, looked_at, fooled_receiver, one_accuser, one_receiver,
+        thread_left_out, goes_on, entry_not_known, other_file, emptied_folder, usage_of_scripts, judged_beside,
+    )
+    return [case(work, "operated") for work in works]

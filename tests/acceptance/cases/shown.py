@@ -1,0 +1,192 @@
+"""The examples that an operator would copy do what they say: the scripts of examples/, and the commands of the manual page."""
+
+import json
+import re
+import subprocess
+import sys
+from collections import Counter
+from xml.etree import ElementTree
+
+from example_files import CHAIN
+import example_files
+
+from cases.atlases import CIRCLE
+from harness.examples import linked, script, with_program
+from harness.making import proof_bytes
+from harness.places import LONGEST, TOP
+from harness.played import script_by_chance
+from harness.rooms import Wrong, case, needs
+from timeweave_reference.adoptions import adopt
+from timeweave_reference.anchors import read_anchors
+from timeweave_reference.atlases import Hop, atlas_text
+from timeweave_reference.audits import audit
+from timeweave_reference.services import service_of
+from timeweave_reference.timelines import Timeline
+from timeweave_reference.worlds import played
+
+
+def log_of_digests(room):
+    """a log of a folder's digests, and the check of its entries by proof and anchor alone"""
+    linked(room)
+    (room.folder / "src").mkdir()
+    for k in range(1030):
+        (room.folder / f"src/f{k:04}").write_text(f"{k}\n")
+    (room.folder / "src/two\nlines").write_text("odd")
+    status, line = script(room, "daily_log.sh", "src", "log", "daily")
+    entries = [line.split(" ", 2) for line in (room.folder / "log.entries").read_text().splitlines()]
+    steps = [[entry.encode() for step, _, entry in entries if step == str(number)] for number in range(1, int(entries[-1][0]) + 1)]
+    if (status, line.encode()) != (0, service_of("daily", steps).anchor(len(steps))) or len(entries) != 1031:
+        raise Wrong(f"  daily_log.sh src log daily\n  got    {status} {line!r}, {len(entries)} entries in {len(steps)} steps")
+    (room.folder / "src/f0007").write_text("other\n")
+    script(room, "daily_log.sh", "src", "log", "daily")
+    (room.folder / "kept").write_text(line)
+    for name, status in (("src/f0003", 0), ("src/f0007", 3), ("src/two\nlines", 0)):
+        step, index, _ = next(it for it in entries if it[2].endswith(name[3:].replace("\n", "\\n")))
+        _, proof, _ = room.run("prove", "log", "event", step, index, str(len(steps)))
+        room.put("proof", proof)
+        found = script(room, "check_entry.sh", "proof", "kept", name)
+        if found[0] != status or not found[1].startswith(f"step {step} of daily has: "):
+            raise Wrong(f"  check_entry.sh proof kept {name!r}\n  wanted {status}\n  got    {found}")
+    room.put("proof", proof[:-1])
+    if script(room, "check_entry.sh", "proof", "kept")[0] != 2:
+        raise Wrong("  check_entry.sh takes a proof that is cut")
+
+
+def manual_examples(room):
+    """the commands of the manual page give what it shows"""
+    for name, package in (("perl", "perl-base"), ("xxd", "xxd"), ("flock", "util-linux"), ("bash", "bash")):
+        needs(name, package)
+    linked(room)
+    room.put("p", proof_bytes(Timeline("a", [[b""]]), 1, 0, 1))
+    section = (TOP / "docs/timeweave.1").read_text().split("\n.SH EXAMPLES\n")[1].split("\n.SH ")[0]
+    text = "".join(re.findall(r"^\.nf\n(.*?)^\.fi$", section, re.M | re.S)).replace("\\-", "-").replace("\\e", "\\")
+    steps = re.split(r"^\$ |^(?=top=)", text, flags=re.M)[1:]
+    # (of the block without prompts all lines are one command, which shows nothing)
+    steps = [(step, "") if step.startswith("top=") else step.partition("\n")[::2] for step in steps]
+    run = "".join(f"{command}\necho '=== end of step'\n" for command, _ in steps)
+    done = subprocess.run(["bash", "-c", run], cwd=room.folder, env=with_program(room.program), capture_output=True, text=True, timeout=LONGEST)
+    found = done.stdout.split("=== end of step\n")
+    wrong = [f"  $ {command}\n  shown {output!r}\n  got   {got!r}" for (command, output), got in zip(steps, found) if output.strip() != got.strip()]
+    if wrong or done.stderr or len(found) != len(steps) + 1:
+        raise Wrong("\n".join([*wrong, done.stderr]))
+
+
+VERDICTS = ("accepted ", "rejected ", "stands", "unheld ", "unreadable ")
+
+
+def verdicts(room, name, wanted):
+    """Runs a script of examples/ that shows what it runs; its verdicts have to be these."""
+    linked(room)
+    status, shown = script(room, name, room.program)
+    found = [line for line in shown.splitlines() if line.startswith(VERDICTS)]
+    if (status, found) != (0, wanted):
+        raise Wrong(f"  {name}\n  wanted {wanted}\n  got    {status} {shown!r}")
+
+
+def archived_threads(room):
+    """the proofs of what a history recorded of other services are judged as the demo shows them"""
+    verdicts(room, "archived_threads.sh", ["accepted thread", "accepted absent", "accepted link", "rejected 7 BadTree 0"])
+
+
+def two_peers(room):
+    """two services that exchange messages prove to each other's friends what they received"""
+    needs("cmp", "diffutils")
+    verdicts(room, "two_peers.sh", ["accepted thread", "accepted thread", "accepted absent"])
+
+
+def chain_of_three(room):
+    """a chain over three services is made by commands alone, bound and carried"""
+    verdicts(room, "chain_of_three.sh", [*["accepted precedes"] * 3, "rejected 8 Carried 1"])
+
+
+def event_chain(room):
+    """the proof that an event of one service precedes one of another is joined and judged as the demo shows it"""
+    precedes = ["accepted precedes"]
+    carried = [*precedes, "rejected 8 Carried 1"]
+    refused = ["rejected Gap 2", "rejected 6 BadEvent 2", "rejected 3 NotHeld bank 3"]
+    verdicts(room, "event_chain.sh", [*precedes, *precedes, *carried, *refused])
+
+
+def fork_evidence(room):
+    """the evidence of a fork is made and judged as the example shows it"""
+    proofs = ["accepted thread"] * 2
+    refused = ["rejected Gap 2", "rejected 10 Part 2 3", "rejected 10 Part 2 3", "rejected 11 NoConflict"]
+    verdicts(room, "fork_evidence.sh", [*proofs, "accepted fork", *refused])
+
+
+def between_steps(room):
+    """an entry's place between two steps of a notary is shown as the example shows it"""
+    refused = ["rejected Gap 2", "rejected 7 BadTree 0", "rejected 3 NotHeld notary 5"]
+    verdicts(room, "between_steps.sh", ["accepted exists", "accepted map", "accepted exists", "accepted exists", *refused])
+
+
+def audited_chain(room):
+    """a proof is held against histories, good ones and others, as the example shows it"""
+    files = example_files.audited_chain()
+    files["cut"] = files["beta"][:100]
+    anchors = read_anchors(files["lines"])
+    held = (
+        ("alpha", "beta", "gamma"), ("alpha", "changed", "gamma"), ("alpha", "gamma"), ("alpha", "cut", "gamma"), ("alpha", "beta", "gamma", "changed"),
+    )
+    told = [audit(files["proof"], anchors, [(name, files[name]) for name in names]).text.decode().split("\n")[0] for names in held]
+    verdicts(room, "audited_chain.sh", ["accepted precedes", *told, "rejected 6 BadEvent 3"])
+
+
+def taken_over(room):
+    """a lost service's history is taken over as the example shows it"""
+    files = example_files.taken_over()
+    anchors = read_anchors(files["lines"])
+    less = adopt("lost", files["lost"], anchors, [files["first"]]).text
+    told = [
+        adopt("lost", data, anchors, [files[name] for name in names]).text.decode().rstrip()
+        for data, names in ((files["altered"], ("first", "second")), (less, ("second",)))
+    ]
+    verdicts(room, "taken_over.sh", ["accepted thread"] * 2 + told)
+
+
+def reached_steps(room):
+    """the picture of an atlas has a row for each service, a line for each leg, and a filled stop for each arrival"""
+    linked(room)
+    status, output = script(room, "reached_steps.sh", room.program)
+    wanted = atlas_text(CHAIN, "alpha", 2) + "$ python3 atlas_picture.py < atlas > atlas.svg\n$ grep -c '<line' atlas.svg\n2\n"
+    if status or wanted not in output or not output.endswith(atlas_text(CHAIN, "alpha", 4)):
+        raise Wrong(f"  reached_steps.sh\n  wanted {wanted!r}\n  got    {status} {output!r}")
+    grid = [Hop(f"g{row}", column, f"g{row + 1}", column) for row in range(9) for column in range(1, 9)]
+    for hops, service, step in ((CHAIN, "alpha", 2), (CIRCLE, "a", 5), (grid, "g0", 1), ([], "alone", 7)):
+        told = atlas_text(hops, service, step)
+        ran = subprocess.run([sys.executable, TOP / "examples/atlas_picture.py"], input=told, capture_output=True, text=True, timeout=LONGEST)
+        kinds = Counter((part.tag.rpartition("}")[2], part.get("class")) for part in ElementTree.fromstring(ran.stdout).iter())
+        legs, arrivals = told.count("\nleg "), told.count("\narrive ")
+        found = kinds["line", None], kinds["circle", "first"], kinds["circle", "later"], kinds["text", "service"]
+        # (the title is a text of that kind too)
+        if found != (legs, arrivals, legs + 1 - arrivals, arrivals + 1):
+            raise Wrong(f"  atlas_picture.py of\n{told}\n  found {found}")
+
+
+def played_world(room):
+    """the script of the example is told as the reference plays it, and its picture is that of docs/world.svg: a dot a step, an arrow a thread, a cross a crash"""
+    script_file, picture = TOP / "examples/world_script", TOP / "examples/world_picture.py"
+    room.put("s", script_file.read_bytes())
+    told = played(script_file.read_bytes())
+    room.expect("replay s", 0, told.encode())
+    ran = subprocess.run([sys.executable, picture, script_file], input=told, capture_output=True, text=True, timeout=LONGEST)
+    if (ran.stdout, ran.stderr) != ((TOP / "docs/world.svg").read_text(), ""):
+        raise Wrong(f"  world_picture.py of examples/world_script isn't docs/world.svg\n{ran.stderr}")
+    for seed in range(20):
+        data = script_by_chance(seed, 60)
+        room.put("s", data)
+        told = played(data)
+        ran = subprocess.run([sys.executable, picture, room.folder / "s"], input=told, capture_output=True, text=True, timeout=LONGEST)
+        kinds = Counter(part.tag.rpartition("}")[2] for part in ElementTree.fromstring(ran.stdout).iter())
+        found, wanted = kinds["circle"], sum(json.loads(told.splitlines()[-1])["services"].values())
+        if found != wanted:
+            raise Wrong(f"  world_picture.py draws {found} steps of {wanted} of\n{data.decode()}")
+
+
+def cases():
+    shown = (
+        log_of_digests, archived_threads, two_peers, chain_of_three, event_chain, fork_evidence, between_steps, audited_chain, taken_over, reached_steps,
+        played_world,
+        manual_examples,
+    )
+    return [case(work, "shown") for work in shown]

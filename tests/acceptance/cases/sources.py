@@ -1,0 +1,122 @@
+"""The sources keep the project's own rules: long functions say why they are, files of lemmas what they are of, tests stand in crates of
+their own, crates are small, and no chain of crates is long."""
+
+import re
+import shutil
+import subprocess
+from pathlib import Path
+
+from pictures import crates, crates_to_come, height
+
+from harness.places import TOP
+
+LONGEST = 40
+
+# A crate's most lines of code and functions, and the longest chain of crates.
+MOST_LINES, MOST_FUNCTIONS, MOST_HEIGHT = 1500, 100, 8
+
+# The crates that have more, and how much at most: no crate comes in, no number rises but for a reason that docs/DECISIONS.md tells, and one
+# that has no more than the others goes.
+LARGE = {
+    "tw_base": (2600, 136),
+    "tw_history": (2002, 106),
+    "tw_rbnode": (1522, 100),
+    "tw_skiplist": (1568, 100),
+    "tw_verifier": (1943, 100),
+}
+
+
+def files(pattern):
+    """The files of the repository: where it is a checkout, those that git keeps."""
+    git = shutil.which("git")
+    listed = subprocess.run([git, "ls-files", "-z"], cwd=TOP, capture_output=True, text=True, check=False) if git else None
+    is_checkout = listed and listed.returncode == 0
+    names = listed.stdout.split("\0") if is_checkout else [str(path.relative_to(TOP)) for path in TOP.rglob("*")]
+    paths = (TOP / name for name in names if name and "/out/" not in name and Path(name).match(pattern))
+    return [path for path in paths if path.is_file()]
+
+
+def functions(lines):
+    """The functions of a file: name, the comment above, and how many lines stand between the braces."""
+    for start, line in enumerate(lines):
+        head = re.match(r"( *)(?:pub(?:\(\w+\))? )?fn (\w+)", line)
+        if not head:
+            continue
+        indent = head[1]
+        opening = re.compile(rf"{indent}(?:\S.*)?\{{$")
+        begin = next((i for i in range(start, len(lines)) if opening.match(lines[i])), len(lines))
+        end = next((i for i in range(start, len(lines)) if re.match(rf"{indent}\}}?$", lines[i]) and lines[i].strip()), len(lines))
+        above = start
+        while above and re.match(r" *(//|#\[)", lines[above - 1]):
+            above -= 1
+        yield head[2], "\n".join(lines[above:start]), end - begin - 1
+
+
+def long_functions(program):
+    """The functions of more than 40 lines above which no comment says why they are long."""
+    wrong = []
+    for path in files("*.rt"):
+        for name, comment, count in functions(path.read_text().split("\n")):
+            if count > LONGEST and not re.search(r"//.*\blong", comment):
+                wrong.append(f"  {path.relative_to(TOP)}: {name} has {count} lines, and no comment says why it is long")
+    return "\n".join(wrong) or None
+
+
+def lemma_files(program):
+    """The files of lemmas that don't begin with a line that says what they are of."""
+    lemmas = [path for path in files("*.antt") if (path.parent.name == "proofs" or "lemmas" in path.parts) and path.name != "Lib.antt"]
+    wrong = [path for path in lemmas if not path.read_text().startswith("-- ")]
+    return "\n".join(f"  {path.relative_to(TOP)}" for path in wrong) or None
+
+
+def tests_elsewhere(program):
+    """The files with tests outside the crates of tests: a crate that has some is proved twice."""
+    wrong = [path for path in files("*.rt") if re.search(r"#\[(cfg\()?test\b", path.read_text())]
+    return "\n".join(f"  {path.relative_to(TOP)}" for path in wrong if not path.parent.parent.name.endswith("tests")) or None
+
+
+def size(name):
+    """How many lines of code a crate has, and how many functions."""
+    sources = [path.read_text().splitlines() for path in files("*.rt") if path.relative_to(TOP).parts[:2] == ("crates", name)]
+    return sum(map(len, sources)), sum(len(list(functions(lines))) for lines in sources)
+
+
+def crate_sizes(program):
+    """The crates that are larger than they may be, and those that are no longer among the large ones."""
+    wrong = []
+    for name in crates():
+        lines, count = size(name)
+        most_lines, most_count = LARGE.get(name, (MOST_LINES, MOST_FUNCTIONS))
+        if lines > most_lines or count > most_count:
+            wrong.append(f"  {name} has {lines} lines and {count} functions, at most {most_lines} and {most_count} are allowed")
+        elif name in LARGE and lines <= MOST_LINES and count <= MOST_FUNCTIONS:
+            wrong.append(f"  {name} has {lines} lines and {count} functions, so it needs no line in LARGE")
+    return "\n".join(wrong) or None
+
+
+def handed_out(program):
+    """The free functions of libraries that say `pub` and that their crate doesn't hand out: within a crate they are `pub(crate)`."""
+    wrong = []
+    for crate in (name for name in crates() if (TOP / "crates" / name / "src/lib.rt").exists()):
+        texts = {path: path.read_text() for path in files("*.rt") if f"/crates/{crate}/src/" in str(path)}
+        given = set(re.findall(r"\w+", " ".join(use for text in texts.values() for use in re.findall(r"pub use [^;]*;", text))))
+        for path, text in texts.items():
+            names = re.findall(r"^pub fn (\w+)", text, re.M) if path.name != "lib.rt" else []
+            wrong += [f"  {path.relative_to(TOP)}: {name}" for name in names if name not in given]
+    return "\n".join(wrong) or None
+
+
+def heights(program):
+    """The crates at the end of a chain that is too long, with the crates that are to come."""
+    known = crates_to_come()
+    wrong = {name: height(name, known) for name in known if height(name, known) > MOST_HEIGHT}
+    return "\n".join(f"  {name} stands at {at}, at most {MOST_HEIGHT} is allowed" for name, at in wrong.items()) or None
+
+
+def cases():
+    yield {"name": "sources: long functions", "check": long_functions}
+    yield {"name": "sources: files of lemmas", "check": lemma_files}
+    yield {"name": "sources: tests", "check": tests_elsewhere}
+    yield {"name": "sources: lines and functions of crates", "check": crate_sizes}
+    yield {"name": "sources: what is handed out", "check": handed_out}
+    yield {"name": "sources: heights", "check": heights}

@@ -1,0 +1,44 @@
+"""What a run may do less than others: its rights, its memory, the size of its files, its standard output; and the commands that read a store."""
+
+import ctypes
+import os
+import resource
+import signal
+
+from timeweave_reference.tree_pages import PAGE
+
+LIBC = ctypes.CDLL(None, use_errno=True)
+DROP_FROM_BOUNDS = 24
+PASS_OVER_MODES = (1, 2)
+
+# The commands that read a store and write nothing to it.
+READING = ("prove d event 1 0", "prove d link 1", "thread d 0", "prove d absent 1 b 1", "map d low 1 b", "map d high 1 b")
+
+# The same and `export`, which is done of a service without steps too.
+TELLING = (*READING, "export d")
+
+
+def plain_rights():
+    """Takes from the program what root may do and others may not: to pass over the modes of files and folders."""
+    for right in PASS_OVER_MODES:
+        if LIBC.prctl(DROP_FROM_BOUNDS, right, 0, 0, 0) and os.geteuid() == 0:
+            raise OSError("root's rights can't be taken away here")
+
+
+def growing_to(pages):
+    """No file can grow beyond so many pages, as on a device that is full."""
+
+    def limit():
+        # (without this the system would end the program)
+        signal.signal(signal.SIGXFSZ, signal.SIG_IGN)
+        resource.setrlimit(resource.RLIMIT_FSIZE, (pages * PAGE, pages * PAGE))
+
+    return limit
+
+
+def closed():
+    os.close(1)
+
+
+def in_memory(size):
+    return lambda: resource.setrlimit(resource.RLIMIT_AS, (size, size))

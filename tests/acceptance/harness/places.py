@@ -1,0 +1,18 @@
+"""Where things are in the repository, and how long a run may take; importing this module makes the reference and the tools importable."""
+
+import sys
+from pathlib import Path
+
+HARNESS = Path(__file__).resolve().parent
+ACCEPTANCE = HARNESS.parent
+CASES = ACCEPTANCE / "cases"
+FOUND = CASES / "found"
+TOP = ACCEPTANCE.parent.parent
+MANUAL = TOP / "docs/timeweave.1"
+
+for folder in (TOP / "reference", TOP / "tools", TOP / "bindings/python"):
+    if str(folder) not in sys.path:
+        sys.path.insert(0, str(folder))
+
+# The seconds that a run may take; one that takes longer has failed.
+LONGEST = 300
