@@ -105,3 +105,18 @@ install-lib: | $(LIBRARY)
 	install -D -m 644 bindings/python/timeweave.py $(DESTDIR)$(PREFIX)/share/timeweave/timeweave.py
 	install -d $(DESTDIR)$(PREFIX)/lib/pkgconfig
 	sed 's|@PREFIX@|$(PREFIX)|; s|@VERSION@|$(shell cat VERSION)|' include/timeweave.pc.in > $(DESTDIR)$(PREFIX)/lib/pkgconfig/timeweave.pc
+
+# ---- the companion
+
+.PHONY: install-weft
+
+# Copies weft, its manual page, and the reference by which it reads files.
+install-weft:
+	install -d $(DESTDIR)$(PREFIX)/share/timeweave/weft/words $(DESTDIR)$(PREFIX)/share/timeweave/weft/bin $(DESTDIR)$(PREFIX)/bin
+	install -d $(DESTDIR)$(PREFIX)/share/timeweave/timeweave_reference
+	install -m 644 weft/*.py weft/py.typed $(DESTDIR)$(PREFIX)/share/timeweave/weft
+	install -m 644 weft/words/*.py $(DESTDIR)$(PREFIX)/share/timeweave/weft/words
+	install -m 644 reference/timeweave_reference/*.py reference/timeweave_reference/py.typed $(DESTDIR)$(PREFIX)/share/timeweave/timeweave_reference
+	install -m 755 weft/bin/weft $(DESTDIR)$(PREFIX)/share/timeweave/weft/bin/weft
+	ln -sf ../share/timeweave/weft/bin/weft $(DESTDIR)$(PREFIX)/bin/weft
+	install -D -m 644 weft/weft.1 $(DESTDIR)$(PREFIX)/share/man/man1/weft.1

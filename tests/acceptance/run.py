@@ -29,7 +29,7 @@ from harness.running import difference
 MODULES = (
     "data", "generated", "archives", "precedence", "forks", "atlases", "audits", "adoptions", "maps", "reaching", "steps", "pages", "failing", "messages",
     "exported", "mapped", "played", "followers", "receiving", "tree_runs", "edges", "beside", "guarded", "power", "faults", "fuzz", "found", "tables", "refused",
-    "documents", "cited", "reference", "installed", "shown", "entries", "daily", "operated", "sources",
+    "documents", "cited", "reference", "installed", "shown", "entries", "daily", "operated", "weft", "sources",
 )
 LATER = ("library",)
 

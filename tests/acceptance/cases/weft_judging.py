@@ -1,0 +1,312 @@
+"""Acceptance cases of `weft judge` and `weft check`: lines are picked, verdicts are told in sentences with what they rest on, nobody judges in weft itself;
+tables of many proofs; pictures; stores checked whole."""
+
+import json
+import os
+import signal
+
+import xml.dom.minidom
+
+from harness.rooms import Wrong, case
+from harness.weft_room import Loom, faulty
+
+
+def two_services(room):
+    """A maker and a bank that received it, proofs of each kind, and all lines of both kept."""
+    loom = Loom(room)
+    loom.service("maker", [b"bread"])
+    loom.service("bank", [b"open"])
+    for name, other in (("bank", "maker"), ("maker", "bank")):
+        loom.put("message", loom.timeweave("thread", other, "0"))
+        loom.timeweave("receive", name, "message")
+    paid = loom.append("bank", b"paid")
+    last = loom.append("maker", b"more")
+    made = {
+        "paid": "prove bank event 3 0", "thread": "prove bank thread 2 maker 1", "absent": "prove bank absent 3 maker 2", "link": "prove maker link 1",
+        "bread": "prove maker event 1 0 1", "bread3": "prove maker event 1 0 3", "low": "map bank low 3 maker", "high": "map maker high 2 bank",
+        "low2": "map maker low 3 bank", "high2": "map bank high 3 maker", "bank.history": "export bank",
+    }  # fmt: skip
+    for name, words in made.items():
+        loom.put(name, loom.timeweave(*words.split()))
+    loom.put("chain", loom.timeweave("join", "paid", "thread", "link", "bread"))
+    loom.put("loose", loom.timeweave("join", "paid", "thread", "bread"))
+    loom.put("lines", paid + last)
+    loom.expect(["keep", "lines", "--by", "by mail"], 0)
+    return loom
+
+
+def sentences(room):
+    """what is shown is said in sentences, with the lines that it rests on, how each came, and who judged; map files are judged by twos"""
+    loom = two_services(room)
+    judged = "judged by: proved "
+    loom.expect("judge bread3", 0, "bread3: shown", 'maker recorded in its step 1, as event 0: "bread"', "maker, step 3, ", "by mail", judged)
+    loom.expect("judge thread", 0, "bank had received step 1 of maker", "at its step 2", judged)
+    loom.expect("judge absent", 0, "no step 2 of maker up to its step 3", "if it kept the rules")
+    loom.expect("judge link", 0, "step 1 of maker, seen from its step 3, has the authenticator")
+    loom.expect("judge chain", 0, "bank received step 1 of maker at its step 2", "Every hop is bound", "bank, step 3", "maker, step 3")
+    loom.expect("judge loose", 1, "only the receiver says", "--carried")
+    loom.expect("judge loose --carried", 0, "CARRIED", "1 of 1 hops is carried")
+    loom.expect("judge low2 high2", 0, "had received step 2 of bank", "o step of bank up to 3")
+    loom.expect("judge high2 low2 bread3", 0)
+    loom.expect("judge low", 12, "one of two map files", "Name the high one")
+    loom.expect("judge low high2", 12)
+    found = json.loads(loom.expect("judge chain --json", 0).out)
+    if found["shown"] is not True or {it["service"] for it in found["lines"]} != {"bank", "maker"} or "accepted precedes" not in found["text"]:
+        raise Wrong(f"  {found}")
+    loom.expect("judge bank.history", 9, "no proof", "weft tell")
+
+
+def missing_lines(room):
+    """which line is missing is said with whom to ask, and which later step would do; two kept lines that contradict stop the verdict"""
+    loom = two_services(room)
+    loom.put("empty", b"")
+    loom.expect("judge chain --kept empty", 12, "line of step 3 of bank is missing", "You hold none of bank", "ask bank")
+    loom.append("bank", b"later")
+    loom.put("late", loom.run("line", "bank").out)
+    loom.expect(["keep", "late", "--by", "mail", "--kept", "other"], 0)
+    loom.expect("judge paid --kept other", 12, "its line of step 4 alone", "or for the proof under its step 4")
+    line = loom.read("late").decode()
+    loom.put("bad", line + line[:-2] + ("0" if line[-2] != "0" else "1") + "\n")
+    loom.put("p4", loom.timeweave("prove", "bank", "event", "3", "0", "4"))
+    loom.expect("judge p4 --kept bad", 11, "at most one is of bank's history")
+    loom.expect("judge p4 --kept nowhere", 3, "no file nowhere")
+    loom.expect("judge p4 bread3", 12, "line of step 4 of bank", "bread3: shown")
+
+
+def rejected(room):
+    """what was changed isn't shown, whatever was changed, with a sentence that accuses nobody, and nothing else is told"""
+    loom = two_services(room)
+    for name in ("chain", "bread3", "thread", "link"):
+        good = loom.read(name)
+        for place in range(0, len(good), max(1, len(good) // 5)):
+            loom.put("forged", good[:place] + bytes([good[place] ^ 1]) + good[place + 1 :])
+            done = loom.run("judge", "forged")
+            if done.status not in (1, 9, 12) or ": shown" in done.out:
+                raise Wrong(f"  byte {place} of {name}: {done}")
+        loom.put("forged", good[:-1])
+        loom.expect("judge forged", 1, "cut short")
+        loom.put("forged", good + b"x")
+        loom.expect("judge forged", 1, f"byte {len(good)}")
+    loom.put("forged", loom.read("low")[:-1])
+    loom.expect("judge forged high", 12)
+
+
+def forked(room):
+    """evidence of a fork is judged under the lines of both receivers, with words on what it shows and what not"""
+    loom = Loom(room)
+    loom.service("one", [b"x"])
+    loom.service("two", [b"x"])
+    loom.service("bad", [b"a"])
+    loom.service("bad", [b"b"], folder="bad2")
+    lines = ""
+    for name, folder in (("one", "bad"), ("two", "bad2")):
+        loom.put("message", loom.timeweave("thread", folder, "0"))
+        loom.timeweave("receive", name, "message")
+        lines += loom.append(name, b"later")
+        loom.put(f"by-{name}", loom.timeweave("prove", name, "thread", "2", "bad", "1"))
+    loom.put("evidence", loom.timeweave("accuse", "by-one", "by-two"))
+    loom.expect("judge evidence", 12, "step 3 of one is missing", "step 3 of two is missing")
+    loom.put("lines", lines)
+    loom.expect(["keep", "lines", "--by", "mail"], 0)
+    loom.expect("judge evidence --svg e.svg", 0, "No history of bad has both", "somebody made two histories in its name", "ask both")
+    loom.expect("judge evidence --reference", 20, "judged by: Python reference, tested, not proved")
+
+
+def files_held(room):
+    """an event is held against a file, by its digest and its name, the file's size being no matter"""
+    loom = Loom(room)
+    loom.put("src/big", b"")
+    with open(loom.folder / "src/big", "wb") as file:
+        file.truncate(64 << 20)
+    loom.put("src/a\\b", b"odd")
+    loom.expect("log src log data", 0)
+    loom.expect(["keep", "log.anchor", "--by", "own"], 0)
+    loom.expect("prove log big", 0)
+    loom.expect(["prove", "log", "a\\b"], 0)
+    loom.expect("judge big.proof --file src/big", 0, "is that file")
+    loom.expect(["judge", "a\\b.proof", "--file", "src/a\\b"], 0, "is that file")
+    loom.expect("judge big.proof --file src", 3, "a folder")
+    loom.append("log", b"no entry")
+    loom.put("last", loom.run("line", "log").out)
+    loom.expect(["keep", "last", "--by", "own"], 0)
+    loom.put("p", loom.timeweave("prove", "log", "event", "2", "0"))
+    loom.expect("judge p --file src/big", 1, "no entry of a log of files")
+    loom.expect("judge p big.proof --file src/big", 2, "of one proof")
+
+
+def judges_differ(room):
+    """where both are there both judge, a difference ends with a status of its own; without either nothing is judged; the reference alone has its own
+    statuses"""
+    loom = two_services(room)
+    loom.expect("judge bread3", 0, "the same by: Python reference, tested, not proved")
+    loom.expect("judge bread3 --reference", 20, "judged by: Python reference, tested, not proved", absent=("proved library", "proved program"))
+    loom.put("forged", loom.read("bread3").replace(b"bread", b"bribe"))
+    loom.expect("judge forged --reference", 21, "not shown")
+    none = {"TIMEWEAVE_PROGRAM": "/nowhere", "TIMEWEAVE_LIBRARY": "/nowhere"}
+    loom.expect("judge bread3", 14, "nothing is judged", "--reference", **none)
+    loom.expect("judge bread3 --reference", 20, **none)
+
+    def liar():
+        from weft import judges
+
+        judges.ReferenceJudge.judge = lambda *_: judges.Verdict(0, "accepted exists\nevent maker 1 0 00\n")
+
+    loom.expect("judge bread3", 13, "two judges differ", "This is a bug", patch=liar)
+    loom.expect("judge forged", 13, "two judges differ", patch=liar)
+    loom.expect("judge bread3", 0, "judged by: proved program", TIMEWEAVE_LIBRARY="/nowhere")
+
+
+def tables(room):
+    """--many makes a table of all files, goes on where it was stopped, takes rows of unchanged files over, and is the same with any number of processes"""
+    loom = two_services(room)
+    good, forged = loom.read("bread3"), loom.read("bread3").replace(b"bread", b"bribe")
+    for number in range(450):
+        loom.put(f"many/{number:03}", good if number % 3 else forged)
+    loom.put("many/sub/chain", loom.read("chain"))
+    loom.put("many/odd\x1b[31m\tname\n", good)
+    loom.put("many/none", b"\0")
+    os.mkfifo(loom.folder / "many/pipe")
+    loom.put("many/other", loom.timeweave("prove", "maker", "event", "1", "0", "2"))
+    loom.expect("judge --many many --workers 1 --table t1", 1, "455 files", "302 shown", "151 not shown", "1 lacks a line", "1 not judged")
+    loom.expect("judge --many many --workers 4 --table t4", 1, "judged by: proved")
+    if loom.read("t1") != loom.read("t4") or loom.read("t1").count(b"\n") != 457:
+        raise Wrong(f"  the tables differ, or have {loom.read('t1').count(10)} lines")
+    table = loom.read("t1").decode()
+    rows = {line.split("\t")[0]: line.split("\t")[3] for line in table.splitlines()[2:]}
+    if rows["000"] != "not shown" or rows["001"] != "shown" or rows["pipe"] != "not judged" or "\x1b" in table:
+        raise Wrong(f"  {table[:2000]}")
+    loom.expect("judge --many many --table t1", 1, "455 rows of an earlier run were taken over")
+    # stopped amid, and gone on with
+    for at in (2, 5, 8, 11, 14, 17):
+        for kind in ("before", "half"):
+            (loom.folder / "t5").unlink(missing_ok=True)
+            done = loom.run("judge", "--many", "many", "--workers", "1", "--table", "t5", patch=faulty(at, kind))
+            if done.status not in (-signal.SIGKILL, 1):
+                raise Wrong(f"  {kind} {at}: {done}")
+            loom.expect("judge --many many --workers 1 --table t5", 1)
+            if loom.read("t5") != loom.read("t1"):
+                raise Wrong(f"  {kind} at call {at}: another table")
+    loom.put("many/002", forged)
+    loom.expect("judge --many many --table t1", 1, "301 shown", "454 rows")
+    loom.expect("judge --many nowhere", 3, "no folder")
+    loom.expect("judge bread3 --many many", 2)
+    loom.expect("judge --many many --workers 0", 2)
+    found = json.loads(loom.run("judge", "--many", "many", "--table", "t1", "--json").out)
+    if found["files"] != 455 or found["shown"] != 301:
+        raise Wrong(f"  {found}")
+
+
+def pictures(room):
+    """pictures are well-formed SVG of 800 pixels with a white ground, whatever the events are, of each kind"""
+    loom = two_services(room)
+    odd = b"<script>alert(1)</script>&\"'" + "\u202e".encode() + b"\x1b[31m]]>"
+    loom.append("maker", odd, "\u00fc<&>".encode())
+    loom.put("l", loom.run("line", "maker").out)
+    loom.expect(["keep", "l", "--by", "m"], 0)
+    for index in (0, 1):
+        loom.put(f"odd{index}", loom.timeweave("prove", "maker", "event", "4", str(index)))
+    for names in (["odd0"], ["odd1"], ["bread3"], ["thread"], ["absent"], ["link"], ["chain"], ["loose", "--carried"], ["low2", "high2"]):
+        loom.expect(["judge", *names, "--svg", "p.svg"], 0)
+        found = xml.dom.minidom.parse(str(loom.folder / "p.svg")).documentElement
+        text = loom.read("p.svg")
+        if found.getAttribute("width") != "800" or b'fill="#fff"' not in text or b"<script" in text or b"\x1b" in text or b"\xe2\x80\xae" in text:
+            raise Wrong(f"  the picture of {names}")
+    loom.expect("judge loose --carried --svg p.svg", 0)
+    if b'class="carried"' not in loom.read("p.svg"):
+        raise Wrong("  a carried hop isn't dashed")
+    if b"\xc3\xbc&lt;&amp;&gt;" not in (loom.expect("judge odd1 --svg q.svg", 0) and loom.read("q.svg")):
+        raise Wrong("  an event isn't in its picture")
+
+
+def long_chains(room):
+    """a chain of 64 hops is drawn in bands, no number of a step lies on another or on an arrow's line"""
+    del room
+    from weft import pictures
+    from weft.lines import Line
+    from weft.reports import Event, Hop, Report
+
+    for big in (1, 10**6, 2**40 - 2000):
+        names = [f"service-{k % 7}-{'x' * (k % 5)}" for k in range(65)]
+        steps = [big + 10 * k for k in range(66)]
+        hops = [Hop(names[k], steps[k] + k % 3, names[k + 1], steps[k + 1], k % 5 == 4) for k in range(64)]
+        events = [Event(names[0], steps[0], 0, b"first", None), Event(names[64], steps[64] + 1, 3, b"\xff" * 1024, 5)]
+        lines = [Line(name, 2**40 - 1, "0" * 64) for name in dict.fromkeys(names)]
+        report = Report("precedes", events, hops, [])
+        xml.dom.minidom.parseString(pictures.verdict(report, lines, None))
+        scenes = pictures.chain(report, pictures.tops(lines))
+        if sum(len(scene.arrows) for scene in scenes) != 64:
+            raise Wrong("  a hop isn't drawn")
+        for scene in scenes:
+            expect_apart(pictures.Band(scene, 0))
+
+
+def expect_apart(band):
+    """The numbers of a band's steps lie apart from one another, and within the picture."""
+    from weft import pictures
+
+    boxes = []
+    for number, node in enumerate(band.scene.nodes):
+        x, y = band.place(number)
+        x, y = x + 9, y + 21 if band.is_below(number) else y - 10
+        boxes.append((x, y - 11, x + pictures.wide(node.step), y + 3))
+        if boxes[-1][2] > pictures.WIDTH - 5:
+            raise Wrong(f"  the number {node.step} leaves the picture")
+    for place, (left, top, right, bottom) in enumerate(boxes):
+        for other in boxes[place + 1 :]:
+            if left < other[2] and other[0] < right and top < other[3] and other[1] < bottom:
+                raise Wrong(f"  numbers lie on one another: {boxes}")
+
+
+# ---- stores checked whole
+
+
+def checked(room):
+    """weft check finds a good store good, with each kept line; and of a store with a damaged page which steps are bad, and how many are good"""
+    loom = Loom(room)
+    loom.service("shop", *[[b"event %d" % k] * (k % 4) for k in range(1, 40)])
+    loom.put("town.message", b"")
+    loom.expect("check shop", 0, "39 of 39 steps good", "Python reference, tested, not proved, from the export")
+    line = loom.run("line", "shop").out
+    loom.put("l", line)
+    loom.expect(["keep", "l", "--by", "own"], 0)
+    loom.expect("check shop --all", 0, "1 kept line agrees")
+    found = json.loads(loom.expect("check shop --json", 0).out)
+    if (found["steps"], found["bad"], found["events_proved"]) != (39, [], found["events"]):
+        raise Wrong(f"  {found}")
+    whole = loom.read("shop/timeline.tw")
+    bad_steps = set()
+    for page in range(4, len(whole) // 4096, 9):
+        place = page * 4096 + 40
+        loom.put("shop/timeline.tw", whole[:place] + bytes([whole[place] ^ 1]) + whole[place + 1 :])
+        done = loom.run("check", "shop", "--all", "--workers", "1")
+        if done.status not in (0, 8, 17) or "Traceback" in done.err:
+            raise Wrong(f"  page {page}: {done}")
+        bad_steps.add(done.status)
+    if not bad_steps & {8, 17}:
+        raise Wrong("  no damage was found")
+    loom.put("shop/timeline.tw", whole)
+    other = line[:-2] + ("0" if line[-2] != "0" else "1") + "\n"
+    loom.put("kept2", other.replace(" 39 ", " 30 "))
+    loom.expect("check shop --kept kept2", 17, "another step of that number")
+    loom.put("kept2", other.replace(" 39 ", " 50 "))
+    loom.expect("check shop --kept kept2", 17, "no such step")
+    loom.service("empty")
+    loom.expect("check empty", 0, "no step yet")
+    loom.expect("check nowhere", 5)
+    # above what a history's file may have
+
+    def too_long():
+        from weft import checks
+
+        checks.exported = lambda _: (None, checks.TOO_LONG)
+
+    loom.expect("check shop", 0, "Its history is longer than a file may be", patch=too_long)
+
+
+def cases():
+    works = (
+        sentences, missing_lines, rejected, forked, files_held, judges_differ, tables, pictures, long_chains, checked,
+    )  # fmt: skip
+    return [case(work, "weft judge") for work in works]
+
+

@@ -1,0 +1,205 @@
+"""Acceptance cases of `weft line`, `keep` and `tell`: lines with and without signatures, those that contradict, and what files say."""
+
+import json
+import subprocess
+
+from harness.places import TOP
+from harness.rooms import Wrong, case
+from harness.weft_room import SHARE, Loom, each_fault, events_file
+
+
+def with_keys(room):
+    """A service `shop` of two steps, its key, and its line signed."""
+    loom = Loom(room)
+    loom.service("shop", [b"bread", b"milk"], [b"paid"])
+    loom.key("shop")
+    return loom
+
+
+def printed(room):
+    """weft line prints the line of the last step, or of step 0, as append and init do, and nothing else"""
+    loom = Loom(room)
+    loom.service("shop")
+    (loom.folder / "other").mkdir()
+    first = loom.timeweave("init", "other", "shop").decode()
+    loom.expect("line shop", 0, first)
+    for number in range(1, 6):
+        line = loom.append("shop", b"x" * number)
+        done = loom.expect("line shop", 0)
+        if done.out != line:
+            raise Wrong(f"  wanted {line!r}, got {done.out!r}")
+    (loom.folder / "town").mkdir()
+    loom.timeweave("init", "town", "town")
+    loom.put("message", loom.timeweave("thread", "shop", "0"))
+    loom.timeweave("receive", "town", "message")
+    found = json.loads(loom.expect("line town --json", 0).out)
+    if (found["service"], found["step"], len(found["authenticator"])) != ("town", 1, 64):
+        raise Wrong(f"  {found}")
+    loom.expect("line shop --out here", 0)
+    if loom.read("here").decode() != line:
+        raise Wrong("  --out wrote another line")
+
+
+def signed(room):
+    """a line that was signed is kept by whoever has the key, is checked by ssh-keygen alone, and no other key or line goes through"""
+    loom = with_keys(room)
+    loom.expect("line shop --sign shop.key", 0, "Hand out shop-2.line and shop-2.line.sig")
+    loom.expect("keep shop-2.line", 12, "isn't good", "weft keep --signer shop")
+    loom.expect("keep --signer shop shop.key.pub", 0, "SHA256:")
+    loom.expect("keep shop-2.line", 0, "signed by ED25519 SHA256:", "step 2 of shop")
+    loom.expect("keep shop-2.line", 0, "kept already")
+    checked = subprocess.run(
+        ["ssh-keygen", "-Y", "verify", "-n", "timeweave-line", "-f", loom.folder / "signers", "-I", "shop", "-s", loom.folder / "shop-2.line.sig"],
+        input=loom.read("shop-2.line"), capture_output=True,
+    )  # fmt: skip
+    if checked.returncode:
+        raise Wrong(f"  ssh-keygen refuses the signature: {checked.stderr}")
+    loom.put("both", loom.read("shop-2.line") + loom.read("shop-2.line.sig"))
+    loom.expect("keep both", 0, "kept already")
+    # another line under the signature, another's key, another's name
+    loom.put("shop-3.line", loom.read("shop-2.line").replace(b" 2 ", b" 3 "))
+    loom.put("shop-3.line.sig", loom.read("shop-2.line.sig"))
+    loom.expect("keep shop-3.line", 11, "isn't good")
+    loom.key("thief")
+    loom.expect("line shop --sign thief.key --out forged", 0)
+    loom.expect("keep forged", 11, "isn't good")
+    loom.expect("keep --signer bank shop.key.pub", 0)
+    loom.put("bank.line", loom.read("shop-2.line").replace(b"shop", b"bank"))
+    loom.put("bank.line.sig", loom.read("shop-2.line.sig"))
+    loom.expect("keep bank.line", 11, "isn't good")
+    if loom.read("kept").count(b"\n") != 1:
+        raise Wrong(f"  {loom.read('kept')}")
+
+
+def by_hand(room):
+    """lines without a signature are kept with how they came and when; of two that contradict the second is refused, and told whence both came"""
+    loom = with_keys(room)
+    line = loom.expect("line shop", 0).out
+    loom.put("letter", line)
+    loom.expect("keep letter", 2, "--by")
+    loom.expect(["keep", "letter", "--by", "by letter from the notary"], 0, "by letter from the notary")
+    other = line[:-2] + ("0" if line[-2] != "0" else "1") + "\n"
+    loom.put("mail", other)
+    before = loom.read("kept")
+    loom.expect(["keep", "mail", "--by", "by mail"], 11, "at most one is of shop's history", "Ask shop", "by letter from the notary", "by mail")
+    loom.put("two", "bank 7 " + "a" * 64 + "\nbank 7 " + "b" * 64 + "\n")
+    loom.expect(["keep", "two", "--by", "by mail"], 11, "at most one is of bank's history")
+    if loom.read("kept") != before:
+        raise Wrong("  a line that contradicts was kept")
+    loom.put("raw", "bank 7 " + "A" * 64 + "\r\n")
+    done = loom.expect(["keep", "raw", "--by", "an \x1b[31mescape\nand \u202eothers\t\x07"], 0)
+    if b"\x1b" in loom.read("kept") or loom.read("kept").count(b"\n") != 2 or b"a" * 64 not in loom.read("kept"):
+        raise Wrong(f"  {done} {loom.read('kept')}")
+    loom.expect("keep raw --by mail", 0)
+    # by hand a line may be added to the file, and notes
+    with open(loom.folder / "kept", "a", encoding="utf-8") as file:
+        file.write("# from the page\nbank 8 " + "c" * 64 + "\n\n")
+    loom.put("eight", "bank 8 " + "d" * 64 + "\n")
+    loom.expect(["keep", "eight", "--by", "mail"], 11, "nothing is told of how it came")
+    loom.put("kept", b"what is that\n")
+    loom.expect(["keep", "eight", "--by", "mail"], 9, "line 1 of", "no line of a service")
+
+
+def no_lines(room):
+    """what is no line is refused by its number, and nothing is kept"""
+    loom = Loom(room)
+    good = "shop 2 " + "a" * 64
+    for bad, number in (("", 1), ("x", 1), (good + "\nx", 2), (good + " ", 1), (good[:-1], 1), ("Shop 2 " + "a" * 64, 1), (good.replace("2", "02"), 1)):
+        loom.put("line", bad)
+        loom.expect(["keep", "line", "--by", "mail"], 9, f"line {number} of line", "64 hexadecimal digits")
+    loom.put("line", f"shop {2**40} " + "a" * 64)
+    loom.expect(["keep", "line", "--by", "mail"], 9, "line 1 of line")
+    if (loom.folder / "kept").exists():
+        raise Wrong("  something was kept")
+
+
+def keep_with_faults(room):
+    """weft keep killed, and failing, at each of its writes: what was kept is whole, and the next run keeps the rest; two at once lose nothing"""
+    loom = Loom(room)
+    loom.put("one", "shop 2 " + "a" * 64 + "\n")
+    loom.put("two", "shop 3 " + "b" * 64 + "\n")
+    loom.expect(["keep", "one", "--by", "mail"], 0)
+
+    def check(told):
+        found = loom.read("kept").decode().splitlines()
+        if not found or any(len(line.split(" ", 4)) != 5 for line in found):
+            raise Wrong(f"{told}\n  kept: {found}")
+        loom.expect(["keep", "two", "--by", "mail"], 0)
+        if [line.split()[1] for line in loom.read("kept").decode().splitlines()] != ["2", "3"]:
+            raise Wrong(f"{told}\n  kept: {loom.read('kept')}")
+
+    if each_fault(loom, ["keep", "two", "--by", "mail"], check) < 10 // SHARE:
+        raise Wrong("  there were fewer than 10 faults")
+    running = []
+    for number in range(4, 12):
+        loom.put(f"n{number}", f"shop {number} " + "c" * 64 + "\n")
+        words = ["python3", "-m", "weft", "keep", f"n{number}", "--by", "mail"]
+        running.append(subprocess.Popen(words, cwd=loom.folder, env=loom.env | {"PYTHONPATH": str(TOP)}, stdout=subprocess.DEVNULL))
+    if any(it.wait(300) for it in running):
+        raise Wrong("  one of several at once failed")
+    if sorted(int(line.split()[1]) for line in loom.read("kept").decode().splitlines()) != [2, *range(4, 12)]:
+        raise Wrong(f"  kept: {loom.read('kept')}")
+
+
+def told(room):
+    """weft tell says what each kind of file is and says, and that it is unjudged"""
+    loom = Loom(room)
+    loom.service("shop", [b"bread", b"\xff\x00"], [b"\x1b[31mred"])
+    loom.service("town", [b"first"])
+    loom.put("message", loom.timeweave("thread", "shop", "0"))
+    loom.put("receipt", loom.timeweave("receive", "town", "message"))
+    loom.append("town", b"later")
+    loom.append("shop", b"late")
+    loom.put("t-events", events_file(*[b"e%d" % k for k in range(30)]))
+    made = {
+        "event": "prove shop event 1 0", "raw": "prove shop event 1 1", "red": "prove shop event 2 0", "thread": "prove town thread 2 shop 2",
+        "absent": "prove town absent 2 shop 1", "link": "prove shop link 2", "low": "map town low 3 shop", "high": "map town high 2 shop",
+        "history": "export town", "under2": "prove shop event 1 0 2", "second": "prove town event 3 0",
+    }  # fmt: skip
+    for name, words in made.items():
+        loom.put(name, loom.timeweave(*words.split()))
+    loom.put("chain", loom.timeweave("join", "second", "thread", "link", "under2"))
+    expected = {
+        "event": ("proof of an event, unjudged", 'step 1, as event 0 of 2: "bread"', "line of step 3 of shop"),
+        "raw": ("ff00",), "red": ("1b5b33316d726564",), "thread": ("town had received step 2 of shop", "at its step 2"),
+        "absent": ("had received no step 1 of shop by its step 2",), "link": ("step 2 of shop has the authenticator",),
+        "low": ("low map file", "had received step 2 of shop last"), "high": ("high map file", "at its step 2"),
+        "history": ("of town: 3 steps, 2 events, 1 received line",), "message": ("line: shop 2 ", "recorded its step 0 last"),
+        "receipt": ("town recorded step 2 of shop", "at its step 2"), "t-events": ("events file of 30 events", '"e0"', "10 more events"),
+        "chain": ("one event precedes another", "hop: town received step 2 of shop at its step 2; bound by the line of step 3 of shop", '"bread"', '"later"'),
+    }  # fmt: skip
+    for name, texts in expected.items():
+        loom.expect(f"tell {name}", 0, "unjudged", *texts)
+    loom.expect("tell " + " ".join(expected), 0)
+    if len(loom.expect("tell --json " + " ".join(expected), 0).out.splitlines()) != len(expected):
+        raise Wrong("  --json doesn't write a line for each")
+    loom.put("cut", loom.read("chain")[:-1])
+    loom.expect("tell cut", 9, "begins as precedence", f"byte {len(loom.read('chain')) - 1}")
+    loom.put("garbage", b"\x1b[31m\0\xff" * 50)
+    loom.expect("tell garbage event", 9, "of no format", "bread")
+    times = loom.append("shop", b"now")
+    del times
+    loom.put("tmp/events", events_file(b"timed"))
+    loom.timeweave("append", "shop", "tmp/events", "1700000000")
+    loom.put("timed", loom.timeweave("prove", "shop", "event", "5", "0"))
+    loom.expect("tell timed", 0, "2023-11-14 22:13:20 UTC")
+
+
+def versions(room):
+    """weft tells its version, and digests of what it uses; each word has help with an example; wrong words end with 2"""
+    loom = Loom(room)
+    loom.expect("--version", 0, "weft 1.", "SHA-256")
+    from weft.words import WORDS
+
+    whole = loom.expect("--help", 0)
+    for word in WORDS:
+        loom.expect([word, "--help"], 0, "example:", f"weft {word}")
+        if f" {word} " not in whole.out:
+            raise Wrong(f"  --help doesn't name {word}")
+    for words in ([], ["nothing"], ["line"], ["line", "a", "b"], ["\x1b[31m"], ["judge"], ["log", "a"], ["tell"], ["line", "--\x1b"]):
+        loom.expect(words, 2)
+
+
+def cases():
+    works = (printed, signed, by_hand, no_lines, keep_with_faults, told, versions)
+    return [case(work, "weft lines") for work in works]

@@ -1,0 +1,374 @@
+"""Acceptance cases of `weft log` and `weft prove`: what is logged, what is told, and that no stop, full device or old store costs an entry or makes a
+step twice."""
+
+import hashlib
+import json
+import os
+import shutil
+import subprocess
+
+from harness.places import TOP
+from harness.rooms import Wrong, case
+from harness.weft_room import SHARE, Loom, each_fault, events_file
+
+
+def small_steps(patch=None):
+    """Steps of two events, so that a few files make several."""
+
+    def change():
+        from weft import logs
+
+        logs.MOST_EVENTS = 2
+        if patch:
+            patch()
+
+    return change
+
+
+def folder_of(loom, *names):
+    """The folder that is logged."""
+    (loom.folder / "src").mkdir(exist_ok=True)
+    for name in names:
+        loom.put(f"src/{name}", f"of {name}\n")
+
+
+def digest(data):
+    """A digest in hexadecimal."""
+    return hashlib.sha256(data).hexdigest().encode()
+
+
+def entries_of(loom):
+    """The events of each step, by the entries file, whose indices have to rise."""
+    steps = {}
+    for line in loom.read("log.entries").split(b"\n")[:-1]:
+        step, index, event = line.split(b" ", 2)
+        steps.setdefault(int(step), []).append(event)
+        if int(index) != len(steps[int(step)]) - 1:
+            raise Wrong(f"  the entry {line!r} isn't where it has to be")
+    return steps
+
+
+def expect_log(loom, told=""):
+    """The log is whole: each entry is the event of its step, all steps with events have their entries, and the last line is kept; nothing waits."""
+    last = json.loads(loom.expect("line log --json", 0).out)
+    history = loom.timeweave("export", "log")
+    from timeweave_reference.histories import read_history, timeline_of
+
+    name, steps = read_history(history)
+    recorded = {number: list(step.events) for number, step in enumerate(steps, 1) if step.events}
+    if recorded != entries_of(loom):
+        raise Wrong(f"{told}\n  the store has {recorded}\n  the entries are {entries_of(loom)}")
+    line = timeline_of(name, steps)
+    lines = loom.read("log.lines").split(b"\n")[:-1]
+    if any(it.encode() not in [line.line(k)[:-1] for k in range(len(steps) + 1)] for it in map(bytes.decode, lines)) or len(set(lines)) != len(lines):
+        raise Wrong(f"{told}\n  the lines are {lines}")
+    if loom.read("log.anchor") != line.line(len(steps)) or last["step"] != len(steps):
+        raise Wrong(f"{told}\n  the anchor is {loom.read('log.anchor')}")
+    if (loom.folder / "log.pending").exists():
+        raise Wrong(f"{told}\n  a step is pending")
+    return recorded
+
+
+def each_day(room):
+    """new, changed and gone files are logged with their digests; the summary counts them; the line is that of the store; --all logs all"""
+    loom = Loom(room)
+    folder_of(loom, "a", "b", "c")
+    loom.put("src/d e/\u00fc", "umlaut")
+    loom.expect("log src log data", 0, "step 1: 4 files new, 0 changed, 0 gone, 0 as they were", "Hand out log.anchor: data 1 ")
+    loom.expect("log src log", 0, "step 2: 0 files new, 0 changed, 0 gone, 4 as they were")
+    loom.put("src/a", "other")
+    (loom.folder / "src/b").unlink()
+    loom.put("src/new", "x")
+    loom.expect("log src log data", 0, "step 3: 1 file new, 1 changed, 1 gone, 2 as they were")
+    recorded = expect_log(loom)
+    expected = [digest(b"other") + b"  ./a", b"gone  ./b", digest(b"x") + b"  ./new"]
+    if sorted(recorded[3]) != sorted(expected) or recorded[1][3] != digest(b"umlaut") + "  ./d e/\u00fc".encode():
+        raise Wrong(f"  {recorded}")
+    loom.put("src/b", "back")
+    found = json.loads(loom.expect("log src log --all --json", 0).out)
+    if (found["steps"], found["new"], found["same"]) != ([4], 1, 4) or len(expect_log(loom)[4]) != 5:
+        raise Wrong(f"  {found}")
+    listed = subprocess.run(["sha256sum", "a", "b"], cwd=loom.folder / "src", capture_output=True).stdout.split()
+    if digest(loom.read("src/a")) != listed[0]:
+        raise Wrong("  digests aren't those of sha256sum")
+
+
+def names_of_files(room):
+    """names with line ends, backslashes, escapes and bytes that are no UTF-8 are logged as sha256sum writes them, and reach no terminal"""
+    loom = Loom(room)
+    (loom.folder / "src").mkdir()
+    names = [b"a\nb", b"c\\d", b"e\rf", b"\x1b[31m", b"\xff\xfe", b"  g", b"-h", "\u202eevil".encode()]
+    for name in names:
+        with open(os.path.join(os.fsencode(loom.folder), b"src", name), "wb") as file:
+            file.write(name)
+    loom.expect("log src log data", 0, "8 files new")
+    recorded = expect_log(loom)[1]
+    done = subprocess.run(["sh", "-c", "cd src && find . -type f -exec sha256sum {} +"], cwd=loom.folder, capture_output=True)
+    if sorted(recorded) != sorted(done.stdout.split(b"\n")[:-1]):
+        raise Wrong(f"  {sorted(recorded)}\n  sha256sum: {sorted(done.stdout.splitlines())}")
+    loom.expect("log src log", 0, "8 as they were")
+    for name in names:
+        os.unlink(os.path.join(os.fsencode(loom.folder), b"src", name))
+    loom.put("src/one", "x")
+    loom.expect("log src log", 16, "fewer than half")
+    for odd in ("\x1b[31m", "a\nb", "\u202e"):
+        loom.expect(["log", f"src{odd}", "log"], 3, "no folder")
+        loom.expect(["log", "src", "other", odd], 2, "no name of a service")
+
+
+def many_files(room):
+    """more files than a step holds make several steps, and a path that is too long for an event is left out with status 10"""
+    loom = Loom(room)
+    (loom.folder / "src").mkdir()
+    for number in range(1030):
+        loom.put(f"src/{number:04}", b"x")
+    loom.expect("log src log data", 0, "steps 1 and 2: 1,030 files new")
+    recorded = expect_log(loom)
+    sizes = [len(events) for events in recorded.values()]
+    if sum(sizes) != 1030 or max(sum(map(len, events)) for events in recorded.values()) > 65536:
+        raise Wrong(f"  steps of {sizes}")
+    deep = "/".join(["d" * 200] * 5)
+    loom.put(f"src/{deep}/f", "deep")
+    loom.expect("log src log", 10, "too long for an event", "1 file or folder left out")
+    expect_log(loom)
+
+
+def left_out(room):
+    """a file that can't be read is left out and told, isn't called gone, and the day is logged; links and pipes aren't logged"""
+    loom = Loom(room)
+    folder_of(loom, "a", "b", "sub/c")
+    os.mkfifo(loom.folder / "src/pipe")
+    os.symlink("/etc/passwd", loom.folder / "src/link")
+    loom.expect("log src log data", 0, "3 files new")
+
+    def unreadable():
+        from weft import files
+
+        real = files.opened
+
+        def opened(path, *words, **more):
+            if str(path).endswith("/b"):
+                raise files.unread(path, PermissionError(13, "no"))
+            return real(path, *words, **more)
+
+        files.opened = opened
+
+    loom.expect("log src log", 10, "left out: ./b", "0 gone, 2 as they were", patch=unreadable)
+
+    def unread_folder():
+        real = os.scandir
+
+        def scandir(path):
+            if os.fsencode(path).endswith(b"src/sub"):
+                raise PermissionError(13, "no", path)
+            return real(path)
+
+        os.scandir = scandir
+
+    loom.expect("log src log", 10, "left out, since it can't be read", "0 gone, 2 as they were", patch=unread_folder)
+    expect_log(loom)
+
+
+def fewer_files(room):
+    """an empty folder, and one that lost more than half, end with a status of their own; what is gone isn't logged but by --gone"""
+    loom = Loom(room)
+    (loom.folder / "src").mkdir()
+    loom.expect("log src log data", 16, "has no files", "Is it mounted?")
+    folder_of(loom, "a", "b", "c", "d", "e")
+    loom.expect("log src log", 0, "5 files new")
+    shutil.rmtree(loom.folder / "src")
+    loom.expect("log src log", 3, "no folder that can be read")
+    (loom.folder / "src").mkdir()
+    loom.expect("log src log", 16, "has none of the 5 files", "5 are gone", "--gone")
+    folder_of(loom, "a", "b")
+    loom.expect("log src log", 16, "fewer than half of the 5 files", "3 are gone")
+    folder_of(loom, "a", "b", "c", "d", "e")
+    loom.expect("log src log", 0, "0 files new, 0 changed, 0 gone, 5 as they were")
+    for name in "abcd":
+        (loom.folder / "src" / name).unlink()
+    loom.expect("log src log --gone", 0, "4 gone")
+    loom.expect("log src log", 0, "0 gone, 1 as they were")
+    expect_log(loom)
+
+
+def claimed_times(room):
+    """a step claims this moment unless --no-time; where an earlier one claims a later moment, it claims none, and that is told"""
+    loom = Loom(room)
+    folder_of(loom, "a")
+    loom.expect("log src log data", 0)
+    loom.put("proof", loom.timeweave("prove", "log", "event", "1", "0"))
+    loom.expect("tell proof", 0, "claims the time 20")
+    loom.put("src/b", "b")
+    loom.expect("log src log --no-time", 0)
+    loom.put("proof", loom.timeweave("prove", "log", "event", "2", "0"))
+    loom.expect("tell proof", 0, absent=("claims the time",))
+    loom.put("tmp/e", events_file(b"ahead"))
+    loom.timeweave("append", "log", "tmp/e", "9999999999")
+    loom.put("src/c", "c")
+    loom.expect("log src log", 10, "claims no time", "no run of weft log made such a step")
+
+
+def refused(room):
+    """a bad or other name, a service that isn't there, a store that was moved, an old one that was put back, also where steps were appended to it by
+    hand: told before a step is made, and nothing is changed"""
+    loom = Loom(room)
+    folder_of(loom, "a", "b")
+    for name in ("Data", "a-name-of-17-lett", "", "a b", "\u00fc"):
+        loom.expect(["log", "src", "log", name], 2, "a name has 1 to 16")
+    loom.expect("log src log", 2, "Name it: weft log FOLDER SERVICE NAME")
+    loom.expect("log src nowhere/log data", 5, "no folder nowhere")
+    if (loom.folder / "log").exists():
+        raise Wrong("  a folder was made")
+    loom.expect("log src log data", 0)
+    loom.expect("log src log other", 2, "is called data, and not other")
+    shutil.copytree(loom.folder / "log", loom.folder / "old")
+    loom.put("src/c", "c")
+    loom.expect("log src log", 0)
+    loom.put("src/d", "d")
+    loom.expect("log src log", 0)
+    files = {path: path.read_bytes() for path in loom.folder.glob("log.*")}
+    (loom.folder / "log").rename(loom.folder / "away")
+    loom.expect("log src log data", 5, "no store in log", "Was it moved?")
+
+    def put_back():
+        shutil.rmtree(loom.folder / "log", ignore_errors=True)
+        shutil.copytree(loom.folder / "old", loom.folder / "log")
+
+    for appended in range(5):
+        put_back()
+        for number in range(appended):
+            loom.append("log", b"by hand %d" % number)
+        before = loom.read("log/timeline.tw")
+        loom.expect("log src log", 17, "isn't the store of data's line of step 3", "No step was made")
+        if loom.read("log/timeline.tw") != before or any(path.read_bytes() != data for path, data in files.items()):
+            raise Wrong(f"  something was changed, after {appended} steps by hand")
+    shutil.rmtree(loom.folder / "log")
+    (loom.folder / "away").rename(loom.folder / "log")
+    loom.expect("log src log", 0)
+    expect_log(loom)
+    for name in ("log.anchor", "log.lines"):
+        (loom.folder / name).unlink()
+        loom.expect("log src log", 0)
+    whole = loom.read("log/timeline.tw")
+    loom.put("log/timeline.tw", whole[: 8192] + b"X" + whole[8193:])
+    loom.expect("log src log", 8, "damaged, or none of a service")
+
+
+def with_others(room):
+    """steps that received lines in the same store are known, and steps with events by hand are told with status 10; the log goes on"""
+    loom = Loom(room)
+    folder_of(loom, "a")
+    loom.expect("log src log data", 0)
+    loom.service("town", [b"x"])
+    loom.put("message", loom.timeweave("thread", "town", "0"))
+    loom.timeweave("receive", "log", "message")
+    loom.expect("log src log", 0, "step 3: 0 files new", absent=("no run of weft log",))
+    loom.append("log", b"by hand")
+    loom.expect("log src log", 10, "step 4 of data: no run of weft log made such a step", "step 5: 0 files new")
+    loom.expect("log src log", 0)
+    # a log that the older script began: step 0 in its lines, all files each day
+    loom.put("src/b", "b")
+    loom.expect("log src log --all", 0, "1 file new", "1 as they were")
+
+
+def with_faults(room):
+    """weft log killed, and failing with a full or a bad device, at each of its writes, renames and runs of the program: the next run goes on, no step is
+    made twice, no entry is lost, and nothing false is told; also in the run that goes on"""
+    loom = Loom(room)
+    folder_of(loom, "a", "b", "c")
+    loom.expect("log src log data", 0, patch=small_steps())
+    loom.put("src/a", "changed")
+    folder_of(loom, "d", "e", "f")
+    (loom.folder / "src/b").unlink()
+    wanted = {b"./a": digest(b"changed"), b"./c": digest(b"of c\n"), b"./d": digest(b"of d\n"), b"./e": digest(b"of e\n"), b"./f": digest(b"of f\n")}
+
+    def check(told):
+        done = loom.run("log", "src", "log", patch=small_steps())
+        if done.status != 0 or done.err:
+            raise Wrong(f"{told}\n  the next run: {done}")
+        recorded, state = expect_log(loom, told), {}
+        for events in recorded.values():
+            for event in events:
+                word, _, path = event.partition(b"  ")
+                if state.get(path) == word:
+                    raise Wrong(f"{told}\n  {event} was logged twice")
+                state[path] = word
+        if {path: word for path, word in state.items() if word != b"gone"} != wanted:
+            raise Wrong(f"{told}\n  logged: {state}")
+
+    class Small(Loom):
+        """The same, with small steps."""
+
+        def run(self, *words, patch=None, **env):
+            return super().run(*words, patch=small_steps(patch), **env)
+
+    small = Small(room)
+    small.env = loom.env
+    if each_fault(small, ["log", "src", "log"], check, share=2) < 60 // SHARE:
+        raise Wrong("  there were fewer than 60 faults")
+
+
+def first_run_with_faults(room):
+    """the same of the first run, which makes the service"""
+    loom = Loom(room)
+    folder_of(loom, "a", "b")
+
+    def check(told):
+        done = loom.run("log", "src", "log", "data")
+        if done.status != 0 or done.err or expect_log(loom, told) != {1: [digest(b"of a\n") + b"  ./a", digest(b"of b\n") + b"  ./b"]}:
+            raise Wrong(f"{told}\n  the next run: {done}")
+
+    if each_fault(loom, ["log", "src", "log", "data"], check, share=2) < 30 // SHARE:
+        raise Wrong("  there were fewer than 30 faults")
+
+
+def two_at_once(room):
+    """of two runs at once one waits for the other, or ends with a status of its own; no step is made twice"""
+    loom = Loom(room)
+    folder_of(loom, "a", "b")
+    loom.expect("log src log data", 0)
+    words = ["python3", "-m", "weft", "log", "src", "log"]
+    env = loom.env | {"PYTHONPATH": str(TOP)}
+    running = [subprocess.Popen(words, cwd=loom.folder, env=env, stdout=subprocess.DEVNULL, stderr=subprocess.PIPE) for _ in range(4)]
+    ended = [(it.wait(300), it.stderr.read()) for it in running]
+    if any(status for status, _ in ended) or max(json.loads(loom.run("line", "log", "--json").out)["step"], 5) != 5:
+        raise Wrong(f"  {ended}")
+    expect_log(loom)
+    import fcntl
+
+    with open(loom.folder / "log.lock", "w") as file:
+        fcntl.flock(file, fcntl.LOCK_EX)
+        loom.expect("log src log --wait 0.1", 15, "another run of weft is at work")
+
+
+def proof_of_a_file(room):
+    """weft prove makes the proof of a logged file under a line that was handed out, and who holds that line judges it there, and the file by it"""
+    loom = Loom(room)
+    folder_of(loom, "paid.csv", "sub/paid.csv", "other")
+    loom.expect("log src log data", 0)
+    loom.put("line1", loom.read("log.anchor"))
+    loom.expect(["keep", "line1", "--by", "by mail"], 0)
+    loom.put("src/other", "changed")
+    loom.expect("log src log", 0)
+    loom.expect("prove log ./paid.csv --top 1", 0, "in step 1 of data", "line of step 1", "judged by: proved")
+    loom.expect("judge paid.csv.proof --file src/paid.csv", 0, "paid.csv is that file", "by mail")
+    loom.expect("judge paid.csv.proof --file src/sub/paid.csv", 1, "NOT SO")
+    loom.put("copy.csv", loom.read("src/paid.csv"))
+    loom.expect("judge paid.csv.proof --file copy.csv", 10, "under the name paid.csv")
+    loom.expect("prove log other --out o", 0, "in step 2")
+    loom.expect("judge o", 12, "line of step 2 of data is missing", "its line of step 1 alone")
+    loom.expect("prove log other --step 1 --top 1 --out o", 0, "in step 1")
+    loom.expect("judge o --file src/other", 1, "NOT SO")
+    loom.expect("prove log nothing", 7, "no entries of nothing")
+    loom.expect("prove log other --top 1", 7, "from 2 to 2")
+    loom.expect("prove log ../other", 7)
+    loom.put("log.entries", loom.read("log.entries").replace(digest(b"changed"), digest(b"x")))
+    loom.expect("prove log other", 8, "another event there")
+
+
+def cases():
+    works = (
+        each_day, names_of_files, many_files, left_out, fewer_files, claimed_times, refused, with_others, with_faults, first_run_with_faults, two_at_once,
+        proof_of_a_file,
+    )  # fmt: skip
+    return [case(work, "weft log") for work in works]

@@ -1,0 +1,263 @@
+"""Rooms for the acceptance cases of weft: a folder of one's own, weft run in a process of its own, and faults at each of its writes."""
+
+import errno
+import os
+import shutil
+import signal
+import subprocess
+import sys
+import tempfile
+import time
+import traceback
+from pathlib import Path
+from typing import NamedTuple
+
+from harness.places import LONGEST, TOP
+from harness.rooms import Wrong
+from timeweave_reference.events_files import events_to_bytes
+
+sys.path[:0] = [str(TOP)]
+
+from weft import words as weft_words  # noqa: E402
+from weft.main import main as weft_main  # noqa: E402
+
+# (all words are loaded once, and each run is forked from this process)
+for word in weft_words.WORDS:
+    weft_words.module_of(word)
+
+# Of how many faults one is tried, besides the share of each case, where a machine is slow.
+SHARE = int(os.environ.get("WEFT_SHARE", "1"))
+
+
+class Done(NamedTuple):
+    """How a run of weft ended: its status, negative of a signal, and what it wrote."""
+
+    status: int
+    out: str
+    err: str
+
+
+def events_file(*events):
+    """An events file of these events."""
+    return events_to_bytes(events)
+
+
+class Loom:
+    """A folder in which weft and the program run, with lines, keys and settings of its own."""
+
+    def __init__(self, room):
+        self.folder, self.program = Path(room.folder), os.path.abspath(room.program)
+        self.env = {
+            "PATH": os.environ["PATH"], "TIMEWEAVE_PROGRAM": self.program, "HOME": str(self.folder), "WEFT_KEPT": str(self.folder / "kept"),
+            "WEFT_SIGNERS": str(self.folder / "signers"), "TMPDIR": str(self.folder / "tmp"), "LC_ALL": "C.UTF-8",
+        }  # fmt: skip
+        library = TOP / "lib/libtimeweave.so"
+        if library.exists():
+            self.env["TIMEWEAVE_LIBRARY"] = str(library)
+        (self.folder / "tmp").mkdir(exist_ok=True)
+
+    def put(self, name, data):
+        """Puts a file there."""
+        path = self.folder / name
+        path.parent.mkdir(parents=True, exist_ok=True)
+        path.write_bytes(data if isinstance(data, bytes) else data.encode())
+        return path
+
+    def read(self, name):
+        """A file's bytes."""
+        return (self.folder / name).read_bytes()
+
+    def timeweave(self, *words, status=0):
+        """Runs the program; answers its output."""
+        done = subprocess.run([self.program, *words], cwd=self.folder, capture_output=True, timeout=LONGEST)
+        if status is not None and done.returncode != status:
+            raise Wrong(f"  timeweave {' '.join(words)}: {done.returncode} {done.stdout[:200]}")
+        return done.stdout
+
+    def service(self, name, *steps, folder=None):
+        """Makes a service with a step of each of these lists of events."""
+        (self.folder / (folder or name)).mkdir()
+        self.timeweave("init", folder or name, name)
+        for events in steps:
+            self.append(folder or name, *events)
+
+    def append(self, folder, *events):
+        """Appends a step of these events, and answers its line."""
+        self.put("tmp/events", events_file(*events))
+        return self.timeweave("append", folder, "tmp/events").decode()
+
+    def key(self, name):
+        """Makes a key."""
+        if not (self.folder / f"{name}.key").exists():
+            subprocess.run(["ssh-keygen", "-q", "-t", "ed25519", "-N", "", "-C", name, "-f", self.folder / f"{name}.key"], check=True)
+        return f"{name}.key"
+
+    def run(self, *words, patch=None, **env):
+        """Runs weft in a process of its own, forked from this one; `patch` is called there first."""
+        with tempfile.TemporaryFile() as out, tempfile.TemporaryFile() as err:
+            sys.stdout.flush()
+            sys.stderr.flush()
+            child = os.fork()
+            if child == 0:
+                os._exit(self.in_child(words, out, err, patch, env))
+            status = waited(child)
+            out.seek(0)
+            err.seek(0)
+            return Done(status, out.read().decode("utf-8", "surrogateescape"), err.read().decode("utf-8", "surrogateescape"))
+
+    def in_child(self, words, out, err, patch, env):
+        """What the forked process does."""
+        try:
+            os.chdir(self.folder)
+            null = os.open(os.devnull, os.O_RDONLY)
+            os.dup2(null, 0)
+            os.dup2(out.fileno(), 1)
+            os.dup2(err.fileno(), 2)
+            sys.stdin, sys.stdout, sys.stderr = open(0, closefd=False), open(1, "w", closefd=False), open(2, "w", closefd=False)
+            os.environ.clear()
+            os.environ.update({name: str(value) for name, value in {**self.env, **env}.items() if value is not None})
+            tempfile.tempdir = None
+            if patch:
+                patch()
+            status = weft_main([str(word) for word in words])
+            sys.stdout.flush()
+            sys.stderr.flush()
+            return status
+        except BaseException:
+            os.write(2, traceback.format_exc().encode())
+            return 99
+
+    def expect(self, words, status, *texts, absent=(), **settings):
+        """Runs weft; what it wrote has these texts, and it ended with this status. Nothing of it is raw or a traceback."""
+        words = words.split() if isinstance(words, str) else words
+        done = self.run(*words, **settings)
+        both = done.out + done.err
+        if done.status != status or not all(text in both for text in texts) or any(text in both for text in absent):
+            raise Wrong(f"  weft {' '.join(map(str, words))}\n  wanted {status} and {texts}, without {absent}\n  got    {done.status} {done.out!r} {done.err!r}")
+        expect_plain(done, words)
+        return done
+
+
+def expect_plain(done, words):
+    """Nothing raw reached the terminal, and no traceback."""
+    both = done.out + done.err
+    raw = [c for c in both if c != "\n" and not c.isprintable()]
+    if raw or "Traceback" in both:
+        raise Wrong(f"  weft {' '.join(map(str, words))[:200]!r} wrote {raw[:5]!r} raw, or a traceback\n  {both[-1500:]!r}")
+
+
+def waited(child):
+    """The status of a forked process; it is killed after some minutes."""
+    until = time.monotonic() + LONGEST
+    while time.monotonic() < until:
+        found, status = os.waitpid(child, os.WNOHANG)
+        if found:
+            return -os.WTERMSIG(status) if os.WIFSIGNALED(status) else os.WEXITSTATUS(status)
+        time.sleep(0.002)
+    os.kill(child, signal.SIGKILL)
+    os.waitpid(child, 0)
+    raise Wrong(f"  a run of weft took longer than {LONGEST} seconds")
+
+
+# ---- faults
+
+CALLS = ("write", "fsync", "replace", "unlink", "mkdir")
+
+
+def faulty(at, kind, counter=None):
+    """What makes the process fail at its call of this number, from 1 on, of those that write files or run the program: `before` and `after` kill it
+    there, `half` kills it amid a write, `ENOSPC` and `EIO` let the call fail. The number of calls goes to the file `counter`, if one is named."""
+
+    count = [0]
+
+    def reached():
+        count[0] += 1
+        if counter:
+            number = os.open(counter, os.O_WRONLY | os.O_CREAT | os.O_TRUNC)
+            REAL["write"](number, str(count[0]).encode())
+            os.close(number)
+        return count[0] == at
+
+    def kill():
+        os.kill(os.getpid(), signal.SIGKILL)
+
+    def wrapped(name, real):
+        def call(*words, **more):
+            if name == "write" and words[0] in (1, 2):
+                return real(*words, **more)
+            is_here = reached()
+            if is_here and kind in ("ENOSPC", "EIO"):
+                raise OSError(getattr(errno, kind), os.strerror(getattr(errno, kind)))
+            if is_here and kind == "half" and name == "write":
+                real(words[0], bytes(words[1])[: len(words[1]) // 2])
+            if is_here and kind in ("before", "half"):
+                kill()
+            answer = real(*words, **more)
+            if is_here and kind == "after":
+                kill()
+            return answer
+
+        return call
+
+    def patch():
+        for name in CALLS:
+            setattr(os, name, wrapped(name, REAL[name]))
+        real = subprocess.run
+
+        def run(*words, **more):
+            is_here = kind in ("before", "after") and reached()
+            if is_here and kind == "before":
+                kill()
+            done = real(*words, **more)
+            if is_here:
+                kill()
+            return done
+
+        subprocess.run = run
+
+    return patch
+
+
+REAL = {name: getattr(os, name) for name in CALLS}
+
+
+def copied(loom, *names):
+    """The bytes of all files of these names, which may be folders, and what brings them back."""
+    kept = loom.folder / "tmp/saved"
+    shutil.rmtree(kept, ignore_errors=True)
+    kept.mkdir()
+    for path in loom.folder.iterdir():
+        if path.name != "tmp":
+            (shutil.copytree if path.is_dir() else shutil.copy2)(path, kept / path.name)
+
+    def back():
+        for path in loom.folder.iterdir():
+            if path.name != "tmp":
+                shutil.rmtree(path) if path.is_dir() and not path.is_symlink() else path.unlink()
+        for path in kept.iterdir():
+            (shutil.copytree if path.is_dir() else shutil.copy2)(path, loom.folder / path.name)
+
+    return back
+
+
+def each_fault(loom, words, check, kinds=("before", "after", "half", "ENOSPC", "EIO"), share=1):
+    """Runs weft with a fault at each of its calls, or at each `share`-th, from the same files each time, and calls `check` with what was done after
+    each; answers how many faults there were."""
+    back, total = copied(loom), 0
+    for kind in kinds:
+        counter = loom.folder / "tmp/count"
+        counter.unlink(missing_ok=True)
+        back()
+        loom.run(*words, patch=faulty(0, kind, counter))
+        for at in range(1, int(counter.read_text()) + 1, share * SHARE):
+            back()
+            done = loom.run(*words, patch=faulty(at, kind))
+            told = f"  {kind} at call {at} of weft {' '.join(map(str, words))}: {done}"
+            if done.status == 99 or "Traceback" in done.err or (done.status != -signal.SIGKILL and kind in ("before", "after")):
+                raise Wrong(told)
+            if kind in ("ENOSPC", "EIO") and done.status in (1, 2, 3, 9, 70):
+                raise Wrong(f"{told}\n  it doesn't say that the device failed")
+            total += 1
+            check(told)
+    back()
+    return total

@@ -1,0 +1,31 @@
+#!/usr/bin/env python3
+"""Runs the cases of weft in this process, one at a time; the acceptance run runs each in a process of its own.
+
+    python3 tests/acceptance/weft_cases.py PROGRAM [PATTERN]    runs those whose name has the pattern; with = before it, the one of that whole name
+"""
+
+import sys
+import time
+
+from cases.weft import own_cases
+from harness.rooms import SKIPPED
+
+
+def run(program, pattern=""):
+    """Runs the cases; answers the status: 1 where one failed, or none has the pattern."""
+    failed, found = 0, 0
+    for it in own_cases():
+        if it["name"] != pattern.removeprefix("=") if pattern.startswith("=") else pattern not in it["name"]:
+            continue
+        began = time.monotonic()
+        wrong = it["check"](program)
+        found += 1
+        failed += wrong is not None
+        print(f"{'FAILED' if wrong else 'ok'} {it['name']} ({time.monotonic() - began:.1f} s)" + (f"\n{wrong}" if wrong else ""), flush=True)
+    for name in SKIPPED:
+        print(f"skipped {name}")
+    return 1 if failed or not found else 0
+
+
+if __name__ == "__main__":
+    sys.exit(run(*sys.argv[1:3]))

@@ -1,0 +1,98 @@
+"""What a service asks its peer for, and how the peer answers: one request a line, as the words behind `timeweave prove DIR` are.
+
+    thread STEP PEER K TOP      link STEP TOP      event STEP INDEX TOP
+
+An answer is a file whose name is made of the request; it has the proof, or one line that begins with `refused`."""
+
+from __future__ import annotations
+
+import hashlib
+import re
+from typing import Optional
+
+from weft import files
+from weft.box import Peer
+from weft.stores import Store
+from weft.texts import now, printable
+
+NUMBER = "(?:0|[1-9][0-9]{0,12})"
+REQUEST = re.compile(f"thread {NUMBER} [a-z0-9-]{{1,16}} {NUMBER} {NUMBER}|link {NUMBER} {NUMBER}|event {NUMBER} {NUMBER} {NUMBER}")
+MOST_REQUESTS = 32
+MOST_BYTES = MOST_REQUESTS * 96
+MOST_ANSWER = 70_000
+
+
+def id_of(request: str) -> str:
+    """The name of the file that answers a request."""
+    return hashlib.sha256(request.encode()).hexdigest()[:16]
+
+
+def read_requests(data: bytes) -> list[str]:
+    """The requests of a file, each once; what is none is left out."""
+    lines = data.decode("ascii", "replace").splitlines()
+    return list(dict.fromkeys(line for line in lines if REQUEST.fullmatch(line)))[:MOST_REQUESTS]
+
+
+def answer_of(store: Store, peer: Peer, request: str) -> bytes:
+    """The answer to a request: threads and links for each peer, events for those on the list made by hand."""
+    words = request.split(" ")
+    if words[0] == "event" and not peer.may_ask(words[1], words[2]):
+        return b"refused: proofs of events are handed out by hand here\n"
+    answer = store.ask("prove", *words)
+    if answer.status in (0, 7):
+        return answer.output
+    if answer.status == 2:
+        return b"refused: no service has such a step\n"
+    if answer.status == 8:
+        peer.say(f"what it asked for can't be proved ({printable(answer.text.strip())}): a page of the store may be damaged; weft check")
+        return b"refused: it can't be proved now\n"
+    raise store.trouble(answer)
+
+
+def answer_peer(store: Store, peer: Peer, data: Optional[bytes]) -> int:
+    """Answers the requests that came, and takes away answers to those that no longer come; answers how many are new."""
+    if data is None:
+        return 0
+    requests = read_requests(data)
+    names = {id_of(request): request for request in requests}
+    for path in (peer.out / "answers").iterdir():
+        if path.name not in names:
+            files.remove(path)
+    new = 0
+    for name, request in names.items():
+        answer, path = answer_of(store, peer, request), peer.out / "answers" / name
+        if files.read_if_there(path, MOST_ANSWER) != answer:
+            what = f"{len(answer)} bytes" if answer.startswith(b"TWP1") else printable(answer.decode("ascii", "replace").strip())
+            files.add(peer.kept / "answered", f"{now()} {request}: {what}")
+            peer.put(f"answers/{name}", answer)
+            new += 1
+    return new
+
+
+def ask(peer: Peer, request: str) -> None:
+    """Notes a request, which the next turn puts out."""
+    pending = read_requests(peer.read("asked"))
+    if request not in pending:
+        files.renew(peer.kept / "asked", "".join(f"{it}\n" for it in [*pending, request][-MOST_REQUESTS:]).encode())
+
+
+def known(peer: Peer, request: str) -> Optional[bytes]:
+    """The answer to a request, or None while it isn't there."""
+    return files.read_if_there(peer.kept / "answers" / id_of(request), MOST_ANSWER)
+
+
+def take_answers(peer: Peer) -> int:
+    """Takes the answers that came to what was asked; answers how many."""
+    pending = read_requests(peer.read("asked"))
+    left = []
+    for request in pending:
+        data = peer.take(f"answers/{id_of(request)}", MOST_ANSWER)
+        if data is not None and data.startswith((b"TWP1", b"refused")):
+            files.renew(peer.kept / "answers" / id_of(request), data)
+            if data.startswith(b"refused"):
+                peer.say(f"it didn't answer {request!r}: {printable(data.decode('ascii', 'replace').strip())}")
+        else:
+            left.append(request)
+    if len(left) < len(pending):
+        files.renew(peer.kept / "asked", "".join(f"{it}\n" for it in left).encode())
+    return len(pending) - len(left)

@@ -1,0 +1,223 @@
+"""The proof that one event precedes another, put together of parts: a way is found by receipts, each part is taken from where it is at hand, and what
+isn't is asked for. Nothing here judges: what is joined is judged as any proof is."""
+
+from __future__ import annotations
+
+import tempfile
+from pathlib import Path
+from typing import Iterable, NamedTuple, Optional
+
+from weft import asking, box, formats, program
+from weft.box import Peer
+from weft.judges import Bench
+from weft.lines import KeptLines, Line, kept_now
+from weft.own import OwnLines
+from weft.statuses import Status
+from weft.stores import Store
+from weft.texts import name_of
+from weft.trouble import Trouble
+
+MOST_HOPS = 64
+
+
+class Event(NamedTuple):
+    """An event: its service, its step from 1 on, its place there from 0 on; and a proof of it that is at hand, or None."""
+
+    service: str
+    step: int
+    place: int
+    proof: Optional[bytes] = None
+
+
+class Hop(NamedTuple):
+    """A step of a service that another one received, at a step of its own."""
+
+    service: str
+    step: int
+    by: str
+    archived: int
+
+
+class Part(NamedTuple):
+    """A part: whose store proves it, and the words behind `prove DIR`."""
+
+    service: str
+    request: str
+
+    @property
+    def command(self) -> str:
+        """The command by which its service makes it."""
+        return f"timeweave prove DIR {self.request}"
+
+
+def matches(data: bytes, part: Part) -> bool:
+    """Whether a proof is of what a part asks for; what it shows isn't judged."""
+    proof, words = formats.read_proof(data), part.request.split(" ")
+    if proof is None or proof.service != part.service or proof.step != int(words[1]):
+        return False
+    if isinstance(proof, formats.proofs.ThreadProof):
+        return words[0] == "thread" and [proof.entry.service, str(proof.entry.step)] == words[2:4]
+    if isinstance(proof, formats.proofs.LinkProof):
+        return words[0] == "link" and proof.top == int(words[2])
+    if isinstance(proof, formats.proofs.ExistenceProof):
+        return words[0] == "event" and (proof.event.index, proof.top) == (int(words[2]), int(words[3]))
+    return False
+
+
+class Sources:
+    """What is at hand: stores, boxes with what peers handed out, files; and the lines that are held."""
+
+    def __init__(self, stores: list[Store], boxes: list[Path], hand: list[bytes], kept: KeptLines, judge: Bench):
+        self.stores = {store.last().line.service: store for store in stores}
+        self.judge, self.kept, self.hand = judge, kept, hand
+        self.peers: dict[str, list[Peer]] = {}
+        for place in boxes:
+            settings = box.read_settings(place)
+            for peer in box.peers_of(place, "", settings)[0]:
+                self.peers.setdefault(peer.name, []).append(peer)
+        for peer in self.all_peers():
+            kept.add_text(peer.kept / "lines", peer.read("lines").decode("utf-8", "replace"))
+        for store in self.stores.values():
+            for line in {*OwnLines(store.folder).read(OwnLines(store.folder).lines), store.last().line}:
+                if line.step:
+                    kept.add(kept_now(line, f"of the store in {name_of(store.path)}"))
+
+    def all_peers(self) -> Iterable[Peer]:
+        """The peers of all boxes."""
+        return (peer for peers in self.peers.values() for peer in peers)
+
+    def hops(self) -> set[Hop]:
+        """What is known to have been received, by receipts and by the stores."""
+        found: set[Hop] = set()
+        for data in [*self.hand, *(peer.read(name) for peer in self.all_peers() for name in ("heard", "given", "got"))]:
+            if formats.kind_of(data) == "receipts":
+                found |= {Hop(it.service, it.step, it.recorder, it.archived) for it in formats.read_receipts(data)}
+            proof = formats.read_proof(data) if formats.kind_of(data) == "thread" else None
+            if isinstance(proof, formats.proofs.ThreadProof):
+                found.add(Hop(proof.entry.service, proof.entry.step, proof.service, proof.entry.archived))
+        for name, store in self.stores.items():
+            answer = store.ask("export")
+            if answer.status == 0:
+                for step, recorded in enumerate(formats.read_history(answer.output), 1):
+                    if recorded.thread:
+                        found.add(Hop(recorded.thread.service, recorded.thread.step, name, step))
+        return found
+
+    def part(self, part: Part) -> Optional[bytes]:
+        """The bytes of a part, or None where it isn't at hand."""
+        for data in self.hand:
+            if matches(data, part):
+                return data
+        store = self.stores.get(part.service)
+        if store is not None:
+            return store.done("prove", *part.request.split(" "))
+        for peer in self.peers.get(part.service, []):
+            answer = asking.known(peer, part.request)
+            if answer is not None and matches(answer, part):
+                return answer
+        return None
+
+    def ask(self, part: Part) -> str:
+        """Asks for a part, or says whom to ask."""
+        for peer in self.peers.get(part.service, []):
+            data = asking.known(peer, part.request)
+            if data is not None and data.startswith(b"refused"):
+                return f"{part.service} answered {formats.printable_text(data)!r}: ask its keeper for {part.command}, and name the file by --hand"
+            asking.ask(peer, part.request)
+            return f"{part.service} is asked for it by the next weft exchange ({part.request})"
+        return f"ask {part.service} for {part.command}, and name the file by --hand"
+
+    def top(self, service: str, step: int) -> Optional[int]:
+        """The least step, from this one on, of which a line is held."""
+        return next((held for held in self.kept.steps(service) if held >= step), None)
+
+
+# ---- the way
+
+
+def way(hops: set[Hop], first: Event, second: Event) -> Optional[list[Hop]]:
+    """The fewest hops that lead from the first event's step to the step before the second's, from the first event on; None where none do."""
+    reached: dict[str, tuple[int, list[Hop]]] = {first.service: (first.step, [])}
+    for _ in range(MOST_HOPS):
+        found = dict(reached)
+        for hop in hops:
+            start = reached.get(hop.service)
+            if start is None or start[0] > hop.step:
+                continue
+            known = found.get(hop.by)
+            if known is None or hop.archived < known[0]:
+                found[hop.by] = hop.archived, [*start[1], hop]
+        if found == reached:
+            return None
+        reached = found
+        end = reached.get(second.service)
+        if end is not None and end[1] and end[0] < second.step:
+            return end[1]
+    return None
+
+
+class Plan(NamedTuple):
+    """The parts, in the order in which they are joined."""
+
+    parts: list[Part]
+    hops: list[Hop]
+
+
+def lines_needed(hops: list[Hop], second: Event, top: Optional[int]) -> dict[str, int]:
+    """Of each service the least step whose line may serve: that of the second event's proof, and those that bind."""
+    needed = {second.service: top or second.step}
+    for hop in hops:
+        needed[hop.service] = max(needed.get(hop.service, 0), hop.step)
+    return needed
+
+
+def planned(sources: Sources, hops: list[Hop], first: Event, second: Event) -> Plan:
+    """The parts of a way; raises Trouble where a line is missing."""
+    given = formats.read_proof(second.proof) if second.proof is not None else None
+    tops: dict[str, int] = {}
+    for service, step in lines_needed(hops, second, given.top if given else None).items():
+        held = sources.top(service, step)
+        if held is None:
+            told = f"no line of {service} from step {step} on is held"
+            raise Trouble(Status.MISSING, told, f"Ask {service} for one, and keep it: weft keep.")
+        tops[service] = held
+    if given:
+        tops[second.service] = given.top
+    parts = [Part(second.service, f"event {second.step} {second.place} {tops[second.service]}")]
+    service, step = second.service, second.step - 1
+    for hop in reversed(hops):
+        parts.append(Part(service, f"thread {step} {hop.service} {hop.step} {step}"))
+        parts.append(Part(hop.service, f"link {hop.step} {tops[hop.service]}"))
+        service, step = hop.service, hop.step
+    parts.append(Part(first.service, f"event {first.step} {first.place} {step}"))
+    return Plan(parts, hops)
+
+
+def plan(sources: Sources, first: Event, second: Event) -> Plan:
+    """The parts of the chain; raises Trouble where no way is known, or a line is missing for each."""
+    if first.service == second.service and first.step < second.step:
+        return planned(sources, [], first, second)
+    hops = sources.hops()
+    bindable = {hop for hop in hops if sources.top(hop.service, hop.step) is not None}
+    found = way(bindable, first, second) or way(hops, first, second)
+    if found is None:
+        told = (
+            f"no way is known from step {first.step} of {first.service} to step {second.step} of {second.service}: no receipts show that {second.service} "
+            f"had received, over others or not, what {first.service} recorded then"
+        )
+        raise Trouble(Status.MISSING, told, "Ask both with whom they exchange, and name receipts by --hand; or choose a later event.")
+    return planned(sources, found, first, second)
+
+
+def joined(parts: list[bytes], names: list[Part]) -> bytes:
+    """The proof that the parts join to; raises Trouble where they don't."""
+    with tempfile.TemporaryDirectory(prefix="weft-") as folder:
+        paths = [Path(folder) / f"{number}" for number in range(1, len(parts) + 1)]
+        for path, data in zip(paths, parts):
+            path.write_bytes(data)
+        answer = program.run("join", *map(str, paths))
+    if answer.words[:2] == ["rejected", "Gap"]:
+        part = names[min(int(answer.words[2]), len(names)) - 1]
+        told = f"the parts don't fit: {part.command} of {part.service} isn't what the parts before it ask for"
+        raise Trouble(Status.NOT_SHOWN, told, f"Ask {part.service} for it again; it may be of another history.")
+    return program.done(answer, "the parts")

@@ -1,0 +1,127 @@
+"""The command line: its words, their help, and what ends a run."""
+
+from __future__ import annotations
+
+import argparse
+import os
+import sys
+import traceback
+from types import ModuleType
+from typing import NoReturn, Optional, Sequence
+
+from weft import __version__, output, packages, program
+from weft.statuses import Status
+from weft.texts import printable
+from weft.trouble import Trouble
+from weft.words import WORDS, module_of
+
+ABOUT = (
+    "The companion of timeweave: lines, proofs, logs and exchanges in sentences. It decides nothing: verdicts are the proved library's or the "
+    "proved program's."
+)
+
+
+class Parser(argparse.ArgumentParser):
+    """A parser whose troubles are sentences, in which nothing stands raw."""
+
+    def error(self, message: str) -> NoReturn:
+        """The words are no command."""
+        raise Trouble(Status.USAGE, printable(message), f"See {self.prog} --help.")
+
+
+class Version(argparse.Action):
+    """Tells the versions when they are asked for, and not before."""
+
+    def __call__(self, parser: argparse.ArgumentParser, *_: object, **__: object) -> None:
+        for line in versions():
+            output.say(line)
+        output.finish()
+        parser.exit()
+
+
+def versions() -> list[str]:
+    """weft's version, and what is known of the program and the library that it uses."""
+    from weft import judges
+
+    told = [f"weft {__version__}"]
+    path = program.found()
+    if path:
+        told.append(f"program {printable(path)}: logic {program.logic_of(path)}, SHA-256 {program.digest_of(path)}")
+    else:
+        told.append("program: none is on the path")
+    library = judges.library()
+    if library:
+        where = judges.library_path()
+        logic = f"logic {program.logic_of(where)}, " if where else ""
+        told.append(f"library {printable(where or '')}: version {library.library.version()}, {logic}SHA-256 {judges.library_digest()}")
+    else:
+        told.append("library: none can be loaded")
+    told.append(f"Python reference: {'there, tested, not proved' if packages.HAS_REFERENCE else 'not there'}")
+    return told
+
+
+def parser_of(module: ModuleType, parser: argparse.ArgumentParser) -> None:
+    """Gives a word's parser its help, its example and its words."""
+    parser.description = f"{module.SUMMARY[0].upper()}{module.SUMMARY[1:]}. {module.DETAILS}"
+    parser.epilog = "example:\n" + "\n".join(f"  {line}" for line in module.EXAMPLE.splitlines())
+    parser.formatter_class = Formatter
+    module.add(parser)
+    parser.set_defaults(run=module.run)
+
+
+class Formatter(argparse.RawDescriptionHelpFormatter):
+    """Fills the description, and leaves the example as it is."""
+
+    def _fill_text(self, text: str, width: int, indent: str) -> str:
+        """The description filled, the example as it is."""
+        if text.startswith("example:"):
+            return super()._fill_text(text, width, indent)
+        return argparse.HelpFormatter._fill_text(self, text, width, indent)
+
+
+def parser(words_given: Sequence[str]) -> Parser:
+    """The parser of all words; where the first one is known, of that alone."""
+    whole = Parser(prog="weft", description=ABOUT, epilog="example:\n  weft line /srv/log --sign ~/.ssh/id_ed25519", formatter_class=Formatter)
+    whole.add_argument("--version", nargs=0, action=Version, help="tells the versions and digests of weft and of what it uses")
+    words = whole.add_subparsers(metavar="WORD", required=True, parser_class=Parser)
+    known = [word for word in words_given[:1] if word in WORDS]
+    for word in known or WORDS:
+        module = module_of(word)
+        parser_of(module, words.add_parser(module.NAME, help=module.SUMMARY))
+    return whole
+
+
+def ended(words: Sequence[str]) -> int:
+    """Runs the command; answers its status."""
+    options = parser(words).parse_args(words)
+    status = options.run(options)
+    output.finish()
+    return int(status)
+
+
+def main(words: Optional[Sequence[str]] = None) -> int:
+    """Runs the command of these words, and tells what ended it."""
+    output.prepare()
+    try:
+        return ended(sys.argv[1:] if words is None else words)
+    except Trouble as trouble:
+        output.complain(trouble.told())
+        return int(trouble.status)
+    except SystemExit as end:
+        output.finish_quietly()
+        return end.code if isinstance(end.code, int) else int(Status.DONE)
+    except MemoryError:
+        output.complain("there was no memory.")
+        return int(Status.NO_MEMORY)
+    except KeyboardInterrupt:
+        output.complain("interrupted; the next run goes on.")
+        return int(Status.STOPPED)
+    except OSError as failure:
+        what = f"{printable(os.fsdecode(failure.filename))}: " if isinstance(failure.filename, (str, bytes)) else ""
+        output.complain(f"{what}{os.strerror(failure.errno or 0)}. What was there before stands; the next run goes on.")
+        return int(Status.DISK)
+    except Exception:  # noqa: BLE001 - what nobody foresaw is told as a bug, with nothing raw in it
+        for line in traceback.format_exc().splitlines():
+            output.complain(printable(line))
+        output.complain("this is a bug of weft: please report these lines.")
+        return int(Status.BUG)

@@ -1,0 +1,172 @@
+"""The manual page, made of what the code says: the words with their help, and the statuses.
+
+    python3 -m weft.manual > weft/weft.1"""
+
+from __future__ import annotations
+
+import argparse
+import os
+import sys
+from typing import Iterator
+
+from weft import __version__
+from weft.main import ABOUT
+from weft.statuses import MEANINGS
+from weft.words import WORDS, module_of
+
+DESCRIPTION = """Verdicts are the proved library's; where it can't be loaded or doesn't judge what is asked, the proved program's. The Python reference, which is
+tested and not proved, judges as well where it is there, and a difference ends with a status of its own. With
+.B \\-\\-reference
+it judges alone. Sentences go to standard output, troubles with what to do to standard error; with
+.B \\-\\-json
+there is JSON in their place. On a terminal long work shows how far it is. Each file that is written is the old one or the new one, whole, at each moment;
+runs on one service or one box wait for one another by a lock; a run that was stopped anywhere is made good by the next one. No file is read that isn't
+regular, and none before its size was looked at. Names and events that can't be printed are told in escapes."""
+
+BOX = """A box has a folder for each peer, named as its service:
+.TP
+.I BOX/PEER/in
+What the peer put out, as it was carried here: what stands in the peer's own
+.IR out .
+It may be lost, late, repeated or damaged. No link in it is followed, and at most 64 files of 4 MiB together are read a turn.
+.TP
+.I BOX/PEER/out
+What is to be carried to the peer's
+.IR in :
+.I message
+(the last step since the one that it recorded),
+.I next
+(the same since the step of the message before, which it may have recorded by now),
+.I line
+(the same line, signed),
+.I receipt
+and
+.I refusal
+(of its last message),
+.I yours
+(its last line that is recorded here, by which it finds an old store that was put back),
+.I seen
+(signed lines of others, by which services with two histories are found),
+.I receipts
+(by which ways for proofs are found),
+.I requests
+and
+.IR answers .
+.TP
+.I BOX/PEER/kept
+What is kept of it: its lines, receipts, answers; in
+.I forks
+two signed lines of one step, which are evidence; in
+.I answered
+what it was answered, and when.
+.TP
+.I BOX/PEER/events
+Made by hand: the events whose proofs the peer may ask for, as
+.B STEP INDEX
+or
+.BR "STEP *" ;
+without it none. Proofs of received lines and links are handed out to each accepted peer.
+.TP
+.I BOX/box.conf
+Settings, as
+.BR "key = FILE" ,
+the key by which lines are signed;
+.BR "unsigned = yes" ,
+messages without a signed line are taken;
+.B files = 64
+and
+.BR "bytes = 4194304" .
+.TP
+.I BOX/allowed_signers
+Whose keys are whose, as of
+.BR ssh\\-keygen (1);
+.B weft accept \\-\\-key
+adds to it."""
+
+KEPT = """Plain text: a line of a service, the day on which it was kept, and how it came. Empty lines and those that begin with # are skipped; a line with nothing
+behind it counts as well.
+.PP
+.nf
+shop 2 5585fc74c8b89378088d61ce37d82efe4c25f9ab0bbeb79b20a4618dce62a486 2026\\-11\\-29T09:40:00Z by letter
+.fi
+.PP
+A signature of a line is made by
+.B ssh\\-keygen \\-Y sign \\-n timeweave\\-line
+over its exact text with its line end, and checked by
+.BR "ssh\\-keygen \\-Y verify" ,
+the principal being the service's name."""
+
+VARIABLES = (
+    ("TIMEWEAVE_PROGRAM", "The program timeweave, where it isn't the one on the path."),
+    ("TIMEWEAVE_LIBRARY", "The library libtimeweave.so, where it isn't the installed one."),
+    ("WEFT_KEPT", "The file of kept lines, where it isn't ~/.local/share/weft/kept (or under XDG_DATA_HOME)."),
+    ("WEFT_SIGNERS", "The file of signers, where it isn't ~/.config/weft/allowed_signers (or under XDG_CONFIG_HOME)."),
+)
+
+
+def plain(text: str) -> str:
+    """A text as troff prints it."""
+    escaped = text.replace("\\", "\\e").replace("-", "\\-")
+    return "\n".join("\\&" + line if line.startswith((".", "'")) else line for line in escaped.split("\n"))
+
+
+def sentence(text: str) -> str:
+    """A help text as a sentence."""
+    return f"{text[:1].upper()}{text[1:]}."
+
+
+def option_lines(action: argparse.Action) -> Iterator[str]:
+    """A word or option of a command, with its help."""
+    names = ", ".join(action.option_strings)
+    metavar = action.metavar if isinstance(action.metavar, str) else " ".join(action.metavar or ())
+    shown = f"{names} {metavar if action.nargs != 0 else ''}".strip()
+    yield ".TP"
+    yield f".B {plain(shown)}"
+    yield plain(sentence(action.help or ""))
+
+
+def usage(parser: argparse.ArgumentParser) -> str:
+    """How a command is typed, in one line."""
+    return " ".join(parser.format_usage().removeprefix("usage: ").split())
+
+
+def word_lines(word: str) -> Iterator[str]:
+    """The section of a word."""
+    module = module_of(word)
+    parser = argparse.ArgumentParser(prog=f"weft {word}", add_help=False)
+    module.add(parser)
+    yield f".SS {plain(usage(parser))}"
+    yield plain(f"{sentence(module.SUMMARY)} {module.DETAILS}")
+    for action in parser._actions:
+        yield from option_lines(action)
+    yield ".PP"
+    yield ".nf"
+    for line in module.EXAMPLE.splitlines():
+        yield f"$ {plain(line)}"
+    yield ".fi"
+
+
+def status_lines() -> Iterator[str]:
+    """The table of statuses."""
+    for status, meaning in MEANINGS.items():
+        yield ".TP"
+        yield f".B {int(status)}"
+        yield plain(meaning)
+
+
+def page() -> str:
+    """The manual page."""
+    os.environ["COLUMNS"] = "400"
+    lines = [f'.TH WEFT 1 "" "weft {__version__}" "Timeweave"', ".SH NAME", "weft \\- lines, proofs, logs and exchanges of timeweave, in sentences"]
+    lines += [".SH SYNOPSIS", ".B weft", ".I WORD ..", ".SH DESCRIPTION", plain(ABOUT), DESCRIPTION, ".SH WORDS"]
+    for word in WORDS:
+        lines += word_lines(word)
+    lines += [".SH EXIT STATUS", *status_lines(), ".SH THE FILE OF KEPT LINES", KEPT, ".SH A BOX", BOX, ".SH ENVIRONMENT"]
+    for name, meaning in VARIABLES:
+        lines += [".TP", f".B {name}", plain(meaning)]
+    lines += [".SH SEE ALSO", ".BR timeweave (1),", ".BR ssh\\-keygen (1),", ".BR flock (2)", ""]
+    return "\n".join(lines)
+
+
+if __name__ == "__main__":
+    sys.stdout.write(page())

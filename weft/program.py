@@ -1,0 +1,126 @@
+"""The proved program `timeweave`: found, run, and its refusals in sentences."""
+
+from __future__ import annotations
+
+import functools
+import hashlib
+import os
+import re
+import shutil
+import subprocess
+from pathlib import Path
+from typing import NamedTuple, Optional
+
+from weft.statuses import Status
+from weft.texts import printable
+from weft.trouble import Trouble
+
+BESIDE = Path(__file__).resolve().parent.parent / "bin/timeweave"
+ILLEGAL_INSTRUCTION = -4
+
+
+class Answer(NamedTuple):
+    """What the program answered: its status, and the bytes of its output."""
+
+    status: int
+    output: bytes
+
+    @property
+    def text(self) -> str:
+        """The output as text."""
+        return self.output.decode("utf-8", "surrogateescape")
+
+    @property
+    def words(self) -> list[str]:
+        """The words of the first line of the output."""
+        lines = self.text.splitlines()
+        return lines[0].split(" ") if lines else []
+
+
+@functools.lru_cache(maxsize=None)
+def found() -> Optional[str]:
+    """The path of the program: what TIMEWEAVE_PROGRAM names, else that of the path, else the one that was built beside this package."""
+    named = os.environ.get("TIMEWEAVE_PROGRAM")
+    path = shutil.which(named or "timeweave") or (str(BESIDE) if not named and BESIDE.exists() else None)
+    return os.path.realpath(path) if path else None
+
+
+def needed() -> str:
+    """The path of the program; raises Trouble where there is none."""
+    path = found()
+    if path is None:
+        raise Trouble(
+            Status.NO_JUDGE, "the program timeweave isn't on the path", "Install it, or name it by the variable TIMEWEAVE_PROGRAM."
+        )
+    return path
+
+
+def run(*words: str) -> Answer:
+    """Runs the program with these words. Raises Trouble where it can't be started or ended by a signal."""
+    try:
+        done = subprocess.run(
+            [needed(), *words], stdin=subprocess.DEVNULL, stdout=subprocess.PIPE, stderr=subprocess.PIPE, check=False
+        )
+    except OSError as failure:
+        raise Trouble(Status.NO_JUDGE, f"timeweave can't be started: {os.strerror(failure.errno or 0)}") from None
+    except ValueError:
+        raise Trouble(Status.USAGE, "a word has a zero byte, and no command takes one") from None
+    if done.returncode == ILLEGAL_INSTRUCTION:
+        raise Trouble(Status.NO_JUDGE, "this processor lacks an instruction that timeweave was built with", "Take a build for x86-64.")
+    if done.returncode < 0 or done.returncode > 10:
+        raise Trouble(Status.BUG, f"timeweave ended with status {done.returncode}: {printable(done.stderr.decode('utf-8', 'replace'))}")
+    return Answer(done.returncode, done.stdout)
+
+
+# What the texts of a failed command mean: status, the text's first words, a sentence, what to do. `{0}` is the folder or file, the others are the
+# words behind the first ones.
+FAILURES = (
+    (2, "usage", "timeweave takes no such words: word {1} isn't as it has to be", "A path has to be UTF-8 and a number plain."),
+    (3, "fault input", "a file that timeweave was to read can't be read", "Is it there?"),
+    (4, "", "the output of timeweave failed", "Is the device full?"),
+    (5, "fault disk", "the folder {0} isn't there, or its store can't be read or written", "Look whether it is there, may be written, and has room."),
+    (6, "no memory", "timeweave had no memory", ""),
+    (7, "refused NoStep", "{0} has no such step: its last one is {1}", "Name a step from 1 to {1}."),
+    (7, "refused NoEvent", "that step of {0} has {1} events, of the indices from 0 on", "Name an index below {1}."),
+    (7, "refused NoThread", "{0} received no such step of that service up to there", ""),
+    (7, "refused HasThread", "{0} received that step of that service, at its step {1}", ""),
+    (7, "refused Taken", "there is a store in {0} already", "Name another folder."),
+    (7, "refused Own", "the message is {0}'s own", ""),
+    (7, "refused ClockBack", "an earlier step claims the time {1}, which is later", "Claim no time until the clock is past it."),
+    (7, "refused", "{0} refused it: {1}", ""),
+    (8, "store Blank", "no service was made in {0}, or its making was stopped", "Make one: timeweave init {0} NAME."),
+    (8, "store", "the store in {0} is damaged, or none of a service ({1} {2})", "Go back to a backup, and look at the device."),
+    (9, "unreadable", "a file is none of the kind that timeweave reads there ({1} {2} {3})", ""),
+    (9, "unsound", "the history breaks a rule ({2} {3} {4} {5})", "Ask its service for another."),
+)
+
+
+def trouble(answer: Answer, of: str) -> Trouble:
+    """The sentence of a failed command on this folder or file."""
+    text = printable(answer.text.strip())
+    for status, first, sentence, advice in FAILURES:
+        if answer.status == status and text.startswith(first):
+            fields = [of, *text[len(first) :].split(), "", "", "", "", ""]
+            return Trouble(Status(status), re.sub(r" *\( *\)", "", sentence.format(*fields)), advice.format(*fields))
+    return Trouble(Status.BUG, f"timeweave answered {answer.status} {text}")
+
+
+def done(answer: Answer, of: str) -> bytes:
+    """The output of a command that succeeded on this folder or file; raises Trouble of one that failed."""
+    if answer.status:
+        raise trouble(answer, of)
+    return answer.output
+
+
+@functools.lru_cache(maxsize=None)
+def digest_of(path: str) -> str:
+    """The SHA-256 digest of a file, in hexadecimal."""
+    with open(path, "rb") as file:
+        return hashlib.sha256(file.read()).hexdigest()
+
+
+def logic_of(path: str) -> str:
+    """The digest of the logic that proved the file, as the file says it, or `not told`."""
+    with open(path, "rb") as file:
+        told = re.search(rb"rattle logic=([0-9a-f]{8,64})", file.read())
+    return told[1].decode() if told else "not told"

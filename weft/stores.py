@@ -1,0 +1,127 @@
+"""A service in a folder, as the program answers of it. No page of a store is read here."""
+
+from __future__ import annotations
+
+import os
+import tempfile
+from pathlib import Path
+from typing import Iterator, NamedTuple, Optional
+
+from weft import program
+from weft.files import AnyPath
+from weft.lines import Line, checked_name, read_line
+from weft.program import Answer
+from weft.statuses import Status
+from weft.texts import name_of
+from weft.trouble import Trouble
+
+NO_SUCH_INDEX = 2**32 - 1
+
+
+class Last(NamedTuple):
+    """The last line of a service, and its message since step 0, of a service without steps None."""
+
+    line: Line
+    message: Optional[bytes]
+
+
+def step_0(name: str) -> Line:
+    """The line of step 0 of the service of this name, as `init` prints it in a folder of its own."""
+    with tempfile.TemporaryDirectory(prefix="weft-") as folder:
+        line = read_line(program.done(program.run("init", folder, name), folder).decode().strip())
+    if line is None:
+        raise Trouble(Status.BUG, f"timeweave printed no line of step 0 of {name}")
+    return line
+
+
+class Store:
+    """The service whose store lies in a folder."""
+
+    def __init__(self, folder: AnyPath):
+        self.folder = Path(folder)
+        self.path = os.fspath(folder)
+
+    @property
+    def file(self) -> Path:
+        """The file of the store."""
+        return self.folder / "timeline.tw"
+
+    def ask(self, *words: str) -> Answer:
+        """Runs a command on the folder."""
+        return program.run(words[0], self.path, *words[1:])
+
+    def trouble(self, answer: Answer) -> Trouble:
+        """The sentence of a command that failed."""
+        return program.trouble(answer, name_of(self.path))
+
+    def done(self, *words: str) -> bytes:
+        """The output of a command; raises Trouble where it fails."""
+        answer = self.ask(*words)
+        if answer.status:
+            raise self.trouble(answer)
+        return answer.output
+
+    def init(self, name: str) -> None:
+        """Makes the service, where there is none in the folder."""
+        answer = self.ask("init", checked_name(name))
+        if answer.status and answer.words[:2] != ["refused", "Taken"]:
+            raise self.trouble(answer)
+
+    def last(self) -> Last:
+        """The last line, as the service's message tells it; where there is no step, that of step 0."""
+        from weft import formats
+
+        answer = self.ask("thread", "0")
+        if answer.words == ["refused", "NoStep", "0"]:
+            history = self.done("export")
+            return Last(step_0(history[4:20].rstrip(b"\0").decode("ascii", "replace")), None)
+        if answer.status:
+            raise self.trouble(answer)
+        message = formats.read_message(answer.output)
+        if message is None:
+            raise Trouble(Status.BUG, f"timeweave told no message of {name_of(self.path)}")
+        return Last(formats.line_of(message), answer.output)
+
+    def append(self, events: bytes, time: Optional[int]) -> Line:
+        """Appends a step of the events of an events file, and answers its line. Where the time is refused since an earlier step claims a later
+        one, raises ClockBack, and no step is made."""
+        with tempfile.NamedTemporaryFile(prefix="weft-") as file:
+            file.write(events)
+            file.flush()
+            answer = self.ask("append", file.name, *([] if time is None else [str(time)]))
+        if answer.words[:2] == ["refused", "ClockBack"]:
+            raise ClockBack(self.trouble(answer), int(answer.words[2]))
+        if answer.status:
+            raise self.trouble(answer)
+        line = read_line(answer.text.strip())
+        if line is None:
+            raise Trouble(Status.BUG, "timeweave told no line of the step that it appended")
+        return line
+
+    def receive(self, message: bytes) -> Answer:
+        """Receives a message, and answers the receipt or the refusal."""
+        with tempfile.NamedTemporaryFile(prefix="weft-") as file:
+            file.write(message)
+            file.flush()
+            return self.ask("receive", file.name)
+
+    def count(self, step: int, top: int) -> int:
+        """How many events a step has."""
+        answer = self.ask("prove", "event", str(step), str(NO_SUCH_INDEX), str(top))
+        if answer.words[:2] != ["refused", "NoEvent"]:
+            raise self.trouble(answer)
+        return int(answer.words[2])
+
+
+class ClockBack(Exception):
+    """A time is below the greatest one so far, which is this number of seconds."""
+
+    def __init__(self, trouble: Trouble, greatest: int):
+        super().__init__(trouble.sentence)
+        self.trouble, self.greatest = trouble, greatest
+
+
+def each_piece(data: bytes, size: int) -> Iterator[bytes]:
+    """The pieces of this size of some bytes."""
+    for place in range(0, len(data), size):
+        yield data[place : place + size]

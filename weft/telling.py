@@ -1,0 +1,175 @@
+"""What a file says, in sentences, unjudged."""
+
+from __future__ import annotations
+
+import itertools
+from typing import Any, Iterable, Iterator
+
+from weft import formats, reports, signatures
+from weft.judges import Verdict
+from weft.lines import KeptLines, read_line
+from weft.texts import count_of, date_of, printable, shown_event
+from weft.trouble import Trouble
+
+from timeweave_reference import events_files, evidence, histories, map_files, messages, precedence, proofs, receipts, verdicts
+
+MOST_EVENTS = 20
+MOST_LINES = 20
+MOST_READ = 1 << 20
+
+
+def several(items: Iterable[str], count: int, what: str, most: int) -> Iterator[str]:
+    """The first of so many sentences, and how many more there are."""
+    yield from itertools.islice(items, most)
+    if count > most:
+        yield f"and {count - most:,} more {what}"
+
+
+def time_of(time: Any) -> str:
+    """The claimed time of a step, as a sentence's end."""
+    return "" if time is None else f", which claims the time {date_of(time)}"
+
+
+def tell_proof(data: bytes) -> tuple[str, list[str]]:
+    """A proof of a kind from 1 to 5."""
+    kind, proof = formats.kind_of(data), verdicts.read_proof(data)
+    under = f"it is to be judged under the line of step {proof.top} of {proof.service}"
+    if isinstance(proof, precedence.PrecedenceProof):
+        return "proof that one event precedes another", [*tell_chain(proof), under]
+    if isinstance(proof, proofs.ExistenceProof):
+        claimed = f"that {proof.service} recorded in its step {proof.step}{time_of(proof.opening.time)}, as event {proof.event.index} of "
+        return "proof of an event", [f"{claimed}{proof.opening.count}: {shown_event(proof.event.event)}", under]
+    if isinstance(proof, proofs.ThreadProof):
+        entry = proof.entry
+        told = f"that {proof.service} had received step {entry.step} of {entry.service}, authenticator {entry.authenticator.hex()}, by its step "
+        return "proof that a line was received", [f"{told}{proof.step}, at its step {entry.archived}", under]
+    if isinstance(proof, proofs.AbsenceProof):
+        told = f"that {proof.service} had received no step {proof.absent_step} of {proof.absent_service} by its step {proof.step}"
+        return "proof that a line wasn't received", [told, under]
+    assert isinstance(proof, proofs.LinkProof), kind
+    return "proof of a link", [f"that step {proof.step} of {proof.service} has the authenticator {proof.authenticator.hex()}", under]
+
+
+def tell_chain(proof: precedence.PrecedenceProof) -> Iterator[str]:
+    """The events and hops of a proof of precedence, from the first event to the second."""
+    first, second = proof.first_event, proof.event
+    yield f"first event: {proof.first_service}, step {proof.first_step}{time_of(proof.first_opening.time)}, event {first.index}: {shown_event(first.event)}"
+    recorders = [proof.service, *(hop.entry.service for hop in proof.hops)]
+    for hop, by in reversed(list(zip(proof.hops, recorders))):
+        bound = f"bound by the line of step {hop.bind} of {hop.entry.service}" if hop.bind else "carried: no line binds it"
+        yield f"hop: {by} received step {hop.entry.step} of {hop.entry.service} at its step {hop.entry.archived}; {bound}"
+    yield f"second event: {proof.service}, step {proof.step}{time_of(proof.opening.time)}, event {second.index}: {shown_event(second.event)}"
+
+
+def tell_map(data: bytes) -> tuple[str, list[str]]:
+    """A map file."""
+    if formats.kind_of(data) == "low map":
+        low = map_files.read_low(data)
+        known = f"that {low.service}, before its step {low.step}, had received step {low.low()} of {low.peer} last (0: none)"
+        return "low map file", [known, f"it is to be judged under the line of step {low.top} of {low.service}"]
+    high = map_files.read_high(data)
+    received = high.high()
+    known = f"that {high.peer} first received step {high.step} of {high.service} or a later one at its step {received}"
+    if received is None:
+        known = f"that {high.peer} received step {high.step} of {high.service} or a later one at none of its steps up to {high.top}"
+    return "high map file", [known, f"it is to be judged under the line of step {high.top} of {high.peer}"]
+
+
+def tell_message(data: bytes) -> tuple[str, list[str]]:
+    """A message."""
+    message = messages.read_message(data)
+    line = formats.line_of(message)
+    return "message of a service's last step", [f"line: {line.text}", f"for whoever recorded its step {message.since} last"]
+
+
+def tell_receipts(data: bytes) -> tuple[str, list[str]]:
+    """Receipts."""
+    found = receipts.read_receipts(data)
+    told = (
+        f"{it.recorder} recorded step {it.step} of {it.service}, authenticator {it.authenticator.hex()}, at its step {it.archived}, "
+        f"authenticator {it.recorder_authenticator.hex()}"
+        for it in found
+    )
+    return "receipt" if len(found) == 1 else count_of(len(found), "receipt"), list(several(told, len(found), "receipts", MOST_LINES))
+
+
+def tell_evidence(data: bytes) -> tuple[str, list[str]]:
+    """Evidence of a fork."""
+    found = evidence.read_evidence(data)
+    told = [
+        f"{proof.service} received step {proof.entry.step} of {proof.entry.service}, authenticator {proof.entry.authenticator.hex()}, at its step "
+        f"{proof.entry.archived}; judged under the line of step {proof.top} of {proof.service}"
+        for proof in (found.first, found.second)
+    ]
+    return f"evidence that no history of {found.first.entry.service} has two lines", told
+
+
+def tell_history(data: bytes) -> tuple[str, list[str]]:
+    """A history; of a long one the front alone is read."""
+    share = 100 * len(data) / formats.MOST_HISTORY
+    size = f"{len(data):,} bytes, {share:.1f} % of what a history's file may have"
+    if len(data) > MOST_READ:
+        front = formats.fields.Reader(data[:28], 28)
+        front.magic(b"TWH1")
+        return "history", [f"of {front.name()}: {count_of(front.number(8, 0, formats.LAST_STEP), 'step')}, which weren't read", size]
+    name, steps = histories.read_history(data)
+    events, threads = sum(len(step.events) for step in steps), sum(step.thread is not None for step in steps)
+    times = [step.time for step in steps if step.time is not None]
+    told = [f"of {name}: {count_of(len(steps), 'step')}, {count_of(events, 'event')}, {count_of(threads, 'received line')}"]
+    if times:
+        told.append(f"claimed times from {date_of(times[0])} to {date_of(times[-1])}")
+    return "history", [*told, size]
+
+
+def tell_events(data: bytes) -> tuple[str, list[str]]:
+    """An events file."""
+    found = events_files.read_events(data)
+    told = (f"event {index}: {shown_event(event)}" for index, event in enumerate(found))
+    return f"events file of {count_of(len(found), 'event')}", list(several(told, len(found), "events", MOST_EVENTS))
+
+
+REPORTS = ("accepted ", "rejected ", "refused ", "stands", "unheld ", "unreadable ", "unsound ", "clash", "fault ", "store ", "usage ", "no memory")
+
+
+def tell_text(data: bytes) -> tuple[str, list[str]]:
+    """Lines, signed lines, kept lines, or the text of a command; raises Trouble where it is none of these."""
+    signed = signatures.split(data)
+    if signed:
+        return "signed line", [f"line: {signed.line.text}", "its signature isn't checked here: weft keep does"]
+    text = data.decode("utf-8", "replace")
+    first = text.split("\n", 1)[0]
+    if text.startswith(signatures.BEGIN):
+        return "signature by ssh-keygen", ["it is of the line in the file without .sig: weft keep checks it"]
+    if first.startswith("accepted ") and first != "accepted map":
+        try:
+            return "report of timeweave", reports.sentences(reports.read_report(Verdict(0, text)))
+        except (ValueError, IndexError):
+            raise ValueError("it begins as a report of timeweave, and a line of it is none") from None
+    if first.startswith(REPORTS):
+        told = text.splitlines()
+        return "text of a command of timeweave", list(several(map(printable, told), len(told), "lines", MOST_LINES))
+    kept = KeptLines()
+    kept.add_text("it", text)
+    found = kept.all()
+    plain = (f"{it.line.text}{'' if not it.date else f' ({it.told})'}" for it in found)
+    return "line" if len(found) == 1 else count_of(len(found), "line"), list(several(plain, len(found), "lines", MOST_LINES))
+
+
+TELLERS = {
+    "event": tell_proof, "precedence": tell_proof, "thread": tell_proof, "absence": tell_proof, "link": tell_proof, "low map": tell_map,
+    "high map": tell_map, "message": tell_message, "receipts": tell_receipts, "evidence": tell_evidence, "history": tell_history,
+    "events": tell_events, "text": tell_text,
+}  # fmt: skip
+
+
+def tell(data: bytes) -> tuple[str, list[str]]:
+    """What the bytes are, and what they say; raises ValueError with the place of the first byte at which they are nothing."""
+    kind = formats.kind_of(data)
+    try:
+        if not data or kind == "proof" or (kind == "text" and read_line(data[:96].decode("ascii", "replace").split("\n")[0]) is None and b"\0" in data):
+            raise ValueError("it is of no format of Timeweave")
+        return TELLERS[kind](data)
+    except formats.Malformed as bad:
+        raise ValueError(f"it begins as {kind}, and at byte {bad.place} none goes on: it was cut short or changed") from None
+    except Trouble:
+        raise ValueError("it is of no format of Timeweave") from None

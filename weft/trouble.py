@@ -1,0 +1,22 @@
+"""What ends a run early."""
+
+from __future__ import annotations
+
+from weft.statuses import Status
+
+
+class Trouble(Exception):
+    """Ends the run with a status, a sentence that says what is wrong, and where there is one, another that says what to do."""
+
+    def __init__(self, status: Status, sentence: str, advice: str = ""):
+        super().__init__(sentence)
+        self.status = status
+        self.sentence = sentence
+        self.advice = advice
+
+    def __reduce__(self) -> tuple[type[Trouble], tuple[Status, str, str]]:
+        return Trouble, (self.status, self.sentence, self.advice)
+
+    def told(self) -> str:
+        """The sentences in one line."""
+        return f"{self.sentence}. {self.advice}".rstrip() if self.advice else f"{self.sentence}."

@@ -1,0 +1,13 @@
+"""The words of weft, a module each: its name, summary, details, example, words and run."""
+
+from __future__ import annotations
+
+import importlib
+from types import ModuleType
+
+WORDS = ("line", "keep", "tell", "judge", "log", "prove", "exchange", "accept", "chain", "check")
+
+
+def module_of(word: str) -> ModuleType:
+    """The module of a word. Each is loaded only where it is needed, so that weft starts quickly."""
+    return importlib.import_module(f"weft.words.{word}")

@@ -1,0 +1,112 @@
+"""`weft chain`: the proof that one event precedes another."""
+
+from __future__ import annotations
+
+import argparse
+import os
+import re
+from pathlib import Path
+
+from weft import chains, choosing, files, formats, judges, lines, pictures, reports
+from weft.chains import Event, Plan, Sources
+from weft.lines import LAST_STEP, KeptLines
+from weft.output import say
+from weft.statuses import Status
+from weft.stores import Store
+from weft.texts import name_of, printable
+from weft.trouble import Trouble
+
+NAME = "chain"
+SUMMARY = "makes the proof that one event precedes another"
+DETAILS = (
+    "It finds a way from the earlier event to the later one by the receipts of boxes, stores and files, takes each part from where it is at hand, asks "
+    "peers for the others by their requests (run weft exchange, let it be carried, and run weft chain again), joins them, and has the whole judged "
+    "strictly. Or it says which part is missing and whom to ask. An event is named NAME:STEP:INDEX, or by a file that has its proof."
+)
+EXAMPLE = "weft chain log:12:0 bank:31:2 --store /srv/log --box /srv/box --out chain"
+MOST_FILES = 10_000
+
+
+def add(parser: argparse.ArgumentParser) -> None:
+    """The words."""
+    parser.add_argument("earlier", metavar="EARLIER", help="the earlier event")
+    parser.add_argument("later", metavar="LATER", help="the later event")
+    parser.add_argument("--store", metavar="DIR", action="append", default=[], type=Path, help="the folder of a service of your own; may be repeated")
+    parser.add_argument("--box", metavar="BOX", action="append", default=[], type=Path, help="a box with what peers handed out; may be repeated")
+    parser.add_argument("--hand", metavar="FILE", action="append", default=[], type=Path, help="receipts or proofs, a file or a folder; may be repeated")
+    parser.add_argument("--kept", metavar="FILE", type=Path, action="append", help="a file of kept lines; may be repeated (else WEFT_KEPT, ..)")
+    parser.add_argument("--out", metavar="FILE", default="chain", help="where the proof is written (else chain)")
+    parser.add_argument("--svg", metavar="OUT", help="draws it")
+    parser.add_argument("--reference", action="store_true", help="judges by the Python reference alone, which is tested and not proved")
+
+
+def event_of(word: str) -> Event:
+    """The event of a word: NAME:STEP:INDEX, or a file that has its proof."""
+    fields = re.fullmatch(r"([a-z0-9-]{1,16}):([1-9][0-9]{0,12}):(0|[1-9][0-9]{0,3})", word)
+    if fields and int(fields[2]) <= LAST_STEP:
+        return Event(fields[1], int(fields[2]), int(fields[3]))
+    if not os.path.lexists(word):
+        raise Trouble(Status.USAGE, f"{printable(word)} names no event, and there is no such file", "An event is NAME:STEP:INDEX, as bank:31:2.")
+    data = files.read(word, formats.MOST_PROOF)
+    proof = formats.read_proof(data)
+    if not isinstance(proof, formats.proofs.ExistenceProof):
+        raise Trouble(Status.UNREADABLE, f"{name_of(word)} has no proof of an event", "weft tell says what it has.")
+    return Event(proof.service, proof.step, proof.event.index, data)
+
+
+def at_hand(paths: list[Path]) -> list[bytes]:
+    """The files that were named, and those of named folders."""
+    found: list[Path] = []
+    for path in paths:
+        found += sorted(it for it in path.iterdir() if it.is_file()) if path.is_dir() else [path]
+    if len(found) > MOST_FILES:
+        raise Trouble(Status.USAGE, f"{len(found):,} files are named by --hand, and {MOST_FILES:,} are read at most", "Name fewer.")
+    return [files.read(path, formats.MOST_PROOF) for path in found]
+
+
+def run(options: argparse.Namespace) -> Status:
+    """Makes the chain."""
+    first, second = event_of(options.earlier), event_of(options.later)
+    kept, judge = KeptLines(options.kept or [lines.default_kept()]), judges.bench(options.reference)
+    hand = at_hand(options.hand) + [event.proof for event in (first, second) if event.proof is not None]
+    sources = Sources([Store(folder) for folder in options.store], options.box, hand, kept, judge)
+    plan = chains.plan(sources, first, second)
+    parts = [sources.part(part) for part in plan.parts]
+    if None in parts:
+        return tell_missing(sources, plan, parts)
+    proof = chains.joined([part for part in parts if part is not None], plan.parts)
+    judgement = choosing.judge_proof(judge, proof, kept, allow_carried=False)
+    if not judgement.is_shown or judgement.verdict is None:
+        return tell_refused(sources, judgement)
+    files.renew(options.out, proof)
+    report = reports.read_report(judgement.verdict)
+    say(f"{name_of(options.out)}: shown, {len(proof):,} bytes")
+    for line in [*reports.sentences(report), *choosing.resting(judgement, kept)]:
+        say(f"  {line}")
+    say(f"  {judge.told(judgement.call)}")
+    if options.svg:
+        files.renew(options.svg, pictures.verdict(report, judgement.lines, None).encode())
+    return judge.status(True)
+
+
+def tell_missing(sources: Sources, plan: Plan, parts: list[bytes | None]) -> Status:
+    """Which parts are missing, and whom to ask."""
+    have = sum(part is not None for part in parts)
+    say(f"A way over {len(plan.hops)} {'hop' if len(plan.hops) == 1 else 'hops'} is known; {have} of its {len(parts)} parts are at hand. Missing:")
+    for part, data in zip(plan.parts, parts):
+        if data is None:
+            say(f"  {sources.ask(part)}")
+    return Status.MISSING
+
+
+def tell_refused(sources: Sources, judgement: choosing.Judgement) -> Status:
+    """Why what was joined isn't accepted."""
+    if judgement.missing:
+        say("What was joined can't be judged.")
+        for needed in judgement.missing:
+            say(choosing.missing_sentence(needed, sources.kept))
+        return Status.MISSING
+    sentence = reports.reason_sentence(judgement.verdict)[0] if judgement.verdict is not None else judgement.hindrance
+    raise Trouble(
+        sources.judge.status(False), f"what was joined isn't accepted: {sentence}", "A part may be of another history than your lines: ask for it again."
+    )

@@ -1,0 +1,65 @@
+"""`weft exchange`: a service's turn with its peers."""
+
+from __future__ import annotations
+
+import argparse
+import os
+from pathlib import Path
+
+from weft import box as boxes
+from weft import files, judges, locks
+from weft.exchange import Turn
+from weft.output import say, say_json
+from weft.statuses import Status
+from weft.stores import Store
+from weft.texts import beside, name_of, printable
+from weft.waiting import add_wait
+
+NAME = "exchange"
+SUMMARY = "makes a service's turn with its peers, over folders that anything may carry"
+DETAILS = (
+    "For each peer the box has a folder of its name with in (what the peer put out), out (what is to be carried to it) and kept. Messages that are "
+    "signed by the key kept for the peer are received; receipts, refusals, the next message and the signed line are put out; requests of peers for "
+    "threads and links are answered. A new peer waits for weft accept. Unsigned messages are taken where BOX/box.conf says `unsigned = yes`, which "
+    "is told each time. Run it each night, before or after the carrier."
+)
+EXAMPLE = "weft exchange /srv/log /srv/box\nrsync -r /srv/box/bank/out/ bank:/srv/box/log/in/"
+
+
+def add(parser: argparse.ArgumentParser) -> None:
+    """The words."""
+    parser.add_argument("folder", metavar="DIR", type=Path, help="the folder of the service")
+    parser.add_argument("box", metavar="BOX", type=Path, help="the box: a folder for each peer")
+    parser.add_argument("--despite", metavar="PEER", action="append", default=[], help="goes on although this peer hands back a line that the store lacks")
+    add_wait(parser)
+    parser.add_argument("--json", action="store_true", help="writes JSON")
+
+
+def run(options: argparse.Namespace) -> Status:
+    """Makes the turn."""
+    folder, box = Path(os.path.normpath(options.folder)), options.box
+    files.expect_folder(folder, "the folder of the service")
+    files.expect_folder(box, "the box, which has a folder for each peer: weft accept BOX PEER makes it")
+    settings = boxes.read_settings(box)
+    with locks.held(beside(folder, ".lock"), options.wait, folder), locks.held(box / ".lock", options.wait, box):
+        store = Store(folder)
+        own = store.last().line.service
+        peers, strange = boxes.peers_of(box, own, settings)
+        turn = Turn(store, box, settings, judges.bench(), peers, options.despite)
+        try:
+            status = turn.run()
+        finally:
+            told = [(peer.name, text) for peer in peers for text in peer.told]
+            if not options.json:
+                for name, text in told:
+                    say(f"{name}: {text}.")
+    general = [*turn.told, *(f"{printable(name)} in {name_of(box)} is no peer's folder" for name in strange)]
+    if settings.is_unsigned:
+        general.append(f"Unsigned messages are taken here ({name_of(box / 'box.conf')}): whoever can write in a folder `in` can speak in a peer's name.")
+    if options.json:
+        say_json({"line": turn.last._asdict(), "peers": {peer.name: peer.told for peer in peers}, "told": general, "status": int(status)})
+        return status
+    for text in general:
+        say(text)
+    say(turn.last.text)
+    return status

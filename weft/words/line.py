@@ -1,0 +1,49 @@
+"""`weft line`: the line of a service's last step."""
+
+from __future__ import annotations
+
+import argparse
+from pathlib import Path
+
+from weft import files, signatures
+from weft.output import say, say_json
+from weft.statuses import Status
+from weft.stores import Store
+from weft.texts import name_of
+
+NAME = "line"
+SUMMARY = "prints the line of a service's last step, and signs it"
+DETAILS = (
+    "The line is what others keep of the service: its name, the number of the step and its authenticator. Of a service without steps it is that "
+    "of step 0. With --sign the line stands in a file, and beside it in a file .sig its signature by ssh-keygen: hand out both."
+)
+EXAMPLE = "weft line /srv/log > line\nweft line /srv/log --sign ~/.ssh/id_ed25519 --out log.line"
+
+
+def add(parser: argparse.ArgumentParser) -> None:
+    """The words."""
+    parser.add_argument("folder", metavar="DIR", help="the folder of the service")
+    parser.add_argument("--sign", metavar="KEY", help="signs the line with this private key, or the public one of a key that ssh-agent has")
+    parser.add_argument("--out", metavar="FILE", help="writes the line to this file; with --sign it is NAME-STEP.line where none is named")
+    parser.add_argument("--json", action="store_true", help="writes JSON")
+
+
+def run(options: argparse.Namespace) -> Status:
+    """Prints the line."""
+    line = Store(options.folder).last().line
+    out = options.out or (f"{line.service}-{line.step}.line" if options.sign else None)
+    written = []
+    if options.sign:
+        signed = signatures.sign(line, options.sign)
+        files.renew(f"{out}.sig", signed.signature)
+        written.append(f"{out}.sig")
+    if out:
+        files.renew(Path(out), f"{line.text}\n".encode())
+        written.insert(0, out)
+    if options.json:
+        say_json({**line._asdict(), "files": [str(path) for path in written]})
+        return Status.DONE
+    say(line.text)
+    if len(written) == 2:
+        say(f"Hand out {name_of(written[0])} and {name_of(written[1])}; who has your key for {line.service} keeps it by: weft keep {name_of(written[0])}")
+    return Status.DONE

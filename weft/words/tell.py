@@ -1,0 +1,48 @@
+"""`weft tell`: what files are and say, unjudged."""
+
+from __future__ import annotations
+
+import argparse
+
+from weft import files, formats, telling
+from weft.output import complain, say, say_json
+from weft.statuses import Status
+from weft.texts import name_of
+from weft.trouble import Trouble
+
+NAME = "tell"
+SUMMARY = "says what files are and what they say, unjudged"
+DETAILS = (
+    "It knows messages, receipts, proofs, map files, evidence, histories, events files, lines, and texts of timeweave. What a file says may be made "
+    "up: weft judge judges."
+)
+EXAMPLE = "weft tell receipt proof"
+
+
+def add(parser: argparse.ArgumentParser) -> None:
+    """The words."""
+    parser.add_argument("files", metavar="FILE", nargs="+", help="files of any kind")
+    parser.add_argument("--json", action="store_true", help="writes JSON, a line for each file")
+
+
+def run(options: argparse.Namespace) -> Status:
+    """Tells each file."""
+    status = Status.DONE
+    for path in options.files:
+        try:
+            what, told = telling.tell(files.read(path, formats.MOST_HISTORY))
+        except ValueError as bad:
+            status = status or Status.UNREADABLE
+            complain(f"{name_of(path)}: {bad}.")
+            continue
+        except Trouble as trouble:
+            status = status or trouble.status
+            complain(trouble.told())
+            continue
+        if options.json:
+            say_json({"file": path, "what": what, "says": told, "judged": False})
+            continue
+        say(f"{name_of(path)}: {what}, unjudged")
+        for line in told:
+            say(f"  {line}")
+    return status
