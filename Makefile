@@ -120,3 +120,20 @@ install-weft:
 	install -m 755 weft/bin/weft $(DESTDIR)$(PREFIX)/share/timeweave/weft/bin/weft
 	ln -sf ../share/timeweave/weft/bin/weft $(DESTDIR)$(PREFIX)/bin/weft
 	install -D -m 644 weft/weft.1 $(DESTDIR)$(PREFIX)/share/man/man1/weft.1
+
+# ---- the page that checks proofs, and the module for JavaScript
+
+PAGE = web/timeweave.html
+HAS_PAGE := $(and $(shell command -v wasm-opt),$(shell command -v node))
+
+.PHONY: page
+
+# Builds web/timeweave.html, one file, and web/timeweave.wasm, of the library, which is proved as `lib` proves it. It needs `wasm-opt`.
+page:
+	python3 tools/build_page.py
+
+$(PAGE):
+	$(MAKE) page
+
+# Where it can be built and tried, the acceptance run tries it, and it is measured.
+check bench: | $(if $(HAS_PAGE),$(PAGE))

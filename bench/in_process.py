@@ -1,4 +1,4 @@
-"""Proofs checked in one process, by the library from C and from Python, beside a process for each, and beside what vouches for a record
+"""Proofs checked in one process, by the library from C, from Python and, compiled for WebAssembly, from JavaScript in Node, beside a process for each, and beside what vouches for a record
 elsewhere, where it is installed."""
 
 import os
@@ -13,6 +13,7 @@ from timing import best_times
 
 TOP = Path(__file__).resolve().parent.parent
 LIBRARY = TOP / "lib/libtimeweave.a"
+MODULE = TOP / "web/timeweave.wasm"
 BY_PYTHON = """
 import sys, time
 sys.path.insert(0, sys.argv[1])
@@ -70,6 +71,9 @@ def in_process_lines(bench):
     for name, words in (("145", bench.least), ("14,547", bench.deep)):
         rows.append((f"the library from C, {name} bytes", best_rate([program, *files(words), str(count)], runs)))
         rows.append((f"the library from Python, {name} bytes", best_rate([*python, *files(words), str(count)], runs)))
+        if MODULE.exists() and shutil.which("node"):
+            command = ["node", TOP / "web/tests/many.mjs", *files(words), str(count)]
+            rows.append((f"the module of WebAssembly from Node, {name} bytes", best_rate(command, runs)))
     rows.append(("`timeweave verify`, 145 bytes, a process each", 1 / best_times([bench.least], bench.plan.runs)[0]))
     log = log_checker(bench.folder)
     if log:

@@ -21,7 +21,7 @@ import subprocess
 import tempfile
 from pathlib import Path
 
-from harness import library, seen
+from harness import library, seen, web
 from harness.judged import Asked
 from harness.making import HEX, LEAST, proof_bytes
 from harness.places import LONGEST
@@ -116,7 +116,7 @@ def difference(program, case):
         except subprocess.TimeoutExpired:
             return f"  it ran for longer than {LONGEST} seconds"
     seen.note(status, out)
-    by_library = library.difference(words, contents, status, out)
+    by_library = library.difference(words, contents, status, out) or web.difference(words, contents, status, out)
     wanted_status, wanted = case["status"], wanted_output(case)
     command = " ".join(shlex.quote(word) for word in ["timeweave", *words])
     if (status, out, err) == (wanted_status, wanted, b""):

@@ -1,0 +1,140 @@
+"""The module of WebAssembly answers as the library does, and the page says what they say. Each proof that a case of this run has the program judge is judged by
+the module too, in one process of Node; behind that, changed proofs, by the library and by the module. Then the module for JavaScript and the page's own parts by
+Node's test runner, the page in Chromium and in Firefox, as a user meets it, and whether it is put together of the sources that lie here.
+Where `node`, `wasm-opt` or a browser is missing, or the page isn't built, that is told as skipped."""
+
+import os
+import random
+import subprocess
+import sys
+import tempfile
+
+import timeweave
+
+from cases.library import try_some
+from harness import library
+from harness.rooms import Skipped, Wrong, case
+from harness.web import ASKED, MODULE, PAGE, WEB, asked, built
+
+sys.path.append(str(WEB / "tests"))
+
+CHANGED, LOT = 100_000, 500
+
+
+def each_proof(room):
+    """each proof of this run, by the module"""
+    built()
+    try_some(room.program)
+    if not (ASKED and ASKED[0].count):
+        raise Wrong("  no proof of this run was judged by the module")
+
+
+def changed(rand, proof):
+    """The proof with bytes changed, cut, doubled or put in by chance."""
+    data = bytearray(proof)
+    for _ in range(rand.choice((1, 1, 1, 2, 3, 8))):
+        place = rand.randrange(len(data) + 1)
+        match rand.randrange(8):
+            case 0:
+                del data[place:]
+            case 1:
+                del data[place : place + rand.randrange(1, 40)]
+            case 2:
+                data[place:place] = rand.randbytes(rand.randrange(1, 40))
+            case 3:
+                data[place : place + 8] = rand.choice((0, 1, 2, 255, 2**40 - 1, 2**64 - 1)).to_bytes(8, "big")
+            case _ if data:
+                data[min(place, len(data) - 1)] ^= 1 << rand.randrange(8)
+    return bytes(data)
+
+
+def changed_proofs(room):
+    """100,000 changed proofs and lines of this run, by the library and by the module: no answer differs"""
+    built()
+    try_some(room.program)
+    rand, tried = random.Random("changed"), [(form, proof, anchors) for form, _, proof, anchors, _ in library.TRIED if len(proof) < 4000]
+    if not tried:
+        raise Wrong("  no proof of this run was judged by the library")
+    for _ in range(CHANGED // LOT):
+        lot = []
+        for _ in range(LOT):
+            form, proof, anchors = rand.choice(tried)
+            lot.append((form, proof, changed(rand, anchors)) if rand.randrange(8) == 0 else (form, changed(rand, proof), anchors))
+        for (form, proof, anchors), found in zip(lot, asked().judge(lot)):
+            wanted = timeweave.library().judge(proof, anchors, form == "s")
+            if found != wanted:
+                raise Wrong(f"  of the proof {proof.hex()}\n  under {anchors!r}, {form}\n  the library answers {wanted}\n  the module {found}")
+
+
+def node_tests(room):
+    """the module for JavaScript and the page's own parts, by Node's test runner"""
+    built()
+    names = sorted((WEB / "tests").glob("*.test.mjs"))
+    done = subprocess.run(["node", "--test", *names], capture_output=True, text=True, timeout=300)
+    if done.returncode:
+        raise Wrong(done.stdout[-4000:] + done.stderr[-1000:])
+
+
+def of_these_sources(room):
+    """the page is put together of the sources and the module that lie here"""
+    built()
+    import build_page
+
+    if build_page.page(MODULE.read_bytes()) != PAGE.read_text():
+        raise Wrong("  web/timeweave.html is another one: `make page`")
+
+
+def stops(work, *words):
+    """The status with which the build stops there, or None."""
+    import build_page
+
+    try:
+        work(*words)
+    except build_page.Stopped as why:
+        return why.status
+    return None
+
+
+def build_stops(room):
+    """the build stops at an intrinsic that isn't known, inline assembly, a tool that isn't the pinned one, and where wasm-opt is missing"""
+    built()
+    import build_page
+
+    plain = 'declare void @llvm.memmove.p0.p0.i64()\nattributes #0 = { nounwind "probe-stack"="inline-asm" "target-cpu"="x86-64-v2" }\n'
+    found = [stops(build_page.retargeted, plain + more) for more in ("", "call void @llvm.x86.sha256rnds2()", 'call void asm "nop", ""()')]
+    kept, path = build_page.PINNED, os.environ["PATH"]
+    found.append(stops(build_page.check_tools))
+    try:
+        build_page.PINNED = {**kept, "clang": "0" * 64}
+        found.append(stops(build_page.check_tools))
+        os.environ["PATH"] = str(room.folder)
+        found.append(stops(build_page.check_tools))
+    finally:
+        build_page.PINNED, os.environ["PATH"] = kept, path
+    if found != [None, 1, 1, None, build_page.OTHER_TOOL, build_page.NO_WASM_OPT]:
+        raise Wrong(f"  statuses {found}")
+
+
+def in_browser(name):
+    def work(room):
+        built()
+        from browsers import is_there
+        from made import all_made
+        from try_page import BROWSERS, tried
+
+        if not is_there(BROWSERS[name]):
+            raise Skipped(f"there is no {BROWSERS[name].name}")
+        with tempfile.TemporaryDirectory() as folder:
+            browser = BROWSERS[name](folder)
+            wrong = [f"  {situation.__doc__.strip()}\n  {said}" for situation, said in tried(browser, all_made(room.program, folder)) if said]
+            browser.close()
+        if wrong:
+            raise Wrong("\n".join(wrong))
+
+    work.__doc__ = f"the page in {name}, headless and without a connection"
+    return work
+
+
+def cases():
+    for work in (each_proof, changed_proofs, node_tests, of_these_sources, build_stops, in_browser("chromium"), in_browser("firefox")):
+        yield case(work, "page")

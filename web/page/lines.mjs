@@ -1,0 +1,105 @@
+/** Lines, NAME STEP AUTHENTICATOR: reading them, those that contradict each other, and the choice of those that a proof asks for. */
+
+const LAST_STEP = 2 ** 40 - 1;
+const LINE = /^([a-z0-9-]{1,16}) (0|[1-9][0-9]{0,12}) ([0-9a-f]{64})$/i;
+
+/** The text of a file's bytes: UTF-16 where it begins with its mark, as Windows writes it, else UTF-8. */
+function textOf(bytes) {
+    const isWide = (bytes[0] === 0xff && bytes[1] === 0xfe) || (bytes[0] === 0xfe && bytes[1] === 0xff);
+    return new TextDecoder(isWide ? (bytes[0] === 0xff ? "utf-16le" : "utf-16be") : "utf-8").decode(bytes);
+}
+
+/** The line that words tell: {service, step, authenticator}, or {why} it is none. */
+function readLine(text) {
+    const words = LINE.exec(text);
+    if (!words || words[1] !== words[1].toLowerCase()) return { why: "it isn't a name, a step and 64 hexadecimal digits, with one blank between" };
+    const step = Number(words[2]);
+    if (step === 0) return { why: "the line of step 0 is made of the name alone, so it binds nothing" };
+    if (step > LAST_STEP) return { why: `a step is at most ${LAST_STEP}` };
+    return { service: words[1], step, authenticator: words[3].toLowerCase() };
+}
+
+/**
+ * The lines of a file's bytes, or of a typed text: `lines` of {service, step, authenticator, number}, the number being that of the line in
+ * the file, from 1, and `bad` of {number, text, why}. Empty lines, and blanks around a line, are passed over.
+ */
+export function readLines(given) {
+    const lines = [], bad = [];
+    for (const [at, text] of (typeof given === "string" ? given : textOf(given)).split(/\r\n|\n|\r/).entries()) {
+        const trimmed = text.trim(), line = trimmed && readLine(trimmed);
+        if (line && line.why) bad.push({ number: at + 1, text: trimmed, why: line.why });
+        else if (line) lines.push({ ...line, number: at + 1 });
+    }
+    return { lines, bad };
+}
+
+const keyOf = ({ service, step }) => `${service} ${step}`;
+
+/** The lines by "NAME STEP": for each the first line of each authenticator, by that. */
+function groups(lines) {
+    const found = new Map();
+    for (const line of lines) {
+        const group = found.get(keyOf(line)) ?? new Map();
+        found.set(keyOf(line), group);
+        if (!group.has(line.authenticator)) group.set(line.authenticator, line);
+    }
+    return found;
+}
+
+/** The services and steps of which there are lines with different authenticators: each {service, step, lines}, one line of each authenticator. */
+export function contradictions(lines) {
+    return [...groups(lines).values()].filter((group) => group.size > 1).map((group) => {
+        const each = [...group.values()];
+        return { service: each[0].service, step: each[0].step, lines: each };
+    });
+}
+
+/** The sender's lines of which you hold another one of that service and step: each {service, step, lines}, yours and then the sender's. */
+export function contradicted(own, sent) {
+    const mine = groups(own);
+    const others = sent.filter((line) => mine.has(keyOf(line)) && !mine.get(keyOf(line)).has(line.authenticator));
+    return others.map((line) => ({ service: line.service, step: line.step, lines: [[...mine.get(keyOf(line)).values()][0], line] }));
+}
+
+/** The anchors file of these lines. */
+export const anchorsText = (lines) => lines.map(({ service, step, authenticator }) => `${service} ${step} ${authenticator}\n`).join("");
+
+/** The service and the step that the verifier asks for by its text, or null. */
+function askedFor(text) {
+    const words = /^rejected 3 NotHeld (\S+) (\d+)\n$/.exec(text);
+    return words && { service: words[1], step: Number(words[2]) };
+}
+
+/**
+ * Judges a proof under those of the lines that it asks for, which the verifier tells one after another. `judge` gives {status, text} for an
+ * anchors file; `pick` gives the line to hold for a service and a step, or what it lacks. Answers {answer, anchors}, and with them `missing`,
+ * {service, step} and what `pick` said, where a line that is asked for can't be held, as one of another step of its service is.
+ */
+export function chooseLines(judge, pick) {
+    const anchors = [];
+    for (;;) {
+        const answer = judge(anchorsText(anchors)), asked = askedFor(answer.text);
+        if (!asked) return { answer, anchors };
+        const other = anchors.find(({ service }) => service === asked.service);
+        const { line, lacks } = other ? { lacks: { other: other.step } } : pick(asked);
+        if (!line) return { answer, anchors, missing: { ...asked, ...lacks } };
+        anchors.push(line);
+    }
+}
+
+/**
+ * How a line is picked of those that count: your own, where they don't contradict each other or you chose one, and those of the sender that
+ * you made count. `own` and `sent` are lists of lines, `counted` the sender's lines that count, and `chosen` the authenticators that you chose,
+ * by "NAME STEP". What is lacking is told as `two` different lines of yours, or as the sender's `offered` lines.
+ */
+export function pickBy({ own, sent, counted, chosen }) {
+    const yours = groups(own), theirs = groups(sent);
+    return (asked) => {
+        const mine = yours.get(keyOf(asked)), wanted = chosen.get(keyOf(asked));
+        if (mine?.size > 1 && !mine.has(wanted)) return { lacks: { two: [...mine.values()] } };
+        if (mine) return { line: mine.get(wanted) ?? [...mine.values()][0] };
+        const offered = [...(theirs.get(keyOf(asked)) ?? new Map()).values()];
+        const line = offered.find((it) => counted.has(`${keyOf(it)} ${it.authenticator}`));
+        return line ? { line } : { lacks: { offered } };
+    };
+}

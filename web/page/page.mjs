@@ -1,0 +1,213 @@
+/** The page: takes files, has them judged, and shows what comes of it. */
+
+import { Timeweave } from "../timeweave.mjs";
+import { OWN, SENT, Session, readFile, takeFile } from "./session.mjs";
+import { contradictionAlerts, digestRows, element, heldFiles, summaryWords, verdictArticle } from "./view.mjs";
+import { hexOf } from "./words.mjs";
+
+const at = (id) => document.getElementById(id);
+const bytesOfBase64 = (text) => Uint8Array.from(atob(text), (it) => it.charCodeAt(0));
+const settled = () => new Promise((done) => setTimeout(done));
+
+/** Files above this size aren't held whole, so their digests aren't computed here. */
+const MOST_TO_DIGEST = 2 ** 30;
+
+const own = new Session();
+let session = own, alerted = own, timeweave, round = 0, judgements = [];
+
+// ---- digests
+
+async function sha256(bytes) {
+    if (!globalThis.crypto?.subtle) return "not computed here: open the page from disk, or over https";
+    return hexOf(new Uint8Array(await crypto.subtle.digest("SHA-256", bytes)));
+}
+
+async function digestOf(file) {
+    if (file.size > MOST_TO_DIGEST) return "not computed here: the file is larger than 1 GiB";
+    try {
+        return await sha256(await file.blob.arrayBuffer());
+    } catch {
+        return "not computed: the file can't be read any more";
+    }
+}
+
+async function digestAll(files) {
+    for (const file of files) file.digest ??= await digestOf(file);
+    at("digests").querySelector("tbody").replaceChildren(...digestRows(session.files));
+}
+
+// ---- showing
+
+/** Removes a file; who was at its button is at the field's choice of files then. */
+function remove(file) {
+    own.remove(file);
+    at(`${file.place}-files`).focus();
+    show();
+}
+
+function showFiles() {
+    const onRemove = session === own ? remove : null;
+    at("sent-held").replaceChildren(...heldFiles(session, SENT, onRemove));
+    at("own-held").replaceChildren(...heldFiles(session, OWN, onRemove));
+    at("shown-example").hidden = session === own;
+    const aside = own.files.length ? "Your own files are set aside." : "";
+    at("shown-example").firstElementChild.textContent = session === own ? "" : `Example: ${session.title}. ${aside}`;
+    for (const made of at("examples").querySelectorAll("button")) made.setAttribute("aria-pressed", String(made.textContent === session.title));
+    at("digests").hidden = !session.files.length;
+    at("digests").querySelector("tbody").replaceChildren(...digestRows(session.files));
+    at("clear").hidden = session !== own || !own.files.length;
+    at("print").hidden = !session.files.length;
+}
+
+/** The room for a picture in an article. */
+const room = () => at("judged").clientWidth - 40;
+
+function showVerdicts() {
+    const onCount = (line, counts) => {
+        session.counted[counts ? "add" : "delete"](`${line.service} ${line.step} ${line.authenticator}`);
+        at("verdicts").focus();
+        show();
+    };
+    const articles = judgements.map((judged) => verdictArticle(judged, { room: room(), onCount }));
+    const lacks = session.files.length ? "add a proof to what you were sent" : "add what you were sent, and the lines that you got another way";
+    at("judged").replaceChildren(...(articles.length ? articles : [element("p", { className: "none" }, `None yet: ${lacks}.`)]));
+}
+
+/** Tells of lines that contradict each other; what is told already stays, so that it isn't told again and who chooses there stays there. */
+function showAlerts() {
+    const alerts = contradictionAlerts(session, (key, authenticator) => {
+        session.chosen[authenticator ? "set" : "delete"](key, authenticator);
+        show();
+    });
+    const textOfAll = (elements) => elements.map((it) => it.textContent).join("\n");
+    const isTold = alerted === session && textOfAll(alerts) === textOfAll([...at("alerts").children]);
+    if (!isTold) at("alerts").replaceChildren(...alerts);
+    alerted = session;
+}
+
+/** Judges all proofs anew, and shows everything; what was begun before and isn't done is left. */
+async function show() {
+    const mine = ++round, held = session, found = [];
+    showFiles();
+    showAlerts();
+    for (const [number, proof] of held.proofs.entries()) {
+        if (number) {
+            at("progress").textContent = `Judging ${number + 1} of ${held.proofs.length}: ${proof.name}`;
+            await settled();
+        }
+        if (mine !== round) return;
+        found.push(held.judge(timeweave, proof));
+    }
+    judgements = found;
+    at("progress").textContent = "";
+    showVerdicts();
+    performance.mark("judged");
+    at("summary").textContent = summaryWords(found);
+    digestAll(held.files);
+}
+
+// ---- taking files
+
+/** Only one lot of files is taken at a time, in the order in which they came. */
+let taking = Promise.resolve();
+
+function take(files, place) {
+    const list = [...files];
+    taking = taking.then(() => takeAll(list, place)).then(show, (fault) => { at("progress").textContent = String(fault); });
+    return taking;
+}
+
+async function takeAll(files, place) {
+    session = own;
+    const problems = [];
+    for (const [number, file] of files.entries()) {
+        at("progress").textContent = `Reading ${number + 1} of ${files.length}: ${file.name}`;
+        await settled();
+        try {
+            if (!own.add(await takeFile(file, file.name, place))) problems.push(`${file.name} is there already.`);
+        } catch {
+            problems.push(`${file.name} can't be read: it is a folder, or it was moved.`);
+        }
+    }
+    at("problems")?.remove();
+    if (problems.length) at("progress").after(element("p", { id: "problems", className: "problem screen" }, problems.slice(0, 5).join(" ")));
+}
+
+function takeTyped() {
+    const text = at("typed").value, source = at("typed-from").value.trim(), bytes = new TextEncoder().encode(text);
+    if (!text.trim()) return at("typed").focus();
+    const from = source ? `typed, ${source}` : "typed";
+    const file = readFile({ name: "typed lines", size: bytes.length, blob: new Blob([bytes]), bytes, place: OWN, source: from });
+    session = own;
+    own.add(file);
+    if (file.lines.length && !file.bad.length) at("typed").value = "";
+    show();
+}
+
+function watchField(id, place) {
+    const field = at(id);
+    at(`${id}-files`).addEventListener("change", (event) => {
+        take(event.target.files, place);
+        event.target.value = "";
+    });
+    field.addEventListener("dragover", () => field.classList.add("over"));
+    for (const name of ["dragleave", "drop"]) field.addEventListener(name, () => field.classList.remove("over"));
+    field.addEventListener("drop", (event) => take(event.dataTransfer.files, place));
+}
+
+/** A file that is dropped beside the fields isn't opened in place of the page. */
+function watchDocument() {
+    document.addEventListener("dragover", (event) => event.preventDefault());
+    document.addEventListener("drop", (event) => {
+        event.preventDefault();
+        if (event.target.closest?.(".field")) return;
+        at("progress").textContent = "Drop the files on one of the two fields: what you were sent, or lines that you got another way.";
+    });
+    let width = room();
+    addEventListener("resize", () => {
+        if (room() === width) return;
+        width = room();
+        showVerdicts();
+    });
+}
+
+// ---- examples
+
+function exampleSession({ title, files }) {
+    const made = Object.assign(new Session(), { title });
+    for (const { name, place, base64 } of files) {
+        const bytes = bytesOfBase64(base64);
+        made.add(readFile({ name, size: bytes.length, blob: new Blob([bytes]), bytes, place }));
+    }
+    return made;
+}
+
+function offerExamples() {
+    for (const example of JSON.parse(at("example-files").textContent)) {
+        at("examples").append(element("button", { type: "button", onclick: () => { session = exampleSession(example); show(); } }, example.title));
+    }
+}
+
+// ---- begin
+
+async function begin() {
+    const module = bytesOfBase64(at("module").textContent);
+    timeweave = new Timeweave(await WebAssembly.compile(module));
+    at("version").textContent = timeweave.version();
+    watchField("sent", SENT);
+    watchField("own", OWN);
+    watchDocument();
+    offerExamples();
+    at("add-typed").addEventListener("click", takeTyped);
+    at("leave-example").addEventListener("click", () => { session = own; show(); });
+    at("clear").addEventListener("click", () => { own.files = []; own.forget(); show(); });
+    at("print").addEventListener("click", () => print());
+    document.documentElement.dataset.ready = "yes";
+    performance.mark("ready");
+    at("module-sum").textContent = await sha256(module);
+}
+
+begin().catch((fault) => {
+    const said = `This browser can't run the verifier (${fault.message}). Use a newer one, or the command \`timeweave verify\`.`;
+    at("judged").replaceChildren(element("p", { className: "alert" }, said));
+});

@@ -1,0 +1,83 @@
+import assert from "node:assert/strict";
+import { test } from "node:test";
+import { anchorsText, chooseLines, contradicted, contradictions, pickBy, readLines } from "../page/lines.mjs";
+
+const A = "a".repeat(64), B = "b".repeat(64);
+const line = (service, step, authenticator = A) => ({ service, step, authenticator });
+const plain = ({ service, step, authenticator, number }) => [service, step, authenticator, number];
+
+test("lines are read with the numbers of their lines; empty ones, blanks around and ends of Windows are passed over", () => {
+    const { lines, bad } = readLines(`\n  shop 2 ${A}\r\nmaker-1 1099511627775 ${B.toUpperCase()}  \n\n`);
+    assert.deepEqual(lines.map(plain), [["shop", 2, A, 2], ["maker-1", 1099511627775, B, 3]]);
+    assert.deepEqual(bad, []);
+});
+
+test("bytes are read as UTF-8, with or without a mark, and as UTF-16 by its mark", () => {
+    const text = `shop 2 ${A}\n`, wide = (swap) => Uint8Array.from([...`\ufeff${text}`].flatMap((it) => [it.charCodeAt(0) & 255, it.charCodeAt(0) >> 8]).map((it, at, all) => (swap ? all[at ^ 1] : it)));
+    for (const bytes of [new TextEncoder().encode(text), new TextEncoder().encode(`\ufeff${text}`), wide(false), wide(true)]) assert.equal(readLines(bytes).lines.length, 1);
+});
+
+test("a line that is none is told with its number and why", () => {
+    const given = ["", "Shop 2 " + A, `shop 02 ${A}`, `shop 2  ${A}`, `shop 2 ${A}a`, `shop -1 ${A}`, `${"s".repeat(17)} 1 ${A}`, `shop 0 ${A}`, `shop 1099511627776 ${A}`, "<b>shop</b>"];
+    const { lines, bad } = readLines(given.join("\n"));
+    assert.equal(lines.length, 0);
+    assert.deepEqual(bad.map(({ number }) => number), [2, 3, 4, 5, 6, 7, 8, 9, 10]);
+    assert.match(bad[6].why, /step 0/);
+    assert.match(bad[7].why, /at most 1099511627775/);
+});
+
+test("lines of one service and step with different authenticators contradict each other; equal ones and other steps don't", () => {
+    assert.deepEqual(contradictions([line("shop", 2), line("shop", 2), line("shop", 3, B), line("bank", 2, B)]), []);
+    const found = contradictions([line("shop", 2), line("shop", 2), line("shop", 2, B)]);
+    assert.deepEqual(found.map((it) => [it.service, it.step, it.lines.map((at) => at.authenticator)]), [["shop", 2, [A, B]]]);
+});
+
+/** A verifier that wants these lines, one after another, and then accepts. */
+const wanting = (...wanted) => (anchors) => {
+    const missing = wanted.find((it) => !anchors.includes(`${it} `));
+    return missing ? { status: 1, text: `rejected 3 NotHeld ${missing}\n` } : { status: 0, text: "accepted exists\n" };
+};
+const none = { own: [], sent: [], counted: new Set(), chosen: new Map() };
+
+test("of many lines those are held that the verifier asks for, and no other", () => {
+    const own = [line("a", 1), line("a", 2), line("b", 7), line("c", 1)];
+    const { answer, anchors, missing } = chooseLines(wanting("b 7", "a 2"), pickBy({ ...none, own }));
+    assert.equal(answer.status, 0);
+    assert.equal(anchorsText(anchors), `b 7 ${A}\na 2 ${A}\n`);
+    assert.equal(missing, undefined);
+});
+
+test("a line that isn't there is told, with those that were held before", () => {
+    const { answer, anchors, missing } = chooseLines(wanting("b 7", "a 2"), pickBy({ ...none, own: [line("b", 7)] }));
+    assert.deepEqual([answer.text, anchorsText(anchors), missing], ["rejected 3 NotHeld a 2\n", `b 7 ${A}\n`, { service: "a", step: 2, offered: [] }]);
+});
+
+test("a sender's line counts only once it is said so, and none of yours is passed over for it", () => {
+    const sent = [line("a", 2)], given = { ...none, sent };
+    assert.deepEqual(chooseLines(wanting("a 2"), pickBy(given)).missing, { service: "a", step: 2, offered: sent });
+    assert.equal(chooseLines(wanting("a 2"), pickBy({ ...given, counted: new Set([`a 2 ${A}`]) })).answer.status, 0);
+    const { anchors } = chooseLines(wanting("a 2"), pickBy({ ...given, own: [line("a", 2, B)], counted: new Set([`a 2 ${A}`]) }));
+    assert.equal(anchors[0].authenticator, B);
+});
+
+test("of lines of yours that contradict each other none counts until one is chosen", () => {
+    const own = [line("a", 2), line("a", 2, B)], given = { ...none, own };
+    assert.deepEqual(chooseLines(wanting("a 2"), pickBy(given)).missing, { service: "a", step: 2, two: own });
+    assert.equal(chooseLines(wanting("a 2"), pickBy({ ...given, chosen: new Map([["a 2", B]]) })).anchors[0].authenticator, B);
+});
+
+test("two steps of one service that are asked for are told: one line of a service counts", () => {
+    const { missing } = chooseLines(wanting("a 2", "a 5"), pickBy({ ...none, own: [line("a", 2), line("a", 5)] }));
+    assert.deepEqual(missing, { service: "a", step: 5, other: 2 });
+});
+
+test("another answer of the verifier ends the choice", () => {
+    for (const text of ["rejected 1 Malformed 5\n", "rejected 2 BadOrder\n", "unreadable anchors line 65\n"]) {
+        assert.deepEqual(chooseLines(() => ({ status: 1, text }), () => assert.fail()), { answer: { status: 1, text }, anchors: [] });
+    }
+});
+
+test("a sender's line that contradicts one of yours is told beside it", () => {
+    const own = [line("a", 2), line("a", 3)], sent = [line("a", 2), line("a", 3, B), line("b", 1)];
+    assert.deepEqual(contradicted(own, sent), [{ service: "a", step: 3, lines: [own[1], sent[1]] }]);
+});

@@ -1,0 +1,463 @@
+#!/usr/bin/env python3
+"""Tries the built page in a browser without a connection, as a user meets it, and compares what it says with what the program says.
+
+    python3 web/tests/try_page.py PROGRAM [chromium | firefox] [PICTURES]     tells each situation, and puts pictures into the folder
+
+Each situation is a function; its docstring says what it shows.
+"""
+
+import os
+import re
+import shutil
+import subprocess
+import sys
+import tempfile
+import time
+from pathlib import Path
+
+sys.path.insert(0, str(Path(__file__).resolve().parent))
+
+from browsers import Chromium, Failed, Firefox, is_there  # noqa: E402
+from made import MARKUP, MOST_HOPS, TOP, all_made, authenticator_of, other_line  # noqa: E402
+
+PAGE = TOP / "web/timeweave.html"
+BROWSERS = {"chromium": Chromium, "firefox": Firefox}
+
+# The most milliseconds from opening the page to the first verdict.
+MOST_MILLISECONDS = 300
+
+
+class Wrong(Exception):
+    """The page says or does something else."""
+
+
+def check(holds, what):
+    if not holds:
+        raise Wrong(what)
+
+
+class Page:
+    """The page in a browser, and the files to try it with."""
+
+    def __init__(self, browser, made):
+        self.browser, self.made = browser, made
+
+    def fresh(self):
+        """Opens it anew."""
+        self.browser.asked.clear()
+        self.browser.open(PAGE)
+        return self
+
+    def settle(self, number):
+        """Waits until so many files are there, and all proofs of them are judged."""
+        self.browser.wait(f"document.querySelectorAll('#digests tbody tr').length === {number} && document.querySelector('#progress').textContent === ''")
+        self.browser.wait("document.querySelectorAll('.held li').length > 0 && [...document.querySelectorAll('#digests code')].every(it => it.textContent !== 'being computed')")
+
+    def give(self, place, *names):
+        """Chooses files for a field, and waits for what comes of it."""
+        there = self.browser.value("document.querySelectorAll('#digests tbody tr').length")
+        self.browser.choose(f"#{place}-files", [self.made.path(name) for name in names])
+        self.settle(there + len(names))
+        return self
+
+    def text(self, selector="#verdicts"):
+        return self.browser.text(selector)
+
+    def titles(self):
+        return self.browser.value("[...document.querySelectorAll('.verdict h3')].map(it => it.textContent)")
+
+    def exact(self, number=0):
+        """The exact texts of a verdict: of the verifier, and of its strict form."""
+        return self.browser.value(f"[...document.querySelectorAll('.verdict')[{number}].querySelectorAll('h4')].filter(it => it.textContent.startsWith('Exact')).map(it => it.nextElementSibling.textContent)")
+
+    def says(self, *wanted, selector="#verdicts"):
+        text = self.text(selector)
+        for it in wanted:
+            check(it in text, f"not in the text: {it!r}\n{text}")
+
+    def is_as_told(self, file, lines):
+        """The exact texts are those that the program writes."""
+        told, strict = self.made.judged(file, lines), self.made.judged(file, lines, "strict")
+        wanted = [told, strict] if told.startswith("accepted") and strict != told else [told]
+        check(self.exact() == wanted, f"{file}: the page says {self.exact()}, the program {wanted}")
+
+
+# ---- situations
+
+
+def accepted_record(page):
+    """a record is accepted, told in a sentence and by the program's text, with the line that counted and where it is from"""
+    page.fresh().give("sent", "record.proof").give("own", "shop.lines")
+    page.is_as_told("record.proof", page.made.lines["shop"])
+    page.says("Accepted", "shop recorded the event “milk” in its step 1", "claims the time 2023-11-14 22:13:20 UTC", page.made.lines["shop"].strip(), "got another way: shop.lines, line 1")
+
+
+def files_dropped(page):
+    """files that are dropped are taken as chosen ones are; beside the fields they are told where to go"""
+    if not hasattr(page.browser, "drop"):
+        return
+    page.fresh()
+    page.browser.drop("#sent", [page.made.path("bound.proof")])
+    page.settle(1)
+    page.browser.drop("#own", [page.made.path("both.lines")])
+    page.settle(2)
+    page.is_as_told("bound.proof", page.made.lines["shop"] + page.made.lines["registry"])
+    page.browser.drop("h1", [page.made.path("record.proof")])
+    page.browser.wait("document.querySelector('#progress').textContent.startsWith('Drop the files on one of the two fields')")
+    check(page.browser.value("document.querySelectorAll('#digests tbody tr').length") == 2, "a file that was dropped beside the fields was taken")
+
+
+def one_by_one(page):
+    """files come one by one; until a line is there, it is told which is needed, and what to do"""
+    page.fresh().give("sent", "bound.proof")
+    page.says("Not judged", "needs the line of step 2 of registry, which you don't hold", "from somebody other than the sender")
+    page.give("own", "shop.lines")
+    page.says("Not judged", "step 2 of registry")
+    page.made.put("registry.lines", page.made.lines["registry"])
+    page.give("own", "registry.lines")
+    check(page.titles() == ["✔ Accepted"], str(page.titles()))
+    page.browser.click("[aria-label='Remove registry.lines']")
+    page.browser.wait("document.querySelector('.verdict h3').textContent.includes('Not judged')")
+    page.give("sent", "old-record.proof")
+    page.says("or ask for the proof under a step of shop that you hold a line of: 3")
+
+
+def all_kinds(page):
+    """each kind of proof has its sentence, its exact text and its picture"""
+    both = page.made.lines["registry"], page.made.lines["shop"]
+    for file, lines, sentence in (
+        ("record.proof", both[1], "shop recorded the event “milk” in its step 1"),
+        ("bound.proof", "".join(both), "in its step 1 before registry recorded the event “entry of the registry” in its step 2"),
+        ("thread.proof", both[0], "registry received a line of step 2 of shop; it did so in its own step 1"),
+        ("absent.proof", both[0], "Up to its step 1, registry received no line of step 1 of shop"),
+        ("link.proof", both[1], "The line of step 2 of shop and the line of its step 3 that counts here are of one history"),
+    ):
+        page.fresh().give("sent", file).give("own", "both.lines")
+        page.is_as_told(file, lines)
+        page.says(sentence)
+        check(page.browser.value("document.querySelectorAll('figure svg').length") > 0, f"{file} has no picture")
+
+
+def on_a_word(page):
+    """a thread that no line binds is told as its receiver's word, and the strict form's refusal with it"""
+    page.fresh().give("sent", "word.proof").give("own", "both.lines")
+    page.is_as_told("word.proof", page.made.lines["registry"])
+    page.says("Accepted, but in part on somebody's word", "Only registry says that step 2 of shop was so", "The strict form refuses it (rejected 8 Carried 1)", "not bound")
+
+
+def senders_lines(page):
+    """the sender's lines are grey and don't count; each counts after a click, which is told"""
+    page.made.put("sent.lines", page.made.lines["shop"] + page.made.lines["registry"])
+    page.fresh().give("sent", "bound.proof", "sent.lines")
+    page.says("From the sender: they prove nothing against him", selector="#sent-held")
+    page.says("Not judged", "which only the sender gave you", "It proves nothing against him")
+    for _ in range(2):
+        page.browser.click(".verdict .sender button")
+        page.browser.wait("document.querySelector('#progress').textContent === ''")
+    check(page.titles() == ["◐ Accepted, by the sender's own lines"], str(page.titles()))
+    page.says("from the sender, in sent.lines, line 1; it counts since you said so", "2 lines that counted came from the sender: against him this proves nothing")
+    page.is_as_told("bound.proof", "".join(page.made.lines[name] for name in ("registry", "shop")))
+    page.give("own", "both.lines")
+    check(page.titles() == ["✔ Accepted"], str(page.titles()))
+
+
+def contradicting_lines(page):
+    """lines that contradict each other are told, and none counts until one is chosen; the sender's against yours are told too"""
+    page.fresh().give("sent", "record.proof").give("own", "shop.lines", "other.lines")
+    page.says("Your lines of step 3 of shop contradict each other", selector="#alerts")
+    page.says("Not judged", "you hold 2 different ones")
+    page.browser.value("document.querySelector('#alerts label:nth-of-type(1) input').focus()")
+    page.browser.click("#alerts label:nth-of-type(1) input")
+    page.browser.wait("document.querySelector('.verdict h3').textContent.includes('Accepted')")
+    check(page.browser.value("document.activeElement.type") == "radio", "who chose a line isn't at the choice any more")
+    page.browser.click("#alerts label:nth-of-type(2) input")
+    page.browser.wait("document.querySelector('.verdict h3').textContent.includes('Rejected')")
+    page.is_as_told("record.proof", other_line(page.made.lines["shop"]))
+    page.says("The proof doesn't lead to the line that you hold", "Compare your line with whoever else has one")
+    page.fresh().give("own", "shop.lines").give("sent", "record.proof", "other.lines")
+    page.says("The sender's line of step 3 of shop contradicts yours", selector="#alerts")
+    check(page.titles() == ["✔ Accepted"], str(page.titles()))
+
+
+def shown_line_differs(page):
+    """a line that a proof shows is held against yours of that step"""
+    page.made.put("false.lines", page.made.lines["registry"] + other_line(page.made.lines["shop 2"]))
+    page.fresh().give("sent", "thread.proof").give("own", "false.lines")
+    page.says("You hold another one of that step", "two histories")
+    page.made.put("true.lines", page.made.lines["registry"] + page.made.lines["shop 2"])
+    page.fresh().give("sent", "thread.proof").give("own", "true.lines")
+    page.says("It is the one that you hold")
+
+
+def changed_files(page):
+    """changed and cut proofs and junk are rejected with the program's text and what to do"""
+    for file, lines, wanted in (
+        ("changed.proof", page.made.lines["shop"], "The event in the proof isn't the one that was recorded"),
+        ("cut.proof", "", "it ends after 100 bytes"),
+        ("junk", "", "The file is no proof: at its byte 0"),
+    ):
+        page.fresh().give("own", "shop.lines").give("sent", file)
+        page.is_as_told(file, lines)
+        page.says("Rejected", wanted, "What to do:")
+
+
+def what_is_no_proof(page):
+    """maps, other files of Timeweave and bad lines are told, each with the command for it or what is wrong"""
+    page.fresh().give("sent", "low.map", "high.map", "shop.history").give("own", "bad.lines")
+    page.says("`timeweave checkmap LOW HIGH ANCHORS` does", "This is a whole history, and no proof", selector="#sent-held")
+    page.says("Line 1 doesn't count", "Line 3 doesn't count: the line of step 0", selector="#own-held")
+    page.give("own", "record.proof")
+    page.says("it was put among what you were sent", selector="#sent-held")
+    check(page.titles() == ["✔ Accepted"], str(page.titles()))
+
+
+def is_idle():
+    """Whether the machine has a processor to spare: else times say nothing."""
+    return os.getloadavg()[0] < os.cpu_count() - 1
+
+
+def timed(page, place, file, condition):
+    """The seconds until the condition holds behind the choice of a file, of which the page tells at once that it is being read."""
+    page.browser.value("(() => { window.told = []; new MutationObserver(() => window.told.push(document.querySelector('#progress').textContent)).observe(document.querySelector('#progress'), { childList: true }); return 1; })()")
+    begun = time.monotonic()
+    page.browser.choose(f"#{place}-files", [page.made.path(file)])
+    page.browser.wait(condition)
+    seconds = time.monotonic() - begun
+    told = page.browser.value("window.told")
+    check(f"Reading 1 of 1: {file}" in told, f"no progress is told of {file}: {told}")
+    check(seconds < 1 or not is_idle(), f"{file} takes {seconds:.2f} seconds")
+
+
+def large_files(page):
+    """a proof and a file of lines of 200 MB and 10,000 lines are told with progress, within a second where the machine is idle; of the lines those that are needed count"""
+    page.fresh()
+    timed(page, "sent", "huge.proof", "document.querySelector('.verdict')")
+    check(page.exact() == [page.made.judged("huge.proof", "")], str(page.exact()))
+    page.fresh()
+    timed(page, "own", "huge.lines", "document.querySelector('#own-held').textContent.includes('longer than any file of lines')")
+    page.fresh().give("sent", "bound.proof")
+    timed(page, "own", "many.lines", "document.querySelector('.verdict h3').textContent.includes('Accepted')")
+    page.says("10,000 lines", selector="#own-held")
+    check(page.browser.value("document.querySelectorAll('.lines-that-count li').length") == 2, "other lines count than are needed")
+
+
+def markup_in_events(page):
+    """events are text: markup isn't run, what turns other text around and what is no text is shown by its bytes"""
+    page.fresh().give("sent", "markup.proof", "turned.proof", "binary.proof", "foreign.proof").give("own", "shop.lines")
+    page.says(MARKUP, "(2 bytes that are no text)", "00ff", "Käse, גבינה")
+    check(page.browser.value("document.querySelectorAll('.verdict img, .verdict script').length") == 0, "markup of an event stands in the page")
+    check(page.browser.value("document.title") == "Timeweave: check a proof", "markup of an event ran")
+    check("\u202e" not in page.text(), "a character that turns text around is shown as it is")
+
+
+def strange_names(page):
+    """a file's name is text too"""
+    name = "<b>x<b> .proof"
+    page.made.put(name, page.made.path("record.proof").read_bytes())
+    page.fresh().give("sent", name).give("own", "shop.lines")
+    page.says(name)
+    check(page.browser.value("document.querySelectorAll('bdi b').length") == 0, "markup of a name stands in the page")
+
+
+def most_hops(page):
+    """a proof over 64 hops is told hop by hop, as a list that is as wide as the page"""
+    page.fresh().give("sent", "long.proof").give("own", "long.lines")
+    lines = [f"{service} {step} {hexed}\n" for service, step, hexed in (line.split() for line in page.made.path("long.lines").read_text().splitlines())]
+    page.is_as_told("long.proof", "".join(lines))
+    check(page.browser.value("document.querySelectorAll('.way li').length") > 2 * MOST_HOPS - 2, "the list is short")
+    check(page.browser.value("document.documentElement.scrollWidth <= innerWidth"), "the list is wider than the page")
+    page.says("station-63, step 1 received step 1 of station-62", "letter delivered")
+    check(page.browser.asked == [], f"the page asked for or met: {page.browser.asked}")
+
+
+def narrow_and_wide(page):
+    """at 360, 800 and 1,600 pixels nothing is wider than the page"""
+    for width in (360, 800, 1600):
+        page.browser.shape(width)
+        for file in ("bound.proof", "word.proof", "long.proof"):
+            page.fresh().give("sent", file).give("own", "both.lines", "long.lines")
+            found = page.browser.value("[document.documentElement.scrollWidth, innerWidth]")
+            check(found[0] <= found[1], f"{file} at {width} pixels is {found[0]} wide")
+    page.browser.shape(1040)
+
+
+def examples_stay_apart(page):
+    """an example is shown by itself, and the user's files are there again behind it"""
+    page.fresh().give("sent", "record.proof").give("own", "shop.lines")
+    for title, verdict in (("a record", "Accepted"), ("what came first", "Accepted"), ("on somebody's word", "Accepted, but"), ("a changed proof", "Rejected")):
+        number = [it.strip() for it in page.browser.value("[...document.querySelectorAll('#examples button')].map(it => it.textContent)")].index(title) + 1
+        page.browser.click(f"#examples button:nth-of-type({number})")
+        page.browser.wait(f"document.querySelector('.verdict h3')?.textContent.includes('{verdict}') && document.querySelectorAll('.verdict').length === 1")
+        page.says(f"Example: {title}", "Your own files are set aside", selector="#shown-example")
+        check("record.proof" not in page.text("#verdicts") or title == "a record", "a file of the user stands in the example")
+    page.browser.click("#leave-example")
+    page.browser.wait("document.querySelector('#shown-example').hidden")
+    page.is_as_told("record.proof", page.made.lines["shop"])
+    page.browser.click("#examples button")
+    page.browser.choose("#own-files", [page.made.path("both.lines")])
+    page.browser.wait("document.querySelector('#shown-example').hidden && document.querySelectorAll('#digests tbody tr').length === 3")
+
+
+def typed_lines(page):
+    """lines are typed too, with where they are from"""
+    page.fresh().give("sent", "record.proof")
+    line = page.made.lines["shop"].strip()
+    page.browser.value(f"(() => {{ document.querySelector('#typing').open = true; document.querySelector('#typed').value = '{line}'; document.querySelector('#typed-from').value = 'the gazette'; return 1; }})()")
+    page.browser.click("#add-typed")
+    page.browser.wait("document.querySelector('.verdict h3').textContent.includes('Accepted')")
+    page.says("got another way: typed, the gazette, line 1")
+
+
+def digests_shown(page):
+    """the digests of all files are shown"""
+    page.fresh().give("sent", "record.proof").give("own", "shop.lines")
+    wanted = [subprocess.run(["sha256sum", page.made.path(name)], capture_output=True, text=True, check=True).stdout.split()[0] for name in ("record.proof", "shop.lines")]
+    page.says(*wanted, selector="#digests")
+
+
+def keyboard_alone(page):
+    """all of it is reached by the keyboard, in the order of the page, and named for a screen reader"""
+    page.fresh().give("sent", "record.proof").give("own", "shop.lines")
+    if hasattr(page.browser, "press"):
+        page.browser.value("(document.activeElement?.blur(), window.reached = [], 1)")
+        for _ in range(16):
+            page.browser.press("Tab", 9)
+            page.browser.value("window.reached.push(document.activeElement.id || document.activeElement.getAttribute('aria-label') || document.activeElement.textContent)")
+        reached = page.browser.value("window.reached")
+        order = [it for it in reached if it in ("sent-files", "own-files", "print", "clear", "Remove record.proof", "Remove shop.lines")]
+        check(order == ["sent-files", "Remove record.proof", "own-files", "Remove shop.lines", "print", "clear"], f"the keyboard reaches {reached}")
+    nameless = page.browser.value("[...document.querySelectorAll('button, input, textarea, select, svg[role=img]')].filter(it => !(it.getAttribute('aria-label') || it.labels?.length || it.textContent.trim())).map(it => it.outerHTML)")
+    check(nameless == [], f"without a name: {nameless}")
+    check(page.browser.value("document.querySelector('#summary').getAttribute('aria-live') === 'polite' && document.querySelector('#summary').textContent.includes('Accepted')"), "the verdict isn't told to a screen reader")
+
+
+def contrast(page):
+    """texts stand out against what they are on by 4.5 to 1 at least, in light and in dark"""
+    script = """(() => {
+        const rgb = (text) => text.match(/[\\d.]+/g).map(Number), light = (c) => { const v = c / 255; return v <= 0.04045 ? v / 12.92 : ((v + 0.055) / 1.055) ** 2.4; };
+        const lum = ([r, g, b]) => 0.2126 * light(r) + 0.7152 * light(g) + 0.0722 * light(b);
+        const ground = (it) => { for (; it; it = it.parentElement) { const c = rgb(getComputedStyle(it).backgroundColor); if (c.length < 4 || c[3] > 0) return c; } return [255, 255, 255]; };
+        return [...document.querySelectorAll('p, li, h1, h2, h3, h4, code, pre, button, span, td, th, figcaption, svg text')].filter((it) => it.textContent.trim() && it.getClientRects().length).map((it) => {
+            const style = getComputedStyle(it), a = lum(rgb(it.closest('svg') ? style.fill : style.color)), b = lum(ground(it));
+            return [(Math.max(a, b) + 0.05) / (Math.min(a, b) + 0.05), it.className.baseVal ?? it.className, it.textContent.slice(0, 40)];
+        }).filter(([ratio]) => ratio < 4.5);
+    })()"""
+    for dark in (False, True):
+        page.browser.shape(1040, dark=dark)
+        for file in ("bound.proof", "word.proof", "changed.proof", "absent.proof"):
+            page.fresh().give("sent", file, "other.lines").give("own", "both.lines", "bad.lines")
+            found = page.browser.value(script)
+            check(found == [], f"{file}{', dark' if dark else ''}: {found}")
+    page.browser.shape(1040)
+
+
+def printed(page):
+    """the printed sheet has the verdict, the lines and where they are from, and the digests; and none of the fields"""
+    if not hasattr(page.browser, "print") or not shutil.which("pdftotext"):
+        return
+    page.fresh().give("sent", "word.proof").give("own", "both.lines")
+    with tempfile.TemporaryDirectory() as folder:
+        page.browser.print(f"{folder}/sheet.pdf")
+        text = subprocess.run(["pdftotext", "-layout", f"{folder}/sheet.pdf", "-"], capture_output=True, text=True, check=True).stdout
+    joined = re.sub(r"\s+", " ", text)
+    for wanted in ("Accepted, but in part on somebody's word", "Only registry says", "got another way: both.lines", authenticator_of(page.made.lines["registry"])[:40], "carried shop 2", "Not the day by a clock"):
+        check(wanted in joined, f"not in the sheet: {wanted!r}\n{text}")
+    for left in ("Choose files", "See an example", "Remove all files"):
+        check(left not in joined, f"in the sheet: {left!r}")
+
+
+def no_connection(page):
+    """the page asks for nothing, its policy lets it ask for nothing, and nothing in it is refused or thrown"""
+    page.fresh().give("sent", "bound.proof").give("own", "both.lines")
+    check(page.browser.asked == [], f"the page asked for or met: {page.browser.asked}")
+    policy = page.browser.value("document.querySelector('meta[http-equiv]').content")
+    check("unsafe-inline" not in policy and all(it in policy for it in ("default-src 'none'", "'wasm-unsafe-eval'", "base-uri 'none'", "form-action 'none'")), policy)
+    refused = page.browser.value("(() => { try { const it = new XMLHttpRequest(); it.open('GET', 'http://127.0.0.1:9/', false); it.send(); return 'sent'; } catch { return 'refused'; } })()")
+    check(refused == "refused", "the policy lets the page ask")
+
+
+def first_verdict(page):
+    """from opening the page to the first verdict it takes 300 milliseconds at most, where the machine is idle"""
+    best = min(milliseconds_to_verdict(page) for _ in range(5 if is_idle() else 1))
+    check(best <= MOST_MILLISECONDS or not is_idle(), f"{best:.0f} milliseconds")
+
+
+def milliseconds_to_verdict(page):
+    """From the navigation until the page is ready, and from a click on an example until its verdict stands."""
+    page.fresh()
+    return page.browser.value("""(() => {
+        const ready = performance.getEntriesByName('ready')[0].startTime, begun = performance.now();
+        document.querySelector('#examples button:nth-of-type(2)').click();
+        return ready + performance.getEntriesByName('judged').at(-1).startTime - begun;
+    })()""")
+
+
+SITUATIONS = (
+    accepted_record, files_dropped, one_by_one, all_kinds, on_a_word, senders_lines, contradicting_lines, shown_line_differs, changed_files, what_is_no_proof, large_files,
+    markup_in_events, strange_names, most_hops, narrow_and_wide, examples_stay_apart, typed_lines, digests_shown, keyboard_alone, contrast, printed, no_connection, first_verdict,
+)
+
+
+def tried(browser, made):
+    """Each situation with what was wrong, or None."""
+    page = Page(browser, made)
+    for situation in SITUATIONS:
+        try:
+            situation(page)
+            yield situation, None
+        except (Wrong, Failed) as wrong:
+            yield situation, str(wrong)
+
+
+PICTURED = (
+    ("record.proof", "both.lines"), ("bound.proof", "both.lines"), ("word.proof", "both.lines"), ("changed.proof", "shop.lines"),
+    ("long.proof", "long.lines"), ("thread.proof", "both.lines"), ("absent.proof", "both.lines"), ("link.proof", "both.lines"),
+)
+
+
+def pictures(page, folder):
+    """Puts pictures of the page into a folder: of each kind of proof at three widths, light and dark, and printed; and those of the documents."""
+    folder.mkdir(exist_ok=True)
+    for file, lines in PICTURED:
+        name, page_of = file.removesuffix(".proof"), page.browser
+        for width in (360, 800, 1600):
+            for dark in (False, True) if hasattr(page_of, "drop") else (False,):
+                page_of.shape(width, dark=dark)
+                page.fresh().give("sent", file).give("own", lines)
+                page_of.picture(folder / f"{name}-{width}{'-dark' if dark else ''}.png", width, dark)
+        if hasattr(page_of, "print"):
+            page_of.print(folder / f"{name}.pdf")
+    of_documents(page, folder)
+
+
+def of_documents(page, folder):
+    """The pictures of docs/: what the page says of two of its examples."""
+    page.browser.shape(900)
+    for number, name in ((2, "page"), (3, "page-word")):
+        page.fresh().browser.click(f"#examples button:nth-of-type({number})")
+        page.browser.wait("document.querySelector('.verdict')")
+        page.browser.picture(folder / f"{name}.png", 900, selector=".verdict")
+
+
+def main():
+    if len(sys.argv) < 2:
+        sys.exit(__doc__)
+    program, name = os.path.abspath(sys.argv[1]), sys.argv[2] if len(sys.argv) > 2 else "chromium"
+    if not is_there(BROWSERS[name]):
+        sys.exit(f"{BROWSERS[name].name} isn't there")
+    failed = 0
+    with tempfile.TemporaryDirectory() as folder:
+        made = all_made(program, folder)
+        browser = BROWSERS[name](folder)
+        if len(sys.argv) > 3:
+            pictures(Page(browser, made), Path(sys.argv[3]))
+        else:
+            for situation, wrong in tried(browser, made):
+                failed += wrong is not None
+                print(f"{'FAILED' if wrong else 'passed'} {situation.__doc__.strip()}" + (f"\n{wrong}" if wrong else ""), flush=True)
+        browser.close()
+    return 1 if failed else 0
+
+
+if __name__ == "__main__":
+    sys.exit(main())

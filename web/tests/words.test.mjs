@@ -1,0 +1,69 @@
+import assert from "node:assert/strict";
+import { test } from "node:test";
+import { readReport } from "../timeweave.mjs";
+import { carriedNotes, eventWords, missingWords, reasonWords, shownLineNotes, shownSentence, shownText, strictSentence, timeNote, timeWords } from "../page/words.mjs";
+
+const A = "a".repeat(64), B = "b".repeat(64), bytes = (text) => new TextEncoder().encode(text);
+const report = (...lines) => readReport(`${lines.join("\n")}\n`);
+
+test("an event is told by its text where that can be shown as it is, else by its size", () => {
+    assert.equal(eventWords(bytes("milk")), "“milk”");
+    assert.equal(eventWords(bytes("<b>milk</b>")), "“<b>milk</b>”");
+    assert.equal(eventWords(bytes("")), "(no bytes)");
+    assert.equal(eventWords(bytes("first\nsecond")), "“first…”");
+    assert.equal(eventWords(bytes("x".repeat(100)), 10), `“${"x".repeat(9)}…”`);
+    assert.equal(eventWords(bytes("Käse")), "“\u2068Käse\u2069”");
+    for (const strange of ["a\u202eb", "a\u0000b", "a\u2066b", "a\u2028b", "\u001b[31m"]) assert.equal(shownText(bytes(strange)), null);
+    assert.equal(eventWords(Uint8Array.of(0xff, 0xfe)), "(2 bytes that are no text)");
+});
+
+test("a time is a date where it is one", () => {
+    assert.equal(timeWords(0), "1970-01-01 00:00:00 UTC");
+    assert.equal(timeWords(253402300799), "9999-12-31 23:59:59 UTC");
+    assert.equal(timeWords(1099511627775), "second 1099511627775");
+});
+
+test("each kind has its sentence", () => {
+    const anchors = [{ service: "shop", step: 9 }], sentence = (...lines) => shownSentence(report(...lines), anchors);
+    assert.equal(sentence("accepted exists", "event shop 1 1 6d696c6b"), "shop recorded the event “milk” in its step 1, at index 1 there. It stood there when the line of step 9 was made.");
+    assert.equal(sentence("accepted precedes", "event a 1 0 61", "event b 5 0 62", "hop a 1 b 2"), "a recorded the event “a” in its step 1 before b recorded the event “b” in its step 5.");
+    assert.equal(sentence(`accepted thread`, `thread b 5 a 3 ${A} 4`), "b received a line of step 3 of a; it did so in its own step 4.");
+    assert.equal(sentence("accepted absent", "absent b 5 a 3"), "Up to its step 5, b received no line of step 3 of a.");
+    assert.equal(sentence("accepted link", `link a 3 9 ${A}`), "The line of step 3 of a and the line of its step 9 that counts here are of one history.");
+    assert.match(timeNote(report("accepted exists", "event a 1 0 -", "time a 1 60").events[0]), /a claims the time 1970-01-01 00:01:00 UTC .* isn't shown/);
+});
+
+test("a carried thread is its receiver's word, held against the lines of yours", () => {
+    const carrying = report("accepted precedes", "event a 1 0 61", "event b 5 0 62", "hop a 1 b 2", `carried a 1 ${A}`);
+    const line = (authenticator) => [{ service: "a", step: 1, authenticator }];
+    assert.match(carriedNotes(carrying, [])[0], /^Only b says that step 1 of a was so/);
+    assert.match(carriedNotes(carrying, line(A))[0], /the very line/);
+    assert.match(carriedNotes(carrying, line(B))[0], /two histories/);
+    assert.match(strictSentence(carrying, { status: 1, text: "rejected 8 Carried 1\n" }), /refuses it \(rejected 8 Carried 1\): a hop of the way isn't bound/);
+    assert.match(strictSentence({ ...carrying, carried: [] }, { status: 0, text: "" }), /accepts it too/);
+});
+
+test("a line that is shown is held against the lines of yours", () => {
+    const received = report("accepted thread", `thread b 5 a 3 ${A} 4`);
+    assert.match(shownLineNotes(received, [])[0], /Whether a made it isn't shown/);
+    assert.match(shownLineNotes(received, [{ service: "a", step: 3, authenticator: A }])[0], /the one that you hold/);
+    assert.match(shownLineNotes(received, [{ service: "a", step: 3, authenticator: B }])[0], /two histories/);
+    assert.deepEqual(shownLineNotes(report("accepted absent", "absent b 5 a 3"), []), []);
+});
+
+test("each reason has a sentence and what to do", () => {
+    const texts = ["rejected 1 Malformed 5", "rejected 2 BadOrder", "rejected 4 BadPath 0", "rejected 5 BadOpening 2", "rejected 6 BadEvent 0", "rejected 7 BadTree 1"];
+    const told = texts.map((text) => reasonWords(`${text}\n`, 100));
+    assert.equal(new Set(told.map(({ sentence }) => sentence)).size, texts.length);
+    assert.ok(told.every(({ sentence, todo }) => sentence && todo));
+    assert.match(reasonWords("rejected 1 Malformed 100\n", 100).sentence, /ends after 100 bytes/);
+    assert.match(told[3].sentence, /part 2/);
+});
+
+test("a line that can't be held is told by what to do about it", () => {
+    const own = [{ service: "a", step: 7 }, { service: "a", step: 3 }, { service: "a", step: 3 }];
+    assert.match(missingWords({ service: "a", step: 2, offered: [] }, own).todo, /or ask for the proof under a step of a that you hold a line of: 3 and 7/);
+    assert.match(missingWords({ service: "a", step: 2, offered: [{}] }, []).sentence, /which only the sender gave you/);
+    assert.match(missingWords({ service: "a", step: 2, two: [{}, {}] }, []).sentence, /2 different ones/);
+    assert.match(missingWords({ service: "a", step: 5, other: 2 }, []).sentence, /two steps of a, 2 and 5/);
+});
