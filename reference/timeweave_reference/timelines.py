@@ -29,6 +29,7 @@ class Timeline:
         self.archives: List[bytes] = []
         self.times: List[int | None] = []
         self.datums: List[bytes] = []
+        self.clocks: List[int | None] = [None]
         self.auths: List[bytes] = [genesis(name)]
         for place, events in enumerate(steps):
             self.append(events, archives[place] if archives else EMPTY_ARCHIVE, times[place] if times else None)
@@ -39,6 +40,8 @@ class Timeline:
         self.archives.append(archive)
         self.times.append(time)
         self.datums.append(step_datum(event_root(events), archive, len(events), time))
+        clock = self.clocks[-1]
+        self.clocks.append(clock if time is None or clock is not None and clock > time else time)
         step = len(self.steps)
         self.auths.append(authenticator(step, self.labels(step)))
 
@@ -46,7 +49,7 @@ class Timeline:
         """One that goes on by itself; this one stays as it is."""
         other = Timeline(self.name)
         other.steps, other.archives, other.times = list(self.steps), list(self.archives), list(self.times)
-        other.datums, other.auths = list(self.datums), list(self.auths)
+        other.datums, other.auths, other.clocks = list(self.datums), list(self.auths), list(self.clocks)
         return other
 
     def events(self, step: int) -> Sequence[bytes]:
@@ -77,8 +80,8 @@ class Timeline:
         return Opening(event_root(events), self.archives[step - 1], len(events), self.times[step - 1], self.auths[step - 1], labels)
 
     def clock(self, step: int) -> int | None:
-        """The greatest time of the steps up to this one, or None."""
-        return max((time for time in self.times[:step] if time is not None), default=None)
+        """The greatest time of the steps up to this one, from 0 on, or None."""
+        return self.clocks[step]
 
     def line(self, step: int) -> bytes:
         """The line of a step, as an anchors file has it."""

@@ -40,12 +40,13 @@ class Host:
 
     def took(self, work: Callable[[Service], str]) -> str:
         """The answer of a work that may make a step, which a crash that waits may stop."""
-        after = self.service.copied()
+        crash, self.crash = self.crash, None
+        after = self.service.copied() if crash else self.service
+        first = after.archive.next_page()
         answer = answered(lambda: work(after))
-        pages = after.archive.next_page() - self.service.archive.next_page()
+        pages = after.archive.next_page() - first
         closing = 2 if self.is_open else 0
         calls = closing + pages + 4 if pages else 0
-        crash, self.crash = self.crash, None
         if crash and crash.call <= calls:
             return self._stopped(after, crash, closing, calls)
         self.service, self.is_open = after, self.is_open or pages > 0

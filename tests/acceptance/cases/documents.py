@@ -9,7 +9,7 @@ import sys
 
 from harness.places import LONGEST, TOP
 
-DOCUMENTS = [TOP / "README.md", TOP / "reference/README.md", *sorted((TOP / "docs").glob("*.md")), *sorted((TOP / "bench").glob("*.md"))]
+DOCUMENTS = [TOP / "README.md", TOP / "reference/README.md", TOP / "web/README.md", *sorted((TOP / "docs").glob("*.md")), *sorted((TOP / "bench").glob("*.md"))]
 
 
 def anchors(document):

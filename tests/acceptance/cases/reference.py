@@ -2,8 +2,10 @@
 bytes answer as its commands do. What it answers is held against the program by all others."""
 
 import ast
+import importlib
 import os
 import random
+import re
 import subprocess
 import sys
 
@@ -47,6 +49,20 @@ def imports(room):
             wrong += [f"  {path.name} imports {name}" for name in names if name.split(".")[0] not in STANDARD]
     if wrong:
         raise Wrong("\n".join(wrong))
+
+
+def sections(room):
+    """its README has a row for each section of docs/formats.md, of modules and readers that are there"""
+    text, wrong = (TOP / "reference/README.md").read_text(), []
+    rows = re.findall(r"^\| ([^|]*) \| (`[^|]*) \| ([^|]*)\|$", text.split("| section of formats.md |")[1], re.M)
+    named = " ".join(section for section, _, _ in rows).lower()
+    for title in re.findall(r"^## (.*)$", (TOP / "docs/formats.md").read_text(), re.M):
+        wrong += [f"  no row is of {title}"] * (re.sub(r" \(.*\)", "", title).lower() not in named)
+    for _, modules, readers in rows:
+        found = [importlib.import_module(f"timeweave_reference.{name}") for name in re.findall(r"`(\w+)`", modules)]
+        wrong += [f"  {modules} has no {name}" for name in re.findall(r"`(\w+)`", readers) if not any(hasattr(module, name) for module in found)]
+    if wrong or len(rows) < 20:
+        raise Wrong("\n".join(wrong) or f"  the table has {len(rows)} rows")
 
 
 def written_back(read, write, data):
@@ -198,4 +214,4 @@ def as_a_program(room):
 
 
 def cases():
-    return [case(work, "reference") for work in (types, imports, readers, pages, over_bytes, long_inputs, as_a_program)]
+    return [case(work, "reference") for work in (types, imports, sections, readers, pages, over_bytes, long_inputs, as_a_program)]

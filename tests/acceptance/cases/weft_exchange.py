@@ -386,6 +386,8 @@ def lines_for(loom, proof):
 def with_faults(room):
     """weft exchange killed, and failing, at each of its writes, renames and runs: the next run goes on; no line is recorded twice, nothing false is told,
     what is put out is whole"""
+    from weft import formats, signatures
+
     net = pair(room)
     loom = net.loom
     loom.append("shop", b"new")
@@ -400,12 +402,13 @@ def with_faults(room):
         done = net.loom.run("exchange", "shop", "box-shop")
         if done.status != 0 or done.err or received(loom, "shop") != [*threads, ("bank", step)]:
             raise Wrong(f"{told}\n  the next run: {done}\n  received: {received(loom, 'shop')}")
-        for name, kind in (("message", "message"), ("receipt", "receipt"), ("yours", "signed line"), ("line", "signed line")):
-            net.loom.expect(f"tell box-shop/bank/out/{name}", 0, kind)
+        out = [loom.read(f"box-shop/bank/out/{name}") for name in ("message", "receipt", "yours", "line")]
+        if not (formats.read_message(out[0]) and formats.read_receipt(out[1]) and signatures.split(out[2]) and signatures.split(out[3])):
+            raise Wrong(f"{told}\n  what is put out: {out}")
         if len(list((loom.folder / "box-shop/bank/out/answers").iterdir())) != 2:
             raise Wrong(f"{told}\n  the answers aren't there")
 
-    if each_fault(loom, ["exchange", "shop", "box-shop"], check, share=4) < 40 // SHARE:
+    if each_fault(loom, ["exchange", "shop", "box-shop"], check) < 100 // SHARE:
         raise Wrong("  there were fewer than 40 faults")
 
 

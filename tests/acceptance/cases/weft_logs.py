@@ -304,7 +304,7 @@ def with_faults(room):
 
     small = Small(room)
     small.env = loom.env
-    if each_fault(small, ["log", "src", "log"], check, share=2) < 60 // SHARE:
+    if each_fault(small, ["log", "src", "log"], check) < 60 // SHARE:
         raise Wrong("  there were fewer than 60 faults")
 
 
@@ -318,7 +318,7 @@ def first_run_with_faults(room):
         if done.status != 0 or done.err or expect_log(loom, told) != {1: [digest(b"of a\n") + b"  ./a", digest(b"of b\n") + b"  ./b"]}:
             raise Wrong(f"{told}\n  the next run: {done}")
 
-    if each_fault(loom, ["log", "src", "log", "data"], check, share=2) < 30 // SHARE:
+    if each_fault(loom, ["log", "src", "log", "data"], check) < 30 // SHARE:
         raise Wrong("  there were fewer than 30 faults")
 
 

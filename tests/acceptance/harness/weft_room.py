@@ -165,8 +165,8 @@ CALLS = ("write", "fsync", "replace", "unlink", "mkdir")
 
 
 def faulty(at, kind, counter=None):
-    """What makes the process fail at its call of this number, from 1 on, of those that write files or run the program: `before` and `after` kill it
-    there, `half` kills it amid a write, `ENOSPC` and `EIO` let the call fail. The number of calls goes to the file `counter`, if one is named."""
+    """What makes the process fail at its call of this number, from 1 on, of those that write files or run the program: `before` kills it there,
+    `half` amid a write, `ENOSPC` and `EIO` let the call fail. The number of calls goes to the file `counter`, if one is named."""
 
     count = [0]
 
@@ -192,10 +192,7 @@ def faulty(at, kind, counter=None):
                 real(words[0], bytes(words[1])[: len(words[1]) // 2])
             if is_here and kind in ("before", "half"):
                 kill()
-            answer = real(*words, **more)
-            if is_here and kind == "after":
-                kill()
-            return answer
+            return real(*words, **more)
 
         return call
 
@@ -205,13 +202,9 @@ def faulty(at, kind, counter=None):
         real = subprocess.run
 
         def run(*words, **more):
-            is_here = kind in ("before", "after") and reached()
-            if is_here and kind == "before":
+            if kind == "before" and reached():
                 kill()
-            done = real(*words, **more)
-            if is_here:
-                kill()
-            return done
+            return real(*words, **more)
 
         subprocess.run = run
 
@@ -240,20 +233,20 @@ def copied(loom, *names):
     return back
 
 
-def each_fault(loom, words, check, kinds=("before", "after", "half", "ENOSPC", "EIO"), share=1):
-    """Runs weft with a fault at each of its calls, or at each `share`-th, from the same files each time, and calls `check` with what was done after
-    each; answers how many faults there were."""
+def each_fault(loom, words, check, kinds=("before", "half", "ENOSPC", "EIO")):
+    """Runs weft with a fault at each of its calls, from the same files each time, and calls `check` with what was done after each; answers how many
+    faults there were. (Killed behind a call it leaves what it leaves in front of the next one.)"""
     back, total = copied(loom), 0
     for kind in kinds:
         counter = loom.folder / "tmp/count"
         counter.unlink(missing_ok=True)
         back()
         loom.run(*words, patch=faulty(0, kind, counter))
-        for at in range(1, int(counter.read_text()) + 1, share * SHARE):
+        for at in range(1, int(counter.read_text()) + 1, SHARE):
             back()
             done = loom.run(*words, patch=faulty(at, kind))
             told = f"  {kind} at call {at} of weft {' '.join(map(str, words))}: {done}"
-            if done.status == 99 or "Traceback" in done.err or (done.status != -signal.SIGKILL and kind in ("before", "after")):
+            if done.status == 99 or "Traceback" in done.err or (done.status != -signal.SIGKILL and kind == "before"):
                 raise Wrong(told)
             if kind in ("ENOSPC", "EIO") and done.status in (1, 2, 3, 9, 70):
                 raise Wrong(f"{told}\n  it doesn't say that the device failed")
